@@ -1,0 +1,25 @@
+-- The work that roles do: mixing a number.
+use Rattle.std.specs.Prelude.{ℕ, ℤ, pos, negsuc, ◌+◌, ◌*◌, ◌-◌, ◌%◌, ◌^◌, zero, suc}
+
+-- the least non-negative residue of a number modulo m
+abbrev pub residue : ℤ → ℕ → ℕ
+residue (pos n) m = n % m
+residue (negsuc n) m = (m - 1) - n % m
+
+-- a state after one round
+abbrev pub next_state : ℕ → ℕ
+next_state state = (1103515245 * state + 12345) % 2 ^ 31
+
+-- a state after this many rounds
+unfoldable pub state_after : ℕ → ℕ → ℕ
+state_after state zero = state
+state_after state (suc rounds) = next_state (state_after state rounds)
+
+-- a number after this many rounds of mixing, which begin at its residue modulo 2 ^ 31
+abbrev pub mix : ℤ → ℕ → ℤ
+mix number rounds = pos (state_after (residue number (2 ^ 31)) rounds)
+
+-- a piece of mixing work that was done: where it began, and for how many rounds
+pub record Worked : Type 0 where
+  pub from : ℤ
+  pub rounds : ℕ

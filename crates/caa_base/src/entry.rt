@@ -1,0 +1,121 @@
+use thiserror::Error;
+
+/// A participant, counted from 0.
+pub type Participant = u32;
+
+/// An instance of an action, counted from 0 in the order of the unfolding.
+pub type Place = u32;
+
+/// An external object, counted from 0.
+pub type Object = u32;
+
+/// An exception of some graph; 0 is `universal`, which covers all others.
+pub type Exception = u32;
+
+/// What an entry of a journal says.
+#[derive(Clone, Copy, Debug, PartialEq, Eq)]
+pub enum Kind {
+    /// A participant comes to a place.
+    Arrive,
+    /// A participant goes away from a doomed place that never started.
+    Withdraw,
+    /// The roles of a place begin together.
+    Start,
+    /// A role takes the value of an object into its register.
+    Read,
+    /// A role mixes its register.
+    Work,
+    /// A role's put, which the device took.
+    Write,
+    /// A role's test, which wasn't met.
+    Check,
+    /// A role's put, which the device refused.
+    PutFault,
+    /// A role raises an exception.
+    Raise,
+    /// A role learns that something was raised.
+    Inform,
+    /// What was raised in a place is resolved to one exception.
+    Resolve,
+    /// A role begins its handler for the resolved exception.
+    Handle,
+    /// A role says how it ends.
+    Verdict,
+    /// A role of a doomed place gives up.
+    Abort,
+    /// The roles of a place have agreed to undo it.
+    Undo,
+    /// An object gets the value back that it had at the start of the place.
+    Restore,
+    /// A place ends, with one outcome.
+    End,
+    /// A participant goes out of a place that has ended.
+    Leave,
+}
+
+/// One step of a participant, as the journal keeps it.
+///
+/// What `arg`, `mark` and `value` mean goes by the kind; what a kind doesn't use is 0.
+#[derive(Clone, Copy, Debug, PartialEq, Eq)]
+pub struct Entry {
+    pub kind: Kind,
+    pub place: Place,
+    /// The participant that made it.
+    pub by: Participant,
+    /// An object, a number of rounds or an exception.
+    pub arg: u32,
+    /// Which of its forms the entry has.
+    pub mark: u32,
+    pub value: i64,
+}
+
+/// What a role says at the end of its body or handler.
+#[derive(Clone, Copy, Debug, PartialEq, Eq)]
+pub enum Verdict {
+    /// Its part is done.
+    Done,
+    /// Its part is done, and this exception of the interface graph is to be told outside.
+    Signal(Exception),
+    /// The whole action is to be undone.
+    Undo,
+}
+
+/// A comparison of a register with a number.
+#[derive(Clone, Copy, Debug, PartialEq, Eq)]
+pub enum Test {
+    Below,
+    Above,
+    Equal,
+}
+
+/// How a place ended.
+#[derive(Clone, Copy, Debug, PartialEq, Eq)]
+pub enum Outcome {
+    /// Its effects are kept.
+    Commit,
+    /// Its effects are kept, and this exception of the interface graph is told outside.
+    Signal(Exception),
+    /// Its roles asked for undo, and each object was restored.
+    Undone,
+    /// It was doomed, and each object was restored.
+    Aborted,
+    /// It was to be undone, and the device refused a restore.
+    Failed,
+}
+
+/// The device refuses the put of this object that is the `nth` one, counted from 1.
+#[derive(Clone, Copy, Debug, PartialEq, Eq)]
+pub struct Drill {
+    pub object: Object,
+    pub nth: u32,
+}
+
+/// No memory was found.
+#[derive(Clone, Copy, Debug, PartialEq, Eq, Error)]
+#[error("out of memory")]
+pub struct OutOfMemory;
+
+/// The outside refused.
+#[derive(Clone, Copy, Debug, PartialEq, Eq, Error)]
+#[error("refused by the outside")]
+pub struct Failed;

@@ -1,0 +1,38 @@
+ghost use Rattle.std.specs.Prelude.{◌≡◌, IfOk};
+
+use crate::entry::OutOfMemory;
+use std::alloc::Global;
+use std::marker::Model;
+
+/// A name of a script, seen as the list of its bytes.
+#[derive(Drop)]
+pub struct Name {
+    text: Vec<u8>,
+}
+
+impl Model for Name {
+    ghost use Rattle.std.specs.Prelude.{List, ℕ};
+
+    ghost Value = { List ℕ };
+
+    ghost view = { λ n. n.text.items };
+}
+
+impl Name {
+    /// The name of these bytes.
+    pub fn from_bytes(alloc: Global, bytes: &[u8]) -> Result<Name, OutOfMemory>
+        ensures { IfOk result (λ name. name ≡ bytes.now) }
+    {
+        match Vec::from_slice(alloc, bytes) {
+            Ok(text) => Ok(Name { text }),
+            Err(_) => Err(OutOfMemory),
+        }
+    }
+
+    /// The bytes of the name.
+    pub fn bytes(&self) -> &[u8]
+        ensures { result.now ≡ self.now }
+    {
+        self.text.as_slice()
+    }
+}
