@@ -1,0 +1,56 @@
+-- Legal and complete journals, and what a journal did to the objects.
+use Rattle.std.specs.Prelude.{◌≡◌, ℕ, ℤ, ◌==◌, ◌<◌, Bool, true, ◌&&◌, ◌||◌, if◌then◌else◌, List, [], ◌∷◌, ◌++◌, filter, length, reverse, take, is_none}
+use Rattle.caa_base.specs.declared.entry.Entry.{Entry}
+use Rattle.caa_base.specs.declared.entry.Kind.TheVariants as kind
+use Rattle.place_plan.specs.PlanValue.{Plan}
+use Rattle.place_plan.specs.Words.{member}
+use Rattle.place_plan.specs.Places.{parent, top_of}
+use Rattle.place_plan.specs.Entries.{is_of}
+use Rattle.place_plan.specs.Objects.{value_of}
+use Rattle.place_plan.specs.Roles.{over}
+use Rattle.place_plan.specs.Rules.{MayFollow}
+
+-- each entry may follow those before it; the newest stands first
+abbrev pub LegalPast : Plan → List Entry → Type 0
+LegalPast plan [] = Unit {0}
+LegalPast plan (e ∷ past) = LegalPast plan past × MayFollow plan past e
+
+-- the same of a journal, whose oldest entry stands first
+abbrev pub IsLegal : Plan → List Entry → Type 0
+IsLegal plan journal = LegalPast plan (reverse journal)
+
+-- each participant has left its last play, or has none
+abbrev pub AllOver : Plan → List Entry → Type 0
+AllOver plan past = (t : ℕ) → t < length plan.participants → over plan past t ≡ true
+
+abbrev pub IsComplete : Plan → List Entry → Type 0
+IsComplete plan journal = AllOver plan (reverse journal)
+
+-- ---- the device
+
+-- a put that the device took
+abbrev pub is_put : Entry → Bool
+is_put e = is_of kind.Write e || (is_of kind.Restore e && (e.mark == 0))
+
+abbrev pub object_and_value : Entry → ℕ × ℤ
+object_and_value e = (e.arg, e.value)
+
+abbrev pub puts_in : List Entry → List (ℕ × ℤ)
+puts_in [] = []
+puts_in (e ∷ entries) = if is_put e then object_and_value e ∷ puts_in entries else puts_in entries
+
+-- the puts of a journal that the device took, in order
+abbrev pub puts_of : List Entry → List (ℕ × ℤ)
+puts_of journal = puts_in journal
+
+-- ---- committed values
+
+-- the plays that have ended, the first first
+abbrev pub ended_plays : Plan → List Entry → List ℕ
+ended_plays plan [] = []
+ended_plays plan (e ∷ past) =
+    if is_of kind.End e && is_none (parent plan e.place) then ended_plays plan past ++ e.place ∷ [] else ended_plays plan past
+
+-- the value of o by the entries of the first n plays that ended, and of the places inside them
+abbrev pub committed : Plan → List Entry → ℕ → ℕ → ℤ
+committed plan past n o = value_of plan o (filter (λ e. member (top_of plan e.place) (take n (ended_plays plan past))) past)

@@ -1,0 +1,189 @@
+-- What holds of every legal journal of a plan. `past` is its entries, the newest first.
+use Rattle.std.specs.Prelude.{◌≡◌, ℕ, ℤ, ◌==◌, ◌+◌, ◌<◌, ◌≤◌, ◌⊎◌, ◌↔◌, Bool, true, false, not, ◌&&◌, ◌||◌, if◌then◌else◌, List, [], ◌∷◌, ◌++◌, length, filter, count_by, Option, Some, None, is_none}
+use Rattle.std.specs.List.{list_any, list_all}
+use Rattle.cover_table.specs.Cover.{IsLeastCover}
+use Rattle.caa_base.specs.declared.entry.Entry.{Entry}
+use Rattle.caa_base.specs.declared.entry.Kind.{Kind}
+use Rattle.caa_base.specs.declared.entry.Kind.TheVariants as kind
+use Rattle.place_plan.specs.PlanValue.{Plan}
+use Rattle.place_plan.specs.Words.{member}
+use Rattle.place_plan.specs.Places.{around, within, roles_of, uses, initial_of, internal_of, handler_of}
+use Rattle.place_plan.specs.Entries.{is_of, is_in, is_by, has, has_by}
+use Rattle.place_plan.specs.Whereabouts.{inside, stays, live, ended, started}
+use Rattle.place_plan.specs.Raising.{raised, is_raised, resolved}
+use Rattle.place_plan.specs.Objects.{holder, value_of, writes, failed}
+use Rattle.place_plan.specs.Rules.{MayFollow, newest}
+use Rattle.place_plan.specs.Journals.{LegalPast, AllOver}
+use Rattle.place_plan.specs.Bound.{bound}
+
+-- what a law says holds of every legal journal of the plan
+abbrev pub Holds : (Plan → List Entry → Type 0) → Plan → Type 0
+Holds Law plan = (past : List Entry) → LegalPast plan past → Law plan past
+
+-- e stands in the past, after `before` and before `later`
+abbrev pub Splits : List Entry → List Entry → Entry → List Entry → Type 0
+Splits past later e before = past ≡ later ++ e ∷ before
+
+-- ---- the plain words for what is computed along the entries
+
+-- inside is the innermost of the places in which a participant stays
+abbrev pub InsideIsInnermost : Plan → List Entry → Type 0
+InsideIsInnermost plan past =
+    (t p : ℕ) → (inside plan t past ≡ Some p)
+    ↔ ((stays p t past ≡ true) × ((q : ℕ) → stays q t past ≡ true → within plan p q ≡ true))
+
+-- the holder of an object is the innermost of the live places that use it
+abbrev pub HolderIsInnermost : Plan → List Entry → Type 0
+HolderIsInnermost plan past =
+    (o p : ℕ) → (holder plan o past ≡ Some p)
+    ↔ ((live p past ≡ true) × (uses plan p o ≡ true) × ((q : ℕ) → live q past ≡ true → uses plan q o ≡ true → within plan p q ≡ true))
+
+-- ---- the next entry
+
+-- the entry, as if the device had taken its put
+abbrev pub as_taken : Kind → Entry → Entry
+as_taken kind.PutFault e = record e { kind = kind.Write }
+as_taken kind.Restore e = record e { mark = 0 }
+as_taken _ e = e
+
+-- a participant has at most one entry, the device's answer aside
+abbrev pub AtMostOne : Plan → List Entry → Type 0
+AtMostOne plan past = (e f : Entry) → MayFollow plan past e → MayFollow plan past f → e.by ≡ f.by → as_taken e.kind e ≡ as_taken f.kind f
+
+-- some participant has an entry
+pub record HasEntry (plan : Plan) (past : List Entry) : Type 0 where
+  pub entry : Entry
+  pub known : entry.by < length plan.participants
+  pub may : MayFollow plan past entry
+
+-- progress law: where a participant isn't over, some participant has an entry
+abbrev pub GoesOn : Plan → List Entry → Type 0
+GoesOn plan past = (AllOver plan past → ⊥) → HasEntry plan past
+
+-- length law: there are at most as many entries as the bound says
+abbrev pub IsBounded : Plan → List Entry → Type 0
+IsBounded plan past = length past ≤ bound plan
+
+-- t has no entry
+abbrev pub Silent : Plan → List Entry → ℕ → Type 0
+Silent plan past t = (e : Entry) → e.by ≡ t → MayFollow plan past e → ⊥
+
+-- ---- resolution law
+
+-- each who handles in p handles the least cover of all that is raised there in the whole journal, and all handle one exception
+pub record HandlesLeast (plan : Plan) (past : List Entry) (p : ℕ) : Type 0 where
+  pub least : (later before : List Entry) (e : Entry) → Splits past later e before → is_in kind.Handle p e ≡ true → IsLeastCover (internal_of plan p) (raised plan p past) e.arg
+  pub one : (later before later' before' : List Entry) (e f : Entry) → Splits past later e before → Splits past later' f before' → is_in kind.Handle p e ≡ true → is_in kind.Handle p f ≡ true → e.arg ≡ f.arg
+
+-- t gave the verdict undo in p after the Resolve of p
+pub record AskedForUndo (past : List Entry) (p t : ℕ) : Type 0 where
+  pub later : List Entry
+  pub entry : Entry
+  pub before : List Entry
+  pub stands : Splits past later entry before
+  pub own : is_by kind.Verdict p t entry ≡ true
+  pub undo : entry.mark ≡ 2
+  pub resolution : has kind.Resolve p before ≡ true
+
+-- t handled x in p, or has no handler for it and asked for undo
+abbrev pub Answered : Plan → List Entry → ℕ → ℕ → ℕ → Type 0
+Answered plan past p x t =
+    (list_any (λ e. is_by kind.Handle p t e && (e.arg == x)) past ≡ true)
+    ⊎ ((is_none (handler_of plan p t x) ≡ true) × AskedForUndo past p t)
+
+-- p is resolved, and each role has answered
+pub record IsAnswered (plan : Plan) (past : List Entry) (p : ℕ) : Type 0 where
+  pub exception : ℕ
+  pub resolution : resolved p past ≡ Some exception
+  pub each : (t : ℕ) → member t (roles_of plan p) ≡ true → Answered plan past p exception t
+
+pub record ResolutionLaw (plan : Plan) (past : List Entry) : Type 0 where
+  pub handles : (p : ℕ) → HandlesLeast plan past p
+  -- a place in which something was raised, and which ended without aborts, was resolved and answered
+  pub answered : (p : ℕ) → ended p past ≡ true → has kind.Abort p past ≡ false → is_raised plan p past ≡ true → IsAnswered plan past p
+
+-- ---- exit law
+
+-- an End of p between these parts of the journal is the only one; each role has said something before it, none has left, and
+-- after it the place is only left
+pub record EndsOnce (plan : Plan) (p : ℕ) (later before : List Entry) : Type 0 where
+  pub only_left : (later' before' : List Entry) (e : Entry) → Splits later later' e before' → e.place ≡ p → e.kind ≡ kind.Leave
+  pub first : ended p before ≡ false
+  pub together : has kind.Leave p before ≡ false
+  pub each : (t : ℕ) → member t (roles_of plan p) ≡ true → has_by kind.Verdict p t before || has_by kind.Abort p t before ≡ true
+
+abbrev pub ExitLaw : Plan → List Entry → Type 0
+ExitLaw plan past = (p : ℕ) (later before : List Entry) (e : Entry) → Splits past later e before → is_in kind.End p e ≡ true → EndsOnce plan p later before
+
+-- ---- outcome law
+
+-- how many restores of o stand in p, with this mark
+abbrev pub is_restore : ℕ → ℕ → ℕ → Entry → Bool
+is_restore p o mark e = is_in kind.Restore p e && ((e.arg == o) && (e.mark == mark))
+
+-- what the restores of p are, by the mark of its End: none after a commit or a signal; each object restored after an undo or an
+-- abort; each object tried once, and one refused, after a failure
+pub record RestoresFit (plan : Plan) (p mark : ℕ) (past : List Entry) : Type 0 where
+  pub kept : mark < 2 → has kind.Restore p past ≡ false
+  pub undone : (mark ≡ 2) ⊎ (mark ≡ 3) → (o : ℕ) → uses plan p o ≡ true → list_any (is_restore p o 0) past ≡ true
+  pub tried : mark ≡ 4 → (o : ℕ) → uses plan p o ≡ true → count_by (is_restore p o 0) past + count_by (is_restore p o 1) past ≡ 1
+  pub refused : mark ≡ 4 → failed p past ≡ true
+
+abbrev pub OutcomeLaw : Plan → List Entry → Type 0
+OutcomeLaw plan past = (p : ℕ) (e : Entry) → newest (is_in kind.End p) past ≡ Some e → RestoresFit plan p e.mark past
+
+-- ---- effect law
+
+-- p ended by commit or signal
+abbrev pub is_kept_mark : Option Entry → Bool
+is_kept_mark None = false
+is_kept_mark (Some e) = (e.mark == 0) || (e.mark == 1)
+
+-- p and each place round it did
+abbrev pub is_kept : Plan → List Entry → ℕ → Bool
+is_kept plan past p = list_all (λ q. is_kept_mark (newest (is_in kind.End q) past)) (p ∷ around plan p)
+
+-- the value of the last write of o that passes a test, else the initial one
+abbrev pub last_write : Plan → ℕ → (Entry → Bool) → List Entry → ℤ
+last_write plan o test [] = initial_of plan o
+last_write plan o test (e ∷ past) = if writes o e && test e then e.value else last_write plan o test past
+
+abbrev pub has_failed_restore : ℕ → List Entry → Bool
+has_failed_restore o past = list_any (λ e. is_of kind.Restore e && ((e.arg == o) && (e.mark == 1))) past
+
+-- in a complete journal an object that no restore failed for holds what the kept places alone leave
+abbrev pub EffectLaw : Plan → List Entry → Type 0
+EffectLaw plan past =
+    AllOver plan past → (o : ℕ) → has_failed_restore o past ≡ false → value_of plan o past ≡ last_write plan o (λ e. is_kept plan past e.place) past
+
+-- ---- inner-first law
+
+-- an abort stands after the End of each place inside that starts at any time
+abbrev pub InnerFirstLaw : Plan → List Entry → Type 0
+InnerFirstLaw plan past =
+    (p q : ℕ) (later before : List Entry) (e : Entry) → Splits past later e before → is_in kind.Abort p e ≡ true
+    → member p (around plan q) ≡ true → started q past ≡ true → ended q before ≡ true
+
+-- ---- fault law
+
+abbrev pub is_fault : Entry → Bool
+is_fault e = is_of kind.PutFault e || (is_of kind.Restore e && (e.mark == 1))
+
+-- the refused puts and restores are at most this many
+abbrev pub FaultsWithin : ℕ → List Entry → Type 0
+FaultsWithin count past = length (filter is_fault past) ≤ count
+
+-- ---- isolation law
+
+abbrev pub touches_object : Kind → Bool
+touches_object kind.Read = true
+touches_object kind.Write = true
+touches_object kind.PutFault = true
+touches_object kind.Restore = true
+touches_object _ = false
+
+pub record IsolationLaw (plan : Plan) (past : List Entry) : Type 0 where
+  -- of two live places that use one object, one encloses the other
+  pub nested : (p q o : ℕ) → live p past ≡ true → live q past ≡ true → uses plan p o ≡ true → uses plan q o ≡ true → within plan p q || within plan q p ≡ true
+  -- an object is touched only in the place that holds it
+  pub held : (later before : List Entry) (e : Entry) → Splits past later e before → touches_object e.kind ≡ true → holder plan e.arg before ≡ Some e.place

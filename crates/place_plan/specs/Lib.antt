@@ -1,0 +1,14 @@
+pub mod Words
+pub mod PlanValue
+pub mod Places
+pub mod Entries
+pub mod Whereabouts
+pub mod Raising
+pub mod Objects
+pub mod Roles
+pub mod Rules
+pub mod Journals
+pub mod Bound
+pub mod WellFormed
+pub mod Laws
+pub mod Flat

@@ -1,0 +1,143 @@
+-- What a plan says of its places.
+use Rattle.std.specs.Prelude.{ℕ, ℤ, pos, ◌==◌, Bool, ◌||◌, if◌then◌else◌, List, [], ◌∷◌, length, slice_index_or, slice_get, Option, Some, None}
+use Rattle.cover_table.specs.Cover.{CoverOrder}
+use Rattle.caa_base.specs.declared.entry.Verdict.TheVariants as verdict
+use Rattle.place_plan.specs.declared.rows.ObjectRow.{ObjectRow}
+use Rattle.place_plan.specs.declared.rows.PlaceRow.{PlaceRow}
+use Rattle.place_plan.specs.declared.rows.ActionRow.{ActionRow}
+use Rattle.place_plan.specs.declared.rows.RoleRow.{RoleRow}
+use Rattle.place_plan.specs.declared.rows.NestRow.{NestRow}
+use Rattle.place_plan.specs.declared.rows.HandlerRow.{HandlerRow}
+use Rattle.place_plan.specs.declared.rows.Program.{Program}
+use Rattle.place_plan.specs.declared.rows.AbortRow.{AbortRow}
+use Rattle.place_plan.specs.declared.rows.AbortRow.TheVariants as abort
+use Rattle.place_plan.specs.PlanValue.{Plan, GraphRow}
+use Rattle.place_plan.specs.Words.{member, index_of, first_of, last_or}
+
+-- ---- past the end of a table: nobody has a role there, and nothing is done
+
+abbrev pub idle : Program
+idle = record { steps = []; verdict = verdict.Done }
+
+abbrev pub no_role : RoleRow
+no_role = record { name = []; body = idle; handlers = []; abort = abort.Never }
+
+abbrev pub no_action : ActionRow
+no_action = record { name = []; internal = 0; interface = 0; fault = 0; objects = []; roles = []; nests = [] }
+
+abbrev pub no_place : PlaceRow
+no_place = record { around = []; nest = 0; action = 0; roles = []; children = [] }
+
+abbrev pub no_nest : NestRow
+no_nest = record { name = []; action = 0; roles = []; maps = []; undo = 0; failure = 0 }
+
+abbrev pub no_graph : GraphRow
+no_graph = record { graph = record { count = 0; rows = [] }; names = [] }
+
+abbrev pub no_object : ObjectRow
+no_object = record { name = []; initial = pos 0 }
+
+-- ---- places
+
+abbrev pub place_at : Plan → ℕ → PlaceRow
+place_at plan p = slice_index_or plan.places p no_place
+
+abbrev pub action_in : Plan → Option PlaceRow → ActionRow
+action_in plan None = no_action
+action_in plan (Some row) = slice_index_or plan.actions row.action no_action
+
+-- the action that p is an instance of
+abbrev pub action_at : Plan → ℕ → ActionRow
+action_at plan p = action_in plan (slice_get plan.places p)
+
+-- the places round p, the innermost first
+abbrev pub around : Plan → ℕ → List ℕ
+around plan p = (place_at plan p).around
+
+-- the place right round p; none for a play
+abbrev pub parent : Plan → ℕ → Option ℕ
+parent plan p = first_of (around plan p)
+
+-- p is q, or inside it
+abbrev pub within : Plan → ℕ → ℕ → Bool
+within plan p q = (p == q) || member q (around plan p)
+
+-- the play that p belongs to
+abbrev pub top_of : Plan → ℕ → ℕ
+top_of plan p = last_or p (around plan p)
+
+-- the participants that play the roles of p
+abbrev pub roles_of : Plan → ℕ → List ℕ
+roles_of plan p = (place_at plan p).roles
+
+abbrev pub objects_of : Plan → ℕ → List ℕ
+objects_of plan p = (action_at plan p).objects
+
+abbrev pub uses : Plan → ℕ → ℕ → Bool
+uses plan p o = member o (objects_of plan p)
+
+-- the place of a nested use
+abbrev pub child : Plan → ℕ → ℕ → ℕ
+child plan p nest = slice_index_or (place_at plan p).children nest 0
+
+-- ---- what t plays in p
+
+abbrev pub role_row : Plan → ℕ → ℕ → RoleRow
+role_row plan p t = slice_index_or (action_at plan p).roles (index_of t (roles_of plan p)) no_role
+
+abbrev pub body_of : Plan → ℕ → ℕ → Program
+body_of plan p t = (role_row plan p t).body
+
+abbrev pub handler_in : ℕ → List HandlerRow → Option Program
+handler_in x [] = None
+handler_in x (h ∷ hs) = if h.exception == x then Some h.program else handler_in x hs
+
+-- the handler of t for x
+abbrev pub handler_of : Plan → ℕ → ℕ → ℕ → Option Program
+handler_of plan p t x = handler_in x (role_row plan p t).handlers
+
+abbrev pub abort_row : Plan → ℕ → ℕ → AbortRow
+abort_row plan p t = (role_row plan p t).abort
+
+-- ---- exceptions
+
+-- what a refused put raises
+abbrev pub fault_of : Plan → ℕ → ℕ
+fault_of plan p = (action_at plan p).fault
+
+abbrev pub graph_at : Plan → ℕ → CoverOrder
+graph_at plan g = (slice_index_or plan.graphs g no_graph).graph
+
+-- the order of the exceptions that are raised in p
+abbrev pub internal_of : Plan → ℕ → CoverOrder
+internal_of plan p = graph_at plan (action_at plan p).internal
+
+-- the order of the exceptions that p tells outside
+abbrev pub interface_of : Plan → ℕ → CoverOrder
+interface_of plan p = graph_at plan (action_at plan p).interface
+
+abbrev pub nest_in : Plan → ℕ → Option ℕ → NestRow
+nest_in plan nest None = no_nest
+nest_in plan nest (Some q) = slice_index_or (action_at plan q).nests nest no_nest
+
+-- the use of the enclosing action that p is
+abbrev pub nest_of : Plan → ℕ → NestRow
+nest_of plan p = nest_in plan (place_at plan p).nest (parent plan p)
+
+-- what an exception of p is in the place round it
+abbrev pub map_signal : Plan → ℕ → ℕ → ℕ
+map_signal plan p x = slice_index_or (nest_of plan p).maps x 0
+
+-- ---- objects and plays
+
+abbrev pub initial_of : Plan → ℕ → ℤ
+initial_of plan o = (slice_index_or plan.objects o no_object).initial
+
+-- those of these places in which t has a role
+abbrev pub plays_with : Plan → ℕ → List ℕ → List ℕ
+plays_with plan t [] = []
+plays_with plan t (p ∷ ps) = if member t (roles_of plan p) then p ∷ plays_with plan t ps else plays_with plan t ps
+
+-- the plays of t, in order
+abbrev pub plays_of : Plan → ℕ → List ℕ
+plays_of plan t = plays_with plan t plan.plays

@@ -1,0 +1,331 @@
+-- The rules of a journal: which entry may follow which past, one row for each kind.
+use Rattle.std.specs.Prelude.{◌≡◌, ℕ, ℤ, pos, negsuc, ◌+ℤ◌, ◌==◌, Bool, true, false, not, ◌&&◌, ◌||◌, if◌then◌else◌, List, [], ◌∷◌, Option, Some, None, MatchBool, MatchOption, is_none, int_lt}
+use Rattle.cover_table.specs.Cover.{IsLeastCover}
+use Rattle.caa_base.specs.Mixing.{mix}
+use Rattle.caa_base.specs.declared.entry.Entry.{Entry}
+use Rattle.caa_base.specs.declared.entry.Kind.{Kind}
+use Rattle.caa_base.specs.declared.entry.Kind.TheVariants as kind
+use Rattle.caa_base.specs.declared.entry.Verdict.{Verdict}
+use Rattle.caa_base.specs.declared.entry.Verdict.TheVariants as verdict
+use Rattle.place_plan.specs.declared.rows.AbortRow.{AbortRow}
+use Rattle.place_plan.specs.declared.rows.AbortRow.TheVariants as abort
+use Rattle.place_plan.specs.declared.rows.Step.{Step}
+use Rattle.place_plan.specs.declared.rows.Step.TheVariants as step
+use Rattle.place_plan.specs.PlanValue.{Plan}
+use Rattle.place_plan.specs.Places.{parent, roles_of, handler_of, abort_row, internal_of, interface_of, child, nest_of, map_signal}
+use Rattle.place_plan.specs.Entries.{has, is_in, is_by}
+use Rattle.place_plan.specs.Whereabouts.{inside, all_inside, started, ended, undoing, going}
+use Rattle.place_plan.specs.Raising.{handled, raised, doomed, calm, hot, halted, all_halted, resolved}
+use Rattle.place_plan.specs.Objects.{holder, objects_ready, value_of, before_start, failed, next_restore}
+use Rattle.place_plan.specs.Roles.{register, program_of, next_step, next_raise, meets, given, all_given, is_handling, refused_in_handler, able, wants_undo, signals, aborted, all_aborted, next_play}
+
+-- ---- what an entry says
+
+-- nothing further
+pub record IsPlain (e : Entry) : Type 0 where
+  pub arg : e.arg ≡ 0
+  pub mark : e.mark ≡ 0
+  pub value : e.value ≡ pos 0
+
+-- an exception, or none
+abbrev pub Names : Entry → Option ℕ → Type 0
+Names e None = (e.mark ≡ 0) × (e.arg ≡ 0)
+Names e (Some x) = (e.mark ≡ 1) × (e.arg ≡ x)
+
+abbrev pub SaysVerdict : Entry → Verdict → Type 0
+SaysVerdict e verdict.Done = (e.mark ≡ 0) × (e.arg ≡ 0)
+SaysVerdict e (verdict.Signal x) = (e.mark ≡ 1) × (e.arg ≡ x)
+SaysVerdict e verdict.Undo = (e.mark ≡ 2) × (e.arg ≡ 0)
+
+-- ---- coming to a place, and going away from one that never started
+
+-- the place that an enter step leads into
+abbrev pub entered : Plan → ℕ → Option Step → Option ℕ
+entered plan q (Some (step.Enter nest)) = Some (child plan q nest)
+entered plan q _ = None
+
+-- where t arrives next: from no place in its next play, and from a calm place that it is able in, where its next step leads
+abbrev pub arrival : Plan → ℕ → List Entry → Option ℕ → Option ℕ
+arrival plan t past None = next_play plan t past
+arrival plan t past (Some q) = if calm plan q past && able plan q past t then entered plan q (next_step plan q t past) else None
+
+pub record MayArrive (plan : Plan) (past : List Entry) (e : Entry) : Type 0 where
+  pub leads : arrival plan e.by past (inside plan e.by past) ≡ Some e.place
+  pub plain : IsPlain e
+
+-- from a doomed place that has not started one withdraws
+pub record MayWithdraw (plan : Plan) (past : List Entry) (e : Entry) : Type 0 where
+  pub here : inside plan e.by past ≡ Some e.place
+  pub waits : started e.place past ≡ false
+  pub doom : doomed plan e.place past ≡ true
+  pub plain : IsPlain e
+
+-- a place starts once each role is in it and each of its objects has come back to the place round it
+pub record MayStart (plan : Plan) (past : List Entry) (e : Entry) : Type 0 where
+  pub here : inside plan e.by past ≡ Some e.place
+  pub waits : started e.place past ≡ false
+  pub spared : doomed plan e.place past ≡ false
+  pub together : all_inside plan e.place past ≡ true
+  pub ready : objects_ready plan e.place past ≡ true
+  pub plain : IsPlain e
+
+-- ---- steps
+
+-- a read gives the object's value
+pub record MayRead (plan : Plan) (past : List Entry) (e : Entry) : Type 0 where
+  pub here : inside plan e.by past ≡ Some e.place
+  pub can : able plan e.place past e.by ≡ true
+  pub reads : next_step plan e.place e.by past ≡ Some (step.Read e.arg)
+  pub holds : holder plan e.arg past ≡ Some e.place
+  pub value : e.value ≡ value_of plan e.arg past
+  pub mark : e.mark ≡ 0
+
+-- work gives the mixed register
+pub record MayWork (plan : Plan) (past : List Entry) (e : Entry) : Type 0 where
+  pub here : inside plan e.by past ≡ Some e.place
+  pub can : able plan e.place past e.by ≡ true
+  pub works : next_step plan e.place e.by past ≡ Some (step.Work e.arg)
+  pub value : e.value ≡ mix (register plan e.place e.by past) e.arg
+  pub mark : e.mark ≡ 0
+
+-- brought to the nearer end of the range of values
+abbrev pub clamped : ℤ → ℤ
+clamped v = if int_lt (pos 1000000000000) v then pos 1000000000000 else (if int_lt v (negsuc 999999999999) then negsuc 999999999999 else v)
+
+-- the object and the value that a step puts, at this register
+abbrev pub put_of : Option Step → ℤ → Option (ℕ × ℤ)
+put_of (Some (step.Put o v)) r = Some (o, v)
+put_of (Some (step.Add o v)) r = Some (o, clamped (r +ℤ v))
+put_of _ r = None
+
+-- a write where the device took the put, a put fault where it refused
+pub record MayPut (plan : Plan) (past : List Entry) (e : Entry) : Type 0 where
+  pub here : inside plan e.by past ≡ Some e.place
+  pub can : able plan e.place past e.by ≡ true
+  pub puts : put_of (next_step plan e.place e.by past) (register plan e.place e.by past) ≡ Some (e.arg, e.value)
+  pub holds : holder plan e.arg past ≡ Some e.place
+  pub mark : e.mark ≡ 0
+
+abbrev pub is_check : Option Step → Bool
+is_check (Some (step.Check test bound x)) = true
+is_check _ = false
+
+-- a check that isn't met
+pub record MayCheck (plan : Plan) (past : List Entry) (e : Entry) : Type 0 where
+  pub here : inside plan e.by past ≡ Some e.place
+  pub can : able plan e.place past e.by ≡ true
+  pub checks : is_check (next_step plan e.place e.by past) ≡ true
+  pub passes : next_raise plan e.place e.by past ≡ None
+  pub plain : IsPlain e
+
+-- ---- raising, and recovering together
+
+-- whose next step raises does so, as long as it isn't halted and has given no verdict
+pub record MayRaise (plan : Plan) (past : List Entry) (e : Entry) : Type 0 where
+  pub here : inside plan e.by past ≡ Some e.place
+  pub when : calm plan e.place past || hot plan e.place past ≡ true
+  pub running : halted plan e.place past e.by ≡ false
+  pub unsaid : given plan e.place past e.by ≡ false
+  pub raises : next_raise plan e.place e.by past ≡ Some e.arg
+  pub mark : e.mark ≡ 0
+  pub value : e.value ≡ pos 0
+
+-- each other role of a hot place is informed
+pub record MayInform (plan : Plan) (past : List Entry) (e : Entry) : Type 0 where
+  pub here : inside plan e.by past ≡ Some e.place
+  pub when : hot plan e.place past ≡ true
+  pub running : halted plan e.place past e.by ≡ false
+  pub silent : next_raise plan e.place e.by past ≡ None
+  pub plain : IsPlain e
+
+-- once all roles are halted, what was raised is resolved to its least cover
+pub record MayResolve (plan : Plan) (past : List Entry) (e : Entry) : Type 0 where
+  pub here : inside plan e.by past ≡ Some e.place
+  pub when : hot plan e.place past ≡ true
+  pub together : all_halted plan e.place past ≡ true
+  pub fresh : resolved e.place past ≡ None
+  pub least : IsLeastCover (internal_of plan e.place) (raised plan e.place past) e.arg
+  pub mark : e.mark ≡ 0
+  pub value : e.value ≡ pos 0
+
+-- each role that has a handler for the resolved exception begins it
+pub record MayHandle (plan : Plan) (past : List Entry) (e : Entry) : Type 0 where
+  pub here : inside plan e.by past ≡ Some e.place
+  pub when : hot plan e.place past ≡ true
+  pub resolution : resolved e.place past ≡ Some e.arg
+  pub able_to : is_none (handler_of plan e.place e.by e.arg) ≡ false
+  pub fresh : handled e.place e.by past ≡ false
+  pub mark : e.mark ≡ 0
+  pub value : e.value ≡ pos 0
+
+-- ---- verdicts
+
+-- the verdict of the program of t, once its steps are done
+abbrev pub final_verdict : Plan → ℕ → ℕ → List Entry → Option Verdict
+final_verdict plan p t past = if is_none (next_step plan p t past) then Some (program_of plan p t past).verdict else None
+
+-- a role without a handler for the resolved exception asks for undo
+abbrev pub unhandled_verdict : Plan → ℕ → ℕ → Option ℕ → Option Verdict
+unhandled_verdict plan p t None = None
+unhandled_verdict plan p t (Some x) = if is_none (handler_of plan p t x) then Some verdict.Undo else None
+
+-- the handler of t is broken off: a put was refused in it, or its next step raises
+abbrev pub breaks_off : Plan → ℕ → ℕ → List Entry → Bool
+breaks_off plan p t past = refused_in_handler p t past || not (is_none (next_raise plan p t past))
+
+-- what a handler says at its end: undo where it is broken off
+abbrev pub handler_verdict : Plan → ℕ → ℕ → List Entry → Option Verdict
+handler_verdict plan p t past = if breaks_off plan p t past then Some verdict.Undo else final_verdict plan p t past
+
+-- the verdict that is due from t in p: in a calm place at the end of the body; in a hot one from the handler, or, once the place
+-- is resolved, from a role without one
+abbrev pub verdict_due : Plan → ℕ → ℕ → List Entry → Option Verdict
+verdict_due plan p t past =
+    if calm plan p past then (if given plan p past t then None else final_verdict plan p t past)
+    else (if not (hot plan p past) then None
+    else (if handled p t past then (if is_handling p t past then handler_verdict plan p t past else None)
+    else (if given plan p past t then None else unhandled_verdict plan p t (resolved p past))))
+
+pub record MayVerdict (plan : Plan) (past : List Entry) (e : Entry) : Type 0 where
+  pub here : inside plan e.by past ≡ Some e.place
+  pub due : MatchOption (verdict_due plan e.place e.by past) ⊥ (SaysVerdict e)
+  pub value : e.value ≡ pos 0
+
+-- ---- aborts and undo
+
+-- the exception that an abort names, at this register
+abbrev pub abort_of : AbortRow → ℤ → Option ℕ
+abort_of abort.Never r = None
+abort_of (abort.Always x) r = Some x
+abort_of (abort.Where test bound x) r = if meets test bound r then Some x else None
+
+-- in a doomed place that goes on, once all roles have come back into it, each gives up
+pub record MayAbort (plan : Plan) (past : List Entry) (e : Entry) : Type 0 where
+  pub here : inside plan e.by past ≡ Some e.place
+  pub when : going e.place past ≡ true
+  pub doom : doomed plan e.place past ≡ true
+  pub together : all_inside plan e.place past ≡ true
+  pub fresh : aborted e.place past e.by ≡ false
+  pub names : Names e (abort_of (abort_row plan e.place e.by) (register plan e.place e.by past))
+  pub value : e.value ≡ pos 0
+
+-- the roles of a spared place have all given their verdicts, and one is undo
+pub record AskForUndo (plan : Plan) (p : ℕ) (past : List Entry) : Type 0 where
+  pub spared : doomed plan p past ≡ false
+  pub agreed : all_given plan p past ≡ true
+  pub wanted : wants_undo plan p past ≡ true
+
+-- all roles have given up, or they ask for undo
+abbrev pub HaveAgreed : Plan → ℕ → List Entry → Type 0
+HaveAgreed plan p past = MatchBool (all_aborted plan p past) (Unit {0}) (AskForUndo plan p past)
+
+pub record MayUndo (plan : Plan) (past : List Entry) (e : Entry) : Type 0 where
+  pub here : inside plan e.by past ≡ Some e.place
+  pub when : going e.place past ≡ true
+  pub agreed : HaveAgreed plan e.place past
+  pub plain : IsPlain e
+
+-- the objects get back the values that they had at the start, in order, as far as the device takes them
+pub record MayRestore (plan : Plan) (past : List Entry) (e : Entry) : Type 0 where
+  pub here : inside plan e.by past ≡ Some e.place
+  pub when : undoing e.place past ≡ true
+  pub lasts : ended e.place past ≡ false
+  pub least : next_restore plan e.place past ≡ Some e.arg
+  pub value : e.value ≡ value_of plan e.arg (before_start e.place past)
+  pub mark : (e.mark == 0) || (e.mark == 1) ≡ true
+
+-- ---- ends
+
+-- what the roles signal is nothing, or has this least cover
+abbrev pub SignalsLeast : Plan → Entry → List ℕ → Type 0
+SignalsLeast plan e [] = (e.mark ≡ 0) × (e.arg ≡ 0)
+SignalsLeast plan e (x ∷ xs) = (e.mark ≡ 1) × IsLeastCover (interface_of plan e.place) (x ∷ xs) e.arg
+
+-- the mark of an End after an undo: failed where the device refused a restore, aborted where the roles gave up, else undone
+abbrev pub undone_mark : ℕ → List Entry → ℕ
+undone_mark p past = if failed p past then 4 else (if has kind.Abort p past then 3 else 2)
+
+-- an undo ends once each object was tried
+pub record EndsUndone (plan : Plan) (past : List Entry) (e : Entry) : Type 0 where
+  pub lasts : ended e.place past ≡ false
+  pub all_tried : next_restore plan e.place past ≡ None
+  pub mark : e.mark ≡ undone_mark e.place past
+  pub arg : e.arg ≡ 0
+
+-- a spared place ends once all roles have given their verdicts, where none is undo
+pub record EndsAgreed (plan : Plan) (past : List Entry) (e : Entry) : Type 0 where
+  pub goes : going e.place past ≡ true
+  pub spared : doomed plan e.place past ≡ false
+  pub agreed : all_given plan e.place past ≡ true
+  pub kept : wants_undo plan e.place past ≡ false
+  pub outcome : SignalsLeast plan e (signals e.place past (roles_of plan e.place))
+
+pub record MayEnd (plan : Plan) (past : List Entry) (e : Entry) : Type 0 where
+  pub here : inside plan e.by past ≡ Some e.place
+  pub how : MatchBool (undoing e.place past) (EndsUndone plan past e) (EndsAgreed plan past e)
+  pub value : e.value ≡ pos 0
+
+-- ---- leaving
+
+-- the newest entry that passes a test
+abbrev pub newest : (Entry → Bool) → List Entry → Option Entry
+newest test [] = None
+newest test (e ∷ past) = if test e then Some e else newest test past
+
+abbrev pub mapped_abort : Plan → ℕ → Option Entry → Option ℕ
+mapped_abort plan p None = None
+mapped_abort plan p (Some e) = if e.mark == 1 then Some (map_signal plan p e.arg) else None
+
+-- what the End of p, and for an aborted place the Abort of the one who leaves, mean in the place round p
+abbrev pub mapped : Plan → ℕ → Option Entry → Option Entry → Option ℕ
+mapped plan p None abort = None
+mapped plan p (Some end) abort =
+    if end.mark == 0 then None
+    else (if end.mark == 1 then Some (map_signal plan p end.arg)
+    else (if end.mark == 2 then Some (nest_of plan p).undo
+    else (if end.mark == 3 then mapped_abort plan p abort
+    else Some (nest_of plan p).failure)))
+
+-- nothing is carried out of a play, or into a doomed place
+abbrev pub is_deaf : Plan → List Entry → Option ℕ → Bool
+is_deaf plan past None = true
+is_deaf plan past (Some q) = doomed plan q past
+
+-- the exception that t carries out of p
+abbrev pub carried : Plan → ℕ → ℕ → List Entry → Option ℕ
+carried plan p t past =
+    if is_deaf plan past (parent plan p) then None
+    else mapped plan p (newest (is_in kind.End p) past) (newest (is_by kind.Abort p t) past)
+
+-- a place that has ended is only left
+pub record MayLeave (plan : Plan) (past : List Entry) (e : Entry) : Type 0 where
+  pub here : inside plan e.by past ≡ Some e.place
+  pub when : ended e.place past ≡ true
+  pub carries : Names e (carried plan e.place e.by past)
+  pub value : e.value ≡ pos 0
+
+-- ---- all kinds
+
+abbrev pub Row : Kind → Plan → List Entry → Entry → Type 0
+Row kind.Arrive = MayArrive
+Row kind.Withdraw = MayWithdraw
+Row kind.Start = MayStart
+Row kind.Read = MayRead
+Row kind.Work = MayWork
+Row kind.Write = MayPut
+Row kind.Check = MayCheck
+Row kind.PutFault = MayPut
+Row kind.Raise = MayRaise
+Row kind.Inform = MayInform
+Row kind.Resolve = MayResolve
+Row kind.Handle = MayHandle
+Row kind.Verdict = MayVerdict
+Row kind.Abort = MayAbort
+Row kind.Undo = MayUndo
+Row kind.Restore = MayRestore
+Row kind.End = MayEnd
+Row kind.Leave = MayLeave
+
+-- the entry may follow the past
+abbrev pub MayFollow : Plan → List Entry → Entry → Type 0
+MayFollow plan past e = Row e.kind plan past e

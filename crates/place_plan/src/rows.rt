@@ -1,0 +1,127 @@
+use caa_base::entry::{Exception, Object, Participant, Test, Verdict};
+use caa_base::name::Name;
+use caa_base::rows::Rows;
+
+/// A step of a role.
+#[derive(Clone, Copy, Debug, PartialEq, Eq)]
+pub enum Step {
+    /// The register becomes the value of the object.
+    Read(Object),
+    /// The object becomes this value.
+    Put(Object, i64),
+    /// The object becomes the register plus this value, kept within the range of values.
+    Add(Object, i64),
+    /// The register is mixed for this many rounds.
+    Work(u32),
+    /// The exception is raised where the register meets the test.
+    Check {
+        test: Test,
+        value: i64,
+        exception: Exception,
+    },
+    /// The exception is raised.
+    Raise(Exception),
+    /// The role enters the nested use of this number.
+    Enter(u32),
+}
+
+/// The steps of a body or a handler, and the verdict at their end.
+#[derive(Drop)]
+pub struct Program {
+    pub steps: Rows<Step>,
+    pub verdict: Verdict,
+}
+
+/// What a role does once this exception is resolved.
+#[derive(Drop)]
+pub struct HandlerRow {
+    pub exception: Exception,
+    pub program: Program,
+}
+
+/// The exception that a role names when its place is aborted.
+#[derive(Clone, Copy, Debug, PartialEq, Eq)]
+pub enum AbortRow {
+    /// None.
+    Never,
+    /// This one.
+    Always(Exception),
+    /// This one, where the register meets the test.
+    Where {
+        test: Test,
+        value: i64,
+        exception: Exception,
+    },
+}
+
+/// A role of an action.
+#[derive(Drop)]
+pub struct RoleRow {
+    pub name: Name,
+    pub body: Program,
+    pub handlers: Rows<HandlerRow>,
+    pub abort: AbortRow,
+}
+
+/// A use of another action inside an action.
+#[derive(Drop)]
+pub struct NestRow {
+    pub name: Name,
+    /// The number of the nested action.
+    pub action: u32,
+    /// Which roles of the enclosing action play its roles.
+    pub roles: Rows<u32>,
+    /// What each exception of its interface graph is in the enclosing action.
+    pub maps: Rows<Exception>,
+    /// What its undo is in the enclosing action.
+    pub undo: Exception,
+    /// What its failure is in the enclosing action.
+    pub failure: Exception,
+}
+
+/// An action.
+#[derive(Drop)]
+pub struct ActionRow {
+    pub name: Name,
+    /// The number of the graph of the exceptions that are raised inside it.
+    pub internal: u32,
+    /// The number of the graph of the exceptions that it tells outside.
+    pub interface: u32,
+    /// What a refused put raises.
+    pub fault: Exception,
+    /// The objects that it uses, in ascending order.
+    pub objects: Rows<Object>,
+    pub roles: Rows<RoleRow>,
+    pub nests: Rows<NestRow>,
+}
+
+/// An external object.
+#[derive(Drop)]
+pub struct ObjectRow {
+    pub name: Name,
+    pub initial: i64,
+}
+
+/// An action that is played at the top, and by whom.
+#[derive(Drop)]
+pub struct PlayRow {
+    /// The number of the action.
+    pub action: u32,
+    /// The participants that play its roles, in the order of the roles.
+    pub who: Rows<Participant>,
+}
+
+/// An instance of an action.
+#[derive(Drop)]
+pub struct PlaceRow {
+    /// The places round it, the innermost first; a play has none.
+    pub around: Rows<u32>,
+    /// Which nested use of the enclosing action it is; 0 for a play.
+    pub nest: u32,
+    /// The number of the action.
+    pub action: u32,
+    /// The participants that play its roles, in the order of the roles.
+    pub roles: Rows<Participant>,
+    /// The places of its nested uses, in their order.
+    pub children: Rows<u32>,
+}
