@@ -1,11 +1,11 @@
 -- How many entries a plan allows at most.
-use Rattle.std.specs.Prelude.{ℕ, ◌+◌, ◌*◌, max, List, [], ◌∷◌, length, zero, suc}
+use Rattle.std.specs.Prelude.{ℕ, ◌+◌, ◌*◌, max, List, [], ◌∷◌, length, slice_index_or, sum_by}
 use Rattle.place_plan.specs.declared.rows.RoleRow.{RoleRow}
 use Rattle.place_plan.specs.declared.rows.HandlerRow.{HandlerRow}
 use Rattle.place_plan.specs.declared.rows.ActionRow.{ActionRow}
 use Rattle.place_plan.specs.declared.rows.PlaceRow.{PlaceRow}
 use Rattle.place_plan.specs.PlanValue.{Plan}
-use Rattle.place_plan.specs.Places.{roles_of, objects_of, action_at}
+use Rattle.place_plan.specs.Places.{no_action}
 
 -- the steps of the longest body
 abbrev pub longest_body : List RoleRow → ℕ
@@ -27,14 +27,10 @@ longest_handler (r ∷ rs) = max (longest_of r.handlers) (longest_handler rs)
 unfoldable pub action_bound : ActionRow → ℕ → ℕ
 action_bound action roles = roles * (8 + longest_body action.roles + longest_handler action.roles) + length action.objects + 4
 
-unfoldable pub place_bound : Plan → ℕ → ℕ
-place_bound plan p = action_bound (action_at plan p) (length (roles_of plan p))
-
--- the sum of f at each number below n
-abbrev pub total : (ℕ → ℕ) → ℕ → ℕ
-total f zero = 0
-total f (suc n) = f n + total f n
+-- how many entries a place may have
+abbrev pub row_bound : List ActionRow → PlaceRow → ℕ
+row_bound actions row = action_bound (slice_index_or actions row.action no_action) (length row.roles)
 
 -- the sum over all places
 abbrev pub bound : Plan → ℕ
-bound plan = total (place_bound plan) (length plan.places)
+bound plan = sum_by (row_bound plan.actions) plan.places

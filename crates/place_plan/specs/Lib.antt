@@ -12,3 +12,6 @@ pub mod Bound
 pub mod WellFormed
 pub mod Laws
 pub mod Flat
+pub mod Unfolding
+pub mod DraftRules
+pub mod Built

@@ -82,8 +82,16 @@ child plan p nest = slice_index_or (place_at plan p).children nest 0
 
 -- ---- what t plays in p
 
+-- the role of this number
+abbrev pub role_at : Plan → ℕ → ℕ → RoleRow
+role_at plan p role = slice_index_or (action_at plan p).roles role no_role
+
 abbrev pub role_row : Plan → ℕ → ℕ → RoleRow
-role_row plan p t = slice_index_or (action_at plan p).roles (index_of t (roles_of plan p)) no_role
+role_row plan p t = role_at plan p (index_of t (roles_of plan p))
+
+-- the number of the role of t, or none
+abbrev pub role_of : Plan → ℕ → ℕ → Option ℕ
+role_of plan p t = if member t (roles_of plan p) then Some (index_of t (roles_of plan p)) else None
 
 abbrev pub body_of : Plan → ℕ → ℕ → Program
 body_of plan p t = (role_row plan p t).body

@@ -1,0 +1,245 @@
+-- The rules that a draft has to keep, each with its number.
+use Rattle.std.specs.Prelude.{ℕ, ℤ, pos, negsuc, ◌==◌, ◌+◌, ◌-◌, nat_lt, nat_le, max, int_lt, if◌then◌else◌, Bool, true, false, not, ◌&&◌, List, [], ◌∷◌, map, length, slice_index_or, filter, Option, Some, None, zero, suc}
+use Rattle.std.specs.List.{list_all}
+use Rattle.cover_table.specs.Cover.{CoverOrder}
+use Rattle.caa_base.specs.declared.entry.Drill.{Drill}
+use Rattle.caa_base.specs.declared.entry.Verdict.{Verdict}
+use Rattle.caa_base.specs.declared.entry.Verdict.TheVariants as verdict
+use Rattle.place_plan.specs.declared.draft.Draft.{Draft}
+use Rattle.place_plan.specs.declared.rows.ObjectRow.{ObjectRow}
+use Rattle.place_plan.specs.declared.rows.PlayRow.{PlayRow}
+use Rattle.place_plan.specs.declared.rows.ActionRow.{ActionRow}
+use Rattle.place_plan.specs.declared.rows.RoleRow.{RoleRow}
+use Rattle.place_plan.specs.declared.rows.NestRow.{NestRow}
+use Rattle.place_plan.specs.declared.rows.HandlerRow.{HandlerRow}
+use Rattle.place_plan.specs.declared.rows.AbortRow.{AbortRow}
+use Rattle.place_plan.specs.declared.rows.AbortRow.TheVariants as abort
+use Rattle.place_plan.specs.declared.rows.Program.{Program}
+use Rattle.place_plan.specs.declared.rows.Step.{Step}
+use Rattle.place_plan.specs.declared.rows.Step.TheVariants as step
+use Rattle.place_plan.specs.PlanValue.{Plan}
+use Rattle.place_plan.specs.Words.{member, is_empty}
+use Rattle.place_plan.specs.Places.{graph_at, no_action}
+use Rattle.place_plan.specs.Unfolding.{plan_of, most_depth}
+use Rattle.place_plan.specs.Bound.{bound}
+
+-- ---- 1: the numbers of parts are within the limits, and each action has a role
+
+abbrev pub program_fits : Program → Bool
+program_fits program = nat_le (length program.steps) 256
+
+abbrev pub role_fits : RoleRow → Bool
+role_fits role = program_fits role.body && list_all (λ h. program_fits h.program) role.handlers
+
+abbrev pub action_fits : ActionRow → Bool
+action_fits action = not (is_empty action.roles) && (nat_le (length action.roles) 16 && (nat_le (length action.nests) 256 && list_all role_fits action.roles))
+
+abbrev pub size_rule : Draft → Bool
+size_rule draft =
+    nat_le (length draft.participants) 64 && (nat_le (length draft.objects) 256 && (nat_le (length draft.actions) 256
+    && (nat_le (length draft.watches) 16 && (nat_le (length draft.drills) 1000 && list_all action_fits draft.actions))))
+
+-- ---- 3: all numbers are in range
+
+-- the value of an object
+abbrev pub is_value : ℤ → Bool
+is_value v = not (int_lt v (negsuc 999999999999)) && not (int_lt (pos 1000000000000) v)
+
+-- the numbers rise, each above `low`, or from 0 on
+abbrev pub is_rising_above : ℕ → List ℕ → Bool
+is_rising_above low [] = true
+is_rising_above low (x ∷ xs) = nat_lt low x && is_rising_above x xs
+
+abbrev pub is_rising : List ℕ → Bool
+is_rising [] = true
+is_rising (x ∷ xs) = is_rising_above x xs
+
+abbrev pub all_below : ℕ → List ℕ → Bool
+all_below count numbers = list_all (λ n. nat_lt n count) numbers
+
+abbrev pub step_in_range : ℕ → ℕ → Step → Bool
+step_in_range objects exceptions (step.Read o) = nat_lt o objects
+step_in_range objects exceptions (step.Put o v) = nat_lt o objects && is_value v
+step_in_range objects exceptions (step.Add o v) = nat_lt o objects && is_value v
+step_in_range objects exceptions (step.Work k) = nat_le k 1000000
+step_in_range objects exceptions (step.Check test v x) = is_value v && nat_lt x exceptions
+step_in_range objects exceptions (step.Raise x) = nat_lt x exceptions
+step_in_range objects exceptions (step.Enter n) = true
+
+abbrev pub verdict_in_range : ℕ → Verdict → Bool
+verdict_in_range exceptions (verdict.Signal x) = nat_lt x exceptions
+verdict_in_range exceptions _ = true
+
+abbrev pub abort_in_range : ℕ → AbortRow → Bool
+abort_in_range exceptions abort.Never = true
+abort_in_range exceptions (abort.Always x) = nat_lt x exceptions
+abort_in_range exceptions (abort.Where test v x) = is_value v && nat_lt x exceptions
+
+-- of the objects, and of the exceptions of the internal and of the interface graph, so many
+abbrev pub program_in_range : ℕ → ℕ → ℕ → Program → Bool
+program_in_range objects internal interface program =
+    list_all (step_in_range objects internal) program.steps && verdict_in_range interface program.verdict
+
+abbrev pub handler_in_range : ℕ → ℕ → ℕ → HandlerRow → Bool
+handler_in_range objects internal interface h = nat_lt h.exception internal && program_in_range objects internal interface h.program
+
+abbrev pub role_in_range : ℕ → ℕ → ℕ → RoleRow → Bool
+role_in_range objects internal interface role =
+    program_in_range objects internal interface role.body
+    && (list_all (handler_in_range objects internal interface) role.handlers && abort_in_range interface role.abort)
+
+abbrev pub nest_in_range : ℕ → ℕ → ℕ → NestRow → Bool
+nest_in_range actions roles internal nest =
+    nat_lt nest.action actions && (all_below roles nest.roles && (all_below internal nest.maps && (nat_lt nest.undo internal && nat_lt nest.failure internal)))
+
+-- how many exceptions a graph of the draft has
+abbrev pub exceptions_of : Draft → ℕ → ℕ
+exceptions_of draft g = (graph_at (plan_of draft) g).count
+
+-- the two graphs and the fault exception of an action
+abbrev pub graphs_in_range : Draft → ActionRow → Bool
+graphs_in_range draft action =
+    nat_lt action.internal (length (plan_of draft).graphs)
+    && (nat_lt action.interface (length (plan_of draft).graphs) && nat_lt action.fault (exceptions_of draft action.internal))
+
+-- the objects of an action, each once and in ascending order
+abbrev pub objects_in_range : Draft → ActionRow → Bool
+objects_in_range draft action = is_rising action.objects && all_below (length draft.objects) action.objects
+
+abbrev pub parts_in_range : Draft → ActionRow → Bool
+parts_in_range draft action =
+    let internal = exceptions_of draft action.internal in
+    list_all (role_in_range (length draft.objects) internal (exceptions_of draft action.interface)) action.roles
+    && list_all (nest_in_range (length draft.actions) (length action.roles) internal) action.nests
+
+abbrev pub action_in_range : Draft → ActionRow → Bool
+action_in_range draft action = graphs_in_range draft action && (objects_in_range draft action && parts_in_range draft action)
+
+abbrev pub play_in_range : Draft → PlayRow → Bool
+play_in_range draft play = nat_lt play.action (length draft.actions) && all_below (length draft.participants) play.who
+
+abbrev pub drill_in_range : Draft → Drill → Bool
+drill_in_range draft drill = nat_lt drill.object (length draft.objects) && (nat_le 1 drill.nth && nat_le drill.nth 1000000)
+
+abbrev pub range_rule : Draft → Bool
+range_rule draft =
+    list_all (λ o. is_value o.initial) draft.objects && (list_all (action_in_range draft) draft.actions && (list_all (play_in_range draft) draft.plays
+    && (list_all (drill_in_range draft) draft.drills && all_below (length draft.objects) draft.watches)))
+
+-- ---- 4: a nested use names an action of a smaller number
+
+abbrev pub nests_below : ℕ → List ActionRow → Bool
+nests_below n [] = true
+nests_below n (action ∷ actions) = list_all (λ nest. nat_lt nest.action n) action.nests && nests_below (suc n) actions
+
+abbrev pub order_rule : Draft → Bool
+order_rule draft = nests_below 0 draft.actions
+
+-- ---- 5: a nested use has one role for each role of its action, and a play one participant; none stands twice
+
+abbrev pub all_differ : List ℕ → Bool
+all_differ [] = true
+all_differ (x ∷ xs) = not (member x xs) && all_differ xs
+
+-- these fill the roles of the action, each once
+abbrev pub fills : Draft → ℕ → List ℕ → Bool
+fills draft action who = (length who == length (slice_index_or draft.actions action no_action).roles) && all_differ who
+
+abbrev pub fill_rule : Draft → Bool
+fill_rule draft =
+    list_all (λ action. list_all (λ nest. fills draft nest.action nest.roles) action.nests) draft.actions
+    && list_all (λ play. fills draft play.action play.who) draft.plays
+
+-- ---- 6: the enter steps of a body are just the uses that the role fills, in order, and handlers have none
+
+abbrev pub entered_by : List Step → List ℕ
+entered_by [] = []
+entered_by (step.Enter n ∷ steps) = n ∷ entered_by steps
+entered_by (_ ∷ steps) = entered_by steps
+
+-- the uses that a role fills; `n` is the number of the first
+abbrev pub filled_by : ℕ → ℕ → List NestRow → List ℕ
+filled_by role n [] = []
+filled_by role n (nest ∷ nests) = if member role nest.roles then n ∷ filled_by role (suc n) nests else filled_by role (suc n) nests
+
+abbrev pub same_numbers : List ℕ → List ℕ → Bool
+same_numbers [] [] = true
+same_numbers [] (y ∷ ys) = false
+same_numbers (x ∷ xs) [] = false
+same_numbers (x ∷ xs) (y ∷ ys) = (x == y) && same_numbers xs ys
+
+abbrev pub roles_enter : List NestRow → ℕ → List RoleRow → Bool
+roles_enter nests n [] = true
+roles_enter nests n (role ∷ roles) =
+    same_numbers (entered_by role.body.steps) (filled_by n 0 nests)
+    && (list_all (λ h. is_empty (entered_by h.program.steps)) role.handlers && roles_enter nests (suc n) roles)
+
+abbrev pub enter_rule : Draft → Bool
+enter_rule draft = list_all (λ action. roles_enter action.nests 0 action.roles) draft.actions
+
+-- ---- 7: the objects of a step, and those of a nested action, are among the action's objects
+
+abbrev pub step_held : List ℕ → Step → Bool
+step_held objects (step.Read o) = member o objects
+step_held objects (step.Put o v) = member o objects
+step_held objects (step.Add o v) = member o objects
+step_held objects _ = true
+
+abbrev pub role_held : List ℕ → RoleRow → Bool
+role_held objects role = list_all (step_held objects) role.body.steps && list_all (λ h. list_all (step_held objects) h.program.steps) role.handlers
+
+abbrev pub nest_held : Draft → List ℕ → NestRow → Bool
+nest_held draft objects nest = list_all (λ o. member o objects) (slice_index_or draft.actions nest.action no_action).objects
+
+abbrev pub action_held : Draft → ActionRow → Bool
+action_held draft action = list_all (role_held action.objects) action.roles && list_all (nest_held draft action.objects) action.nests
+
+abbrev pub object_rule : Draft → Bool
+object_rule draft = list_all (action_held draft) draft.actions
+
+-- ---- 8: no action is deeper than the most; one without nested uses has depth 1
+
+-- the greatest depth of nested uses
+abbrev pub deepest : (ℕ → ℕ) → List NestRow → ℕ
+deepest depth [] = 0
+deepest depth (nest ∷ nests) = max (depth nest.action) (deepest depth nests)
+
+-- the depth of an action, as far as `most` tells
+unfoldable pub depth_within : ℕ → List ActionRow → ℕ → ℕ
+depth_within zero actions a = 0
+depth_within (suc most) actions a = suc (deepest (depth_within most actions) (slice_index_or actions a no_action).nests)
+
+abbrev pub depths_fit : ℕ → List ActionRow → List ActionRow → Bool
+depths_fit n actions [] = true
+depths_fit n actions (a ∷ rest) = nat_le (depth_within (suc most_depth) actions n) most_depth && depths_fit (suc n) actions rest
+
+abbrev pub depth_rule : Draft → Bool
+depth_rule draft = depths_fit 0 draft.actions draft.actions
+
+-- ---- 9: the handlers of a role have different exceptions, and each exception of a nested use is mapped
+
+abbrev pub handlers_differ : RoleRow → Bool
+handlers_differ role = all_differ (map (λ (h : HandlerRow). h.exception) role.handlers)
+
+abbrev pub nest_mapped : Draft → NestRow → Bool
+nest_mapped draft nest = length nest.maps == exceptions_of draft (slice_index_or draft.actions nest.action no_action).interface
+
+abbrev pub handler_rule : Draft → Bool
+handler_rule draft = list_all (λ action. list_all handlers_differ action.roles && list_all (nest_mapped draft) action.nests) draft.actions
+
+-- ---- 10: the places and the bound are within the limits
+
+abbrev pub bound_rule : Draft → Bool
+bound_rule draft = nat_le (length (plan_of draft).places) 65536 && nat_le (bound (plan_of draft)) 1000000
+
+-- ---- all rules
+
+abbrev pub broken_if : Bool → ℕ → Option ℕ → Option ℕ
+broken_if true rule next = next
+broken_if false rule next = Some rule
+
+-- the least rule that the draft breaks; rule 2 is of declared graphs, which drafts don't have yet
+abbrev pub broken_rule : Draft → Option ℕ
+broken_rule draft =
+    broken_if (size_rule draft) 1 (broken_if (range_rule draft) 3 (broken_if (order_rule draft) 4 (broken_if (fill_rule draft) 5 (broken_if (enter_rule draft) 6
+    (broken_if (object_rule draft) 7 (broken_if (depth_rule draft) 8 (broken_if (handler_rule draft) 9 (broken_if (bound_rule draft) 10 None))))))))

@@ -1,0 +1,75 @@
+-- How the plays of a draft unfold into places.
+use Rattle.std.specs.Prelude.{◌≡◌, ℕ, ◌+◌, ◌<◌, List, [], ◌∷◌, ◌++◌, map, length, slice_index_or, zero, suc, Option, None}
+use Rattle.place_plan.specs.declared.draft.Draft.{Draft}
+use Rattle.place_plan.specs.declared.rows.PlaceRow.{PlaceRow}
+use Rattle.place_plan.specs.declared.rows.PlayRow.{PlayRow}
+use Rattle.place_plan.specs.declared.rows.ActionRow.{ActionRow}
+use Rattle.place_plan.specs.declared.rows.NestRow.{NestRow}
+use Rattle.place_plan.specs.PlanValue.{Plan, GraphRow}
+use Rattle.place_plan.specs.Places.{no_action}
+
+-- the places of an instance of an action, with all that is nested in it: from the action, the participants of its roles, the places
+-- round it, which use of the enclosing action it is, and the number of its place
+abbrev pub Unfolding : Type 0
+Unfolding = ℕ → List ℕ → List ℕ → ℕ → ℕ → List PlaceRow
+
+-- the participants that play the roles of a nested use, by those of the enclosing place
+abbrev pub cast_of : List ℕ → NestRow → List ℕ
+cast_of who nest = map (λ role. slice_index_or who role 0) nest.roles
+
+-- nested uses, each with its whole subtree, one after another; `i` is the number of the first, and `n` that of its place
+abbrev pub nested : Unfolding → List ℕ → List ℕ → ℕ → ℕ → List NestRow → List PlaceRow
+nested unfold_one who around i n [] = []
+nested unfold_one who around i n (nest ∷ nests) =
+    let subtree = unfold_one nest.action (cast_of who nest) around i n in
+    subtree ++ nested unfold_one who around (suc i) (n + length subtree) nests
+
+-- the places of nested uses
+abbrev pub numbers : Unfolding → List ℕ → List ℕ → ℕ → ℕ → List NestRow → List ℕ
+numbers unfold_one who around i n [] = []
+numbers unfold_one who around i n (nest ∷ nests) =
+    let subtree = unfold_one nest.action (cast_of who nest) around i n in
+    n ∷ numbers unfold_one who around (suc i) (n + length subtree) nests
+
+-- an instance, and what is nested in it at most `depth` deep: its place first, and then its nested uses in order
+unfoldable pub unfold_at : ℕ → List ActionRow → Unfolding
+unfold_at zero actions a who around i n = []
+unfold_at (suc depth) actions a who around i n =
+    let nests = (slice_index_or actions a no_action).nests in
+    record { around = around; nest = i; action = a; roles = who; children = numbers (unfold_at depth actions) who (n ∷ around) 0 (n + 1) nests }
+    ∷ nested (unfold_at depth actions) who (n ∷ around) 0 (n + 1) nests
+
+-- the plays in order, each with its whole subtree
+abbrev pub plays_from : Unfolding → ℕ → List PlayRow → List PlaceRow
+plays_from unfold_one n [] = []
+plays_from unfold_one n (play ∷ plays) =
+    let subtree = unfold_one play.action play.who [] 0 n in
+    subtree ++ plays_from unfold_one (n + length subtree) plays
+
+-- the places of the plays
+abbrev pub tops_from : Unfolding → ℕ → List PlayRow → List ℕ
+tops_from unfold_one n [] = []
+tops_from unfold_one n (play ∷ plays) =
+    let subtree = unfold_one play.action play.who [] 0 n in
+    n ∷ tops_from unfold_one (n + length subtree) plays
+
+-- the depth that actions may have, nested uses and all
+abbrev pub most_depth : ℕ
+most_depth = 8
+
+-- graph 0 has `universal` alone, which covers itself
+abbrev pub plain_graph : GraphRow
+plain_graph = record { graph = record { count = 1; rows = 1 ∷ [] }; names = (117 ∷ 110 ∷ 105 ∷ 118 ∷ 101 ∷ 114 ∷ 115 ∷ 97 ∷ 108 ∷ []) ∷ [] }
+
+-- the plan into which a draft unfolds
+abbrev pub plan_of : Draft → Plan
+plan_of draft = record {
+  participants = draft.participants;
+  objects = draft.objects;
+  graphs = plain_graph ∷ [];
+  actions = draft.actions;
+  places = plays_from (unfold_at most_depth draft.actions) 0 draft.plays;
+  plays = tops_from (unfold_at most_depth draft.actions) 0 draft.plays;
+  drills = draft.drills;
+  watches = draft.watches;
+}

@@ -1,0 +1,18 @@
+use crate::rows::{ActionRow, ObjectRow, PlayRow};
+use caa_base::entry::{Drill, Object};
+use caa_base::name::Name;
+use caa_base::rows::Rows;
+
+/// The parts of a plan, before they are checked and unfolded.
+#[derive(Drop)]
+pub struct Draft {
+    /// The names of the participants.
+    pub participants: Rows<Name>,
+    pub objects: Rows<ObjectRow>,
+    pub actions: Rows<ActionRow>,
+    pub plays: Rows<PlayRow>,
+    /// The puts that the device is to refuse.
+    pub drills: Rows<Drill>,
+    /// The objects whose committed values are watched.
+    pub watches: Rows<Object>,
+}
