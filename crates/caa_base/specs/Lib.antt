@@ -1,2 +1,4 @@
+pub mod Counts
+pub mod Device
 pub mod Journal
 pub mod Mixing

@@ -2,7 +2,11 @@
 #![tactic(auto)]
 
 pub mod entry;
+pub mod gate;
 pub mod journal;
 pub mod name;
+pub mod plant;
 pub mod rows;
+pub mod sink;
+pub mod source;
 pub mod work;
