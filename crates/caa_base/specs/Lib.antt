@@ -2,3 +2,5 @@ pub mod Counts
 pub mod Device
 pub mod Journal
 pub mod Mixing
+pub mod Reading
+pub mod Writing

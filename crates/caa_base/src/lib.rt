@@ -6,6 +6,7 @@ pub mod gate;
 pub mod journal;
 pub mod name;
 pub mod plant;
+pub mod reading;
 pub mod rows;
 pub mod sink;
 pub mod source;
