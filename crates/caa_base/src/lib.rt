@@ -4,6 +4,7 @@
 pub mod entry;
 pub mod gate;
 pub mod journal;
+pub mod memory;
 pub mod name;
 pub mod plant;
 pub mod reading;
