@@ -2,7 +2,13 @@
 #![tactic(auto)]
 
 pub mod entry;
+pub mod gate;
 pub mod journal;
+pub mod memory;
 pub mod name;
+pub mod plant;
+pub mod reading;
 pub mod rows;
+pub mod sink;
+pub mod source;
 pub mod work;

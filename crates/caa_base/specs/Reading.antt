@@ -1,0 +1,28 @@
+-- How many bytes were read from a source.
+use Rattle.std.specs.Prelude.{◌≡◌, ◌≤◌, ◌+◌, ℕ, List, [], length, Option}
+use Rattle.std.specs.Option.{option_map}
+use Rattle.std.specs.Io.KnownBytes.{prepend_known}
+use Rattle.caa_base.specs.declared.reading.ReadError.{ReadError}
+use Rattle.caa_base.specs.declared.reading.ReadError.TheVariants.{Fault, TooLong, OutOfMemory}
+
+-- what is left of a source at its end, where it tells that
+abbrev pub emptied : Option (List ℕ) → Option (List ℕ)
+emptied told = option_map (λ _. []) told
+
+-- so many bytes were taken off the front of what a source had left
+pub record TookOff (old new : Option (List ℕ)) (count : ℕ) : Type 0 where
+  pub bytes : List ℕ
+  pub number : length bytes ≡ count
+  pub front : old ≡ prepend_known bytes new
+
+-- no more than so many bytes were taken off
+pub record TookAtMost (old new : Option (List ℕ)) (count : ℕ) : Type 0 where
+  pub bytes : List ℕ
+  pub number : length bytes ≤ count
+  pub front : old ≡ prepend_known bytes new
+
+-- what a reading took that ended with an error: one byte past the limit where it was too long, and else none past it
+abbrev pub TookUntil : Option (List ℕ) → Option (List ℕ) → ℕ → ReadError → Type 0
+TookUntil old new limit TooLong = TookOff old new (limit + 1)
+TookUntil old new limit Fault = TookAtMost old new limit
+TookUntil old new limit OutOfMemory = TookAtMost old new limit

@@ -1,0 +1,15 @@
+use crate::entry::{Participant, Place};
+
+/// What is told of each piece of mixing work, before it begins.
+pub trait Gate {
+    /// This participant is about to work in this place.
+    fn work(&self, by: Participant, place: Place);
+}
+
+/// A gate that does nothing.
+#[derive(Clone, Copy, Debug, Default, PartialEq, Eq)]
+pub struct EmptyGate;
+
+impl Gate for EmptyGate {
+    fn work(&self, _by: Participant, _place: Place) {}
+}

@@ -1,0 +1,84 @@
+ghost use Rattle.std.specs.Prelude.{◌≡◌, ◌<◌, ◌≤◌, ◌-◌, ◌⊎◌, ◌↔◌, [], min, length, take, Some, IsErr, IfOk, OnErr, Contains};
+ghost use Rattle.std.specs.Io.KnownBytes.{append_known};
+ghost use Rattle.caa_base.specs.Counts.{Rose};
+ghost use Rattle.caa_base.specs.Memory.{counted_up};
+
+use crate::entry::{Failed, OutOfMemory};
+use crate::memory::failures::Failures;
+use crate::memory::sure_sink::SureSink;
+use crate::sink::Sink;
+use std::alloc::Global;
+use std::marker::Model;
+
+/// A sink in memory, whose writes fail where that was asked for and where it is full.
+#[derive(Debug, Drop)]
+pub struct MemSink {
+    sink: SureSink,
+    failures: Failures,
+}
+
+impl Model for MemSink {
+    ghost use Rattle.caa_base.specs.Memory.{FailingSink};
+
+    ghost Value = { FailingSink };
+
+    ghost view = { λ s. record { held = s.sink.held; room = s.sink.room; failures = s.failures } };
+}
+
+impl MemSink {
+    /// A sink that holds nothing yet, and can hold `room` bytes. Its memory is taken here.
+    ///
+    /// The n-th write, counted from 1, fails where n is in `fail`.
+    pub fn new(alloc: Global, room: u64, fail: &[u64]) -> Result<Self, OutOfMemory>
+        ensures held { IfOk result (λ s. s.held ≡ []) }
+        ensures room { IfOk result (λ s. s.room ≡ room) }
+        ensures at { IfOk result (λ s. s.failures.at ≡ fail.now) }
+        ensures calls { IfOk result (λ s. s.failures.calls ≡ 0) }
+        ensures faults { IfOk result (λ s. s.failures.faults ≡ 0) }
+    {
+        let sink = SureSink::new(alloc, room)?;
+        let failures = Failures::new(alloc, fail)?;
+        Ok(MemSink { sink, failures })
+    }
+
+    /// The bytes that it holds.
+    pub fn bytes(&self) -> &[u8]
+        ensures { result.now ≡ self.now.held }
+    {
+        self.sink.bytes()
+    }
+}
+
+impl Sink for MemSink {
+    ghost faults = { λ s. s.failures.faults };
+
+    ghost held = { λ s. Some s.held };
+
+    ghost room = { λ s. Some s.room };
+
+    fn write(&mut self, piece: &[u8]) -> Result<usize, Failed>
+        requires { 0 < length piece.now }
+        ensures fails { IsErr result ↔ (Contains self.old.failures.at self.new.failures.calls ⊎ (self.old.room ≤ length self.old.held)) }
+        ensures calls { self.new.failures.calls ≡ counted_up self.old.failures.calls }
+        ensures at { self.new.failures.at ≡ self.old.failures.at }
+        ensures most { IfOk result (λ n. n ≡ min (length piece.now) (self.old.room - length self.old.held)) }
+
+        ensures some { IfOk result (λ n. 0 < n) }
+        ensures bound { IfOk result (λ n. n ≤ length piece.now) }
+        ensures bytes { IfOk result (λ n. Some self.new.held ≡ append_known (Some self.old.held) (take n piece.now)) }
+        ensures failed { OnErr result (Some self.new.held ≡ Some self.old.held) }
+        ensures room { Some self.new.room ≡ Some self.old.room }
+        ensures count { self.old.failures.faults ≤ self.new.failures.faults }
+        ensures cause { OnErr result (Rose self.old.failures.faults self.new.failures.faults) }
+    {
+        if self.failures.is_next() || self.sink.is_full() {
+            self.failures.add_fault();
+            return Err(Failed);
+        }
+        Ok(self.sink.append(piece))
+    }
+
+    fn faults(&self) -> u64 {
+        self.failures.faults()
+    }
+}

@@ -1,0 +1,78 @@
+ghost use Rattle.std.specs.Prelude.{◌≡◌, ◌<◌, ◌≤◌, ◌↔◌, ◌++◌, [], min, length, take, Some, IsErr, IfOk, OnErr, Contains};
+ghost use Rattle.std.specs.Io.KnownBytes.{prepend_known, IsAtEnd};
+ghost use Rattle.caa_base.specs.Counts.{Rose};
+ghost use Rattle.caa_base.specs.Memory.{counted_up};
+
+use crate::entry::{Failed, OutOfMemory};
+use crate::memory::failures::Failures;
+use crate::memory::sure_source::SureSource;
+use crate::source::Source;
+use std::alloc::Global;
+use std::marker::Model;
+
+/// A source of bytes in memory, whose reads fail where that was asked for.
+#[derive(Debug, Drop)]
+pub struct MemSource {
+    source: SureSource,
+    failures: Failures,
+}
+
+impl Model for MemSource {
+    ghost use Rattle.caa_base.specs.Memory.{FailingSource};
+
+    ghost Value = { FailingSource };
+
+    ghost view = { λ s. record { left = s.source; failures = s.failures } };
+}
+
+impl MemSource {
+    /// A source of these bytes. The n-th read, counted from 1, fails where n is in `fail`.
+    pub fn new(alloc: Global, bytes: &[u8], fail: &[u64]) -> Result<Self, OutOfMemory>
+        ensures left { IfOk result (λ s. s.left ≡ bytes.now) }
+        ensures at { IfOk result (λ s. s.failures.at ≡ fail.now) }
+        ensures calls { IfOk result (λ s. s.failures.calls ≡ 0) }
+        ensures faults { IfOk result (λ s. s.failures.faults ≡ 0) }
+    {
+        let source = SureSource::new(alloc, bytes)?;
+        let failures = Failures::new(alloc, fail)?;
+        Ok(MemSource { source, failures })
+    }
+
+    /// The bytes that are left.
+    pub fn left(&self) -> &[u8]
+        ensures { result.now ≡ self.now.left }
+    {
+        self.source.left()
+    }
+}
+
+impl Source for MemSource {
+    ghost faults = { λ s. s.failures.faults };
+
+    ghost left = { λ s. Some s.left };
+
+    fn read(&mut self, buf: &mut [u8]) -> Result<usize, Failed>
+        requires { 0 < length buf.old }
+        ensures fails { IsErr result ↔ Contains self.old.failures.at self.new.failures.calls }
+        ensures calls { self.new.failures.calls ≡ counted_up self.old.failures.calls }
+        ensures at { self.new.failures.at ≡ self.old.failures.at }
+        ensures most { IfOk result (λ n. n ≡ min (length self.old.left) (length buf.new)) }
+
+        ensures bound { IfOk result (λ n. n ≤ length buf.new) }
+        ensures bytes { IfOk result (λ n. Some self.old.left ≡ prepend_known (take n buf.new) (Some self.new.left)) }
+        ensures end { IfOk result (λ n. n ≡ 0 → IsAtEnd (Some self.new.left)) }
+        ensures failed { OnErr result (Some self.new.left ≡ Some self.old.left) }
+        ensures count { self.old.failures.faults ≤ self.new.failures.faults }
+        ensures cause { OnErr result (Rose self.old.failures.faults self.new.failures.faults) }
+    {
+        if self.failures.is_next() {
+            self.failures.add_fault();
+            return Err(Failed);
+        }
+        Ok(self.source.take(buf))
+    }
+
+    fn faults(&self) -> u64 {
+        self.failures.faults()
+    }
+}

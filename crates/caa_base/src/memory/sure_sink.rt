@@ -1,0 +1,108 @@
+ghost use Rattle.std.specs.Prelude.{◌≡◌, ◌<◌, ◌≤◌, ◌-◌, ◌++◌, ◌↔◌, [], min, length, take, Some, IsTrue, IsErr, IfOk, OnOk, OnErr};
+ghost use Rattle.std.specs.Io.KnownBytes.{append_known};
+ghost use Rattle.caa_base.specs.Counts.{Rose};
+ghost use Rattle.caa_base.specs.Memory.{counted_up, refused_by};
+
+use crate::entry::{Failed, OutOfMemory};
+use crate::sink::Sink;
+use std::alloc::Global;
+use std::marker::Model;
+
+/// A sink in memory that fails only where it is full.
+#[derive(Debug, Drop)]
+pub struct SureSink {
+    bytes: Vec<u8>,
+    room: u64,
+    refused: u64,
+}
+
+impl Model for SureSink {
+    ghost use Rattle.std.specs.Prelude.{◌≤◌, length, vec_capacity};
+    ghost use Rattle.caa_base.specs.Memory.{FullSink};
+
+    ghost Value = { FullSink };
+
+    ghost view = { λ s. record { held = s.bytes.items; room = s.room; refused = s.refused } };
+
+    ghost invariant = { λ s. (length s.bytes.items ≤ s.room) × (s.room ≤ vec_capacity s.bytes) };
+}
+
+impl SureSink {
+    /// A sink that holds nothing yet, and can hold `room` bytes. Its memory is taken here.
+    pub fn new(alloc: Global, room: u64) -> Result<Self, OutOfMemory>
+        ensures held { IfOk result (λ sink. sink.held ≡ []) }
+        ensures room { IfOk result (λ sink. sink.room ≡ room) }
+        ensures refused { IfOk result (λ sink. sink.refused ≡ 0) }
+    {
+        match Vec::with_capacity(alloc, room as usize) {
+            Ok(bytes) => Ok(SureSink {
+                bytes,
+                room,
+                refused: 0,
+            }),
+            Err(_) => Err(OutOfMemory),
+        }
+    }
+
+    /// The bytes that it holds.
+    pub fn bytes(&self) -> &[u8]
+        ensures { result.now ≡ self.now.held }
+    {
+        self.bytes.as_slice()
+    }
+
+    /// Whether it can't hold one more byte.
+    pub fn is_full(&self) -> bool
+        ensures full { IsTrue result ↔ (self.now.room ≤ length self.now.held) }
+    {
+        self.bytes.len() as u64 >= self.room
+    }
+
+    /// Appends as much of the front of the piece as fits the room, and says how much.
+    pub fn append(&mut self, piece: &[u8]) -> usize
+        ensures most { result ≡ min (length piece.now) (self.old.room - length self.old.held) }
+        ensures held { self.new.held ≡ self.old.held ++ take result piece.now }
+        ensures room { self.new.room ≡ self.old.room }
+        ensures refused { self.new.refused ≡ self.old.refused }
+    {
+        let spare = self.room as usize - self.bytes.len();
+        let count = piece.len().min(spare);
+        self.bytes.extend_from_slice(&piece[..count]).unwrap();
+        count
+    }
+}
+
+impl Sink for SureSink {
+    ghost faults = { refused_by };
+
+    ghost held = { λ s. Some s.held };
+
+    ghost room = { λ s. Some s.room };
+
+    fn write(&mut self, piece: &[u8]) -> Result<usize, Failed>
+        requires { 0 < length piece.now }
+        ensures full { IsErr result ↔ (self.old.room ≤ length self.old.held) }
+        ensures most { IfOk result (λ n. n ≡ min (length piece.now) (self.old.room - length self.old.held)) }
+
+        ensures some { IfOk result (λ n. 0 < n) }
+        ensures bound { IfOk result (λ n. n ≤ length piece.now) }
+        ensures bytes { IfOk result (λ n. Some self.new.held ≡ append_known (Some self.old.held) (take n piece.now)) }
+        ensures failed { OnErr result (Some self.new.held ≡ Some self.old.held) }
+        ensures room { Some self.new.room ≡ Some self.old.room }
+        ensures count { refused_by self.old ≤ refused_by self.new }
+        ensures cause { OnErr result (Rose (refused_by self.old) (refused_by self.new)) }
+    {
+        if self.is_full() {
+            self.refused = self.refused.saturating_add(1);
+            return Err(Failed);
+        }
+        Ok(self.append(piece))
+    }
+
+    fn faults(&self) -> u64
+        ensures not_full { length self.now.held < self.now.room → result ≡ 0 }
+        ensures count { result ≡ refused_by self.now }
+    {
+        if self.is_full() { self.refused } else { 0 }
+    }
+}
