@@ -1,1 +1,4 @@
 pub mod Words
+pub mod Entries
+pub mod LegalProp
+pub mod Quiet
