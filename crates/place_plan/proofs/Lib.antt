@@ -2,3 +2,4 @@ pub mod Words
 pub mod Entries
 pub mod LegalProp
 pub mod Quiet
+pub mod Kept
