@@ -3,3 +3,4 @@ pub mod Entries
 pub mod LegalProp
 pub mod Quiet
 pub mod Kept
+pub mod Over

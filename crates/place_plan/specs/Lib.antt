@@ -12,3 +12,4 @@ pub mod Bound
 pub mod WellFormed
 pub mod Laws
 pub mod Flat
+pub mod Due
