@@ -4,3 +4,5 @@ pub mod LegalProp
 pub mod Quiet
 pub mod Kept
 pub mod Over
+pub mod Due
+pub mod GoesOn
