@@ -124,10 +124,10 @@ module _ (plan : Plan) (fine : IsFlat plan) where
         ]
       ]
   arrived_inside_by past kind.Leave e t p ih h w l =
-      let parts = or_parts _ _ l in
+      let parts : (((e.place == p) && (e.by == t)) ≡ false) × (has_by kind.Leave p t past ≡ false) = or_parts _ _ l in
       elim (cases_Bool (e.by == t)) [
         | inl y ↦
-            let there = ih w parts.1 in
+            let there : inside plan t past ≡ Some p = ih w parts.1 in
             let here : inside plan t past ≡ Some e.place = rw (← eqb-true e.by t y) h.here in
             let same : e.place ≡ p = cc in
             absurd (both_ways _ parts.0 (from_both e.place p e.by t same (eqb-true e.by t y)))
@@ -329,3 +329,14 @@ module _ (plan : Plan) (fine : IsFlat plan) where
   pub no_handling : (past : List Entry) → LegalPast plan past → (t p : ℕ) → handling p t past ≡ None
   no_handling [] h t p = refl
   no_handling (e ∷ past) h t p = no_handling_by past e.kind e t p (no_handling past h.0 t p) (quiet past e h)
+
+  -- each entry is made in a play, by one who has a role there
+  pub quiet_place : (past : List Entry) (k : Kind) (e : Entry) → LegalPast plan past → QuietRow k plan past (of_kind k e) → (member e.place plan.plays ≡ true) × (member e.by (roles_of plan e.place) ≡ true)
+  quiet_place past kind.Arrive e legal h = next_has plan fine past e.by e.place (arrives_at_next plan fine past (of_kind kind.Arrive e) h).1
+  quiet_place past kind.Start e legal h = inside_has_role plan fine past legal e.by e.place h.here
+  quiet_place past kind.Read e legal h = inside_has_role plan fine past legal e.by e.place h.here
+  quiet_place past kind.Work e legal h = inside_has_role plan fine past legal e.by e.place h.here
+  quiet_place past kind.Verdict e legal h = inside_has_role plan fine past legal e.by e.place h.here
+  quiet_place past kind.End e legal h = inside_has_role plan fine past legal e.by e.place h.here
+  quiet_place past kind.Leave e legal h = inside_has_role plan fine past legal e.by e.place h.here
+  quiet_place past _ e legal h = elim h [ ]

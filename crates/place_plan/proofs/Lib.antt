@@ -6,3 +6,4 @@ pub mod Kept
 pub mod Over
 pub mod Due
 pub mod GoesOn
+pub mod Bound
