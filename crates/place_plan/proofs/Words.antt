@@ -3,7 +3,7 @@ use Rattle.std.proofs.Common.{◌≡◌, ℕ, ◌==◌, ◌<◌, ◌≤◌, Bool
 use Rattle.std.specs.List.{list_any, list_all}
 use Rattle.std.proofs.lemmas.Bool.{and_parts, and_from, or_cases, or_left, or_right, or_parts, eqb-true, eq-eqb, false≢true}
 use Rattle.place_plan.specs.PlanValue.{Plan}
-use Rattle.place_plan.specs.Words.{member, is_at, same_option, index_of, Rises, first_not}
+use Rattle.place_plan.specs.Words.{member, is_at, same_option, index_of, Rises, first_not, last_or, last_of}
 use Rattle.place_plan.specs.Places.{plays_with, roles_of}
 
 -- what all members pass, one passes
@@ -113,3 +113,39 @@ plays_in plan t (q ∷ ps) p m = by_role (member t (roles_of plan q)) refl m (pl
       | inr s ↦ (or_right _ _ (ih s).0, (ih s).1)
     ]
     by_role false e m ih = (or_right _ _ (ih m).0, (ih m).1)
+
+-- the last number of a list is a member
+last_or_member : (n : ℕ) (xs : List ℕ) → member (last_or n xs) (n ∷ xs) ≡ true
+last_or_member n [] = or_left _ _ (eq-eqb n n refl)
+last_or_member n (x ∷ xs) = or_right _ _ (last_or_member x xs)
+
+pub last_member : (xs : List ℕ) (x : ℕ) → last_of xs ≡ Some x → member x xs ≡ true
+last_member [] x h = absurd cc
+last_member (y ∷ ys) x h = let same : last_or y ys ≡ x = cc in subst (λ a. member a (y ∷ ys) ≡ true) same (last_or_member y ys)
+
+-- and in rising numbers the greatest
+last_or_greatest : (n : ℕ) (xs : List ℕ) (y : ℕ) → Rises (suc n) xs → member y (n ∷ xs) ≡ true → y ≤ last_or n xs
+last_or_greatest n [] y r m =
+    elim (or_cases (n == y) false m) [
+      | inl e ↦ omega (arith, eqb-true n y e)
+      | inr e ↦ absurd (false≢true e)
+    ]
+last_or_greatest n (x ∷ xs) y r m =
+    elim (or_cases (n == y) (member y (x ∷ xs)) m) [
+      | inl e ↦ omega (arith, eqb-true n y e, r.0, last_or_greatest x xs x r.1 (or_left _ _ (eq-eqb x x refl)))
+      | inr e ↦ last_or_greatest x xs y r.1 e
+    ]
+
+pub last_greatest : (low : ℕ) (xs : List ℕ) (x y : ℕ) → Rises low xs → last_of xs ≡ Some x → member y xs ≡ true → y ≤ x
+last_greatest low [] x y r h m = absurd (false≢true m)
+last_greatest low (z ∷ zs) x y r h m = let same : last_or z zs ≡ x = cc in subst (λ a. y ≤ a) same (last_or_greatest z zs y r.1 m)
+
+-- a list without a last number has no member
+pub no_last : (xs : List ℕ) (x : ℕ) → last_of xs ≡ None → member x xs ≡ true → ⊥
+no_last [] x h m = false≢true m
+no_last (y ∷ ys) x h m = cc
+
+-- where each member passes, none fails
+pub first_not_nowhere : (test : ℕ → Bool) (xs : List ℕ) → ((x : ℕ) → member x xs ≡ true → test x ≡ true) → first_not test xs ≡ None
+first_not_nowhere test [] h = refl
+first_not_nowhere test (x ∷ xs) h = rw (h x (or_left _ _ (eq-eqb x x refl))) (first_not_nowhere test xs (λ y m. h y (or_right _ _ m)))

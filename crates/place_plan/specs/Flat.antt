@@ -6,6 +6,10 @@ use Rattle.place_plan.specs.declared.rows.Step.TheVariants as step
 use Rattle.place_plan.specs.PlanValue.{Plan}
 use Rattle.place_plan.specs.Words.{member, is_empty, Rises}
 use Rattle.place_plan.specs.Places.{around, roles_of, uses, initial_of}
+use Rattle.caa_base.specs.declared.entry.Entry.{Entry}
+use Rattle.place_plan.specs.Whereabouts.{undoing}
+use Rattle.place_plan.specs.Raising.{raised, handling}
+use Rattle.place_plan.specs.Objects.{value_of}
 use Rattle.place_plan.specs.Roles.{program_in}
 use Rattle.place_plan.specs.WellFormed.{IsValue}
 
@@ -30,3 +34,10 @@ pub record IsFlat (plan : Plan) : Type 0 where
   pub known : (p t : ℕ) → member p plan.plays ≡ true → member t (roles_of plan p) ≡ true → t < length plan.participants
   -- the initial values are in range
   pub valued : (o : ℕ) → IsValue (initial_of plan o)
+
+-- what every legal past of such a plan keeps: nothing is raised, undone or written, and nobody begins a handler
+pub record StaysQuiet (plan : Plan) (past : List Entry) : Type 0 where
+  pub unraised : (p : ℕ) → raised plan p past ≡ []
+  pub kept : (p : ℕ) → undoing p past ≡ false
+  pub unhandled : (p t : ℕ) → handling p t past ≡ None
+  pub unwritten : (o : ℕ) → value_of plan o past ≡ initial_of plan o

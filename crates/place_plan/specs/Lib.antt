@@ -15,3 +15,4 @@ pub mod Flat
 pub mod Unfolding
 pub mod DraftRules
 pub mod Built
+pub mod Due
