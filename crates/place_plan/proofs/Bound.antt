@@ -1,8 +1,9 @@
 -- No legal past of a flat plan is longer than the bound.
-use Rattle.std.proofs.Common.{◌≡◌, ℕ, ℤ, pos, ◌==◌, ◌<◌, ◌≤◌, ◌+◌, ◌*◌, max, Bool, true, false, not, cond, ◌&&◌, ◌||◌, List, [], ◌∷◌, ◌++◌, Some, None, Option, refl, sym, ap, ◌∙◌, subst, subst₂, arith, rules, suc, zero, length, inl, inr, ◌⊎◌, slice_get, slice_index_or}
+use Rattle.std.proofs.Common.{◌≡◌, sum_by, ap₂, ℕ, ℤ, pos, ◌==◌, ◌<◌, ◌≤◌, ◌+◌, ◌*◌, max, Bool, true, false, not, cond, ◌&&◌, ◌||◌, List, [], ◌∷◌, ◌++◌, Some, None, Option, refl, sym, ap, ◌∙◌, subst, subst₂, arith, rules, suc, zero, length, inl, inr, ◌⊎◌, slice_get, slice_index_or}
 use Rattle.std.specs.List.{list_any, list_all}
+use Rattle.std.proofs.lemmas.List.Sums.{sum_by-cons}
 use Rattle.std.proofs.lemmas.Bool.{and_parts, and_from, or_cases, or_left, or_right, eqb-true, eq-eqb, false≢true, false_from_ne_true, both_ways, cases_eq}
-use Rattle.std.proofs.lemmas.Option.{slice_get_within}
+use Rattle.std.proofs.lemmas.Option.{slice_get_within, get_or_from_slice_get}
 use Rattle.caa_base.specs.declared.entry.Entry.{Entry}
 use Rattle.caa_base.specs.declared.entry.Kind.{Kind}
 use Rattle.caa_base.specs.declared.entry.Kind.TheVariants as kind
@@ -10,12 +11,13 @@ use Rattle.place_plan.specs.declared.rows.RoleRow.{RoleRow}
 use Rattle.place_plan.specs.declared.rows.Step.{Step}
 use Rattle.place_plan.specs.PlanValue.{Plan}
 use Rattle.place_plan.specs.Words.{member, index_of}
-use Rattle.place_plan.specs.Places.{roles_of, objects_of, action_at, no_role, body_of}
+use Rattle.place_plan.specs.Places.{roles_of, objects_of, action_at, action_in, place_at, no_role, no_place, body_of}
 use Rattle.place_plan.specs.Entries.{has_by}
 use Rattle.place_plan.specs.Whereabouts.{inside, started, ended}
 use Rattle.place_plan.specs.Roles.{position, program_of, program_in, next_step}
 use Rattle.place_plan.specs.Journals.{LegalPast}
-use Rattle.place_plan.specs.Bound.{longest_body, longest_handler, action_bound, place_bound, total, bound}
+use Rattle.place_plan.specs.declared.rows.PlaceRow.{PlaceRow}
+use Rattle.place_plan.specs.Bound.{longest_body, longest_handler, action_bound, row_bound, bound}
 use Rattle.place_plan.specs.Laws.{Holds, IsBounded}
 use Rattle.place_plan.specs.Flat.{IsFlat}
 use Rattle.place_plan.proofs.Entries.{of_kind}
@@ -66,6 +68,25 @@ adds_within : (f : ℕ → ℕ) (ts : List ℕ) (b : ℕ) → ((t : ℕ) → f t
 unfolding adds
 adds_within f [] b h = omega arith
 adds_within f (t ∷ ts) b h = omega (arith, h t, adds_within f ts b h)
+
+-- the sum of f at each number below n
+abbrev total : (ℕ → ℕ) → ℕ → ℕ
+total f zero = 0
+total f (suc n) = f n + total f n
+
+-- how many entries a place may have
+place_bound : Plan → ℕ → ℕ
+place_bound plan p = action_bound (action_at plan p) (length (roles_of plan p))
+
+total_first : (f : ℕ → ℕ) (n : ℕ) → total f (suc n) ≡ f 0 + total (λ k. f (suc k)) n
+total_first f zero = omega arith
+total_first f (suc n) = omega (arith, total_first f n)
+
+-- the sum at the indices of a table is the sum over its rows
+total_rows : (f : ℕ → ℕ) (g : PlaceRow → ℕ) (rows : List PlaceRow) → ((k : ℕ) (r : PlaceRow) → slice_get rows k ≡ Some r → f k ≡ g r) → total f (length rows) ≡ sum_by g rows
+total_rows f g [] h = refl
+total_rows f g (r ∷ rows) h =
+    total_first f (length rows) ∙ ap₂ (λ m n. m + n) (h 0 r refl) (total_rows (λ k. f (suc k)) g rows (λ k x e. h (suc k) x e)) ∙ sym (sum_by-cons g r rows)
 
 total_up : (f g : ℕ → ℕ) (n : ℕ) → ((p : ℕ) → f p ≤ g p) → total f n ≤ total g n
 total_up f g zero h = omega arith
@@ -203,8 +224,15 @@ module _ (plan : Plan) (fine : IsFlat plan) where
   cost_within past h p =
       omega (arith, flag_one (started p past), flag_one (ended p past), adds_within (role_cost p past) (roles_of plan p) _ (role_within past h p))
 
+  place_row : (p : ℕ) (r : PlaceRow) → slice_get plan.places p ≡ Some r → place_bound plan p ≡ row_bound plan.actions r
+  unfolding place_bound
+  place_row p r h =
+      let row : place_at plan p ≡ r = get_or_from_slice_get plan.places p r no_place h in
+      ap₂ action_bound (ap (action_in plan) h) (ap (λ (x : PlaceRow). length x.roles) row)
+
   within : (past : List Entry) → LegalPast plan past → length past ≤ bound plan
-  within past h = omega (arith, spent past h, total_up (cost past) (place_bound plan) (length plan.places) (cost_within past h))
+  within past h =
+      omega (arith, spent past h, total_up (cost past) (place_bound plan) (length plan.places) (cost_within past h), total_rows (place_bound plan) (row_bound plan.actions) plan.places place_row)
 
 -- a journal has at most as many entries as the bound says
 pub bounded : (plan : Plan) → IsFlat plan → Holds IsBounded plan
