@@ -8,3 +8,6 @@ pub mod Due
 pub mod GoesOn
 pub mod Bound
 pub mod WellFormed
+pub mod Tree
+pub mod Busy
+pub mod InnerFirst
