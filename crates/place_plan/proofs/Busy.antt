@@ -108,7 +108,7 @@ module _ (plan : Plan) (tree : IsTree plan) where
       let asked : AskForUndo plan p past = MatchBool-at_false _ _ some_stay h in
       not_all_given p t past b asked.agreed
 
-  not_ending : (p t : ℕ) (past : List Entry) (e : Entry) → IsBusy plan p t past → e.place ≡ p → MayEnd plan past e → ⊥
+  pub not_ending : (p t : ℕ) (past : List Entry) (e : Entry) → IsBusy plan p t past → e.place ≡ p → MayEnd plan past e → ⊥
   not_ending p t past e b same h =
       let calm_still : undoing e.place past ≡ false = subst (λ a. undoing a past ≡ false) (sym same) (not-true _ (and_parts (live p past) (not (undoing p past)) b.goes).1) in
       let ends : EndsAgreed plan past e = MatchBool-at_false _ _ calm_still h.how in
@@ -120,7 +120,7 @@ module _ (plan : Plan) (tree : IsTree plan) where
   goes_on true false f f' u u' x y z h = absurd (false≢true x)
   goes_on false s' f f' u u' x y z h = absurd (false≢true h)
 
-  live_of : (p : ℕ) (past : List Entry) → going p past ≡ true → (started p past ≡ true) × (ended p past ≡ false) × (undoing p past ≡ false)
+  pub live_of : (p : ℕ) (past : List Entry) → going p past ≡ true → (started p past ≡ true) × (ended p past ≡ false) × (undoing p past ≡ false)
   live_of p past h =
       let a = and_parts (live p past) (not (undoing p past)) h in
       let b = and_parts (started p past) (not (ended p past)) a.0 in

@@ -74,7 +74,7 @@ module _ (plan : Plan) (tree : IsTree plan) where
       ]
   started_filled_by past _ e q legal ih h s = ih s
 
-  started_filled : (past : List Entry) → LegalPast plan past → (q : ℕ) → started q past ≡ true → (t : ℕ) × (member t (roles_of plan q) ≡ true)
+  pub started_filled : (past : List Entry) → LegalPast plan past → (q : ℕ) → started q past ≡ true → (t : ℕ) × (member t (roles_of plan q) ≡ true)
   started_filled [] h q s = absurd (false≢true s)
   started_filled (e ∷ past) h q s = started_filled_by past e.kind e q h.0 (started_filled past h.0 q) h.1 s
 

@@ -11,3 +11,5 @@ pub mod WellFormed
 pub mod Tree
 pub mod Busy
 pub mod InnerFirst
+pub mod TreeFlat
+pub mod Innermost
