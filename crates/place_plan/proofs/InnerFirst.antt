@@ -21,7 +21,7 @@ use Rattle.place_plan.proofs.Tree.{live_within, in_within}
 use Rattle.place_plan.proofs.Busy.{doom_stays, all_busy, AllBusy}
 
 -- what stood earlier is legal
-legal_rest : (plan : Plan) (later past : List Entry) → LegalPast plan (later ++ past) → LegalPast plan past
+pub legal_rest : (plan : Plan) (later past : List Entry) → LegalPast plan (later ++ past) → LegalPast plan past
 legal_rest plan [] past h = h
 legal_rest plan (e ∷ later) past h = legal_rest plan later past h.0
 
@@ -38,7 +38,7 @@ abort_no_start kind.Abort e p q past w s = s
 abort_no_start _ e p q past w s = absurd (false≢true w)
 
 module _ (plan : Plan) (tree : IsTree plan) where
-  round_round : (p r a : ℕ) (xs : List ℕ) → around plan a ≡ xs → member p xs ≡ true → member r (around plan p) ≡ true → member r xs ≡ true
+  pub round_round : (p r a : ℕ) (xs : List ℕ) → around plan a ≡ xs → member p xs ≡ true → member r (around plan p) ≡ true → member r xs ≡ true
   round_round p r a [] e m w = absurd (false≢true m)
   round_round p r a (y ∷ ys) e m w =
       let next = tree.chain a y ys e in

@@ -42,11 +42,11 @@ cond_own true x y = refl
 cond_own false x y = refl
 
 module _ (plan : Plan) (tree : IsTree plan) where
-  not_round_itself : (p : ℕ) → member p (around plan p) ≡ false
+  pub not_round_itself : (p : ℕ) → member p (around plan p) ≡ false
   not_round_itself p = false_from_ne_true _ (λ m. let l = tree.above p p m in omega arith)
 
   -- being within the place round p is being round p
-  parent_within : (p q : ℕ) → in_within plan (parent plan p) q ≡ member q (around plan p)
+  pub parent_within : (p q : ℕ) → in_within plan (parent plan p) q ≡ member q (around plan p)
   parent_within p q = by_around (around plan p) refl
     where
       by_around : (qs : List ℕ) → around plan p ≡ qs → in_within plan (first_of qs) q ≡ member q qs
@@ -54,7 +54,7 @@ module _ (plan : Plan) (tree : IsTree plan) where
       by_around (r ∷ rs) a = rw (tree.chain p r rs a) refl
 
   -- two places within one another are one
-  within_both : (p q : ℕ) → within plan p q ≡ true → within plan q p ≡ true → p ≡ q
+  pub within_both : (p q : ℕ) → within plan p q ≡ true → within plan q p ≡ true → p ≡ q
   within_both p q h k =
       elim (or_cases (p == q) (member q (around plan p)) h) [
         | inl x ↦ eqb-true p q x
@@ -64,11 +64,11 @@ module _ (plan : Plan) (tree : IsTree plan) where
         ]
       ]
 
-  within_itself : (p : ℕ) → within plan p p ≡ true
+  pub within_itself : (p : ℕ) → within plan p p ≡ true
   within_itself p = or_left _ _ (eq-eqb p p refl)
 
   -- all that is within p but p is round p
-  out_of : (p q : ℕ) → cond (p == q) false (within plan p q) ≡ member q (around plan p)
+  pub out_of : (p q : ℕ) → cond (p == q) false (within plan p q) ≡ member q (around plan p)
   out_of p q = elim (cases_Bool (p == q)) [
       | inl x ↦ rw x (sym (subst (λ a. member a (around plan p) ≡ false) (eqb-true p q x) (not_round_itself p)))
       | inr x ↦ rw x refl

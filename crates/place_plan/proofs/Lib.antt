@@ -13,3 +13,4 @@ pub mod Busy
 pub mod InnerFirst
 pub mod TreeFlat
 pub mod Innermost
+pub mod Holding
