@@ -29,7 +29,7 @@ same_from_option (Some m) None h = absurd (false≢true h)
 same_from_option (Some m) (Some n) h = ap Some (eqb-true m n h)
 
 -- p is live, and uses o
-abbrev live_uses : Plan → ℕ → List Entry → ℕ → Bool
+abbrev pub live_uses : Plan → ℕ → List Entry → ℕ → Bool
 live_uses plan o past q = live q past && uses plan q o
 
 -- what becomes of a place that is live and uses an object, where x says that it is the one that starts or ends
@@ -67,7 +67,7 @@ module _ (plan : Plan) (tree : IsTree plan) where
       ]
   undoing_started_by past _ e p ih h w = ih w
 
-  undoing_started : (past : List Entry) → LegalPast plan past → (p : ℕ) → undoing p past ≡ true → started p past ≡ true
+  pub undoing_started : (past : List Entry) → LegalPast plan past → (p : ℕ) → undoing p past ≡ true → started p past ≡ true
   undoing_started [] h p w = absurd (false≢true w)
   undoing_started (e ∷ past) h p w = undoing_started_by past e.kind e p (undoing_started past h.0 p) h.1 w
 
@@ -115,7 +115,7 @@ module _ (plan : Plan) (tree : IsTree plan) where
   -- ---- who holds an object
 
   -- p holds each object that it uses, where nothing that is live stands inside it
-  holds_own : (past : List Entry) → (o p : ℕ) → ((q : ℕ) → live_uses plan o past q ≡ in_within plan (holder plan o past) q) → live p past ≡ true → uses plan p o ≡ true → ((r : ℕ) → live r past ≡ true → member p (around plan r) ≡ true → ⊥) → holder plan o past ≡ Some p
+  pub holds_own : (past : List Entry) → (o p : ℕ) → ((q : ℕ) → live_uses plan o past q ≡ in_within plan (holder plan o past) q) → live p past ≡ true → uses plan p o ≡ true → ((r : ℕ) → live r past ≡ true → member p (around plan r) ≡ true → ⊥) → holder plan o past ≡ Some p
   holds_own past o p at w u alone = by_holder (holder plan o past) refl
     where
       by_holder : (h : Option ℕ) → holder plan o past ≡ h → h ≡ Some p

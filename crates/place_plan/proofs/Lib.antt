@@ -14,3 +14,4 @@ pub mod InnerFirst
 pub mod TreeFlat
 pub mod Innermost
 pub mod Holding
+pub mod Isolation
