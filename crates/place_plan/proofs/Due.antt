@@ -39,7 +39,7 @@ none_is (Some x) h = absurd cc
 
 module _ (plan : Plan) (fine : IsFlat plan) (past : List Entry) (legal : LegalPast plan past) where
   -- who is able is in a live place and has given no verdict
-  able_parts : (p t : ℕ) → able plan p past t ≡ true → (live p past ≡ true) × (given plan p past t ≡ false)
+  pub able_parts : (p t : ℕ) → able plan p past t ≡ true → (live p past ≡ true) × (given plan p past t ≡ false)
   able_parts p t h =
       elim (or_cases (calm plan p past && not (given plan p past t)) (hot plan p past && in_handler p t past) h) [
         | inl w ↦

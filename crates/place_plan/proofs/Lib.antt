@@ -15,3 +15,4 @@ pub mod TreeFlat
 pub mod Innermost
 pub mod Holding
 pub mod Isolation
+pub mod Exit
