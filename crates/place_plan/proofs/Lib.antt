@@ -16,3 +16,4 @@ pub mod Innermost
 pub mod Holding
 pub mod Isolation
 pub mod Exit
+pub mod FlatLaws
