@@ -1,7 +1,7 @@
 -- Who is inside a place within p has nothing more to say in p: so p stays as it is until it comes back.
-use Rattle.std.proofs.Common.{◌≡◌, ℕ, ◌==◌, ◌<◌, Bool, true, false, not, cond, ◌&&◌, ◌||◌, List, [], ◌∷◌, ◌++◌, Some, None, Option, refl, sym, ap, ◌∙◌, subst, arith, inl, inr, ◌⊎◌}
-use Rattle.std.specs.List.{list_any, list_all}
-use Rattle.std.proofs.lemmas.Bool.{and_parts, and_from, or_cases, or_left, or_right, or_parts, or_from, eqb-true, eq-eqb, false≢true, not-true, not_from_false, cases_Bool, false_from_ne_true, both_ways, MatchBool-at_false}
+use Rattle.std.proofs.Common.{◌≡◌, ℕ, ◌==◌, Bool, true, false, not, cond, ◌&&◌, ◌||◌, List, [], ◌∷◌, ◌++◌, Some, None, Option, refl, sym, ◌∙◌, subst, arith, inl, inr}
+use Rattle.std.specs.List.{list_any}
+use Rattle.std.proofs.lemmas.Bool.{and_parts, and_from, or_cases, or_left, or_right, or_from, eqb-true, eq-eqb, false≢true, not-true, not_from_false, cases_Bool, false_from_ne_true, both_ways, MatchBool-at_false}
 use Rattle.caa_base.specs.declared.entry.Entry.{Entry}
 use Rattle.caa_base.specs.declared.entry.Kind.{Kind}
 use Rattle.caa_base.specs.declared.entry.Kind.TheVariants as kind
@@ -66,8 +66,8 @@ module _ (plan : Plan) (tree : IsTree plan) where
   abort_doomed_by : (past : List Entry) (k : Kind) (e : Entry) (p t : ℕ) → (has_by kind.Abort p t past ≡ true → doomed plan p past ≡ true) → Row k plan past (of_kind k e) → has_by kind.Abort p t (of_kind k e ∷ past) ≡ true → doomed plan p (of_kind k e ∷ past) ≡ true
   abort_doomed_by past kind.Abort e p t ih h w =
       elim (or_cases _ _ w) [
-        inl x ↦ doom_stays plan p (of_kind kind.Abort e) past (subst (λ a. doomed plan a past ≡ true) (eqb-true e.place p (and_parts (e.place == p) (e.by == t) x).0) h.doom)
-      | inr x ↦ doom_stays plan p (of_kind kind.Abort e) past (ih x)
+        | inl x ↦ doom_stays plan p (of_kind kind.Abort e) past (subst (λ a. doomed plan a past ≡ true) (eqb-true e.place p (and_parts (e.place == p) (e.by == t) x).0) h.doom)
+        | inr x ↦ doom_stays plan p (of_kind kind.Abort e) past (ih x)
       ]
   abort_doomed_by past kind.Arrive e p t ih h w = doom_stays plan p (of_kind kind.Arrive e) past (ih w)
   abort_doomed_by past k e p t ih h w = doom_stays plan p (of_kind k e) past (ih w)
@@ -87,15 +87,15 @@ module _ (plan : Plan) (tree : IsTree plan) where
   able_silent q t past legal m c a =
       let parts = calm_parts q past c in
       elim (or_cases (calm plan q past && not (given plan q past t)) (hot plan q past && in_handler q t past) a) [
-        inl x ↦ record {
+        | inl x ↦ record {
           goes = parts.0;
           silent = rw parts.2 at (not-true _ (and_parts (calm plan q past) (not (given plan q past t)) x).1);
           spared = false_from_ne_true _ (λ w. both_ways _ parts.1 (abort_doomed past legal q t w));
           role = m;
         }
-      | inr x ↦
-          let warm = and_parts (going q past) (not (doomed plan q past) && is_raised plan q past) (and_parts (hot plan q past) (in_handler q t past) x).0 in
-          absurd (both_ways _ parts.2 (and_parts (not (doomed plan q past)) (is_raised plan q past) warm.1).1)
+        | inr x ↦
+            let warm = and_parts (going q past) (not (doomed plan q past) && is_raised plan q past) (and_parts (hot plan q past) (in_handler q t past) x).0 in
+            absurd (both_ways _ parts.2 (and_parts (not (doomed plan q past)) (is_raised plan q past) warm.1).1)
       ]
 
   -- t has not agreed to undo p, so p is not undone or ended by agreement
@@ -147,19 +147,19 @@ module _ (plan : Plan) (tree : IsTree plan) where
     where
       elsewhere : (q u : ℕ) → inside plan u past ≡ Some q → ((q == p) && (u == t)) ≡ false
       elsewhere q u w = false_from_ne_true _ (λ x.
-        let parts = and_parts (q == p) (u == t) x in
-        let there : inside plan t past ≡ Some q = subst (λ a. inside plan a past ≡ Some q) (eqb-true u t parts.1) w in
-        let same : r ≡ q = cc in
-        other (same ∙ eqb-true q p parts.0))
+          let parts = and_parts (q == p) (u == t) x in
+          let there : inside plan t past ≡ Some q = subst (λ a. inside plan a past ≡ Some q) (eqb-true u t parts.1) w in
+          let same : r ≡ q = cc in
+          other (same ∙ eqb-true q p parts.0))
   busy_on past kind.Abort e p t r legal here other b h =
       record { goes = b.goes; silent = b.silent; spared = or_from _ _ (elsewhere e.place e.by h.here) b.spared; role = b.role }
     where
       elsewhere : (q u : ℕ) → inside plan u past ≡ Some q → ((q == p) && (u == t)) ≡ false
       elsewhere q u w = false_from_ne_true _ (λ x.
-        let parts = and_parts (q == p) (u == t) x in
-        let there : inside plan t past ≡ Some q = subst (λ a. inside plan a past ≡ Some q) (eqb-true u t parts.1) w in
-        let same : r ≡ q = cc in
-        other (same ∙ eqb-true q p parts.0))
+          let parts = and_parts (q == p) (u == t) x in
+          let there : inside plan t past ≡ Some q = subst (λ a. inside plan a past ≡ Some q) (eqb-true u t parts.1) w in
+          let same : r ≡ q = cc in
+          other (same ∙ eqb-true q p parts.0))
   busy_on past _ e p t r legal here other b h = record { goes = b.goes; silent = b.silent; spared = b.spared; role = b.role }
 
   not_itself : (p q : ℕ) → member p (around plan q) ≡ true → q ≡ p → ⊥
@@ -181,12 +181,14 @@ module _ (plan : Plan) (tree : IsTree plan) where
       let leads : arrival plan e.by past (Some q) ≡ Some e.place = subst (λ o. arrival plan e.by past o ≡ Some e.place) here h.leads in
       let fit : (calm plan q past && able plan q past e.by) ≡ true = elim (chosen (calm plan q past && able plan q past e.by) _ _ _ leads) [ inl x ↦ x.0 | inr x ↦ absurd cc ] in
       let parts = and_parts (calm plan q past) (able plan q past e.by) fit in
-      let new = able_silent q t past legal b.0 parts.0 (subst (λ a. able plan q past a ≡ true) (eqb-true e.by t own) parts.1) in
-      (subst (λ a. member a (roles_of plan e.place) ≡ true) (eqb-true e.by t own) led.1, λ p m.
-        elim (or_cases (q == p) (member p (around plan q)) (rw led.0 at m)) [
-          inl x ↦ still p (subst (λ a. IsBusy plan a t past) (eqb-true q p x) new)
-        | inr x ↦ still p (b.1 p x)
-        ])
+      let new = able_silent q t past legal b.0 parts.0 (subst (λ a. able plan q past a ≡ true) (eqb-true e.by t own) parts.1) in (
+        subst (λ a. member a (roles_of plan e.place) ≡ true) (eqb-true e.by t own) led.1,
+        λ p m.
+            elim (or_cases (q == p) (member p (around plan q)) (rw led.0 at m)) [
+              | inl x ↦ still p (subst (λ a. IsBusy plan a t past) (eqb-true q p x) new)
+              | inr x ↦ still p (b.1 p x)
+            ],
+      )
     where
       still : (p : ℕ) → IsBusy plan p t past → IsBusy plan p t (of_kind kind.Arrive e ∷ past)
       still p b = record { goes = b.goes; silent = b.silent; spared = b.spared; role = b.role }
@@ -203,22 +205,22 @@ module _ (plan : Plan) (tree : IsTree plan) where
   busy_by : (past : List Entry) (k : Kind) (e : Entry) (t : ℕ) → LegalPast plan past → AllBusy plan t past (inside plan t past) → Row k plan past (of_kind k e) → AllBusy plan t (of_kind k e ∷ past) (inside plan t (of_kind k e ∷ past))
   busy_by past kind.Arrive e t legal b h =
       elim (cases_Bool (e.by == t)) [
-        inl y ↦ rw y (came_in past e t legal h y (inside plan t past) refl b)
-      | inr y ↦ rw y (all_on past kind.Arrive e t legal h (inside plan t past) refl b)
+        | inl y ↦ rw y (came_in past e t legal h y (inside plan t past) refl b)
+        | inr y ↦ rw y (all_on past kind.Arrive e t legal h (inside plan t past) refl b)
       ]
   busy_by past kind.Withdraw e t legal b h =
       elim (cases_Bool (e.by == t)) [
-        inl y ↦
-          let here : inside plan t past ≡ Some e.place = rw (← eqb-true e.by t y) h.here in
-          rw y (went_out (of_kind kind.Withdraw e ∷ past) t e.place (all_on past kind.Withdraw e t legal h (Some e.place) here (rw here at b)))
-      | inr y ↦ rw y (all_on past kind.Withdraw e t legal h (inside plan t past) refl b)
+        | inl y ↦
+            let here : inside plan t past ≡ Some e.place = rw (← eqb-true e.by t y) h.here in
+            rw y (went_out (of_kind kind.Withdraw e ∷ past) t e.place (all_on past kind.Withdraw e t legal h (Some e.place) here (rw here at b)))
+        | inr y ↦ rw y (all_on past kind.Withdraw e t legal h (inside plan t past) refl b)
       ]
   busy_by past kind.Leave e t legal b h =
       elim (cases_Bool (e.by == t)) [
-        inl y ↦
-          let here : inside plan t past ≡ Some e.place = rw (← eqb-true e.by t y) h.here in
-          rw y (went_out (of_kind kind.Leave e ∷ past) t e.place (all_on past kind.Leave e t legal h (Some e.place) here (rw here at b)))
-      | inr y ↦ rw y (all_on past kind.Leave e t legal h (inside plan t past) refl b)
+        | inl y ↦
+            let here : inside plan t past ≡ Some e.place = rw (← eqb-true e.by t y) h.here in
+            rw y (went_out (of_kind kind.Leave e ∷ past) t e.place (all_on past kind.Leave e t legal h (Some e.place) here (rw here at b)))
+        | inr y ↦ rw y (all_on past kind.Leave e t legal h (inside plan t past) refl b)
       ]
   busy_by past kind.Start e t legal b h = all_on past kind.Start e t legal h (inside plan t past) refl b
   busy_by past k e t legal b h = all_on past k e t legal h (inside plan t past) refl b

@@ -1,6 +1,6 @@
 -- In a flat plan a place ends once, after each of its roles has given its verdict, and then it is only left.
-use Rattle.std.proofs.Common.{◌≡◌, ℕ, ◌==◌, Bool, true, false, not, ◌&&◌, ◌||◌, List, [], ◌∷◌, ◌++◌, Some, None, Option, refl, sym, ap, ◌∙◌, subst, subst₂, inl, inr, append_assoc}
-use Rattle.std.proofs.lemmas.Bool.{and_parts, or_cases, or_left, or_right, eqb-true, eq-eqb, false≢true, false_from_ne_true, both_ways}
+use Rattle.std.proofs.Common.{◌≡◌, ℕ, ◌==◌, true, false, List, [], ◌∷◌, ◌++◌, Some, refl, sym, subst, inl, inr, append_assoc}
+use Rattle.std.proofs.lemmas.Bool.{or_cases, or_left, or_right, eqb-true, false≢true, false_from_ne_true, both_ways}
 use Rattle.caa_base.specs.declared.entry.Entry.{Entry}
 use Rattle.caa_base.specs.declared.entry.Kind.{Kind}
 use Rattle.caa_base.specs.declared.entry.Kind.TheVariants as kind
@@ -12,10 +12,10 @@ use Rattle.place_plan.specs.Whereabouts.{inside, all_inside, is_inside, started,
 use Rattle.place_plan.specs.Roles.{given, all_given}
 use Rattle.place_plan.specs.Rules.{MayEnd, EndsAgreed}
 use Rattle.place_plan.specs.Journals.{LegalPast}
-use Rattle.place_plan.specs.Laws.{Holds, Splits, EndsOnce, ExitLaw}
+use Rattle.place_plan.specs.Laws.{Holds, Splits, ExitLaw}
 use Rattle.place_plan.specs.Flat.{IsFlat}
 use Rattle.place_plan.proofs.Words.{all_at, at_same}
-use Rattle.place_plan.proofs.Entries.{of_kind, both_same}
+use Rattle.place_plan.proofs.Entries.{of_kind}
 use Rattle.place_plan.proofs.Quiet.{QuietRow, only_quiet, arrives_at_next, next_fresh, next_has}
 use Rattle.place_plan.proofs.Kept.{live_parts, going_live, end_tells, ended_started, inside_arrived, given_plain}
 use Rattle.place_plan.proofs.Due.{able_parts, verdict_parts}

@@ -1,5 +1,5 @@
 -- Laws that a flat plan keeps since nothing is raised, written, refused or undone in it.
-use Rattle.std.proofs.Common.{◌≡◌, ℕ, ℤ, ◌==◌, ◌<◌, ◌≤◌, Bool, true, false, ◌&&◌, ◌||◌, List, [], ◌∷◌, ◌++◌, Some, None, Option, refl, sym, ap, ◌∙◌, subst, arith, length, filter, inl, inr, ◌⊎◌}
+use Rattle.std.proofs.Common.{◌≡◌, ℕ, ◌==◌, Bool, true, false, List, [], ◌∷◌, Some, refl, sym, ◌∙◌, subst, arith, filter, inl, inr, ◌⊎◌}
 use Rattle.std.proofs.lemmas.Bool.{false≢true, both_ways}
 use Rattle.caa_base.specs.declared.entry.Entry.{Entry}
 use Rattle.caa_base.specs.declared.entry.Kind.{Kind}
@@ -10,7 +10,7 @@ use Rattle.place_plan.specs.Entries.{is_in, has}
 use Rattle.place_plan.specs.Raising.{is_raised}
 use Rattle.place_plan.specs.Rules.{newest}
 use Rattle.place_plan.specs.Journals.{LegalPast}
-use Rattle.place_plan.specs.Laws.{Holds, Splits, HandlesLeast, ResolutionLaw, RestoresFit, OutcomeLaw, EffectLaw, last_write, is_fault, FaultsWithin}
+use Rattle.place_plan.specs.Laws.{Holds, Splits, ResolutionLaw, OutcomeLaw, EffectLaw, last_write, is_fault, FaultsWithin}
 use Rattle.place_plan.specs.Flat.{IsFlat}
 use Rattle.place_plan.proofs.Words.{chosen}
 use Rattle.place_plan.proofs.Entries.{of_kind}

@@ -1,9 +1,8 @@
 -- In a flat plan some participant has an entry, as long as one isn't over.
-use Rattle.std.proofs.Common.{◌≡◌, ℕ, ℤ, pos, ◌==◌, ◌<◌, ◌≤◌, Bool, true, false, not, cond, ◌&&◌, ◌||◌, List, [], ◌∷◌, Some, None, Option, refl, sym, ap, ◌∙◌, subst, subst₂, arith, suc, zero, length, inl, inr, ◌⊎◌}
-use Rattle.std.proofs.lemmas.Bool.{and_parts, and_from, or_cases, or_left, or_right, eqb-true, eq-eqb, false≢true, not-true, not_from_false, false_from_ne_true, true_from_ne_false, both_ways, cases_order, cases_eq}
+use Rattle.std.proofs.Common.{◌≡◌, ℕ, ◌<◌, ◌≤◌, true, false, List, [], ◌∷◌, Some, None, Option, refl, sym, ap, subst, arith, suc, zero, length, inl, inr, ◌⊎◌}
+use Rattle.std.proofs.lemmas.Bool.{or_left, eq-eqb, false_from_ne_true, true_from_ne_false, both_ways, cases_order, cases_eq}
 use Rattle.caa_base.specs.Mixing.{mix}
 use Rattle.caa_base.specs.declared.entry.Entry.{Entry}
-use Rattle.caa_base.specs.declared.entry.Kind.{Kind}
 use Rattle.caa_base.specs.declared.entry.Kind.TheVariants as kind
 use Rattle.place_plan.specs.declared.rows.Step.{Step}
 use Rattle.place_plan.specs.declared.rows.Step.TheVariants as step
@@ -11,11 +10,10 @@ use Rattle.place_plan.specs.PlanValue.{Plan}
 use Rattle.place_plan.specs.Words.{member, same_option, is_empty, first_not}
 use Rattle.place_plan.specs.Places.{parent, roles_of, objects_of, plays_of}
 use Rattle.place_plan.specs.Entries.{has_by}
-use Rattle.place_plan.specs.Whereabouts.{inside, all_inside, is_inside, started, ended, live}
+use Rattle.place_plan.specs.Whereabouts.{inside, is_inside, started, ended, live}
 use Rattle.place_plan.specs.Raising.{handling}
 use Rattle.place_plan.specs.Objects.{holder, value_of}
 use Rattle.place_plan.specs.Roles.{register, next_step, given, all_given, next_play}
-use Rattle.place_plan.specs.Rules.{MayFollow}
 use Rattle.place_plan.specs.Journals.{LegalPast, AllOver}
 use Rattle.place_plan.specs.Laws.{Holds, GoesOn, HasEntry, Silent}
 use Rattle.place_plan.specs.Flat.{IsFlat, IsQuietStep}
@@ -150,12 +148,13 @@ one_or_none plan past right (suc n) l =
   where
     quiet : due_of plan past n ≡ None → Silent plan past n
     quiet d e same k = let a = right.only e k in let c : due_of plan past e.by ≡ due_of plan past n = ap (due_of plan past) same in cc
+
     by_due : (o : Option Entry) → due_of plan past n ≡ o → ((t : ℕ) → t < n → Silent plan past t) → HasEntry plan past ⊎ ((t : ℕ) → t < suc n → Silent plan past t)
     by_due (Some e) d rest = let m = right.may n e d in inl (record { entry = e; known = rw m.1 (omega arith); may = m.0 })
     by_due None d rest = inr (λ t b. elim (cases_eq t n) [
-        | inl same ↦ subst (Silent plan past) (sym same) (quiet d)
-        | inr other ↦ rest t (omega arith)
-      ])
+      | inl same ↦ subst (Silent plan past) (sym same) (quiet d)
+      | inr other ↦ rest t (omega arith)
+    ])
 
 -- as long as a participant isn't over, some participant has an entry
 pub goes_on : (plan : Plan) → IsFlat plan → Holds GoesOn plan

@@ -1,25 +1,24 @@
 -- In a tree of places, the holder of an object is the innermost live place that uses it, and objects are touched only there.
-use Rattle.std.proofs.Common.{◌≡◌, ℕ, ◌==◌, ◌<◌, Bool, true, false, not, cond, ◌&&◌, ◌||◌, List, [], ◌∷◌, ◌++◌, Some, None, Option, refl, sym, ap, ◌∙◌, subst, arith, inl, inr, ◌⊎◌, MatchBool}
-use Rattle.std.specs.Prelude.{◌↔◌}
-use Rattle.std.proofs.lemmas.Bool.{and_parts, and_from, or_cases, or_left, or_right, or_parts, or_from, eqb-true, eq-eqb, false≢true, not-true, not_from_false, cases_Bool, false_from_ne_true, both_ways}
+use Rattle.std.proofs.Common.{◌≡◌, ℕ, ◌==◌, Bool, true, false, not, cond, ◌&&◌, ◌||◌, List, [], ◌∷◌, Some, None, Option, refl, sym, ap, ◌∙◌, subst, inl, inr, MatchBool}
+use Rattle.std.proofs.lemmas.Bool.{and_parts, and_from, or_cases, or_right, eqb-true, false≢true, cases_Bool, false_from_ne_true, both_ways}
 use Rattle.caa_base.specs.declared.entry.Entry.{Entry}
 use Rattle.caa_base.specs.declared.entry.Kind.{Kind}
 use Rattle.caa_base.specs.declared.entry.Kind.TheVariants as kind
 use Rattle.place_plan.specs.PlanValue.{Plan}
 use Rattle.place_plan.specs.Words.{member, same_option}
-use Rattle.place_plan.specs.Places.{around, parent, roles_of, uses, within, objects_of}
-use Rattle.place_plan.specs.Whereabouts.{inside, started, ended, undoing, live, going}
-use Rattle.place_plan.specs.Objects.{holder, tried, next_restore}
-use Rattle.place_plan.specs.Rules.{Row, MayStart, MayEnd, MayRestore, EndsUndone, EndsAgreed}
+use Rattle.place_plan.specs.Places.{around, parent, uses, within, objects_of}
+use Rattle.place_plan.specs.Whereabouts.{inside, started, ended, undoing, live}
+use Rattle.place_plan.specs.Objects.{holder}
+use Rattle.place_plan.specs.Rules.{Row, MayStart, MayEnd, EndsUndone, EndsAgreed}
 use Rattle.place_plan.specs.Journals.{LegalPast}
-use Rattle.place_plan.specs.Laws.{Holds, HolderIsInnermost, IsolationLaw, Splits, touches_object}
+use Rattle.place_plan.specs.Laws.{Holds, HolderIsInnermost}
 use Rattle.place_plan.specs.Tree.{IsTree}
-use Rattle.place_plan.proofs.Words.{all_at, first_not_fails}
+use Rattle.place_plan.proofs.Words.{all_at}
 use Rattle.place_plan.proofs.Entries.{of_kind}
 use Rattle.place_plan.proofs.Kept.{live_parts, live_from, going_live}
 use Rattle.place_plan.proofs.Tree.{in_within, live_within}
 use Rattle.place_plan.proofs.Busy.{IsBusy, AllBusy, all_busy, not_ending, live_of}
-use Rattle.place_plan.proofs.InnerFirst.{started_filled, legal_rest, round_round}
+use Rattle.place_plan.proofs.InnerFirst.{started_filled, round_round}
 use Rattle.place_plan.proofs.Innermost.{parent_within, within_both, within_itself, out_of}
 
 same_from_option : (a b : Option ℕ) → same_option a b ≡ true → a ≡ b
@@ -106,6 +105,7 @@ module _ (plan : Plan) (tree : IsTree plan) where
             | inl x ↦ subst (λ a. member p (around plan a) ≡ true) (sym (eqb-true r q x)) m
             | inr x ↦ round_round plan tree q p r (around plan r) refl x m
           ]
+
       by_place : (t : ℕ) (o : Option ℕ) → inside plan t past ≡ o → in_within plan o q ≡ true → IsBusy plan p t past
       by_place t None here d = absurd (false≢true d)
       by_place t (Some r) here d =
@@ -140,15 +140,19 @@ module _ (plan : Plan) (tree : IsTree plan) where
     where
       lasts : ended e.place past ≡ false
       lasts = false_from_ne_true _ (λ f. both_ways _ h.waits (ended_started past legal e.place f))
+
       free : uses plan e.place o ≡ true → holder plan o past ≡ parent plan e.place
       free u = same_from_option (holder plan o past) (parent plan e.place) (all_at (λ a. same_option (holder plan a past) (parent plan e.place)) (objects_of plan e.place) o h.ready u)
+
       own : uses plan e.place o ≡ true → (e.place == q) ≡ true → ((((e.place == q) || started q past) && not (ended q past)) && uses plan q o) ≡ within plan e.place q
       own u x =
           let lasts_there : ended q past ≡ false = subst (λ a. ended a past ≡ false) (eqb-true e.place q x) lasts in
           let used : uses plan q o ≡ true = subst (λ a. uses plan a o ≡ true) (eqb-true e.place q x) u in
           rw (x, lasts_there, used) refl
+
       other : uses plan e.place o ≡ true → (e.place == q) ≡ false → ((((e.place == q) || started q past) && not (ended q past)) && uses plan q o) ≡ within plan e.place q
       other u x = rw x (at ∙ ap (λ a. in_within plan a q) (free u) ∙ parent_within plan tree e.place q)
+
       by_use : (b : Bool) → uses plan e.place o ≡ b → ((((e.place == q) || started q past) && not (ended q past)) && uses plan q o) ≡ in_within plan (cond b (Some e.place) (holder plan o past)) q
       by_use true u = elim (cases_Bool (e.place == q)) [ inl x ↦ own u x | inr x ↦ other u x ]
       by_use false u = gained (e.place == q) (started q past) (ended q past) (uses plan q o) (λ x. subst (λ a. uses plan a o ≡ false) (eqb-true e.place q x) u) ∙ at
@@ -181,12 +185,13 @@ module _ (plan : Plan) (tree : IsTree plan) where
       ap Some (within_both plan tree r p (sym (at p) ∙ l) (inner r own.0 own.1))
 
   holder_innermost : (past : List Entry) → LegalPast plan past → HolderIsInnermost plan past
-  holder_innermost past legal o p =
-      (λ w.
+  holder_innermost past legal o p = (
+    λ w.
         let at : (q : ℕ) → live_uses plan o past q ≡ within plan p q = λ q. holds_within past legal o q ∙ ap (λ x. in_within plan x q) w in
         let own = and_parts (live p past) (uses plan p o) (at p ∙ within_itself plan tree p) in
         (own.0, own.1, λ q l u. sym (at q) ∙ and_from (live q past) (uses plan q o) l u),
-      λ h. innermost_holds past legal o p (holder plan o past) refl (and_from (live p past) (uses plan p o) h.0 h.1) h.2)
+    λ h. innermost_holds past legal o p (holder plan o past) refl (and_from (live p past) (uses plan p o) h.0 h.1) h.2,
+  )
 
 -- the holder of an object is the innermost of the live places that use it
 pub holder_is_innermost : (plan : Plan) → IsTree plan → Holds HolderIsInnermost plan

@@ -1,27 +1,23 @@
 -- In a tree of places, what is computed along the entries is what its plain words say: the place that a participant is in is the
 -- innermost in which it stays, and the holder of an object the innermost live place that uses it.
-use Rattle.std.proofs.Common.{◌≡◌, ℕ, ◌==◌, ◌<◌, Bool, true, false, not, cond, ◌&&◌, ◌||◌, List, [], ◌∷◌, Some, None, Option, refl, sym, ap, ◌∙◌, subst, arith, inl, inr, ◌⊎◌}
-use Rattle.std.specs.Prelude.{◌↔◌}
-use Rattle.std.proofs.lemmas.Bool.{and_parts, and_from, or_cases, or_left, or_right, or_parts, or_from, eqb-true, eq-eqb, false≢true, not-true, not_from_false, cases_Bool, false_from_ne_true, both_ways, and_right}
+use Rattle.std.proofs.Common.{◌≡◌, ℕ, ◌==◌, Bool, true, false, cond, ◌&&◌, ◌||◌, List, [], ◌∷◌, Some, None, Option, refl, sym, ap, ◌∙◌, subst, arith, inl, inr}
+use Rattle.std.proofs.lemmas.Bool.{or_cases, or_left, eqb-true, eq-eqb, cases_Bool, false_from_ne_true, both_ways}
 use Rattle.caa_base.specs.declared.entry.Entry.{Entry}
 use Rattle.caa_base.specs.declared.entry.Kind.{Kind}
 use Rattle.caa_base.specs.declared.entry.Kind.TheVariants as kind
 use Rattle.place_plan.specs.PlanValue.{Plan}
-use Rattle.place_plan.specs.Words.{member, same_option, first_of}
-use Rattle.place_plan.specs.Places.{around, parent, roles_of, uses, within, objects_of, plays_of}
+use Rattle.place_plan.specs.Words.{member, first_of}
+use Rattle.place_plan.specs.Places.{around, parent, within, plays_of}
 use Rattle.place_plan.specs.Entries.{has_by}
-use Rattle.place_plan.specs.Whereabouts.{inside, stays, stayed, started, ended, undoing, live, going}
-use Rattle.place_plan.specs.Objects.{holder}
+use Rattle.place_plan.specs.Whereabouts.{inside, stays}
 use Rattle.place_plan.specs.Roles.{next_play}
-use Rattle.place_plan.specs.Rules.{Row, MayArrive, MayEnd, EndsUndone, EndsAgreed, arrival}
+use Rattle.place_plan.specs.Rules.{Row, MayArrive, arrival}
 use Rattle.place_plan.specs.Journals.{LegalPast}
-use Rattle.place_plan.specs.Laws.{Holds, InsideIsInnermost, HolderIsInnermost}
+use Rattle.place_plan.specs.Laws.{Holds, InsideIsInnermost}
 use Rattle.place_plan.specs.Tree.{IsTree}
-use Rattle.place_plan.proofs.Words.{all_at, chosen, first_not_fails, plays_in}
+use Rattle.place_plan.proofs.Words.{first_not_fails, plays_in}
 use Rattle.place_plan.proofs.Entries.{of_kind}
-use Rattle.place_plan.proofs.Tree.{in_within, arrives_in, live_within}
-use Rattle.place_plan.proofs.Busy.{IsBusy, AllBusy, all_busy, not_ending, live_of}
-use Rattle.place_plan.proofs.InnerFirst.{started_filled}
+use Rattle.place_plan.proofs.Tree.{in_within, arrives_in}
 
 -- ---- tests
 
@@ -70,9 +66,9 @@ module _ (plan : Plan) (tree : IsTree plan) where
   -- all that is within p but p is round p
   pub out_of : (p q : ℕ) → cond (p == q) false (within plan p q) ≡ member q (around plan p)
   out_of p q = elim (cases_Bool (p == q)) [
-      | inl x ↦ rw x (sym (subst (λ a. member a (around plan p) ≡ false) (eqb-true p q x) (not_round_itself p)))
-      | inr x ↦ rw x refl
-    ]
+    | inl x ↦ rw x (sym (subst (λ a. member a (around plan p) ≡ false) (eqb-true p q x) (not_round_itself p)))
+    | inr x ↦ rw x refl
+  ]
 
   -- ---- where one stays
 
@@ -121,11 +117,12 @@ module _ (plan : Plan) (tree : IsTree plan) where
       ap Some (within_both r p (sym (at p) ∙ s) (inner r (at r ∙ within_itself r)))
 
   inside_innermost : (past : List Entry) → LegalPast plan past → InsideIsInnermost plan past
-  inside_innermost past legal t p =
-      (λ w.
+  inside_innermost past legal t p = (
+    λ w.
         let at : (q : ℕ) → stays q t past ≡ within plan p q = λ q. stays_within past legal t q ∙ ap (λ o. in_within plan o q) w in
         (at p ∙ within_itself p, λ q s. sym (at q) ∙ s),
-      λ h. innermost_stay past legal t p (inside plan t past) refl h.0 h.1)
+    λ h. innermost_stay past legal t p (inside plan t past) refl h.0 h.1,
+  )
 
 -- inside is the innermost of the places in which a participant stays
 pub inside_is_innermost : (plan : Plan) → IsTree plan → Holds InsideIsInnermost plan

@@ -1,17 +1,17 @@
 -- In a tree of places, live places that use one object stand inside one another, and an object is touched only by its holder.
-use Rattle.std.proofs.Common.{◌≡◌, ℕ, ◌==◌, ◌<◌, Bool, true, false, not, ◌&&◌, ◌||◌, List, [], ◌∷◌, ◌++◌, Some, None, Option, refl, sym, ap, ◌∙◌, subst, arith, inl, inr, ◌⊎◌}
-use Rattle.std.proofs.lemmas.Bool.{and_parts, and_from, or_cases, or_left, or_right, eqb-true, eq-eqb, false≢true, false_from_ne_true, both_ways}
+use Rattle.std.proofs.Common.{◌≡◌, ℕ, ◌==◌, true, ◌||◌, List, [], ◌∷◌, Some, None, Option, refl, sym, ap, ◌∙◌, subst, inl, inr}
+use Rattle.std.proofs.lemmas.Bool.{and_from, or_cases, or_left, or_right, eqb-true, false≢true, both_ways}
 use Rattle.caa_base.specs.declared.entry.Entry.{Entry}
 use Rattle.caa_base.specs.declared.entry.Kind.{Kind}
 use Rattle.caa_base.specs.declared.entry.Kind.TheVariants as kind
 use Rattle.place_plan.specs.PlanValue.{Plan}
 use Rattle.place_plan.specs.Words.{member}
 use Rattle.place_plan.specs.Places.{around, uses, within, objects_of}
-use Rattle.place_plan.specs.Whereabouts.{started, undoing, live}
+use Rattle.place_plan.specs.Whereabouts.{undoing, live}
 use Rattle.place_plan.specs.Objects.{holder, tried}
 use Rattle.place_plan.specs.Rules.{Row, MayRestore}
 use Rattle.place_plan.specs.Journals.{LegalPast}
-use Rattle.place_plan.specs.Laws.{Holds, IsolationLaw, Splits, touches_object}
+use Rattle.place_plan.specs.Laws.{Holds, IsolationLaw, touches_object}
 use Rattle.place_plan.specs.Tree.{IsTree}
 use Rattle.place_plan.proofs.Words.{first_not_fails}
 use Rattle.place_plan.proofs.Entries.{of_kind}
@@ -68,8 +68,8 @@ module _ (plan : Plan) (tree : IsTree plan) where
   isolated past legal = record {
     nested = λ p q o l m u v. both_held past legal p q o (holder plan o past) refl (and_from (live p past) (uses plan p o) l u) (and_from (live q past) (uses plan q o) m v);
     held = λ later before e split w.
-      let here = legal_rest plan later (e ∷ before) (subst (LegalPast plan) split legal) in
-      touch_held before e.kind e here.0 here.1 w;
+        let here = legal_rest plan later (e ∷ before) (subst (LegalPast plan) split legal) in
+        touch_held before e.kind e here.0 here.1 w;
   }
 
 -- isolation law

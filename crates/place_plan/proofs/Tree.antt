@@ -1,6 +1,6 @@
 -- In a tree of places, the roles of a live place are in it, or in places inside it.
-use Rattle.std.proofs.Common.{◌≡◌, ℕ, ◌==◌, ◌<◌, Bool, true, false, not, cond, ◌&&◌, ◌||◌, List, [], ◌∷◌, Some, None, Option, refl, sym, ap, ◌∙◌, subst, arith, inl, inr, ◌⊎◌, slice_get}
-use Rattle.std.proofs.lemmas.Bool.{and_parts, or_cases, or_left, or_right, or_parts, eqb-true, eq-eqb, false≢true, cases_Bool, both_ways}
+use Rattle.std.proofs.Common.{◌≡◌, ℕ, ◌==◌, Bool, true, false, cond, ◌&&◌, List, [], ◌∷◌, Some, None, Option, refl, subst, inl, inr, slice_get}
+use Rattle.std.proofs.lemmas.Bool.{or_cases, or_left, or_right, or_parts, eqb-true, eq-eqb, false≢true, cases_Bool, both_ways}
 use Rattle.caa_base.specs.declared.entry.Entry.{Entry}
 use Rattle.caa_base.specs.declared.entry.Kind.{Kind}
 use Rattle.caa_base.specs.declared.entry.Kind.TheVariants as kind
@@ -41,8 +41,8 @@ module _ (plan : Plan) (tree : IsTree plan) where
   arrives_in past e q h w =
       let leads : arrival plan e.by past (Some q) ≡ Some e.place = subst (λ o. arrival plan e.by past o ≡ Some e.place) w h.leads in
       elim (chosen (calm plan q past && able plan q past e.by) _ _ _ leads) [
-        inl x ↦ entered_in q e.by e.place (handling q e.by past) (position plan q e.by past) (next_step plan q e.by past) refl x.1
-      | inr x ↦ absurd cc
+        | inl x ↦ entered_in q e.by e.place (handling q e.by past) (position plan q e.by past) (next_step plan q e.by past) refl x.1
+        | inr x ↦ absurd cc
       ]
 
   -- one who goes into a place right inside q stays within what q is within
@@ -63,8 +63,8 @@ module _ (plan : Plan) (tree : IsTree plan) where
   live_within_by : (past : List Entry) (k : Kind) (e : Entry) (t p : ℕ) → member t (roles_of plan p) ≡ true → (started p past ≡ true → ended p past ≡ false → in_within plan (inside plan t past) p ≡ true) → Row k plan past (of_kind k e) → started p (of_kind k e ∷ past) ≡ true → ended p (of_kind k e ∷ past) ≡ false → in_within plan (inside plan t (of_kind k e ∷ past)) p ≡ true
   live_within_by past kind.Arrive e t p m ih h s f =
       elim (cases_Bool (e.by == t)) [
-        inl y ↦ arrived (inside plan t past) refl (ih s f) y
-      | inr y ↦ rw y (ih s f)
+        | inl y ↦ arrived (inside plan t past) refl (ih s f) y
+        | inr y ↦ rw y (ih s f)
       ]
     where
       arrived : (o : Option ℕ) → inside plan t past ≡ o → in_within plan o p ≡ true → (e.by == t) ≡ true → in_within plan (cond (e.by == t) (Some e.place) (inside plan t past)) p ≡ true
@@ -74,32 +74,32 @@ module _ (plan : Plan) (tree : IsTree plan) where
     where
       went_out : inside plan e.by past ≡ Some e.place → (e.place ≡ p → ⊥) → in_within plan (cond (e.by == t) (parent plan e.place) (inside plan t past)) p ≡ true
       went_out here other = elim (cases_Bool (e.by == t)) [
-          inl y ↦
+        | inl y ↦
             let there : in_within plan (Some e.place) p ≡ true = subst (λ o. in_within plan o p ≡ true) (subst (λ a. inside plan a past ≡ Some e.place) (eqb-true e.by t y) here) (ih s f) in
             elim (or_cases (e.place == p) (member p (around plan e.place)) there) [
-              inl x ↦ absurd (other (eqb-true e.place p x))
-            | inr x ↦ rw y (outer e.place p (around plan e.place) refl x)
+              | inl x ↦ absurd (other (eqb-true e.place p x))
+              | inr x ↦ rw y (outer e.place p (around plan e.place) refl x)
             ]
         | inr y ↦ rw y (ih s f)
-        ]
+      ]
   live_within_by past kind.Leave e t p m ih h s f = went_out h.here (λ same. both_ways _ f (subst (λ a. ended a past ≡ true) same h.when))
     where
       went_out : inside plan e.by past ≡ Some e.place → (e.place ≡ p → ⊥) → in_within plan (cond (e.by == t) (parent plan e.place) (inside plan t past)) p ≡ true
       went_out here other = elim (cases_Bool (e.by == t)) [
-          inl y ↦
+        | inl y ↦
             let there : in_within plan (Some e.place) p ≡ true = subst (λ o. in_within plan o p ≡ true) (subst (λ a. inside plan a past ≡ Some e.place) (eqb-true e.by t y) here) (ih s f) in
             elim (or_cases (e.place == p) (member p (around plan e.place)) there) [
-              inl x ↦ absurd (other (eqb-true e.place p x))
-            | inr x ↦ rw y (outer e.place p (around plan e.place) refl x)
+              | inl x ↦ absurd (other (eqb-true e.place p x))
+              | inr x ↦ rw y (outer e.place p (around plan e.place) refl x)
             ]
         | inr y ↦ rw y (ih s f)
-        ]
+      ]
   live_within_by past kind.Start e t p m ih h s f =
       elim (or_cases _ _ s) [
-        inl x ↦
-          let here : inside plan t past ≡ Some p = at_same _ _ (all_at (is_inside plan p past) (roles_of plan p) t (subst (λ a. all_inside plan a past ≡ true) (eqb-true e.place p x) h.together) m) in
-          rw here (or_left _ _ (eq-eqb p p refl))
-      | inr x ↦ ih x f
+        | inl x ↦
+            let here : inside plan t past ≡ Some p = at_same _ _ (all_at (is_inside plan p past) (roles_of plan p) t (subst (λ a. all_inside plan a past ≡ true) (eqb-true e.place p x) h.together) m) in
+            rw here (or_left _ _ (eq-eqb p p refl))
+        | inr x ↦ ih x f
       ]
   live_within_by past kind.End e t p m ih h s f = ih s (or_parts _ _ f).1
   live_within_by past _ e t p m ih h s f = ih s f

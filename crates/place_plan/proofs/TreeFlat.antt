@@ -1,11 +1,9 @@
 -- A flat plan is a tree of places.
-use Rattle.std.proofs.Common.{◌≡◌, ℕ, Bool, true, List, [], ◌∷◌, Some, None, Option, refl, subst, slice_get}
+use Rattle.std.proofs.Common.{◌≡◌, ℕ, List, ◌∷◌, Some, subst}
 use Rattle.std.proofs.lemmas.Bool.{false≢true}
-use Rattle.place_plan.specs.declared.rows.Step.{Step}
 use Rattle.place_plan.specs.declared.rows.Step.TheVariants as step
 use Rattle.place_plan.specs.PlanValue.{Plan}
 use Rattle.place_plan.specs.Places.{around}
-use Rattle.place_plan.specs.Roles.{program_in}
 use Rattle.place_plan.specs.Flat.{IsFlat, IsQuietStep}
 use Rattle.place_plan.specs.Tree.{IsTree}
 
@@ -21,5 +19,6 @@ flat_is_tree plan fine = record {
   where
     no_first : (p q : ℕ) (qs : List ℕ) → around plan p ≡ q ∷ qs → ⊥
     no_first p q qs h = let none = fine.flat p in cc
+
     no_enter : (p k : ℕ) → IsQuietStep plan p (Some (step.Enter k)) → ⊥
     no_enter p k h = h

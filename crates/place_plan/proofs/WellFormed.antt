@@ -1,17 +1,15 @@
 -- Each entry of a legal journal of a flat plan is well formed.
-use Rattle.std.proofs.Common.{◌≡◌, ℕ, ℤ, pos, negsuc, ◌==◌, ◌+◌, ◌*◌, ◌-◌, ◌%◌, ◌^◌, ◌<◌, ◌≤◌, ◌≤ℤ◌, Bool, true, false, List, [], ◌∷◌, Some, None, Option, refl, sym, ap, ◌∙◌, subst, arith, suc, zero, length, get_or, reverse}
+use Rattle.std.proofs.Common.{◌≡◌, ℕ, ℤ, pos, negsuc, ◌+◌, ◌*◌, ◌-◌, ◌<◌, List, [], ◌∷◌, Some, sym, ◌∙◌, subst, arith, suc, zero, length, get_or, reverse}
 use Rattle.std.specs.List.{All}
 use Rattle.std.proofs.Math.Nat.{mod-lt}
 use Rattle.std.proofs.lemmas.Int.{ints}
 use Rattle.std.proofs.lemmas.List.{reverse-reverse, length-reverse, get_or-reverse}
 use Rattle.std.proofs.lemmas.List.Elements.{All-nil, All-cons}
-use Rattle.caa_base.specs.Mixing.{mix, residue, next_state, state_after}
+use Rattle.caa_base.specs.Mixing.{mix, residue, state_after}
 use Rattle.caa_base.specs.declared.entry.Entry.{Entry}
 use Rattle.caa_base.specs.declared.entry.Kind.{Kind}
 use Rattle.caa_base.specs.declared.entry.Kind.TheVariants as kind
-use Rattle.caa_base.specs.declared.entry.Verdict.{Verdict}
 use Rattle.caa_base.specs.declared.entry.Verdict.TheVariants as verdict
-use Rattle.place_plan.specs.declared.rows.Step.{Step}
 use Rattle.place_plan.specs.declared.rows.Step.TheVariants as step
 use Rattle.place_plan.specs.PlanValue.{Plan}
 use Rattle.place_plan.specs.Places.{roles_of}
@@ -19,7 +17,7 @@ use Rattle.place_plan.specs.Raising.{handling}
 use Rattle.place_plan.specs.Roles.{register}
 use Rattle.place_plan.specs.Rules.{MayFollow, SaysVerdict}
 use Rattle.place_plan.specs.Journals.{LegalPast, IsLegal}
-use Rattle.place_plan.specs.WellFormed.{IsValue, FieldsFit, MayShowException, IsWellFormed, AllWellFormed}
+use Rattle.place_plan.specs.WellFormed.{IsValue, FieldsFit, IsWellFormed, AllWellFormed}
 use Rattle.place_plan.specs.Laws.{Holds}
 use Rattle.place_plan.specs.Flat.{IsFlat, IsQuietStep}
 use Rattle.place_plan.proofs.Entries.{of_kind}
