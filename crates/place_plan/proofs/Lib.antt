@@ -6,7 +6,6 @@ pub mod Kept
 pub mod Over
 pub mod Due
 pub mod GoesOn
-pub mod Bound
 pub mod WellFormed
 pub mod Tree
 pub mod Busy
@@ -17,3 +16,6 @@ pub mod Holding
 pub mod Isolation
 pub mod Exit
 pub mod FlatLaws
+pub mod LengthLaw
+pub mod BuiltDrafts
+pub mod ClosedPlan

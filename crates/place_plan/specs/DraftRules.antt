@@ -1,5 +1,5 @@
 -- The rules that a draft has to keep, each with its number.
-use Rattle.std.specs.Prelude.{ℕ, ℤ, pos, negsuc, ◌==◌, ◌+◌, ◌-◌, nat_lt, nat_le, max, int_lt, if◌then◌else◌, Bool, true, false, not, ◌&&◌, List, [], ◌∷◌, map, length, slice_index_or, filter, Option, Some, None, zero, suc}
+use Rattle.std.specs.Prelude.{◌≡◌, ℕ, ℤ, pos, negsuc, ◌==◌, ◌+◌, ◌-◌, nat_lt, nat_le, max, int_lt, if◌then◌else◌, Bool, true, false, not, ◌&&◌, List, [], ◌∷◌, map, length, slice_index_or, filter, Option, Some, None, zero, suc}
 use Rattle.std.specs.List.{list_all}
 use Rattle.cover_table.specs.Cover.{CoverOrder}
 use Rattle.caa_base.specs.declared.entry.Drill.{Drill}
@@ -243,3 +243,14 @@ abbrev pub broken_rule : Draft → Option ℕ
 broken_rule draft =
     broken_if (size_rule draft) 1 (broken_if (range_rule draft) 3 (broken_if (order_rule draft) 4 (broken_if (fill_rule draft) 5 (broken_if (enter_rule draft) 6
     (broken_if (object_rule draft) 7 (broken_if (depth_rule draft) 8 (broken_if (handler_rule draft) 9 (broken_if (bound_rule draft) 10 None))))))))
+
+-- the draft breaks no rule of a number below 10
+pub record KeepsParts (draft : Draft) : Type 0 where
+  pub sizes : size_rule draft ≡ true
+  pub ranges : range_rule draft ≡ true
+  pub order : order_rule draft ≡ true
+  pub fillings : fill_rule draft ≡ true
+  pub enters : enter_rule draft ≡ true
+  pub objects : object_rule draft ≡ true
+  pub depths : depth_rule draft ≡ true
+  pub handlers : handler_rule draft ≡ true

@@ -17,3 +17,6 @@ pub mod DraftRules
 pub mod Built
 pub mod Due
 pub mod Tree
+pub mod PlanView
+pub mod Machine
+pub mod Sizes

@@ -39,6 +39,10 @@ unfold_at (suc depth) actions a who around i n =
     record { around = around; nest = i; action = a; roles = who; children = numbers (unfold_at depth actions) who (n ∷ around) 0 (n + 1) nests }
     ∷ nested (unfold_at depth actions) who (n ∷ around) 0 (n + 1) nests
 
+-- the place of a play in which nothing is nested
+abbrev pub place_of : PlayRow → PlaceRow
+place_of play = record { around = []; nest = 0; action = play.action; roles = play.who; children = [] }
+
 -- the plays in order, each with its whole subtree
 abbrev pub plays_from : Unfolding → ℕ → List PlayRow → List PlaceRow
 plays_from unfold_one n [] = []

@@ -1,8 +1,9 @@
-ghost use Rattle.std.specs.Prelude.{◌≡◌, ◌<◌, ◌≤◌, ◌+◌, nat_lt, nat_le, ◌==◌, ℤ, List, length, slice_index_or, is_none, Some, None, sum_by, true};
+ghost use Rattle.std.specs.Prelude.{◌≡◌, ◌<◌, ◌≤◌, ◌+◌, nat_lt, nat_le, ◌==◌, ℤ, List, length, slice_index_or, Some, None, MatchOption};
 ghost use Rattle.std.specs.List.{list_all};
 ghost use Rattle.place_plan.specs.Places.{no_action};
 ghost use Rattle.place_plan.specs.Words.{member};
-ghost use Rattle.place_plan.specs.DraftRules.{program_fits, role_fits, action_fits, size_rule, is_value, is_rising, is_rising_above, all_below, step_in_range, verdict_in_range, abort_in_range, program_in_range, handler_in_range, role_in_range, nest_in_range, exceptions_of, graphs_in_range, objects_in_range, parts_in_range, action_in_range, play_in_range, drill_in_range, range_rule, all_differ, fills, fill_rule, step_held, role_held, nest_held, action_held, object_rule};
+ghost use Rattle.place_plan.specs.DraftRules.{program_fits, role_fits, action_fits, size_rule, is_value, is_rising, is_rising_above, all_below, step_in_range, verdict_in_range, abort_in_range, program_in_range, handler_in_range, role_in_range, nest_in_range, exceptions_of, graphs_in_range, objects_in_range, parts_in_range, action_in_range, play_in_range, drill_in_range, range_rule, all_differ, fills, fill_rule, step_held, role_held, nest_held, action_held, object_rule, broken_rule, KeepsParts};
+ghost use Rattle.place_plan.specs.Built.{IsBuilt};
 
 use crate::draft::Draft;
 use crate::rows::{AbortRow, ActionRow, HandlerRow, NestRow, PlayRow, Program, RoleRow, Step};
@@ -28,10 +29,16 @@ const MOST_ROUNDS: u32 = 1_000_000;
 
 const MOST_COUNT: u32 = 1_000_000;
 
+/// How many places a plan has at most.
+pub(crate) const MOST_PLACES: usize = 65_536;
+
+/// How many entries a journal may have at most.
+pub(crate) const MOST_ENTRIES: u64 = 1_000_000;
+
 const MOST_VALUE: i64 = 1_000_000_000_000;
 
 /// Whether a number is in a list.
-pub fn is_member(number: u32, list: &[u32]) -> bool
+pub(crate) fn is_member(number: u32, list: &[u32]) -> bool
     ensures { result ≡ member number list.now }
 {
     list.iter().any(|item| *item == number)
@@ -86,7 +93,7 @@ fn actions_fit(draft: &Draft) -> bool
 }
 
 /// Whether the numbers of parts are within the limits, and each action has a role.
-pub fn keeps_sizes(draft: &Draft) -> bool
+fn keeps_sizes(draft: &Draft) -> bool
     ensures { result ≡ size_rule draft.now }
 {
     draft.participants.len() <= MOST_PARTICIPANTS
@@ -333,7 +340,7 @@ fn drills_in_range(draft: &Draft) -> bool
 }
 
 /// Whether all numbers are in range.
-pub fn keeps_ranges(draft: &Draft) -> bool
+fn keeps_ranges(draft: &Draft) -> bool
     ensures { result ≡ range_rule draft.now }
 {
     initials_in_range(draft)
@@ -398,7 +405,7 @@ fn plays_fill(draft: &Draft) -> bool
 }
 
 /// Whether each nested use and each play has one for each role, and nobody twice.
-pub fn keeps_fillings(draft: &Draft) -> bool
+fn keeps_fillings(draft: &Draft) -> bool
     ensures { result ≡ fill_rule draft.now }
 {
     all_nests_fill(draft) && plays_fill(draft)
@@ -486,7 +493,7 @@ fn action_held(draft: &Draft, action: &ActionRow) -> bool
 }
 
 /// Whether the objects of each step and of each nested action are among the action's.
-pub fn keeps_objects(draft: &Draft) -> bool
+fn keeps_objects(draft: &Draft) -> bool
     ensures { result ≡ object_rule draft.now }
 {
     draft
@@ -494,4 +501,22 @@ pub fn keeps_objects(draft: &Draft) -> bool
         .as_slice()
         .iter()
         .all(|action| action_held(draft, action))
+}
+
+/// The least rule of a number below 10 that a draft of built parts breaks.
+pub(crate) fn broken_part(draft: &Draft) -> Option<u32>
+    requires { IsBuilt draft.now }
+    ensures { MatchOption result (KeepsParts draft.now) (λ rule. broken_rule draft.now ≡ Some rule) }
+{
+    if !keeps_sizes(draft) {
+        Some(1)
+    } else if !keeps_ranges(draft) {
+        Some(3)
+    } else if !keeps_fillings(draft) {
+        Some(5)
+    } else if !keeps_objects(draft) {
+        Some(7)
+    } else {
+        None
+    }
 }

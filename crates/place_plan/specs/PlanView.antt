@@ -1,0 +1,24 @@
+-- The plan that the fields keep.
+use Rattle.std.specs.Prelude.{◌≡◌, [], ◌∷◌}
+use Rattle.place_plan.specs.PlanValue.{Plan}
+use Rattle.place_plan.specs.Unfolding.{plain_graph}
+use Rattle.place_plan.specs.Bound.{bound}
+use Rattle.place_plan.specs.Built.{IsClosed}
+use Rattle.place_plan.specs.declared.plan.Plan.TheInside.{Inside}
+
+abbrev pub plan_view : Inside → Plan
+plan_view p = record {
+  participants = p.participants;
+  objects = p.objects;
+  graphs = plain_graph ∷ [];
+  actions = p.actions;
+  places = p.places;
+  plays = p.plays;
+  drills = p.drills;
+  watches = p.watches;
+}
+
+-- the plan is the unfolding of a draft that breaks no rule, and its bound is kept
+pub record IsKept (p : Inside) : Type 0 where
+  pub closed : IsClosed (plan_view p)
+  pub bound : p.bound ≡ bound (plan_view p)

@@ -1,0 +1,433 @@
+ghost use Rattle.std.specs.Prelude.{◌≡◌, ◌<◌, ℕ, List, [], length, map, slice_index_or, Option, Some, None, IfOk, unwrap_or, option_copied};
+ghost use Rattle.std.specs.List.{range_with_len};
+ghost use Rattle.place_plan.specs.Words.{member, index_of, last_or};
+ghost use Rattle.place_plan.specs.Places.{place_at, action_at, role_at, role_of, roles_of, objects_of, uses, parent, top_of, fault_of, handler_in, initial_of, no_object, no_action};
+ghost use Rattle.place_plan.specs.Bound.{bound};
+ghost use Rattle.place_plan.specs.Unfolding.{place_of, plan_of};
+ghost use Rattle.place_plan.specs.DraftRules.{broken_rule};
+ghost use Rattle.place_plan.specs.Built.{IsBuilt};
+
+use crate::bound::bound_of;
+use crate::close::{MOST_ENTRIES, MOST_PLACES, broken_part, is_member};
+use crate::draft::Draft;
+use crate::rows::{
+    AbortRow, ActionRow, HandlerRow, ObjectRow, PlaceRow, PlayRow, Program, RoleRow,
+};
+use caa_base::entry::{Drill, Exception, Object, Participant, Place};
+use caa_base::name::Name;
+use caa_base::rows::Rows;
+use std::alloc::{AllocError, Global};
+use std::marker::Model;
+use thiserror::Error;
+
+/// The actions, and the places into which their plays unfold.
+///
+/// A plan is made by `Plan::close` alone: it is the unfolding of a draft that breaks no rule.
+#[derive(Drop)]
+pub struct Plan {
+    participants: Rows<Name>,
+    objects: Rows<ObjectRow>,
+    actions: Rows<ActionRow>,
+    places: Rows<PlaceRow>,
+    plays: Rows<Place>,
+    drills: Rows<Drill>,
+    watches: Rows<Object>,
+    bound: u64,
+}
+
+impl Model for Plan {
+    ghost use Rattle.place_plan.specs.PlanValue.{Plan as PlanValue};
+    ghost use Rattle.place_plan.specs.PlanView.{plan_view, IsKept};
+
+    ghost Value = { PlanValue };
+
+    ghost view = { plan_view };
+
+    ghost invariant = { IsKept };
+}
+
+/// Why a draft is no plan.
+#[derive(Clone, Copy, Debug, PartialEq, Eq, Error)]
+pub enum PlanError {
+    /// The draft breaks this rule, and none of a smaller number.
+    #[error("the draft breaks rule {rule}")]
+    BadPart { rule: u32 },
+    /// No memory was found.
+    #[error("out of memory")]
+    OutOfMemory,
+}
+
+/// The place of a play, in which nothing is nested.
+fn place_of(alloc: Global, play: &PlayRow) -> Result<PlaceRow, AllocError>
+    ensures { IfOk result (λ row. row ≡ place_of play.now) }
+{
+    let roles = Vec::from_slice(alloc, play.who.as_slice())?;
+    Ok(PlaceRow {
+        around: Rows::from_vec(Vec::new(alloc)),
+        nest: 0,
+        action: play.action,
+        roles: Rows::from_vec(roles),
+        children: Rows::from_vec(Vec::new(alloc)),
+    })
+}
+
+/// The places of the plays, in order.
+fn places_of(alloc: Global, plays: &[PlayRow]) -> Result<Vec<PlaceRow>, AllocError>
+    ensures { IfOk result (λ places. places.items ≡ map place_of plays.now) }
+{
+    let mut places = Vec::new(alloc);
+    for play in plays {
+        places.push(place_of(alloc, play)?)?;
+    }
+    Ok(places)
+}
+
+/// The numbers below a count.
+fn numbers_below(alloc: Global, count: u32) -> Result<Vec<u32>, AllocError>
+    ensures { IfOk result (λ numbers. numbers.items ≡ range_with_len 0 count) }
+{
+    let mut numbers = Vec::new(alloc);
+    for number in 0..count {
+        numbers.push(number)?;
+    }
+    Ok(numbers)
+}
+
+/// Where a number stands first in a list, or the list's length.
+fn index_of(number: u32, list: &[u32]) -> usize
+    ensures { result ≡ index_of number list.now }
+{
+    for (index, item) in list.iter().enumerate() {
+        if *item == number {
+            return index;
+        }
+    }
+    list.len()
+}
+
+/// The last number of a list, or this one where it is empty.
+fn last_or(number: u32, list: &[u32]) -> u32
+    ensures { result ≡ last_or number list.now }
+{
+    let mut last = number;
+    for item in list {
+        last = *item;
+    }
+    last
+}
+
+/// The program of the handler for an exception.
+fn handler_in(handlers: &[HandlerRow], exception: Exception) -> Option<&Program>
+    ensures { option_copied result ≡ handler_in exception handlers.now }
+{
+    for handler in handlers {
+        if handler.exception == exception {
+            return Some(&handler.program);
+        }
+    }
+    None
+}
+
+impl Plan {
+    /// The plan into which a draft unfolds.
+    ///
+    /// `BadPart` names the least rule that the draft breaks. The rules, by number: 1, the numbers of parts are within the limits and
+    /// each action has a role; 3, all numbers are in range, and the objects of an action are in ascending order; 4, a nested use
+    /// names an action of a smaller number; 5, a nested use or a play has one for each role, and nobody twice; 6, a body enters just
+    /// the uses that its role fills, in order; 7, the objects of a step or of a nested action are among the action's; 8, no action
+    /// is deeper than 8; 9, the handlers of a role have different exceptions and each exception of a nested use is mapped; 10, there
+    /// are at most 65,536 places and the bound is at most 1,000,000.
+    pub fn close(alloc: Global, draft: Draft) -> Result<Plan, PlanError>
+        requires built { IsBuilt draft }
+        ensures ok { IfOk result (λ plan. plan ≡ plan_of draft) }
+        ensures whole { IfOk result (λ plan. broken_rule draft ≡ None) }
+        ensures bad { (rule : ℕ) → result ≡ Err (PlanError.BadPart rule) → broken_rule draft ≡ Some rule }
+    {
+        if let Some(rule) = broken_part(&draft) {
+            return Err(PlanError::BadPart { rule });
+        }
+        if draft.plays.len() > MOST_PLACES {
+            return Err(PlanError::BadPart { rule: 10 });
+        }
+        let Ok(plays) = numbers_below(alloc, draft.plays.len() as u32) else {
+            return Err(PlanError::OutOfMemory);
+        };
+        let Ok(places) = places_of(alloc, draft.plays.as_slice()) else {
+            return Err(PlanError::OutOfMemory);
+        };
+        let bound = bound_of(draft.actions.as_slice(), places.as_slice());
+        if bound > MOST_ENTRIES {
+            return Err(PlanError::BadPart { rule: 10 });
+        }
+        let Draft {
+            participants,
+            objects,
+            actions,
+            plays: _,
+            drills,
+            watches,
+        } = draft;
+        Ok(Plan {
+            participants,
+            objects,
+            actions,
+            places: Rows::from_vec(places),
+            plays: Rows::from_vec(plays),
+            drills,
+            watches,
+            bound,
+        })
+    }
+
+    /// How many entries a journal of the plan has at most.
+    pub fn bound(&self) -> u64
+        ensures { result ≡ bound self.now }
+    {
+        self.bound
+    }
+
+    /// How many participants there are.
+    pub fn participants(&self) -> u32
+        ensures { result ≡ length self.now.participants }
+    {
+        self.participants.len() as u32
+    }
+
+    /// How many objects there are.
+    pub fn objects(&self) -> u32
+        ensures { result ≡ length self.now.objects }
+    {
+        self.objects.len() as u32
+    }
+
+    /// How many places there are.
+    pub fn places(&self) -> u32
+        ensures { result ≡ length self.now.places }
+    {
+        self.places.len() as u32
+    }
+
+    /// How many plays there are.
+    pub fn plays(&self) -> u32
+        ensures { result ≡ length self.now.plays }
+    {
+        self.plays.len() as u32
+    }
+
+    /// How many watches there are.
+    pub fn watches(&self) -> u32
+        ensures { result ≡ length self.now.watches }
+    {
+        self.watches.len() as u32
+    }
+
+    /// How many drills there are.
+    pub fn drills(&self) -> u32
+        ensures { result ≡ length self.now.drills }
+    {
+        self.drills.len() as u32
+    }
+
+    /// The name of a participant.
+    pub fn participant_name(&self, by: Participant) -> &[u8]
+        requires { by < length self.now.participants }
+        ensures { result.now ≡ slice_index_or self.now.participants by [] }
+    {
+        self.participants.as_slice()[by as usize].bytes()
+    }
+
+    /// The name of an object.
+    pub fn object_name(&self, object: Object) -> &[u8]
+        requires { object < length self.now.objects }
+        ensures { result.now ≡ (slice_index_or self.now.objects object no_object).name }
+    {
+        self.objects.as_slice()[object as usize].name.bytes()
+    }
+
+    /// The value of an object before the first entry.
+    pub fn initial(&self, object: Object) -> i64
+        requires { object < length self.now.objects }
+        ensures { result ≡ initial_of self.now object }
+    {
+        self.objects.as_slice()[object as usize].initial
+    }
+
+    /// A put that the device is to refuse.
+    pub fn drill(&self, index: u32) -> Drill
+        requires { index < length self.now.drills }
+        ensures { result ≡ slice_index_or self.now.drills index result }
+    {
+        self.drills.as_slice()[index as usize]
+    }
+
+    /// An object that is watched.
+    pub fn watch(&self, index: u32) -> Object
+        requires { index < length self.now.watches }
+        ensures { result ≡ slice_index_or self.now.watches index 0 }
+    {
+        self.watches.as_slice()[index as usize]
+    }
+
+    /// The place of a play.
+    pub fn play(&self, index: u32) -> Place
+        requires { index < length self.now.plays }
+        ensures { result ≡ slice_index_or self.now.plays index 0 }
+    {
+        self.plays.as_slice()[index as usize]
+    }
+
+    /// The places of all plays, in order.
+    pub fn play_places(&self) -> &[Place]
+        ensures { result.now ≡ self.now.plays }
+    {
+        self.plays.as_slice()
+    }
+
+    /// The place right round this one; none for a play.
+    pub fn parent(&self, place: Place) -> Option<Place>
+        ensures { result ≡ parent self.now place }
+    {
+        let row = self.places.as_slice().get(place as usize)?;
+        row.around.as_slice().first().copied()
+    }
+
+    /// The play that a place belongs to.
+    pub fn top_of(&self, place: Place) -> Place
+        ensures { result ≡ top_of self.now place }
+    {
+        match self.places.as_slice().get(place as usize) {
+            Some(row) => last_or(place, row.around.as_slice()),
+            None => place,
+        }
+    }
+
+    /// The number of the action that a place is an instance of.
+    pub fn action_of(&self, place: Place) -> u32
+        requires { place < length self.now.places }
+        ensures { result ≡ (place_at self.now place).action }
+    {
+        self.places.as_slice()[place as usize].action
+    }
+
+    /// The action that a place is an instance of, if there is such a place.
+    fn action_at(&self, place: Place) -> Option<&ActionRow>
+        ensures { unwrap_or (option_copied result) no_action ≡ action_at self.now place }
+    {
+        let row = self.places.as_slice().get(place as usize)?;
+        self.actions.as_slice().get(row.action as usize)
+    }
+
+    /// The name of the action that a place is an instance of.
+    pub fn action_name(&self, place: Place) -> &[u8]
+        ensures { result.now ≡ (action_at self.now place).name }
+    {
+        match self.action_at(place) {
+            Some(action) => action.name.bytes(),
+            None => &[],
+        }
+    }
+
+    /// The participants that play the roles of a place, in the order of the roles.
+    pub fn roles_of(&self, place: Place) -> &[Participant]
+        ensures { result.now ≡ roles_of self.now place }
+    {
+        match self.places.as_slice().get(place as usize) {
+            Some(row) => row.roles.as_slice(),
+            None => &[],
+        }
+    }
+
+    /// The number of the role that a participant plays in a place, if it has one there.
+    pub fn role_of(&self, place: Place, by: Participant) -> Option<u32>
+        ensures { result ≡ role_of self.now place by }
+    {
+        let roles = self.roles_of(place);
+        if is_member(by, roles) {
+            Some(index_of(by, roles) as u32)
+        } else {
+            None
+        }
+    }
+
+    /// The objects that a place uses, in ascending order.
+    pub fn objects_of(&self, place: Place) -> &[Object]
+        ensures { result.now ≡ objects_of self.now place }
+    {
+        match self.action_at(place) {
+            Some(action) => action.objects.as_slice(),
+            None => &[],
+        }
+    }
+
+    /// Whether a place uses an object.
+    pub fn uses(&self, place: Place, object: Object) -> bool
+        ensures { result ≡ uses self.now place object }
+    {
+        is_member(object, self.objects_of(place))
+    }
+
+    /// The role of this number in a place.
+    fn role_at(&self, place: Place, role: u32) -> &RoleRow
+        requires { role < length (action_at self.now place).roles }
+        ensures { result.now ≡ role_at self.now place role }
+    {
+        match self.action_at(place) {
+            Some(action) => &action.roles.as_slice()[role as usize],
+            None => unreachable!(),
+        }
+    }
+
+    /// The body of a role.
+    pub fn body(&self, place: Place, role: u32) -> &Program
+        requires { role < length (action_at self.now place).roles }
+        ensures { result.now ≡ (role_at self.now place role).body }
+    {
+        &self.role_at(place, role).body
+    }
+
+    /// The handler of a role for an exception, if it has one.
+    pub fn handler(&self, place: Place, role: u32, exception: Exception) -> Option<&Program>
+        requires { role < length (action_at self.now place).roles }
+        ensures { option_copied result ≡ handler_in exception (role_at self.now place role).handlers }
+    {
+        handler_in(self.role_at(place, role).handlers.as_slice(), exception)
+    }
+
+    /// The exception that a role names when its place is aborted.
+    pub fn abort_row(&self, place: Place, role: u32) -> &AbortRow
+        requires { role < length (action_at self.now place).roles }
+        ensures { result.now ≡ (role_at self.now place role).abort }
+    {
+        &self.role_at(place, role).abort
+    }
+
+    /// What a refused put raises in a place.
+    pub fn fault(&self, place: Place) -> Exception
+        ensures { result ≡ fault_of self.now place }
+    {
+        match self.action_at(place) {
+            Some(action) => action.fault,
+            None => 0,
+        }
+    }
+
+    /// The number of the graph of the exceptions that are raised in a place.
+    pub fn internal_number(&self, place: Place) -> u32
+        ensures { result ≡ (action_at self.now place).internal }
+    {
+        match self.action_at(place) {
+            Some(action) => action.internal,
+            None => 0,
+        }
+    }
+
+    /// The number of the graph of the exceptions that a place tells outside.
+    pub fn interface_number(&self, place: Place) -> u32
+        ensures { result ≡ (action_at self.now place).interface }
+    {
+        match self.action_at(place) {
+            Some(action) => action.interface,
+            None => 0,
+        }
+    }
+}
