@@ -19,3 +19,5 @@ pub mod FlatLaws
 pub mod LengthLaw
 pub mod BuiltDrafts
 pub mod ClosedPlan
+pub mod Closing
+pub mod LawsKept

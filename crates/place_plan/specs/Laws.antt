@@ -187,3 +187,13 @@ pub record IsolationLaw (plan : Plan) (past : List Entry) : Type 0 where
   pub nested : (p q o : ℕ) → live p past ≡ true → live q past ≡ true → uses plan p o ≡ true → uses plan q o ≡ true → within plan p q || within plan q p ≡ true
   -- an object is touched only in the place that holds it
   pub held : (later before : List Entry) (e : Entry) → Splits past later e before → touches_object e.kind ≡ true → holder plan e.arg before ≡ Some e.place
+
+-- ---- all laws of one journal
+
+pub record KeepsLaws (plan : Plan) (past : List Entry) : Type 0 where
+  pub resolution : ResolutionLaw plan past
+  pub exits : ExitLaw plan past
+  pub outcomes : OutcomeLaw plan past
+  pub effects : EffectLaw plan past
+  pub inner_first : InnerFirstLaw plan past
+  pub isolation : IsolationLaw plan past
