@@ -7,4 +7,4 @@ pub mod Over
 pub mod Due
 pub mod GoesOn
 pub mod Bound
-pub mod Worked
+pub mod worked

@@ -1,6 +1,6 @@
 -- Words in which worked plans and journals are written, and what computing shows of them.
-use Rattle.std.proofs.Common.{◌≡◌, ℕ, pos, ◌+◌, ◌-◌, ◌^◌, ◌<◌, ◌≤◌, Bool, true, false, not, ◌&&◌, ◌||◌, List, [], ◌∷◌, length, map, reverse, zero, suc, refl, arith, below_more}
-use Rattle.std.specs.Prelude.{nat_lt}
+use Rattle.std.proofs.Common.{◌≡◌, ℕ, ℤ, pos, ◌+◌, ◌-◌, ◌^◌, ◌<◌, ◌≤◌, Bool, true, false, not, ◌&&◌, ◌||◌, List, [], ◌∷◌, length, map, reverse, zero, suc, refl, arith, below_more, codes, ◌∙◌, cond}
+use Rattle.std.specs.Prelude.{nat_lt, if◌then◌else◌}
 use Rattle.std.proofs.lemmas.Bool.{and_parts, or_cases, false≢true, ltb-true}
 use Rattle.cover_table.specs.Cover.{CoverOrder, IsLeastCover, covers, covers_each}
 use Rattle.caa_base.specs.declared.entry.Entry.{Entry}
@@ -15,6 +15,8 @@ use Rattle.place_plan.specs.declared.rows.Program.{Program}
 use Rattle.place_plan.specs.declared.rows.Step.{Step}
 use Rattle.place_plan.specs.declared.rows.AbortRow.{AbortRow}
 use Rattle.place_plan.specs.PlanValue.{Plan, GraphRow}
+use Rattle.place_plan.specs.Places.{initial_of}
+use Rattle.place_plan.specs.Objects.{value_of, value_outside, restores, writes, within_any}
 use Rattle.place_plan.specs.Roles.{over}
 use Rattle.place_plan.specs.Rules.{MayFollow}
 use Rattle.place_plan.specs.Journals.{LegalPast, IsLegal, IsComplete}
@@ -131,6 +133,10 @@ bits (b ∷ bs) = 2 ^ b + bits bs
 abbrev pub graph : List (List ℕ) → List (List ℕ) → GraphRow
 graph names covered = record { graph = record { count = length names; rows = map bits covered }; names = names }
 
+-- the graph that has universal alone
+abbrev pub plain_graph : GraphRow
+plain_graph = graph (codes "universal" ∷ []) ((universal ∷ []) ∷ [])
+
 abbrev pub object : List ℕ → ℕ → ObjectRow
 object name initial = record { name = name; initial = pos initial }
 
@@ -177,7 +183,7 @@ least_cover_from order xs x h =
     record {
       in_range = ltb-true _ _ parts.0;
       above = inner.0;
-      least = λ y l c. implied (covers_each order y xs) (covers order y x) (at_below order.count _ inner.1 y l) c
+      least = λ y l c. implied (covers_each order y xs) (covers order y x) (at_below order.count _ inner.1 y l) c;
     }
   where
     implied : (a b : Bool) → not a || b ≡ true → a ≡ true → b ≡ true
@@ -202,3 +208,25 @@ row_at plan (suc n) (e ∷ past) h = row_at plan n past h.0
 -- the rule that the entry with this index in a legal journal keeps
 pub rule_at : (plan : Plan) (journal : List Entry) (index : ℕ) → IsLegal plan journal → RowAt plan (length journal - suc index) (reverse journal)
 rule_at plan journal index h = row_at plan _ _ h
+
+-- ---- values, by one call for each entry
+
+abbrev pub value_along : Plan → ℕ → List ℕ → List Entry → ℤ
+value_along plan o undone [] = initial_of plan o
+value_along plan o undone (e ∷ past) =
+    if not (restores o e) && (writes o e && not (within_any plan e.place undone)) then e.value
+    else value_along plan o (if restores o e then e.place ∷ undone else undone) past
+
+pub value_outside_is : (plan : Plan) (o : ℕ) (undone : List ℕ) (past : List Entry) → value_outside plan o undone past ≡ value_along plan o undone past
+value_outside_is plan o undone [] = refl
+value_outside_is plan o undone (e ∷ past) =
+    choose (restores o e) (writes o e && not (within_any plan e.place undone)) (λ u. value_outside_is plan o u past)
+  where
+    choose : (r w : Bool) → ((u : List ℕ) → value_outside plan o u past ≡ value_along plan o u past) → cond r (value_outside plan o (e.place ∷ undone) past) (cond w e.value (value_outside plan o undone past)) ≡ cond (not r && w) e.value (value_along plan o (cond r (e.place ∷ undone) undone) past)
+    choose true w same = same (e.place ∷ undone)
+    choose false true same = refl
+    choose false false same = same undone
+
+-- the value of an object, computed so
+pub value_is : (plan : Plan) (o : ℕ) (past : List Entry) (v : ℤ) → value_along plan o [] past ≡ v → value_of plan o past ≡ v
+value_is plan o past v h = value_outside_is plan o [] past ∙ h
