@@ -18,7 +18,7 @@ use Rattle.place_plan.specs.Places.{internal_of}
 use Rattle.place_plan.specs.Objects.{value_of}
 use Rattle.place_plan.specs.Journals.{IsLegal, IsComplete, puts_of}
 use Rattle.place_plan.specs.Bound.{bound, place_bound, action_bound}
-use Rattle.place_plan.proofs.worked.Words.{arrive, withdraw, start, raise, inform, resolve, handle, verdict_done, undo, end_commit, leave, universal, plain_graph, graph, object, program, handler, play, inner, least_cover_from, complete_from, value_is}
+use Rattle.place_plan.proofs.worked.Words.{arrive, withdraw, start, raise, inform, resolve, handle, verdict_done, end_commit, leave, universal, plain_graph, graph, object, program, handler, play, inner, least_cover_from, complete_from, value_is}
 
 -- ---- the plan
 
