@@ -3,7 +3,7 @@
 -- The script:
 --   participant ann / participant bob / object x 5 / action look / use x / roles a b / body a / read x / body b /
 --   work 2 / end / play look ann bob
-use Rattle.std.proofs.Common.{◌≡◌, ℕ, pos, List, [], ◌∷◌, reverse, refl, codes}
+use Rattle.std.proofs.Common.{◌≡◌, ℕ, ℤ, pos, List, [], ◌∷◌, reverse, refl, codes, rules}
 use Rattle.caa_base.specs.Mixing.{mix, state_after}
 use Rattle.caa_base.specs.declared.entry.Entry.{Entry}
 use Rattle.caa_base.specs.declared.entry.Verdict.TheVariants as verdict
@@ -14,8 +14,11 @@ use Rattle.place_plan.specs.declared.rows.Step.TheVariants as step
 use Rattle.place_plan.specs.PlanValue.{Plan}
 use Rattle.place_plan.specs.Objects.{value_of}
 use Rattle.place_plan.specs.Journals.{IsLegal, IsComplete, puts_of}
+use Rattle.place_plan.specs.Laws.{last_write, is_kept}
 use Rattle.place_plan.specs.Bound.{bound, place_bound, action_bound}
-use Rattle.place_plan.proofs.worked.Words.{arrive, start, read, work, verdict_done, end_commit, leave, universal, plain_graph, object, program, play, complete_from, value_is}
+use Rattle.place_plan.proofs.worked.Words.{arrive, start, read, work, verdict_done, end_commit, leave}
+use Rattle.place_plan.proofs.worked.Words.{universal, plain_graph, object, program, play}
+use Rattle.place_plan.proofs.worked.Words.{complete_from, value_is, AreWellFormed}
 
 -- ---- the plan
 
@@ -105,6 +108,17 @@ values = value_is plan x (reverse journal) _ refl
 -- the puts that the device took
 pub puts : puts_of journal ≡ []
 puts = refl
+
+-- each entry has fields that fit its kind
+pub well_formed : AreWellFormed plan journal
+well_formed = search rules
+
+-- what the places leave that ended, with all round them, by commit or signal
+abbrev kept_value : ℕ → ℤ
+kept_value o = last_write plan o (λ e. is_kept plan (reverse journal) e.place) (reverse journal)
+
+pub kept_values : kept_value x ≡ pos 5
+kept_values = refl
 
 -- how many entries a journal of the plan may have
 pub bounded : bound plan ≡ 23

@@ -3,7 +3,7 @@
 -- The script:
 --   participant ann / object x 1 / action inner / use x / roles r / body r / put x 5 / end / action outer / use x
 --   / roles s / nest n inner s / body s / enter n / undo / end / play outer ann
-use Rattle.std.proofs.Common.{◌≡◌, ℕ, pos, List, [], ◌∷◌, reverse, refl, codes}
+use Rattle.std.proofs.Common.{◌≡◌, ℕ, ℤ, pos, List, [], ◌∷◌, reverse, refl, codes, rules}
 use Rattle.caa_base.specs.declared.entry.Entry.{Entry}
 use Rattle.caa_base.specs.declared.entry.Verdict.TheVariants as verdict
 use Rattle.place_plan.specs.declared.rows.AbortRow.TheVariants as abort
@@ -14,8 +14,11 @@ use Rattle.place_plan.specs.declared.rows.Step.TheVariants as step
 use Rattle.place_plan.specs.PlanValue.{Plan}
 use Rattle.place_plan.specs.Objects.{value_of}
 use Rattle.place_plan.specs.Journals.{IsLegal, IsComplete, puts_of}
+use Rattle.place_plan.specs.Laws.{last_write, is_kept}
 use Rattle.place_plan.specs.Bound.{bound, place_bound, action_bound}
-use Rattle.place_plan.proofs.worked.Words.{arrive, start, write, verdict_done, verdict_undo, undo, restore_well, end_commit, end_undone, leave, universal, plain_graph, object, program, play, inner, complete_from, value_is}
+use Rattle.place_plan.proofs.worked.Words.{arrive, start, write, verdict_done, verdict_undo, undo, restore_well, end_commit, end_undone, leave}
+use Rattle.place_plan.proofs.worked.Words.{universal, plain_graph, object, program, play, inner}
+use Rattle.place_plan.proofs.worked.Words.{complete_from, value_is, AreWellFormed}
 
 -- ---- the plan
 
@@ -125,6 +128,17 @@ values = value_is plan x (reverse journal) _ refl
 -- the puts that the device took
 pub puts : puts_of journal ≡ (x, pos 5) ∷ (x, pos 1) ∷ []
 puts = refl
+
+-- each entry has fields that fit its kind
+pub well_formed : AreWellFormed plan journal
+well_formed = search rules
+
+-- what the places leave that ended, with all round them, by commit or signal
+abbrev kept_value : ℕ → ℤ
+kept_value o = last_write plan o (λ e. is_kept plan (reverse journal) e.place) (reverse journal)
+
+pub kept_values : kept_value x ≡ pos 1
+kept_values = refl
 
 -- how many entries a journal of the plan may have
 pub bounded : bound plan ≡ 28

@@ -5,7 +5,7 @@
 --   exception right / exception far / cover mid left / cover mid right / end / action duo / internal tree / use x
 --   y / roles a b / body a / raise left / body b / raise left / handler a mid / put x 1 / handler b mid / put y 2
 --   / end / play duo ann bob
-use Rattle.std.proofs.Common.{◌≡◌, ℕ, pos, List, [], ◌∷◌, reverse, refl, codes}
+use Rattle.std.proofs.Common.{◌≡◌, ℕ, ℤ, pos, List, [], ◌∷◌, reverse, refl, codes, rules}
 use Rattle.cover_table.specs.Cover.{IsLeastCover}
 use Rattle.caa_base.specs.declared.entry.Entry.{Entry}
 use Rattle.caa_base.specs.declared.entry.Verdict.TheVariants as verdict
@@ -17,8 +17,11 @@ use Rattle.place_plan.specs.PlanValue.{Plan, GraphRow}
 use Rattle.place_plan.specs.Places.{internal_of}
 use Rattle.place_plan.specs.Objects.{value_of}
 use Rattle.place_plan.specs.Journals.{IsLegal, IsComplete, puts_of}
+use Rattle.place_plan.specs.Laws.{last_write, is_kept}
 use Rattle.place_plan.specs.Bound.{bound, place_bound, action_bound}
-use Rattle.place_plan.proofs.worked.Words.{arrive, start, raise, resolve, verdict_undo, undo, restore_well, end_undone, leave, universal, plain_graph, graph, object, program, handler, play, least_cover_from, complete_from, value_is}
+use Rattle.place_plan.proofs.worked.Words.{arrive, start, raise, resolve, verdict_undo, undo, restore_well, end_undone, leave}
+use Rattle.place_plan.proofs.worked.Words.{universal, plain_graph, graph, object, program, handler, play}
+use Rattle.place_plan.proofs.worked.Words.{least_cover_from, complete_from, value_is, AreWellFormed}
 
 -- ---- the plan
 
@@ -55,7 +58,8 @@ tree_graph =
     ∷ (mid ∷ left ∷ right ∷ [])
     ∷ (left ∷ [])
     ∷ (right ∷ [])
-    ∷ (far ∷ []) ∷ [])
+    ∷ (far ∷ [])
+    ∷ [])
 
 abbrev pub duo_a : RoleRow
 duo_a =
@@ -137,6 +141,17 @@ values = (value_is plan x (reverse journal) _ refl, value_is plan y (reverse jou
 -- the puts that the device took
 pub puts : puts_of journal ≡ (x, pos 5) ∷ (y, pos 0) ∷ []
 puts = refl
+
+-- each entry has fields that fit its kind
+pub well_formed : AreWellFormed plan journal
+well_formed = search rules
+
+-- what the places leave that ended, with all round them, by commit or signal
+abbrev kept_value : ℕ → ℤ
+kept_value o = last_write plan o (λ e. is_kept plan (reverse journal) e.place) (reverse journal)
+
+pub kept_values : (kept_value x ≡ pos 5) × (kept_value y ≡ pos 0)
+kept_values = (refl, refl)
 
 -- how many entries a journal of the plan may have
 pub bounded : bound plan ≡ 26

@@ -264,6 +264,10 @@ commits_for_undo = replaced 5 (end_commit 0 ann) undo_asked.journal
 pub commits_for_undo_is_illegal : IsLegal undo_asked.plan commits_for_undo → ⊥
 commits_for_undo_is_illegal h = absurd (true≢false (rule_at undo_asked.plan commits_for_undo 5 h).how.kept)
 
+-- what stands before the refused commit is legal
+pub commits_after_doom_until_then : IsLegal three_levels.plan (take 10 commits_after_doom)
+commits_after_doom_until_then = assumption
+
 -- ---- a journal that breaks off
 
 -- a journal that stops before the last role has left

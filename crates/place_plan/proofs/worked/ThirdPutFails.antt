@@ -4,7 +4,7 @@
 --   participant ann / object x 0 / drill x 3 / graph g / exception broken / end / action tri / internal g / fault
 --   broken / use x / roles r / body r / put x 1 / put x 2 / put x 3 / handler r broken / put x 4 / end / play tri
 --   ann
-use Rattle.std.proofs.Common.{◌≡◌, ℕ, pos, List, [], ◌∷◌, reverse, refl, codes}
+use Rattle.std.proofs.Common.{◌≡◌, ℕ, ℤ, pos, List, [], ◌∷◌, reverse, refl, codes, rules}
 use Rattle.cover_table.specs.Cover.{IsLeastCover}
 use Rattle.caa_base.specs.declared.entry.Entry.{Entry}
 use Rattle.caa_base.specs.declared.entry.Verdict.TheVariants as verdict
@@ -16,8 +16,11 @@ use Rattle.place_plan.specs.PlanValue.{Plan, GraphRow}
 use Rattle.place_plan.specs.Places.{internal_of}
 use Rattle.place_plan.specs.Objects.{value_of}
 use Rattle.place_plan.specs.Journals.{IsLegal, IsComplete, puts_of, committed}
+use Rattle.place_plan.specs.Laws.{last_write, is_kept}
 use Rattle.place_plan.specs.Bound.{bound, place_bound, action_bound}
-use Rattle.place_plan.proofs.worked.Words.{arrive, start, write, put_fault, resolve, handle, verdict_done, end_commit, leave, universal, plain_graph, graph, object, program, handler, play, least_cover_from, complete_from, value_is}
+use Rattle.place_plan.proofs.worked.Words.{arrive, start, write, put_fault, resolve, handle, verdict_done, end_commit, leave}
+use Rattle.place_plan.proofs.worked.Words.{universal, plain_graph, graph, object, program, handler, play}
+use Rattle.place_plan.proofs.worked.Words.{least_cover_from, complete_from, value_is, AreWellFormed}
 
 -- ---- the plan
 
@@ -36,7 +39,8 @@ g_graph =
     graph
     (codes "universal" ∷ codes "broken" ∷ [])
     ((universal ∷ broken ∷ [])
-    ∷ (broken ∷ []) ∷ [])
+    ∷ (broken ∷ [])
+    ∷ [])
 
 abbrev pub tri_r : RoleRow
 tri_r =
@@ -110,6 +114,17 @@ puts = refl
 -- what the object holds by none, and by the one play that ended
 pub committed_values : (committed plan (reverse journal) 0 x ≡ pos 0) × (committed plan (reverse journal) 1 x ≡ pos 4)
 committed_values = (refl, refl)
+
+-- each entry has fields that fit its kind
+pub well_formed : AreWellFormed plan journal
+well_formed = search rules
+
+-- what the places leave that ended, with all round them, by commit or signal
+abbrev kept_value : ℕ → ℤ
+kept_value o = last_write plan o (λ e. is_kept plan (reverse journal) e.place) (reverse journal)
+
+pub kept_values : kept_value x ≡ pos 4
+kept_values = refl
 
 -- how many entries a journal of the plan may have
 pub bounded : bound plan ≡ 17

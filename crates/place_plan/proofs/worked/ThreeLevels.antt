@@ -6,7 +6,7 @@
 --   roles d / abort d bad / body d / put x 3 / end / action mid / interface f / use x / roles m / nest k deep m /
 --   abort m bad / body m / enter k / end / action outer / internal g / use x / roles a b / nest n mid a / map n
 --   bad bent / body a / enter n / body b / raise stop / handler a big / handler b big / end / play outer ann bob
-use Rattle.std.proofs.Common.{◌≡◌, ℕ, pos, List, [], ◌∷◌, reverse, refl, codes}
+use Rattle.std.proofs.Common.{◌≡◌, ℕ, ℤ, pos, List, [], ◌∷◌, reverse, refl, codes, rules}
 use Rattle.cover_table.specs.Cover.{IsLeastCover}
 use Rattle.caa_base.specs.declared.entry.Entry.{Entry}
 use Rattle.caa_base.specs.declared.entry.Verdict.TheVariants as verdict
@@ -19,8 +19,11 @@ use Rattle.place_plan.specs.PlanValue.{Plan, GraphRow}
 use Rattle.place_plan.specs.Places.{internal_of}
 use Rattle.place_plan.specs.Objects.{value_of}
 use Rattle.place_plan.specs.Journals.{IsLegal, IsComplete, puts_of}
+use Rattle.place_plan.specs.Laws.{last_write, is_kept}
 use Rattle.place_plan.specs.Bound.{bound, place_bound, action_bound}
-use Rattle.place_plan.proofs.worked.Words.{arrive, start, write, raise, resolve, handle, verdict_done, abort_naming, undo, restore_well, end_commit, end_aborted, leave, leave_carrying, universal, plain_graph, graph, object, program, handler, play, inner, least_cover_from, complete_from, value_is}
+use Rattle.place_plan.proofs.worked.Words.{arrive, start, write, raise, resolve, handle, verdict_done, abort_naming, undo, restore_well, end_commit, end_aborted, leave, leave_carrying}
+use Rattle.place_plan.proofs.worked.Words.{universal, plain_graph, graph, object, program, handler, play, inner}
+use Rattle.place_plan.proofs.worked.Words.{least_cover_from, complete_from, value_is, AreWellFormed}
 
 -- ---- the plan
 
@@ -50,7 +53,8 @@ g_graph =
     ((universal ∷ big ∷ stop ∷ bent ∷ [])
     ∷ (big ∷ stop ∷ bent ∷ [])
     ∷ (stop ∷ [])
-    ∷ (bent ∷ []) ∷ [])
+    ∷ (bent ∷ [])
+    ∷ [])
 
 abbrev pub bad : ℕ
 bad = 1
@@ -61,7 +65,8 @@ f_graph =
     graph
     (codes "universal" ∷ codes "bad" ∷ [])
     ((universal ∷ bad ∷ [])
-    ∷ (bad ∷ []) ∷ [])
+    ∷ (bad ∷ [])
+    ∷ [])
 
 abbrev pub deep_d : RoleRow
 deep_d =
@@ -223,6 +228,17 @@ values = value_is plan x (reverse journal) _ refl
 -- the puts that the device took
 pub puts : puts_of journal ≡ (x, pos 3) ∷ (x, pos 0) ∷ (x, pos 0) ∷ []
 puts = refl
+
+-- each entry has fields that fit its kind
+pub well_formed : AreWellFormed plan journal
+well_formed = search rules
+
+-- what the places leave that ended, with all round them, by commit or signal
+abbrev kept_value : ℕ → ℤ
+kept_value o = last_write plan o (λ e. is_kept plan (reverse journal) e.place) (reverse journal)
+
+pub kept_values : kept_value x ≡ pos 0
+kept_values = refl
 
 -- how many entries a journal of the plan may have
 pub bounded : bound plan ≡ 51

@@ -3,7 +3,7 @@
 -- The script:
 --   participant ann / object x 1 / object y 2 / action u / use x y / roles r / body r / put x 10 / put y 20 / undo
 --   / end / play u ann
-use Rattle.std.proofs.Common.{◌≡◌, ℕ, pos, List, [], ◌∷◌, reverse, refl, codes}
+use Rattle.std.proofs.Common.{◌≡◌, ℕ, ℤ, pos, List, [], ◌∷◌, reverse, refl, codes, rules}
 use Rattle.caa_base.specs.declared.entry.Entry.{Entry}
 use Rattle.caa_base.specs.declared.entry.Verdict.TheVariants as verdict
 use Rattle.place_plan.specs.declared.rows.AbortRow.TheVariants as abort
@@ -13,8 +13,11 @@ use Rattle.place_plan.specs.declared.rows.Step.TheVariants as step
 use Rattle.place_plan.specs.PlanValue.{Plan}
 use Rattle.place_plan.specs.Objects.{value_of}
 use Rattle.place_plan.specs.Journals.{IsLegal, IsComplete, puts_of}
+use Rattle.place_plan.specs.Laws.{last_write, is_kept}
 use Rattle.place_plan.specs.Bound.{bound, place_bound, action_bound}
-use Rattle.place_plan.proofs.worked.Words.{arrive, start, write, verdict_undo, undo, restore_well, end_undone, leave, universal, plain_graph, object, program, play, complete_from, value_is}
+use Rattle.place_plan.proofs.worked.Words.{arrive, start, write, verdict_undo, undo, restore_well, end_undone, leave}
+use Rattle.place_plan.proofs.worked.Words.{universal, plain_graph, object, program, play}
+use Rattle.place_plan.proofs.worked.Words.{complete_from, value_is, AreWellFormed}
 
 -- ---- the plan
 
@@ -90,6 +93,17 @@ values = (value_is plan x (reverse journal) _ refl, value_is plan y (reverse jou
 -- the puts that the device took
 pub puts : puts_of journal ≡ (x, pos 10) ∷ (y, pos 20) ∷ (x, pos 1) ∷ (y, pos 2) ∷ []
 puts = refl
+
+-- each entry has fields that fit its kind
+pub well_formed : AreWellFormed plan journal
+well_formed = search rules
+
+-- what the places leave that ended, with all round them, by commit or signal
+abbrev kept_value : ℕ → ℤ
+kept_value o = last_write plan o (λ e. is_kept plan (reverse journal) e.place) (reverse journal)
+
+pub kept_values : (kept_value x ≡ pos 1) × (kept_value y ≡ pos 2)
+kept_values = (refl, refl)
 
 -- how many entries a journal of the plan may have
 pub bounded : bound plan ≡ 16

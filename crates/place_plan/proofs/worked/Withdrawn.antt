@@ -4,7 +4,7 @@
 --   participant ann / participant bob / object x 0 / graph g / exception stop / end / action inner / use x / roles
 --   p q / body p / put x 5 / end / action outer / internal g / use x / roles a b / nest n inner a b / body a /
 --   enter n / body b / raise stop / enter n / handler a stop / handler b stop / end / play outer ann bob
-use Rattle.std.proofs.Common.{◌≡◌, ℕ, pos, List, [], ◌∷◌, reverse, refl, codes}
+use Rattle.std.proofs.Common.{◌≡◌, ℕ, ℤ, pos, List, [], ◌∷◌, reverse, refl, codes, rules}
 use Rattle.cover_table.specs.Cover.{IsLeastCover}
 use Rattle.caa_base.specs.declared.entry.Entry.{Entry}
 use Rattle.caa_base.specs.declared.entry.Verdict.TheVariants as verdict
@@ -17,8 +17,11 @@ use Rattle.place_plan.specs.PlanValue.{Plan, GraphRow}
 use Rattle.place_plan.specs.Places.{internal_of}
 use Rattle.place_plan.specs.Objects.{value_of}
 use Rattle.place_plan.specs.Journals.{IsLegal, IsComplete, puts_of}
+use Rattle.place_plan.specs.Laws.{last_write, is_kept}
 use Rattle.place_plan.specs.Bound.{bound, place_bound, action_bound}
-use Rattle.place_plan.proofs.worked.Words.{arrive, withdraw, start, raise, inform, resolve, handle, verdict_done, end_commit, leave, universal, plain_graph, graph, object, program, handler, play, inner, least_cover_from, complete_from, value_is}
+use Rattle.place_plan.proofs.worked.Words.{arrive, withdraw, start, raise, inform, resolve, handle, verdict_done, end_commit, leave}
+use Rattle.place_plan.proofs.worked.Words.{universal, plain_graph, graph, object, program, handler, play, inner}
+use Rattle.place_plan.proofs.worked.Words.{least_cover_from, complete_from, value_is, AreWellFormed}
 
 -- ---- the plan
 
@@ -40,7 +43,8 @@ g_graph =
     graph
     (codes "universal" ∷ codes "stop" ∷ [])
     ((universal ∷ stop ∷ [])
-    ∷ (stop ∷ []) ∷ [])
+    ∷ (stop ∷ [])
+    ∷ [])
 
 abbrev pub inner_p : RoleRow
 inner_p =
@@ -166,6 +170,17 @@ values = value_is plan x (reverse journal) _ refl
 -- the puts that the device took
 pub puts : puts_of journal ≡ []
 puts = refl
+
+-- each entry has fields that fit its kind
+pub well_formed : AreWellFormed plan journal
+well_formed = search rules
+
+-- what the places leave that ended, with all round them, by commit or signal
+abbrev kept_value : ℕ → ℤ
+kept_value o = last_write plan o (λ e. is_kept plan (reverse journal) e.place) (reverse journal)
+
+pub kept_values : kept_value x ≡ pos 0
+kept_values = refl
 
 -- how many entries a journal of the plan may have
 pub bounded : bound plan ≡ 48

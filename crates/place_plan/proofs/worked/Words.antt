@@ -19,6 +19,7 @@ use Rattle.place_plan.specs.Places.{initial_of}
 use Rattle.place_plan.specs.Objects.{value_of, value_outside, restores, writes, within_any}
 use Rattle.place_plan.specs.Roles.{over}
 use Rattle.place_plan.specs.Rules.{MayFollow}
+use Rattle.place_plan.specs.WellFormed.{IsWellFormed}
 use Rattle.place_plan.specs.Journals.{LegalPast, IsLegal, IsComplete}
 
 -- ---- entries, as in the text of a journal: the place, who made it, and what it says
@@ -193,6 +194,11 @@ least_cover_from order xs x h =
 -- a journal is complete where all its participants are over
 pub complete_from : (plan : Plan) (journal : List Entry) → all_below (length plan.participants) (over plan (reverse journal)) ≡ true → IsComplete plan journal
 complete_from plan journal h = at_below _ _ h
+
+-- each entry has fields that fit its kind
+abbrev pub AreWellFormed : Plan → List Entry → Type 0
+AreWellFormed plan [] = Unit {0}
+AreWellFormed plan (e ∷ entries) = IsWellFormed plan e × AreWellFormed plan entries
 
 -- the rule that the nth newest entry keeps
 abbrev pub RowAt : Plan → ℕ → List Entry → Type 0
