@@ -114,19 +114,19 @@ module _ (plan : Plan) (fine : IsFlat plan) (past : List Entry) (legal : LegalPa
   agreed_may t p e here on h =
       elim (chosen (all_given plan p past) _ _ _ h) [
         | inl a ↦ subst (λ b. MayFollow plan past b × (b.by ≡ t)) (some_same a.1) (
-            record {
-              here = here;
-              how = rw ((still plan fine past legal).kept p) (record {
-                goes = rw (on, (still plan fine past legal).kept p) refl;
-                spared = rw (fine.flat p) refl;
-                agreed = a.0;
-                kept = no_undo_wanted plan fine past legal p (roles_of plan p);
-                outcome = rw (no_signals plan fine past legal p (roles_of plan p)) (refl, refl);
-              });
-              value = refl;
-            },
-            refl,
-          )
+          record {
+            here = here;
+            how = rw ((still plan fine past legal).kept p) (record {
+              goes = rw (on, (still plan fine past legal).kept p) refl;
+              spared = rw (fine.flat p) refl;
+              agreed = a.0;
+              kept = no_undo_wanted plan fine past legal p (roles_of plan p);
+              outcome = rw (no_signals plan fine past legal p (roles_of plan p)) (refl, refl);
+            });
+            value = refl;
+          },
+          refl,
+        )
         | inr a ↦ absurd cc
       ]
 

@@ -150,12 +150,13 @@ one_or_none plan past right (suc n) l =
   where
     quiet : due_of plan past n ≡ None → Silent plan past n
     quiet d e same k = let a = right.only e k in let c : due_of plan past e.by ≡ due_of plan past n = ap (due_of plan past) same in cc
+
     by_due : (o : Option Entry) → due_of plan past n ≡ o → ((t : ℕ) → t < n → Silent plan past t) → HasEntry plan past ⊎ ((t : ℕ) → t < suc n → Silent plan past t)
     by_due (Some e) d rest = let m = right.may n e d in inl (record { entry = e; known = rw m.1 (omega arith); may = m.0 })
     by_due None d rest = inr (λ t b. elim (cases_eq t n) [
-        | inl same ↦ subst (Silent plan past) (sym same) (quiet d)
-        | inr other ↦ rest t (omega arith)
-      ])
+      | inl same ↦ subst (Silent plan past) (sym same) (quiet d)
+      | inr other ↦ rest t (omega arith)
+    ])
 
 -- as long as a participant isn't over, some participant has an entry
 pub goes_on : (plan : Plan) → IsFlat plan → Holds GoesOn plan

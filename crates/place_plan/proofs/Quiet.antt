@@ -174,6 +174,7 @@ module _ (plan : Plan) (fine : IsFlat plan) where
     where
       zero_mark : verdict_at (of_kind kind.Verdict e) ≡ verdict.Done
       zero_mark = rw (due_done past s e.by e.place (of_kind kind.Verdict e) h.due) refl
+
       marked : (p t : ℕ) (b : Bool) → is_undo (cond b (Some (verdict_at (of_kind kind.Verdict e))) (verdict_of p past t)) ≡ false
       marked p t true = rw zero_mark refl
       marked p t false = s.agreeing p t

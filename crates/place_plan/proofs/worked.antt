@@ -1,5 +1,6 @@
 -- Journals worked by hand from the rules, shown legal and complete by computing.
 pub mod Words
+pub mod Drafts
 pub mod Spoiled
 pub mod EndedNotAllLeft
 pub mod FirstPath

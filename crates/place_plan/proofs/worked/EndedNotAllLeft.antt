@@ -18,9 +18,10 @@ use Rattle.place_plan.specs.Places.{internal_of}
 use Rattle.place_plan.specs.Objects.{value_of}
 use Rattle.place_plan.specs.Journals.{IsLegal, IsComplete, puts_of}
 use Rattle.place_plan.specs.Laws.{last_write, is_kept}
-use Rattle.place_plan.specs.Bound.{bound, place_bound, action_bound}
-use Rattle.place_plan.proofs.worked.Words.{arrive, start, write, raise, inform, resolve, handle, verdict_done, end_commit, leave}
-use Rattle.place_plan.proofs.worked.Words.{universal, plain_graph, graph, object, program, handler, play, inner}
+use Rattle.place_plan.specs.Bound.{bound, action_bound}
+use Rattle.place_plan.specs.Unfolding.{plain_graph}
+use Rattle.place_plan.proofs.worked.Words.{arrive, start, write, raise, inform, resolve, handle, verdict_done, undo, end_commit, leave}
+use Rattle.place_plan.proofs.worked.Words.{universal, graph, object, program, handler, play, inner}
 use Rattle.place_plan.proofs.worked.Words.{least_cover_from, complete_from, value_is, AreWellFormed}
 
 -- ---- the plan
@@ -191,5 +192,5 @@ kept_values = refl
 
 -- how many entries a journal of the plan may have
 pub bounded : bound plan ≡ 48
-unfolding place_bound action_bound
+unfolding action_bound
 bounded = refl

@@ -3,7 +3,7 @@
 -- The script:
 --   participant ann / object x 1 / drill x 2 / action inner / use x / roles r / body r / put x 5 / undo / end /
 --   action outer / use x / roles s / nest n inner s / body s / enter n / end / play outer ann
-use Rattle.std.proofs.Common.{◌≡◌, ℕ, pos, List, [], ◌∷◌, reverse, refl, codes, rules}
+use Rattle.std.proofs.Common.{◌≡◌, ℕ, ℤ, pos, List, [], ◌∷◌, reverse, refl, codes, rules}
 use Rattle.cover_table.specs.Cover.{IsLeastCover}
 use Rattle.caa_base.specs.declared.entry.Entry.{Entry}
 use Rattle.caa_base.specs.declared.entry.Verdict.TheVariants as verdict
@@ -16,9 +16,10 @@ use Rattle.place_plan.specs.PlanValue.{Plan}
 use Rattle.place_plan.specs.Places.{internal_of}
 use Rattle.place_plan.specs.Objects.{value_of}
 use Rattle.place_plan.specs.Journals.{IsLegal, IsComplete, puts_of}
-use Rattle.place_plan.specs.Bound.{bound, place_bound, action_bound}
+use Rattle.place_plan.specs.Bound.{bound, action_bound}
+use Rattle.place_plan.specs.Unfolding.{plain_graph}
 use Rattle.place_plan.proofs.worked.Words.{arrive, start, write, resolve, verdict_undo, undo, restore_well, restore_failed, end_undone, end_failed, leave, leave_carrying}
-use Rattle.place_plan.proofs.worked.Words.{universal, plain_graph, object, program, play, inner}
+use Rattle.place_plan.proofs.worked.Words.{universal, object, program, play, inner}
 use Rattle.place_plan.proofs.worked.Words.{least_cover_from, complete_from, value_is, AreWellFormed}
 
 -- ---- the plan
@@ -143,5 +144,5 @@ well_formed = search rules
 
 -- how many entries a journal of the plan may have
 pub bounded : bound plan ≡ 28
-unfolding place_bound action_bound
+unfolding action_bound
 bounded = refl

@@ -14,9 +14,10 @@ use Rattle.place_plan.specs.PlanValue.{Plan}
 use Rattle.place_plan.specs.Objects.{value_of}
 use Rattle.place_plan.specs.Journals.{IsLegal, IsComplete, puts_of}
 use Rattle.place_plan.specs.Laws.{last_write, is_kept}
-use Rattle.place_plan.specs.Bound.{bound, place_bound, action_bound}
+use Rattle.place_plan.specs.Bound.{bound, action_bound}
+use Rattle.place_plan.specs.Unfolding.{plain_graph}
 use Rattle.place_plan.proofs.worked.Words.{arrive, start, write, verdict_undo, undo, restore_well, restore_failed, end_failed, leave}
-use Rattle.place_plan.proofs.worked.Words.{universal, plain_graph, object, program, play}
+use Rattle.place_plan.proofs.worked.Words.{universal, object, program, play}
 use Rattle.place_plan.proofs.worked.Words.{complete_from, value_is, AreWellFormed}
 
 -- ---- the plan
@@ -107,5 +108,5 @@ kept_values = refl
 
 -- how many entries a journal of the plan may have
 pub bounded : bound plan ≡ 16
-unfolding place_bound action_bound
+unfolding action_bound
 bounded = refl

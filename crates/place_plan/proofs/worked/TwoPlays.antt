@@ -14,9 +14,10 @@ use Rattle.place_plan.specs.PlanValue.{Plan}
 use Rattle.place_plan.specs.Objects.{value_of}
 use Rattle.place_plan.specs.Journals.{IsLegal, IsComplete, puts_of, committed}
 use Rattle.place_plan.specs.Laws.{last_write, is_kept}
-use Rattle.place_plan.specs.Bound.{bound, place_bound, action_bound}
+use Rattle.place_plan.specs.Bound.{bound, action_bound}
+use Rattle.place_plan.specs.Unfolding.{plain_graph}
 use Rattle.place_plan.proofs.worked.Words.{arrive, start, read, write, verdict_done, end_commit, leave}
-use Rattle.place_plan.proofs.worked.Words.{universal, plain_graph, object, program, play}
+use Rattle.place_plan.proofs.worked.Words.{universal, object, program, play}
 use Rattle.place_plan.proofs.worked.Words.{complete_from, value_is, AreWellFormed}
 
 -- ---- the plan
@@ -119,5 +120,5 @@ kept_values = refl
 
 -- how many entries a journal of the plan may have
 pub bounded : bound plan ≡ 30
-unfolding place_bound action_bound
+unfolding action_bound
 bounded = refl

@@ -1,5 +1,5 @@
 -- Words in which worked plans and journals are written, and what computing shows of them.
-use Rattle.std.proofs.Common.{◌≡◌, ℕ, ℤ, pos, ◌+◌, ◌-◌, ◌^◌, ◌<◌, Bool, true, false, not, ◌&&◌, ◌||◌, List, [], ◌∷◌, length, map, reverse, zero, suc, refl, arith, below_more, codes, ◌∙◌, cond}
+use Rattle.std.proofs.Common.{◌≡◌, ℕ, ℤ, pos, ◌+◌, ◌-◌, ◌^◌, ◌<◌, Bool, true, false, not, ◌&&◌, ◌||◌, List, [], ◌∷◌, length, map, reverse, zero, suc, refl, arith, below_more, ◌∙◌, cond}
 use Rattle.std.specs.Prelude.{nat_lt, if◌then◌else◌}
 use Rattle.std.proofs.lemmas.Bool.{and_parts, false≢true, ltb-true}
 use Rattle.cover_table.specs.Cover.{CoverOrder, IsLeastCover, covers, covers_each}
@@ -133,10 +133,6 @@ bits (b ∷ bs) = 2 ^ b + bits bs
 -- a graph of these names, with what each of its exceptions covers, itself among them
 abbrev pub graph : List (List ℕ) → List (List ℕ) → GraphRow
 graph names covered = record { graph = record { count = length names; rows = map bits covered }; names = names }
-
--- the graph that has universal alone
-abbrev pub plain_graph : GraphRow
-plain_graph = graph (codes "universal" ∷ []) ((universal ∷ []) ∷ [])
 
 abbrev pub object : List ℕ → ℕ → ObjectRow
 object name initial = record { name = name; initial = pos initial }
