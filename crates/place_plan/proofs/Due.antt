@@ -1,11 +1,10 @@
 -- In a flat plan the rules give each participant at most one entry, which is computed from the past.
-use Rattle.std.proofs.Common.{◌≡◌, ℕ, ℤ, pos, ◌==◌, ◌<◌, Bool, true, false, not, cond, ◌&&◌, ◌||◌, List, [], ◌∷◌, ◌++◌, Some, None, Option, refl, sym, ap, ◌∙◌, subst, subst₂, arith, rules, suc, zero, length, inl, inr, ◌⊎◌, MatchOption, is_none}
-use Rattle.std.proofs.lemmas.Bool.{and_parts, and_from, or_cases, false≢true, not-true, not_from_false, false_from_ne_true, both_ways}
+use Rattle.std.proofs.Common.{◌≡◌, ℕ, ℤ, pos, Bool, true, false, not, cond, ◌&&◌, List, [], Some, None, Option, refl, sym, ap, subst, inl, inr, MatchOption, is_none}
+use Rattle.std.proofs.lemmas.Bool.{and_parts, or_cases, not-true, false_from_ne_true, both_ways}
 use Rattle.caa_base.specs.Mixing.{mix}
 use Rattle.caa_base.specs.declared.entry.Entry.{Entry}
 use Rattle.caa_base.specs.declared.entry.Kind.{Kind}
 use Rattle.caa_base.specs.declared.entry.Kind.TheVariants as kind
-use Rattle.caa_base.specs.declared.entry.Verdict.{Verdict}
 use Rattle.caa_base.specs.declared.entry.Verdict.TheVariants as verdict
 use Rattle.place_plan.specs.declared.rows.Step.{Step}
 use Rattle.place_plan.specs.declared.rows.Step.TheVariants as step
@@ -14,12 +13,12 @@ use Rattle.place_plan.specs.Places.{roles_of}
 use Rattle.place_plan.specs.Whereabouts.{inside, all_inside, started, ended, live, going}
 use Rattle.place_plan.specs.Raising.{calm, hot, handling}
 use Rattle.place_plan.specs.Objects.{objects_ready, value_of}
-use Rattle.place_plan.specs.Roles.{register, position, program_of, next_step, given, all_given, able, in_handler, next_play, over}
+use Rattle.place_plan.specs.Roles.{register, program_of, next_step, given, all_given, able, in_handler, next_play}
 use Rattle.place_plan.specs.Rules.{MayFollow, SaysVerdict, verdict_due}
 use Rattle.place_plan.specs.Journals.{LegalPast}
 use Rattle.place_plan.specs.Laws.{Holds, AtMostOne, Silent, as_taken}
 use Rattle.place_plan.specs.Flat.{IsFlat, IsQuietStep, StaysQuiet}
-use Rattle.place_plan.specs.Due.{says, plainly, due_outside, due_waiting, due_step, due_agreed, due_calm, due_inside, due_at, due_of, DueIsRight}
+use Rattle.place_plan.specs.Due.{says, plainly, due_outside, due_waiting, due_step, due_agreed, due_calm, due_at, due_of, DueIsRight}
 use Rattle.place_plan.proofs.Words.{all_at, chosen}
 use Rattle.place_plan.proofs.Entries.{of_kind}
 use Rattle.place_plan.proofs.Quiet.{QuietRow, still, only_quiet, not_hot, due_cold, next_step_quiet, no_parent, arrives_at_next, inside_has_role}
@@ -39,7 +38,7 @@ none_is (Some x) h = absurd cc
 
 module _ (plan : Plan) (fine : IsFlat plan) (past : List Entry) (legal : LegalPast plan past) where
   -- who is able is in a live place and has given no verdict
-  able_parts : (p t : ℕ) → able plan p past t ≡ true → (live p past ≡ true) × (given plan p past t ≡ false)
+  pub able_parts : (p t : ℕ) → able plan p past t ≡ true → (live p past ≡ true) × (given plan p past t ≡ false)
   able_parts p t h =
       elim (or_cases (calm plan p past && not (given plan p past t)) (hot plan p past && in_handler p t past) h) [
         | inl w ↦

@@ -1,9 +1,8 @@
 -- In a flat plan some participant has an entry, as long as one isn't over.
-use Rattle.std.proofs.Common.{◌≡◌, ℕ, ℤ, pos, ◌==◌, ◌<◌, ◌≤◌, Bool, true, false, not, cond, ◌&&◌, ◌||◌, List, [], ◌∷◌, Some, None, Option, refl, sym, ap, ◌∙◌, subst, subst₂, arith, suc, zero, length, inl, inr, ◌⊎◌}
-use Rattle.std.proofs.lemmas.Bool.{and_parts, and_from, or_cases, or_left, or_right, eqb-true, eq-eqb, false≢true, not-true, not_from_false, false_from_ne_true, true_from_ne_false, both_ways, cases_order, cases_eq}
+use Rattle.std.proofs.Common.{◌≡◌, ℕ, ◌<◌, ◌≤◌, true, false, List, [], ◌∷◌, Some, None, Option, refl, sym, ap, subst, arith, suc, zero, length, inl, inr, ◌⊎◌}
+use Rattle.std.proofs.lemmas.Bool.{or_left, eq-eqb, false_from_ne_true, true_from_ne_false, both_ways, cases_order, cases_eq}
 use Rattle.caa_base.specs.Mixing.{mix}
 use Rattle.caa_base.specs.declared.entry.Entry.{Entry}
-use Rattle.caa_base.specs.declared.entry.Kind.{Kind}
 use Rattle.caa_base.specs.declared.entry.Kind.TheVariants as kind
 use Rattle.place_plan.specs.declared.rows.Step.{Step}
 use Rattle.place_plan.specs.declared.rows.Step.TheVariants as step
@@ -11,11 +10,10 @@ use Rattle.place_plan.specs.PlanValue.{Plan}
 use Rattle.place_plan.specs.Words.{member, same_option, is_empty, first_not}
 use Rattle.place_plan.specs.Places.{parent, roles_of, objects_of, plays_of}
 use Rattle.place_plan.specs.Entries.{has_by}
-use Rattle.place_plan.specs.Whereabouts.{inside, all_inside, is_inside, started, ended, live}
+use Rattle.place_plan.specs.Whereabouts.{inside, is_inside, started, ended, live}
 use Rattle.place_plan.specs.Raising.{handling}
 use Rattle.place_plan.specs.Objects.{holder, value_of}
 use Rattle.place_plan.specs.Roles.{register, next_step, given, all_given, next_play}
-use Rattle.place_plan.specs.Rules.{MayFollow}
 use Rattle.place_plan.specs.Journals.{LegalPast, AllOver}
 use Rattle.place_plan.specs.Laws.{Holds, GoesOn, HasEntry, Silent}
 use Rattle.place_plan.specs.Flat.{IsFlat, IsQuietStep}

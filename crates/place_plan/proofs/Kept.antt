@@ -1,14 +1,12 @@
 -- What every legal past of a flat plan keeps.
-use Rattle.std.proofs.Common.{◌≡◌, ℕ, ℤ, pos, ◌==◌, ◌<◌, Bool, true, false, not, cond, ◌&&◌, ◌||◌, List, [], ◌∷◌, ◌++◌, Some, None, Option, refl, sym, ap, ◌∙◌, subst, subst₂, arith, rules, suc, zero, length, inl, inr, ◌⊎◌, MatchOption, is_none}
-use Rattle.std.specs.List.{list_any, list_all}
-use Rattle.std.proofs.lemmas.Bool.{and_parts, and_from, or_cases, or_left, or_right, or_parts, or_from, eqb-true, eq-eqb, false≢true, not-true, not_from_false, and_left, and_right, cases_Bool, false_from_ne_true, both_ways, MatchBool-at_false}
+use Rattle.std.proofs.Common.{◌≡◌, ℕ, ◌==◌, ◌<◌, Bool, true, false, not, cond, ◌&&◌, List, [], ◌∷◌, Some, None, Option, refl, sym, ap, subst, subst₂, inl, inr, ◌⊎◌, MatchOption, is_none}
+use Rattle.std.specs.List.{list_any}
+use Rattle.std.proofs.lemmas.Bool.{and_parts, and_from, or_cases, or_left, or_right, or_parts, or_from, eqb-true, eq-eqb, false≢true, not-true, not_from_false, and_right, cases_Bool, false_from_ne_true, both_ways, MatchBool-at_false}
 use Rattle.caa_base.specs.declared.entry.Entry.{Entry}
 use Rattle.caa_base.specs.declared.entry.Kind.{Kind}
 use Rattle.caa_base.specs.declared.entry.Kind.TheVariants as kind
 use Rattle.caa_base.specs.declared.entry.Verdict.{Verdict}
 use Rattle.caa_base.specs.declared.entry.Verdict.TheVariants as verdict
-use Rattle.place_plan.specs.declared.rows.Step.{Step}
-use Rattle.place_plan.specs.declared.rows.Step.TheVariants as step
 use Rattle.place_plan.specs.PlanValue.{Plan}
 use Rattle.place_plan.specs.Words.{member, same_option}
 use Rattle.place_plan.specs.Places.{parent, roles_of, uses, objects_of, initial_of, plays_of}
@@ -17,7 +15,7 @@ use Rattle.place_plan.specs.Whereabouts.{inside, all_inside, is_inside, started,
 use Rattle.place_plan.specs.Raising.{calm, handling}
 use Rattle.place_plan.specs.Objects.{holder, value_outside}
 use Rattle.place_plan.specs.Roles.{given, next_step, program_of, verdict_at, verdict_of, is_undo, signals, next_play}
-use Rattle.place_plan.specs.Rules.{MayEnd, EndsAgreed, MayArrive, SaysVerdict, verdict_due}
+use Rattle.place_plan.specs.Rules.{MayEnd, EndsAgreed, SaysVerdict, verdict_due}
 use Rattle.place_plan.specs.Journals.{LegalPast}
 use Rattle.place_plan.specs.Flat.{IsFlat}
 use Rattle.place_plan.proofs.Words.{all_at, at_same, chosen, first_not_before, in_plays, plays_rise}

@@ -1,6 +1,6 @@
 -- A journal is legal in one way at most.
-use Rattle.std.proofs.Common.{◌≡◌, ◌<◌, ℕ, suc, ℤ, pos, Bool, true, false, List, [], ◌∷◌, Option, Some, None, refl, MatchOption, MatchBool}
-use Rattle.std.specs.Coded.{Coded, Coded-set, coded_ℕ, coded_ℤ, coded_bool, coded_option, coded×, ×_prop, Unit-prop}
+use Rattle.std.proofs.Common.{◌<◌, ℕ, ℤ, Bool, true, false, List, [], ◌∷◌, Option, Some, None, MatchOption, MatchBool}
+use Rattle.std.specs.Coded.{Coded-set, coded_ℕ, coded_ℤ, coded_bool, coded_option, coded×, ×_prop, Unit-prop}
 use Rattle.std.proofs.Math.Bridge.{le_prop}
 use mathlib.Core.Sum.{⊎_set}
 use Rattle.caa_base.specs.declared.entry.Entry.{Entry}
@@ -9,9 +9,7 @@ use Rattle.caa_base.specs.declared.entry.Kind.TheVariants as kind
 use Rattle.caa_base.specs.declared.entry.Verdict.{Verdict}
 use Rattle.caa_base.specs.declared.entry.Verdict.TheVariants as verdict
 use Rattle.place_plan.specs.PlanValue.{Plan}
-use Rattle.place_plan.specs.declared.rows.Step.{Step}
-use Rattle.place_plan.specs.declared.rows.Step.TheVariants as step
-use Rattle.place_plan.specs.Rules.{Row, MayFollow, SaysVerdict, Names, SignalsLeast, HaveAgreed}
+use Rattle.place_plan.specs.Rules.{Row, MayFollow, SaysVerdict, Names, SignalsLeast}
 use Rattle.place_plan.specs.Journals.{LegalPast}
 
 numbers-set : IsSet ℕ

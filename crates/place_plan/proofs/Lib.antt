@@ -7,4 +7,14 @@ pub mod Over
 pub mod Due
 pub mod GoesOn
 pub mod Bound
+pub mod WellFormed
+pub mod Tree
+pub mod Busy
+pub mod InnerFirst
+pub mod TreeFlat
+pub mod Innermost
+pub mod Holding
+pub mod Isolation
+pub mod Exit
+pub mod FlatLaws
 pub mod worked

@@ -1,6 +1,6 @@
 -- In a flat plan a participant is over just when it is in no place and has no next play.
-use Rattle.std.proofs.Common.{◌≡◌, ℕ, ◌==◌, ◌<◌, ◌≤◌, Bool, true, false, not, cond, ◌&&◌, ◌||◌, List, [], ◌∷◌, Some, None, Option, refl, sym, ap, ◌∙◌, subst, subst₂, arith, inl, inr, ◌⊎◌}
-use Rattle.std.proofs.lemmas.Bool.{or_cases, or_left, or_right, false≢true, false_from_ne_true, true_from_ne_false, both_ways, cases_order, eqb-true, eq-eqb}
+use Rattle.std.proofs.Common.{◌≡◌, ℕ, ◌<◌, true, List, [], ◌∷◌, Some, None, Option, refl, sym, subst, subst₂, arith, inl, inr}
+use Rattle.std.proofs.lemmas.Bool.{or_cases, or_right, false≢true, true_from_ne_false, both_ways, cases_order}
 use Rattle.caa_base.specs.declared.entry.Entry.{Entry}
 use Rattle.caa_base.specs.declared.entry.Kind.{Kind}
 use Rattle.caa_base.specs.declared.entry.Kind.TheVariants as kind
@@ -15,7 +15,7 @@ use Rattle.place_plan.specs.Flat.{IsFlat}
 use Rattle.place_plan.proofs.Words.{first_not_none, first_not_nowhere, first_not_before, plays_in, in_plays, plays_rise, last_member, last_greatest, no_last}
 use Rattle.place_plan.proofs.Entries.{of_kind, both_same}
 use Rattle.place_plan.proofs.Quiet.{QuietRow, only_quiet, arrives_at_next, inside_has_role}
-use Rattle.place_plan.proofs.Kept.{left_arrived, arrived_inside, inside_not_left, arrived_earlier}
+use Rattle.place_plan.proofs.Kept.{left_arrived, arrived_inside, inside_not_left}
 
 module _ (plan : Plan) (fine : IsFlat plan) where
   -- who has arrived in a play has left each earlier play of its own

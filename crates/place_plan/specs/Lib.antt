@@ -16,3 +16,4 @@ pub mod Unfolding
 pub mod DraftRules
 pub mod Built
 pub mod Due
+pub mod Tree

@@ -1,5 +1,6 @@
 -- What the fields of an entry may be, by its kind, whatever stands before it.
 use Rattle.std.specs.Prelude.{◌≡◌, ℕ, ℤ, pos, negsuc, ◌≤ℤ◌, ◌<◌, ◌≤◌, List, length, Option, Some, None}
+use Rattle.std.specs.List.{All}
 use Rattle.cover_table.specs.Cover.{CoverOrder}
 use Rattle.caa_base.specs.declared.entry.Entry.{Entry}
 use Rattle.caa_base.specs.declared.entry.Kind.{Kind}
@@ -60,3 +61,7 @@ pub record IsWellFormed (plan : Plan) (e : Entry) : Type 0 where
   pub place : e.place < length plan.places
   pub by : e.by < length plan.participants
   pub fields : FieldsFit e.kind plan e
+
+-- each entry of a journal or a past is well formed
+abbrev pub AllWellFormed : Plan → List Entry → Type 0
+AllWellFormed plan entries = All (IsWellFormed plan) entries
