@@ -26,6 +26,11 @@ use Rattle.place_plan.proofs.worked.ThreeLevels as three_levels
 use Rattle.place_plan.proofs.worked.Withdrawn as withdrawn
 use Rattle.place_plan.proofs.worked.RaisedWhileUndoing as raised_while_undoing
 use Rattle.place_plan.proofs.worked.PutFailsInHandler as put_fails_in_handler
+use Rattle.place_plan.proofs.worked.SaturatingAdd as saturating_add
+use Rattle.place_plan.proofs.worked.MixingNegative as mixing_negative
+use Rattle.place_plan.proofs.worked.TestsDecide as tests_decide
+use Rattle.place_plan.proofs.worked.TwoSignals as two_signals
+use Rattle.place_plan.proofs.worked.FailureHandled as failure_handled
 
 -- the parts of this plan, with these plays
 abbrev pub draft_of : Plan → List PlayRow → Draft
@@ -75,6 +80,14 @@ two_plays_one_object_unfolds : UnfoldsInto (draft_of two_plays_one_object.plan (
 unfolding unfold_at depth_within action_bound
 two_plays_one_object_unfolds = record { whole = refl; same = refl }
 
+saturating_add_unfolds : UnfoldsInto (draft_of saturating_add.plan (play_of 0 (saturating_add.ann ∷ []) ∷ [])) saturating_add.plan
+unfolding unfold_at depth_within action_bound
+saturating_add_unfolds = record { whole = refl; same = refl }
+
+mixing_negative_unfolds : UnfoldsInto (draft_of mixing_negative.plan (play_of 0 (mixing_negative.ann ∷ []) ∷ [])) mixing_negative.plan
+unfolding unfold_at depth_within action_bound
+mixing_negative_unfolds = record { whole = refl; same = refl }
+
 -- ---- plans with graphs of their own: what their plays unfold into
 
 -- these plays of the actions of the plan unfold into its places, and into its plays among them
@@ -117,6 +130,18 @@ raised_while_undoing_unfolds = record { places = refl; tops = refl }
 put_fails_in_handler_unfolds : PlaysUnfold (play_of 0 (put_fails_in_handler.ann ∷ []) ∷ []) put_fails_in_handler.plan
 unfolding unfold_at
 put_fails_in_handler_unfolds = record { places = refl; tops = refl }
+
+tests_decide_unfolds : PlaysUnfold (play_of 1 (tests_decide.ann ∷ tests_decide.bob ∷ []) ∷ []) tests_decide.plan
+unfolding unfold_at
+tests_decide_unfolds = record { places = refl; tops = refl }
+
+two_signals_unfolds : PlaysUnfold (play_of 1 (two_signals.ann ∷ two_signals.bob ∷ []) ∷ []) two_signals.plan
+unfolding unfold_at
+two_signals_unfolds = record { places = refl; tops = refl }
+
+failure_handled_unfolds : PlaysUnfold (play_of 1 (failure_handled.ann ∷ []) ∷ []) failure_handled.plan
+unfolding unfold_at
+failure_handled_unfolds = record { places = refl; tops = refl }
 
 -- ---- two uses side by side, and two plays: a place comes before what is nested in it, and a use is whole before the next begins
 

@@ -1,10 +1,15 @@
 -- Worked journals, spoiled at one entry each: none is legal.
-use Rattle.std.proofs.Common.{ℕ, ◌++◌, List, [], ◌∷◌, suc, take, drop, arith, refl, sym, ◌∙◌, ap, ℤ, Option, Some, None}
+use Rattle.std.proofs.Common.{◌≡◌, ℕ, ◌++◌, List, [], ◌∷◌, suc, take, drop, arith, refl, sym, ◌∙◌, ap, ℤ, Option, Some, None}
 use Rattle.std.specs.Prelude.{nat_abs}
 use Rattle.std.proofs.lemmas.Bool.{false≢true, true≢false}
 use Rattle.caa_base.specs.declared.entry.Entry.{Entry}
+use Rattle.place_plan.specs.Roles.{over}
 use Rattle.place_plan.specs.Journals.{IsLegal, IsComplete}
-use Rattle.place_plan.proofs.worked.Words.{withdraw, read, work, write, raise, resolve, handle, verdict_done, abort, abort_naming, restore_well, end_commit, end_undone, leave, leave_carrying, universal, rule_at}
+use Rattle.place_plan.proofs.worked.Words.{withdraw, read, work, write, check, end_signal, raise, resolve, handle, verdict_done, abort, abort_naming, undo, restore_well, end_commit, end_undone, leave, leave_carrying, universal, rule_at}
+use Rattle.place_plan.proofs.worked.SaturatingAdd as saturating_add
+use Rattle.place_plan.proofs.worked.TestsDecide as tests_decide
+use Rattle.place_plan.proofs.worked.FailureHandled as failure_handled
+use Rattle.place_plan.proofs.worked.TwoSignals as two_signals
 use Rattle.place_plan.proofs.worked.FirstPath as first_path
 use Rattle.place_plan.proofs.worked.OrdinaryUse as ordinary_use
 use Rattle.place_plan.proofs.worked.TwoSiblings as two_siblings
@@ -169,6 +174,13 @@ restores_out_of_order = omitted 6 undo_asked.journal
 pub restores_out_of_order_is_illegal : IsLegal undo_asked.plan restores_out_of_order → ⊥
 restores_out_of_order_is_illegal h = let wrong = (rule_at undo_asked.plan restores_out_of_order 6 h).least in cc
 
+-- an add that leaves the range of values
+abbrev pub writes_past_the_range : List Entry
+writes_past_the_range = replaced 3 (write 0 ann x 1000000000004) saturating_add.journal
+
+pub writes_past_the_range_is_illegal : IsLegal saturating_add.plan writes_past_the_range → ⊥
+writes_past_the_range_is_illegal h = absurd (omega (arith, ap value_put (rule_at saturating_add.plan writes_past_the_range 3 h).puts))
+
 -- ---- wrong exceptions
 
 -- a Resolve to universal where a lesser exception covers all
@@ -213,7 +225,56 @@ aborts_silently = replaced 9 (abort 2 ann) three_levels.journal
 pub aborts_silently_is_illegal : IsLegal three_levels.plan aborts_silently → ⊥
 aborts_silently_is_illegal h = let wrong = (rule_at three_levels.plan aborts_silently 9 h).names.0 in cc
 
+-- an abort that is silent though its test is met
+abbrev pub aborts_untested : List Entry
+aborts_untested = replaced 9 (abort 1 ann) tests_decide.journal
+
+pub aborts_untested_is_illegal : IsLegal tests_decide.plan aborts_untested → ⊥
+aborts_untested_is_illegal h = let wrong = (rule_at tests_decide.plan aborts_untested 9 h).names.0 in cc
+
+-- a failure that is carried out as what it is not mapped to
+abbrev pub carries_unmapped : List Entry
+carries_unmapped = replaced 9 (leave_carrying 1 ann universal) failure_handled.journal
+
+pub carries_unmapped_is_illegal : IsLegal failure_handled.plan carries_unmapped → ⊥
+carries_unmapped_is_illegal h = let wrong = (rule_at failure_handled.plan carries_unmapped 9 h).carries.1 in cc
+
+-- a check that is passed over though its test is met
+abbrev pub passes_met_check : List Entry
+passes_met_check = replaced 6 (check 0 bob) informed_at_exit.journal
+
+pub passes_met_check_is_illegal : IsLegal informed_at_exit.plan passes_met_check → ⊥
+passes_met_check_is_illegal h = let wrong = (rule_at informed_at_exit.plan passes_met_check 6 h).passes in cc
+
 -- ---- wrong verdicts and ends
+
+-- a verdict in a doomed place
+abbrev pub says_done_after_doom : List Entry
+says_done_after_doom = inserted 9 (verdict_done 2 ann) three_levels.journal
+
+pub says_done_after_doom_is_illegal : IsLegal three_levels.plan says_done_after_doom → ⊥
+says_done_after_doom_is_illegal h = absurd (rule_at three_levels.plan says_done_after_doom 9 h).due
+
+-- a handler that says done where its next step raises
+abbrev pub says_done_before_raise : List Entry
+says_done_before_raise = replaced 17 (verdict_done 0 bob) two_signals.journal
+
+pub says_done_before_raise_is_illegal : IsLegal two_signals.plan says_done_before_raise → ⊥
+says_done_before_raise_is_illegal h = let wrong = (rule_at two_signals.plan says_done_before_raise 17 h).due.0 in cc
+
+-- an End with a signal that does not cover what another role signals
+abbrev pub signals_one_of_two : List Entry
+signals_one_of_two = replaced 9 (end_signal 1 ann two_signals.weak) two_signals.journal
+
+pub signals_one_of_two_is_illegal : IsLegal two_signals.plan signals_one_of_two → ⊥
+signals_one_of_two_is_illegal h = absurd (false≢true (rule_at two_signals.plan signals_one_of_two 9 h).how.outcome.1.above)
+
+-- an End with universal where a lesser exception covers all signals
+abbrev pub signals_universal : List Entry
+signals_universal = replaced 9 (end_signal 1 ann universal) two_signals.journal
+
+pub signals_universal_is_illegal : IsLegal two_signals.plan signals_universal → ⊥
+signals_universal_is_illegal h = absurd (false≢true ((rule_at two_signals.plan signals_universal 9 h).how.outcome.1.least two_signals.both (omega arith) refl))
 
 -- a verdict of another kind than the body has
 abbrev pub says_done_for_undo : List Entry
