@@ -157,11 +157,11 @@ inner around nest action roles children = record { around = around; nest = nest;
 -- ---- what computing shows
 
 -- each number below n passes the test
-abbrev pub all_below : ℕ → (ℕ → Bool) → Bool
-all_below zero test = true
-all_below (suc n) test = test n && all_below n test
+abbrev pub each_below : ℕ → (ℕ → Bool) → Bool
+each_below zero test = true
+each_below (suc n) test = test n && each_below n test
 
-pub at_below : (n : ℕ) (test : ℕ → Bool) → all_below n test ≡ true → (k : ℕ) → k < n → test k ≡ true
+pub at_below : (n : ℕ) (test : ℕ → Bool) → each_below n test ≡ true → (k : ℕ) → k < n → test k ≡ true
 at_below zero test h k l = absurd (omega arith)
 at_below (suc n) test h k l =
     let parts = and_parts _ _ h in
@@ -171,7 +171,7 @@ at_below (suc n) test h k l =
 abbrev pub is_least_cover : CoverOrder → List ℕ → ℕ → Bool
 is_least_cover order xs x =
     nat_lt x order.count
-    && (covers_each order x xs && all_below order.count (λ y. not (covers_each order y xs) || covers order y x))
+    && (covers_each order x xs && each_below order.count (λ y. not (covers_each order y xs) || covers order y x))
 
 pub least_cover_from : (order : CoverOrder) (xs : List ℕ) (x : ℕ) → is_least_cover order xs x ≡ true → IsLeastCover order xs x
 least_cover_from order xs x h =
@@ -188,7 +188,7 @@ least_cover_from order xs x h =
     implied false b h e = absurd (false≢true e)
 
 -- a journal is complete where all its participants are over
-pub complete_from : (plan : Plan) (journal : List Entry) → all_below (length plan.participants) (over plan (reverse journal)) ≡ true → IsComplete plan journal
+pub complete_from : (plan : Plan) (journal : List Entry) → each_below (length plan.participants) (over plan (reverse journal)) ≡ true → IsComplete plan journal
 complete_from plan journal h = at_below _ _ h
 
 -- each entry has fields that fit its kind
