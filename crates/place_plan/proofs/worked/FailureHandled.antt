@@ -4,7 +4,7 @@
 --   participant ann / object x 1 / drill x 2 / graph g / exception broken / end / action inner / use x / roles r /
 --   body r / put x 5 / undo / end / action outer / internal g / use x / roles s / nest n inner s / mapfailure n
 --   broken / body s / enter n / handler s broken / put x 7 / end / play outer ann
-use Rattle.std.proofs.Common.{◌≡◌, ℕ, ℤ, pos, List, [], ◌∷◌, reverse, refl, codes, rules}
+use Rattle.std.proofs.Common.{◌≡◌, ℕ, pos, List, [], ◌∷◌, reverse, refl, codes, rules}
 use Rattle.cover_table.specs.Cover.{IsLeastCover}
 use Rattle.caa_base.specs.declared.entry.Entry.{Entry}
 use Rattle.caa_base.specs.declared.entry.Verdict.TheVariants as verdict

@@ -3,7 +3,7 @@
 -- The script:
 --   participant ann / object x 1 / drill x 2 / action inner / use x / roles r / body r / put x 5 / undo / end /
 --   action outer / use x / roles s / nest n inner s / body s / enter n / end / play outer ann
-use Rattle.std.proofs.Common.{◌≡◌, ℕ, ℤ, pos, List, [], ◌∷◌, reverse, refl, codes, rules}
+use Rattle.std.proofs.Common.{◌≡◌, ℕ, pos, List, [], ◌∷◌, reverse, refl, codes, rules}
 use Rattle.cover_table.specs.Cover.{IsLeastCover}
 use Rattle.caa_base.specs.declared.entry.Entry.{Entry}
 use Rattle.caa_base.specs.declared.entry.Verdict.TheVariants as verdict

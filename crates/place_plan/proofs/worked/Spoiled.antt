@@ -1,11 +1,10 @@
 -- Worked journals, spoiled at one entry each: none is legal.
-use Rattle.std.proofs.Common.{◌≡◌, ℕ, ◌++◌, List, [], ◌∷◌, suc, take, drop, arith, refl, sym, ◌∙◌, ap, ℤ, Option, Some, None}
+use Rattle.std.proofs.Common.{ℕ, ◌++◌, List, [], ◌∷◌, suc, take, drop, arith, refl, sym, ◌∙◌, ap, ℤ, Option, Some, None}
 use Rattle.std.specs.Prelude.{nat_abs}
 use Rattle.std.proofs.lemmas.Bool.{false≢true, true≢false}
 use Rattle.caa_base.specs.declared.entry.Entry.{Entry}
-use Rattle.place_plan.specs.Roles.{over}
 use Rattle.place_plan.specs.Journals.{IsLegal, IsComplete}
-use Rattle.place_plan.proofs.worked.Words.{withdraw, read, work, write, check, end_signal, raise, resolve, handle, verdict_done, abort, abort_naming, undo, restore_well, end_commit, end_undone, leave, leave_carrying, universal, rule_at}
+use Rattle.place_plan.proofs.worked.Words.{withdraw, read, work, write, check, end_signal, raise, resolve, handle, verdict_done, abort, abort_naming, restore_well, end_commit, end_undone, leave, leave_carrying, universal, rule_at}
 use Rattle.place_plan.proofs.worked.SaturatingAdd as saturating_add
 use Rattle.place_plan.proofs.worked.TestsDecide as tests_decide
 use Rattle.place_plan.proofs.worked.FailureHandled as failure_handled

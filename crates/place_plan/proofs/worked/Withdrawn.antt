@@ -20,7 +20,7 @@ use Rattle.place_plan.specs.Journals.{IsLegal, IsComplete, puts_of}
 use Rattle.place_plan.specs.Laws.{last_write, is_kept}
 use Rattle.place_plan.specs.Bound.{bound, action_bound}
 use Rattle.place_plan.specs.Unfolding.{plain_graph}
-use Rattle.place_plan.proofs.worked.Words.{arrive, withdraw, start, raise, inform, resolve, handle, verdict_done, undo, end_commit, leave}
+use Rattle.place_plan.proofs.worked.Words.{arrive, withdraw, start, raise, inform, resolve, handle, verdict_done, end_commit, leave}
 use Rattle.place_plan.proofs.worked.Words.{universal, graph, object, program, handler, play, inner}
 use Rattle.place_plan.proofs.worked.Words.{least_cover_from, complete_from, value_is, AreWellFormed}
 
