@@ -66,7 +66,9 @@ module _ (plan : Plan) (tree : IsTree plan) where
 
   isolated : (past : List Entry) → LegalPast plan past → IsolationLaw plan past
   isolated past legal = record {
-    nested = λ p q o l m u v. both_held past legal p q o (holder plan o past) refl (and_from (live p past) (uses plan p o) l u) (and_from (live q past) (uses plan q o) m v);
+    nested = λ later before p q o split l m u v.
+        let then = legal_rest plan later before (subst (LegalPast plan) split legal) in
+        both_held before then p q o (holder plan o before) refl (and_from (live p before) (uses plan p o) l u) (and_from (live q before) (uses plan q o) m v);
     held = λ later before e split w.
         let here = legal_rest plan later (e ∷ before) (subst (LegalPast plan) split legal) in
         touch_held before e.kind e here.0 here.1 w;

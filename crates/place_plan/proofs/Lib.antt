@@ -21,3 +21,4 @@ pub mod BuiltDrafts
 pub mod ClosedPlan
 pub mod Closing
 pub mod LawsKept
+pub mod worked

@@ -29,6 +29,7 @@ code_of kind.Restore = 15
 code_of kind.End = 16
 code_of kind.Leave = 17
 
+-- the entry is of this kind
 abbrev pub is_of : Kind → Entry → Bool
 is_of k e = code_of k == code_of e.kind
 
@@ -44,5 +45,6 @@ is_by k p t e = is_in k p e && (e.by == t)
 abbrev pub has : Kind → ℕ → List Entry → Bool
 has k p past = list_any (is_in k p) past
 
+-- the same, made by t
 abbrev pub has_by : Kind → ℕ → ℕ → List Entry → Bool
 has_by k p t past = list_any (is_by k p t) past

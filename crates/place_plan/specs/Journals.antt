@@ -23,15 +23,17 @@ IsLegal plan journal = LegalPast plan (reverse journal)
 abbrev pub AllOver : Plan → List Entry → Type 0
 AllOver plan past = (t : ℕ) → t < length plan.participants → over plan past t ≡ true
 
+-- the same of a journal, whose oldest entry stands first
 abbrev pub IsComplete : Plan → List Entry → Type 0
 IsComplete plan journal = AllOver plan (reverse journal)
 
 -- ---- the device
 
--- a put that the device took
+-- a put that the device took: a write, or a restore that is well
 abbrev pub is_put : Entry → Bool
 is_put e = is_of kind.Write e || (is_of kind.Restore e && (e.mark == 0))
 
+-- what was put
 abbrev pub object_and_value : Entry → ℕ × ℤ
 object_and_value e = (e.arg, e.value)
 

@@ -97,6 +97,7 @@ pub record IsAnswered (plan : Plan) (past : List Entry) (p : ℕ) : Type 0 where
   pub resolution : resolved p past ≡ Some exception
   pub each : (t : ℕ) → member t (roles_of plan p) ≡ true → Answered plan past p exception t
 
+-- what is handled is the least cover of all that is raised, and a place that ended without aborts answered what was raised in it
 pub record ResolutionLaw (plan : Plan) (past : List Entry) : Type 0 where
   pub handles : (p : ℕ) → HandlesLeast plan past p
   -- a place in which something was raised, and which ended without aborts, was resolved and answered
@@ -112,12 +113,13 @@ pub record EndsOnce (plan : Plan) (p : ℕ) (later before : List Entry) : Type 0
   pub together : has kind.Leave p before ≡ false
   pub each : (t : ℕ) → member t (roles_of plan p) ≡ true → has_by kind.Verdict p t before || has_by kind.Abort p t before ≡ true
 
+-- each End is the only one of its place, after what each role says and before any leaves
 abbrev pub ExitLaw : Plan → List Entry → Type 0
 ExitLaw plan past = (p : ℕ) (later before : List Entry) (e : Entry) → Splits past later e before → is_in kind.End p e ≡ true → EndsOnce plan p later before
 
 -- ---- outcome law
 
--- how many restores of o stand in p, with this mark
+-- the entry is a restore of o in p, with this mark: 0 where the device took it, 1 where it refused
 abbrev pub is_restore : ℕ → ℕ → ℕ → Entry → Bool
 is_restore p o mark e = is_in kind.Restore p e && ((e.arg == o) && (e.mark == mark))
 
@@ -129,17 +131,18 @@ pub record RestoresFit (plan : Plan) (p mark : ℕ) (past : List Entry) : Type 0
   pub tried : mark ≡ 4 → (o : ℕ) → uses plan p o ≡ true → count_by (is_restore p o 0) past + count_by (is_restore p o 1) past ≡ 1
   pub refused : mark ≡ 4 → failed p past ≡ true
 
+-- the restores of a place that has ended are what its End says
 abbrev pub OutcomeLaw : Plan → List Entry → Type 0
 OutcomeLaw plan past = (p : ℕ) (e : Entry) → newest (is_in kind.End p) past ≡ Some e → RestoresFit plan p e.mark past
 
 -- ---- effect law
 
--- p ended by commit or signal
+-- the End of a place, where it has one, is a commit or a signal
 abbrev pub is_kept_mark : Option Entry → Bool
 is_kept_mark None = false
 is_kept_mark (Some e) = (e.mark == 0) || (e.mark == 1)
 
--- p and each place round it did
+-- p and each place round it ended by commit or signal
 abbrev pub is_kept : Plan → List Entry → ℕ → Bool
 is_kept plan past p = list_all (λ q. is_kept_mark (newest (is_in kind.End q) past)) (p ∷ around plan p)
 
@@ -148,6 +151,7 @@ abbrev pub last_write : Plan → ℕ → (Entry → Bool) → List Entry → ℤ
 last_write plan o test [] = initial_of plan o
 last_write plan o test (e ∷ past) = if writes o e && test e then e.value else last_write plan o test past
 
+-- the device refused a restore of o
 abbrev pub has_failed_restore : ℕ → List Entry → Bool
 has_failed_restore o past = list_any (λ e. is_of kind.Restore e && ((e.arg == o) && (e.mark == 1))) past
 
@@ -166,6 +170,7 @@ InnerFirstLaw plan past =
 
 -- ---- fault law
 
+-- a put or a restore that the device refused
 abbrev pub is_fault : Entry → Bool
 is_fault e = is_of kind.PutFault e || (is_of kind.Restore e && (e.mark == 1))
 
@@ -175,6 +180,7 @@ FaultsWithin count past = length (filter is_fault past) ≤ count
 
 -- ---- isolation law
 
+-- the kinds of entry that read an object, or that ask the device to change it
 abbrev pub touches_object : Kind → Bool
 touches_object kind.Read = true
 touches_object kind.Write = true
@@ -182,10 +188,11 @@ touches_object kind.PutFault = true
 touches_object kind.Restore = true
 touches_object _ = false
 
+-- no two places that go on side by side have one object
 pub record IsolationLaw (plan : Plan) (past : List Entry) : Type 0 where
-  -- of two live places that use one object, one encloses the other
-  pub nested : (p q o : ℕ) → live p past ≡ true → live q past ≡ true → uses plan p o ≡ true → uses plan q o ≡ true → within plan p q || within plan q p ≡ true
-  -- an object is touched only in the place that holds it
+  -- of two places that use one object and are live at one moment, one encloses the other
+  pub nested : (later before : List Entry) (p q o : ℕ) → past ≡ later ++ before → live p before ≡ true → live q before ≡ true → uses plan p o ≡ true → uses plan q o ≡ true → within plan p q || within plan q p ≡ true
+  -- an object is touched only in the place that holds it at that moment
   pub held : (later before : List Entry) (e : Entry) → Splits past later e before → touches_object e.kind ≡ true → holder plan e.arg before ≡ Some e.place
 
 -- ---- all laws of one journal

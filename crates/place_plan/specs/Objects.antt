@@ -32,14 +32,16 @@ objects_ready plan p past = list_all (λ o. same_option (holder plan o past) (pa
 abbrev pub restores : ℕ → Entry → Bool
 restores o e = is_of kind.Restore e && ((e.arg == o) && (e.mark == 0))
 
+-- the entry writes o
 abbrev pub writes : ℕ → Entry → Bool
 writes o e = is_of kind.Write e && (e.arg == o)
 
+-- p is one of these places, or inside one
 abbrev pub within_any : Plan → ℕ → List ℕ → Bool
 within_any plan p qs = list_any (within plan p) qs
 
--- the value of the last write of o outside these places that none of them takes back, else the initial one; `undone` are the
--- places that restored o later
+-- the value of the last write of o that was made neither in nor inside a place that has restored o since, else the initial value;
+-- `undone` are the places whose restores stand after `past`
 abbrev pub value_outside : Plan → ℕ → List ℕ → List Entry → ℤ
 value_outside plan o undone [] = initial_of plan o
 value_outside plan o undone (e ∷ past) =
@@ -47,7 +49,8 @@ value_outside plan o undone (e ∷ past) =
     else (if writes o e && not (within_any plan e.place undone) then e.value
     else value_outside plan o undone past)
 
--- the value of the last write of o for which neither its place nor a place round it has restored o later, else the initial value
+-- the value of o: that of its last write for which neither its place nor a place round it has a later restore of o that the
+-- device took, else the initial value
 abbrev pub value_of : Plan → ℕ → List Entry → ℤ
 value_of plan o past = value_outside plan o [] past
 
@@ -66,6 +69,6 @@ tried p past o = list_any (λ e. is_in kind.Restore p e && (e.arg == o)) past
 abbrev pub failed : ℕ → List Entry → Bool
 failed p past = list_any (λ e. is_in kind.Restore p e && (e.mark == 1)) past
 
--- the least object of p that has no restore there
+-- the least object of p that has no restore there; the objects of an action stand in ascending order
 abbrev pub next_restore : Plan → ℕ → List Entry → Option ℕ
 next_restore plan p past = first_not (tried p past) (objects_of plan p)

@@ -39,9 +39,11 @@ no_object = record { name = []; initial = pos 0 }
 
 -- ---- places
 
+-- the row of p
 abbrev pub place_at : Plan → ℕ → PlaceRow
 place_at plan p = slice_index_or plan.places p no_place
 
+-- the action of a row of places
 abbrev pub action_in : Plan → Option PlaceRow → ActionRow
 action_in plan None = no_action
 action_in plan (Some row) = slice_index_or plan.actions row.action no_action
@@ -70,9 +72,11 @@ top_of plan p = last_or p (around plan p)
 abbrev pub roles_of : Plan → ℕ → List ℕ
 roles_of plan p = (place_at plan p).roles
 
+-- the objects that p uses, in ascending order
 abbrev pub objects_of : Plan → ℕ → List ℕ
 objects_of plan p = (action_at plan p).objects
 
+-- p uses o
 abbrev pub uses : Plan → ℕ → ℕ → Bool
 uses plan p o = member o (objects_of plan p)
 
@@ -86,6 +90,7 @@ child plan p nest = slice_index_or (place_at plan p).children nest 0
 abbrev pub role_at : Plan → ℕ → ℕ → RoleRow
 role_at plan p role = slice_index_or (action_at plan p).roles role no_role
 
+-- the role of t in p
 abbrev pub role_row : Plan → ℕ → ℕ → RoleRow
 role_row plan p t = role_at plan p (index_of t (roles_of plan p))
 
@@ -93,17 +98,20 @@ role_row plan p t = role_at plan p (index_of t (roles_of plan p))
 abbrev pub role_of : Plan → ℕ → ℕ → Option ℕ
 role_of plan p t = if member t (roles_of plan p) then Some (index_of t (roles_of plan p)) else None
 
+-- the body of t in p
 abbrev pub body_of : Plan → ℕ → ℕ → Program
 body_of plan p t = (role_row plan p t).body
 
+-- the handler for x among these
 abbrev pub handler_in : ℕ → List HandlerRow → Option Program
 handler_in x [] = None
 handler_in x (h ∷ hs) = if h.exception == x then Some h.program else handler_in x hs
 
--- the handler of t for x
+-- the handler of t for x in p
 abbrev pub handler_of : Plan → ℕ → ℕ → ℕ → Option Program
 handler_of plan p t x = handler_in x (role_row plan p t).handlers
 
+-- what t names where p is aborted
 abbrev pub abort_row : Plan → ℕ → ℕ → AbortRow
 abort_row plan p t = (role_row plan p t).abort
 
@@ -113,6 +121,7 @@ abort_row plan p t = (role_row plan p t).abort
 abbrev pub fault_of : Plan → ℕ → ℕ
 fault_of plan p = (action_at plan p).fault
 
+-- the order of a graph
 abbrev pub graph_at : Plan → ℕ → CoverOrder
 graph_at plan g = (slice_index_or plan.graphs g no_graph).graph
 
@@ -124,6 +133,7 @@ internal_of plan p = graph_at plan (action_at plan p).internal
 abbrev pub interface_of : Plan → ℕ → CoverOrder
 interface_of plan p = graph_at plan (action_at plan p).interface
 
+-- a nested use of the action of q
 abbrev pub nest_in : Plan → ℕ → Option ℕ → NestRow
 nest_in plan nest None = no_nest
 nest_in plan nest (Some q) = slice_index_or (action_at plan q).nests nest no_nest
@@ -138,6 +148,7 @@ map_signal plan p x = slice_index_or (nest_of plan p).maps x 0
 
 -- ---- objects and plays
 
+-- the value that o has at first
 abbrev pub initial_of : Plan → ℕ → ℤ
 initial_of plan o = (slice_index_or plan.objects o no_object).initial
 

@@ -18,8 +18,8 @@ handled p t past = has_by kind.Handle p t past
 abbrev pub carries_into : Plan → ℕ → Entry → Bool
 carries_into plan p e = is_at (parent plan e.place) p && (e.mark == 1)
 
--- what an entry raises in p, where `past` stands before it: a raise its exception, a put that a body was refused the fault of
--- the action, and the leave of a place right inside p the exception that it carries
+-- what an entry raises in p, where `past` stands before it: a raise its exception, a put that was refused before its maker began
+-- a handler there the fault exception of the action, and the leave of a place right inside p the exception that it carries
 abbrev pub raises_in : Plan → ℕ → Entry → Kind → List Entry → List ℕ
 raises_in plan p e kind.Raise past = if e.place == p then e.arg ∷ [] else []
 raises_in plan p e kind.PutFault past = if (e.place == p) && not (handled p e.by past) then fault_of plan p ∷ [] else []
@@ -47,8 +47,8 @@ calm plan p past = going p past && (not (doomed plan p past) && not (is_raised p
 abbrev pub hot : Plan → ℕ → List Entry → Bool
 hot plan p past = going p past && (not (doomed plan p past) && is_raised plan p past)
 
--- the entry halts the body of its maker in p: a raise, an inform, a put that the body was refused, or the leave of a place right
--- inside p that carries an exception
+-- the entry halts the body of its maker in p: a raise, an inform, a put that was refused before its maker began a handler there,
+-- or the leave of a place right inside p that carries an exception
 abbrev pub halts_in : Plan → ℕ → Entry → Kind → List Entry → Bool
 halts_in plan p e kind.Raise past = e.place == p
 halts_in plan p e kind.Inform past = e.place == p
@@ -61,6 +61,7 @@ abbrev pub halted : Plan → ℕ → List Entry → ℕ → Bool
 halted plan p [] t = false
 halted plan p (e ∷ past) t = (halts_in plan p e e.kind past && (e.by == t)) || halted plan p past t
 
+-- each role of p was halted
 abbrev pub all_halted : Plan → ℕ → List Entry → Bool
 all_halted plan p past = list_all (halted plan p past) (roles_of plan p)
 

@@ -36,6 +36,7 @@ position plan p t (e ∷ past) =
     else (if advances plan p e e.kind && (e.by == t) then suc (position plan p t past)
     else position plan p t past)
 
+-- the kinds of entry that give their maker's register its value
 abbrev pub gives_value : Kind → Bool
 gives_value kind.Read = true
 gives_value kind.Work = true
@@ -50,6 +51,7 @@ register plan p t (e ∷ past) =
     else (if gives_value e.kind && ((e.place == p) && (e.by == t)) then e.value
     else register plan p t past)
 
+-- the program, or the empty one where there is none
 abbrev pub or_idle : Option Program → Program
 or_idle None = idle
 or_idle (Some program) = program
@@ -59,6 +61,7 @@ abbrev pub program_in : Plan → ℕ → ℕ → Option ℕ → Program
 program_in plan p t None = body_of plan p t
 program_in plan p t (Some x) = or_idle (handler_of plan p t x)
 
+-- the program that t goes through in p
 abbrev pub program_of : Plan → ℕ → ℕ → List Entry → Program
 program_of plan p t past = program_in plan p t (handling p t past)
 
@@ -66,6 +69,7 @@ program_of plan p t past = program_in plan p t (handling p t past)
 abbrev pub next_step : Plan → ℕ → ℕ → List Entry → Option Step
 next_step plan p t past = slice_get (program_of plan p t past).steps (position plan p t past)
 
+-- the numbers are one
 abbrev pub int_same : ℤ → ℤ → Bool
 int_same a b = not (int_lt a b) && not (int_lt b a)
 
@@ -98,6 +102,7 @@ given_after p t (e ∷ past) =
 abbrev pub given : Plan → ℕ → List Entry → ℕ → Bool
 given plan p past t = if is_raised plan p past then given_after p t past else has_by kind.Verdict p t past
 
+-- each role of p has given its verdict
 abbrev pub all_given : Plan → ℕ → List Entry → Bool
 all_given plan p past = list_all (given plan p past) (roles_of plan p)
 
@@ -123,6 +128,7 @@ in_handler p t past = is_handling p t past && not (refused_in_handler p t past)
 abbrev pub able : Plan → ℕ → List Entry → ℕ → Bool
 able plan p past t = (calm plan p past && not (given plan p past t)) || (hot plan p past && in_handler p t past)
 
+-- the verdict that an entry says
 abbrev pub verdict_at : Entry → Verdict
 verdict_at e = if e.mark == 0 then verdict.Done else (if e.mark == 1 then verdict.Signal e.arg else verdict.Undo)
 
@@ -131,6 +137,7 @@ abbrev pub verdict_of : ℕ → List Entry → ℕ → Option Verdict
 verdict_of p [] t = None
 verdict_of p (e ∷ past) t = if is_by kind.Verdict p t e then Some (verdict_at e) else verdict_of p past t
 
+-- the verdict is undo
 abbrev pub is_undo : Option Verdict → Bool
 is_undo (Some verdict.Undo) = true
 is_undo _ = false
@@ -139,6 +146,7 @@ is_undo _ = false
 abbrev pub wants_undo : Plan → ℕ → List Entry → Bool
 wants_undo plan p past = list_any (λ t. is_undo (verdict_of p past t)) (roles_of plan p)
 
+-- the exception that a verdict signals
 abbrev pub signal_in : Option Verdict → List ℕ
 signal_in (Some (verdict.Signal x)) = x ∷ []
 signal_in _ = []
@@ -152,6 +160,7 @@ signals p past (t ∷ ts) = signal_in (verdict_of p past t) ++ signals p past ts
 abbrev pub aborted : ℕ → List Entry → ℕ → Bool
 aborted p past t = has_by kind.Abort p t past
 
+-- each role of p has given up
 abbrev pub all_aborted : Plan → ℕ → List Entry → Bool
 all_aborted plan p past = list_all (aborted p past) (roles_of plan p)
 
@@ -161,6 +170,7 @@ all_aborted plan p past = list_all (aborted p past) (roles_of plan p)
 abbrev pub next_play : Plan → ℕ → List Entry → Option ℕ
 next_play plan t past = first_not (λ p. has_by kind.Arrive p t past) (plays_of plan t)
 
+-- t has left the play, where there is one
 abbrev pub over_after : ℕ → List Entry → Option ℕ → Bool
 over_after t past None = true
 over_after t past (Some p) = has_by kind.Leave p t past

@@ -21,17 +21,18 @@ use Rattle.place_plan.specs.Roles.{register, program_of, next_step, next_raise, 
 
 -- ---- what an entry says
 
--- nothing further
+-- the entry says nothing further
 pub record IsPlain (e : Entry) : Type 0 where
   pub arg : e.arg ≡ 0
   pub mark : e.mark ≡ 0
   pub value : e.value ≡ pos 0
 
--- an exception, or none
+-- the entry names this exception, or none
 abbrev pub Names : Entry → Option ℕ → Type 0
 Names e None = (e.mark ≡ 0) × (e.arg ≡ 0)
 Names e (Some x) = (e.mark ≡ 1) × (e.arg ≡ x)
 
+-- the entry says this verdict
 abbrev pub SaysVerdict : Entry → Verdict → Type 0
 SaysVerdict e verdict.Done = (e.mark ≡ 0) × (e.arg ≡ 0)
 SaysVerdict e (verdict.Signal x) = (e.mark ≡ 1) × (e.arg ≡ x)
@@ -60,7 +61,7 @@ pub record MayWithdraw (plan : Plan) (past : List Entry) (e : Entry) : Type 0 wh
   pub doom : doomed plan e.place past ≡ true
   pub plain : IsPlain e
 
--- a place starts once each role is in it and each of its objects has come back to the place round it
+-- a place starts once each role is in it and each of its objects has come back to the place round it, or is free for a play
 pub record MayStart (plan : Plan) (past : List Entry) (e : Entry) : Type 0 where
   pub here : inside plan e.by past ≡ Some e.place
   pub waits : started e.place past ≡ false
@@ -106,6 +107,7 @@ pub record MayPut (plan : Plan) (past : List Entry) (e : Entry) : Type 0 where
   pub holds : holder plan e.arg past ≡ Some e.place
   pub mark : e.mark ≡ 0
 
+-- the step is a check
 abbrev pub is_check : Option Step → Bool
 is_check (Some (step.Check test bound x)) = true
 is_check _ = false
@@ -120,7 +122,7 @@ pub record MayCheck (plan : Plan) (past : List Entry) (e : Entry) : Type 0 where
 
 -- ---- raising, and recovering together
 
--- whose next step raises does so, as long as it isn't halted and has given no verdict
+-- a role whose next step raises does so, also once others have, as long as it isn't halted and has given no verdict
 pub record MayRaise (plan : Plan) (past : List Entry) (e : Entry) : Type 0 where
   pub here : inside plan e.by past ≡ Some e.place
   pub when : calm plan e.place past || hot plan e.place past ≡ true
@@ -130,7 +132,7 @@ pub record MayRaise (plan : Plan) (past : List Entry) (e : Entry) : Type 0 where
   pub mark : e.mark ≡ 0
   pub value : e.value ≡ pos 0
 
--- each other role of a hot place is informed
+-- in a hot place each role that isn't halted and whose next step doesn't raise is informed, also after its verdict
 pub record MayInform (plan : Plan) (past : List Entry) (e : Entry) : Type 0 where
   pub here : inside plan e.by past ≡ Some e.place
   pub when : hot plan e.place past ≡ true
@@ -186,6 +188,7 @@ verdict_due plan p t past =
     else (if handled p t past then (if is_handling p t past then handler_verdict plan p t past else None)
     else (if given plan p past t then None else unhandled_verdict plan p t (resolved p past))))
 
+-- a role gives the verdict that is due from it
 pub record MayVerdict (plan : Plan) (past : List Entry) (e : Entry) : Type 0 where
   pub here : inside plan e.by past ≡ Some e.place
   pub due : MatchOption (verdict_due plan e.place e.by past) ⊥ (SaysVerdict e)
@@ -219,6 +222,7 @@ pub record AskForUndo (plan : Plan) (p : ℕ) (past : List Entry) : Type 0 where
 abbrev pub HaveAgreed : Plan → ℕ → List Entry → Type 0
 HaveAgreed plan p past = MatchBool (all_aborted plan p past) (Unit {0}) (AskForUndo plan p past)
 
+-- a place that goes on is undone once its roles have agreed on it
 pub record MayUndo (plan : Plan) (past : List Entry) (e : Entry) : Type 0 where
   pub here : inside plan e.by past ≡ Some e.place
   pub when : going e.place past ≡ true
@@ -260,6 +264,7 @@ pub record EndsAgreed (plan : Plan) (past : List Entry) (e : Entry) : Type 0 whe
   pub kept : wants_undo plan e.place past ≡ false
   pub outcome : SignalsLeast plan e (signals e.place past (roles_of plan e.place))
 
+-- a place ends once, after an undo or after an agreement
 pub record MayEnd (plan : Plan) (past : List Entry) (e : Entry) : Type 0 where
   pub here : inside plan e.by past ≡ Some e.place
   pub how : MatchBool (undoing e.place past) (EndsUndone plan past e) (EndsAgreed plan past e)
@@ -272,11 +277,13 @@ abbrev pub newest : (Entry → Bool) → List Entry → Option Entry
 newest test [] = None
 newest test (e ∷ past) = if test e then Some e else newest test past
 
+-- what an Abort names, in the place round p
 abbrev pub mapped_abort : Plan → ℕ → Option Entry → Option ℕ
 mapped_abort plan p None = None
 mapped_abort plan p (Some e) = if e.mark == 1 then Some (map_signal plan p e.arg) else None
 
--- what the End of p, and for an aborted place the Abort of the one who leaves, mean in the place round p
+-- what the End of p means in the place round p, by its mark: nothing after a commit, the exception that its signal, its undo or its
+-- failure is there, and after an abort the one that the Abort of who leaves is there
 abbrev pub mapped : Plan → ℕ → Option Entry → Option Entry → Option ℕ
 mapped plan p None abort = None
 mapped plan p (Some end) abort =
@@ -297,7 +304,7 @@ carried plan p t past =
     if is_deaf plan past (parent plan p) then None
     else mapped plan p (newest (is_in kind.End p) past) (newest (is_by kind.Abort p t) past)
 
--- a place that has ended is only left
+-- a participant leaves a place that has ended, with the exception that it carries out
 pub record MayLeave (plan : Plan) (past : List Entry) (e : Entry) : Type 0 where
   pub here : inside plan e.by past ≡ Some e.place
   pub when : ended e.place past ≡ true
@@ -306,6 +313,7 @@ pub record MayLeave (plan : Plan) (past : List Entry) (e : Entry) : Type 0 where
 
 -- ---- all kinds
 
+-- the rule for each kind of entry
 abbrev pub Row : Kind → Plan → List Entry → Entry → Type 0
 Row kind.Arrive = MayArrive
 Row kind.Withdraw = MayWithdraw

@@ -18,11 +18,13 @@ moved plan kind.Withdraw p own was = if own then parent plan p else was
 moved plan kind.Leave p own was = if own then parent plan p else was
 moved plan _ p own was = was
 
--- the innermost place that t is in: the one where it has arrived last, and from which it has neither withdrawn nor gone out
+-- the innermost of the places where t has arrived and from which it has since neither withdrawn nor gone out; none where it is in
+-- no place
 abbrev pub inside : Plan → ℕ → List Entry → Option ℕ
 inside plan t [] = None
 inside plan t (e ∷ past) = moved plan e.kind e.place (e.by == t) (inside plan t past)
 
+-- p is the innermost place that t is in
 abbrev pub is_inside : Plan → ℕ → List Entry → ℕ → Bool
 is_inside plan p past t = is_at (inside plan t past) p
 
@@ -44,12 +46,15 @@ stays p t (e ∷ past) = if (e.place == p) && (e.by == t) then stayed e.kind (st
 
 -- ---- places
 
+-- p has a Start
 abbrev pub started : ℕ → List Entry → Bool
 started p past = has kind.Start p past
 
+-- p has an End
 abbrev pub ended : ℕ → List Entry → Bool
 ended p past = has kind.End p past
 
+-- p has an Undo: it goes on with its restores, or has ended after them
 abbrev pub undoing : ℕ → List Entry → Bool
 undoing p past = has kind.Undo p past
 

@@ -16,12 +16,14 @@ abbrev pub is_at : Option ℕ → ℕ → Bool
 is_at None n = false
 is_at (Some m) n = m == n
 
+-- the options are one
 abbrev pub same_option : Option ℕ → Option ℕ → Bool
 same_option None None = true
 same_option None (Some n) = false
 same_option (Some m) None = false
 same_option (Some m) (Some n) = m == n
 
+-- the first number of the list
 abbrev pub first_of : List ℕ → Option ℕ
 first_of [] = None
 first_of (x ∷ xs) = Some x
@@ -31,10 +33,12 @@ abbrev pub last_or : ℕ → List ℕ → ℕ
 last_or n [] = n
 last_or n (x ∷ xs) = last_or x xs
 
+-- the last number of the list
 abbrev pub last_of : List ℕ → Option ℕ
 last_of [] = None
 last_of (x ∷ xs) = Some (last_or x xs)
 
+-- the list has no members
 abbrev pub is_empty : {A : Type 0} → List A → Bool
 is_empty [] = true
 is_empty (x ∷ xs) = false

@@ -1,0 +1,234 @@
+-- Words in which worked plans and journals are written, and what computing shows of them.
+use Rattle.std.proofs.Common.{◌≡◌, ℕ, ℤ, pos, ◌+◌, ◌-◌, ◌^◌, ◌<◌, Bool, true, false, not, ◌&&◌, ◌||◌, List, [], ◌∷◌, length, map, reverse, zero, suc, refl, arith, below_more, ◌∙◌, cond}
+use Rattle.std.specs.Prelude.{nat_lt, if◌then◌else◌}
+use Rattle.std.proofs.lemmas.Bool.{and_parts, false≢true, ltb-true}
+use Rattle.cover_table.specs.Cover.{CoverOrder, IsLeastCover, covers, covers_each}
+use Rattle.caa_base.specs.declared.entry.Entry.{Entry}
+use Rattle.caa_base.specs.declared.entry.Kind.{Kind}
+use Rattle.caa_base.specs.declared.entry.Kind.TheVariants as kind
+use Rattle.caa_base.specs.declared.entry.Verdict.{Verdict}
+use Rattle.place_plan.specs.declared.rows.ObjectRow.{ObjectRow}
+use Rattle.place_plan.specs.declared.rows.PlaceRow.{PlaceRow}
+use Rattle.place_plan.specs.declared.rows.RoleRow.{RoleRow}
+use Rattle.place_plan.specs.declared.rows.HandlerRow.{HandlerRow}
+use Rattle.place_plan.specs.declared.rows.Program.{Program}
+use Rattle.place_plan.specs.declared.rows.Step.{Step}
+use Rattle.place_plan.specs.declared.rows.AbortRow.{AbortRow}
+use Rattle.place_plan.specs.PlanValue.{Plan, GraphRow}
+use Rattle.place_plan.specs.Places.{initial_of}
+use Rattle.place_plan.specs.Objects.{value_of, value_outside, restores, writes, within_any}
+use Rattle.place_plan.specs.Roles.{over}
+use Rattle.place_plan.specs.Rules.{MayFollow}
+use Rattle.place_plan.specs.WellFormed.{IsWellFormed}
+use Rattle.place_plan.specs.Journals.{LegalPast, IsLegal, IsComplete}
+
+-- ---- entries, as in the text of a journal: the place, who made it, and what it says
+
+abbrev pub bare : Kind → ℕ → ℕ → Entry
+bare k place by = record { kind = k; place = place; by = by; arg = 0; mark = 0; value = pos 0 }
+
+-- an entry with an object, or a number of rounds, and a value
+abbrev pub showing : Kind → ℕ → ℕ → ℕ → ℕ → Entry
+showing k place by arg value = record { kind = k; place = place; by = by; arg = arg; mark = 0; value = pos value }
+
+-- an entry with an exception
+abbrev pub naming : Kind → ℕ → ℕ → ℕ → Entry
+naming k place by exception = record { kind = k; place = place; by = by; arg = exception; mark = 0; value = pos 0 }
+
+-- an entry with a mark, and an exception where the mark is of one
+abbrev pub marked : Kind → ℕ → ℕ → ℕ → ℕ → Entry
+marked k place by mark arg = record { kind = k; place = place; by = by; arg = arg; mark = mark; value = pos 0 }
+
+abbrev pub arrive : ℕ → ℕ → Entry
+arrive place by = bare kind.Arrive place by
+
+abbrev pub withdraw : ℕ → ℕ → Entry
+withdraw place by = bare kind.Withdraw place by
+
+abbrev pub start : ℕ → ℕ → Entry
+start place by = bare kind.Start place by
+
+abbrev pub read : ℕ → ℕ → ℕ → ℕ → Entry
+read place by object value = showing kind.Read place by object value
+
+abbrev pub work : ℕ → ℕ → ℕ → ℕ → Entry
+work place by rounds value = showing kind.Work place by rounds value
+
+abbrev pub write : ℕ → ℕ → ℕ → ℕ → Entry
+write place by object value = showing kind.Write place by object value
+
+abbrev pub check : ℕ → ℕ → Entry
+check place by = bare kind.Check place by
+
+abbrev pub put_fault : ℕ → ℕ → ℕ → ℕ → Entry
+put_fault place by object value = showing kind.PutFault place by object value
+
+abbrev pub raise : ℕ → ℕ → ℕ → Entry
+raise place by exception = naming kind.Raise place by exception
+
+abbrev pub inform : ℕ → ℕ → Entry
+inform place by = bare kind.Inform place by
+
+abbrev pub resolve : ℕ → ℕ → ℕ → Entry
+resolve place by exception = naming kind.Resolve place by exception
+
+abbrev pub handle : ℕ → ℕ → ℕ → Entry
+handle place by exception = naming kind.Handle place by exception
+
+abbrev pub verdict_done : ℕ → ℕ → Entry
+verdict_done place by = bare kind.Verdict place by
+
+abbrev pub verdict_signal : ℕ → ℕ → ℕ → Entry
+verdict_signal place by exception = marked kind.Verdict place by 1 exception
+
+abbrev pub verdict_undo : ℕ → ℕ → Entry
+verdict_undo place by = marked kind.Verdict place by 2 0
+
+abbrev pub abort : ℕ → ℕ → Entry
+abort place by = bare kind.Abort place by
+
+abbrev pub abort_naming : ℕ → ℕ → ℕ → Entry
+abort_naming place by exception = marked kind.Abort place by 1 exception
+
+abbrev pub undo : ℕ → ℕ → Entry
+undo place by = bare kind.Undo place by
+
+abbrev pub restore_well : ℕ → ℕ → ℕ → ℕ → Entry
+restore_well place by object value = showing kind.Restore place by object value
+
+abbrev pub restore_failed : ℕ → ℕ → ℕ → ℕ → Entry
+restore_failed place by object value = record { kind = kind.Restore; place = place; by = by; arg = object; mark = 1; value = pos value }
+
+abbrev pub end_commit : ℕ → ℕ → Entry
+end_commit place by = bare kind.End place by
+
+abbrev pub end_signal : ℕ → ℕ → ℕ → Entry
+end_signal place by exception = marked kind.End place by 1 exception
+
+abbrev pub end_undone : ℕ → ℕ → Entry
+end_undone place by = marked kind.End place by 2 0
+
+abbrev pub end_aborted : ℕ → ℕ → Entry
+end_aborted place by = marked kind.End place by 3 0
+
+abbrev pub end_failed : ℕ → ℕ → Entry
+end_failed place by = marked kind.End place by 4 0
+
+abbrev pub leave : ℕ → ℕ → Entry
+leave place by = bare kind.Leave place by
+
+abbrev pub leave_carrying : ℕ → ℕ → ℕ → Entry
+leave_carrying place by exception = marked kind.Leave place by 1 exception
+
+-- ---- plans
+
+abbrev pub universal : ℕ
+universal = 0
+
+-- the numbers as bits of one number
+abbrev pub bits : List ℕ → ℕ
+bits [] = 0
+bits (b ∷ bs) = 2 ^ b + bits bs
+
+-- a graph of these names, with what each of its exceptions covers, itself among them
+abbrev pub graph : List (List ℕ) → List (List ℕ) → GraphRow
+graph names covered = record { graph = record { count = length names; rows = map bits covered }; names = names }
+
+abbrev pub object : List ℕ → ℕ → ObjectRow
+object name initial = record { name = name; initial = pos initial }
+
+abbrev pub program : List Step → Verdict → Program
+program steps verdict = record { steps = steps; verdict = verdict }
+
+abbrev pub handler : ℕ → Program → HandlerRow
+handler exception program = record { exception = exception; program = program }
+
+abbrev pub role : List ℕ → Program → List HandlerRow → AbortRow → RoleRow
+role name body handlers abort = record { name = name; body = body; handlers = handlers; abort = abort }
+
+-- a play of an action: who plays its roles, and the places of its nested uses
+abbrev pub play : ℕ → List ℕ → List ℕ → PlaceRow
+play action roles children = record { around = []; nest = 0; action = action; roles = roles; children = children }
+
+-- an instance inside others, the innermost first, for a nested use of the first of these
+abbrev pub inner : List ℕ → ℕ → ℕ → List ℕ → List ℕ → PlaceRow
+inner around nest action roles children = record { around = around; nest = nest; action = action; roles = roles; children = children }
+
+-- ---- what computing shows
+
+-- each number below n passes the test
+abbrev pub each_below : ℕ → (ℕ → Bool) → Bool
+each_below zero test = true
+each_below (suc n) test = test n && each_below n test
+
+pub at_below : (n : ℕ) (test : ℕ → Bool) → each_below n test ≡ true → (k : ℕ) → k < n → test k ≡ true
+at_below zero test h k l = absurd (omega arith)
+at_below (suc n) test h k l =
+    let parts = and_parts _ _ h in
+    below_more (λ m. test m ≡ true) n (at_below n test parts.1) parts.0 k (omega arith)
+
+-- a test that x is the least cover of xs
+abbrev pub is_least_cover : CoverOrder → List ℕ → ℕ → Bool
+is_least_cover order xs x =
+    nat_lt x order.count
+    && (covers_each order x xs && each_below order.count (λ y. not (covers_each order y xs) || covers order y x))
+
+pub least_cover_from : (order : CoverOrder) (xs : List ℕ) (x : ℕ) → is_least_cover order xs x ≡ true → IsLeastCover order xs x
+least_cover_from order xs x h =
+    let parts = and_parts _ _ h in
+    let inner = and_parts _ _ parts.1 in
+    record {
+      in_range = ltb-true _ _ parts.0;
+      above = inner.0;
+      least = λ y l c. implied (covers_each order y xs) (covers order y x) (at_below order.count _ inner.1 y l) c;
+    }
+  where
+    implied : (a b : Bool) → not a || b ≡ true → a ≡ true → b ≡ true
+    implied true b h e = h
+    implied false b h e = absurd (false≢true e)
+
+-- a journal is complete where all its participants are over
+pub complete_from : (plan : Plan) (journal : List Entry) → each_below (length plan.participants) (over plan (reverse journal)) ≡ true → IsComplete plan journal
+complete_from plan journal h = at_below _ _ h
+
+-- each entry has fields that fit its kind
+abbrev pub AreWellFormed : Plan → List Entry → Type 0
+AreWellFormed plan [] = Unit {0}
+AreWellFormed plan (e ∷ entries) = IsWellFormed plan e × AreWellFormed plan entries
+
+-- the rule that the nth newest entry keeps
+abbrev pub RowAt : Plan → ℕ → List Entry → Type 0
+RowAt plan n [] = Unit {0}
+RowAt plan zero (e ∷ past) = MayFollow plan past e
+RowAt plan (suc n) (e ∷ past) = RowAt plan n past
+
+pub row_at : (plan : Plan) (n : ℕ) (past : List Entry) → LegalPast plan past → RowAt plan n past
+row_at plan n [] h = tt
+row_at plan zero (e ∷ past) h = h.1
+row_at plan (suc n) (e ∷ past) h = row_at plan n past h.0
+
+-- the rule that the entry with this index in a legal journal keeps
+pub rule_at : (plan : Plan) (journal : List Entry) (index : ℕ) → IsLegal plan journal → RowAt plan (length journal - suc index) (reverse journal)
+rule_at plan journal index h = row_at plan _ _ h
+
+-- ---- values, by one call for each entry
+
+abbrev pub value_along : Plan → ℕ → List ℕ → List Entry → ℤ
+value_along plan o undone [] = initial_of plan o
+value_along plan o undone (e ∷ past) =
+    if not (restores o e) && (writes o e && not (within_any plan e.place undone)) then e.value
+    else value_along plan o (if restores o e then e.place ∷ undone else undone) past
+
+pub value_outside_is : (plan : Plan) (o : ℕ) (undone : List ℕ) (past : List Entry) → value_outside plan o undone past ≡ value_along plan o undone past
+value_outside_is plan o undone [] = refl
+value_outside_is plan o undone (e ∷ past) =
+    choose (restores o e) (writes o e && not (within_any plan e.place undone)) (λ u. value_outside_is plan o u past)
+  where
+    choose : (r w : Bool) → ((u : List ℕ) → value_outside plan o u past ≡ value_along plan o u past) → cond r (value_outside plan o (e.place ∷ undone) past) (cond w e.value (value_outside plan o undone past)) ≡ cond (not r && w) e.value (value_along plan o (cond r (e.place ∷ undone) undone) past)
+    choose true w same = same (e.place ∷ undone)
+    choose false true same = refl
+    choose false false same = same undone
+
+-- the value of an object, computed so
+pub value_is : (plan : Plan) (o : ℕ) (past : List Entry) (v : ℤ) → value_along plan o [] past ≡ v → value_of plan o past ≡ v
+value_is plan o past v h = value_outside_is plan o [] past ∙ h
