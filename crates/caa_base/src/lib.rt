@@ -11,4 +11,5 @@ pub mod reading;
 pub mod rows;
 pub mod sink;
 pub mod source;
+pub mod standard;
 pub mod work;
