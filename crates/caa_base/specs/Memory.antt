@@ -1,5 +1,5 @@
 -- What sources, sinks and plants in memory are seen as.
-use Rattle.std.specs.Prelude.{ℕ, ◌+◌, ◌-◌, ◌^◌, min, Bool, ◌==◌, ◌&&◌, List, [], length, nat_lt, if◌then◌else◌, Option, Some, None}
+use Rattle.std.specs.Prelude.{ℕ, ◌+◌, ◌-◌, ◌^◌, min, Bool, ◌==◌, ◌&&◌, List, [], length, nat_lt, if◌then◌else◌, Option, Some, None, Result, Ok, Err}
 use Rattle.caa_base.specs.declared.entry.Drill.{Drill}
 use Rattle.std.specs.List.{list_any}
 use Rattle.caa_base.specs.Device.{Device}
@@ -7,6 +7,11 @@ use Rattle.caa_base.specs.Device.{Device}
 -- a count after one more; it stops at the last number that it can show
 abbrev pub counted_up : ℕ → ℕ
 counted_up count = min (count + 1) (2 ^ 64 - 1)
+
+-- a count of faults after a call that gave this answer
+abbrev pub faults_after : {T E : Type 0} → Result T E → ℕ → ℕ
+faults_after (Ok v) faults = faults
+faults_after (Err e) faults = counted_up faults
 
 -- the numbers of the calls that fail, how many calls came, and how many of them failed
 pub record Failures : Type 0 where

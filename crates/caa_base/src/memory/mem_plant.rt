@@ -1,7 +1,6 @@
-ghost use Rattle.std.specs.Prelude.{◌≡◌, ◌<◌, ◌≤◌, ◌+◌, ◌↔◌, [], Bool, length, replicate, slice_set, slice_index, slice_index_or, is_some, Some, IsTrue, IsErr, IsErrOf, OnOk, OnErr};
-ghost use Rattle.caa_base.specs.Counts.{Rose};
-ghost use Rattle.caa_base.specs.Device.{after_lay, after_put};
-ghost use Rattle.caa_base.specs.Memory.{counted_up, is_drilled};
+ghost use Rattle.std.specs.Prelude.{◌≡◌, ◌<◌, ◌≤◌, ◌+◌, ◌↔◌, [], length, replicate, slice_set, slice_index, slice_index_or, if◌then◌else◌, Some, IsTrue, IsErr, IsErrOf, OnOk, OnErr};
+ghost use Rattle.caa_base.specs.Device.{after_put};
+ghost use Rattle.caa_base.specs.Memory.{counted_up, faults_after, is_drilled};
 
 use crate::entry::{Drill, Failed, Object, OutOfMemory};
 use crate::memory::drills::Drills;
@@ -99,21 +98,18 @@ impl Plant for MemPlant {
         puts: u64,
     ) -> Result<(), PlantError>
         ensures fails { IsErrOf result PlantError.Failed ↔ IsTrue self.old.fail_lay }
-        ensures fail_lay { self.new.fail_lay ≡ self.old.fail_lay }
+        ensures values { OnOk result (self.new.plant.device.values ≡ values.now) }
+        ensures puts { OnOk result (self.new.plant.device.puts ≡ []) }
+        ensures calls { OnOk result (self.new.plant.calls ≡ 0) }
+        ensures room { OnOk result (self.new.plant.room ≡ puts) }
         ensures drills { OnOk result (self.new.drills.laid ≡ drills.now) }
         ensures none_yet { OnOk result (self.new.drills.calls ≡ replicate (length values.now) 0) }
         ensures kept { OnErr result (self.new.plant ≡ self.old.plant) }
         ensures drills_kept { OnErr result (self.new.drills ≡ self.old.drills) }
-
-        ensures device { OnOk result (Some self.new.plant.device ≡ after_lay (Some self.old.plant.device) values.now) }
-        ensures calls { OnOk result (self.new.plant.calls ≡ 0) }
-        ensures room { OnOk result (self.new.plant.room ≡ puts) }
-        ensures objects { OnOk result (length self.new.plant.device.values ≡ length values.now) }
-        ensures refused { OnErr result (self.new.plant.calls ≡ self.old.plant.calls) }
-        ensures told { is_some (Some self.new.plant.device) ≡ is_some (Some self.old.plant.device) }
-        ensures count { self.old.lay_faults ≤ self.new.lay_faults }
-        ensures cause { IsErrOf result PlantError.Failed → Rose self.old.lay_faults self.new.lay_faults }
-        ensures put_faults { self.new.faults ≡ self.old.faults }
+        ensures lay_faults { self.new.lay_faults ≡ (if self.old.fail_lay then counted_up self.old.lay_faults else self.old.lay_faults) }
+        ensures no_fewer { self.old.lay_faults ≤ self.new.lay_faults }
+        ensures faults { self.new.faults ≡ self.old.faults }
+        ensures fail_lay { self.new.fail_lay ≡ self.old.fail_lay }
     {
         if self.fail_lay {
             self.lay_faults = self.lay_faults.saturating_add(1);
@@ -133,18 +129,16 @@ impl Plant for MemPlant {
         requires room { self.old.plant.calls < self.old.plant.room }
         requires laid { object < length self.old.plant.device.values }
         ensures fails { IsErr result ↔ IsTrue (is_drilled self.old.drills.laid object (counted_up (slice_index self.old.drills.calls object))) }
-        ensures calls_of { self.new.drills.calls ≡ slice_set self.old.drills.calls object (counted_up (slice_index self.old.drills.calls object)) }
-        ensures drills { self.new.drills.laid ≡ self.old.drills.laid }
-        ensures fail_lay { self.new.fail_lay ≡ self.old.fail_lay }
-
         ensures done { OnOk result (Some self.new.plant.device ≡ after_put (Some self.old.plant.device) object value) }
-        ensures failed { OnErr result (Some self.new.plant.device ≡ Some self.old.plant.device) }
+        ensures kept { OnErr result (self.new.plant.device ≡ self.old.plant.device) }
         ensures calls { self.new.plant.calls ≡ self.old.plant.calls + 1 }
         ensures room { self.new.plant.room ≡ self.old.plant.room }
-        ensures objects { length self.new.plant.device.values ≡ length self.old.plant.device.values }
-        ensures count { self.old.faults ≤ self.new.faults }
-        ensures cause { OnErr result (Rose self.old.faults self.new.faults) }
+        ensures drills { self.new.drills.laid ≡ self.old.drills.laid }
+        ensures calls_of { self.new.drills.calls ≡ slice_set self.old.drills.calls object (counted_up (slice_index self.old.drills.calls object)) }
+        ensures faults { self.new.faults ≡ faults_after result self.old.faults }
+        ensures no_fewer { self.old.faults ≤ self.new.faults }
         ensures lay_faults { self.new.lay_faults ≡ self.old.lay_faults }
+        ensures fail_lay { self.new.fail_lay ≡ self.old.fail_lay }
     {
         if self.is_refused(object) {
             self.plant.skip();
