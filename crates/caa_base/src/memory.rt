@@ -10,3 +10,5 @@ pub mod mem_source;
 pub mod sure_plant;
 pub mod sure_sink;
 pub mod sure_source;
+#[cfg(test)]
+mod tests;
