@@ -12,4 +12,6 @@ pub mod rows;
 pub mod sink;
 pub mod source;
 pub mod standard;
+#[cfg(test)]
+mod tests;
 pub mod work;

@@ -1,9 +1,9 @@
 //! The outside in memory: a source, a sink and a plant that never fail by themselves (`Sure..`),
 //! and those that fail where that was asked for (`Mem..`).
 
-pub mod drills;
-pub mod failures;
-pub mod laid;
+mod drills;
+mod failures;
+mod laid;
 pub mod mem_plant;
 pub mod mem_sink;
 pub mod mem_source;

@@ -59,6 +59,13 @@ impl MemPlant {
         self.plant.value(object)
     }
 
+    /// The puts that were made since the plant was laid out, the oldest first.
+    pub fn puts(&self) -> &[(Object, i64)]
+        ensures { result.now ≡ self.now.plant.device.puts }
+    {
+        self.plant.puts()
+    }
+
     /// Counts one more put of this object, and says whether a drill refuses it.
     fn is_refused(&mut self, object: Object) -> bool
         requires { object < length self.old.plant.device.values }

@@ -8,7 +8,7 @@ use std::alloc::Global;
 use std::marker::Model;
 
 /// A plant in memory that never fails.
-#[derive(Debug, Drop)]
+#[derive(Debug, Default, Drop)]
 pub struct SurePlant {
     laid: Option<Laid>,
     calls: u64,
@@ -52,8 +52,23 @@ impl SurePlant {
         }
     }
 
+    /// The puts that were made since the plant was laid out, the oldest first.
+    pub fn puts(&self) -> &[(Object, i64)]
+        ensures { result.now ≡ self.now.device.puts }
+    {
+        match &self.laid {
+            Some(laid) => laid.puts(),
+            None => &[],
+        }
+    }
+
     /// Lays out these values, and room for so many puts. Where no memory is found, all stays as it was.
-    pub fn lay_out(&mut self, alloc: Global, values: &[i64], puts: u64) -> Result<(), OutOfMemory>
+    pub(super) fn lay_out(
+        &mut self,
+        alloc: Global,
+        values: &[i64],
+        puts: u64,
+    ) -> Result<(), OutOfMemory>
         ensures values { OnOk result (self.new.device.values ≡ values.now) }
         ensures puts { OnOk result (self.new.device.puts ≡ []) }
         ensures calls { OnOk result (self.new.calls ≡ 0) }
@@ -68,7 +83,7 @@ impl SurePlant {
     }
 
     /// Sets the value of an object, and keeps the put.
-    pub fn set(&mut self, object: Object, value: i64)
+    pub(super) fn set(&mut self, object: Object, value: i64)
         requires room { self.old.calls < self.old.room }
         requires laid { object < length self.old.device.values }
         ensures device { Some self.new.device ≡ after_put (Some self.old.device) object value }
@@ -82,7 +97,7 @@ impl SurePlant {
     }
 
     /// Counts a put that was refused.
-    pub fn skip(&mut self)
+    pub(super) fn skip(&mut self)
         requires room { self.old.calls < self.old.room }
         ensures device { self.new.device ≡ self.old.device }
         ensures calls { self.new.calls ≡ self.old.calls + 1 }

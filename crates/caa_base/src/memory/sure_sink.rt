@@ -57,7 +57,7 @@ impl SureSink {
     }
 
     /// Appends as much of the front of the piece as fits the room, and says how much.
-    pub fn append(&mut self, piece: &[u8]) -> usize
+    pub(super) fn append(&mut self, piece: &[u8]) -> usize
         ensures most { result ≡ min (length piece.now) (self.old.room - length self.old.held) }
         ensures held { self.new.held ≡ self.old.held ++ take result piece.now }
         ensures room { self.new.room ≡ self.old.room }

@@ -67,6 +67,7 @@ fn a_plant_refuses_the_puts_that_were_drilled(rt: HostRuntime) -> Result<(), Fai
     assert_eq!(rt; plant.put(1, 4), Ok(()));
     assert_eq!(rt; plant.put(0, 5), Ok(()));
     assert_eq!(rt; plant.put(0, 6), Err(Failed));
+    assert_eq!(rt; plant.puts(), [(1, 1), (0, 3), (1, 4), (0, 5)].as_slice());
     assert_eq!(rt; plant.value(0), 5);
     assert_eq!(rt; plant.value(1), 4);
     assert_eq!(rt; plant.faults(), 2);
@@ -92,6 +93,7 @@ fn a_sure_plant_takes_every_put(rt: HostRuntime) -> Result<(), Fail> {
     plant.lay(rt.alloc(), &[7], &drills, 2)?;
     assert_eq!(rt; plant.put(0, -7), Ok(()));
     assert_eq!(rt; plant.value(0), -7);
+    assert_eq!(rt; plant.puts(), [(0, -7)].as_slice());
     assert_eq!(rt; plant.faults(), 0);
     assert_eq!(rt; plant.lay_faults(), 0);
     Ok(())

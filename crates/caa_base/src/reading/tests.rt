@@ -112,17 +112,3 @@ fn a_write_that_fails_ends_the_writing(rt: HostRuntime) -> Result<(), Fail> {
     assert_eq!(rt; sink.faults(), 1);
     Ok(())
 }
-
-#[test]
-fn errors_have_their_texts(rt: HostRuntime) -> Result<(), Fail> {
-    let texts = [
-        (ReadError::Fault, "the input can't be read"),
-        (ReadError::TooLong, "the input is too long"),
-        (ReadError::OutOfMemory, "out of memory"),
-    ];
-    for (error, text) in texts {
-        let shown = error.to_string(rt.alloc())?;
-        assert_eq!(rt; shown.as_str(), text);
-    }
-    Ok(())
-}
