@@ -11,4 +11,7 @@ pub mod reading;
 pub mod rows;
 pub mod sink;
 pub mod source;
+pub mod standard;
+#[cfg(test)]
+mod tests;
 pub mod work;

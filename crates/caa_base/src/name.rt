@@ -36,3 +36,16 @@ impl Name {
         self.text.as_slice()
     }
 }
+
+#[cfg(test)]
+mod tests {
+    use super::*;
+    use std::test::Fail;
+
+    #[test]
+    fn gives_its_bytes_back(rt: HostRuntime) -> Result<(), Fail> {
+        let name = Name::from_bytes(rt.alloc(), b"pump")?;
+        assert_eq!(rt; name.bytes(), b"pump".as_slice());
+        Ok(())
+    }
+}

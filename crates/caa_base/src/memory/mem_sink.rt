@@ -1,7 +1,5 @@
-ghost use Rattle.std.specs.Prelude.{◌≡◌, ◌<◌, ◌≤◌, ◌-◌, ◌⊎◌, ◌↔◌, [], min, length, take, Some, IsErr, IfOk, OnErr, Contains};
-ghost use Rattle.std.specs.Io.KnownBytes.{append_known};
-ghost use Rattle.caa_base.specs.Counts.{Rose};
-ghost use Rattle.caa_base.specs.Memory.{counted_up};
+ghost use Rattle.std.specs.Prelude.{◌≡◌, ◌<◌, ◌≤◌, ◌-◌, ◌++◌, ◌⊎◌, ◌↔◌, [], min, length, take, Some, IsErr, IfOk, OnErr, Contains};
+ghost use Rattle.caa_base.specs.Memory.{counted_up, faults_after};
 
 use crate::entry::{Failed, OutOfMemory};
 use crate::memory::failures::Failures;
@@ -59,17 +57,14 @@ impl Sink for MemSink {
     fn write(&mut self, piece: &[u8]) -> Result<usize, Failed>
         requires { 0 < length piece.now }
         ensures fails { IsErr result ↔ (Contains self.old.failures.at self.new.failures.calls ⊎ (self.old.room ≤ length self.old.held)) }
-        ensures calls { self.new.failures.calls ≡ counted_up self.old.failures.calls }
-        ensures at { self.new.failures.at ≡ self.old.failures.at }
         ensures most { IfOk result (λ n. n ≡ min (length piece.now) (self.old.room - length self.old.held)) }
-
-        ensures some { IfOk result (λ n. 0 < n) }
-        ensures bound { IfOk result (λ n. n ≤ length piece.now) }
-        ensures bytes { IfOk result (λ n. Some self.new.held ≡ append_known (Some self.old.held) (take n piece.now)) }
-        ensures failed { OnErr result (Some self.new.held ≡ Some self.old.held) }
-        ensures room { Some self.new.room ≡ Some self.old.room }
-        ensures count { self.old.failures.faults ≤ self.new.failures.faults }
-        ensures cause { OnErr result (Rose self.old.failures.faults self.new.failures.faults) }
+        ensures appended { IfOk result (λ n. self.new.held ≡ self.old.held ++ take n piece.now) }
+        ensures kept { OnErr result (self.new.held ≡ self.old.held) }
+        ensures room { self.new.room ≡ self.old.room }
+        ensures calls { self.new.failures.calls ≡ counted_up self.old.failures.calls }
+        ensures faults { self.new.failures.faults ≡ faults_after result self.old.failures.faults }
+        ensures no_fewer { self.old.failures.faults ≤ self.new.failures.faults }
+        ensures at { self.new.failures.at ≡ self.old.failures.at }
     {
         if self.failures.is_next() || self.sink.is_full() {
             self.failures.add_fault();

@@ -1,7 +1,5 @@
 ghost use Rattle.std.specs.Prelude.{◌≡◌, ◌<◌, ◌≤◌, ◌↔◌, ◌++◌, [], min, length, take, Some, IsErr, IfOk, OnErr, Contains};
-ghost use Rattle.std.specs.Io.KnownBytes.{prepend_known, IsAtEnd};
-ghost use Rattle.caa_base.specs.Counts.{Rose};
-ghost use Rattle.caa_base.specs.Memory.{counted_up};
+ghost use Rattle.caa_base.specs.Memory.{counted_up, faults_after};
 
 use crate::entry::{Failed, OutOfMemory};
 use crate::memory::failures::Failures;
@@ -54,16 +52,14 @@ impl Source for MemSource {
     fn read(&mut self, buf: &mut [u8]) -> Result<usize, Failed>
         requires { 0 < length buf.old }
         ensures fails { IsErr result ↔ Contains self.old.failures.at self.new.failures.calls }
-        ensures calls { self.new.failures.calls ≡ counted_up self.old.failures.calls }
-        ensures at { self.new.failures.at ≡ self.old.failures.at }
         ensures most { IfOk result (λ n. n ≡ min (length self.old.left) (length buf.new)) }
-
-        ensures bound { IfOk result (λ n. n ≤ length buf.new) }
-        ensures bytes { IfOk result (λ n. Some self.old.left ≡ prepend_known (take n buf.new) (Some self.new.left)) }
-        ensures end { IfOk result (λ n. n ≡ 0 → IsAtEnd (Some self.new.left)) }
-        ensures failed { OnErr result (Some self.new.left ≡ Some self.old.left) }
-        ensures count { self.old.failures.faults ≤ self.new.failures.faults }
-        ensures cause { OnErr result (Rose self.old.failures.faults self.new.failures.faults) }
+        ensures taken { IfOk result (λ n. self.old.left ≡ take n buf.new ++ self.new.left) }
+        ensures end { IfOk result (λ n. n ≡ 0 → self.new.left ≡ []) }
+        ensures kept { OnErr result (self.new.left ≡ self.old.left) }
+        ensures calls { self.new.failures.calls ≡ counted_up self.old.failures.calls }
+        ensures faults { self.new.failures.faults ≡ faults_after result self.old.failures.faults }
+        ensures no_fewer { self.old.failures.faults ≤ self.new.failures.faults }
+        ensures at { self.new.failures.at ≡ self.old.failures.at }
     {
         if self.failures.is_next() {
             self.failures.add_fault();

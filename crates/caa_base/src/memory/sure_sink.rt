@@ -1,7 +1,5 @@
 ghost use Rattle.std.specs.Prelude.{◌≡◌, ◌<◌, ◌≤◌, ◌-◌, ◌++◌, ◌↔◌, [], min, length, take, Some, IsTrue, IsErr, IfOk, OnOk, OnErr};
-ghost use Rattle.std.specs.Io.KnownBytes.{append_known};
-ghost use Rattle.caa_base.specs.Counts.{Rose};
-ghost use Rattle.caa_base.specs.Memory.{counted_up, refused_by};
+ghost use Rattle.caa_base.specs.Memory.{faults_after, refused_by};
 
 use crate::entry::{Failed, OutOfMemory};
 use crate::sink::Sink;
@@ -17,14 +15,14 @@ pub struct SureSink {
 }
 
 impl Model for SureSink {
-    ghost use Rattle.std.specs.Prelude.{◌≤◌, length, vec_capacity};
+    ghost use Rattle.std.specs.Prelude.{◌≡◌, ◌<◌, ◌≤◌, length, vec_capacity};
     ghost use Rattle.caa_base.specs.Memory.{FullSink};
 
     ghost Value = { FullSink };
 
     ghost view = { λ s. record { held = s.bytes.items; room = s.room; refused = s.refused } };
 
-    ghost invariant = { λ s. (length s.bytes.items ≤ s.room) × (s.room ≤ vec_capacity s.bytes) };
+    ghost invariant = { λ s. record { fits : length s.bytes.items ≤ s.room; memory : s.room ≤ vec_capacity s.bytes; willing : length s.bytes.items < s.room → s.refused ≡ 0 } };
 }
 
 impl SureSink {
@@ -59,7 +57,7 @@ impl SureSink {
     }
 
     /// Appends as much of the front of the piece as fits the room, and says how much.
-    pub fn append(&mut self, piece: &[u8]) -> usize
+    pub(super) fn append(&mut self, piece: &[u8]) -> usize
         ensures most { result ≡ min (length piece.now) (self.old.room - length self.old.held) }
         ensures held { self.new.held ≡ self.old.held ++ take result piece.now }
         ensures room { self.new.room ≡ self.old.room }
@@ -83,14 +81,11 @@ impl Sink for SureSink {
         requires { 0 < length piece.now }
         ensures full { IsErr result ↔ (self.old.room ≤ length self.old.held) }
         ensures most { IfOk result (λ n. n ≡ min (length piece.now) (self.old.room - length self.old.held)) }
-
-        ensures some { IfOk result (λ n. 0 < n) }
-        ensures bound { IfOk result (λ n. n ≤ length piece.now) }
-        ensures bytes { IfOk result (λ n. Some self.new.held ≡ append_known (Some self.old.held) (take n piece.now)) }
-        ensures failed { OnErr result (Some self.new.held ≡ Some self.old.held) }
-        ensures room { Some self.new.room ≡ Some self.old.room }
-        ensures count { refused_by self.old ≤ refused_by self.new }
-        ensures cause { OnErr result (Rose (refused_by self.old) (refused_by self.new)) }
+        ensures appended { IfOk result (λ n. self.new.held ≡ self.old.held ++ take n piece.now) }
+        ensures kept { OnErr result (self.new.held ≡ self.old.held) }
+        ensures room { self.new.room ≡ self.old.room }
+        ensures faults { refused_by self.new ≡ faults_after result (refused_by self.old) }
+        ensures no_fewer { refused_by self.old ≤ refused_by self.new }
     {
         if self.is_full() {
             self.refused = self.refused.saturating_add(1);

@@ -41,7 +41,7 @@ impl SureSource {
     }
 
     /// Takes as many of the bytes that are left as fit the buffer, and says how many.
-    pub fn take(&mut self, buf: &mut [u8]) -> usize
+    pub(super) fn take(&mut self, buf: &mut [u8]) -> usize
         ensures most { result ≡ min (length self.old) (length buf.old) }
         ensures taken { self.old ≡ take result buf.new ++ self.new }
     {

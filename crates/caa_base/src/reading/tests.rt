@@ -1,0 +1,114 @@
+use super::*;
+use crate::memory::mem_sink::MemSink;
+use crate::memory::mem_source::MemSource;
+use crate::memory::sure_sink::SureSink;
+use crate::memory::sure_source::SureSource;
+use std::test::Fail;
+
+const TEXT: &[u8; 10] = b"some bytes";
+
+/// A source that gives at most one byte a call.
+#[derive(Drop)]
+struct OneByteSource<S>(S);
+
+impl<S: Source> Source for OneByteSource<S> {
+    ghost faults = { λ s. S.faults s.0 };
+
+    ghost left = { λ s. S.left s.0 };
+
+    fn read(&mut self, buf: &mut [u8]) -> Result<usize, Failed> {
+        self.0.read(&mut buf[..1])
+    }
+
+    fn faults(&self) -> u64 {
+        self.0.faults()
+    }
+}
+
+/// A sink that takes at most one byte a call.
+#[derive(Drop)]
+struct OneByteSink<K>(K);
+
+impl<K: Sink> Sink for OneByteSink<K> {
+    ghost faults = { λ s. K.faults s.0 };
+
+    ghost held = { λ s. K.held s.0 };
+
+    ghost room = { λ s. K.room s.0 };
+
+    fn write(&mut self, piece: &[u8]) -> Result<usize, Failed> {
+        self.0.write(&piece[..1])
+    }
+
+    fn faults(&self) -> u64 {
+        self.0.faults()
+    }
+}
+
+#[test]
+fn reads_up_to_the_limit(rt: HostRuntime) -> Result<(), Fail> {
+    let mut source = SureSource::new(rt.alloc(), TEXT)?;
+    let bytes = read_all(rt.alloc(), &mut source, 10)?;
+    assert_eq!(rt; bytes.as_slice(), TEXT.as_slice());
+    assert_eq!(rt; source.left().len(), 0);
+
+    let mut source = OneByteSource(MemSource::new(rt.alloc(), TEXT, &[])?);
+    let bytes = read_all(rt.alloc(), &mut source, 10)?;
+    assert_eq!(rt; bytes.as_slice(), TEXT.as_slice());
+
+    let many = vec![in rt.alloc(); 7u8; 10_000]?;
+    let mut source = SureSource::new(rt.alloc(), &many)?;
+    let bytes = read_all(rt.alloc(), &mut source, u64::MAX)?;
+    assert_eq!(rt; bytes.as_slice(), many.as_slice());
+    Ok(())
+}
+
+#[test]
+fn reads_one_byte_past_the_limit(rt: HostRuntime) -> Result<(), Fail> {
+    for limit in 0..10u64 {
+        let mut source = MemSource::new(rt.alloc(), TEXT, &[])?;
+        let result = read_all(rt.alloc(), &mut source, limit);
+        assert_eq!(rt; result.err(), Some(ReadError::TooLong), "limit {limit}");
+        assert_eq!(rt; source.left().len() as u64 + limit, 9, "limit {limit}");
+    }
+    Ok(())
+}
+
+#[test]
+fn a_read_that_fails_ends_the_reading(rt: HostRuntime) -> Result<(), Fail> {
+    let mut source = OneByteSource(MemSource::new(rt.alloc(), TEXT, &[4])?);
+    let result = read_all(rt.alloc(), &mut source, 10);
+    assert_eq!(rt; result.err(), Some(ReadError::Fault));
+    assert_eq!(rt; source.faults(), 1);
+    let rest = read_all(rt.alloc(), &mut source, 10)?;
+    assert_eq!(rt; rest.as_slice(), b"e bytes".as_slice());
+    Ok(())
+}
+
+#[test]
+fn writes_all(rt: HostRuntime) -> Result<(), Fail> {
+    let mut sink = SureSink::new(rt.alloc(), 10)?;
+    write_all(&mut sink, TEXT)?;
+    assert_eq!(rt; sink.bytes(), TEXT.as_slice());
+    write_all(&mut sink, &[])?;
+    assert_eq!(rt; sink.faults(), 0);
+
+    let mut sink = OneByteSink(MemSink::new(rt.alloc(), 10, &[])?);
+    write_all(&mut sink, TEXT)?;
+    assert_eq!(rt; sink.0.bytes(), TEXT.as_slice());
+    Ok(())
+}
+
+#[test]
+fn a_write_that_fails_ends_the_writing(rt: HostRuntime) -> Result<(), Fail> {
+    let mut full = SureSink::new(rt.alloc(), 4)?;
+    assert_eq!(rt; write_all(&mut full, TEXT), Err(Failed));
+    assert_eq!(rt; full.bytes(), b"some".as_slice());
+    assert_eq!(rt; full.faults(), 1);
+
+    let mut sink = OneByteSink(MemSink::new(rt.alloc(), 10, &[4])?);
+    assert_eq!(rt; write_all(&mut sink, TEXT), Err(Failed));
+    assert_eq!(rt; sink.0.bytes(), b"som".as_slice());
+    assert_eq!(rt; sink.faults(), 1);
+    Ok(())
+}
