@@ -37,13 +37,10 @@ is_put e = is_of kind.Write e || (is_of kind.Restore e && (e.mark == 0))
 abbrev pub object_and_value : Entry → ℕ × ℤ
 object_and_value e = (e.arg, e.value)
 
-abbrev pub puts_in : List Entry → List (ℕ × ℤ)
-puts_in [] = []
-puts_in (e ∷ entries) = if is_put e then object_and_value e ∷ puts_in entries else puts_in entries
-
 -- the puts of a journal that the device took, in order
 abbrev pub puts_of : List Entry → List (ℕ × ℤ)
-puts_of journal = puts_in journal
+puts_of [] = []
+puts_of (e ∷ entries) = if is_put e then object_and_value e ∷ puts_of entries else puts_of entries
 
 -- ---- committed values
 

@@ -40,14 +40,17 @@ writes o e = is_of kind.Write e && (e.arg == o)
 abbrev pub within_any : Plan → ℕ → List ℕ → Bool
 within_any plan p qs = list_any (within plan p) qs
 
+-- the places that have restored o after what stands before the entry
+abbrev pub undone_by : ℕ → Entry → List ℕ → List ℕ
+undone_by o e undone = if restores o e then e.place ∷ undone else undone
+
 -- the value of the last write of o that was made neither in nor inside a place that has restored o since, else the initial value;
 -- `undone` are the places whose restores stand after `past`
 abbrev pub value_outside : Plan → ℕ → List ℕ → List Entry → ℤ
 value_outside plan o undone [] = initial_of plan o
 value_outside plan o undone (e ∷ past) =
-    if restores o e then value_outside plan o (e.place ∷ undone) past
-    else (if writes o e && not (within_any plan e.place undone) then e.value
-    else value_outside plan o undone past)
+    if writes o e && not (within_any plan e.place undone) then e.value
+    else value_outside plan o (undone_by o e undone) past
 
 -- the value of o: that of its last write for which neither its place nor a place round it has a later restore of o that the
 -- device took, else the initial value

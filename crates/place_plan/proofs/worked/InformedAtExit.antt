@@ -23,7 +23,7 @@ use Rattle.place_plan.specs.Bound.{bound, action_bound}
 use Rattle.place_plan.specs.Unfolding.{plain_graph}
 use Rattle.place_plan.proofs.worked.Words.{arrive, start, read, write, raise, inform, resolve, handle, verdict_done, verdict_signal, end_signal, leave}
 use Rattle.place_plan.proofs.worked.Words.{universal, graph, object, program, handler, play}
-use Rattle.place_plan.proofs.worked.Words.{least_cover_from, complete_from, value_is, AreWellFormed}
+use Rattle.place_plan.proofs.worked.Words.{least_cover_from, complete_from, AreWellFormed}
 
 -- ---- the plan
 
@@ -145,7 +145,7 @@ complete = complete_from plan journal refl
 
 -- what the objects hold at the end
 pub values : (value_of plan x (reverse journal) ≡ pos 1) × (value_of plan y (reverse journal) ≡ pos 9)
-values = (value_is plan x (reverse journal) _ refl, value_is plan y (reverse journal) _ refl)
+values = (refl, refl)
 
 -- the puts that the device took
 pub puts : puts_of journal ≡ (x, pos 1) ∷ (y, pos 9) ∷ []

@@ -19,7 +19,7 @@ use Rattle.place_plan.specs.Bound.{bound, action_bound}
 use Rattle.place_plan.specs.Unfolding.{plain_graph}
 use Rattle.place_plan.proofs.worked.Words.{arrive, start, write, verdict_done, verdict_undo, undo, restore_well, end_commit, end_undone, leave}
 use Rattle.place_plan.proofs.worked.Words.{universal, object, program, play, inner}
-use Rattle.place_plan.proofs.worked.Words.{complete_from, value_is, AreWellFormed}
+use Rattle.place_plan.proofs.worked.Words.{complete_from, AreWellFormed}
 
 -- ---- the plan
 
@@ -124,7 +124,7 @@ complete = complete_from plan journal refl
 
 -- what the objects hold at the end
 pub values : value_of plan x (reverse journal) ≡ pos 1
-values = value_is plan x (reverse journal) _ refl
+values = refl
 
 -- the puts that the device took
 pub puts : puts_of journal ≡ (x, pos 5) ∷ (x, pos 1) ∷ []

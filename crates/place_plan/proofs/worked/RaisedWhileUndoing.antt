@@ -23,7 +23,7 @@ use Rattle.place_plan.specs.Bound.{bound, action_bound}
 use Rattle.place_plan.specs.Unfolding.{plain_graph}
 use Rattle.place_plan.proofs.worked.Words.{arrive, start, write, raise, resolve, handle, verdict_done, verdict_undo, undo, restore_well, end_commit, end_undone, leave, leave_carrying}
 use Rattle.place_plan.proofs.worked.Words.{universal, graph, object, program, handler, play, inner}
-use Rattle.place_plan.proofs.worked.Words.{least_cover_from, complete_from, value_is, AreWellFormed}
+use Rattle.place_plan.proofs.worked.Words.{least_cover_from, complete_from, AreWellFormed}
 
 -- ---- the plan
 
@@ -171,7 +171,7 @@ complete = complete_from plan journal refl
 
 -- what the objects hold at the end
 pub values : value_of plan x (reverse journal) ≡ pos 0
-values = value_is plan x (reverse journal) _ refl
+values = refl
 
 -- the puts that the device took
 pub puts : puts_of journal ≡ (x, pos 5) ∷ (x, pos 0) ∷ []

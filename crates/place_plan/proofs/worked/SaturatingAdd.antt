@@ -18,7 +18,7 @@ use Rattle.place_plan.specs.Bound.{bound, action_bound}
 use Rattle.place_plan.specs.Unfolding.{plain_graph}
 use Rattle.place_plan.proofs.worked.Words.{arrive, start, read, write, verdict_done, end_commit, leave}
 use Rattle.place_plan.proofs.worked.Words.{universal, object, program, play}
-use Rattle.place_plan.proofs.worked.Words.{complete_from, value_is, AreWellFormed}
+use Rattle.place_plan.proofs.worked.Words.{complete_from, AreWellFormed}
 
 -- ---- the plan
 
@@ -83,7 +83,7 @@ complete = complete_from plan journal refl
 
 -- what the objects hold at the end
 pub values : value_of plan x (reverse journal) ≡ pos 1000000000000
-values = value_is plan x (reverse journal) _ refl
+values = refl
 
 -- the puts that the device took
 pub puts : puts_of journal ≡ (x, pos 1000000000000) ∷ []

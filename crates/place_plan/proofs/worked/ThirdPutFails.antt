@@ -21,7 +21,7 @@ use Rattle.place_plan.specs.Bound.{bound, action_bound}
 use Rattle.place_plan.specs.Unfolding.{plain_graph}
 use Rattle.place_plan.proofs.worked.Words.{arrive, start, write, put_fault, resolve, handle, verdict_done, end_commit, leave}
 use Rattle.place_plan.proofs.worked.Words.{universal, graph, object, program, handler, play}
-use Rattle.place_plan.proofs.worked.Words.{least_cover_from, complete_from, value_is, AreWellFormed}
+use Rattle.place_plan.proofs.worked.Words.{least_cover_from, complete_from, AreWellFormed}
 
 -- ---- the plan
 
@@ -106,7 +106,7 @@ complete = complete_from plan journal refl
 
 -- what the objects hold at the end
 pub values : value_of plan x (reverse journal) ≡ pos 4
-values = value_is plan x (reverse journal) _ refl
+values = refl
 
 -- the puts that the device took
 pub puts : puts_of journal ≡ (x, pos 1) ∷ (x, pos 2) ∷ (x, pos 4) ∷ []

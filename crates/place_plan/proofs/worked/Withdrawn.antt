@@ -22,7 +22,7 @@ use Rattle.place_plan.specs.Bound.{bound, action_bound}
 use Rattle.place_plan.specs.Unfolding.{plain_graph}
 use Rattle.place_plan.proofs.worked.Words.{arrive, withdraw, start, raise, inform, resolve, handle, verdict_done, end_commit, leave}
 use Rattle.place_plan.proofs.worked.Words.{universal, graph, object, program, handler, play, inner}
-use Rattle.place_plan.proofs.worked.Words.{least_cover_from, complete_from, value_is, AreWellFormed}
+use Rattle.place_plan.proofs.worked.Words.{least_cover_from, complete_from, AreWellFormed}
 
 -- ---- the plan
 
@@ -166,7 +166,7 @@ complete = complete_from plan journal refl
 
 -- what the objects hold at the end
 pub values : value_of plan x (reverse journal) ≡ pos 0
-values = value_is plan x (reverse journal) _ refl
+values = refl
 
 -- the puts that the device took
 pub puts : puts_of journal ≡ []

@@ -210,25 +210,3 @@ row_at plan (suc n) (e ∷ past) h = row_at plan n past h.0
 -- the rule that the entry with this index in a legal journal keeps
 pub rule_at : (plan : Plan) (journal : List Entry) (index : ℕ) → IsLegal plan journal → RowAt plan (length journal - suc index) (reverse journal)
 rule_at plan journal index h = row_at plan _ _ h
-
--- ---- values, by one call for each entry
-
-abbrev pub value_along : Plan → ℕ → List ℕ → List Entry → ℤ
-value_along plan o undone [] = initial_of plan o
-value_along plan o undone (e ∷ past) =
-    if not (restores o e) && (writes o e && not (within_any plan e.place undone)) then e.value
-    else value_along plan o (if restores o e then e.place ∷ undone else undone) past
-
-pub value_outside_is : (plan : Plan) (o : ℕ) (undone : List ℕ) (past : List Entry) → value_outside plan o undone past ≡ value_along plan o undone past
-value_outside_is plan o undone [] = refl
-value_outside_is plan o undone (e ∷ past) =
-    choose (restores o e) (writes o e && not (within_any plan e.place undone)) (λ u. value_outside_is plan o u past)
-  where
-    choose : (r w : Bool) → ((u : List ℕ) → value_outside plan o u past ≡ value_along plan o u past) → cond r (value_outside plan o (e.place ∷ undone) past) (cond w e.value (value_outside plan o undone past)) ≡ cond (not r && w) e.value (value_along plan o (cond r (e.place ∷ undone) undone) past)
-    choose true w same = same (e.place ∷ undone)
-    choose false true same = refl
-    choose false false same = same undone
-
--- the value of an object, computed so
-pub value_is : (plan : Plan) (o : ℕ) (past : List Entry) (v : ℤ) → value_along plan o [] past ≡ v → value_of plan o past ≡ v
-value_is plan o past v h = value_outside_is plan o [] past ∙ h
