@@ -8,13 +8,13 @@ use Rattle.place_plan.specs.declared.rows.Step.{Step}
 use Rattle.place_plan.specs.declared.rows.Step.TheVariants as step
 use Rattle.place_plan.specs.PlanValue.{Plan}
 use Rattle.place_plan.specs.Words.{member}
-use Rattle.place_plan.specs.Places.{around, parent, roles_of, within, child}
+use Rattle.place_plan.specs.Places.{around, parent, roles_of, within}
 use Rattle.place_plan.specs.Whereabouts.{inside, all_inside, is_inside, started, ended}
 use Rattle.place_plan.specs.Raising.{calm, handling}
 use Rattle.place_plan.specs.Roles.{able, position, program_in, next_step}
 use Rattle.place_plan.specs.Rules.{Row, MayArrive, entered, arrival}
 use Rattle.place_plan.specs.Journals.{LegalPast}
-use Rattle.place_plan.specs.Tree.{IsTree}
+use Rattle.place_plan.specs.Tree.{IsTree, LeadsInside}
 use Rattle.place_plan.proofs.Words.{all_at, at_same, chosen}
 use Rattle.place_plan.proofs.Entries.{of_kind}
 
@@ -28,8 +28,7 @@ module _ (plan : Plan) (tree : IsTree plan) where
   entered_in : (q t p : ℕ) (x : Option ℕ) (n : ℕ) (s : Option Step) → slice_get (program_in plan q t x).steps n ≡ s → entered plan q s ≡ Some p → (around plan p ≡ q ∷ around plan q) × (member t (roles_of plan p) ≡ true)
   entered_in q t p x n None e h = absurd cc
   entered_in q t p x n (Some (step.Enter k)) e h =
-      let same : child plan q k ≡ p = cc in
-      subst (λ a. (around plan a ≡ q ∷ around plan q) × (member t (roles_of plan a) ≡ true)) same (tree.enters q t x n k e)
+      subst (LeadsInside plan q t) h (tree.enters q t x n k e)
   entered_in q t p x n (Some (step.Read a)) e h = absurd cc
   entered_in q t p x n (Some (step.Put a b)) e h = absurd cc
   entered_in q t p x n (Some (step.Add a b)) e h = absurd cc

@@ -80,9 +80,9 @@ objects_of plan p = (action_at plan p).objects
 abbrev pub uses : Plan → ℕ → ℕ → Bool
 uses plan p o = member o (objects_of plan p)
 
--- the place of a nested use
-abbrev pub child : Plan → ℕ → ℕ → ℕ
-child plan p nest = slice_index_or (place_at plan p).children nest 0
+-- the place of the nested use of this number, if p has one
+abbrev pub child : Plan → ℕ → ℕ → Option ℕ
+child plan p nest = slice_get (place_at plan p).children nest
 
 -- ---- what t plays in p
 

@@ -42,7 +42,7 @@ SaysVerdict e verdict.Undo = (e.mark ≡ 2) × (e.arg ≡ 0)
 
 -- the place that an enter step leads into
 abbrev pub entered : Plan → ℕ → Option Step → Option ℕ
-entered plan q (Some (step.Enter nest)) = Some (child plan q nest)
+entered plan q (Some (step.Enter nest)) = child plan q nest
 entered plan q _ = None
 
 -- where t arrives next: from no place in its next play, and from a calm place that it is able in, where its next step leads
