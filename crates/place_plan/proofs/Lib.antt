@@ -22,3 +22,4 @@ pub mod ClosedPlan
 pub mod Closing
 pub mod LawsKept
 pub mod worked
+pub mod Played
