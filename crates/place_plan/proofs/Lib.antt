@@ -23,3 +23,4 @@ pub mod Closing
 pub mod LawsKept
 pub mod worked
 pub mod Values
+pub mod Played

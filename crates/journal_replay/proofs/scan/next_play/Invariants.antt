@@ -1,0 +1,11 @@
+use Rattle.std.proofs.Common.{◌≡◌, drop, reverse}
+use Rattle.caa_base.specs.declared.entry.Kind.TheVariants as kind
+use Rattle.place_plan.specs.Words.{first_not}
+use Rattle.place_plan.specs.Places.{plays_with}
+use Rattle.place_plan.specs.Entries.{has_by}
+use Rattle.place_plan.specs.Roles.{next_play}
+use Rattle.journal_replay.proofs.scan.next_play.Given as goal
+
+abbrev pub invariant-loop-play : goal.invariant-loop-play
+invariant-loop-play l =
+    first_not (λ p. has_by kind.Arrive p l.by (reverse l.journal)) (plays_with l.plan l.by (drop l.play-index l.play-items)) ≡ next_play l.plan l.by (reverse l.journal)
