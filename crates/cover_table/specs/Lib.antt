@@ -1,1 +1,4 @@
+pub mod Common
 pub mod Cover
+pub mod Joins
+pub mod Sizes

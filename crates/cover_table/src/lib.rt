@@ -1,2 +1,10 @@
 //! Tables of least covers: from an order of exceptions, the least one that covers any two of them.
 #![tactic(auto)]
+
+mod joins;
+mod rows;
+mod sizes;
+
+pub use joins::JoinTable;
+pub use rows::{LIMIT, NoLeast, Order, Row};
+pub use sizes::AnyTable;
