@@ -1,3 +1,4 @@
+pub mod Checks
 pub mod Common
 pub mod Cover
 pub mod Joins
