@@ -1,8 +1,8 @@
 -- Bits of rows.
-use Rattle.std.proofs.Common.{◌≡◌, ℕ, ◌-◌, ◌^◌, ◌<◌, true, ◌⊎◌, inl, inr, bit_and, bit_or, arith}
+use Rattle.std.proofs.Common.{sym, ◌∙◌, ◌||◌, ◌≡◌, ℕ, ◌-◌, ◌^◌, ◌<◌, true, ◌⊎◌, inl, inr, bit_and, bit_or, arith}
 use Rattle.std.specs.Int.{bit_at}
 use Rattle.std.proofs.lemmas.Nat.Bits.{bit_at_and, bit_at_or, bit_at_ones, bit_at-lt}
-use Rattle.std.proofs.lemmas.Bool.{eqb-true, eq-eqb, cases_eq}
+use Rattle.std.proofs.lemmas.Bool.{eqb-true, eq-eqb, cases_eq, cases_Bool, or_left, or_right, or_from, false_from_ne_true, both_ways}
 use Rattle.cover_table.specs.Cover.{has_bit}
 
 -- a bit that is had is 1
@@ -55,3 +55,18 @@ had_from_right x y b h =
 -- a row of ones has each bit
 pub had_in_ones : (width b : ℕ) → b < width → has_bit (2 ^ width - 1) b ≡ true
 had_in_ones width b h = had_from_one _ b (bit_at_ones width b h)
+
+-- a bit of one row or another
+pub has_bit-or : (x y b : ℕ) → has_bit (bit_or x y) b ≡ (has_bit x b || has_bit y b)
+has_bit-or x y b =
+    elim (cases_Bool (has_bit x b)) [
+      | inl left ↦ had_from_left x y b left ∙ sym (or_left (has_bit x b) (has_bit y b) left)
+      | inr no_left ↦ elim (cases_Bool (has_bit y b)) [
+        | inl right ↦ had_from_right x y b right ∙ sym (or_right (has_bit x b) (has_bit y b) right)
+        | inr no_right ↦
+            false_from_ne_true (has_bit (bit_or x y) b) (λ had. elim (had_in_either x y b had) [
+              | inl left ↦ both_ways (has_bit x b) no_left left
+              | inr right ↦ both_ways (has_bit y b) no_right right
+            ]) ∙ sym (or_from (has_bit x b) (has_bit y b) no_left no_right)
+      ]
+    ]

@@ -5,7 +5,7 @@ use Rattle.std.proofs.lemmas.List.{length-take-le, get_or-set_same, get_or-set_o
 use Rattle.std.proofs.lemmas.List.Elements.{All-head, All-tail}
 use Rattle.std.proofs.lemmas.List.Folds.{list_all-append}
 use Rattle.std.proofs.lemmas.Bool.{and_parts, and_from, cases_order, cases_eq}
-use Rattle.cover_table.specs.Cover.{CoverOrder, covers, covers_each, order_of, order_of_rows, IsLeastCover, HasLeastCover, IsOrder, IsSound, IsFirstWithoutLeast, FailsAt}
+use Rattle.cover_table.specs.Cover.{CoverOrder, covers, covers_each, order_of, order_of_rows, IsLeastCover, HasLeastCover, IsOrder, IsSound, IsFirstWithoutLeast, FailsAt, SetsHaveLeastCovers}
 use Rattle.cover_table.specs.declared.rows.NoLeast.{NoLeast}
 
 -- the first rows of more tell the order of their number
@@ -136,3 +136,26 @@ least_more order xs x y z h in_range before both =
           let split = and_parts (covers_each order w xs) (covers order w y && true) (sym (list_all-append (covers order w) xs (y ∷ [])) ∙ each) in
           both.least w w_in (and_from _ _ (before.least w w_in split.0) split.1);
     }
+
+-- the least cover of one more and a list: that of the one more and the list's least cover
+pub least_cons : (order : CoverOrder) (x : ℕ) (xs : List ℕ) (y z : ℕ) → IsOrder order → All (λ m. m < order.count) xs → IsLeastCover order xs y → IsLeastCover order (x ∷ y ∷ []) z → IsLeastCover order (x ∷ xs) z
+least_cons order x xs y z h in_range before both =
+    let parts = and_parts (covers order z x) (covers order z y && true) both.above in
+    let last = and_parts (covers order z y) true parts.1 in
+    record {
+      in_range = both.in_range;
+      above = and_from _ _ parts.0 (covers_each-through order z y xs h both.in_range before.in_range in_range last.0 before.above);
+      least = λ w w_in each.
+          let split = and_parts (covers order w x) (covers_each order w xs) each in
+          both.least w w_in (and_from _ _ split.0 (and_from _ _ (before.least w w_in split.1) refl));
+    }
+
+-- where each two have a least cover, each list that isn't empty has one
+pub sound_sets : (order : CoverOrder) → IsSound order → SetsHaveLeastCovers order
+sound_sets order sound [] some in_range = absurd (omega arith)
+sound_sets order sound (x ∷ []) some in_range = (x, least-one order x sound.is_order (All-head (λ m. m < order.count) x [] in_range))
+sound_sets order sound (x ∷ y ∷ xs) some in_range =
+    let others = All-tail (λ m. m < order.count) x (y ∷ xs) in_range in
+    let before = sound_sets order sound (y ∷ xs) (omega arith) others in
+    let joined = sound.pairs x before.0 (All-head (λ m. m < order.count) x (y ∷ xs) in_range) before.1.in_range in
+    (joined.0, least_cons order x (y ∷ xs) before.0 joined.0 sound.is_order others before.1 joined.1)

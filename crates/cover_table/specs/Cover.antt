@@ -1,5 +1,5 @@
 -- The order of exceptions, and the least one that covers several.
-use Rattle.std.specs.Prelude.{◌≡◌, ℕ, ◌==◌, ◌/◌, ◌%◌, ◌^◌, ◌<◌, ◌⊎◌, Bool, true, List, [], ◌∷◌, length, take, slice_index}
+use Rattle.std.specs.Prelude.{◌≡◌, ℕ, ◌==◌, ◌/◌, ◌%◌, ◌^◌, ◌<◌, ◌⊎◌, Bool, true, List, [], ◌∷◌, length, take, slice_index, All}
 use Rattle.std.specs.List.{list_all}
 
 -- which of the numbers below `count` cover which: row a has bit b where a covers b
@@ -47,6 +47,10 @@ HasLeastCover order xs = (x : ℕ) × IsLeastCover order xs x
 pub record IsSound (order : CoverOrder) : Type 0 where
   pub is_order : IsOrder order
   pub pairs : (a b : ℕ) → a < order.count → b < order.count → HasLeastCover order (a ∷ b ∷ [])
+
+-- each list of numbers that isn't empty has a least cover
+abbrev pub SetsHaveLeastCovers : CoverOrder → Type 0
+SetsHaveLeastCovers order = (xs : List ℕ) → 0 < length xs → All (λ x. x < order.count) xs → HasLeastCover order xs
 
 -- the pair (a, b) comes before (c, d): by its first number, and then by its second
 abbrev pub ComesBefore : ℕ → ℕ → ℕ → ℕ → Type 0

@@ -114,7 +114,8 @@ impl<const N: usize> JoinTable<N> {
 
     /// An order that has a table is sound: each two of its numbers have a least cover.
     pub fn is_sound(&self)
-        ensures { IsSound self.now }
+        ensures sound { IsSound self.now }
+        ensures few { self.now.count ≤ LIMIT }
     {
         let _ = &self.joins;
     }

@@ -10,5 +10,5 @@ mod tests;
 
 pub use checks::is_order;
 pub use joins::JoinTable;
-pub use rows::{LIMIT, NoLeast, Order, Row};
+pub use rows::{LIMIT, NoLeast, Order, Row, has_bit, with_bit};
 pub use sizes::AnyTable;

@@ -1,4 +1,4 @@
-ghost use Rattle.std.specs.Prelude.{◌≡◌, ◌<◌, ◌≤◌, ◌∷◌, [], length, IfSome, IfNone};
+ghost use Rattle.std.specs.Prelude.{◌≡◌, ◌==◌, ◌||◌, ℕ, ◌<◌, ◌≤◌, ◌∷◌, [], length, IfSome, IfNone};
 ghost use Rattle.cover_table.specs.Cover.{has_bit, order_of_rows, IsLeastCover, HasLeastCover};
 ghost use Rattle.cover_table.specs.Common.{has_both, IsCommonPart};
 
@@ -33,6 +33,14 @@ pub fn has_bit(row: Row, bit: u32) -> bool
     ensures { result ≡ has_bit row bit }
 {
     (row >> bit) & 1 == 1
+}
+
+/// A row with one more bit.
+pub fn with_bit(row: Row, bit: u32) -> Row
+    requires { bit < LIMIT }
+    ensures { (b : ℕ) → has_bit result b ≡ (b == bit || has_bit row b) }
+{
+    row | (1 << bit)
 }
 
 /// Whether a row has both of these bits.

@@ -155,7 +155,8 @@ impl AnyTable {
 
     /// An order that has a table is sound: each two of its numbers have a least cover.
     pub fn is_sound(&self)
-        ensures { IsSound self.now }
+        ensures sound { IsSound self.now }
+        ensures few { self.now.count ≤ LIMIT }
     {
         sizes!(with &self.sized, table => table.is_sound())
     }
