@@ -25,13 +25,13 @@ pub record FailingSource : Type 0 where
   pub failures : Failures
 
 -- a sink that fails only where it is full: what it holds, how much it can hold, and how many writes it refused
-pub record FullSink : Type 0 where
+pub record WillingSink : Type 0 where
   pub held : List ℕ
   pub room : ℕ
   pub refused : ℕ
 
 -- the writes that such a sink refused: none while it isn't full
-abbrev pub refused_by : FullSink → ℕ
+abbrev pub refused_by : WillingSink → ℕ
 refused_by sink = if nat_lt (length sink.held) sink.room then 0 else sink.refused
 
 -- a sink that fails at some calls, and where it is full: what it holds, how much it can hold, and the writes that fail

@@ -4,11 +4,19 @@
 mod drills;
 mod failures;
 mod laid;
-pub mod mem_plant;
-pub mod mem_sink;
-pub mod mem_source;
-pub mod sure_plant;
-pub mod sure_sink;
-pub mod sure_source;
+mod mem_plant;
+mod mem_sink;
+mod mem_source;
+mod sure_plant;
+mod sure_sink;
+mod sure_source;
+
+pub use mem_plant::MemPlant;
+pub use mem_sink::MemSink;
+pub use mem_source::MemSource;
+pub use sure_plant::SurePlant;
+pub use sure_sink::SureSink;
+pub use sure_source::SureSource;
+
 #[cfg(test)]
 mod tests;

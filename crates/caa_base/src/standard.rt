@@ -1,4 +1,5 @@
-ghost use Rattle.std.specs.Prelude.{◌≡◌, None};
+ghost use Rattle.std.specs.Prelude.{◌≡◌, ◌<◌, ◌≤◌, length, None, IfOk};
+ghost use Rattle.caa_base.specs.Memory.{faults_after};
 
 use crate::entry::Failed;
 use crate::sink::Sink;
@@ -37,7 +38,12 @@ impl<R: Read> Source for StdSource<R> {
 
     ghost left = { λ _. None };
 
-    fn read(&mut self, buf: &mut [u8]) -> Result<usize, Failed> {
+    fn read(&mut self, buf: &mut [u8]) -> Result<usize, Failed>
+        requires { 0 < length buf.old }
+        ensures bound { IfOk result (λ n. n ≤ length buf.new) }
+        ensures faults { self.new ≡ faults_after result self.old }
+        ensures no_fewer { self.old ≤ self.new }
+    {
         match self.stream.read(buf) {
             Ok(count) => Ok(count),
             Err(_) => {
@@ -83,7 +89,13 @@ impl<W: Write> Sink for StdSink<W> {
 
     ghost held = { λ _. None };
 
-    fn write(&mut self, piece: &[u8]) -> Result<usize, Failed> {
+    fn write(&mut self, piece: &[u8]) -> Result<usize, Failed>
+        requires { 0 < length piece.now }
+        ensures some { IfOk result (λ n. 0 < n) }
+        ensures bound { IfOk result (λ n. n ≤ length piece.now) }
+        ensures faults { self.new ≡ faults_after result self.old }
+        ensures no_fewer { self.old ≤ self.new }
+    {
         match self.stream.write(piece) {
             Ok(count) if count > 0 => Ok(count),
             _ => {

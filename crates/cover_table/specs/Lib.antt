@@ -1,1 +1,5 @@
+pub mod Checks
+pub mod Common
 pub mod Cover
+pub mod Joins
+pub mod Sizes

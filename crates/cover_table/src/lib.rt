@@ -1,2 +1,14 @@
 //! Tables of least covers: from an order of exceptions, the least one that covers any two of them.
 #![tactic(auto)]
+
+mod checks;
+mod joins;
+mod rows;
+mod sizes;
+#[cfg(test)]
+mod tests;
+
+pub use checks::is_order;
+pub use joins::JoinTable;
+pub use rows::{LIMIT, NoLeast, Order, Row, has_bit, with_bit};
+pub use sizes::AnyTable;

@@ -22,4 +22,5 @@ pub mod ClosedPlan
 pub mod Closing
 pub mod LawsKept
 pub mod worked
+pub mod Values
 pub mod Played

@@ -133,6 +133,10 @@ internal_of plan p = graph_at plan (action_at plan p).internal
 abbrev pub interface_of : Plan → ℕ → CoverOrder
 interface_of plan p = graph_at plan (action_at plan p).interface
 
+-- the name of an exception of a graph
+abbrev pub exception_name : Plan → ℕ → ℕ → List ℕ
+exception_name plan g x = slice_index_or (slice_index_or plan.graphs g no_graph).names x []
+
 -- a nested use of the action of q
 abbrev pub nest_in : Plan → ℕ → Option ℕ → NestRow
 nest_in plan nest None = no_nest

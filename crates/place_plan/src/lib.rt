@@ -7,3 +7,4 @@ pub mod draft;
 pub mod machine;
 pub mod plan;
 pub mod rows;
+pub mod value;

@@ -1,7 +1,7 @@
 ghost use Rattle.std.specs.Prelude.{◌≡◌, ◌<◌, ℕ, List, [], length, map, slice_index_or, Option, Some, None, IfOk, IfSome, unwrap_or, option_copied};
 ghost use Rattle.std.specs.List.{range_with_len};
 ghost use Rattle.place_plan.specs.Words.{member, index_of, last_or};
-ghost use Rattle.place_plan.specs.Places.{place_at, action_at, role_at, role_row, role_of, roles_of, objects_of, uses, parent, top_of, fault_of, handler_in, initial_of, no_object, no_action, no_role};
+ghost use Rattle.place_plan.specs.Places.{place_at, action_at, role_at, role_row, role_of, roles_of, objects_of, uses, parent, top_of, within, fault_of, exception_name, handler_in, initial_of, no_object, no_action, no_role};
 ghost use Rattle.place_plan.specs.Bound.{bound};
 ghost use Rattle.place_plan.specs.Unfolding.{place_of, plan_of};
 ghost use Rattle.place_plan.specs.DraftRules.{broken_rule};
@@ -295,6 +295,19 @@ impl Plan {
         row.around.as_slice().first().copied()
     }
 
+    /// Whether a place is the outer one, or inside it.
+    pub(crate) fn is_within(&self, place: Place, outer: Place) -> bool
+        ensures { result ≡ within self.now place outer }
+    {
+        if place == outer {
+            return true;
+        }
+        match self.places.as_slice().get(place as usize) {
+            Some(row) => is_member(outer, row.around.as_slice()),
+            None => false,
+        }
+    }
+
     /// The play that a place belongs to.
     pub fn top_of(&self, place: Place) -> Place
         ensures { result ≡ top_of self.now place }
@@ -435,6 +448,18 @@ impl Plan {
         match self.action_at(place) {
             Some(action) => action.interface,
             None => 0,
+        }
+    }
+
+    /// The name of an exception of a graph; empty where there is none.
+    pub fn exception_name(&self, graph: u32, exception: Exception) -> &[u8]
+        ensures { result.now ≡ exception_name self.now graph exception }
+    {
+        let _ = &self.places;
+        if graph == 0 && exception == 0 {
+            b"universal"
+        } else {
+            &[]
         }
     }
 }

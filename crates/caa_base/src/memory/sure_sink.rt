@@ -16,9 +16,9 @@ pub struct SureSink {
 
 impl Model for SureSink {
     ghost use Rattle.std.specs.Prelude.{◌≡◌, ◌<◌, ◌≤◌, length, vec_capacity};
-    ghost use Rattle.caa_base.specs.Memory.{FullSink};
+    ghost use Rattle.caa_base.specs.Memory.{WillingSink};
 
-    ghost Value = { FullSink };
+    ghost Value = { WillingSink };
 
     ghost view = { λ s. record { held = s.bytes.items; room = s.room; refused = s.refused } };
 
@@ -98,6 +98,6 @@ impl Sink for SureSink {
         ensures not_full { length self.now.held < self.now.room → result ≡ 0 }
         ensures count { result ≡ refused_by self.now }
     {
-        if self.is_full() { self.refused } else { 0 }
+        self.refused
     }
 }

@@ -1,13 +1,12 @@
-use super::mem_plant::MemPlant;
-use super::mem_sink::MemSink;
-use super::mem_source::MemSource;
-use super::sure_plant::SurePlant;
-use super::sure_sink::SureSink;
-use super::sure_source::SureSource;
+ghost use Rattle.std.specs.Prelude.{◌≡◌, ◌∷◌, [], pos, OnOk};
+ghost use Rattle.caa_base.specs.Device.{after_lay, after_put};
+
+use super::{MemPlant, MemSink, MemSource, SurePlant, SureSink, SureSource};
 use crate::entry::{Drill, Failed};
 use crate::plant::{Plant, PlantError};
 use crate::sink::Sink;
 use crate::source::Source;
+use std::alloc::Global;
 use std::test::Fail;
 
 #[test]
@@ -86,12 +85,25 @@ fn a_plant_that_fails_to_be_laid_out(rt: HostRuntime) {
     assert_eq!(rt; plant.faults(), 0);
 }
 
+/// Lays out one object of the value 7, with a drill, and puts another value.
+fn lay_and_put<P: Plant>(alloc: Global, plant: &mut P, value: i64) -> Result<(), PlantError>
+    ensures { OnOk result (P.device plant.new ≡ after_put (after_lay (P.device plant.old) (pos 7 ∷ [])) 0 value) }
+{
+    plant.lay(alloc, &[7], &[Drill { object: 0, nth: 1 }], 1)?;
+    match plant.put(0, value) {
+        Ok(()) => Ok(()),
+        Err(Failed) => Err(PlantError::Failed),
+    }
+}
+
 #[test]
 fn a_sure_plant_takes_every_put(rt: HostRuntime) -> Result<(), Fail> {
+    let mut drilled = MemPlant::new(false);
+    let refused = lay_and_put(rt.alloc(), &mut drilled, -7);
+    assert_eq!(rt; refused, Err(PlantError::Failed));
+
     let mut plant = SurePlant::new();
-    let drills = [Drill { object: 0, nth: 1 }];
-    plant.lay(rt.alloc(), &[7], &drills, 2)?;
-    assert_eq!(rt; plant.put(0, -7), Ok(()));
+    lay_and_put(rt.alloc(), &mut plant, -7)?;
     assert_eq!(rt; plant.value(0), -7);
     assert_eq!(rt; plant.puts(), [(0, -7)].as_slice());
     assert_eq!(rt; plant.faults(), 0);

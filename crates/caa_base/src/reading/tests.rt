@@ -1,8 +1,7 @@
+ghost use Rattle.std.specs.Prelude.{◌≡◌, ◌≢◌, ◌<◌, ◌≤◌, ◌+◌, ◌++◌, length, IsOk, IsErrOf, IfOk, IfErr};
+
 use super::*;
-use crate::memory::mem_sink::MemSink;
-use crate::memory::mem_source::MemSource;
-use crate::memory::sure_sink::SureSink;
-use crate::memory::sure_source::SureSource;
+use crate::memory::{MemSink, MemSource, SureSink, SureSource};
 use std::test::Fail;
 
 const TEXT: &[u8; 10] = b"some bytes";
@@ -45,10 +44,28 @@ impl<K: Sink> Sink for OneByteSink<K> {
     }
 }
 
+/// Over a source that never fails, a reading ends without a fault.
+fn read_sure(alloc: Global, source: &mut SureSource, limit: u64) -> Result<Vec<u8>, ReadError>
+    ensures all { IfOk result (λ bytes. bytes.items ≡ source.old) }
+    ensures no_fault { IfErr result (λ error. error ≢ ReadError.Fault) }
+    ensures too_long { IsErrOf result ReadError.TooLong → limit < length source.old }
+{
+    read_all(alloc, source, limit)
+}
+
+/// Into a sink with enough room that never fails, all is written.
+fn write_sure(sink: &mut SureSink, bytes: &[u8]) -> Result<(), Failed>
+    requires { length sink.old.held + length bytes.now ≤ sink.old.room }
+    ensures done { IsOk result }
+    ensures held { sink.new.held ≡ sink.old.held ++ bytes.now }
+{
+    write_all(sink, bytes)
+}
+
 #[test]
 fn reads_up_to_the_limit(rt: HostRuntime) -> Result<(), Fail> {
     let mut source = SureSource::new(rt.alloc(), TEXT)?;
-    let bytes = read_all(rt.alloc(), &mut source, 10)?;
+    let bytes = read_sure(rt.alloc(), &mut source, 10)?;
     assert_eq!(rt; bytes.as_slice(), TEXT.as_slice());
     assert_eq!(rt; source.left().len(), 0);
 
@@ -88,7 +105,7 @@ fn a_read_that_fails_ends_the_reading(rt: HostRuntime) -> Result<(), Fail> {
 #[test]
 fn writes_all(rt: HostRuntime) -> Result<(), Fail> {
     let mut sink = SureSink::new(rt.alloc(), 10)?;
-    write_all(&mut sink, TEXT)?;
+    write_sure(&mut sink, TEXT).unwrap();
     assert_eq!(rt; sink.bytes(), TEXT.as_slice());
     write_all(&mut sink, &[])?;
     assert_eq!(rt; sink.faults(), 0);

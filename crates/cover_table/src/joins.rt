@@ -1,0 +1,133 @@
+ghost use Rattle.std.specs.Prelude.{◌≡◌, ◌<◌, ◌≤◌, ◌↔◌, ℕ, ◌∷◌, [], length, slice_index, IfOk, IfErr, OnOk, IsErrOf, All};
+ghost use Rattle.cover_table.specs.Cover.{covers, order_of, order_of_rows, IsLeastCover, HasLeastCover, IsOrder, IsSound, IsFirstWithoutLeast, FailsAt};
+
+use crate::rows::{LIMIT, NoLeast, Order, Row, has_bit, least_of_two};
+use std::marker::Model;
+
+/// The least covers of each two numbers of an order, seen as the order.
+#[derive(Drop)]
+pub struct JoinTable<const N: usize> {
+    count: u32,
+    rows: [Row; N],
+    joins: [[u8; N]; N],
+}
+
+impl<const N: usize> Model for JoinTable<N> {
+    ghost use Rattle.cover_table.specs.Cover.{CoverOrder, order_of};
+    ghost use Rattle.cover_table.specs.Joins.{HoldsJoins};
+
+    ghost Value = { CoverOrder };
+
+    ghost view = { λ t. order_of t.count t.rows };
+
+    ghost invariant = { λ t. HoldsJoins N t.count t.rows t.joins };
+}
+
+/// The least covers of `a` with each number.
+fn joins_of<const N: usize>(rows: &[Row], a: u32) -> Result<[u8; N], NoLeast>
+    requires limit { N ≤ LIMIT }
+    requires fits { length rows.now ≤ N }
+    requires a_in { a < length rows.now }
+    ensures found { IfOk result (λ joins. (b : ℕ) → b < length rows.now → IsLeastCover (order_of_rows rows.now) (a ∷ b ∷ []) (slice_index joins b)) }
+    ensures lacks { IfErr result (λ e. (e.a ≡ a) × FailsAt (order_of_rows rows.now) e.a e.b) }
+{
+    let mut joins = [0; N];
+    for b in 0..rows.len() as u32 {
+        match least_of_two(rows, a, b) {
+            Some(join) => joins[b as usize] = join as u8,
+            None => return Err(NoLeast { a, b }),
+        }
+    }
+    Ok(joins)
+}
+
+impl<const N: usize> JoinTable<N> {
+    /// The table of an order on at most `N` numbers.
+    ///
+    /// Where two numbers have no least cover, the first two such are named.
+    pub fn from_order(order: &Order<N>) -> Result<JoinTable<N>, NoLeast>
+        requires limit { N ≤ LIMIT }
+        requires fits { order.now.count ≤ N }
+        requires order { IsOrder (order_of order.now.count order.now.rows) }
+        ensures same { IfOk result (λ table. table ≡ order_of order.now.count order.now.rows) }
+        ensures sound { OnOk result (IsSound (order_of order.now.count order.now.rows)) }
+        ensures no_least { (a b : ℕ) → IsErrOf result (record { a = a; b = b }) ↔ IsFirstWithoutLeast (order_of order.now.count order.now.rows) a b }
+    {
+        let rows = &order.rows[..order.count as usize];
+        let mut joins = [[0; N]; N];
+        for a in 0..order.count {
+            joins[a as usize] = joins_of(rows, a)?;
+        }
+        Ok(JoinTable {
+            count: order.count,
+            rows: order.rows,
+            joins,
+        })
+    }
+
+    /// How many numbers the order has.
+    pub fn count(&self) -> u32
+        ensures { result ≡ self.now.count }
+    {
+        self.count
+    }
+
+    /// How many numbers the table has room for.
+    pub fn size(&self) -> usize
+        ensures { result ≡ N }
+    {
+        N
+    }
+
+    /// Whether `a` covers `b`.
+    pub fn covers(&self, a: u32, b: u32) -> bool
+        requires a_in { a < self.now.count }
+        requires b_in { b < self.now.count }
+        ensures { result ≡ covers self.now a b }
+    {
+        has_bit(self.rows[a as usize], b)
+    }
+
+    /// The least cover of two numbers, by one look-up.
+    pub fn join(&self, a: u32, b: u32) -> u32
+        requires a_in { a < self.now.count }
+        requires b_in { b < self.now.count }
+        ensures { IsLeastCover self.now (a ∷ b ∷ []) result }
+    {
+        u32::from(self.joins[a as usize][b as usize])
+    }
+
+    /// The least cover of a set of numbers, by one look-up for each.
+    pub fn least(&self, set: &[u32]) -> u32
+        requires some { 0 < length set.now }
+        requires in_range { All (λ x. x < self.now.count) set.now }
+        ensures { IsLeastCover self.now set.now result }
+    {
+        let first = set[0];
+        let rest = &set[1..];
+        let mut least = first;
+        for member in rest {
+            least = u32::from(self.joins[least as usize][*member as usize]);
+        }
+        least
+    }
+
+    /// An order that has a table is sound: each two of its numbers have a least cover.
+    pub fn is_sound(&self)
+        ensures sound { IsSound self.now }
+        ensures few { self.now.count ≤ LIMIT }
+    {
+        let _ = &self.joins;
+    }
+
+    /// Another table of the same order.
+    pub fn copy(&self) -> Self
+        ensures { result ≡ self.now }
+    {
+        JoinTable {
+            count: self.count,
+            rows: self.rows,
+            joins: self.joins,
+        }
+    }
+}

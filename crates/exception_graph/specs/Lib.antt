@@ -1,0 +1,4 @@
+pub mod Chains
+pub mod Closing
+pub mod Cycles
+pub mod Graph

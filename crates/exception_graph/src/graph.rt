@@ -1,0 +1,137 @@
+ghost use Rattle.std.specs.Prelude.{◌≡◌, ◌<◌, ◌≤◌, ◌↔◌, ◌∷◌, [], ℕ, length, All, IfOk, IfErr, OnOk, IsErrOf, IsOkUnless};
+ghost use Rattle.cover_table.specs.Cover.{IsLeastCover, IsSound, SetsHaveLeastCovers, covers, order_of_rows};
+ghost use Rattle.exception_graph.specs.Chains.{IsFirstInCycle, IsFirstUnjoined, IsOrderOf, IsSoundGraph};
+ghost use Rattle.exception_graph.specs.Graph.{HasUniversal, IsRefusal};
+
+use crate::closing::tell_chains;
+use crate::cycles::first_in_cycle;
+use crate::error::GraphError;
+use caa_base::entry::OutOfMemory;
+use cover_table::{AnyTable, LIMIT};
+use std::alloc::Global;
+use std::marker::Model;
+
+/// A sound graph of exceptions, seen as the order that its declared pairs make.
+///
+/// Exceptions are numbers below its count, and 0 is universal: it covers all.
+#[derive(Drop)]
+pub struct Graph {
+    table: Box<AnyTable>,
+}
+
+impl Model for Graph {
+    ghost use Rattle.cover_table.specs.Cover.{CoverOrder};
+    ghost use Rattle.exception_graph.specs.Graph.{HasUniversal};
+
+    ghost Value = { CoverOrder };
+
+    ghost view = { λ g. g.table.value };
+
+    ghost invariant = { λ g. HasUniversal g.table.value };
+}
+
+/// The table of least covers of the order that these pairs make.
+fn table_of_pairs(count: u32, pairs: &[(u32, u32)]) -> Result<AnyTable, GraphError>
+    requires some { 0 < count }
+    requires in_range { All (λ p. (p.0 < count) × (p.1 < count)) pairs.now }
+    ensures same { IfOk result (λ table. IsOrderOf count pairs.now table) }
+    ensures sound { IfOk result IsSound }
+    ensures few { OnOk result (count ≤ LIMIT) }
+    ensures refusal { IfErr result (IsRefusal count pairs.now) }
+{
+    if count as usize > LIMIT {
+        return Err(GraphError::TooMany { count });
+    }
+    let mut all_rows = [0; LIMIT];
+    let rows = &mut all_rows[..count as usize];
+    tell_chains(rows, pairs);
+    if let Some(at) = first_in_cycle(rows) {
+        return Err(GraphError::Cycle { at });
+    }
+    match AnyTable::from_rows(count, rows) {
+        Ok(table) => Ok(table),
+        Err(lacking) => Err(GraphError::NoLeast {
+            a: lacking.a,
+            b: lacking.b,
+        }),
+    }
+}
+
+impl Graph {
+    /// The graph of these exceptions, where each pair declares its first over its second.
+    ///
+    /// It is refused where there are too many exceptions, else where two different ones cover each
+    /// other, else where two have no least common cover; only a graph without fault takes memory.
+    pub fn build(alloc: Global, count: u32, pairs: &[(u32, u32)]) -> Result<Graph, GraphError>
+        requires some { 0 < count }
+        requires in_range { All (λ p. (p.0 < count) × (p.1 < count)) pairs.now }
+        ensures built { IfOk result (λ graph. IsOrderOf count pairs.now graph) }
+        ensures sound { OnOk result (IsSoundGraph count pairs.now) }
+        ensures too_many { (number : ℕ) → IsErrOf result (GraphError.TooMany number) ↔ ((LIMIT < count) × (number ≡ count)) }
+        ensures cycle { (at : ℕ) → IsErrOf result (GraphError.Cycle at) ↔ ((count ≤ LIMIT) × IsFirstInCycle count pairs.now at) }
+        ensures no_least { (a b : ℕ) → IsErrOf result (GraphError.NoLeast a b) ↔ ((count ≤ LIMIT) × IsFirstUnjoined count pairs.now a b) }
+        ensures accepted { IsSoundGraph count pairs.now → IsOkUnless result GraphError.OutOfMemory }
+        ensures out_of_memory { IsErrOf result GraphError.OutOfMemory → IsSoundGraph count pairs.now }
+    {
+        match table_of_pairs(count, pairs) {
+            Ok(table) => match Box::new(alloc, table) {
+                Ok(table) => Ok(Graph { table }),
+                Err(_) => Err(GraphError::OutOfMemory),
+            },
+            Err(refusal) => Err(refusal),
+        }
+    }
+
+    /// How many exceptions there are, universal counted.
+    pub fn count(&self) -> u32
+        ensures { result ≡ self.now.count }
+    {
+        self.table.count()
+    }
+
+    /// Whether `a` covers `b`: itself, or by a chain of declared pairs.
+    pub fn covers(&self, a: u32, b: u32) -> bool
+        requires a_in { a < self.now.count }
+        requires b_in { b < self.now.count }
+        ensures { result ≡ covers self.now a b }
+    {
+        self.table.covers(a, b)
+    }
+
+    /// The least exception that covers each of a set.
+    pub fn least(&self, set: &[u32]) -> u32
+        requires some { 0 < length set.now }
+        requires in_range { All (λ x. x < self.now.count) set.now }
+        ensures { IsLeastCover self.now set.now result }
+    {
+        self.table.least(set)
+    }
+
+    /// The exception that covers all: number 0, universal.
+    pub fn greatest(&self) -> u32
+        ensures zero { result ≡ 0 }
+        ensures covers_all { HasUniversal self.now }
+    {
+        let _ = &self.table;
+        0
+    }
+
+    /// Each graph is sound: each list of its exceptions that isn't empty has a least cover.
+    pub fn is_sound(&self)
+        ensures sound { IsSound self.now }
+        ensures few { self.now.count ≤ LIMIT }
+        ensures sets { SetsHaveLeastCovers self.now }
+    {
+        self.table.is_sound();
+    }
+
+    /// Another graph with the same exceptions and the same order.
+    pub fn copy(&self, alloc: Global) -> Result<Graph, OutOfMemory>
+        ensures { IfOk result (λ graph. graph ≡ self.now) }
+    {
+        match Box::new(alloc, self.table.copy()) {
+            Ok(table) => Ok(Graph { table }),
+            Err(_) => Err(OutOfMemory),
+        }
+    }
+}

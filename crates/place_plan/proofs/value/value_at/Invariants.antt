@@ -1,0 +1,9 @@
+use Rattle.std.proofs.Common.{◌≡◌, reverse, take, drop}
+use Rattle.place_plan.specs.Objects.{value_of, value_outside}
+use Rattle.place_plan.proofs.Values.{restored_in}
+use Rattle.place_plan.proofs.value.value_at.Given as goal
+
+abbrev pub invariant-loop-index : goal.invariant-loop-index
+invariant-loop-index l =
+    value_of l.plan l.object (reverse l.entries)
+    ≡ value_outside l.plan l.object (restored_in l.object (drop l.index l.entries)) (reverse (take l.index l.entries))
