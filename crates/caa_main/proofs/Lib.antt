@@ -1,0 +1,3 @@
+pub mod Hints
+pub mod Turns
+pub mod Grown

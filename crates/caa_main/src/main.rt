@@ -1,0 +1,6 @@
+//! A program for coordinated atomic actions.
+#![tactic(auto)]
+
+pub mod schedule;
+
+fn main() {}
