@@ -21,4 +21,5 @@ pub mod BuiltDrafts
 pub mod ClosedPlan
 pub mod Closing
 pub mod LawsKept
+pub mod Played
 pub mod worked
