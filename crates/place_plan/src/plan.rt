@@ -532,3 +532,6 @@ impl Plan {
         let _ = &self.places;
     }
 }
+
+#[cfg(test)]
+mod tests;

@@ -1,0 +1,313 @@
+ghost use Rattle.std.specs.Prelude.{◌≡◌, true, IfOk};
+ghost use Rattle.std.specs.List.{list_all};
+ghost use Rattle.place_plan.specs.Built.{is_built_step, is_built_role, is_built_action, IsBuilt};
+
+use super::*;
+use crate::rows::Step;
+use caa_base::entry::Verdict;
+use std::test::Fail;
+
+/// What differs in the drafts of these tests: each has two participants, and one action, `look`.
+#[derive(Clone, Copy)]
+struct Parts<'a> {
+    /// The value of each object before the first entry.
+    initials: &'a [i64],
+    /// The objects that `look` uses.
+    uses: &'a [Object],
+    /// Whether `look` has its roles: `a`, which reads an object, and `b`, which works.
+    has_roles: bool,
+    /// The object that role `a` reads.
+    read: Object,
+    /// Who plays `look`, each time.
+    who: &'a [Participant],
+    /// How often it is played.
+    plays: u32,
+}
+
+/// One play of a good action.
+const FIRST_PATH: Parts<'static> = Parts {
+    initials: &[5],
+    uses: &[0],
+    has_roles: true,
+    read: 0,
+    who: &[0, 1],
+    plays: 1,
+};
+
+fn role(alloc: Global, name: &[u8], step: Step) -> Result<RoleRow, Fail>
+    requires { is_built_step step ≡ true }
+    ensures { IfOk result (λ role. is_built_role role ≡ true) }
+{
+    Ok(RoleRow {
+        name: Name::from_bytes(alloc, name)?,
+        body: Program {
+            steps: Rows::from_vec(vec![in alloc; step]?),
+            verdict: Verdict::Done,
+        },
+        handlers: Rows::from_vec(Vec::new(alloc)),
+        abort: AbortRow::Never,
+    })
+}
+
+fn roles(alloc: Global, parts: Parts) -> Result<Vec<RoleRow>, Fail>
+    ensures { IfOk result (λ roles. list_all is_built_role roles.items ≡ true) }
+{
+    let mut roles = Vec::new(alloc);
+    if parts.has_roles {
+        roles.push(role(alloc, b"a", Step::Read(parts.read))?)?;
+        roles.push(role(alloc, b"b", Step::Work(2))?)?;
+    }
+    Ok(roles)
+}
+
+fn objects(alloc: Global, initials: &[i64]) -> Result<Vec<ObjectRow>, Fail> {
+    let mut objects = Vec::new(alloc);
+    for initial in initials {
+        let name = Name::from_bytes(alloc, b"x")?;
+        objects.push(ObjectRow {
+            name,
+            initial: *initial,
+        })?;
+    }
+    Ok(objects)
+}
+
+fn plays(alloc: Global, parts: Parts) -> Result<Vec<PlayRow>, Fail> {
+    let mut plays = Vec::new(alloc);
+    for _ in 0..parts.plays {
+        let who = Rows::from_vec(Vec::from_slice(alloc, parts.who)?);
+        plays.push(PlayRow { action: 0, who })?;
+    }
+    Ok(plays)
+}
+
+fn actions(alloc: Global, parts: Parts) -> Result<Vec<ActionRow>, Fail>
+    ensures { IfOk result (λ actions. list_all is_built_action actions.items ≡ true) }
+{
+    Ok(vec![in alloc;
+        ActionRow {
+            name: Name::from_bytes(alloc, b"look")?,
+            internal: 0,
+            interface: 0,
+            fault: 0,
+            objects: Rows::from_vec(Vec::from_slice(alloc, parts.uses)?),
+            roles: Rows::from_vec(roles(alloc, parts)?),
+            nests: Rows::from_vec(Vec::new(alloc)),
+        },
+    ]?)
+}
+
+fn draft(alloc: Global, parts: Parts) -> Result<Draft, Fail>
+    ensures { IfOk result (λ draft. IsBuilt draft) }
+{
+    let ann = Name::from_bytes(alloc, b"ann")?;
+    let bob = Name::from_bytes(alloc, b"bob")?;
+    Ok(Draft {
+        participants: Rows::from_vec(vec![in alloc; ann, bob]?),
+        objects: Rows::from_vec(objects(alloc, parts.initials)?),
+        actions: Rows::from_vec(actions(alloc, parts)?),
+        plays: Rows::from_vec(plays(alloc, parts)?),
+        drills: Rows::from_vec(vec![in alloc; Drill { object: 0, nth: 3 }]?),
+        watches: Rows::from_vec(vec![in alloc; 0]?),
+    })
+}
+
+/// The plan of these parts.
+fn closed(alloc: Global, parts: Parts) -> Result<Plan, Fail> {
+    Ok(Plan::close(alloc, draft(alloc, parts)?)?)
+}
+
+/// The rule that closing names; none where the draft becomes a plan.
+fn rule_named(alloc: Global, parts: Parts) -> Result<Option<u32>, Fail> {
+    match Plan::close(alloc, draft(alloc, parts)?) {
+        Ok(_) => Ok(None),
+        Err(PlanError::BadPart { rule }) => Ok(Some(rule)),
+        Err(PlanError::OutOfMemory) => Err(Fail::from("out of memory")),
+    }
+}
+
+fn counts_are_read(plan: &Plan) -> bool {
+    plan.bound() == 23
+        && plan.participants() == 2
+        && plan.objects() == 1
+        && plan.places() == 1
+        && plan.plays() == 1
+        && plan.watches() == 1
+        && plan.drills() == 1
+}
+
+fn people_are_read(plan: &Plan) -> bool {
+    plan.participants() == 2 && plan.participant_name(1) == b"bob".as_slice()
+}
+
+fn objects_are_read(plan: &Plan) -> bool {
+    plan.objects() == 1 && plan.object_name(0) == b"x".as_slice() && plan.initial(0) == 5
+}
+
+fn extras_are_read(plan: &Plan) -> bool {
+    plan.drills() == 1 && plan.drill(0).nth == 3 && plan.watches() == 1 && plan.watch(0) == 0
+}
+
+fn plays_are_read(plan: &Plan) -> bool {
+    plan.plays() == 1 && plan.play(0) == 0 && plan.play_places() == [0].as_slice()
+}
+
+fn place_is_read(plan: &Plan) -> bool {
+    plan.parent(0).is_none()
+        && plan.top_of(0) == 0
+        && plan.action_name(0) == b"look".as_slice()
+        && plan.roles_of(0) == [0, 1].as_slice()
+        && plan.objects_of(0) == [0].as_slice()
+        && plan.uses(0, 0)
+        && !plan.uses(0, 1)
+}
+
+fn action_is_read(plan: &Plan) -> bool {
+    plan.places() == 1
+        && plan.action_of(0) == 0
+        && plan.fault(0) == 0
+        && plan.internal_number(0) == 0
+        && plan.interface_number(0) == 0
+}
+
+fn role_is_read(plan: &Plan) -> bool {
+    match plan.role_of(0, 1) {
+        Some(role) => {
+            role == 1
+                && matches!(plan.body(0, role).steps.as_slice(), [Step::Work(2)])
+                && plan.handler(0, role, 0).is_none()
+                && matches!(plan.abort_row(0, role), AbortRow::Never)
+        }
+        None => false,
+    }
+}
+
+#[test]
+fn a_plan_is_read(rt: HostRuntime) -> Result<(), Fail> {
+    let plan = closed(rt.alloc(), FIRST_PATH)?;
+    assert!(rt; counts_are_read(&plan));
+    assert!(rt; people_are_read(&plan));
+    assert!(rt; objects_are_read(&plan));
+    assert!(rt; extras_are_read(&plan));
+    assert!(rt; plays_are_read(&plan));
+    assert!(rt; place_is_read(&plan));
+    assert!(rt; action_is_read(&plan));
+    assert!(rt; role_is_read(&plan));
+    assert!(rt; plan.role_of(0, 7).is_none());
+    Ok(())
+}
+
+#[test]
+fn broken_drafts_are_refused(rt: HostRuntime) -> Result<(), Fail> {
+    let drafts = [
+        (FIRST_PATH, None),
+        (
+            Parts {
+                has_roles: false,
+                who: &[],
+                ..FIRST_PATH
+            },
+            Some(1),
+        ),
+        (
+            Parts {
+                initials: &[1, 1],
+                uses: &[1, 0],
+                ..FIRST_PATH
+            },
+            Some(3),
+        ),
+        (
+            Parts {
+                initials: &[1_000_000_000_000],
+                ..FIRST_PATH
+            },
+            None,
+        ),
+        (
+            Parts {
+                initials: &[1_000_000_000_001],
+                ..FIRST_PATH
+            },
+            Some(3),
+        ),
+        (
+            Parts {
+                initials: &[-1_000_000_000_001],
+                ..FIRST_PATH
+            },
+            Some(3),
+        ),
+        (
+            Parts {
+                who: &[0, 2],
+                ..FIRST_PATH
+            },
+            Some(3),
+        ),
+        (
+            Parts {
+                who: &[0, 0],
+                ..FIRST_PATH
+            },
+            Some(5),
+        ),
+        (
+            Parts {
+                who: &[0],
+                ..FIRST_PATH
+            },
+            Some(5),
+        ),
+        (
+            Parts {
+                uses: &[],
+                ..FIRST_PATH
+            },
+            Some(7),
+        ),
+        (
+            Parts {
+                plays: 43_478,
+                ..FIRST_PATH
+            },
+            None,
+        ),
+        (
+            Parts {
+                plays: 43_479,
+                ..FIRST_PATH
+            },
+            Some(10),
+        ),
+        (
+            Parts {
+                initials: &[-1_000_000_000_001],
+                who: &[0, 0],
+                ..FIRST_PATH
+            },
+            Some(3),
+        ),
+        (
+            Parts {
+                uses: &[],
+                who: &[0],
+                ..FIRST_PATH
+            },
+            Some(5),
+        ),
+    ];
+    for (parts, rule) in drafts {
+        assert_eq!(rt; rule_named(rt.alloc(), parts)?, rule);
+    }
+    Ok(())
+}
+
+#[test]
+fn errors_have_their_texts(rt: HostRuntime) -> Result<(), Fail> {
+    let bad = PlanError::BadPart { rule: 5 }.to_string(rt.alloc())?;
+    assert_eq!(rt; bad.as_str(), "the draft breaks rule 5");
+    let memory = PlanError::OutOfMemory.to_string(rt.alloc())?;
+    assert_eq!(rt; memory.as_str(), "out of memory");
+    Ok(())
+}
