@@ -4,5 +4,5 @@ pub mod early;
 pub mod form;
 pub mod keyword;
 pub mod line;
-pub mod so_far;
+pub mod names;
 pub mod word;
