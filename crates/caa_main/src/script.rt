@@ -5,4 +5,5 @@ pub mod form;
 pub mod keyword;
 pub mod line;
 pub mod names;
+pub mod tables;
 pub mod word;
