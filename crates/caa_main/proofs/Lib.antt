@@ -1,2 +1,3 @@
 pub mod ScriptNumbers
 pub mod ScriptWords
+pub mod ScriptSoFar

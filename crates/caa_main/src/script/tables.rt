@@ -237,4 +237,101 @@ impl Tables {
     {
         self.fits(form) && self.is_in_order(form) && self.is_sound(form)
     }
+
+    // ---- what a line adds
+
+    fn add_participant(&mut self, name: Name) -> Result<(), EarlyError>
+        requires { vec_len self.old.participants < 64 }
+        ensures added { OnOk result (told self.new ≡ after (told self.old) (Form.Participant name)) }
+        ensures refused { IfErr result (λ e. e ≡ EarlyError.OutOfMemory) }
+    {
+        self.participants.push(name)?;
+        Ok(())
+    }
+
+    fn add_object(&mut self, name: Name, initial: i64) -> Result<(), EarlyError>
+        requires { vec_len self.old.objects < 256 }
+        ensures added { OnOk result (told self.new ≡ after (told self.old) (Form.Object name initial)) }
+        ensures refused { IfErr result (λ e. e ≡ EarlyError.OutOfMemory) }
+    {
+        self.objects.push(ObjectRow { name, initial })?;
+        Ok(())
+    }
+
+    fn begin_action(&mut self, name: Name)
+        ensures { told self.new ≡ after (told self.old) (Form.Action name) }
+    {
+        self.section = Section::Action;
+        self.name = Some(name);
+        self.uses = None;
+        self.roles = None;
+        self.bodies.clear();
+        self.written.clear();
+    }
+
+    fn add_play(&mut self, action: Name, names: Rows<Name>) -> Result<(), EarlyError>
+        ensures added { OnOk result (told self.new ≡ after (told self.old) (Form.Play action names)) }
+        ensures refused { IfErr result (λ e. e ≡ EarlyError.OutOfMemory) }
+    {
+        let who = numbers_of(self.alloc, &self.participants, names.as_slice())?;
+        self.plays.push(PlayRow {
+            action: action_number(&self.actions, action.bytes()),
+            who: Rows::from_vec(who),
+        })?;
+        Ok(())
+    }
+
+    fn set_uses(&mut self, names: Rows<Name>) -> Result<(), EarlyError>
+        requires { at_top self.old.section ≡ false }
+        ensures added { OnOk result (told self.new ≡ after (told self.old) (Form.Uses names)) }
+        ensures refused { IfErr result (λ e. e ≡ EarlyError.OutOfMemory) }
+    {
+        let uses = named(self.alloc, names.as_slice(), &self.objects)?;
+        self.section = Section::Action;
+        self.uses = Some(Rows::from_vec(uses));
+        Ok(())
+    }
+
+    fn set_roles(&mut self, names: Rows<Name>)
+        requires inside { at_top self.old.section ≡ false }
+        requires few { length names ≤ 16 }
+        ensures { told self.new ≡ after (told self.old) (Form.Roles names) }
+    {
+        self.section = Section::Action;
+        self.roles = Some(names);
+    }
+
+    fn begin_body(&mut self, role: &[u8]) -> Result<(), EarlyError>
+        requires { at_top self.old.section ≡ false }
+        ensures added { OnOk result (told self.new ≡ after (told self.old) (Form.Body role.now)) }
+        ensures refused { IfErr result (λ e. e ≡ EarlyError.OutOfMemory) }
+    {
+        let number = number_of(self.told_roles(), role);
+        self.bodies.push(number)?;
+        self.section = Section::Body;
+        self.role = number;
+        Ok(())
+    }
+
+    fn add_read(&mut self, object: &[u8]) -> Result<(), EarlyError>
+        ensures added { OnOk result (told self.new ≡ after (told self.old) (Form.ReadStep object.now)) }
+        ensures refused { IfErr result (λ e. e ≡ EarlyError.OutOfMemory) }
+    {
+        let step = Step::Read(object_number(&self.objects, object));
+        let role = self.role;
+        self.written.push(Written { role, step })?;
+        Ok(())
+    }
+
+    fn add_work(&mut self, rounds: u32) -> Result<(), EarlyError>
+        ensures added { OnOk result (told self.new ≡ after (told self.old) (Form.WorkStep rounds)) }
+        ensures refused { IfErr result (λ e. e ≡ EarlyError.OutOfMemory) }
+    {
+        let role = self.role;
+        self.written.push(Written {
+            role,
+            step: Step::Work(rounds),
+        })?;
+        Ok(())
+    }
 }
