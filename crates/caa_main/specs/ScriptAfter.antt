@@ -1,10 +1,11 @@
 -- What a line adds to what the lines before it say: the change that the reader makes to its tables.
-use Rattle.std.specs.Prelude.{ℕ, List, [], ◌∷◌, ◌++◌, map, Option, Some, None, unwrap_or}
+use Rattle.std.specs.Prelude.{ℕ, List, [], ◌∷◌, ◌++◌, map, Option, Some, None, unwrap_or, if◌then◌else◌}
+use Rattle.place_plan.specs.declared.draft.Draft.{Draft}
 use Rattle.place_plan.specs.declared.rows.Step.TheVariants as step
 use Rattle.caa_main.specs.declared.script.form.Form.{Form}
 use Rattle.caa_main.specs.declared.script.form.Form.TheVariants as form
 use Rattle.caa_main.specs.declared.script.form.Section.TheVariants as section
-use Rattle.caa_main.specs.ScriptForms.{goes_to}
+use Rattle.caa_main.specs.ScriptForms.{at_top}
 use Rattle.caa_main.specs.ScriptChecks.{SoFar, number_of, object_number, action_number, told_roles}
 use Rattle.caa_main.specs.ScriptDraft.{named_from, action_row}
 
@@ -27,3 +28,9 @@ after s form.End = record s {
   written = [];
   actions = s.actions ++ action_row (unwrap_or s.name []) (unwrap_or s.uses []) (told_roles s.roles) s.written ∷ [];
 }
+
+-- the draft of what was said, where it ends outside all actions
+abbrev pub made_draft : SoFar → Option Draft
+made_draft s =
+    if at_top s.section then Some (record { participants = s.participants; objects = s.objects; actions = s.actions; plays = s.plays; drills = []; watches = [] })
+    else None

@@ -103,9 +103,13 @@ abbrev pub role_rows : ℕ → List (List ℕ) → List Written → List RoleRow
 role_rows n [] written = []
 role_rows n (name ∷ names) written = role_row name (steps_of n written) ∷ role_rows (n + 1) names written
 
--- an action with the plain graph, whose one exception is `universal`, inside and outside
+-- an action without nested uses, with the plain graph, whose one exception is `universal`, inside and outside
+abbrev pub plain_action : List ℕ → List ℕ → List RoleRow → ActionRow
+plain_action name objects roles = record { name = name; internal = 0; interface = 0; fault = 0; objects = objects; roles = roles; nests = [] }
+
+-- an action by its name, its objects, the names of its roles and the steps of their bodies
 abbrev pub action_row : List ℕ → List ℕ → List (List ℕ) → List Written → ActionRow
-action_row name objects roles written = record { name = name; internal = 0; interface = 0; fault = 0; objects = objects; roles = role_rows 0 roles written; nests = [] }
+action_row name objects roles written = plain_action name objects (role_rows 0 roles written)
 
 abbrev pub actions_of : List Form → List ActionRow
 actions_of [] = []

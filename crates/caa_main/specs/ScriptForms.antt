@@ -87,6 +87,11 @@ abbrev pub in_body : Section → Bool
 in_body section.Body = true
 in_body _ = false
 
+-- how many actions are begun and not ended
+abbrev pub begun : Section → ℕ
+begun section.Top = 0
+begun _ = 1
+
 -- the line may stand where the reader is
 abbrev pub fits : Section → Form → Bool
 fits s (form.Participant n) = at_top s

@@ -2,7 +2,7 @@ ghost use Rattle.std.specs.Prelude.{◌≡◌, ◌<◌, ◌≤◌, ◌^◌, ◌=
 ghost use Rattle.std.specs.List.{list_all};
 ghost use Rattle.place_plan.specs.Words.{member};
 ghost use Rattle.caa_main.specs.ScriptChecks.{is_among, number_of, has_twice, is_object, object_number, is_action, action_number};
-ghost use Rattle.caa_main.specs.ScriptDraft.{named_from, steps_of, role_row, role_rows};
+ghost use Rattle.caa_main.specs.ScriptDraft.{named_from, steps_of, role_row, role_rows, plain_action};
 
 use crate::script::early::EarlyError;
 use crate::script::form::Written;
@@ -195,6 +195,21 @@ pub fn role_rows(
         rows.push(role_row(Name::from_bytes(alloc, name.bytes())?, steps))?;
     }
     Ok(rows)
+}
+
+/// An action with the plain graph inside and outside, and without nested uses.
+pub fn action_row(alloc: Global, name: Name, objects: Rows<u32>, roles: Vec<RoleRow>) -> ActionRow
+    ensures { result ≡ plain_action name objects roles.items }
+{
+    ActionRow {
+        name,
+        internal: 0,
+        interface: 0,
+        fault: 0,
+        objects,
+        roles: Rows::from_vec(roles),
+        nests: Rows::from_vec(Vec::new(alloc)),
+    }
 }
 
 /// Whether a number is among these.

@@ -1,14 +1,15 @@
-ghost use Rattle.std.specs.Prelude.{◌≡◌, ◌<◌, ◌≤◌, ◌||◌, [], true, false, is_some, unwrap_or, length, vec_len, IfOk, IfErr, OnOk};
-ghost use Rattle.caa_main.specs.ScriptForms.{at_top};
+ghost use Rattle.std.specs.Prelude.{◌≡◌, ◌<◌, ◌≤◌, ◌+◌, ◌||◌, [], true, false, is_some, unwrap_or, length, vec_len, IfOk, IfErr, OnOk};
+ghost use Rattle.caa_main.specs.ScriptForms.{at_top, begun};
 
 use crate::script::early::EarlyError;
 use crate::script::form::{Form, Section, Written};
 use crate::script::names::{
-    action_number, are_among, are_objects, count_of, has_twice, is_action, is_among, is_member,
-    is_object, named, number_of, numbers_of, object_number, role_rows,
+    action_number, action_row, are_among, are_objects, count_of, has_twice, is_action, is_among,
+    is_member, is_object, named, number_of, numbers_of, object_number, role_rows,
 };
 use caa_base::name::Name;
 use caa_base::rows::Rows;
+use place_plan::draft::Draft;
 use place_plan::rows::{ActionRow, ObjectRow, PlayRow, Step};
 use std::alloc::Global;
 
@@ -45,7 +46,7 @@ pub struct Tables {
     pub written: Vec<Written>,
     ghost few_participants: { vec_len participants ≤ 64 },
     ghost few_objects: { vec_len objects ≤ 256 },
-    ghost few_actions: { vec_len actions ≤ 256 },
+    ghost few_actions: { vec_len actions + begun section ≤ 256 },
     ghost few_roles: { length (unwrap_or roles []) ≤ 16 },
     ghost named: { (at_top section || is_some name) ≡ true },
 }
@@ -56,7 +57,7 @@ impl Tables {
     ghost use Rattle.caa_main.specs.ScriptForms.{fits, at_top};
     ghost use Rattle.caa_main.specs.ScriptChecks.{told_roles, action_number, body_length, is_unknown, is_twice, is_unfilled, plays_twice, is_not_held, is_past_limit, is_sound, is_in_order, may_come};
     ghost use Rattle.caa_main.specs.ScriptDraft.{so_far};
-    ghost use Rattle.caa_main.specs.ScriptAfter.{after};
+    ghost use Rattle.caa_main.specs.ScriptAfter.{after, made_draft};
     ghost use Rattle.caa_main.specs.ScriptTables.{told};
 
     /// The tables before the first line.
@@ -259,6 +260,7 @@ impl Tables {
     }
 
     fn begin_action(&mut self, name: Name)
+        requires { vec_len self.old.actions < 256 }
         ensures { told self.new ≡ after (told self.old) (Form.Action name) }
     {
         self.section = Section::Action;
@@ -333,5 +335,81 @@ impl Tables {
             step: Step::Work(rounds),
         })?;
         Ok(())
+    }
+
+    fn end_action(&mut self) -> Result<(), EarlyError>
+        requires { at_top self.old.section ≡ false }
+        ensures added { OnOk result (told self.new ≡ after (told self.old) Form.End) }
+        ensures refused { IfErr result (λ e. e ≡ EarlyError.OutOfMemory) }
+    {
+        let rows = role_rows(self.alloc, self.told_roles(), &self.written)?;
+        self.section = Section::Top;
+        let name = self.name.take().unwrap();
+        let uses = self
+            .uses
+            .take()
+            .unwrap_or(Rows::from_vec(Vec::new(self.alloc)));
+        self.roles = None;
+        self.bodies.clear();
+        self.written.clear();
+        self.actions.push(action_row(self.alloc, name, uses, rows))?;
+        Ok(())
+    }
+
+    fn add(&mut self, form: Form) -> Result<(), EarlyError>
+        requires { may_come (told self.old) form ≡ true }
+        ensures added { OnOk result (told self.new ≡ after (told self.old) form) }
+        ensures refused { IfErr result (λ e. e ≡ EarlyError.OutOfMemory) }
+    {
+        match form {
+            Form::Participant(name) => self.add_participant(name),
+            Form::Object(name, initial) => self.add_object(name, initial),
+            Form::Action(name) => {
+                self.begin_action(name);
+                Ok(())
+            }
+            Form::Play(action, names) => self.add_play(action, names),
+            Form::Uses(names) => self.set_uses(names),
+            Form::Roles(names) => {
+                self.set_roles(names);
+                Ok(())
+            }
+            Form::Body(role) => self.begin_body(role.bytes()),
+            Form::ReadStep(object) => self.add_read(object.bytes()),
+            Form::WorkStep(rounds) => self.add_work(rounds),
+            Form::End => self.end_action(),
+        }
+    }
+
+    /// Takes what the next line says, where that line may come.
+    ///
+    /// After an error the tables are of no more use.
+    pub fn take(&mut self, form: Form) -> Result<(), EarlyError>
+        ensures comes { OnOk result (may_come (told self.old) form ≡ true) }
+        ensures added { OnOk result (told self.new ≡ after (told self.old) form) }
+        ensures refused { IfErr result (λ e. e ≡ EarlyError.NotBuilt → may_come (told self.old) form ≡ false) }
+    {
+        if !self.may_come(&form) {
+            return Err(EarlyError::NotBuilt);
+        }
+        self.add(form)
+    }
+
+    /// The draft of the lines that were taken, where the last of them ends outside all actions.
+    pub fn into_draft(self) -> Option<Draft>
+        ensures { result ≡ made_draft (told self) }
+    {
+        if self.section != Section::Top {
+            return None;
+        }
+        let alloc = self.alloc;
+        Some(Draft {
+            participants: Rows::from_vec(self.participants),
+            objects: Rows::from_vec(self.objects),
+            actions: Rows::from_vec(self.actions),
+            plays: Rows::from_vec(self.plays),
+            drills: Rows::from_vec(Vec::new(alloc)),
+            watches: Rows::from_vec(Vec::new(alloc)),
+        })
     }
 }
