@@ -1,0 +1,3 @@
+pub mod ScriptNumbers
+pub mod ScriptWords
+pub mod ScriptSoFar
