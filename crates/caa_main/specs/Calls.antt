@@ -1,5 +1,5 @@
 -- What a call of the program is handed, what it leaves, and what it answers.
-use Rattle.std.specs.Prelude.{◌≡◌, ℕ, ◌+◌, ◌⊎◌, List, [], length, reverse, Option, Some, None, IsSome, IfSome, codes}
+use Rattle.std.specs.Prelude.{◌≡◌, ℕ, ◌+◌, ◌⊎◌, List, [], length, reverse, Option, Some, None, IsSome, IfSome}
 use Rattle.std.specs.Io.KnownBytes.{append_known}
 use Rattle.caa_base.specs.Counts.{Rose}
 use Rattle.caa_base.specs.Reading.{emptied, TookOff}
@@ -19,6 +19,7 @@ use Rattle.caa_main.specs.ScriptLines.{most_bytes}
 use Rattle.caa_main.specs.ScriptDraft.{early_draft}
 use Rattle.caa_main.specs.Schedule.{IsScheduled}
 use Rattle.caa_main.specs.Text.{text_of}
+use Rattle.caa_main.specs.Texts.{usage_text, source_fault_text, too_long_text, not_built_text}
 
 -- ---- what is handed in, and what is left
 
@@ -30,6 +31,10 @@ pub record Input : Type 0 where
   pub faults_before : ℕ
   pub faults_after : ℕ
 
+abbrev pub input_of : List (List ℕ) → Option (List ℕ) → Option (List ℕ) → ℕ → ℕ → Input
+input_of words left_before left_after faults_before faults_after =
+    record { words = words; left_before = left_before; left_after = left_after; faults_before = faults_before; faults_after = faults_after }
+
 -- what the sink held, and holds now; its counts of faults before and now
 pub record Output : Type 0 where
   pub held_before : Option (List ℕ)
@@ -37,19 +42,9 @@ pub record Output : Type 0 where
   pub faults_before : ℕ
   pub faults_after : ℕ
 
--- ---- the texts that are always the same
-
-abbrev pub usage_text : List ℕ
-usage_text = codes "usage: check | sim SEED | run | audit | cell N\n"
-
-abbrev pub source_fault_text : List ℕ
-source_fault_text = codes "fault source\n"
-
-abbrev pub too_long_text : List ℕ
-too_long_text = codes "refused 0 4 too-long\n"
-
-abbrev pub not_built_text : List ℕ
-not_built_text = codes "refused 0 9 not-built\n"
+abbrev pub output_of : Option (List ℕ) → Option (List ℕ) → ℕ → ℕ → Output
+output_of held_before held_after faults_before faults_after =
+    record { held_before = held_before; held_after = held_after; faults_before = faults_before; faults_after = faults_after }
 
 -- ---- a script
 
@@ -68,7 +63,7 @@ pub record PlayedPlan (plan : Plan) (seed : ℕ) (journal : List Entry) (text : 
   pub complete : IsComplete plan journal
   pub laws : KeepsLaws plan (reverse journal)
   -- schedule clause
-  pub schedule : IsScheduled plan seed [] (length journal) (reverse journal)
+  pub schedule : IsScheduled plan seed [] journal
   -- printed clause
   pub printed : text ≡ text_of plan journal
 

@@ -1,7 +1,10 @@
-ghost use Rattle.std.specs.Prelude.{◌≡◌, ◌<◌, ◌^◌, map, string_bytes};
-ghost use Rattle.caa_main.specs.Commands.{command_of, seed_of, IsSeed};
+ghost use Rattle.std.specs.Prelude.{◌≡◌, map, string_bytes};
+ghost use Rattle.caa_main.specs.Commands.{command_of, seed_of};
 
 use crate::script::word::natural_of;
+
+/// The greatest seed.
+const MOST_SEED: u64 = 2_147_483_647;
 
 /// A command line that is served.
 #[derive(Clone, Copy, Debug, PartialEq, Eq)]
@@ -14,10 +17,8 @@ pub enum Command {
 fn seed_of(word: &[u8]) -> Option<u32>
     ensures { result ≡ seed_of word.now }
 {
-    match natural_of(word) {
-        Some(seed) if seed <= 2_147_483_647 => Some(seed as u32),
-        _ => None,
-    }
+    let seed = natural_of(word, MOST_SEED)?;
+    Some(seed as u32)
 }
 
 /// The command of these words, where they are those of a command that is built.

@@ -7,3 +7,4 @@ pub mod line;
 pub mod names;
 pub mod tables;
 pub mod word;
+pub mod reader;

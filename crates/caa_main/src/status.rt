@@ -24,6 +24,7 @@ pub enum Status {
 }
 
 /// What a call of the program hands back.
+#[derive(Drop)]
 pub struct Ended<P> {
     pub status: Status,
     /// The plant that was handed in.

@@ -86,7 +86,7 @@ fn digits_within(digits: &[u8], most: u64) -> Option<u64>
 }
 
 /// The number that a word writes without a sign, where there is one and it is at most `most`.
-fn natural_of(word: &[u8], most: u64) -> Option<u64>
+pub fn natural_of(word: &[u8], most: u64) -> Option<u64>
     requires { most ≤ 1000000000000 }
     ensures value { result ≡ at_most most (natural_of word.now) }
     ensures small { IfSome result (λ number. number ≤ most) }
