@@ -5,7 +5,8 @@ use Rattle.std.proofs.lemmas.List.{length-take-le, get_or-set_same, get_or-set_o
 use Rattle.std.proofs.lemmas.List.Elements.{All-head, All-tail}
 use Rattle.std.proofs.lemmas.List.Folds.{list_all-append}
 use Rattle.std.proofs.lemmas.Bool.{and_parts, and_from, cases_order, cases_eq}
-use Rattle.cover_table.specs.Cover.{CoverOrder, covers, covers_each, order_of, order_of_rows, IsLeastCover, HasLeastCover, IsOrder, IsSound, IsFirstWithoutLeast, FailsAt, SetsHaveLeastCovers}
+use Rattle.cover_table.specs.Cover.{CoverOrder, covers, covers_each, order_of, order_of_rows, IsLeastCover, HasLeastCover, IsOrder, IsSound, IsFirstWithoutLeast, SetsHaveLeastCovers}
+use Rattle.cover_table.specs.Common.{FailsAt}
 use Rattle.cover_table.specs.declared.rows.NoLeast.{NoLeast}
 
 -- the first rows of more tell the order of their number

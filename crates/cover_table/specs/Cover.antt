@@ -62,9 +62,3 @@ pub record IsFirstWithoutLeast (order : CoverOrder) (a b : ℕ) : Type 0 where
   pub in_range : b < order.count
   pub without : ¬ (HasLeastCover order (a ∷ b ∷ []))
   pub earlier : (c d : ℕ) → c < d → d < order.count → ComesBefore c d a b → HasLeastCover order (c ∷ d ∷ [])
-
--- a and b have no least cover, and a has one with each number below b
-pub record FailsAt (order : CoverOrder) (a b : ℕ) : Type 0 where
-  pub in_range : b < order.count
-  pub without : ¬ (HasLeastCover order (a ∷ b ∷ []))
-  pub earlier : (d : ℕ) → d < b → HasLeastCover order (a ∷ d ∷ [])

@@ -1,5 +1,6 @@
 ghost use Rattle.std.specs.Prelude.{◌≡◌, ◌<◌, ◌≤◌, ◌↔◌, ℕ, ◌∷◌, [], length, slice_index, IfOk, IfErr, OnOk, IsErrOf, All};
-ghost use Rattle.cover_table.specs.Cover.{covers, order_of, order_of_rows, IsLeastCover, HasLeastCover, IsOrder, IsSound, IsFirstWithoutLeast, FailsAt};
+ghost use Rattle.cover_table.specs.Cover.{covers, order_of, order_of_rows, IsLeastCover, HasLeastCover, IsOrder, IsSound, IsFirstWithoutLeast};
+ghost use Rattle.cover_table.specs.Common.{FailsAt};
 
 use crate::rows::{LIMIT, NoLeast, Order, Row, has_bit, least_of_two};
 use std::marker::Model;

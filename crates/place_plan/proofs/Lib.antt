@@ -21,6 +21,7 @@ pub mod BuiltDrafts
 pub mod ClosedPlan
 pub mod Closing
 pub mod LawsKept
+pub mod Played
 pub mod worked
 pub mod Values
 pub mod Played

@@ -4,7 +4,7 @@ ghost use Rattle.place_plan.specs.Words.{member, index_of, last_or};
 ghost use Rattle.place_plan.specs.Places.{place_at, action_at, role_at, role_row, role_of, roles_of, objects_of, uses, parent, top_of, within, fault_of, exception_name, handler_in, initial_of, no_object, no_action, no_role};
 ghost use Rattle.place_plan.specs.Bound.{bound};
 ghost use Rattle.place_plan.specs.Unfolding.{place_of, plan_of};
-ghost use Rattle.place_plan.specs.DraftRules.{broken_rule};
+ghost use Rattle.place_plan.specs.DraftRules.{broken_rule, KeepsParts};
 ghost use Rattle.place_plan.specs.Built.{IsBuilt};
 ghost use Rattle.place_plan.specs.WellFormed.{AllWellFormed};
 ghost use Rattle.place_plan.specs.Laws.{Holds, AtMostOne, GoesOn, IsBounded, InsideIsInnermost, HolderIsInnermost, KeepsLaws};
@@ -146,6 +146,9 @@ impl Plan {
         ensures ok { IfOk result (λ plan. plan ≡ plan_of draft) }
         ensures whole { IfOk result (λ plan. broken_rule draft ≡ None) }
         ensures bad { (rule : ℕ) → result ≡ Err (PlanError.BadPart rule) → broken_rule draft ≡ Some rule }
+
+        // Memory is taken for places alone, and so after all rules but the last one.
+        ensures memory { result ≡ Err PlanError.OutOfMemory → KeepsParts draft }
     {
         if let Some(rule) = broken_part(&draft) {
             return Err(PlanError::BadPart { rule });

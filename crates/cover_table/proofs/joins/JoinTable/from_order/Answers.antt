@@ -1,7 +1,8 @@
 use Rattle.std.proofs.Common.{◌≡◌, ◌≤◌, length, arith, subst, take, Ok, Err, [], ◌∷◌, slice_index}
 use Rattle.std.proofs.lemmas.List.{length-set, length-take-le}
 use Rattle.std.proofs.lemmas.Result.{err_from_is_err_and}
-use Rattle.cover_table.specs.Cover.{CoverOrder, order_of, order_of_rows, IsLeastCover, IsFirstWithoutLeast, FailsAt}
+use Rattle.cover_table.specs.Cover.{CoverOrder, order_of, order_of_rows, IsLeastCover, IsFirstWithoutLeast}
+use Rattle.cover_table.specs.Common.{FailsAt}
 use Rattle.cover_table.proofs.Orders.{order_of-first, first_from_row, refused_at, joins_more}
 use Rattle.cover_table.proofs.joins.JoinTable.from_order.Goals as goal
 
