@@ -1,0 +1,13 @@
+-- Lemmas on the text of a journal.
+use Rattle.std.proofs.Common.{◌≡◌, ℕ, ◌+◌, zero, suc, List, [], ◌∷◌, ◌++◌, arith, zero-add}
+use Rattle.std.specs.List.{flat_map, range_with_len}
+use Rattle.std.proofs.lemmas.List.{flat_map_more}
+
+-- one number more
+range_more : (a n : ℕ) → range_with_len a (n + 1) ≡ range_with_len a n ++ (a + n) ∷ []
+range_more a zero = grind arith
+range_more a (suc n) = let more = range_more (a + 1) n in grind arith
+
+-- the line of one number more
+pub lines_more : (line_of : ℕ → List ℕ) (text : List ℕ) (n : ℕ) → (text ++ flat_map line_of (range_with_len 0 n)) ++ line_of n ≡ text ++ flat_map line_of (range_with_len 0 (n + 1))
+lines_more line_of text n = rw (range_more 0 n, zero-add n) (flat_map_more line_of text (range_with_len 0 n) n)

@@ -1,0 +1,6 @@
+//! The program.
+#![tactic(auto)]
+
+mod text;
+
+fn main() {}
