@@ -1,3 +1,2 @@
-pub mod Hints
-pub mod Turns
-pub mod Grown
+pub mod TextLemmas
+pub mod WorkedTexts

@@ -1,6 +1,6 @@
-//! A program for coordinated atomic actions.
+//! The program.
 #![tactic(auto)]
 
-pub mod schedule;
+mod text;
 
 fn main() {}
