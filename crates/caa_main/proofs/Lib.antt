@@ -1,2 +1,10 @@
+pub mod Hints
+pub mod Turns
+pub mod Grown
 pub mod TextLemmas
+pub mod ScriptNumbers
+pub mod ScriptWords
+pub mod ScriptSoFar
+pub mod ScriptRead
+pub mod ScriptBuilt
 pub mod WorkedTexts
