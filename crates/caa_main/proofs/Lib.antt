@@ -5,6 +5,4 @@ pub mod TextLemmas
 pub mod ScriptNumbers
 pub mod ScriptWords
 pub mod ScriptSoFar
-pub mod ScriptRead
-pub mod ScriptBuilt
 pub mod WorkedTexts

@@ -24,4 +24,3 @@ pub mod LawsKept
 pub mod Played
 pub mod worked
 pub mod Values
-pub mod Played
