@@ -1,3 +1,5 @@
 pub mod ScriptNumbers
 pub mod ScriptWords
 pub mod ScriptSoFar
+pub mod ScriptRead
+pub mod ScriptBuilt
