@@ -1,5 +1,5 @@
 -- When a line of a script is refused, by what the lines before it say.
-use Rattle.std.specs.Prelude.{ℕ, ◌==◌, nat_lt, nat_le, if◌then◌else◌, Bool, true, false, not, ◌&&◌, ◌||◌, List, [], ◌∷◌, length, count_by, position, Option, Some, None, is_some, is_none, unwrap_or, bytes_eq, slice_index_or}
+use Rattle.std.specs.Prelude.{ℕ, ◌==◌, nat_lt, nat_le, Bool, true, false, not, ◌&&◌, ◌||◌, List, [], ◌∷◌, length, count_by, position, Option, is_some, is_none, unwrap_or, bytes_eq, slice_index_or}
 use Rattle.std.specs.List.{list_all, list_any}
 use Rattle.place_plan.specs.Words.{member, is_empty}
 use Rattle.place_plan.specs.Places.{no_action}
@@ -9,9 +9,8 @@ use Rattle.place_plan.specs.declared.rows.PlayRow.{PlayRow}
 use Rattle.caa_main.specs.declared.script.form.Form.{Form}
 use Rattle.caa_main.specs.declared.script.form.Form.TheVariants as form
 use Rattle.caa_main.specs.declared.script.form.Section.{Section}
-use Rattle.caa_main.specs.declared.script.form.Section.TheVariants as section
 use Rattle.caa_main.specs.declared.script.form.Written.{Written}
-use Rattle.caa_main.specs.ScriptForms.{at_top, in_body, fits}
+use Rattle.caa_main.specs.ScriptForms.{fits}
 
 -- what the lines up to some line have said: where the reader is; the participants, objects, actions and plays;
 -- and of the action that is being read its name, its objects by their numbers and its roles, where it has told them,

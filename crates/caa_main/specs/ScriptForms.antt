@@ -1,7 +1,6 @@
 -- What a line of a script says, and where it may stand.
-use Rattle.std.specs.Prelude.{ℕ, ℤ, nat_le, if◌then◌else◌, Bool, true, false, not, ◌&&◌, ◌||◌, List, [], ◌∷◌, length, Option, Some, None, option_map, option_and_then}
+use Rattle.std.specs.Prelude.{ℕ, ℤ, nat_le, if◌then◌else◌, Bool, true, false, not, List, [], ◌∷◌, length, Option, Some, None, option_map, option_and_then}
 use Rattle.std.specs.List.{list_all}
-use Rattle.place_plan.specs.Words.{is_empty}
 use Rattle.caa_main.specs.declared.script.keyword.Keyword.{Keyword}
 use Rattle.caa_main.specs.declared.script.keyword.Keyword.TheVariants as keyword
 use Rattle.caa_main.specs.declared.script.form.Form.{Form}

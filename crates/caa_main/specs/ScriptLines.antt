@@ -1,5 +1,5 @@
 -- How the bytes of a script are cut into lines, and a line into words.
-use Rattle.std.specs.Prelude.{ℕ, ◌==◌, nat_le, if◌then◌else◌, Bool, true, false, not, ◌&&◌, ◌||◌, List, [], ◌∷◌, filter, length}
+use Rattle.std.specs.Prelude.{ℕ, ◌==◌, if◌then◌else◌, Bool, true, not, ◌&&◌, ◌||◌, List, [], ◌∷◌, filter}
 use Rattle.std.specs.List.{list_all, slice_split}
 use Rattle.place_plan.specs.Words.{is_empty}
 

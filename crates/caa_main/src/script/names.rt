@@ -1,6 +1,5 @@
 ghost use Rattle.std.specs.Prelude.{◌≡◌, ◌<◌, ◌≤◌, ◌^◌, ◌==◌, length, count_by, map, position, bytes_eq, IfSome, IfOk, IfErr};
 ghost use Rattle.std.specs.List.{list_all};
-ghost use Rattle.place_plan.specs.Words.{member};
 ghost use Rattle.caa_main.specs.ScriptChecks.{is_among, number_of, has_twice, is_object, object_number, is_action, action_number};
 ghost use Rattle.caa_main.specs.ScriptDraft.{named_from, steps_of, role_row, role_rows, plain_action};
 
@@ -210,11 +209,4 @@ pub fn action_row(alloc: Global, name: Name, objects: Rows<u32>, roles: Vec<Role
         roles: Rows::from_vec(roles),
         nests: Rows::from_vec(Vec::new(alloc)),
     }
-}
-
-/// Whether a number is among these.
-pub fn is_member(number: u32, numbers: &[u32]) -> bool
-    ensures { result ≡ member number numbers.now }
-{
-    numbers.contains(&number)
 }

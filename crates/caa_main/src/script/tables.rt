@@ -5,7 +5,7 @@ use crate::script::early::EarlyError;
 use crate::script::form::{Form, Section, Written};
 use crate::script::names::{
     action_number, action_row, are_among, are_objects, count_of, has_twice, is_action, is_among,
-    is_member, is_object, named, number_of, numbers_of, object_number, role_rows,
+    is_object, named, number_of, numbers_of, object_number, role_rows,
 };
 use caa_base::name::Name;
 use caa_base::rows::Rows;
@@ -159,7 +159,7 @@ impl Tables {
     fn has_body(&self, role: &[u8]) -> bool
         ensures { result ≡ is_twice (told self.now) (Form.Body role.now) }
     {
-        is_member(number_of(self.told_roles(), role), &self.bodies)
+        self.bodies.contains(&number_of(self.told_roles(), role))
     }
 
     /// How many roles an action has.
@@ -199,10 +199,9 @@ impl Tables {
         ensures { result ≡ is_not_held (told self.now) form.now }
     {
         match form {
-            Form::ReadStep(object) => !is_member(
-                object_number(&self.objects, object.bytes()),
-                self.told_uses(),
-            ),
+            Form::ReadStep(object) => !self
+                .told_uses()
+                .contains(&object_number(&self.objects, object.bytes())),
             _ => false,
         }
     }

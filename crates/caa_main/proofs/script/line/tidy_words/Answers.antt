@@ -1,4 +1,4 @@
-use Rattle.std.proofs.Common.{◌≡◌, true, false, not, map, ◌∙◌, sym, ap}
+use Rattle.std.proofs.Common.{not, map, ◌∙◌, sym, ap}
 use Rattle.std.specs.List.{list_all}
 use Rattle.place_plan.specs.Words.{is_empty}
 use Rattle.caa_main.proofs.ScriptWords.{words_of-tidy}
