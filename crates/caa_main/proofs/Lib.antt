@@ -6,3 +6,6 @@ pub mod ScriptNumbers
 pub mod ScriptWords
 pub mod ScriptSoFar
 pub mod WorkedTexts
+pub mod Comings
+pub mod ScriptRead
+pub mod ScriptBuilt

@@ -7,4 +7,3 @@ pub mod line;
 pub mod names;
 pub mod tables;
 pub mod word;
-pub mod reader;

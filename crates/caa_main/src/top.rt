@@ -6,8 +6,7 @@ ghost use Rattle.caa_main.specs.Calls.{input_of, output_of, ComesTo, ScriptComes
 use crate::answer::{Coming, Text};
 use crate::command::{Command, command_of};
 use crate::schedule::sim;
-use crate::script::early::EarlyError;
-use crate::script::reader::read_early;
+use crate::script::early::{EarlyError, read_early};
 use crate::status::{Ended, Status};
 use crate::text::write;
 use caa_base::journal::Journal;

@@ -83,7 +83,7 @@ all_well_formed plan fine (e ∷ past) legal =
     All-cons (IsWellFormed plan) e past (may_well_formed plan fine past e legal.0 legal.1) (all_well_formed plan fine past legal.0)
 
 -- what holds of each entry of a list holds of each of the reversed list
-all_reversed : (P : Entry → Type 0) (es : List Entry) → All P (reverse es) → All P es
+pub all_reversed : (P : Entry → Type 0) (es : List Entry) → All P (reverse es) → All P es
 all_reversed P es h k d l =
     let n : ℕ = length (reverse es) in
     let same_length : n ≡ length es = length-reverse es in
