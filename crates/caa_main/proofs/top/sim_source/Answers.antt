@@ -1,0 +1,29 @@
+use Rattle.std.proofs.Common.{◌≡◌, ℕ, ◌+◌, List, Some, Err, sym, ap, ◌∙◌, subst, refl, IfSome}
+use Rattle.caa_base.specs.Reading.{TookUntil}
+use Rattle.caa_main.specs.Calls.{input_of, WasRead}
+use Rattle.caa_main.proofs.Comings.{script_comes, fault_comes, too_long_comes, wanting_comes}
+use Rattle.caa_main.proofs.top.sim_source.Goals as goal
+
+pub returns-in-Ok-clause-comes : goal.returns-in-Ok-clause-comes
+returns-in-Ok-clause-comes g c = λ words command.
+    let left = g.S.Source.left c.args.source.now in
+    let told = subst (λ b. IfSome left (λ rest. b ≡ rest)) (sym c.as_slice.ensures.value) c.in-Ok.ensures.all in
+    script_comes c.play_script.result.status (input_of words left _ _ _) c.as_slice.result.now c.args.seed c.play_script.result.journal.entries _ command
+    (record { told = told; ended = c.in-Ok.ensures.end })
+    c.play_script.ensures.comes
+
+pub returns-in-Err-Fault-clause-comes : goal.returns-in-Err-Fault-clause-comes
+returns-in-Err-Fault-clause-comes g c = λ words command.
+    fault_comes c.source_fault.result.status (input_of words _ _ _ _) c.args.seed c.source_fault.result.journal.entries _ command
+    c.source_fault.ensures.status (c.in-Err-Fault.ensures.fault (ap Err c.in-Err-Fault.field-0-is)) c.source_fault.ensures.journal c.source_fault.ensures.text
+
+pub returns-in-Err-TooLong-clause-comes : goal.returns-in-Err-TooLong-clause-comes
+returns-in-Err-TooLong-clause-comes g c = λ words command.
+    let taken = subst (TookUntil (g.S.Source.left c.args.source.now) (g.S.Source.left c.read_all.new.source) 1048576) c.in-Err-TooLong.field-0-is c.in-Err-TooLong.ensures.taken in
+    too_long_comes c.too_long.result.status (input_of words _ _ _ _) c.args.seed c.too_long.result.journal.entries _ command
+    c.too_long.ensures.status taken c.too_long.ensures.journal c.too_long.ensures.text
+
+pub returns-in-Err-OutOfMemory-clause-comes : goal.returns-in-Err-OutOfMemory-clause-comes
+returns-in-Err-OutOfMemory-clause-comes g c = λ words command.
+    wanting_comes c.wanting.result.status (input_of words _ _ _ _) c.args.seed c.wanting.result.journal.entries _ command
+    c.wanting.ensures.status c.wanting.ensures.journal c.wanting.ensures.text

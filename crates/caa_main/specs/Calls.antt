@@ -1,0 +1,192 @@
+-- What a call of the program is handed, what it leaves, and what it answers.
+use Rattle.std.specs.Prelude.{◌≡◌, ℕ, ◌+◌, ◌⊎◌, List, [], length, reverse, Option, Some, None, IsSome, IfSome}
+use Rattle.std.specs.Io.KnownBytes.{append_known}
+use Rattle.caa_base.specs.Counts.{Rose}
+use Rattle.caa_base.specs.Reading.{emptied, TookOff}
+use Rattle.caa_base.specs.Writing.{WrotePart}
+use Rattle.caa_base.specs.declared.entry.Entry.{Entry}
+use Rattle.place_plan.specs.declared.draft.Draft.{Draft}
+use Rattle.place_plan.specs.PlanValue.{Plan}
+use Rattle.place_plan.specs.Unfolding.{plan_of}
+use Rattle.place_plan.specs.DraftRules.{broken_rule}
+use Rattle.place_plan.specs.Journals.{IsLegal, IsComplete}
+use Rattle.place_plan.specs.Laws.{KeepsLaws}
+use Rattle.caa_main.specs.declared.command.Command.TheVariants as command
+use Rattle.caa_main.specs.declared.status.Status.{Status}
+use Rattle.caa_main.specs.declared.status.Status.TheVariants as status
+use Rattle.caa_main.specs.Commands.{command_of}
+use Rattle.caa_main.specs.ScriptLines.{most_bytes}
+use Rattle.caa_main.specs.ScriptDraft.{early_draft}
+use Rattle.caa_main.specs.Schedule.{IsScheduled}
+use Rattle.caa_main.specs.Text.{text_of}
+use Rattle.caa_main.specs.Texts.{usage_text, source_fault_text, too_long_text, not_built_text}
+
+-- ---- what is handed in, and what is left
+
+-- the words; what the source had left, and has left now; its counts of faults before and now
+pub record Input : Type 0 where
+  pub words : List (List ℕ)
+  pub left_before : Option (List ℕ)
+  pub left_after : Option (List ℕ)
+  pub faults_before : ℕ
+  pub faults_after : ℕ
+
+abbrev pub input_of : List (List ℕ) → Option (List ℕ) → Option (List ℕ) → ℕ → ℕ → Input
+input_of words left_before left_after faults_before faults_after =
+    record { words = words; left_before = left_before; left_after = left_after; faults_before = faults_before; faults_after = faults_after }
+
+-- what the sink held, and holds now; its counts of faults before and now
+pub record Output : Type 0 where
+  pub held_before : Option (List ℕ)
+  pub held_after : Option (List ℕ)
+  pub faults_before : ℕ
+  pub faults_after : ℕ
+
+abbrev pub output_of : Option (List ℕ) → Option (List ℕ) → ℕ → ℕ → Output
+output_of held_before held_after faults_before faults_after =
+    record { held_before = held_before; held_after = held_after; faults_before = faults_before; faults_after = faults_after }
+
+-- ---- a script
+
+-- the bytes spell a script of early form, and it has a plan
+pub record HasPlan (bytes : List ℕ) (draft : Draft) : Type 0 where
+  pub spelled : early_draft bytes ≡ Some draft
+  pub whole : broken_rule draft ≡ None
+
+abbrev pub HasNoPlan : List ℕ → Type 0
+HasNoPlan bytes = (draft : Draft) → HasPlan bytes draft → ⊥
+
+-- the plan was played to its end by the schedule of the seed, and this is the text of the journal
+pub record PlayedPlan (plan : Plan) (seed : ℕ) (journal : List Entry) (text : List ℕ) : Type 0 where
+  -- lawful clause
+  pub legal : IsLegal plan journal
+  pub complete : IsComplete plan journal
+  pub laws : KeepsLaws plan (reverse journal)
+  -- schedule clause
+  pub schedule : IsScheduled plan seed [] journal
+  -- printed clause
+  pub printed : text ≡ text_of plan journal
+
+-- the script of these bytes was played so
+pub record PlayedScript (bytes : List ℕ) (seed : ℕ) (journal : List Entry) (text : List ℕ) : Type 0 where
+  pub draft : Draft
+  pub script : HasPlan bytes draft
+  pub played : PlayedPlan (plan_of draft) seed journal text
+
+-- what playing a plan comes to: it is played, or no memory was found, before the play or after it
+abbrev pub PlanComesTo : Status → Plan → ℕ → List Entry → List ℕ → Type 0
+PlanComesTo status.Done plan seed journal text = PlayedPlan plan seed journal text
+PlanComesTo status.OutOfMemory plan seed journal text = (text ≡ []) × ((journal ≡ []) ⊎ ((written : List ℕ) × PlayedPlan plan seed journal written))
+PlanComesTo _ plan seed journal text = ⊥
+
+-- what playing a script comes to: it is played, it is refused, or no memory was found, before the play or after it
+abbrev pub ScriptComesTo : Status → List ℕ → ℕ → List Entry → List ℕ → Type 0
+ScriptComesTo status.Done bytes seed journal text = PlayedScript bytes seed journal text
+ScriptComesTo status.Refused bytes seed journal text = HasNoPlan bytes × (journal ≡ []) × (text ≡ not_built_text)
+ScriptComesTo status.OutOfMemory bytes seed journal text = (text ≡ []) × ((journal ≡ []) ⊎ ((written : List ℕ) × PlayedScript bytes seed journal written))
+ScriptComesTo _ bytes seed journal text = ⊥
+
+-- ---- what a call comes to, before its text is written
+
+-- the source was read to its end, and these were its bytes
+pub record WasRead (input : Input) (bytes : List ℕ) : Type 0 where
+  pub told : IfSome input.left_before (λ rest. bytes ≡ rest)
+  pub ended : input.left_after ≡ emptied input.left_before
+
+-- the words are of no command that is built, and nothing was read
+pub record IsUsage (input : Input) (journal : List Entry) (text : List ℕ) : Type 0 where
+  pub cause : command_of input.words ≡ None
+  pub unread : input.left_after ≡ input.left_before
+  pub unplayed : journal ≡ []
+  pub printed : text ≡ usage_text
+
+-- a read failed
+pub record IsSourceFault (input : Input) (journal : List Entry) (text : List ℕ) : Type 0 where
+  pub command : IsSome (command_of input.words)
+  pub cause : Rose input.faults_before input.faults_after
+  pub unplayed : journal ≡ []
+  pub printed : text ≡ source_fault_text
+
+-- the source had more bytes than a script may have
+pub record IsTooLong (input : Input) (text : List ℕ) : Type 0 where
+  pub cause : TookOff input.left_before input.left_after (most_bytes + 1)
+  pub printed : text ≡ too_long_text
+
+-- the bytes of the source are no script of early form that has a plan
+pub record IsNotBuilt (input : Input) (text : List ℕ) : Type 0 where
+  pub bytes : List ℕ
+  pub read : WasRead input bytes
+  pub cause : HasNoPlan bytes
+  pub printed : text ≡ not_built_text
+
+pub record IsRefused (input : Input) (journal : List Entry) (text : List ℕ) : Type 0 where
+  pub command : IsSome (command_of input.words)
+  pub cause : IsTooLong input text ⊎ IsNotBuilt input text
+  pub unplayed : journal ≡ []
+
+-- the command was served: the input clause, and the play
+pub record IsDone (input : Input) (journal : List Entry) (text : List ℕ) : Type 0 where
+  pub seed : ℕ
+  pub command : command_of input.words ≡ Some (command.Sim seed)
+  pub bytes : List ℕ
+  pub read : WasRead input bytes
+  pub played : PlayedScript bytes seed journal text
+
+-- no memory was found: nothing is to be written, and the play was made to its end or not begun
+pub record IsWanting (input : Input) (journal : List Entry) (text : List ℕ) : Type 0 where
+  pub command : IsSome (command_of input.words)
+  pub unplayed : (journal ≡ []) ⊎ ((written : List ℕ) × IsDone input journal written)
+  pub printed : text ≡ []
+
+-- what a call comes to that has this status; a sink fault comes only with the writing, and three statuses don't come yet
+abbrev pub ComesTo : Status → Input → List Entry → List ℕ → Type 0
+ComesTo status.Done = IsDone
+ComesTo status.Usage = IsUsage
+ComesTo status.SourceFault = IsSourceFault
+ComesTo status.Refused = IsRefused
+ComesTo status.OutOfMemory = IsWanting
+ComesTo status.SomeFailed = λ input journal text. ⊥
+ComesTo status.SinkFault = λ input journal text. ⊥
+ComesTo status.PlantFault = λ input journal text. ⊥
+ComesTo status.Illegal = λ input journal text. ⊥
+
+-- ---- what a call answers
+
+-- the call came to this status, and its whole text was written
+pub record WroteAll (status : Status) (input : Input) (output : Output) (journal : List Entry) : Type 0 where
+  pub text : List ℕ
+  pub comes : ComesTo status input journal text
+  pub written : output.held_after ≡ append_known output.held_before text
+
+-- the call came to some status, and the sink didn't take its whole text
+pub record WasCutOff (input : Input) (output : Output) (journal : List Entry) : Type 0 where
+  pub status : Status
+  pub text : List ℕ
+  pub comes : ComesTo status input journal text
+  pub part : WrotePart output.held_before output.held_after text
+  pub cause : Rose output.faults_before output.faults_after
+
+-- the status and the journal that a call answers
+abbrev pub Answers : Input → Output → Status → List Entry → Type 0
+Answers input output status.SinkFault journal = WasCutOff input output journal
+Answers input output status.Done journal = WroteAll status.Done input output journal
+Answers input output status.Usage journal = WroteAll status.Usage input output journal
+Answers input output status.SourceFault journal = WroteAll status.SourceFault input output journal
+Answers input output status.Refused journal = WroteAll status.Refused input output journal
+Answers input output status.OutOfMemory journal = WroteAll status.OutOfMemory input output journal
+Answers input output status.SomeFailed journal = WroteAll status.SomeFailed input output journal
+Answers input output status.PlantFault journal = WroteAll status.PlantFault input output journal
+Answers input output status.Illegal journal = WroteAll status.Illegal input output journal
+
+-- ---- completeness
+
+-- the words are a seed's, the source tells the bytes of a script that has a plan, and neither count rose
+pub record IsServable (input : Input) (output : Output) : Type 0 where
+  pub seed : ℕ
+  pub command : command_of input.words ≡ Some (command.Sim seed)
+  pub bytes : List ℕ
+  pub told : input.left_before ≡ Some bytes
+  pub draft : Draft
+  pub script : HasPlan bytes draft
+  pub read : Rose input.faults_before input.faults_after → ⊥
+  pub written : Rose output.faults_before output.faults_after → ⊥

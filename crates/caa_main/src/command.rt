@@ -1,0 +1,35 @@
+ghost use Rattle.std.specs.Prelude.{◌≡◌, map, string_bytes};
+ghost use Rattle.caa_main.specs.Commands.{command_of, seed_of};
+
+use crate::script::word::natural_of;
+
+/// The greatest seed.
+const MOST_SEED: u64 = 2_147_483_647;
+
+/// A command line that is served.
+#[derive(Clone, Copy, Debug, PartialEq, Eq)]
+pub enum Command {
+    /// Plays a script by the schedule of this seed, which is below 2^31.
+    Sim(u32),
+}
+
+/// A seed: a number from 0 to 2147483647, in decimal digits without a sign and without leading zeros.
+fn seed_of(word: &[u8]) -> Option<u32>
+    ensures { result ≡ seed_of word.now }
+{
+    let seed = natural_of(word, MOST_SEED)?;
+    Some(seed as u32)
+}
+
+/// The command of these words, where they are those of a command that is built.
+pub fn command_of(words: &[String]) -> Option<Command>
+    ensures { result ≡ command_of (map string_bytes words.now) }
+{
+    let [word, seed] = words else {
+        return None;
+    };
+    if word.as_str() != "sim" {
+        return None;
+    }
+    Some(Command::Sim(seed_of(seed.as_bytes())?))
+}

@@ -1,0 +1,9 @@
+//! Reads the scripts that have early form: the plainest layout, of the lines that are built so far.
+
+pub mod early;
+pub mod form;
+pub mod keyword;
+pub mod line;
+pub mod names;
+pub mod tables;
+pub mod word;

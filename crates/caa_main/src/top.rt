@@ -1,0 +1,139 @@
+ghost use Rattle.std.specs.Prelude.{◌≡◌, ◌<◌, ◌^◌, ◌⊎◌, ℕ, List, Some, None, map, string_bytes};
+ghost use Rattle.caa_main.specs.Commands.{command_of};
+ghost use Rattle.caa_main.specs.Texts.{text_bytes};
+ghost use Rattle.caa_main.specs.Calls.{input_of, output_of, ComesTo, ScriptComesTo, PlanComesTo, Answers, IsServable};
+
+use crate::answer::{Coming, Text};
+use crate::command::{Command, command_of};
+use crate::schedule::sim;
+use crate::script::early::{EarlyError, read_early};
+use crate::status::{Ended, Status};
+use crate::text::write;
+use caa_base::journal::Journal;
+use caa_base::plant::Plant;
+use caa_base::reading::{ReadError, read_all, write_all};
+use caa_base::sink::Sink;
+use caa_base::source::Source;
+use journal_replay::hall::PlainHall;
+use place_plan::plan::{Plan, PlanError};
+use std::alloc::Global;
+
+/// How many bytes a script has at most.
+const MOST_BYTES: u64 = 1_048_576;
+
+/// Plays a plan to its end by the schedule of a seed.
+fn play<P: Plant>(alloc: Global, plan: Plan, seed: u32, plant: P) -> Coming<P>
+    requires { seed < 2 ^ 31 }
+    ensures comes { PlanComesTo result.status plan seed result.journal.entries (text_bytes result.text) }
+    ensures plant { result.plant ≡ plant }
+{
+    plan.keeps_laws();
+    plan.is_well_formed();
+    let hall = match PlainHall::open(alloc, plan, plant) {
+        Ok(hall) => hall,
+        Err(error) => return Coming::wanting(alloc, error.plant),
+    };
+    let (plan, plant, journal) = sim(hall, seed).into_parts();
+    match write(alloc, &plan, &journal) {
+        Ok(bytes) => Coming {
+            status: Status::Done,
+            text: Text::Written(bytes),
+            plant,
+            journal,
+        },
+        Err(_) => Coming {
+            status: Status::OutOfMemory,
+            text: Text::Fixed(b""),
+            plant,
+            journal,
+        },
+    }
+}
+
+/// Reads a script and plays it to its end by the schedule of a seed.
+fn play_script<P: Plant>(alloc: Global, bytes: &[u8], seed: u32, plant: P) -> Coming<P>
+    requires { seed < 2 ^ 31 }
+    ensures comes { ScriptComesTo result.status bytes.now seed result.journal.entries (text_bytes result.text) }
+    ensures plant { result.plant ≡ plant }
+{
+    let draft = match read_early(alloc, bytes) {
+        Ok(draft) => draft,
+        Err(EarlyError::NotBuilt) => return Coming::not_built(alloc, plant),
+        Err(EarlyError::OutOfMemory) => return Coming::wanting(alloc, plant),
+    };
+    match Plan::close(alloc, draft) {
+        Ok(plan) => play(alloc, plan, seed, plant),
+        Err(PlanError::BadPart { rule: _ }) => Coming::not_built(alloc, plant),
+        Err(PlanError::OutOfMemory) => Coming::wanting(alloc, plant),
+    }
+}
+
+/// What the command `sim SEED` comes to.
+fn sim_source<S: Source, P: Plant>(alloc: Global, seed: u32, source: &mut S, plant: P) -> Coming<P>
+    requires { seed < 2 ^ 31 }
+    ensures comes { (words : List (List ℕ)) → command_of words ≡ Some (Command.Sim seed) → ComesTo result.status
+        (input_of words (S.left source.old) (S.left source.new) (S.faults source.old) (S.faults source.new))
+        result.journal.entries (text_bytes result.text) }
+    ensures plant { result.plant ≡ plant }
+{
+    match read_all(alloc, source, MOST_BYTES) {
+        Ok(bytes) => play_script(alloc, bytes.as_slice(), seed, plant),
+        Err(ReadError::Fault) => Coming::source_fault(alloc, plant),
+        Err(ReadError::TooLong) => Coming::too_long(alloc, plant),
+        Err(ReadError::OutOfMemory) => Coming::wanting(alloc, plant),
+    }
+}
+
+/// What a call comes to, before its text is written.
+fn decide<S: Source, P: Plant>(alloc: Global, words: &[String], source: &mut S, plant: P) -> Coming<P>
+    ensures comes { ComesTo result.status
+        (input_of (map string_bytes words.now) (S.left source.old) (S.left source.new) (S.faults source.old) (S.faults source.new))
+        result.journal.entries (text_bytes result.text) }
+    ensures plant { result.plant ≡ plant }
+    ensures untouched { command_of (map string_bytes words.now) ≡ None → source.new ≡ source.old }
+{
+    match command_of(words) {
+        Some(Command::Sim(seed)) => sim_source(alloc, seed, source, plant),
+        None => Coming::usage(alloc, plant),
+    }
+}
+
+/// Serves the command of the words, from a source to a sink: `sim SEED` reads a script to its end, plays it by the schedule of the
+/// seed, and writes the text of the journal. It always returns.
+///
+/// The seed is from 0 to 2147483647. Tried in this order: the words (`Usage`), the reading (`SourceFault`, or `Refused` past 1,048,576
+/// bytes), the script (`Refused`), the play, and the writing. Where the text of any status can't be written, the status is `SinkFault`,
+/// and a part of that text was written. At `OutOfMemory` nothing was written. The plant is handed back as it was; the journal is the
+/// played one, or empty.
+pub fn top_quiet<S: Source, K: Sink, P: Plant>(alloc: Global, words: &[String], source: &mut S, sink: &mut K, plant: P) -> Ended<P>
+    ensures answer { Answers
+        (input_of (map string_bytes words.now) (S.left source.old) (S.left source.new) (S.faults source.old) (S.faults source.new))
+        (output_of (K.held sink.old) (K.held sink.new) (K.faults sink.old) (K.faults sink.new))
+        result.status result.journal.entries }
+
+    // Words of a command that is built, a script that has a plan, and no fault: the call is served, or memory was wanting.
+    ensures completeness { IsServable
+        (input_of (map string_bytes words.now) (S.left source.old) (S.left source.new) (S.faults source.old) (S.faults source.new))
+        (output_of (K.held sink.old) (K.held sink.new) (K.faults sink.old) (K.faults sink.new))
+        → (result.status ≡ Status.Done) ⊎ (result.status ≡ Status.OutOfMemory) }
+
+    ensures plant { result.plant ≡ plant }
+    ensures untouched { command_of (map string_bytes words.now) ≡ None → source.new ≡ source.old }
+    ensures room { K.room sink.new ≡ K.room sink.old }
+{
+    let Coming {
+        status,
+        text,
+        plant,
+        journal,
+    } = decide(alloc, words, source, plant);
+    let status = match write_all(sink, text.bytes()) {
+        Ok(()) => status,
+        Err(_) => Status::SinkFault,
+    };
+    Ended {
+        status,
+        plant,
+        journal,
+    }
+}
