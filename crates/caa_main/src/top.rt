@@ -85,7 +85,12 @@ fn sim_source<S: Source, P: Plant>(alloc: Global, seed: u32, source: &mut S, pla
 }
 
 /// What a call comes to, before its text is written.
-fn decide<S: Source, P: Plant>(alloc: Global, words: &[String], source: &mut S, plant: P) -> Coming<P>
+fn decide<S: Source, P: Plant>(
+    alloc: Global,
+    words: &[String],
+    source: &mut S,
+    plant: P,
+) -> Coming<P>
     ensures comes { ComesTo result.status
         (input_of (map string_bytes words.now) (S.left source.old) (S.left source.new) (S.faults source.old) (S.faults source.new))
         result.journal.entries (text_bytes result.text) }
@@ -105,7 +110,13 @@ fn decide<S: Source, P: Plant>(alloc: Global, words: &[String], source: &mut S, 
 /// bytes), the script (`Refused`), the play, and the writing. Where the text of any status can't be written, the status is `SinkFault`,
 /// and a part of that text was written. At `OutOfMemory` nothing was written. The plant is handed back as it was; the journal is the
 /// played one, or empty.
-pub fn top_quiet<S: Source, K: Sink, P: Plant>(alloc: Global, words: &[String], source: &mut S, sink: &mut K, plant: P) -> Ended<P>
+pub fn top_quiet<S: Source, K: Sink, P: Plant>(
+    alloc: Global,
+    words: &[String],
+    source: &mut S,
+    sink: &mut K,
+    plant: P,
+) -> Ended<P>
     ensures answer { Answers
         (input_of (map string_bytes words.now) (S.left source.old) (S.left source.new) (S.faults source.old) (S.faults source.new))
         (output_of (K.held sink.old) (K.held sink.new) (K.faults sink.old) (K.faults sink.new))
@@ -137,3 +148,6 @@ pub fn top_quiet<S: Source, K: Sink, P: Plant>(alloc: Global, words: &[String], 
         journal,
     }
 }
+
+#[cfg(test)]
+mod tests;
