@@ -1,5 +1,6 @@
 -- The text of a journal.
 use Rattle.std.specs.Prelude.{ℕ, ℤ, ◌==◌, if◌then◌else◌, List, [], ◌∷◌, ◌++◌, length, reverse, slice_index_or, Option, None, Some, codes, decimal}
+use Rattle.std.specs.Option.{option_map}
 use Rattle.std.specs.Fmt.{signed_decimal}
 use Rattle.std.specs.List.{flat_map, range_with_len}
 use Rattle.caa_base.specs.declared.entry.Entry.{Entry}
@@ -138,14 +139,18 @@ entry_line plan e = line (kind_word e.kind) (decimal e.place ∷ participant_nam
 abbrev pub object_line : Plan → List Entry → ℕ → List ℕ
 object_line plan past o = line (codes "object") (object_words plan o (value_of plan o past))
 
--- how p ended, or `none`
-abbrev pub end_words : Plan → ℕ → Option Entry → List (List ℕ)
-end_words plan p None = codes "none" ∷ []
-end_words plan p (Some e) = outcome_words plan p (outcome_at e)
+-- the outcome that the last End of p says
+abbrev pub last_outcome : List Entry → ℕ → Option Outcome
+last_outcome past p = option_map outcome_at (newest (is_in kind.End p) past)
 
--- the line of a place, with the words of its last End
+-- how p ended, or `none`
+abbrev pub ending_words : Plan → ℕ → Option Outcome → List (List ℕ)
+ending_words plan p None = codes "none" ∷ []
+ending_words plan p (Some outcome) = outcome_words plan p outcome
+
+-- the line of a place, with its outcome
 abbrev pub outcome_line : Plan → List Entry → ℕ → List ℕ
-outcome_line plan past p = line (codes "outcome") (decimal p ∷ action_name plan p ∷ end_words plan p (newest (is_in kind.End p) past))
+outcome_line plan past p = line (codes "outcome") (decimal p ∷ action_name plan p ∷ ending_words plan p (last_outcome past p))
 
 -- ---- the text
 

@@ -1,22 +1,19 @@
 //! The text of a journal.
 
-ghost use Rattle.std.specs.Prelude.{◌≡◌, ◌<◌, ◌∷◌, ◌++◌, [], List, length, reverse, codes, decimal, OnOk, IfOk, Option, option_copied};
-ghost use Rattle.std.specs.Fmt.{signed_decimal};
+ghost use Rattle.std.specs.Prelude.{◌≡◌, ◌<◌, ◌∷◌, ◌++◌, [], map, length, reverse, codes, decimal, OnOk, IfOk};
 ghost use Rattle.std.specs.List.{flat_map, range_with_len};
 ghost use Rattle.caa_base.specs.declared.entry.Kind.TheVariants as kind;
-ghost use Rattle.place_plan.specs.Places.{exception_name, parent};
-ghost use Rattle.place_plan.specs.Entries.{is_in};
+ghost use Rattle.place_plan.specs.Places.{parent};
+ghost use Rattle.place_plan.specs.Entries.{is_of};
 ghost use Rattle.place_plan.specs.Roles.{verdict_at};
-ghost use Rattle.place_plan.specs.Rules.{newest};
-ghost use Rattle.place_plan.specs.Objects.{value_of};
 ghost use Rattle.place_plan.specs.WellFormed.{IsWellFormed, AllWellFormed};
-ghost use Rattle.caa_main.specs.Text.{spaced, line, object_name, internal_name, interface_name, kind_word, object_words, restore_word, verdict_words, outcome_at, outcome_words, abort_words, leave_words, field_words, entry_line, object_line, end_words, outcome_line, text_of};
+ghost use Rattle.caa_main.specs.Text.{spaced, line, action_name, internal_name, interface_name, kind_word, object_words, restore_word, verdict_words, outcome_at, outcome_words, abort_words, leave_words, field_words, entry_line, object_line, last_outcome, ending_words, outcome_line, text_of};
 
 use caa_base::entry::{Entry, Exception, Kind, Object, OutOfMemory, Outcome, Place, Verdict};
 use caa_base::journal::Journal;
 use place_plan::plan::Plan;
 use place_plan::value::value_at;
-use std::alloc::Global;
+use std::alloc::{AllocError, Global};
 use std::io;
 use std::io::Write;
 
@@ -27,21 +24,21 @@ pub fn write(alloc: Global, plan: &Plan, journal: &Journal) -> Result<Vec<u8>, O
     ensures { IfOk result (λ text. text.items ≡ text_of plan.now journal.now.entries) }
 {
     let mut text = Vec::new(alloc);
-    match push_text(&mut text, plan, journal.as_slice()) {
+    match push_text(alloc, &mut text, plan, journal.as_slice()) {
         Ok(()) => Ok(text),
         Err(_) => Err(OutOfMemory),
     }
 }
 
 /// Adds all lines.
-fn push_text(text: &mut Vec<u8>, plan: &Plan, entries: &[Entry]) -> io::Result<()>
+fn push_text(alloc: Global, text: &mut Vec<u8>, plan: &Plan, entries: &[Entry]) -> io::Result<()>
     requires { AllWellFormed plan.now entries.now }
     ensures { OnOk result (text.new.items ≡ text.old.items ++ text_of plan.now entries.now) }
 {
     text.extend_from_slice(b"journal\n")?;
     push_entries(text, plan, entries)?;
     push_objects(text, plan, entries)?;
-    push_outcomes(text, plan, entries)
+    push_outcomes(alloc, text, plan, entries)
 }
 
 /// Adds a line for each entry.
@@ -69,14 +66,47 @@ fn push_objects(text: &mut Vec<u8>, plan: &Plan, entries: &[Entry]) -> io::Resul
 
 /// Adds a line for each place, with its outcome after the entries.
 #[tactic(auto, using(crate::proofs::TextLemmas::lines_more))]
-fn push_outcomes(text: &mut Vec<u8>, plan: &Plan, entries: &[Entry]) -> io::Result<()>
+fn push_outcomes(
+    alloc: Global,
+    text: &mut Vec<u8>,
+    plan: &Plan,
+    entries: &[Entry],
+) -> io::Result<()>
+    requires { AllWellFormed plan.now entries.now }
     ensures { OnOk result (text.new.items
         ≡ text.old.items ++ flat_map (outcome_line plan.now (reverse entries.now)) (range_with_len 0 (length plan.now.places))) }
 {
+    let outcomes = last_outcomes(alloc, plan, entries)?;
     for place in 0..plan.places() {
-        push_outcome_line(text, plan, entries, place)?;
+        push_ending(text, plan, place, outcomes[place as usize])?;
     }
     Ok(())
+}
+
+/// How each place ended, in the order of the places, where it has an End.
+fn last_outcomes(
+    alloc: Global,
+    plan: &Plan,
+    entries: &[Entry],
+) -> Result<Vec<Option<Outcome>>, AllocError>
+    requires { AllWellFormed plan.now entries.now }
+    ensures { IfOk result (λ outcomes.
+        outcomes.items ≡ map (last_outcome (reverse entries.now)) (range_with_len 0 (length plan.now.places))) }
+{
+    let mut outcomes = vec![in alloc; None; plan.places() as usize]?;
+    for entry in entries {
+        if is_end(entry) {
+            outcomes[entry.place as usize] = Some(outcome_of(entry));
+        }
+    }
+    Ok(outcomes)
+}
+
+/// Whether an entry is an End.
+fn is_end(entry: &Entry) -> bool
+    ensures { result ≡ is_of kind.End entry.now }
+{
+    entry.kind == Kind::End
 }
 
 /// Adds the line of an entry.
@@ -106,43 +136,24 @@ fn push_object_line(
     push_end(text)
 }
 
-/// Adds the line of a place.
-fn push_outcome_line(
+/// Adds the line of a place that ended so, or that hasn't ended.
+fn push_ending(
     text: &mut Vec<u8>,
     plan: &Plan,
-    entries: &[Entry],
     place: Place,
+    outcome: Option<Outcome>,
 ) -> io::Result<()>
-    ensures { OnOk result (text.new.items ≡ text.old.items ++ outcome_line plan.now (reverse entries.now) place) }
+    ensures { OnOk result (text.new.items
+        ≡ text.old.items ++ line (codes "outcome") (decimal place ∷ action_name plan.now place ∷ ending_words plan.now place outcome)) }
 {
     text.extend_from_slice(b"outcome")?;
     write!(text, " {place}")?;
     push_word(text, plan.action_name(place))?;
-    match last_end(entries, place) {
-        Some(end) => push_outcome(text, plan, place, outcome_of(&end))?,
+    match outcome {
+        Some(outcome) => push_outcome(text, plan, place, outcome)?,
         None => push_word(text, b"none")?,
     }
     push_end(text)
-}
-
-/// The last End of a place, if it has one.
-fn last_end(entries: &[Entry], place: Place) -> Option<Entry>
-    ensures { result ≡ newest (is_in kind.End place) (reverse entries.now) }
-{
-    let mut end = None;
-    for entry in entries {
-        if is_end(entry, place) {
-            end = Some(*entry);
-        }
-    }
-    end
-}
-
-/// Whether an entry is an End of a place.
-fn is_end(entry: &Entry, place: Place) -> bool
-    ensures { result ≡ is_in kind.End place entry.now }
-{
-    entry.kind == Kind::End && entry.place == place
 }
 
 /// Adds the end of a line.
