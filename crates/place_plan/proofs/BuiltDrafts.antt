@@ -1,22 +1,17 @@
 -- What a draft of built parts keeps by itself, and what it unfolds into.
-use Rattle.std.proofs.Common.{◌≡◌, ℕ, ◌==◌, ◌+◌, Bool, true, false, ◌&&◌, List, [], ◌∷◌, ◌++◌, map, length, slice_index_or, Option, Some, None, zero, suc, refl, sym, ap, ◌∙◌, subst, arith, nat_le}
+use Rattle.std.proofs.Common.{◌≡◌, ℕ, ◌+◌, Bool, true, false, ◌&&◌, List, [], ◌∷◌, map, length, slice_index_or, Some, None, zero, suc, refl, ap}
 use Rattle.std.specs.List.{list_all, range_with_len}
 use Rattle.std.proofs.lemmas.Bool.{and_parts, and_from, false≢true}
-use Rattle.caa_base.specs.declared.entry.Verdict.{Verdict}
-use Rattle.caa_base.specs.declared.entry.Verdict.TheVariants as verdict
 use Rattle.place_plan.specs.declared.draft.Draft.{Draft}
-use Rattle.place_plan.specs.declared.rows.PlaceRow.{PlaceRow}
 use Rattle.place_plan.specs.declared.rows.PlayRow.{PlayRow}
 use Rattle.place_plan.specs.declared.rows.ActionRow.{ActionRow}
 use Rattle.place_plan.specs.declared.rows.RoleRow.{RoleRow}
-use Rattle.place_plan.specs.declared.rows.NestRow.{NestRow}
-use Rattle.place_plan.specs.declared.rows.HandlerRow.{HandlerRow}
 use Rattle.place_plan.specs.declared.rows.Step.{Step}
 use Rattle.place_plan.specs.declared.rows.Step.TheVariants as step
 use Rattle.place_plan.specs.Words.{is_empty}
 use Rattle.place_plan.specs.Places.{no_action}
 use Rattle.place_plan.specs.Unfolding.{plan_of, place_of, unfold_at, most_depth, plays_from, tops_from}
-use Rattle.place_plan.specs.DraftRules.{order_rule, nests_below, enter_rule, roles_enter, entered_by, filled_by, same_numbers, depth_rule, depths_fit, depth_within, handler_rule, handlers_differ, nest_mapped, fills, nest_held, nest_in_range, size_rule, range_rule, fill_rule, object_rule, bound_rule, broken_rule, KeepsParts}
+use Rattle.place_plan.specs.DraftRules.{order_rule, nests_below, enter_rule, roles_enter, entered_by, depth_rule, depths_fit, depth_within, handler_rule, handlers_differ, nest_mapped, size_rule, range_rule, fill_rule, object_rule, bound_rule, broken_rule, KeepsParts}
 use Rattle.place_plan.specs.Built.{IsBuilt, is_built_action, is_built_role, is_built_step}
 
 -- what all pass, and the default, each passes

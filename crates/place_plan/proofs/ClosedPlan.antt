@@ -1,6 +1,6 @@
 -- What a closed plan says: its draft broke no rule, so it is flat, and its numbers are small.
-use Rattle.std.proofs.Common.{◌≡◌, ℕ, ℤ, pos, negsuc, ◌==◌, ◌<◌, ◌≤◌, ◌+◌, ◌*◌, max, nat_lt, nat_le, int_lt, cond, Bool, true, false, not, ◌&&◌, ◌||◌, List, [], ◌∷◌, ◌++◌, map, length, slice_index_or, slice_get, Option, Some, None, zero, suc, refl, sym, ap, ap₂, ◌∙◌, subst, inl, inr, arith, add-one, add-zero}
-use Rattle.std.specs.List.{list_any, list_all, range_with_len}
+use Rattle.std.proofs.Common.{◌≡◌, ℕ, ℤ, pos, negsuc, ◌==◌, ◌<◌, ◌≤◌, ◌+◌, ◌*◌, nat_lt, nat_le, int_lt, cond, Bool, true, false, not, ◌&&◌, List, [], ◌∷◌, ◌++◌, map, length, slice_index_or, slice_get, Option, Some, None, zero, suc, refl, sym, ap, ◌∙◌, subst, inl, inr, arith, add-one, add-zero}
+use Rattle.std.specs.List.{list_all, range_with_len}
 use Rattle.std.proofs.lemmas.Int.{ints}
 use Rattle.std.proofs.Math.Nat.{mul-le-mul}
 use Rattle.std.proofs.lemmas.Bool.{and_parts, and_from, or_cases, eqb-true, false≢true, ltb-true, leb-true, le-leb, not-true}
@@ -17,12 +17,12 @@ use Rattle.place_plan.specs.declared.rows.Step.{Step}
 use Rattle.place_plan.specs.declared.rows.Step.TheVariants as step
 use Rattle.place_plan.specs.PlanValue.{Plan}
 use Rattle.place_plan.specs.Words.{member, index_of, is_empty, Rises}
-use Rattle.place_plan.specs.Places.{around, roles_of, action_at, action_in, role_row, role_at, objects_of, body_of, handler_in, handler_of, initial_of, no_action, no_role, no_place, no_object}
+use Rattle.place_plan.specs.Places.{roles_of, action_at, action_in, role_row, objects_of, body_of, handler_in, initial_of, no_action, no_role, no_place, no_object}
 use Rattle.place_plan.specs.Roles.{program_in, or_idle}
 use Rattle.place_plan.specs.WellFormed.{IsValue}
 use Rattle.place_plan.specs.Flat.{IsFlat, IsQuietStep}
 use Rattle.place_plan.specs.Unfolding.{plan_of, place_of, plain_graph}
-use Rattle.place_plan.specs.DraftRules.{size_rule, action_fits, role_fits, program_fits, range_rule, is_value, is_rising, is_rising_above, all_below, step_in_range, program_in_range, role_in_range, exceptions_of, graphs_in_range, objects_in_range, parts_in_range, action_in_range, play_in_range, drill_in_range, order_rule, fill_rule, fills, all_differ, enter_rule, object_rule, step_held, role_held, action_held, depth_rule, handler_rule, bound_rule, broken_rule, broken_if, KeepsParts}
+use Rattle.place_plan.specs.DraftRules.{size_rule, action_fits, role_fits, program_fits, range_rule, is_value, is_rising, is_rising_above, all_below, step_in_range, role_in_range, exceptions_of, graphs_in_range, objects_in_range, parts_in_range, action_in_range, play_in_range, order_rule, fill_rule, fills, enter_rule, object_rule, step_held, role_held, action_held, depth_rule, handler_rule, bound_rule, broken_rule, broken_if, KeepsParts}
 use Rattle.place_plan.specs.Sizes.{HasSizes, row_fits}
 use Rattle.place_plan.specs.Bound.{longest_body, longest_of, longest_handler}
 use Rattle.place_plan.specs.Built.{IsBuilt, IsClosed, is_built_action, is_built_role, is_built_step, is_done}

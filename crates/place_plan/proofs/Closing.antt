@@ -1,16 +1,15 @@
 -- The plan that is made of a draft which breaks no rule.
-use Rattle.std.proofs.Common.{◌≡◌, ℕ, ◌<◌, ◌≤◌, true, false, List, map, length, None, refl, sym, ap, ◌∙◌, subst, arith, sum_by}
+use Rattle.std.proofs.Common.{◌≡◌, ℕ, ◌<◌, ◌≤◌, true, false, List, map, length, refl, sym, ap, ◌∙◌, arith, sum_by}
 use Rattle.std.specs.List.{range_with_len}
 use Rattle.std.proofs.lemmas.Bool.{and_from, and_right, le-leb, lt-leb}
 use Rattle.place_plan.specs.declared.draft.Draft.{Draft}
 use Rattle.place_plan.specs.declared.rows.PlaceRow.{PlaceRow}
 use Rattle.place_plan.specs.declared.plan.Plan.TheInside.{Inside}
-use Rattle.place_plan.specs.PlanValue.{Plan}
 use Rattle.place_plan.specs.PlanView.{plan_view, IsKept}
 use Rattle.place_plan.specs.Bound.{row_bound, bound}
-use Rattle.place_plan.specs.Unfolding.{plan_of, place_of, plain_graph}
-use Rattle.place_plan.specs.DraftRules.{bound_rule, broken_rule, KeepsParts}
-use Rattle.place_plan.specs.Built.{IsBuilt, IsClosed}
+use Rattle.place_plan.specs.Unfolding.{plan_of, place_of}
+use Rattle.place_plan.specs.DraftRules.{bound_rule, KeepsParts}
+use Rattle.place_plan.specs.Built.{IsBuilt}
 use Rattle.place_plan.proofs.BuiltDrafts.{built_places, built_plays, breaks_none}
 use Rattle.place_plan.proofs.ClosedPlan.{length_map}
 

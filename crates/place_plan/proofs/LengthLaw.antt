@@ -1,8 +1,7 @@
 -- No legal past of a flat plan is longer than the bound.
-use Rattle.std.proofs.Common.{◌≡◌, sum_by, ap₂, ℕ, ℤ, pos, ◌==◌, ◌<◌, ◌≤◌, ◌+◌, ◌*◌, max, Bool, true, false, not, cond, ◌&&◌, ◌||◌, List, [], ◌∷◌, ◌++◌, Some, None, Option, refl, sym, ap, ◌∙◌, subst, subst₂, arith, rules, suc, zero, length, inl, inr, ◌⊎◌, slice_get, slice_index_or}
-use Rattle.std.specs.List.{list_any, list_all}
+use Rattle.std.proofs.Common.{◌≡◌, sum_by, ap₂, ℕ, ◌==◌, ◌<◌, ◌≤◌, ◌+◌, ◌*◌, Bool, true, false, cond, ◌&&◌, ◌||◌, List, [], ◌∷◌, Some, refl, sym, ap, ◌∙◌, subst, subst₂, arith, suc, zero, length, inl, inr, slice_get, slice_index_or}
 use Rattle.std.proofs.lemmas.List.Sums.{sum_by-cons}
-use Rattle.std.proofs.lemmas.Bool.{and_parts, and_from, or_cases, or_left, or_right, eqb-true, eq-eqb, false≢true, false_from_ne_true, both_ways, cases_eq}
+use Rattle.std.proofs.lemmas.Bool.{and_parts, and_from, or_cases, eqb-true, eq-eqb, false≢true, cases_eq}
 use Rattle.std.proofs.lemmas.Option.{slice_get_within, get_or_from_slice_get}
 use Rattle.caa_base.specs.declared.entry.Entry.{Entry}
 use Rattle.caa_base.specs.declared.entry.Kind.{Kind}
@@ -11,7 +10,7 @@ use Rattle.place_plan.specs.declared.rows.RoleRow.{RoleRow}
 use Rattle.place_plan.specs.declared.rows.Step.{Step}
 use Rattle.place_plan.specs.PlanValue.{Plan}
 use Rattle.place_plan.specs.Words.{member, index_of}
-use Rattle.place_plan.specs.Places.{roles_of, objects_of, action_at, action_in, place_at, no_role, no_place, body_of}
+use Rattle.place_plan.specs.Places.{roles_of, action_at, action_in, place_at, no_role, no_place, body_of}
 use Rattle.place_plan.specs.Entries.{has_by}
 use Rattle.place_plan.specs.Whereabouts.{inside, started, ended}
 use Rattle.place_plan.specs.Roles.{position, program_of, program_in, next_step}

@@ -1,12 +1,10 @@
 -- The rules that a draft has to keep, each with its number.
-use Rattle.std.specs.Prelude.{◌≡◌, ℕ, ℤ, pos, negsuc, ◌==◌, ◌+◌, ◌-◌, nat_lt, nat_le, max, int_lt, if◌then◌else◌, Bool, true, false, not, ◌&&◌, List, [], ◌∷◌, map, length, slice_index_or, filter, Option, Some, None, zero, suc}
+use Rattle.std.specs.Prelude.{◌≡◌, ℕ, ℤ, pos, negsuc, ◌==◌, nat_lt, nat_le, max, int_lt, if◌then◌else◌, Bool, true, false, not, ◌&&◌, List, [], ◌∷◌, map, length, slice_index_or, Option, Some, None, zero, suc}
 use Rattle.std.specs.List.{list_all}
-use Rattle.cover_table.specs.Cover.{CoverOrder}
 use Rattle.caa_base.specs.declared.entry.Drill.{Drill}
 use Rattle.caa_base.specs.declared.entry.Verdict.{Verdict}
 use Rattle.caa_base.specs.declared.entry.Verdict.TheVariants as verdict
 use Rattle.place_plan.specs.declared.draft.Draft.{Draft}
-use Rattle.place_plan.specs.declared.rows.ObjectRow.{ObjectRow}
 use Rattle.place_plan.specs.declared.rows.PlayRow.{PlayRow}
 use Rattle.place_plan.specs.declared.rows.ActionRow.{ActionRow}
 use Rattle.place_plan.specs.declared.rows.RoleRow.{RoleRow}
@@ -17,7 +15,6 @@ use Rattle.place_plan.specs.declared.rows.AbortRow.TheVariants as abort
 use Rattle.place_plan.specs.declared.rows.Program.{Program}
 use Rattle.place_plan.specs.declared.rows.Step.{Step}
 use Rattle.place_plan.specs.declared.rows.Step.TheVariants as step
-use Rattle.place_plan.specs.PlanValue.{Plan}
 use Rattle.place_plan.specs.Words.{member, is_empty}
 use Rattle.place_plan.specs.Places.{graph_at, no_action}
 use Rattle.place_plan.specs.Unfolding.{plan_of, most_depth}

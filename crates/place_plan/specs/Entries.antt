@@ -1,12 +1,9 @@
 -- The entries of a journal: what each kind may say, and which stand in a past.
-use Rattle.std.specs.Prelude.{◌≡◌, ℕ, ℤ, pos, negsuc, ◌≤ℤ◌, ◌==◌, ◌<◌, ◌≤◌, ◌^◌, Bool, ◌&&◌, List, length}
+use Rattle.std.specs.Prelude.{ℕ, ◌==◌, Bool, ◌&&◌, List}
 use Rattle.std.specs.List.{list_any}
 use Rattle.caa_base.specs.declared.entry.Entry.{Entry}
 use Rattle.caa_base.specs.declared.entry.Kind.{Kind}
 use Rattle.caa_base.specs.declared.entry.Kind.TheVariants as kind
-use Rattle.caa_base.specs.declared.entry.Verdict.{Verdict}
-use Rattle.caa_base.specs.declared.entry.Verdict.TheVariants as verdict
-use Rattle.place_plan.specs.PlanValue.{Plan}
 
 -- the number of a kind, in the order of their declaration
 abbrev pub code_of : Kind → ℕ

@@ -1,5 +1,5 @@
 -- How the plays of a draft unfold into places.
-use Rattle.std.specs.Prelude.{◌≡◌, ℕ, ◌+◌, ◌<◌, List, [], ◌∷◌, ◌++◌, map, length, slice_index_or, zero, suc, Option, None}
+use Rattle.std.specs.Prelude.{ℕ, ◌+◌, List, [], ◌∷◌, ◌++◌, map, length, slice_index_or, zero, suc}
 use Rattle.place_plan.specs.declared.draft.Draft.{Draft}
 use Rattle.place_plan.specs.declared.rows.PlaceRow.{PlaceRow}
 use Rattle.place_plan.specs.declared.rows.PlayRow.{PlayRow}

@@ -27,7 +27,7 @@ const MOST_DRILLS: usize = 1000;
 
 const MOST_ROUNDS: u32 = 1_000_000;
 
-const MOST_COUNT: u32 = 1_000_000;
+const MOST_PUTS: u32 = 1_000_000;
 
 /// How many places a plan has at most.
 pub(crate) const MOST_PLACES: usize = 65_536;
@@ -36,6 +36,9 @@ pub(crate) const MOST_PLACES: usize = 65_536;
 pub(crate) const MOST_ENTRIES: u64 = 1_000_000;
 
 const MOST_VALUE: i64 = 1_000_000_000_000;
+
+/// Graph 0, which has `universal` alone, is the only one yet.
+const GRAPHS: u32 = 1;
 
 /// Whether a number is in a list.
 pub(crate) fn is_member(number: u32, list: &[u32]) -> bool
@@ -236,11 +239,11 @@ fn is_rising(numbers: &[u32]) -> bool
     true
 }
 
-/// How many exceptions a graph of the draft has: graph 0 alone is there, and has `universal` alone.
+/// How many exceptions a graph of the draft has.
 fn exceptions_of(_draft: &Draft, graph: u32) -> u32
     ensures { result ≡ exceptions_of _draft.now graph }
 {
-    if graph == 0 { 1 } else { 0 }
+    if graph < GRAPHS { 1 } else { 0 }
 }
 
 fn nests_in_range(action: &ActionRow, actions: usize, internal: u32) -> bool
@@ -257,8 +260,8 @@ fn nests_in_range(action: &ActionRow, actions: usize, internal: u32) -> bool
 fn graphs_in_range(draft: &Draft, action: &ActionRow) -> bool
     ensures { result ≡ graphs_in_range draft.now action.now }
 {
-    action.internal < 1
-        && action.interface < 1
+    action.internal < GRAPHS
+        && action.interface < GRAPHS
         && action.fault < exceptions_of(draft, action.internal)
 }
 
@@ -296,7 +299,7 @@ fn play_in_range(draft: &Draft, play: &PlayRow) -> bool
 fn drill_in_range(draft: &Draft, drill: &Drill) -> bool
     ensures { result ≡ drill_in_range draft.now drill.now }
 {
-    (drill.object as usize) < draft.objects.len() && 1 <= drill.nth && drill.nth <= MOST_COUNT
+    (drill.object as usize) < draft.objects.len() && 1 <= drill.nth && drill.nth <= MOST_PUTS
 }
 
 fn initials_in_range(draft: &Draft) -> bool

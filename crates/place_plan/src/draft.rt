@@ -8,8 +8,11 @@ use caa_base::rows::Rows;
 pub struct Draft {
     /// The names of the participants.
     pub participants: Rows<Name>,
+    /// The external objects.
     pub objects: Rows<ObjectRow>,
+    /// The actions, in the order of their declaration.
     pub actions: Rows<ActionRow>,
+    /// Which actions are played at the top, in order, and by whom.
     pub plays: Rows<PlayRow>,
     /// The puts that the device is to refuse.
     pub drills: Rows<Drill>,

@@ -58,8 +58,10 @@ pub enum AbortRow {
 #[derive(Drop)]
 pub struct RoleRow {
     pub name: Name,
+    /// What it does as long as nothing is raised.
     pub body: Program,
     pub handlers: Rows<HandlerRow>,
+    /// What it names when its place is aborted.
     pub abort: AbortRow,
 }
 
@@ -99,6 +101,7 @@ pub struct ActionRow {
 #[derive(Drop)]
 pub struct ObjectRow {
     pub name: Name,
+    /// Its value before the first entry.
     pub initial: i64,
 }
 

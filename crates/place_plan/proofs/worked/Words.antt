@@ -1,6 +1,6 @@
 -- Words in which worked plans and journals are written, and what computing shows of them.
-use Rattle.std.proofs.Common.{◌≡◌, ℕ, ℤ, pos, ◌+◌, ◌-◌, ◌^◌, ◌<◌, Bool, true, false, not, ◌&&◌, ◌||◌, List, [], ◌∷◌, length, map, reverse, zero, suc, refl, arith, below_more, ◌∙◌, cond}
-use Rattle.std.specs.Prelude.{nat_lt, if◌then◌else◌}
+use Rattle.std.proofs.Common.{◌≡◌, ℕ, pos, ◌+◌, ◌-◌, ◌^◌, ◌<◌, Bool, true, false, not, ◌&&◌, ◌||◌, List, [], ◌∷◌, length, map, reverse, zero, suc, arith, below_more}
+use Rattle.std.specs.Prelude.{nat_lt}
 use Rattle.std.proofs.lemmas.Bool.{and_parts, false≢true, ltb-true}
 use Rattle.cover_table.specs.Cover.{CoverOrder, IsLeastCover, covers, covers_each}
 use Rattle.caa_base.specs.declared.entry.Entry.{Entry}
@@ -15,8 +15,6 @@ use Rattle.place_plan.specs.declared.rows.Program.{Program}
 use Rattle.place_plan.specs.declared.rows.Step.{Step}
 use Rattle.place_plan.specs.declared.rows.AbortRow.{AbortRow}
 use Rattle.place_plan.specs.PlanValue.{Plan, GraphRow}
-use Rattle.place_plan.specs.Places.{initial_of}
-use Rattle.place_plan.specs.Objects.{value_of, value_outside, restores, writes, within_any}
 use Rattle.place_plan.specs.Roles.{over}
 use Rattle.place_plan.specs.Rules.{MayFollow}
 use Rattle.place_plan.specs.WellFormed.{IsWellFormed}

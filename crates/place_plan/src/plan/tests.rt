@@ -4,7 +4,8 @@ ghost use Rattle.place_plan.specs.Built.{is_built_step, is_built_role, is_built_
 
 use super::*;
 use crate::rows::Step;
-use caa_base::entry::Verdict;
+use crate::value::value_at;
+use caa_base::entry::{Entry, Kind, Verdict};
 use std::test::Fail;
 
 /// What differs in the drafts of these tests: each has two participants, and one action, `look`.
@@ -168,6 +169,7 @@ fn action_is_read(plan: &Plan) -> bool {
         && plan.fault(0) == 0
         && plan.internal_number(0) == 0
         && plan.interface_number(0) == 0
+        && plan.exception_name(0, 0) == b"universal".as_slice()
 }
 
 fn role_is_read(plan: &Plan) -> bool {
@@ -309,5 +311,27 @@ fn errors_have_their_texts(rt: HostRuntime) -> Result<(), Fail> {
     assert_eq!(rt; bad.as_str(), "the draft breaks rule 5");
     let memory = PlanError::OutOfMemory.to_string(rt.alloc())?;
     assert_eq!(rt; memory.as_str(), "out of memory");
+    Ok(())
+}
+
+#[test]
+fn a_restore_takes_a_write_back(rt: HostRuntime) -> Result<(), Fail> {
+    let plan = closed(rt.alloc(), FIRST_PATH)?;
+    assert!(rt; plan.objects() == 1);
+    let write = Entry {
+        kind: Kind::Write,
+        place: 0,
+        by: 0,
+        arg: 0,
+        mark: 0,
+        value: 7,
+    };
+    let restore = Entry {
+        kind: Kind::Restore,
+        value: 5,
+        ..write
+    };
+    assert!(rt; value_at(&plan, &[write], 0) == 7);
+    assert!(rt; value_at(&plan, &[write, restore], 0) == 5);
     Ok(())
 }

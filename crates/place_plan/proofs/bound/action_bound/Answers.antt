@@ -1,5 +1,4 @@
-use Rattle.std.proofs.Common.{arith, refl, ◌≡◌, ap, ◌∙◌}
-use Rattle.place_plan.specs.declared.rows.ActionRow.{ActionRow}
+use Rattle.std.proofs.Common.{arith, refl, ap, ◌∙◌}
 use Rattle.place_plan.specs.Bound.{action_bound, longest_body, longest_handler}
 use Rattle.place_plan.proofs.ClosedPlan.{sizes_small}
 use Rattle.place_plan.proofs.bound.action_bound.Goals as goal

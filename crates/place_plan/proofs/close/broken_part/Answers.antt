@@ -1,4 +1,4 @@
-use Rattle.std.proofs.Common.{sym, ◌∙◌}
+use Rattle.std.proofs.Common.{sym}
 use Rattle.place_plan.proofs.BuiltDrafts.{breaks_fillings, breaks_objects, keeps_parts}
 use Rattle.place_plan.proofs.close.broken_part.Goals as goal
 
