@@ -1,5 +1,6 @@
 ghost use Rattle.std.specs.Prelude.{◌≡◌, ◌<◌, ◌+◌, ◌/◌, ◌%◌, ◌^◌, length, reverse, MatchBool};
 ghost use Rattle.place_plan.specs.Journals.{IsComplete};
+ghost use Rattle.journal_replay.specs.Hall.{plan_in, plant_in, journal_in, base_in};
 ghost use Rattle.caa_main.specs.Schedule.{Acts, IsKept, TakesTurn, IsScheduled};
 
 use caa_base::entry::Participant;
@@ -10,13 +11,13 @@ use place_plan::machine::{Answer, Machine};
 
 /// Lets a participant make its entry, with its mixing work, and says whether it had one.
 fn act<P: Plant>(hall: &mut PlainHall<P>, by: Participant) -> bool
-    requires { by < length hall.old.plan.participants }
-    ensures plan { hall.new.plan ≡ hall.old.plan }
-    ensures base { hall.new.base ≡ hall.old.base }
-    ensures plant { hall.new.plant ≡ hall.old.plant }
+    requires { by < length (plan_in hall.old).participants }
+    ensures plan { plan_in hall.new ≡ plan_in hall.old }
+    ensures base { base_in hall.new ≡ base_in hall.old }
+    ensures plant { plant_in hall.new ≡ plant_in hall.old }
     ensures acts { MatchBool result
-        (Acts hall.old.plan hall.old.journal.entries hall.new.journal.entries by)
-        (IsKept hall.old.plan hall.old.journal.entries hall.new.journal.entries by) }
+        (Acts (plan_in hall.old) (journal_in hall.old) (journal_in hall.new) by)
+        (IsKept (plan_in hall.old) (journal_in hall.old) (journal_in hall.new) by) }
 {
     hall.plan().due_is_right();
     match hall.next(by, None) {
@@ -48,11 +49,11 @@ fn asked(state: u32, others: u32, participants: u32) -> Participant
 
 /// Makes the entry of the first participant, going round, that has one.
 fn take_turn<P: Plant>(hall: &mut PlainHall<P>, state: u32)
-    requires { IsComplete hall.old.plan hall.old.journal.entries → ⊥ }
-    ensures plan { hall.new.plan ≡ hall.old.plan }
-    ensures base { hall.new.base ≡ hall.old.base }
-    ensures plant { hall.new.plant ≡ hall.old.plant }
-    ensures turn { TakesTurn hall.old.plan hall.old.journal.entries hall.new.journal.entries state }
+    requires { IsComplete (plan_in hall.old) (journal_in hall.old) → ⊥ }
+    ensures plan { plan_in hall.new ≡ plan_in hall.old }
+    ensures base { base_in hall.new ≡ base_in hall.old }
+    ensures plant { plant_in hall.new ≡ plant_in hall.old }
+    ensures turn { TakesTurn (plan_in hall.old) (journal_in hall.old) (journal_in hall.new) state }
 {
     let participants = hall.plan().participants();
     for others in 0..participants {
@@ -70,11 +71,11 @@ fn take_turn<P: Plant>(hall: &mut PlainHall<P>, state: u32)
 /// round from the one of number `state / 65536` modulo the number of participants.
 pub fn sim<P: Plant>(mut hall: PlainHall<P>, seed: u32) -> PlainHall<P>
     requires { seed < 2 ^ 31 }
-    ensures plan { result.plan ≡ hall.plan }
-    ensures base { result.base ≡ hall.base }
-    ensures plant { result.plant ≡ hall.plant }
-    ensures complete { IsComplete result.plan result.journal.entries }
-    ensures scheduled { IsScheduled hall.plan seed hall.journal.entries result.journal.entries }
+    ensures plan { plan_in result ≡ plan_in hall }
+    ensures base { base_in result ≡ base_in hall }
+    ensures plant { plant_in result ≡ plant_in hall }
+    ensures complete { IsComplete (plan_in result) (journal_in result) }
+    ensures scheduled { IsScheduled (plan_in hall) seed (journal_in hall) (journal_in result) }
 {
     let mut state = seed;
     while !hall.complete() {

@@ -1,6 +1,6 @@
 ghost use Rattle.std.specs.Prelude.{◌≡◌, ◌<◌, ◌≤◌, [], length, reverse, IfOk, IfErr, MatchBool};
 ghost use Rattle.place_plan.specs.Bound.{bound};
-ghost use Rattle.place_plan.specs.Journals.{LegalPast};
+ghost use Rattle.place_plan.specs.Journals.{LegalPast, IsLegal};
 ghost use Rattle.place_plan.specs.Machine.{Answers, Fits};
 ghost use Rattle.place_plan.proofs.LegalProp.{LegalPast-prop};
 
@@ -55,15 +55,18 @@ fn fits(hint: &Option<WorkDone>, rounds: u32, from: i64) -> bool
 }
 
 impl<P: Plant> PlainHall<P> {
+    ghost use Rattle.journal_replay.specs.Hall.{plan_in, plant_in, journal_in, base_in, room_in};
+
     /// A machine at the beginning of a plan, over a plant.
     ///
     /// All its memory is taken here: the journal has room for as many entries as the plan allows. The plant isn't called but for
     /// its count of faults. `OutOfMemory` hands it back as it was.
     pub fn open(alloc: Global, plan: Plan, plant: P) -> Result<PlainHall<P>, OpenError<P>>
-        ensures plan { IfOk result (λ hall. hall.plan ≡ plan) }
-        ensures journal { IfOk result (λ hall. hall.journal.entries ≡ []) }
-        ensures base { IfOk result (λ hall. hall.base ≡ P.faults plant) }
-        ensures plant { IfOk result (λ hall. hall.plant ≡ plant) }
+        ensures plan { IfOk result (λ hall. plan_in hall ≡ plan) }
+        ensures journal { IfOk result (λ hall. journal_in hall ≡ []) }
+        ensures base { IfOk result (λ hall. base_in hall ≡ P.faults plant) }
+        ensures plant { IfOk result (λ hall. plant_in hall ≡ plant) }
+        ensures room { IfOk result (λ hall. room_in hall ≡ bound plan) }
         ensures refused { IfErr result (λ error. error.plant ≡ plant) }
     {
         let base = plant.faults();
@@ -81,11 +84,12 @@ impl<P: Plant> PlainHall<P> {
         }
     }
 
-    /// The plan, the plant and the journal. It takes no memory.
+    /// The plan, the plant and the journal, which is legal for the plan. It takes no memory.
     pub fn into_parts(self) -> (Plan, P, Journal)
-        ensures plan { result.0 ≡ self.plan }
-        ensures plant { result.1 ≡ self.plant }
-        ensures journal { result.2.entries ≡ self.journal.entries }
+        ensures plan { result.0 ≡ plan_in self }
+        ensures plant { result.1 ≡ plant_in self }
+        ensures journal { result.2.entries ≡ journal_in self }
+        ensures legal { IsLegal result.0 result.2.entries }
     {
         let PlainHall {
             plan,
@@ -98,17 +102,19 @@ impl<P: Plant> PlainHall<P> {
 }
 
 impl<P: Plant> Machine for PlainHall<P> {
-    ghost plan_of = { λ h. h.plan };
+    ghost use Rattle.journal_replay.specs.Hall.{plan_in, plant_in, journal_in, base_in};
 
-    ghost journal_of = { λ h. h.journal.entries };
+    ghost plan_of = { plan_in };
 
-    ghost base_of = { λ h. h.base };
+    ghost journal_of = { journal_in };
 
-    ghost count_of = { λ h. P.faults h.plant };
+    ghost base_of = { base_in };
 
-    ghost legal = { λ h. h.legal };
+    ghost count_of = { λ hall. P.faults (plant_in hall) };
 
-    ghost counted = { λ h. h.counted };
+    ghost legal = { λ hall. hall.legal };
+
+    ghost counted = { λ hall. hall.counted };
 
     fn plan(&self) -> &Plan {
         &self.plan
@@ -116,12 +122,12 @@ impl<P: Plant> Machine for PlainHall<P> {
 
     /// Makes the one legal entry of a participant. No entry needs the plant yet, so it stays as it was.
     fn next(&mut self, by: Participant, hint: Option<WorkDone>) -> Answer
-        requires { by < length self.old.plan.participants }
-        ensures plan { self.new.plan ≡ self.old.plan }
-        ensures base { self.new.base ≡ self.old.base }
-        ensures count { P.faults self.old.plant ≤ P.faults self.new.plant }
-        ensures plant { self.new.plant ≡ self.old.plant }
-        ensures answer { Answers self.old.plan self.old.journal.entries self.new.journal.entries by hint result }
+        requires { by < length (plan_in self.old).participants }
+        ensures plan { plan_in self.new ≡ plan_in self.old }
+        ensures base { base_in self.new ≡ base_in self.old }
+        ensures count { P.faults (plant_in self.old) ≤ P.faults (plant_in self.new) }
+        ensures plant { plant_in self.new ≡ plant_in self.old }
+        ensures answer { Answers (plan_in self.old) (journal_in self.old) (journal_in self.new) by hint result }
     {
         match due(&self.plan, &self.journal, by) {
             Due::NotYet => Answer::NotYet,
