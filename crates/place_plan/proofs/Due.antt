@@ -16,7 +16,7 @@ use Rattle.place_plan.specs.Objects.{objects_ready, value_of}
 use Rattle.place_plan.specs.Roles.{register, program_of, next_step, given, all_given, able, in_handler, next_play}
 use Rattle.place_plan.specs.Rules.{MayFollow, SaysVerdict, verdict_due}
 use Rattle.place_plan.specs.Journals.{LegalPast}
-use Rattle.place_plan.specs.Laws.{Holds, AtMostOne, Silent, as_taken}
+use Rattle.place_plan.specs.Laws.{Holds, AtMostOne, Silent, as_taken, is_fault}
 use Rattle.place_plan.specs.Flat.{IsFlat, IsQuietStep, StaysQuiet}
 use Rattle.place_plan.specs.Due.{says, plainly, due_outside, due_waiting, due_step, due_agreed, due_calm, due_at, due_of, DueIsRight}
 use Rattle.place_plan.proofs.Words.{all_at, chosen}
@@ -182,10 +182,17 @@ pub at_most_one : (plan : Plan) → IsFlat plan → Holds AtMostOne plan
 at_most_one plan fine past legal e f h k same = ap (λ x. as_taken x.kind x) (one_entry plan fine past legal e f h k same)
 
 -- nothing is raised, undone or written, and nobody begins a handler
+-- none of the seven kinds is refused
+not_refused : (plan : Plan) (past : List Entry) (k : Kind) (e : Entry) → QuietRow k plan past (of_kind k e) → is_fault (of_kind k e) ≡ false
+not_refused plan past kind.PutFault e h = elim h [ ]
+not_refused plan past kind.Restore e h = elim h [ ]
+not_refused plan past _ e h = refl
+
 pub stays_quiet : (plan : Plan) → IsFlat plan → Holds StaysQuiet plan
 stays_quiet plan fine past legal = record {
   unraised = (still plan fine past legal).unraised;
   kept = (still plan fine past legal).kept;
   unhandled = λ p t. no_handling plan fine past legal t p;
   unwritten = λ o. unwritten plan fine past legal o [];
+  unrefused = λ e may. not_refused plan past e.kind e (only_quiet plan fine past e legal may);
 }

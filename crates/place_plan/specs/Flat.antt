@@ -12,6 +12,8 @@ use Rattle.place_plan.specs.Raising.{raised, handling}
 use Rattle.place_plan.specs.Objects.{value_of}
 use Rattle.place_plan.specs.Roles.{program_in}
 use Rattle.place_plan.specs.WellFormed.{IsValue}
+use Rattle.place_plan.specs.Rules.{MayFollow}
+use Rattle.place_plan.specs.Laws.{is_fault}
 
 -- the step reads one of the objects of p, or works
 abbrev pub IsQuietStep : Plan → ℕ → Option Step → Type 0
@@ -35,9 +37,11 @@ pub record IsFlat (plan : Plan) : Type 0 where
   -- the initial values are in range
   pub valued : (o : ℕ) → IsValue (initial_of plan o)
 
--- what every legal past of such a plan keeps: nothing is raised, undone or written, and nobody begins a handler
+-- what every legal past of such a plan keeps: nothing is raised, undone or written, nobody begins a handler, and the device is
+-- asked for nothing that it could refuse
 pub record StaysQuiet (plan : Plan) (past : List Entry) : Type 0 where
   pub unraised : (p : ℕ) → raised plan p past ≡ []
   pub kept : (p : ℕ) → undoing p past ≡ false
   pub unhandled : (p t : ℕ) → handling p t past ≡ None
   pub unwritten : (o : ℕ) → value_of plan o past ≡ initial_of plan o
+  pub unrefused : (e : Entry) → MayFollow plan past e → is_fault e ≡ false

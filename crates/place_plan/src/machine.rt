@@ -1,8 +1,10 @@
-ghost use Rattle.std.specs.Prelude.{◌≡◌, ◌<◌, ◌≤◌, ℕ, List, length, slice_index_or, reverse, IsTrue, ◌↔◌};
+ghost use Rattle.std.specs.Prelude.{◌≡◌, ◌<◌, ◌≤◌, ℕ, List, length, slice_index_or, reverse, IsTrue, ◌↔◌, true};
 ghost use Rattle.caa_base.specs.declared.entry.Entry.{Entry as JournalEntry};
 ghost use Rattle.place_plan.specs.PlanValue.{Plan as PlanValue};
 ghost use Rattle.place_plan.specs.Objects.{value_of};
 ghost use Rattle.place_plan.specs.Journals.{LegalPast, IsComplete};
+ghost use Rattle.caa_base.specs.Counts.{Rose};
+ghost use Rattle.place_plan.specs.Laws.{is_fault};
 ghost use Rattle.place_plan.specs.Machine.{Answers};
 
 use crate::plan::Plan;
@@ -52,6 +54,9 @@ pub trait Machine {
         ensures plan { plan_of self.new ≡ plan_of self.old }
         ensures base { base_of self.new ≡ base_of self.old }
         ensures count { count_of self.old ≤ count_of self.new }
+
+        // An entry of a refused put or restore is made only where the device refused in this call.
+        ensures fault { (e : JournalEntry) → result ≡ Answer.Did e → is_fault e ≡ true → Rose (count_of self.old) (count_of self.new) }
         ensures answer { Answers (plan_of self.old) (journal_of self.old) (journal_of self.new) by hint result };
 
     /// How many entries the journal has.
