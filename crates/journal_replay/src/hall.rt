@@ -1,11 +1,14 @@
-ghost use Rattle.std.specs.Prelude.{◌≡◌, ◌<◌, ◌≤◌, [], length, reverse, IfOk, IfErr, MatchBool};
+ghost use Rattle.std.specs.Prelude.{◌≡◌, ◌<◌, ◌≤◌, [], length, reverse, true, IfOk, IfErr, MatchBool};
+ghost use Rattle.caa_base.specs.Counts.{Rose};
+ghost use Rattle.caa_base.specs.declared.entry.Entry.{Entry as JournalEntry};
 ghost use Rattle.place_plan.specs.Bound.{bound};
+ghost use Rattle.place_plan.specs.Laws.{is_fault};
 ghost use Rattle.place_plan.specs.Journals.{LegalPast, IsLegal};
 ghost use Rattle.place_plan.specs.Machine.{Answers, Fits};
 ghost use Rattle.place_plan.proofs.LegalProp.{LegalPast-prop};
 
 use crate::answer::Due;
-use crate::rule::{due, value_of};
+use crate::rule::due;
 use crate::scan::{is_over, register};
 use caa_base::entry::{Entry, Kind, Object, OutOfMemory, Participant};
 use caa_base::journal::Journal;
@@ -13,6 +16,7 @@ use caa_base::plant::Plant;
 use caa_base::work::WorkDone;
 use place_plan::machine::{Answer, Machine};
 use place_plan::plan::Plan;
+use place_plan::value::value_at;
 use std::alloc::Global;
 use thiserror::Error;
 
@@ -126,6 +130,7 @@ impl<P: Plant> Machine for PlainHall<P> {
         ensures plan { plan_in self.new ≡ plan_in self.old }
         ensures base { base_in self.new ≡ base_in self.old }
         ensures count { P.faults (plant_in self.old) ≤ P.faults (plant_in self.new) }
+        ensures fault { (e : JournalEntry) → result ≡ Answer.Did e → is_fault e ≡ true → Rose (P.faults (plant_in self.old)) (P.faults (plant_in self.new)) }
         ensures plant { plant_in self.new ≡ plant_in self.old }
         ensures answer { Answers (plan_in self.old) (journal_in self.old) (journal_in self.new) by hint result }
     {
@@ -145,6 +150,7 @@ impl<P: Plant> Machine for PlainHall<P> {
                     }
                 }
                 self.plan.is_bounded();
+                self.plan.stays_quiet();
                 self.journal.push(entry);
                 Answer::Did(entry)
             }
@@ -169,7 +175,6 @@ impl<P: Plant> Machine for PlainHall<P> {
     }
 
     fn value(&self, object: Object) -> i64 {
-        self.plan.stays_quiet();
-        value_of(&self.plan, self.journal.as_slice(), object)
+        value_at(&self.plan, self.journal.as_slice(), object)
     }
 }
