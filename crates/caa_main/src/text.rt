@@ -356,3 +356,6 @@ fn kind_word(kind: Kind) -> &'static [u8]
         Kind::Leave => b"leave",
     }
 }
+
+#[cfg(test)]
+mod tests;

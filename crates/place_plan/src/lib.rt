@@ -8,3 +8,4 @@ pub mod machine;
 pub mod plan;
 pub mod rows;
 pub mod value;
+pub mod well_formed;

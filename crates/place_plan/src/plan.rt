@@ -1,7 +1,7 @@
 ghost use Rattle.std.specs.Prelude.{◌≡◌, ◌<◌, ℕ, List, [], length, map, slice_index_or, Option, Some, None, IfOk, IfSome, unwrap_or, option_copied};
 ghost use Rattle.std.specs.List.{range_with_len};
 ghost use Rattle.place_plan.specs.Words.{member, index_of, last_or};
-ghost use Rattle.place_plan.specs.Places.{place_at, action_at, role_at, role_row, role_of, roles_of, objects_of, uses, parent, top_of, within, fault_of, exception_name, handler_in, initial_of, no_object, no_action, no_role};
+ghost use Rattle.place_plan.specs.Places.{place_at, action_at, role_at, role_row, role_of, roles_of, objects_of, uses, parent, top_of, within, fault_of, graph_at, exception_name, handler_in, initial_of, no_object, no_action, no_role};
 ghost use Rattle.place_plan.specs.Bound.{bound};
 ghost use Rattle.place_plan.specs.Unfolding.{place_of, plan_of};
 ghost use Rattle.place_plan.specs.DraftRules.{broken_rule, KeepsParts};
@@ -452,6 +452,14 @@ impl Plan {
             Some(action) => action.interface,
             None => 0,
         }
+    }
+
+    /// How many exceptions a graph has; none where there is no such graph.
+    pub(crate) fn exceptions_of(&self, graph: u32) -> u32
+        ensures { result ≡ (graph_at self.now graph).count }
+    {
+        let _ = &self.places;
+        if graph == 0 { 1 } else { 0 }
     }
 
     /// The name of an exception of a graph; empty where there is none.
