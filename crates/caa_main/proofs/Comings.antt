@@ -1,10 +1,9 @@
 -- From what a part of a call comes to, what the call comes to and answers.
-use Rattle.std.proofs.Common.{◌≡◌, ℕ, ◌+◌, ◌<◌, ◌≤◌, nat_le, Bool, true, false, ◌&&◌, List, [], ◌∷◌, ◌++◌, length, Option, Some, None, cond, refl, sym, ap, ◌∙◌, subst, inl, inr, ◌⊎◌, arith, IsSome, IfSome, length-append}
-use Rattle.std.specs.Io.KnownBytes.{append_known, prepend_known}
+use Rattle.std.proofs.Common.{◌≡◌, ℕ, ◌+◌, ◌≤◌, nat_le, ◌&&◌, List, [], ◌++◌, length, Option, Some, None, refl, sym, ap, subst, inl, inr, ◌⊎◌, arith, IsSome, IfSome, length-append}
+use Rattle.std.specs.Io.KnownBytes.{append_known}
 use Rattle.std.proofs.lemmas.Bool.{and_parts, leb-true}
 use Rattle.caa_base.specs.Counts.{Rose}
 use Rattle.caa_base.specs.Reading.{TookOff}
-use Rattle.caa_base.specs.Writing.{WrotePart}
 use Rattle.caa_base.specs.declared.entry.Entry.{Entry}
 use Rattle.place_plan.specs.declared.draft.Draft.{Draft}
 use Rattle.place_plan.proofs.Words.{chosen}
@@ -15,7 +14,7 @@ use Rattle.caa_main.specs.Commands.{command_of}
 use Rattle.caa_main.specs.ScriptLines.{most_bytes, is_closed}
 use Rattle.caa_main.specs.ScriptDraft.{early_draft}
 use Rattle.caa_main.specs.Texts.{usage_text, source_fault_text, too_long_text}
-use Rattle.caa_main.specs.Calls.{Input, Output, HasPlan, WasRead, IsTooLong, IsNotBuilt, IsServable, ScriptComesTo, ComesTo, WroteAll, WasCutOff, Answers}
+use Rattle.caa_main.specs.Calls.{Input, Output, HasPlan, WasRead, IsServable, ScriptComesTo, ComesTo, Answers}
 
 is_served : (words : List (List ℕ)) (seed : ℕ) → command_of words ≡ Some (command.Sim seed) → IsSome (command_of words)
 is_served words seed e = rw e refl

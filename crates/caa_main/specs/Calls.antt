@@ -1,5 +1,5 @@
 -- What a call of the program is handed, what it leaves, and what it answers.
-use Rattle.std.specs.Prelude.{◌≡◌, ℕ, ◌+◌, ◌⊎◌, List, [], length, reverse, Option, Some, None, IsSome, IfSome}
+use Rattle.std.specs.Prelude.{◌≡◌, ℕ, ◌+◌, ◌⊎◌, List, [], reverse, Option, Some, None, IsSome, IfSome}
 use Rattle.std.specs.Io.KnownBytes.{append_known}
 use Rattle.caa_base.specs.Counts.{Rose}
 use Rattle.caa_base.specs.Reading.{emptied, TookOff}

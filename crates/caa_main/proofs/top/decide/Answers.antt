@@ -1,4 +1,4 @@
-use Rattle.std.proofs.Common.{◌≡◌, sym, refl}
+use Rattle.std.proofs.Common.{sym, refl}
 use Rattle.caa_main.specs.Calls.{input_of}
 use Rattle.caa_main.proofs.Comings.{usage_comes}
 use Rattle.caa_main.proofs.top.decide.Goals as goal

@@ -1,6 +1,6 @@
-use Rattle.std.proofs.Common.{◌≡◌, ℕ, ◌+◌, List, Some, Err, sym, ap, ◌∙◌, subst, refl, IfSome}
+use Rattle.std.proofs.Common.{◌≡◌, Err, sym, ap, subst, IfSome}
 use Rattle.caa_base.specs.Reading.{TookUntil}
-use Rattle.caa_main.specs.Calls.{input_of, WasRead}
+use Rattle.caa_main.specs.Calls.{input_of}
 use Rattle.caa_main.proofs.Comings.{script_comes, fault_comes, too_long_comes, wanting_comes}
 use Rattle.caa_main.proofs.top.sim_source.Goals as goal
 

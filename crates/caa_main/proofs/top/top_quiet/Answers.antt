@@ -1,9 +1,8 @@
-use Rattle.std.proofs.Common.{◌≡◌, sym, subst, ap, ◌∙◌, map, string_bytes}
+use Rattle.std.proofs.Common.{sym, subst, ap, ◌∙◌, map, string_bytes}
 use Rattle.std.specs.Io.KnownBytes.{append_known}
 use Rattle.caa_base.specs.Writing.{WrotePart}
 use Rattle.caa_main.specs.Texts.{text_bytes}
 use Rattle.caa_main.specs.Calls.{input_of, output_of, Answers}
-use Rattle.caa_main.specs.declared.status.Status.TheVariants as status
 use Rattle.caa_main.proofs.Comings.{answers_whole, served}
 use Rattle.caa_main.proofs.top.top_quiet.Goals as goal
 use Rattle.caa_main.proofs.top.top_quiet.Goals.{in-Ok, in-Err}
