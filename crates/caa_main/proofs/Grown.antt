@@ -1,5 +1,5 @@
 -- A journal that grows by turns.
-use Rattle.std.proofs.Common.{◌≡◌, ℕ, List, [], ◌∷◌, ◌++◌, length, reverse, suc, zero, refl, sym, ap, ◌∙◌, subst₂, append_assoc, append-nil}
+use Rattle.std.proofs.Common.{◌≡◌, ℕ, List, [], ◌∷◌, ◌++◌, length, reverse, suc, refl, sym, ap, ◌∙◌, subst₂, append_assoc, append-nil}
 use Rattle.std.proofs.lemmas.List.{reverse-append, reverse-reverse}
 use Rattle.caa_base.specs.Mixing.{next_state, state_after}
 use Rattle.caa_base.specs.declared.entry.Entry.{Entry}

@@ -5,7 +5,7 @@ ghost use Rattle.place_plan.specs.Machine.{Answers, Fits};
 ghost use Rattle.place_plan.proofs.LegalProp.{LegalPast-prop};
 
 use crate::answer::Due;
-use crate::rule::{due, value_of};
+use crate::rule::due;
 use crate::scan::{is_over, register};
 use caa_base::entry::{Entry, Kind, Object, OutOfMemory, Participant};
 use caa_base::journal::Journal;
@@ -13,6 +13,7 @@ use caa_base::plant::Plant;
 use caa_base::work::WorkDone;
 use place_plan::machine::{Answer, Machine};
 use place_plan::plan::Plan;
+use place_plan::value::value_at;
 use std::alloc::Global;
 use thiserror::Error;
 
@@ -169,7 +170,6 @@ impl<P: Plant> Machine for PlainHall<P> {
     }
 
     fn value(&self, object: Object) -> i64 {
-        self.plan.stays_quiet();
-        value_of(&self.plan, self.journal.as_slice(), object)
+        value_at(&self.plan, self.journal.as_slice(), object)
     }
 }

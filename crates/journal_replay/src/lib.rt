@@ -4,4 +4,6 @@
 pub mod answer;
 pub mod hall;
 pub mod rule;
-pub mod scan;
+mod scan;
+#[cfg(test)]
+mod tests;

@@ -2,7 +2,6 @@ ghost use Rattle.std.specs.Prelude.{◌≡◌, ◌<◌, false, ℕ, length, slic
 ghost use Rattle.caa_base.specs.declared.entry.Entry.{Entry as JournalEntry};
 ghost use Rattle.place_plan.specs.declared.rows.Step.TheVariants as step;
 ghost use Rattle.place_plan.specs.Whereabouts.{inside, started, ended};
-ghost use Rattle.place_plan.specs.Objects.{value_of};
 ghost use Rattle.place_plan.specs.Roles.{next_step, given, all_given};
 ghost use Rattle.place_plan.specs.Journals.{LegalPast, IsLegal};
 ghost use Rattle.place_plan.specs.Flat.{StaysQuiet};
@@ -13,11 +12,12 @@ use crate::answer::Due;
 use crate::scan::{
     all_inside, has, has_by, inside, is_over, next_play, objects_ready, position, register,
 };
-use caa_base::entry::{Entry, Kind, Object, Participant, Place};
+use caa_base::entry::{Entry, Kind, Participant, Place};
 use caa_base::journal::Journal;
 use caa_base::work::WorkDone;
 use place_plan::plan::Plan;
 use place_plan::rows::{Program, Step};
+use place_plan::value::value_at;
 
 /// An entry with mark 0.
 fn says(kind: Kind, place: Place, by: Participant, arg: u32, value: i64) -> Entry
@@ -38,15 +38,6 @@ fn plainly(kind: Kind, place: Place, by: Participant) -> Entry
     ensures { result ≡ plainly kind place by }
 {
     says(kind, place, by, 0, 0)
-}
-
-/// The value of an object, which nobody writes yet.
-pub fn value_of(plan: &Plan, journal: &[Entry], object: Object) -> i64
-    requires known { object < length plan.now.objects }
-    requires quiet { StaysQuiet plan.now (reverse journal.now) }
-    ensures { result ≡ value_of plan.now object (reverse journal.now) }
-{
-    plan.initial(object)
 }
 
 /// The step of a program at this position.
@@ -103,7 +94,7 @@ fn due_step(plan: &Plan, journal: &[Entry], place: Place, by: Participant) -> Op
     match next_step(plan, journal, place, by) {
         None => Some(plainly(Kind::Verdict, place, by)),
         Some(Step::Read(object)) => {
-            let value = value_of(plan, journal, object);
+            let value = value_at(plan, journal, object);
             Some(says(Kind::Read, place, by, object, value))
         }
         Some(Step::Work(rounds)) => {

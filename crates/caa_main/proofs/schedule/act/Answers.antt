@@ -1,4 +1,4 @@
-use Rattle.std.proofs.Common.{◌≡◌, ◌∙◌, arith, reverse, subst, sym, to_z, of_z, w64, Some}
+use Rattle.std.proofs.Common.{◌≡◌, ◌∙◌, arith, reverse, subst, to_z, of_z, w64, Some}
 use Rattle.std.proofs.lemmas.Int.{ints}
 use Rattle.place_plan.specs.Due.{DueIsRight}
 use Rattle.place_plan.specs.Laws.{Holds}

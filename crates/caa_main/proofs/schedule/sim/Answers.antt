@@ -1,4 +1,4 @@
-use Rattle.std.proofs.Common.{◌≡◌, ◌∙◌, [], ◌∷◌, arith, ap, length, length-append, refl, reverse, subst}
+use Rattle.std.proofs.Common.{◌∙◌, [], ◌∷◌, arith, ap, length, length-append, refl, reverse, subst}
 use Rattle.std.proofs.lemmas.List.{length-reverse}
 use Rattle.place_plan.specs.Bound.{bound}
 use Rattle.place_plan.specs.Laws.{Holds, IsBounded}

@@ -1,4 +1,4 @@
-use Rattle.std.proofs.Common.{◌≡◌, ◌∙◌, sym, reverse}
+use Rattle.std.proofs.Common.{◌∙◌, sym, reverse}
 use Rattle.journal_replay.proofs.Steps.{read_known}
 use Rattle.journal_replay.proofs.rule.due_inside.Goals as goal
 

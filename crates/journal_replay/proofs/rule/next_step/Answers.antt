@@ -1,4 +1,4 @@
-use Rattle.std.proofs.Common.{◌≡◌, ◌∙◌, sym, ap, ap₂, reverse, slice_get, Some, None}
+use Rattle.std.proofs.Common.{◌≡◌, ◌∙◌, sym, ap, ap₂, reverse, slice_get}
 use Rattle.place_plan.specs.Places.{body_of}
 use Rattle.journal_replay.proofs.Steps.{role_of_number, next_in_body, next_of_none}
 use Rattle.journal_replay.proofs.rule.next_step.Goals as goal
