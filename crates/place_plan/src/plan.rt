@@ -1,7 +1,7 @@
-ghost use Rattle.std.specs.Prelude.{◌≡◌, ◌<◌, ℕ, List, [], length, map, slice_index_or, Option, Some, None, IfOk, IfSome, unwrap_or, option_copied};
+ghost use Rattle.std.specs.Prelude.{◌≡◌, ◌<◌, ℕ, List, [], length, map, slice_index_or, Option, Some, None, IfOk, IfSome, unwrap_or, option_copied, IsSome};
 ghost use Rattle.std.specs.List.{range_with_len};
 ghost use Rattle.place_plan.specs.Words.{member, index_of, last_or};
-ghost use Rattle.place_plan.specs.Places.{place_at, action_at, role_at, role_row, role_of, roles_of, objects_of, uses, parent, top_of, within, fault_of, graph_at, exception_name, handler_in, initial_of, no_object, no_action, no_role};
+ghost use Rattle.place_plan.specs.Places.{place_at, action_at, role_at, role_row, role_of, roles_of, objects_of, uses, parent, child, nest_of, map_signal, top_of, within, fault_of, graph_at, exception_name, handler_in, initial_of, no_object, no_action, no_role, no_nest};
 ghost use Rattle.place_plan.specs.Bound.{bound};
 ghost use Rattle.place_plan.specs.Unfolding.{place_of, plan_of};
 ghost use Rattle.place_plan.specs.DraftRules.{broken_rule, KeepsParts};
@@ -15,7 +15,7 @@ use crate::bound::bound_of;
 use crate::close::{MOST_ENTRIES, MOST_PLACES, broken_part, is_member};
 use crate::draft::Draft;
 use crate::rows::{
-    AbortRow, ActionRow, HandlerRow, ObjectRow, PlaceRow, PlayRow, Program, RoleRow,
+    AbortRow, ActionRow, HandlerRow, NestRow, ObjectRow, PlaceRow, PlayRow, Program, RoleRow,
 };
 use caa_base::entry::{Drill, Exception, Object, Participant, Place};
 use caa_base::name::Name;
@@ -118,6 +118,16 @@ fn last_or(number: u32, list: &[u32]) -> u32
         last = *item;
     }
     last
+}
+
+/// The exception at an index, or 0 past the end.
+fn exception_at(exceptions: &[Exception], index: u32) -> Exception
+    ensures { result ≡ slice_index_or exceptions.now index 0 }
+{
+    match exceptions.get(index as usize) {
+        Some(exception) => *exception,
+        None => 0,
+    }
 }
 
 /// The program of the handler for an exception.
@@ -430,6 +440,65 @@ impl Plan {
     {
         match self.action_at(place) {
             Some(action) => action.fault,
+            None => 0,
+        }
+    }
+
+    /// The place of a nested use of the action of a place.
+    pub fn child(&self, place: Place, nest: u32) -> Place
+        requires { IsSome (child self.now place nest) }
+        ensures { child self.now place nest ≡ Some result }
+    {
+        match self.child_at(place, nest) {
+            Some(child) => child,
+            None => unreachable!(),
+        }
+    }
+
+    /// The place of a nested use, if there is such a use.
+    fn child_at(&self, place: Place, nest: u32) -> Option<Place>
+        ensures { result ≡ child self.now place nest }
+    {
+        let row = self.places.as_slice().get(place as usize)?;
+        row.children.as_slice().get(nest as usize).copied()
+    }
+
+    /// The use of the enclosing action that a place is, if it is nested.
+    fn nest_of(&self, place: Place) -> Option<&NestRow>
+        ensures { unwrap_or (option_copied result) no_nest ≡ nest_of self.now place }
+    {
+        let row = self.places.as_slice().get(place as usize)?;
+        let enclosing = row.around.as_slice().first()?;
+        let action = self.action_at(*enclosing)?;
+        action.nests.as_slice().get(row.nest as usize)
+    }
+
+    /// What an exception that a nested place tells outside is in the place round it; 0 for a play.
+    pub fn map_signal(&self, place: Place, exception: Exception) -> Exception
+        ensures { result ≡ map_signal self.now place exception }
+    {
+        match self.nest_of(place) {
+            Some(nest) => exception_at(nest.maps.as_slice(), exception),
+            None => 0,
+        }
+    }
+
+    /// What the undo of a nested place is in the place round it; 0 for a play.
+    pub fn map_undo(&self, place: Place) -> Exception
+        ensures { result ≡ (nest_of self.now place).undo }
+    {
+        match self.nest_of(place) {
+            Some(nest) => nest.undo,
+            None => 0,
+        }
+    }
+
+    /// What the failure of a nested place is in the place round it; 0 for a play.
+    pub fn map_failure(&self, place: Place) -> Exception
+        ensures { result ≡ (nest_of self.now place).failure }
+    {
+        match self.nest_of(place) {
+            Some(nest) => nest.failure,
             None => 0,
         }
     }

@@ -184,6 +184,10 @@ fn role_is_read(plan: &Plan) -> bool {
     }
 }
 
+fn maps_of_a_play_are_nothing(plan: &Plan) -> bool {
+    plan.map_signal(0, 0) == 0 && plan.map_undo(0) == 0 && plan.map_failure(0) == 0
+}
+
 #[test]
 fn a_plan_is_read(rt: HostRuntime) -> Result<(), Fail> {
     let plan = closed(rt.alloc(), FIRST_PATH)?;
@@ -196,6 +200,7 @@ fn a_plan_is_read(rt: HostRuntime) -> Result<(), Fail> {
     assert!(rt; action_is_read(&plan));
     assert!(rt; role_is_read(&plan));
     assert!(rt; plan.role_of(0, 7).is_none());
+    assert!(rt; maps_of_a_play_are_nothing(&plan));
     Ok(())
 }
 
