@@ -1,5 +1,5 @@
 -- What a call of the program is handed, what it leaves, and what it answers.
-use Rattle.std.specs.Prelude.{◌≡◌, ℕ, ◌+◌, ◌⊎◌, List, [], reverse, Option, Some, None, IsSome, IfSome}
+use Rattle.std.specs.Prelude.{◌≡◌, ℕ, ◌+◌, ◌≤◌, ◌⊎◌, List, [], length, reverse, Option, Some, None, IsSome, IfSome}
 use Rattle.std.specs.Io.KnownBytes.{append_known}
 use Rattle.caa_base.specs.Counts.{Rose}
 use Rattle.caa_base.specs.Reading.{emptied, TookOff}
@@ -88,9 +88,10 @@ ScriptComesTo _ bytes seed journal text = ⊥
 
 -- ---- what a call comes to, before its text is written
 
--- the source was read to its end, and these were its bytes
+-- the source was read to its end, and these were its bytes, no more than a script may have
 pub record WasRead (input : Input) (bytes : List ℕ) : Type 0 where
   pub told : IfSome input.left_before (λ rest. bytes ≡ rest)
+  pub fits : length bytes ≤ most_bytes
   pub ended : input.left_after ≡ emptied input.left_before
 
 -- the words are of no command that is built, and nothing was read

@@ -1,5 +1,6 @@
-use Rattle.std.proofs.Common.{◌≡◌, Err, sym, ap, subst, IfSome}
+use Rattle.std.proofs.Common.{◌≡◌, ◌≤◌, length, Err, sym, ap, subst, IfSome}
 use Rattle.caa_base.specs.Reading.{TookUntil}
+use Rattle.caa_main.specs.ScriptLines.{most_bytes}
 use Rattle.caa_main.specs.Calls.{input_of}
 use Rattle.caa_main.proofs.Comings.{script_comes, fault_comes, too_long_comes, wanting_comes}
 use Rattle.caa_main.proofs.top.sim_source.Goals as goal
@@ -8,8 +9,10 @@ pub returns-in-Ok-clause-comes : goal.returns-in-Ok-clause-comes
 returns-in-Ok-clause-comes g c = λ words command.
     let left = g.S.Source.left c.args.source.now in
     let told = subst (λ b. IfSome left (λ rest. b ≡ rest)) (sym c.as_slice.ensures.value) c.in-Ok.ensures.all in
+    let short : length c.in-Ok.bytes.items ≤ most_bytes = subst (λ n. n ≤ most_bytes) c.in-Ok.bytes.ok.0 c.in-Ok.ensures.fits in
+    let fits = subst (λ b. length b ≤ most_bytes) (sym c.as_slice.ensures.value) short in
     script_comes c.play_script.result.status (input_of words left _ _ _) c.as_slice.result.now c.args.seed c.play_script.result.journal.entries _ command
-    (record { told = told; ended = c.in-Ok.ensures.end })
+    (record { told = told; fits = fits; ended = c.in-Ok.ensures.end })
     c.play_script.ensures.comes
 
 pub returns-in-Err-Fault-clause-comes : goal.returns-in-Err-Fault-clause-comes
