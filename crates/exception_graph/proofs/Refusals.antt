@@ -57,7 +57,7 @@ module _ (count : ℕ) (pairs : List (ℕ × ℕ)) where
       }
 
   -- a sound graph has no cycle
-  sound_acyclic : IsSoundGraph count pairs → (a : ℕ) → a < count → IsInCycle count pairs a → ⊥
+  pub sound_acyclic : IsSoundGraph count pairs → (a : ℕ) → a < count → IsInCycle count pairs a → ⊥
   sound_acyclic sound a a_in cycle =
       let is = sound.is_order_of in
       let many = is.counts in
@@ -65,7 +65,7 @@ module _ (count : ℕ) (pairs : List (ℕ × ℕ)) where
       cycle.apart (sound.sound.is_order.antisymmetric cycle.other a (omega arith) (omega arith) ((is.tells cycle.other a b_in a_in).1 cycle.up) ((is.tells a cycle.other a_in b_in).1 cycle.down))
 
   -- and no pair without a least cover
-  sound_joined : IsSoundGraph count pairs → (a b : ℕ) → IsFirstUnjoined count pairs a b → ⊥
+  pub sound_joined : IsSoundGraph count pairs → (a b : ℕ) → IsFirstUnjoined count pairs a b → ⊥
   sound_joined sound a b h =
       sound_has_none sound.order a b sound.sound (unjoined-same h.order sound.order h.is_order_of sound.is_order_of a b h.first)
 

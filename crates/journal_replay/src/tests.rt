@@ -14,7 +14,7 @@ use caa_base::work::WorkDone;
 use place_plan::draft::Draft;
 use place_plan::machine::{Answer, Machine};
 use place_plan::plan::Plan;
-use place_plan::rows::{AbortRow, ActionRow, ObjectRow, PlayRow, Program, RoleRow, Step};
+use place_plan::rows::{AbortRow, ActionRow, GraphRow, ObjectRow, PlayRow, Program, RoleRow, Step};
 use std::alloc::Global;
 use std::test::Fail;
 
@@ -75,6 +75,7 @@ fn look_draft(alloc: Global) -> Result<Draft, Fail>
     Ok(Draft {
         participants: Rows::from_vec(participants),
         objects: Rows::from_vec(objects),
+        graphs: Rows::from_vec(vec![in alloc; GraphRow::plain(alloc)?]?),
         actions: Rows::from_vec(actions),
         plays: Rows::from_vec(plays),
         drills: Rows::from_vec(Vec::new(alloc)),

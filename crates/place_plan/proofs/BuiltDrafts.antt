@@ -11,7 +11,7 @@ use Rattle.place_plan.specs.declared.rows.Step.TheVariants as step
 use Rattle.place_plan.specs.Words.{is_empty}
 use Rattle.place_plan.specs.Places.{no_action}
 use Rattle.place_plan.specs.Unfolding.{plan_of, place_of, unfold_at, most_depth, plays_from, tops_from}
-use Rattle.place_plan.specs.DraftRules.{order_rule, nests_below, enter_rule, roles_enter, entered_by, depth_rule, depths_fit, depth_within, handler_rule, handlers_differ, nest_mapped, size_rule, range_rule, fill_rule, object_rule, bound_rule, broken_rule, KeepsParts}
+use Rattle.place_plan.specs.DraftRules.{order_rule, nests_below, enter_rule, roles_enter, entered_by, depth_rule, depths_fit, depth_within, handler_rule, handlers_differ, nest_mapped, size_rule, graph_rule, range_rule, fill_rule, object_rule, bound_rule, broken_rule, KeepsParts}
 use Rattle.place_plan.specs.Built.{IsBuilt, is_built_action, is_built_role, is_built_step}
 
 -- what all pass, and the default, each passes
@@ -122,15 +122,16 @@ built_plays draft h = tops_flat draft.actions 0 draft.plays h
 
 -- ---- the least broken rule
 
-pub breaks_fillings : (draft : Draft) → IsBuilt draft → size_rule draft ≡ true → range_rule draft ≡ true → fill_rule draft ≡ false → broken_rule draft ≡ Some 5
-breaks_fillings draft built sizes ranges fillings = rw (sizes, ranges, built_order draft built, fillings) refl
+pub breaks_fillings : (draft : Draft) → IsBuilt draft → size_rule draft ≡ true → graph_rule draft ≡ true → range_rule draft ≡ true → fill_rule draft ≡ false → broken_rule draft ≡ Some 5
+breaks_fillings draft built sizes graphs ranges fillings = rw (sizes, graphs, ranges, built_order draft built, fillings) refl
 
-pub breaks_objects : (draft : Draft) → IsBuilt draft → size_rule draft ≡ true → range_rule draft ≡ true → fill_rule draft ≡ true → object_rule draft ≡ false → broken_rule draft ≡ Some 7
-breaks_objects draft built sizes ranges fillings objects = rw (sizes, ranges, built_order draft built, fillings, built_enters draft built, objects) refl
+pub breaks_objects : (draft : Draft) → IsBuilt draft → size_rule draft ≡ true → graph_rule draft ≡ true → range_rule draft ≡ true → fill_rule draft ≡ true → object_rule draft ≡ false → broken_rule draft ≡ Some 7
+breaks_objects draft built sizes graphs ranges fillings objects = rw (sizes, graphs, ranges, built_order draft built, fillings, built_enters draft built, objects) refl
 
-pub keeps_parts : (draft : Draft) → IsBuilt draft → size_rule draft ≡ true → range_rule draft ≡ true → fill_rule draft ≡ true → object_rule draft ≡ true → KeepsParts draft
-keeps_parts draft built sizes ranges fillings objects = record {
+pub keeps_parts : (draft : Draft) → IsBuilt draft → size_rule draft ≡ true → graph_rule draft ≡ true → range_rule draft ≡ true → fill_rule draft ≡ true → object_rule draft ≡ true → KeepsParts draft
+keeps_parts draft built sizes graphs ranges fillings objects = record {
   sizes = sizes;
+  graphs = graphs;
   ranges = ranges;
   order = built_order draft built;
   fillings = fillings;
@@ -142,7 +143,7 @@ keeps_parts draft built sizes ranges fillings objects = record {
 
 -- a draft that keeps the other rules breaks rule 10, or none
 pub breaks_bound : (draft : Draft) → KeepsParts draft → bound_rule draft ≡ false → broken_rule draft ≡ Some 10
-breaks_bound draft k b = rw (k.sizes, k.ranges, k.order, k.fillings, k.enters, k.objects, k.depths, k.handlers, b) refl
+breaks_bound draft k b = rw (k.sizes, k.graphs, k.ranges, k.order, k.fillings, k.enters, k.objects, k.depths, k.handlers, b) refl
 
 pub breaks_none : (draft : Draft) → KeepsParts draft → bound_rule draft ≡ true → broken_rule draft ≡ None
-breaks_none draft k b = rw (k.sizes, k.ranges, k.order, k.fillings, k.enters, k.objects, k.depths, k.handlers, b) refl
+breaks_none draft k b = rw (k.sizes, k.graphs, k.ranges, k.order, k.fillings, k.enters, k.objects, k.depths, k.handlers, b) refl

@@ -2,11 +2,13 @@
 use Rattle.std.proofs.Common.{◌≡◌, ℕ, ℤ, pos, negsuc, ◌==◌, ◌<◌, ◌≤◌, ◌+◌, ◌*◌, nat_lt, nat_le, int_lt, cond, Bool, true, false, not, ◌&&◌, List, [], ◌∷◌, ◌++◌, map, length, slice_index_or, slice_get, Option, Some, None, zero, suc, refl, sym, ap, ◌∙◌, subst, inl, inr, arith, add-one, add-zero}
 use Rattle.std.specs.List.{list_all, range_with_len}
 use Rattle.std.proofs.lemmas.Int.{ints}
+use Rattle.std.proofs.lemmas.Bool.Decides.{nat_tests}
 use Rattle.std.proofs.Math.Nat.{mul-le-mul}
 use Rattle.std.proofs.lemmas.Bool.{and_parts, and_from, or_cases, eqb-true, false≢true, ltb-true, leb-true, le-leb, not-true}
 use Rattle.caa_base.specs.declared.entry.Verdict.{Verdict}
 use Rattle.caa_base.specs.declared.entry.Verdict.TheVariants as verdict
 use Rattle.place_plan.specs.declared.draft.Draft.{Draft}
+use Rattle.place_plan.specs.declared.rows.GraphRow.{GraphRow}
 use Rattle.place_plan.specs.declared.rows.ObjectRow.{ObjectRow}
 use Rattle.place_plan.specs.declared.rows.PlayRow.{PlayRow}
 use Rattle.place_plan.specs.declared.rows.PlaceRow.{PlaceRow}
@@ -21,8 +23,8 @@ use Rattle.place_plan.specs.Places.{roles_of, action_at, action_in, role_row, ob
 use Rattle.place_plan.specs.Roles.{program_in, or_idle}
 use Rattle.place_plan.specs.WellFormed.{IsValue}
 use Rattle.place_plan.specs.Flat.{IsFlat, IsQuietStep}
-use Rattle.place_plan.specs.Unfolding.{plan_of, place_of, plain_graph}
-use Rattle.place_plan.specs.DraftRules.{size_rule, action_fits, role_fits, program_fits, range_rule, is_value, is_rising, is_rising_above, all_below, step_in_range, role_in_range, exceptions_of, graphs_in_range, objects_in_range, parts_in_range, action_in_range, play_in_range, order_rule, fill_rule, fills, enter_rule, object_rule, step_held, role_held, action_held, depth_rule, handler_rule, bound_rule, broken_rule, broken_if, KeepsParts}
+use Rattle.place_plan.specs.Unfolding.{plan_of, place_of}
+use Rattle.place_plan.specs.DraftRules.{size_rule, first_is_plain, graph_rule, action_fits, role_fits, program_fits, range_rule, is_value, is_rising, is_rising_above, all_below, step_in_range, role_in_range, exceptions_of, graphs_in_range, objects_in_range, parts_in_range, action_in_range, play_in_range, order_rule, fill_rule, fills, enter_rule, object_rule, step_held, role_held, action_held, depth_rule, handler_rule, bound_rule, broken_rule, broken_if, KeepsParts}
 use Rattle.place_plan.specs.Sizes.{HasSizes, row_fits}
 use Rattle.place_plan.specs.Bound.{longest_body, longest_of, longest_handler}
 use Rattle.place_plan.specs.Built.{IsBuilt, IsClosed, is_built_action, is_built_role, is_built_step, is_done}
@@ -111,15 +113,16 @@ rule_passes false rule next h = absurd cc
 pub keeps_rules : (draft : Draft) → broken_rule draft ≡ None → KeepsParts draft × (bound_rule draft ≡ true)
 keeps_rules draft whole =
     let a = rule_passes (size_rule draft) 1 _ whole in
-    let b = rule_passes (range_rule draft) 3 _ a.1 in
-    let c = rule_passes (order_rule draft) 4 _ b.1 in
-    let d = rule_passes (fill_rule draft) 5 _ c.1 in
-    let e = rule_passes (enter_rule draft) 6 _ d.1 in
-    let f = rule_passes (object_rule draft) 7 _ e.1 in
-    let g = rule_passes (depth_rule draft) 8 _ f.1 in
-    let h = rule_passes (handler_rule draft) 9 _ g.1 in
-    let i = rule_passes (bound_rule draft) 10 _ h.1 in
-    (record { sizes = a.0; ranges = b.0; order = c.0; fillings = d.0; enters = e.0; objects = f.0; depths = g.0; handlers = h.0 }, i.0)
+    let b = rule_passes (graph_rule draft) 2 _ a.1 in
+    let c = rule_passes (range_rule draft) 3 _ b.1 in
+    let d = rule_passes (order_rule draft) 4 _ c.1 in
+    let e = rule_passes (fill_rule draft) 5 _ d.1 in
+    let f = rule_passes (enter_rule draft) 6 _ e.1 in
+    let g = rule_passes (object_rule draft) 7 _ f.1 in
+    let h = rule_passes (depth_rule draft) 8 _ g.1 in
+    let i = rule_passes (handler_rule draft) 9 _ h.1 in
+    let j = rule_passes (bound_rule draft) 10 _ i.1 in
+    (record { sizes = a.0; graphs = b.0; ranges = c.0; order = d.0; fillings = e.0; enters = f.0; objects = g.0; depths = h.0; handlers = i.0 }, j.0)
 
 value_from : (v : ℤ) → is_value v ≡ true → IsValue v
 value_from v h =
@@ -132,9 +135,10 @@ pub all_fit : (draft : Draft) → size_rule draft ≡ true → list_all action_f
 all_fit draft h =
     let a = and_parts (nat_le (length draft.participants) 64) _ h in
     let b = and_parts (nat_le (length draft.objects) 256) _ a.1 in
-    let c = and_parts (nat_le (length draft.actions) 256) _ b.1 in
-    let d = and_parts (nat_le (length draft.watches) 16) _ c.1 in
-    (and_parts (nat_le (length draft.drills) 1000) _ d.1).1
+    let c = and_parts (nat_le (length draft.graphs) 257) _ b.1 in
+    let d = and_parts (nat_le (length draft.actions) 256) _ c.1 in
+    let e = and_parts (nat_le (length draft.watches) 16) _ d.1 in
+    (and_parts (nat_le (length draft.drills) 1000) _ e.1).1
 
 -- ---- steps
 
@@ -166,7 +170,7 @@ abbrev pub flat_plan : Draft → Plan
 flat_plan draft = record {
   participants = draft.participants;
   objects = draft.objects;
-  graphs = plain_graph ∷ [];
+  graphs = draft.graphs;
   actions = draft.actions;
   places = map place_of draft.plays;
   plays = range_with_len 0 (length draft.plays);
@@ -178,7 +182,7 @@ pub plan_is_flat : (draft : Draft) → IsBuilt draft → plan_of draft ≡ flat_
 plan_is_flat draft built = λ i. record {
   participants = draft.participants;
   objects = draft.objects;
-  graphs = plain_graph ∷ [];
+  graphs = draft.graphs;
   actions = draft.actions;
   places = built_places draft built i;
   plays = built_plays draft built i;
@@ -196,6 +200,10 @@ place_has : (test : PlayRow → Bool) (Q : PlaceRow → Type 0) → ((play : Pla
 place_has test Q h [] p k l = absurd (omega arith)
 place_has test Q h (x ∷ xs) zero k l = h x (and_parts (test x) (list_all test xs) k).0
 place_has test Q h (x ∷ xs) (suc p) k l = place_has test Q h xs p (and_parts (test x) (list_all test xs) k).1 (omega arith)
+
+some_graphs : (rows : List GraphRow) → first_is_plain rows ≡ true → nat_lt 0 (length rows) ≡ true
+some_graphs [] h = absurd (false≢true h)
+some_graphs (row ∷ rows) h = grind (arith, nat_tests)
 
 module _ (draft : Draft) (built : IsBuilt draft) (keeps : KeepsParts draft) where
   abbrev plan : Plan
@@ -224,6 +232,21 @@ module _ (draft : Draft) (built : IsBuilt draft) (keeps : KeepsParts draft) wher
 
   parts_range : list_all (parts_in_range draft) draft.actions ≡ true
   parts_range = all_imply (action_in_range draft) (parts_in_range draft) draft.actions (λ a h. (and_parts _ _ (and_parts (graphs_in_range draft a) _ h).1).1) actions_range
+
+  -- the two graphs of an action are there
+  abbrev has_both : ActionRow → Bool
+  has_both action = nat_lt action.internal (length draft.graphs) && nat_lt action.interface (length draft.graphs)
+
+  in_range_has_both : (action : ActionRow) → action_in_range draft action ≡ true → has_both action ≡ true
+  in_range_has_both action h =
+      let a = and_parts (graphs_in_range draft action) _ h in
+      let b = and_parts (nat_lt action.internal (length draft.graphs)) _ a.0 in
+      and_from _ _ b.0 (and_parts (nat_lt action.interface (length draft.graphs)) _ b.1).0
+
+  place_has_both : (p : ℕ) → has_both (action_at plan p) ≡ true
+  place_has_both p =
+      let some = some_graphs draft.graphs (and_parts (first_is_plain draft.graphs) _ keeps.graphs).0 in
+      action_passes has_both (all_imply (action_in_range draft) has_both draft.actions in_range_has_both actions_range) (and_from _ _ some some) p
 
   role_range : (p t : ℕ) → role_in_range (length draft.objects) (exceptions_of draft (action_at plan p).internal) (exceptions_of draft (action_at plan p).interface) (role_row plan p t) ≡ true
   role_range p t =
@@ -301,14 +324,27 @@ is_flat plan closed =
 
 -- ---- numbers
 
--- there are few places, and as many plays as places
+-- there are few places
+pub few_places : (plan : Plan) → IsClosed plan → length plan.places ≤ 65536
+few_places plan closed =
+    let few = leb-true _ _ (and_parts (nat_le (length (plan_of closed.draft).places) 65536) _ (keeps_rules closed.draft closed.whole).1).0 in
+    omega (arith, few, ap (λ (p : Plan). length p.places) closed.same)
+
+-- and as many plays
 pub few_plays : (plan : Plan) → IsClosed plan → length plan.plays ≤ 65536
 few_plays plan closed =
     let flat = plan_is_flat closed.draft closed.built in
-    let places : length (plan_of closed.draft).places ≤ 65536 = leb-true _ _ (and_parts _ _ (keeps_rules closed.draft closed.whole).1).0 in
+    let places = few_places plan closed in
     let same : length plan.plays ≡ length closed.draft.plays = ap (λ (p : Plan). length p.plays) (closed.same ∙ flat) ∙ length_range 0 (length closed.draft.plays) in
-    let rows : length (plan_of closed.draft).places ≡ length closed.draft.plays = ap (λ (p : Plan). length p.places) flat ∙ length_map closed.draft.plays in
+    let rows : length plan.places ≡ length closed.draft.plays = ap (λ (p : Plan). length p.places) (closed.same ∙ flat) ∙ length_map closed.draft.plays in
     omega arith
+
+-- each place has its two graphs
+pub has_graphs : (plan : Plan) → IsClosed plan → (p : ℕ) → ((action_at plan p).internal < length plan.graphs) × ((action_at plan p).interface < length plan.graphs)
+has_graphs plan closed p =
+    let both = and_parts _ _ (place_has_both closed.draft closed.built (keeps_rules closed.draft closed.whole).0 p) in
+    subst (λ (q : Plan). ((action_at q p).internal < length q.graphs) × ((action_at q p).interface < length q.graphs)) (sym (closed.same ∙ plan_is_flat closed.draft closed.built))
+    (ltb-true _ _ both.0, ltb-true _ _ both.1)
 
 -- each place of a play is of an action within the limits
 pub rows_fit : (draft : Draft) → KeepsParts draft → list_all (row_fits draft.actions) (map place_of draft.plays) ≡ true

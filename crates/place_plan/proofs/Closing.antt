@@ -39,6 +39,7 @@ module _ (draft : Draft) (built : IsBuilt draft) where
   made places plays most = record {
     participants = draft.participants;
     objects = draft.objects;
+    graphs = draft.graphs;
     actions = draft.actions;
     places = places;
     plays = plays;
@@ -54,7 +55,7 @@ module _ (draft : Draft) (built : IsBuilt draft) where
       λ i. record {
         participants = draft.participants;
         objects = draft.objects;
-        graphs = (plan_of draft).graphs;
+        graphs = draft.graphs;
         actions = draft.actions;
         places = same_places i;
         plays = same_plays i;

@@ -58,6 +58,18 @@ module _ (plan : Plan) (tree : IsTree plan) where
       let next = tree.chain r q qs a in
       rw (a, next) m
 
+  -- where one goes out of another place than p, a role that was in p, or inside it, is so still
+  went_out : (past : List Entry) (e : Entry) (t p : ℕ) → inside plan e.by past ≡ Some e.place → (e.place ≡ p → ⊥) → in_within plan (inside plan t past) p ≡ true → in_within plan (cond (e.by == t) (parent plan e.place) (inside plan t past)) p ≡ true
+  went_out past e t p here other was = elim (cases_Bool (e.by == t)) [
+    | inl y ↦
+        let there : in_within plan (Some e.place) p ≡ true = subst (λ o. in_within plan o p ≡ true) (subst (λ a. inside plan a past ≡ Some e.place) (eqb-true e.by t y) here) was in
+        elim (or_cases (e.place == p) (member p (around plan e.place)) there) [
+          | inl x ↦ absurd (other (eqb-true e.place p x))
+          | inr x ↦ rw y (outer e.place p (around plan e.place) refl x)
+        ]
+    | inr y ↦ rw y was
+  ]
+
   -- the roles of a live place are in it, or in places inside it
   live_within_by : (past : List Entry) (k : Kind) (e : Entry) (t p : ℕ) → member t (roles_of plan p) ≡ true → (started p past ≡ true → ended p past ≡ false → in_within plan (inside plan t past) p ≡ true) → Row k plan past (of_kind k e) → started p (of_kind k e ∷ past) ≡ true → ended p (of_kind k e ∷ past) ≡ false → in_within plan (inside plan t (of_kind k e ∷ past)) p ≡ true
   live_within_by past kind.Arrive e t p m ih h s f =
@@ -69,30 +81,8 @@ module _ (plan : Plan) (tree : IsTree plan) where
       arrived : (o : Option ℕ) → inside plan t past ≡ o → in_within plan o p ≡ true → (e.by == t) ≡ true → in_within plan (cond (e.by == t) (Some e.place) (inside plan t past)) p ≡ true
       arrived None w i y = absurd (false≢true i)
       arrived (Some q) w i y = rw y (deeper q e.place p (arrives_in past (of_kind kind.Arrive e) q h (rw (eqb-true e.by t y) w)).0 i)
-  live_within_by past kind.Withdraw e t p m ih h s f = went_out h.here (λ same. both_ways _ (subst (λ a. started a past ≡ false) same h.waits) s)
-    where
-      went_out : inside plan e.by past ≡ Some e.place → (e.place ≡ p → ⊥) → in_within plan (cond (e.by == t) (parent plan e.place) (inside plan t past)) p ≡ true
-      went_out here other = elim (cases_Bool (e.by == t)) [
-        | inl y ↦
-            let there : in_within plan (Some e.place) p ≡ true = subst (λ o. in_within plan o p ≡ true) (subst (λ a. inside plan a past ≡ Some e.place) (eqb-true e.by t y) here) (ih s f) in
-            elim (or_cases (e.place == p) (member p (around plan e.place)) there) [
-              | inl x ↦ absurd (other (eqb-true e.place p x))
-              | inr x ↦ rw y (outer e.place p (around plan e.place) refl x)
-            ]
-        | inr y ↦ rw y (ih s f)
-      ]
-  live_within_by past kind.Leave e t p m ih h s f = went_out h.here (λ same. both_ways _ f (subst (λ a. ended a past ≡ true) same h.when))
-    where
-      went_out : inside plan e.by past ≡ Some e.place → (e.place ≡ p → ⊥) → in_within plan (cond (e.by == t) (parent plan e.place) (inside plan t past)) p ≡ true
-      went_out here other = elim (cases_Bool (e.by == t)) [
-        | inl y ↦
-            let there : in_within plan (Some e.place) p ≡ true = subst (λ o. in_within plan o p ≡ true) (subst (λ a. inside plan a past ≡ Some e.place) (eqb-true e.by t y) here) (ih s f) in
-            elim (or_cases (e.place == p) (member p (around plan e.place)) there) [
-              | inl x ↦ absurd (other (eqb-true e.place p x))
-              | inr x ↦ rw y (outer e.place p (around plan e.place) refl x)
-            ]
-        | inr y ↦ rw y (ih s f)
-      ]
+  live_within_by past kind.Withdraw e t p m ih h s f = went_out past e t p h.here (λ same. both_ways _ (subst (λ a. started a past ≡ false) same h.waits) s) (ih s f)
+  live_within_by past kind.Leave e t p m ih h s f = went_out past e t p h.here (λ same. both_ways _ f (subst (λ a. ended a past ≡ true) same h.when)) (ih s f)
   live_within_by past kind.Start e t p m ih h s f =
       elim (or_cases _ _ s) [
         | inl x ↦

@@ -5,6 +5,7 @@ use Rattle.caa_base.specs.declared.entry.Drill.{Drill}
 use Rattle.caa_base.specs.declared.entry.Verdict.{Verdict}
 use Rattle.caa_base.specs.declared.entry.Verdict.TheVariants as verdict
 use Rattle.place_plan.specs.declared.draft.Draft.{Draft}
+use Rattle.place_plan.specs.declared.rows.GraphRow.{GraphRow}
 use Rattle.place_plan.specs.declared.rows.PlayRow.{PlayRow}
 use Rattle.place_plan.specs.declared.rows.ActionRow.{ActionRow}
 use Rattle.place_plan.specs.declared.rows.RoleRow.{RoleRow}
@@ -33,8 +34,20 @@ action_fits action = not (is_empty action.roles) && (nat_le (length action.roles
 
 abbrev pub size_rule : Draft → Bool
 size_rule draft =
-    nat_le (length draft.participants) 64 && (nat_le (length draft.objects) 256 && (nat_le (length draft.actions) 256
-    && (nat_le (length draft.watches) 16 && (nat_le (length draft.drills) 1000 && list_all action_fits draft.actions))))
+    nat_le (length draft.participants) 64 && (nat_le (length draft.objects) 256 && (nat_le (length draft.graphs) 257 && (nat_le (length draft.actions) 256
+    && (nat_le (length draft.watches) 16 && (nat_le (length draft.drills) 1000 && list_all action_fits draft.actions)))))
+
+-- ---- 2: graph 0 has one exception alone, and each graph has as many names as exceptions
+
+abbrev pub first_is_plain : List GraphRow → Bool
+first_is_plain [] = false
+first_is_plain (row ∷ rows) = row.graph.count == 1
+
+abbrev pub is_named : GraphRow → Bool
+is_named row = length row.names == row.graph.count
+
+abbrev pub graph_rule : Draft → Bool
+graph_rule draft = first_is_plain draft.graphs && list_all is_named draft.graphs
 
 -- ---- 3: all numbers are in range
 
@@ -96,8 +109,8 @@ exceptions_of draft g = (graph_at (plan_of draft) g).count
 -- the two graphs and the fault exception of an action
 abbrev pub graphs_in_range : Draft → ActionRow → Bool
 graphs_in_range draft action =
-    nat_lt action.internal (length (plan_of draft).graphs)
-    && (nat_lt action.interface (length (plan_of draft).graphs) && nat_lt action.fault (exceptions_of draft action.internal))
+    nat_lt action.internal (length draft.graphs)
+    && (nat_lt action.interface (length draft.graphs) && nat_lt action.fault (exceptions_of draft action.internal))
 
 -- the objects of an action, each once and in ascending order
 abbrev pub objects_in_range : Draft → ActionRow → Bool
@@ -235,15 +248,17 @@ abbrev pub broken_if : Bool → ℕ → Option ℕ → Option ℕ
 broken_if true rule next = next
 broken_if false rule next = Some rule
 
--- the least rule that the draft breaks; rule 2 is of declared graphs, which drafts don't have yet
+-- the least rule that the draft breaks
 abbrev pub broken_rule : Draft → Option ℕ
 broken_rule draft =
-    broken_if (size_rule draft) 1 (broken_if (range_rule draft) 3 (broken_if (order_rule draft) 4 (broken_if (fill_rule draft) 5 (broken_if (enter_rule draft) 6
-    (broken_if (object_rule draft) 7 (broken_if (depth_rule draft) 8 (broken_if (handler_rule draft) 9 (broken_if (bound_rule draft) 10 None))))))))
+    broken_if (size_rule draft) 1 (broken_if (graph_rule draft) 2 (broken_if (range_rule draft) 3 (broken_if (order_rule draft) 4 (broken_if (fill_rule draft) 5
+    (broken_if (enter_rule draft) 6 (broken_if (object_rule draft) 7 (broken_if (depth_rule draft) 8 (broken_if (handler_rule draft) 9
+    (broken_if (bound_rule draft) 10 None)))))))))
 
 -- the draft breaks no rule of a number below 10
 pub record KeepsParts (draft : Draft) : Type 0 where
   pub sizes : size_rule draft ≡ true
+  pub graphs : graph_rule draft ≡ true
   pub ranges : range_rule draft ≡ true
   pub order : order_rule draft ≡ true
   pub fillings : fill_rule draft ≡ true

@@ -3,6 +3,7 @@ use Rattle.std.specs.Prelude.{ℕ, ℤ, pos, ◌==◌, Bool, ◌||◌, if◌then
 use Rattle.cover_table.specs.Cover.{CoverOrder}
 use Rattle.caa_base.specs.declared.entry.Verdict.TheVariants as verdict
 use Rattle.place_plan.specs.declared.rows.ObjectRow.{ObjectRow}
+use Rattle.place_plan.specs.declared.rows.GraphRow.{GraphRow}
 use Rattle.place_plan.specs.declared.rows.PlaceRow.{PlaceRow}
 use Rattle.place_plan.specs.declared.rows.ActionRow.{ActionRow}
 use Rattle.place_plan.specs.declared.rows.RoleRow.{RoleRow}
@@ -11,7 +12,7 @@ use Rattle.place_plan.specs.declared.rows.HandlerRow.{HandlerRow}
 use Rattle.place_plan.specs.declared.rows.Program.{Program}
 use Rattle.place_plan.specs.declared.rows.AbortRow.{AbortRow}
 use Rattle.place_plan.specs.declared.rows.AbortRow.TheVariants as abort
-use Rattle.place_plan.specs.PlanValue.{Plan, GraphRow}
+use Rattle.place_plan.specs.PlanValue.{Plan}
 use Rattle.place_plan.specs.Words.{member, index_of, first_of, last_or}
 
 -- ---- past the end of a table: nobody has a role there, and nothing is done

@@ -1,7 +1,6 @@
 -- The plan that the fields keep.
-use Rattle.std.specs.Prelude.{◌≡◌, [], ◌∷◌}
+use Rattle.std.specs.Prelude.{◌≡◌}
 use Rattle.place_plan.specs.PlanValue.{Plan}
-use Rattle.place_plan.specs.Unfolding.{plain_graph}
 use Rattle.place_plan.specs.Bound.{bound}
 use Rattle.place_plan.specs.Built.{IsClosed}
 use Rattle.place_plan.specs.declared.plan.Plan.TheInside.{Inside}
@@ -10,7 +9,7 @@ abbrev pub plan_view : Inside → Plan
 plan_view p = record {
   participants = p.participants;
   objects = p.objects;
-  graphs = plain_graph ∷ [];
+  graphs = p.graphs;
   actions = p.actions;
   places = p.places;
   plays = p.plays;

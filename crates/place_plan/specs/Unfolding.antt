@@ -5,7 +5,7 @@ use Rattle.place_plan.specs.declared.rows.PlaceRow.{PlaceRow}
 use Rattle.place_plan.specs.declared.rows.PlayRow.{PlayRow}
 use Rattle.place_plan.specs.declared.rows.ActionRow.{ActionRow}
 use Rattle.place_plan.specs.declared.rows.NestRow.{NestRow}
-use Rattle.place_plan.specs.PlanValue.{Plan, GraphRow}
+use Rattle.place_plan.specs.PlanValue.{Plan}
 use Rattle.place_plan.specs.Places.{no_action}
 
 -- the places of an instance of an action, with all that is nested in it: from the action, the participants of its roles, the places
@@ -61,16 +61,12 @@ tops_from unfold_one n (play ∷ plays) =
 abbrev pub most_depth : ℕ
 most_depth = 8
 
--- graph 0 has `universal` alone, which covers itself
-abbrev pub plain_graph : GraphRow
-plain_graph = record { graph = record { count = 1; rows = 1 ∷ [] }; names = (117 ∷ 110 ∷ 105 ∷ 118 ∷ 101 ∷ 114 ∷ 115 ∷ 97 ∷ 108 ∷ []) ∷ [] }
-
 -- the plan into which a draft unfolds
 abbrev pub plan_of : Draft → Plan
 plan_of draft = record {
   participants = draft.participants;
   objects = draft.objects;
-  graphs = plain_graph ∷ [];
+  graphs = draft.graphs;
   actions = draft.actions;
   places = plays_from (unfold_at most_depth draft.actions) 0 draft.plays;
   plays = tops_from (unfold_at most_depth draft.actions) 0 draft.plays;

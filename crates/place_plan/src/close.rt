@@ -2,16 +2,21 @@ ghost use Rattle.std.specs.Prelude.{◌≡◌, ◌<◌, ◌≤◌, ◌+◌, nat_
 ghost use Rattle.std.specs.List.{list_all};
 ghost use Rattle.place_plan.specs.Places.{no_action};
 ghost use Rattle.place_plan.specs.Words.{member};
-ghost use Rattle.place_plan.specs.DraftRules.{program_fits, role_fits, action_fits, size_rule, is_value, is_rising, is_rising_above, all_below, step_in_range, verdict_in_range, abort_in_range, program_in_range, handler_in_range, role_in_range, nest_in_range, exceptions_of, graphs_in_range, objects_in_range, parts_in_range, action_in_range, play_in_range, drill_in_range, range_rule, all_differ, fills, fill_rule, step_held, role_held, nest_held, action_held, object_rule, broken_rule, KeepsParts};
+ghost use Rattle.place_plan.specs.DraftRules.{program_fits, role_fits, action_fits, size_rule, is_named, graph_rule, is_value, is_rising, is_rising_above, all_below, step_in_range, verdict_in_range, abort_in_range, program_in_range, handler_in_range, role_in_range, nest_in_range, exceptions_of, graphs_in_range, objects_in_range, parts_in_range, action_in_range, play_in_range, drill_in_range, range_rule, all_differ, fills, fill_rule, step_held, role_held, nest_held, action_held, object_rule, broken_rule, KeepsParts};
 ghost use Rattle.place_plan.specs.Built.{IsBuilt};
 
 use crate::draft::Draft;
-use crate::rows::{AbortRow, ActionRow, HandlerRow, NestRow, PlayRow, Program, RoleRow, Step};
+use crate::rows::{
+    AbortRow, ActionRow, GraphRow, HandlerRow, NestRow, PlayRow, Program, RoleRow, Step,
+};
 use caa_base::entry::{Drill, Object, Verdict};
 
 const MOST_PARTICIPANTS: usize = 64;
 
 const MOST_OBJECTS: usize = 256;
+
+/// The plain graph, and the declared ones.
+const MOST_GRAPHS: usize = 257;
 
 const MOST_ACTIONS: usize = 256;
 
@@ -36,9 +41,6 @@ pub(crate) const MOST_PLACES: usize = 65_536;
 pub(crate) const MOST_ENTRIES: u64 = 1_000_000;
 
 const MOST_VALUE: i64 = 1_000_000_000_000;
-
-/// Graph 0, which has `universal` alone, is the only one yet.
-const GRAPHS: u32 = 1;
 
 /// Whether a number is in a list.
 pub(crate) fn is_member(number: u32, list: &[u32]) -> bool
@@ -101,10 +103,36 @@ fn keeps_sizes(draft: &Draft) -> bool
 {
     draft.participants.len() <= MOST_PARTICIPANTS
         && draft.objects.len() <= MOST_OBJECTS
+        && draft.graphs.len() <= MOST_GRAPHS
         && draft.actions.len() <= MOST_ACTIONS
         && draft.watches.len() <= MOST_WATCHES
         && draft.drills.len() <= MOST_DRILLS
         && actions_fit(draft)
+}
+
+// ---- graphs
+
+/// Whether a graph has a name for each exception.
+fn is_named(row: &GraphRow) -> bool
+    ensures { result ≡ is_named row.now }
+{
+    row.names.len() == row.graph.count() as usize
+}
+
+fn are_named(draft: &Draft) -> bool
+    ensures { result ≡ list_all is_named draft.now.graphs }
+{
+    draft.graphs.as_slice().iter().all(|row| is_named(row))
+}
+
+/// Whether graph 0 has one exception alone, and each graph a name for each.
+fn keeps_graphs(draft: &Draft) -> bool
+    ensures { result ≡ graph_rule draft.now }
+{
+    match draft.graphs.as_slice().first() {
+        Some(first) => first.graph.count() == 1 && are_named(draft),
+        None => false,
+    }
 }
 
 // ---- the ranges of numbers
@@ -239,11 +267,14 @@ fn is_rising(numbers: &[u32]) -> bool
     true
 }
 
-/// How many exceptions a graph of the draft has.
-fn exceptions_of(_draft: &Draft, graph: u32) -> u32
-    ensures { result ≡ exceptions_of _draft.now graph }
+/// How many exceptions a graph of the draft has; none where there is no such graph.
+fn exceptions_of(draft: &Draft, graph: u32) -> u32
+    ensures { result ≡ exceptions_of draft.now graph }
 {
-    if graph < GRAPHS { 1 } else { 0 }
+    match draft.graphs.as_slice().get(graph as usize) {
+        Some(row) => row.graph.count(),
+        None => 0,
+    }
 }
 
 fn nests_in_range(action: &ActionRow, actions: usize, internal: u32) -> bool
@@ -260,8 +291,8 @@ fn nests_in_range(action: &ActionRow, actions: usize, internal: u32) -> bool
 fn graphs_in_range(draft: &Draft, action: &ActionRow) -> bool
     ensures { result ≡ graphs_in_range draft.now action.now }
 {
-    action.internal < GRAPHS
-        && action.interface < GRAPHS
+    (action.internal as usize) < draft.graphs.len()
+        && (action.interface as usize) < draft.graphs.len()
         && action.fault < exceptions_of(draft, action.internal)
 }
 
@@ -513,6 +544,8 @@ pub(crate) fn broken_part(draft: &Draft) -> Option<u32>
 {
     if !keeps_sizes(draft) {
         Some(1)
+    } else if !keeps_graphs(draft) {
+        Some(2)
     } else if !keeps_ranges(draft) {
         Some(3)
     } else if !keeps_fillings(draft) {

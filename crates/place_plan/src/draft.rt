@@ -1,4 +1,4 @@
-use crate::rows::{ActionRow, ObjectRow, PlayRow};
+use crate::rows::{ActionRow, GraphRow, ObjectRow, PlayRow};
 use caa_base::entry::{Drill, Object};
 use caa_base::name::Name;
 use caa_base::rows::Rows;
@@ -10,6 +10,8 @@ pub struct Draft {
     pub participants: Rows<Name>,
     /// The external objects.
     pub objects: Rows<ObjectRow>,
+    /// The graphs of exceptions; number 0 is the plain one, which has `universal` alone.
+    pub graphs: Rows<GraphRow>,
     /// The actions, in the order of their declaration.
     pub actions: Rows<ActionRow>,
     /// Which actions are played at the top, in order, and by whom.

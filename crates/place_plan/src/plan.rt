@@ -1,7 +1,7 @@
 ghost use Rattle.std.specs.Prelude.{◌≡◌, ◌<◌, ℕ, List, [], length, map, slice_index_or, Option, Some, None, IfOk, IfSome, unwrap_or, option_copied, IsSome};
 ghost use Rattle.std.specs.List.{range_with_len};
 ghost use Rattle.place_plan.specs.Words.{member, index_of, last_or};
-ghost use Rattle.place_plan.specs.Places.{place_at, action_at, role_at, role_row, role_of, roles_of, objects_of, uses, parent, child, nest_of, map_signal, top_of, within, fault_of, graph_at, exception_name, handler_in, initial_of, no_object, no_action, no_role, no_nest};
+ghost use Rattle.place_plan.specs.Places.{place_at, action_at, role_at, role_row, role_of, roles_of, objects_of, uses, parent, child, nest_of, map_signal, top_of, within, fault_of, graph_at, internal_of, interface_of, exception_name, handler_in, initial_of, no_object, no_action, no_role, no_nest};
 ghost use Rattle.place_plan.specs.Bound.{bound};
 ghost use Rattle.place_plan.specs.Unfolding.{place_of, plan_of};
 ghost use Rattle.place_plan.specs.DraftRules.{broken_rule, KeepsParts};
@@ -15,11 +15,13 @@ use crate::bound::bound_of;
 use crate::close::{MOST_ENTRIES, MOST_PLACES, broken_part, is_member};
 use crate::draft::Draft;
 use crate::rows::{
-    AbortRow, ActionRow, HandlerRow, NestRow, ObjectRow, PlaceRow, PlayRow, Program, RoleRow,
+    AbortRow, ActionRow, GraphRow, HandlerRow, NestRow, ObjectRow, PlaceRow, PlayRow, Program,
+    RoleRow,
 };
 use caa_base::entry::{Drill, Exception, Object, Participant, Place};
 use caa_base::name::Name;
 use caa_base::rows::Rows;
+use exception_graph::Graph;
 use std::alloc::{AllocError, Global};
 use std::marker::Model;
 use thiserror::Error;
@@ -31,6 +33,7 @@ use thiserror::Error;
 pub struct Plan {
     participants: Rows<Name>,
     objects: Rows<ObjectRow>,
+    graphs: Rows<GraphRow>,
     actions: Rows<ActionRow>,
     places: Rows<PlaceRow>,
     plays: Rows<Place>,
@@ -97,6 +100,16 @@ fn numbers_below(alloc: Global, count: u32) -> Result<Vec<u32>, AllocError>
     Ok(numbers)
 }
 
+/// The name of this number; empty where there is none.
+fn name_at(names: &[Name], number: u32) -> &[u8]
+    ensures { result.now ≡ slice_index_or names.now number [] }
+{
+    match names.get(number as usize) {
+        Some(name) => name.bytes(),
+        None => &[],
+    }
+}
+
 /// Where a number stands first in a list, or the list's length.
 fn index_of(number: u32, list: &[u32]) -> usize
     ensures { result ≡ index_of number list.now }
@@ -146,11 +159,12 @@ impl Plan {
     /// The plan into which a draft unfolds.
     ///
     /// `BadPart` names the least rule that the draft breaks. The rules, by number: 1, the numbers of parts are within the limits and
-    /// each action has a role; 3, all numbers are in range, and the objects of an action are in ascending order; 4, a nested use
-    /// names an action of a smaller number; 5, a nested use or a play has one for each role, and nobody twice; 6, a body enters just
-    /// the uses that its role fills, in order; 7, the objects of a step or of a nested action are among the action's; 8, no action
-    /// is deeper than 8; 9, the handlers of a role have different exceptions and each exception of a nested use is mapped; 10, there
-    /// are at most 65,536 places and the bound is at most 1,000,000.
+    /// each action has a role; 2, graph 0 has one exception alone, and each graph a name for each of its own; 3, all numbers are in
+    /// range, and the objects of an action are in ascending order; 4, a nested use names an action of a smaller number; 5, a nested
+    /// use or a play has one for each role, and nobody twice; 6, a body enters just the uses that its role fills, in order; 7, the
+    /// objects of a step or of a nested action are among the action's; 8, no action is deeper than 8; 9, the handlers of a role have
+    /// different exceptions and each exception of a nested use is mapped; 10, there are at most 65,536 places and the bound is at
+    /// most 1,000,000.
     pub fn close(alloc: Global, draft: Draft) -> Result<Plan, PlanError>
         requires built { IsBuilt draft }
         ensures ok { IfOk result (λ plan. plan ≡ plan_of draft) }
@@ -179,6 +193,7 @@ impl Plan {
         let Draft {
             participants,
             objects,
+            graphs,
             actions,
             plays: _,
             drills,
@@ -187,6 +202,7 @@ impl Plan {
         Ok(Plan {
             participants,
             objects,
+            graphs,
             actions,
             places: Rows::from_vec(places),
             plays: Rows::from_vec(plays),
@@ -523,23 +539,37 @@ impl Plan {
         }
     }
 
+    /// The graph of the exceptions that are raised in a place.
+    pub fn internal(&self, place: Place) -> &Graph
+        ensures { result.now ≡ internal_of self.now place }
+    {
+        &self.graphs.as_slice()[self.internal_number(place) as usize].graph
+    }
+
+    /// The graph of the exceptions that a place tells outside.
+    pub fn interface(&self, place: Place) -> &Graph
+        ensures { result.now ≡ interface_of self.now place }
+    {
+        &self.graphs.as_slice()[self.interface_number(place) as usize].graph
+    }
+
     /// How many exceptions a graph has; none where there is no such graph.
     pub(crate) fn exceptions_of(&self, graph: u32) -> u32
         ensures { result ≡ (graph_at self.now graph).count }
     {
-        let _ = &self.places;
-        if graph == 0 { 1 } else { 0 }
+        match self.graphs.as_slice().get(graph as usize) {
+            Some(row) => row.graph.count(),
+            None => 0,
+        }
     }
 
     /// The name of an exception of a graph; empty where there is none.
     pub fn exception_name(&self, graph: u32, exception: Exception) -> &[u8]
         ensures { result.now ≡ exception_name self.now graph exception }
     {
-        let _ = &self.places;
-        if graph == 0 && exception == 0 {
-            b"universal"
-        } else {
-            &[]
+        match self.graphs.as_slice().get(graph as usize) {
+            Some(row) => name_at(row.names.as_slice(), exception),
+            None => &[],
         }
     }
 }

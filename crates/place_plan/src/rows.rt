@@ -1,6 +1,12 @@
-use caa_base::entry::{Exception, Object, Participant, Test, Verdict};
+ghost use Rattle.std.specs.Prelude.{◌≡◌, ◌∷◌, [], IfOk, codes};
+ghost use Rattle.cover_table.specs.Cover.{IsSound};
+ghost use Rattle.exception_graph.specs.Chains.{IsOrderOf};
+
+use caa_base::entry::{Exception, Object, OutOfMemory, Participant, Test, Verdict};
 use caa_base::name::Name;
 use caa_base::rows::Rows;
+use exception_graph::Graph;
+use std::alloc::Global;
 
 /// A step of a role.
 #[derive(Clone, Copy, Debug, PartialEq, Eq)]
@@ -95,6 +101,44 @@ pub struct ActionRow {
     pub objects: Rows<Object>,
     pub roles: Rows<RoleRow>,
     pub nests: Rows<NestRow>,
+}
+
+/// A graph of exceptions.
+#[derive(Drop)]
+pub struct GraphRow {
+    /// Which exceptions cover which.
+    pub graph: Graph,
+    /// Their names, in the order of their numbers.
+    pub names: Rows<Name>,
+}
+
+/// The names of the plain graph.
+fn universal_alone(alloc: Global) -> Result<Rows<Name>, OutOfMemory>
+    ensures { IfOk result (λ names. names ≡ codes "universal" ∷ []) }
+{
+    let universal = Name::from_bytes(alloc, b"universal")?;
+    match vec![in alloc; universal] {
+        Ok(names) => Ok(Rows::from_vec(names)),
+        Err(_) => Err(OutOfMemory),
+    }
+}
+
+impl GraphRow {
+    /// The plain graph: it has `universal` alone, and is graph 0 of each plan.
+    pub fn plain(alloc: Global) -> Result<GraphRow, OutOfMemory>
+        ensures names { IfOk result (λ row. row.names ≡ codes "universal" ∷ []) }
+        ensures order { IfOk result (λ row. IsOrderOf 1 [] row.graph) }
+        ensures sound { IfOk result (λ row. IsSound row.graph) }
+    {
+        let names = universal_alone(alloc)?;
+        match Graph::build(alloc, 1, &[]) {
+            Ok(graph) => {
+                graph.is_sound();
+                Ok(GraphRow { graph, names })
+            }
+            Err(_) => Err(OutOfMemory),
+        }
+    }
 }
 
 /// An external object.

@@ -38,6 +38,7 @@ draft_of plan plays =
     record {
       participants = plan.participants;
       objects = plan.objects;
+      graphs = plan.graphs;
       actions = plan.actions;
       plays = plays;
       drills = plan.drills;
@@ -88,60 +89,55 @@ mixing_negative_unfolds : UnfoldsInto (draft_of mixing_negative.plan (play_of 0 
 unfolding unfold_at depth_within action_bound
 mixing_negative_unfolds = record { whole = refl; same = refl }
 
--- ---- plans with graphs of their own: what their plays unfold into
+-- ---- the same for plans with graphs of their own
 
--- these plays of the actions of the plan unfold into its places, and into its plays among them
-pub record PlaysUnfold (plays : List PlayRow) (plan : Plan) : Type 0 where
-  pub places : plays_from (unfold_at most_depth plan.actions) 0 plays ≡ plan.places
-  pub tops : tops_from (unfold_at most_depth plan.actions) 0 plays ≡ plan.plays
+two_siblings_unfolds : UnfoldsInto (draft_of two_siblings.plan (play_of 0 (two_siblings.ann ∷ two_siblings.bob ∷ []) ∷ [])) two_siblings.plan
+unfolding unfold_at depth_within action_bound
+two_siblings_unfolds = record { whole = refl; same = refl }
 
-two_siblings_unfolds : PlaysUnfold (play_of 0 (two_siblings.ann ∷ two_siblings.bob ∷ []) ∷ []) two_siblings.plan
-unfolding unfold_at
-two_siblings_unfolds = record { places = refl; tops = refl }
+same_exception_twice_unfolds : UnfoldsInto (draft_of same_exception_twice.plan (play_of 0 (same_exception_twice.ann ∷ same_exception_twice.bob ∷ []) ∷ [])) same_exception_twice.plan
+unfolding unfold_at depth_within action_bound
+same_exception_twice_unfolds = record { whole = refl; same = refl }
 
-same_exception_twice_unfolds : PlaysUnfold (play_of 0 (same_exception_twice.ann ∷ same_exception_twice.bob ∷ []) ∷ []) same_exception_twice.plan
-unfolding unfold_at
-same_exception_twice_unfolds = record { places = refl; tops = refl }
+informed_at_exit_unfolds : UnfoldsInto (draft_of informed_at_exit.plan (play_of 0 (informed_at_exit.ann ∷ informed_at_exit.bob ∷ []) ∷ [])) informed_at_exit.plan
+unfolding unfold_at depth_within action_bound
+informed_at_exit_unfolds = record { whole = refl; same = refl }
 
-informed_at_exit_unfolds : PlaysUnfold (play_of 0 (informed_at_exit.ann ∷ informed_at_exit.bob ∷ []) ∷ []) informed_at_exit.plan
-unfolding unfold_at
-informed_at_exit_unfolds = record { places = refl; tops = refl }
+third_put_fails_unfolds : UnfoldsInto (draft_of third_put_fails.plan (play_of 0 (third_put_fails.ann ∷ []) ∷ [])) third_put_fails.plan
+unfolding unfold_at depth_within action_bound
+third_put_fails_unfolds = record { whole = refl; same = refl }
 
-third_put_fails_unfolds : PlaysUnfold (play_of 0 (third_put_fails.ann ∷ []) ∷ []) third_put_fails.plan
-unfolding unfold_at
-third_put_fails_unfolds = record { places = refl; tops = refl }
+ended_not_all_left_unfolds : UnfoldsInto (draft_of ended_not_all_left.plan (play_of 1 (ended_not_all_left.ann ∷ ended_not_all_left.bob ∷ []) ∷ [])) ended_not_all_left.plan
+unfolding unfold_at depth_within action_bound
+ended_not_all_left_unfolds = record { whole = refl; same = refl }
 
-ended_not_all_left_unfolds : PlaysUnfold (play_of 1 (ended_not_all_left.ann ∷ ended_not_all_left.bob ∷ []) ∷ []) ended_not_all_left.plan
-unfolding unfold_at
-ended_not_all_left_unfolds = record { places = refl; tops = refl }
+three_levels_unfolds : UnfoldsInto (draft_of three_levels.plan (play_of 2 (three_levels.ann ∷ three_levels.bob ∷ []) ∷ [])) three_levels.plan
+unfolding unfold_at depth_within action_bound
+three_levels_unfolds = record { whole = refl; same = refl }
 
-three_levels_unfolds : PlaysUnfold (play_of 2 (three_levels.ann ∷ three_levels.bob ∷ []) ∷ []) three_levels.plan
-unfolding unfold_at
-three_levels_unfolds = record { places = refl; tops = refl }
+withdrawn_unfolds : UnfoldsInto (draft_of withdrawn.plan (play_of 1 (withdrawn.ann ∷ withdrawn.bob ∷ []) ∷ [])) withdrawn.plan
+unfolding unfold_at depth_within action_bound
+withdrawn_unfolds = record { whole = refl; same = refl }
 
-withdrawn_unfolds : PlaysUnfold (play_of 1 (withdrawn.ann ∷ withdrawn.bob ∷ []) ∷ []) withdrawn.plan
-unfolding unfold_at
-withdrawn_unfolds = record { places = refl; tops = refl }
+raised_while_undoing_unfolds : UnfoldsInto (draft_of raised_while_undoing.plan (play_of 1 (raised_while_undoing.ann ∷ raised_while_undoing.bob ∷ []) ∷ [])) raised_while_undoing.plan
+unfolding unfold_at depth_within action_bound
+raised_while_undoing_unfolds = record { whole = refl; same = refl }
 
-raised_while_undoing_unfolds : PlaysUnfold (play_of 1 (raised_while_undoing.ann ∷ raised_while_undoing.bob ∷ []) ∷ []) raised_while_undoing.plan
-unfolding unfold_at
-raised_while_undoing_unfolds = record { places = refl; tops = refl }
+put_fails_in_handler_unfolds : UnfoldsInto (draft_of put_fails_in_handler.plan (play_of 0 (put_fails_in_handler.ann ∷ []) ∷ [])) put_fails_in_handler.plan
+unfolding unfold_at depth_within action_bound
+put_fails_in_handler_unfolds = record { whole = refl; same = refl }
 
-put_fails_in_handler_unfolds : PlaysUnfold (play_of 0 (put_fails_in_handler.ann ∷ []) ∷ []) put_fails_in_handler.plan
-unfolding unfold_at
-put_fails_in_handler_unfolds = record { places = refl; tops = refl }
+tests_decide_unfolds : UnfoldsInto (draft_of tests_decide.plan (play_of 1 (tests_decide.ann ∷ tests_decide.bob ∷ []) ∷ [])) tests_decide.plan
+unfolding unfold_at depth_within action_bound
+tests_decide_unfolds = record { whole = refl; same = refl }
 
-tests_decide_unfolds : PlaysUnfold (play_of 1 (tests_decide.ann ∷ tests_decide.bob ∷ []) ∷ []) tests_decide.plan
-unfolding unfold_at
-tests_decide_unfolds = record { places = refl; tops = refl }
+two_signals_unfolds : UnfoldsInto (draft_of two_signals.plan (play_of 1 (two_signals.ann ∷ two_signals.bob ∷ []) ∷ [])) two_signals.plan
+unfolding unfold_at depth_within action_bound
+two_signals_unfolds = record { whole = refl; same = refl }
 
-two_signals_unfolds : PlaysUnfold (play_of 1 (two_signals.ann ∷ two_signals.bob ∷ []) ∷ []) two_signals.plan
-unfolding unfold_at
-two_signals_unfolds = record { places = refl; tops = refl }
-
-failure_handled_unfolds : PlaysUnfold (play_of 1 (failure_handled.ann ∷ []) ∷ []) failure_handled.plan
-unfolding unfold_at
-failure_handled_unfolds = record { places = refl; tops = refl }
+failure_handled_unfolds : UnfoldsInto (draft_of failure_handled.plan (play_of 1 (failure_handled.ann ∷ []) ∷ [])) failure_handled.plan
+unfolding unfold_at depth_within action_bound
+failure_handled_unfolds = record { whole = refl; same = refl }
 
 -- ---- two uses side by side, and two plays: a place comes before what is nested in it, and a use is whole before the next begins
 

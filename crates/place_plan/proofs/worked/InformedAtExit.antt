@@ -11,17 +11,17 @@ use Rattle.caa_base.specs.declared.entry.Entry.{Entry}
 use Rattle.caa_base.specs.declared.entry.Test.TheVariants.{Above}
 use Rattle.caa_base.specs.declared.entry.Verdict.TheVariants as verdict
 use Rattle.place_plan.specs.declared.rows.AbortRow.TheVariants as abort
+use Rattle.place_plan.specs.declared.rows.GraphRow.{GraphRow}
 use Rattle.place_plan.specs.declared.rows.ActionRow.{ActionRow}
 use Rattle.place_plan.specs.declared.rows.RoleRow.{RoleRow}
 use Rattle.place_plan.specs.declared.rows.Step.TheVariants as step
-use Rattle.place_plan.specs.PlanValue.{Plan, GraphRow}
+use Rattle.place_plan.specs.PlanValue.{Plan}
 use Rattle.place_plan.specs.Places.{internal_of, interface_of}
 use Rattle.place_plan.specs.Objects.{value_of}
 use Rattle.place_plan.specs.Journals.{IsLegal, IsComplete, puts_of}
 use Rattle.place_plan.specs.Laws.{last_write, is_kept}
 use Rattle.place_plan.specs.Bound.{bound, action_bound}
-use Rattle.place_plan.specs.Unfolding.{plain_graph}
-use Rattle.place_plan.proofs.worked.Words.{arrive, start, read, write, raise, inform, resolve, handle, verdict_done, verdict_signal, end_signal, leave}
+use Rattle.place_plan.proofs.worked.Words.{plain_graph, arrive, start, read, write, raise, inform, resolve, handle, verdict_done, verdict_signal, end_signal, leave}
 use Rattle.place_plan.proofs.worked.Words.{universal, graph, object, program, handler, play}
 use Rattle.place_plan.proofs.worked.Words.{least_cover_from, complete_from, AreWellFormed}
 

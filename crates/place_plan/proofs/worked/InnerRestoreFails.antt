@@ -17,8 +17,7 @@ use Rattle.place_plan.specs.Places.{internal_of}
 use Rattle.place_plan.specs.Objects.{value_of}
 use Rattle.place_plan.specs.Journals.{IsLegal, IsComplete, puts_of}
 use Rattle.place_plan.specs.Bound.{bound, action_bound}
-use Rattle.place_plan.specs.Unfolding.{plain_graph}
-use Rattle.place_plan.proofs.worked.Words.{arrive, start, write, resolve, verdict_undo, undo, restore_well, restore_failed, end_undone, end_failed, leave, leave_carrying}
+use Rattle.place_plan.proofs.worked.Words.{plain_graph, arrive, start, write, resolve, verdict_undo, undo, restore_well, restore_failed, end_undone, end_failed, leave, leave_carrying}
 use Rattle.place_plan.proofs.worked.Words.{universal, object, program, play, inner}
 use Rattle.place_plan.proofs.worked.Words.{least_cover_from, complete_from, AreWellFormed}
 

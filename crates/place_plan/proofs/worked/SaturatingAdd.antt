@@ -15,8 +15,7 @@ use Rattle.place_plan.specs.Objects.{value_of}
 use Rattle.place_plan.specs.Journals.{IsLegal, IsComplete, puts_of}
 use Rattle.place_plan.specs.Laws.{last_write, is_kept}
 use Rattle.place_plan.specs.Bound.{bound, action_bound}
-use Rattle.place_plan.specs.Unfolding.{plain_graph}
-use Rattle.place_plan.proofs.worked.Words.{arrive, start, read, write, verdict_done, end_commit, leave}
+use Rattle.place_plan.proofs.worked.Words.{plain_graph, arrive, start, read, write, verdict_done, end_commit, leave}
 use Rattle.place_plan.proofs.worked.Words.{universal, object, program, play}
 use Rattle.place_plan.proofs.worked.Words.{complete_from, AreWellFormed}
 

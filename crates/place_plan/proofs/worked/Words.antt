@@ -1,12 +1,13 @@
 -- Words in which worked plans and journals are written, and what computing shows of them.
 use Rattle.std.proofs.Common.{◌≡◌, ℕ, pos, ◌+◌, ◌-◌, ◌^◌, ◌<◌, Bool, true, false, not, ◌&&◌, ◌||◌, List, [], ◌∷◌, length, map, reverse, zero, suc, arith, below_more}
-use Rattle.std.specs.Prelude.{nat_lt}
+use Rattle.std.specs.Prelude.{nat_lt, codes}
 use Rattle.std.proofs.lemmas.Bool.{and_parts, false≢true, ltb-true}
 use Rattle.cover_table.specs.Cover.{CoverOrder, IsLeastCover, covers, covers_each}
 use Rattle.caa_base.specs.declared.entry.Entry.{Entry}
 use Rattle.caa_base.specs.declared.entry.Kind.{Kind}
 use Rattle.caa_base.specs.declared.entry.Kind.TheVariants as kind
 use Rattle.caa_base.specs.declared.entry.Verdict.{Verdict}
+use Rattle.place_plan.specs.declared.rows.GraphRow.{GraphRow}
 use Rattle.place_plan.specs.declared.rows.ObjectRow.{ObjectRow}
 use Rattle.place_plan.specs.declared.rows.PlaceRow.{PlaceRow}
 use Rattle.place_plan.specs.declared.rows.RoleRow.{RoleRow}
@@ -14,11 +15,17 @@ use Rattle.place_plan.specs.declared.rows.HandlerRow.{HandlerRow}
 use Rattle.place_plan.specs.declared.rows.Program.{Program}
 use Rattle.place_plan.specs.declared.rows.Step.{Step}
 use Rattle.place_plan.specs.declared.rows.AbortRow.{AbortRow}
-use Rattle.place_plan.specs.PlanValue.{Plan, GraphRow}
+use Rattle.place_plan.specs.PlanValue.{Plan}
 use Rattle.place_plan.specs.Roles.{over}
 use Rattle.place_plan.specs.Rules.{MayFollow}
 use Rattle.place_plan.specs.WellFormed.{IsWellFormed}
 use Rattle.place_plan.specs.Journals.{LegalPast, IsLegal, IsComplete}
+
+-- ---- graphs
+
+-- graph 0 has `universal` alone, which covers itself
+abbrev pub plain_graph : GraphRow
+plain_graph = record { graph = record { count = 1; rows = 1 ∷ [] }; names = codes "universal" ∷ [] }
 
 -- ---- entries, as in the text of a journal: the place, who made it, and what it says
 

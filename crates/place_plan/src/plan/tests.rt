@@ -11,6 +11,8 @@ use std::test::Fail;
 /// What differs in the drafts of these tests: each has two participants, and one action, `look`.
 #[derive(Clone, Copy)]
 struct Parts<'a> {
+    /// How many graphs there are, each of them plain.
+    graphs: u32,
     /// The value of each object before the first entry.
     initials: &'a [i64],
     /// The objects that `look` uses.
@@ -27,6 +29,7 @@ struct Parts<'a> {
 
 /// One play of a good action.
 const FIRST_PATH: Parts<'static> = Parts {
+    graphs: 1,
     initials: &[5],
     uses: &[0],
     has_roles: true,
@@ -73,6 +76,14 @@ fn objects(alloc: Global, initials: &[i64]) -> Result<Vec<ObjectRow>, Fail> {
     Ok(objects)
 }
 
+fn graphs(alloc: Global, parts: Parts) -> Result<Vec<GraphRow>, Fail> {
+    let mut graphs = Vec::new(alloc);
+    for _ in 0..parts.graphs {
+        graphs.push(GraphRow::plain(alloc)?)?;
+    }
+    Ok(graphs)
+}
+
 fn plays(alloc: Global, parts: Parts) -> Result<Vec<PlayRow>, Fail> {
     let mut plays = Vec::new(alloc);
     for _ in 0..parts.plays {
@@ -106,6 +117,7 @@ fn draft(alloc: Global, parts: Parts) -> Result<Draft, Fail>
     Ok(Draft {
         participants: Rows::from_vec(vec![in alloc; ann, bob]?),
         objects: Rows::from_vec(objects(alloc, parts.initials)?),
+        graphs: Rows::from_vec(graphs(alloc, parts)?),
         actions: Rows::from_vec(actions(alloc, parts)?),
         plays: Rows::from_vec(plays(alloc, parts)?),
         drills: Rows::from_vec(vec![in alloc; Drill { object: 0, nth: 3 }]?),
@@ -169,7 +181,10 @@ fn action_is_read(plan: &Plan) -> bool {
         && plan.fault(0) == 0
         && plan.internal_number(0) == 0
         && plan.interface_number(0) == 0
+        && plan.internal(0).count() == 1
+        && plan.interface(0).count() == 1
         && plan.exception_name(0, 0) == b"universal".as_slice()
+        && plan.exception_name(0, 1).is_empty()
 }
 
 fn role_is_read(plan: &Plan) -> bool {
@@ -205,7 +220,7 @@ fn a_plan_is_read(rt: HostRuntime) -> Result<(), Fail> {
 }
 
 #[test]
-fn broken_drafts_are_refused(rt: HostRuntime) -> Result<(), Fail> {
+fn numbers_of_parts_are_limited(rt: HostRuntime) -> Result<(), Fail> {
     let drafts = [
         (FIRST_PATH, None),
         (
@@ -216,6 +231,37 @@ fn broken_drafts_are_refused(rt: HostRuntime) -> Result<(), Fail> {
             },
             Some(1),
         ),
+        (
+            Parts {
+                graphs: 257,
+                ..FIRST_PATH
+            },
+            None,
+        ),
+        (
+            Parts {
+                graphs: 258,
+                ..FIRST_PATH
+            },
+            Some(1),
+        ),
+        (
+            Parts {
+                graphs: 0,
+                ..FIRST_PATH
+            },
+            Some(2),
+        ),
+    ];
+    for (parts, rule) in drafts {
+        assert_eq!(rt; rule_named(rt.alloc(), parts)?, rule);
+    }
+    Ok(())
+}
+
+#[test]
+fn numbers_out_of_range_are_refused(rt: HostRuntime) -> Result<(), Fail> {
+    let drafts = [
         (
             Parts {
                 initials: &[1, 1],
@@ -252,6 +298,16 @@ fn broken_drafts_are_refused(rt: HostRuntime) -> Result<(), Fail> {
             },
             Some(3),
         ),
+    ];
+    for (parts, rule) in drafts {
+        assert_eq!(rt; rule_named(rt.alloc(), parts)?, rule);
+    }
+    Ok(())
+}
+
+#[test]
+fn unfilled_roles_and_free_objects_are_refused(rt: HostRuntime) -> Result<(), Fail> {
+    let drafts = [
         (
             Parts {
                 who: &[0, 0],
@@ -273,6 +329,16 @@ fn broken_drafts_are_refused(rt: HostRuntime) -> Result<(), Fail> {
             },
             Some(7),
         ),
+    ];
+    for (parts, rule) in drafts {
+        assert_eq!(rt; rule_named(rt.alloc(), parts)?, rule);
+    }
+    Ok(())
+}
+
+#[test]
+fn plays_past_the_bound_are_refused(rt: HostRuntime) -> Result<(), Fail> {
+    let drafts = [
         (
             Parts {
                 plays: 43_478,
@@ -286,6 +352,24 @@ fn broken_drafts_are_refused(rt: HostRuntime) -> Result<(), Fail> {
                 ..FIRST_PATH
             },
             Some(10),
+        ),
+    ];
+    for (parts, rule) in drafts {
+        assert_eq!(rt; rule_named(rt.alloc(), parts)?, rule);
+    }
+    Ok(())
+}
+
+#[test]
+fn the_least_broken_rule_is_named(rt: HostRuntime) -> Result<(), Fail> {
+    let drafts = [
+        (
+            Parts {
+                graphs: 0,
+                initials: &[-1_000_000_000_001],
+                ..FIRST_PATH
+            },
+            Some(2),
         ),
         (
             Parts {
