@@ -4,7 +4,7 @@ use Rattle.std.specs.Fmt.{digits}
 use Rattle.std.specs.List.{flat_map}
 use Rattle.place_plan.specs.PlanValue.{Plan}
 use Rattle.caa_main.specs.Text.{text_of}
-use Rattle.place_plan.specs.Unfolding.{plain_graph}
+use Rattle.place_plan.proofs.worked.Words.{plain_graph}
 use Rattle.place_plan.proofs.worked.FirstPath as first_path
 use Rattle.place_plan.proofs.worked.InformedAtExit as informed_at_exit
 use Rattle.place_plan.proofs.worked.ThirdPutFails as third_put_fails

@@ -1,8 +1,8 @@
 -- What a call of the program is handed, what it leaves, and what it answers.
-use Rattle.std.specs.Prelude.{◌≡◌, ℕ, ◌+◌, ◌≤◌, ◌⊎◌, List, [], length, reverse, Option, Some, None, IsSome, IfSome}
+use Rattle.std.specs.Prelude.{◌≡◌, ℕ, ◌+◌, ◌≤◌, ◌⊎◌, List, [], length, reverse, Option, Some, None, IsSome, IfSome, All}
 use Rattle.std.specs.Io.KnownBytes.{append_known}
 use Rattle.caa_base.specs.Counts.{Rose}
-use Rattle.caa_base.specs.Reading.{emptied, TookOff}
+use Rattle.caa_base.specs.Reading.{emptied, TookOff, TookAtMost}
 use Rattle.caa_base.specs.Writing.{WrotePart}
 use Rattle.caa_base.specs.declared.entry.Entry.{Entry}
 use Rattle.place_plan.specs.declared.draft.Draft.{Draft}
@@ -11,15 +11,19 @@ use Rattle.place_plan.specs.Unfolding.{plan_of}
 use Rattle.place_plan.specs.DraftRules.{broken_rule}
 use Rattle.place_plan.specs.Journals.{IsLegal, IsComplete}
 use Rattle.place_plan.specs.Laws.{KeepsLaws}
+use Rattle.caa_main.specs.declared.command.Command.{Command}
 use Rattle.caa_main.specs.declared.command.Command.TheVariants as command
+use Rattle.caa_main.specs.declared.script.parts.Script.{Script}
+use Rattle.caa_main.specs.declared.script.graphs.UnsoundGraph.{UnsoundGraph}
 use Rattle.caa_main.specs.declared.status.Status.{Status}
 use Rattle.caa_main.specs.declared.status.Status.TheVariants as status
 use Rattle.caa_main.specs.Commands.{command_of}
 use Rattle.caa_main.specs.ScriptLines.{most_bytes}
-use Rattle.caa_main.specs.ScriptDraft.{early_draft}
+use Rattle.caa_main.specs.ScriptSaid.{early_script}
+use Rattle.caa_main.specs.ScriptGraphs.{HasSoundOrder, IsDraftOf, IsFirstUnsound}
 use Rattle.caa_main.specs.Schedule.{IsScheduled}
 use Rattle.caa_main.specs.Text.{text_of}
-use Rattle.caa_main.specs.Texts.{usage_text, source_fault_text, too_long_text, not_built_text}
+use Rattle.caa_main.specs.Texts.{usage_text, source_fault_text, too_long_text, not_built_text, ok_text, unsound_text}
 
 -- ---- what is handed in, and what is left
 
@@ -48,13 +52,20 @@ output_of held_before held_after faults_before faults_after =
 
 -- ---- a script
 
--- the bytes spell a script of early form, and it has a plan
+-- the bytes spell a script of early form whose graphs are sound; it makes this draft, which breaks no rule
 pub record HasPlan (bytes : List ℕ) (draft : Draft) : Type 0 where
-  pub spelled : early_draft bytes ≡ Some draft
+  pub script : Script
+  pub spelled : early_script bytes ≡ Some script
+  pub made : IsDraftOf script draft
   pub whole : broken_rule draft ≡ None
 
-abbrev pub HasNoPlan : List ℕ → Type 0
-HasNoPlan bytes = (draft : Draft) → HasPlan bytes draft → ⊥
+-- the bytes spell a script of early form, and this is its first graph that isn't sound
+pub record IsUnsoundScript (bytes : List ℕ) (unsound : UnsoundGraph) : Type 0 where
+  pub script : Script
+  pub spelled : early_script bytes ≡ Some script
+  pub first : IsFirstUnsound script.graphs unsound
+
+-- ---- a command
 
 -- the plan was played to its end by the schedule of the seed, and this is the text of the journal
 pub record PlayedPlan (plan : Plan) (seed : ℕ) (journal : List Entry) (text : List ℕ) : Type 0 where
@@ -67,24 +78,39 @@ pub record PlayedPlan (plan : Plan) (seed : ℕ) (journal : List Entry) (text : 
   -- printed clause
   pub printed : text ≡ text_of plan journal
 
--- the script of these bytes was played so
-pub record PlayedScript (bytes : List ℕ) (seed : ℕ) (journal : List Entry) (text : List ℕ) : Type 0 where
+-- the plan was checked and not played, and this tells its numbers
+pub record CheckedPlan (plan : Plan) (journal : List Entry) (text : List ℕ) : Type 0 where
+  pub unplayed : journal ≡ []
+  pub printed : text ≡ ok_text plan
+
+-- the command was served over the plan
+abbrev pub ServedPlan : Command → Plan → List Entry → List ℕ → Type 0
+ServedPlan command.Check plan journal text = CheckedPlan plan journal text
+ServedPlan (command.Sim seed) plan journal text = PlayedPlan plan seed journal text
+
+-- it was served over the plan of the script of these bytes
+pub record ServedScript (command : Command) (bytes : List ℕ) (journal : List Entry) (text : List ℕ) : Type 0 where
   pub draft : Draft
   pub script : HasPlan bytes draft
-  pub played : PlayedPlan (plan_of draft) seed journal text
+  pub served : ServedPlan command (plan_of draft) journal text
 
--- what playing a plan comes to: it is played, or no memory was found, before the play or after it
-abbrev pub PlanComesTo : Status → Plan → ℕ → List Entry → List ℕ → Type 0
-PlanComesTo status.Done plan seed journal text = PlayedPlan plan seed journal text
-PlanComesTo status.OutOfMemory plan seed journal text = (text ≡ []) × ((journal ≡ []) ⊎ ((written : List ℕ) × PlayedPlan plan seed journal written))
-PlanComesTo _ plan seed journal text = ⊥
+-- the script is refused: the bytes spell none of early form, or one with a graph that isn't sound
+abbrev pub RefusedScript : List ℕ → List ℕ → Type 0
+RefusedScript bytes text =
+    ((early_script bytes ≡ None) × (text ≡ not_built_text)) ⊎ ((unsound : UnsoundGraph) × (IsUnsoundScript bytes unsound × (text ≡ unsound_text unsound)))
 
--- what playing a script comes to: it is played, it is refused, or no memory was found, before the play or after it
-abbrev pub ScriptComesTo : Status → List ℕ → ℕ → List Entry → List ℕ → Type 0
-ScriptComesTo status.Done bytes seed journal text = PlayedScript bytes seed journal text
-ScriptComesTo status.Refused bytes seed journal text = HasNoPlan bytes × (journal ≡ []) × (text ≡ not_built_text)
-ScriptComesTo status.OutOfMemory bytes seed journal text = (text ≡ []) × ((journal ≡ []) ⊎ ((written : List ℕ) × PlayedScript bytes seed journal written))
-ScriptComesTo _ bytes seed journal text = ⊥
+-- what a command comes to over a plan: it is served, or no memory was found, before its play or after it
+abbrev pub PlanComesTo : Status → Command → Plan → List Entry → List ℕ → Type 0
+PlanComesTo status.Done command plan journal text = ServedPlan command plan journal text
+PlanComesTo status.OutOfMemory command plan journal text = (text ≡ []) × ((journal ≡ []) ⊎ ((written : List ℕ) × ServedPlan command plan journal written))
+PlanComesTo _ command plan journal text = ⊥
+
+-- what a command comes to over a script: it is served, the script is refused, or no memory was found, before a play or after it
+abbrev pub ScriptComesTo : Status → Command → List ℕ → List Entry → List ℕ → Type 0
+ScriptComesTo status.Done command bytes journal text = ServedScript command bytes journal text
+ScriptComesTo status.Refused command bytes journal text = RefusedScript bytes text × (journal ≡ [])
+ScriptComesTo status.OutOfMemory command bytes journal text = (text ≡ []) × ((journal ≡ []) ⊎ ((written : List ℕ) × ServedScript command bytes journal written))
+ScriptComesTo _ command bytes journal text = ⊥
 
 -- ---- what a call comes to, before its text is written
 
@@ -101,10 +127,11 @@ pub record IsUsage (input : Input) (journal : List Entry) (text : List ℕ) : Ty
   pub unplayed : journal ≡ []
   pub printed : text ≡ usage_text
 
--- a read failed
+-- a read failed, before more was read than a script may have
 pub record IsSourceFault (input : Input) (journal : List Entry) (text : List ℕ) : Type 0 where
   pub command : IsSome (command_of input.words)
   pub cause : Rose input.faults_before input.faults_after
+  pub taken : TookAtMost input.left_before input.left_after most_bytes
   pub unplayed : journal ≡ []
   pub printed : text ≡ source_fault_text
 
@@ -113,29 +140,29 @@ pub record IsTooLong (input : Input) (text : List ℕ) : Type 0 where
   pub cause : TookOff input.left_before input.left_after (most_bytes + 1)
   pub printed : text ≡ too_long_text
 
--- the bytes of the source are no script of early form that has a plan
-pub record IsNotBuilt (input : Input) (text : List ℕ) : Type 0 where
+-- the script that was read is refused
+pub record IsRefusedScript (input : Input) (text : List ℕ) : Type 0 where
   pub bytes : List ℕ
   pub read : WasRead input bytes
-  pub cause : HasNoPlan bytes
-  pub printed : text ≡ not_built_text
+  pub cause : RefusedScript bytes text
 
 pub record IsRefused (input : Input) (journal : List Entry) (text : List ℕ) : Type 0 where
   pub command : IsSome (command_of input.words)
-  pub cause : IsTooLong input text ⊎ IsNotBuilt input text
+  pub cause : IsTooLong input text ⊎ IsRefusedScript input text
   pub unplayed : journal ≡ []
 
--- the command was served: the input clause, and the play
+-- the command was served: the input clause, and what it leaves
 pub record IsDone (input : Input) (journal : List Entry) (text : List ℕ) : Type 0 where
-  pub seed : ℕ
-  pub command : command_of input.words ≡ Some (command.Sim seed)
+  pub command : Command
+  pub given : command_of input.words ≡ Some command
   pub bytes : List ℕ
   pub read : WasRead input bytes
-  pub played : PlayedScript bytes seed journal text
+  pub served : ServedScript command bytes journal text
 
--- no memory was found: nothing is to be written, and the play was made to its end or not begun
+-- no memory was found: no more was read than a script may have, nothing is to be written, and a play was made to its end or not begun
 pub record IsWanting (input : Input) (journal : List Entry) (text : List ℕ) : Type 0 where
   pub command : IsSome (command_of input.words)
+  pub taken : TookAtMost input.left_before input.left_after most_bytes
   pub unplayed : (journal ≡ []) ⊎ ((written : List ℕ) × IsDone input journal written)
   pub printed : text ≡ []
 
@@ -181,13 +208,14 @@ Answers input output status.Illegal journal = WroteAll status.Illegal input outp
 
 -- ---- completeness
 
--- the words are a seed's, the source tells the bytes of a script that has a plan, and neither count rose
+-- the words are a command's, the source tells the bytes of a script of early form whose graphs are sound, and neither count rose
 pub record IsServable (input : Input) (output : Output) : Type 0 where
-  pub seed : ℕ
-  pub command : command_of input.words ≡ Some (command.Sim seed)
+  pub command : Command
+  pub given : command_of input.words ≡ Some command
   pub bytes : List ℕ
   pub told : input.left_before ≡ Some bytes
-  pub draft : Draft
-  pub script : HasPlan bytes draft
+  pub script : Script
+  pub spelled : early_script bytes ≡ Some script
+  pub sound : All HasSoundOrder script.graphs
   pub read : Rose input.faults_before input.faults_after → ⊥
   pub written : Rose output.faults_before output.faults_after → ⊥

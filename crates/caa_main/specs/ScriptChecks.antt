@@ -10,15 +10,22 @@ use Rattle.caa_main.specs.declared.script.form.Form.{Form}
 use Rattle.caa_main.specs.declared.script.form.Form.TheVariants as form
 use Rattle.caa_main.specs.declared.script.form.Section.{Section}
 use Rattle.caa_main.specs.declared.script.form.Written.{Written}
-use Rattle.caa_main.specs.ScriptForms.{fits}
+use Rattle.caa_main.specs.declared.script.parts.DeclaredGraph.{DeclaredGraph}
+use Rattle.caa_main.specs.ScriptForms.{fits, in_action}
 
--- what the lines up to some line have said: where the reader is; the participants, objects, actions and plays;
--- and of the action that is being read its name, its objects by their numbers and its roles, where it has told them,
--- the roles that have a body by their numbers, the role whose body was begun last, and the steps of the bodies
+-- what the lines up to some line have said: how many they are, and where the reader is; the participants, objects, graphs, actions
+-- and plays; the names of all graphs; of the graph that is being read the names of its exceptions, `universal` first, and the pairs
+-- that it declares by their numbers; and of the action that is being read its name, its objects by their numbers and its roles, where
+-- it has told them, the roles that have a body by their numbers, the role whose body was begun last, and the steps of the bodies
 pub record SoFar : Type 0 where
+  pub line : ℕ
   pub section : Section
   pub participants : List (List ℕ)
   pub objects : List ObjectRow
+  pub graph_names : List (List ℕ)
+  pub graphs : List DeclaredGraph
+  pub exceptions : List (List ℕ)
+  pub pairs : List (ℕ × ℕ)
   pub actions : List ActionRow
   pub plays : List PlayRow
   pub name : Option (List ℕ)
@@ -65,6 +72,7 @@ body_length s = count_by (λ w. w.role == s.role) s.written
 
 -- it uses a name that isn't declared
 abbrev pub is_unknown : SoFar → Form → Bool
+is_unknown s (form.Cover upper lower) = not (is_among s.exceptions upper) || not (is_among s.exceptions lower)
 is_unknown s (form.Play action names) = not (is_action s.actions action) || not (list_all (is_among s.participants) names)
 is_unknown s (form.Uses names) = not (list_all (is_object s.objects) names)
 is_unknown s (form.Body role) = not (is_among (told_roles s.roles) role)
@@ -75,6 +83,8 @@ is_unknown s _ = false
 abbrev pub is_twice : SoFar → Form → Bool
 is_twice s (form.Participant name) = is_among s.participants name
 is_twice s (form.Object name value) = is_object s.objects name
+is_twice s (form.Graph name) = is_among s.graph_names name
+is_twice s (form.Exception name) = is_among s.exceptions name
 is_twice s (form.Action name) = is_action s.actions name
 is_twice s (form.Uses names) = is_some s.uses || has_twice names
 is_twice s (form.Roles names) = is_some s.roles || has_twice names
@@ -84,7 +94,7 @@ is_twice s _ = false
 -- it has fewer or more participants than the action has roles, or ends an action without roles
 abbrev pub is_unfilled : SoFar → Form → Bool
 is_unfilled s (form.Play action names) = not (length names == length (slice_index_or s.actions (action_number s.actions action) no_action).roles)
-is_unfilled s form.End = is_none s.roles
+is_unfilled s form.End = in_action s.section && is_none s.roles
 is_unfilled s _ = false
 
 -- it has a participant twice
@@ -97,10 +107,12 @@ abbrev pub is_not_held : SoFar → Form → Bool
 is_not_held s (form.ReadStep object) = not (member (object_number s.objects object) (unwrap_or s.uses []))
 is_not_held s _ = false
 
--- it passes the number of participants, objects, actions, roles or steps that is allowed
+-- it passes the number of participants, objects, graphs, exceptions, actions, roles or steps that is allowed
 abbrev pub is_past_limit : SoFar → Form → Bool
 is_past_limit s (form.Participant name) = nat_le 64 (length s.participants)
 is_past_limit s (form.Object name value) = nat_le 256 (length s.objects)
+is_past_limit s (form.Graph name) = nat_le 256 (length s.graph_names)
+is_past_limit s (form.Exception name) = nat_le 64 (length s.exceptions)
 is_past_limit s (form.Action name) = nat_le 256 (length s.actions)
 is_past_limit s (form.Roles names) = nat_lt 16 (length names)
 is_past_limit s (form.ReadStep object) = nat_le 256 (body_length s)
@@ -115,10 +127,11 @@ is_sound s line =
 
 -- ---- early form
 
--- participants stand first, then objects, then at most one action, then at most one play of it
+-- participants stand first, then objects, then graphs, then at most one action, then at most one play of it
 abbrev pub is_in_order : SoFar → Form → Bool
-is_in_order s (form.Participant name) = is_empty s.objects && is_empty s.actions
-is_in_order s (form.Object name value) = is_empty s.actions
+is_in_order s (form.Participant name) = is_empty s.objects && (is_empty s.graph_names && is_empty s.actions)
+is_in_order s (form.Object name value) = is_empty s.graph_names && is_empty s.actions
+is_in_order s (form.Graph name) = is_empty s.actions
 is_in_order s (form.Action name) = is_empty s.actions
 is_in_order s (form.Play action names) = is_empty s.plays
 is_in_order s _ = true

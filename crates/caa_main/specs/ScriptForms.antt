@@ -34,6 +34,11 @@ abbrev pub object_form : List (List ℕ) → Option Form
 object_form [] = None
 object_form (word ∷ more) = if is_name word then option_map (form.Object word) (only_value more) else None
 
+-- just two names
+abbrev pub cover_form : List (List ℕ) → Option Form
+cover_form [] = None
+cover_form (word ∷ more) = if is_name word then option_map (form.Cover word) (only_name more) else None
+
 -- the name of an action, and those of participants
 abbrev pub play_form : List (List ℕ) → Option Form
 play_form [] = None
@@ -54,6 +59,9 @@ end_form (word ∷ more) = None
 abbrev pub form_by : Keyword → List (List ℕ) → Option Form
 form_by keyword.Participant words = option_map form.Participant (only_name words)
 form_by keyword.Object words = object_form words
+form_by keyword.Graph words = option_map form.Graph (only_name words)
+form_by keyword.Exception words = option_map form.Exception (only_name words)
+form_by keyword.Cover words = cover_form words
 form_by keyword.Action words = option_map form.Action (only_name words)
 form_by keyword.Play words = play_form words
 form_by keyword.Use words = option_map form.Uses (some_names words)
@@ -82,30 +90,45 @@ abbrev pub at_top : Section → Bool
 at_top section.Top = true
 at_top _ = false
 
+abbrev pub in_graph : Section → Bool
+in_graph section.Graph = true
+in_graph _ = false
+
+-- in an action, be it in a body or not
+abbrev pub in_action : Section → Bool
+in_action section.Action = true
+in_action section.Body = true
+in_action _ = false
+
 abbrev pub in_body : Section → Bool
 in_body section.Body = true
 in_body _ = false
 
 -- how many actions are begun and not ended
 abbrev pub begun : Section → ℕ
-begun section.Top = 0
-begun _ = 1
+begun section.Action = 1
+begun section.Body = 1
+begun _ = 0
 
 -- the line may stand where the reader is
 abbrev pub fits : Section → Form → Bool
 fits s (form.Participant n) = at_top s
 fits s (form.Object n v) = at_top s
+fits s (form.Graph n) = at_top s
+fits s (form.Exception n) = in_graph s
+fits s (form.Cover n m) = in_graph s
 fits s (form.Action n) = at_top s
 fits s (form.Play n names) = at_top s
-fits s (form.Uses names) = not (at_top s)
-fits s (form.Roles names) = not (at_top s)
-fits s (form.Body n) = not (at_top s)
+fits s (form.Uses names) = in_action s
+fits s (form.Roles names) = in_action s
+fits s (form.Body n) = in_action s
 fits s (form.ReadStep n) = in_body s
 fits s (form.WorkStep k) = in_body s
 fits s form.End = not (at_top s)
 
 -- where the reader is after the line
 abbrev pub goes_to : Section → Form → Section
+goes_to s (form.Graph n) = section.Graph
 goes_to s (form.Action n) = section.Action
 goes_to s (form.Uses names) = section.Action
 goes_to s (form.Roles names) = section.Action

@@ -67,6 +67,9 @@ abbrev pub keyword_of : List ℕ → Option Keyword
 keyword_of word =
     if bytes_eq word (codes "participant") then Some keyword.Participant
     else (if bytes_eq word (codes "object") then Some keyword.Object
+    else (if bytes_eq word (codes "graph") then Some keyword.Graph
+    else (if bytes_eq word (codes "exception") then Some keyword.Exception
+    else (if bytes_eq word (codes "cover") then Some keyword.Cover
     else (if bytes_eq word (codes "action") then Some keyword.Action
     else (if bytes_eq word (codes "play") then Some keyword.Play
     else (if bytes_eq word (codes "use") then Some keyword.Use
@@ -74,4 +77,4 @@ keyword_of word =
     else (if bytes_eq word (codes "body") then Some keyword.Body
     else (if bytes_eq word (codes "read") then Some keyword.Read
     else (if bytes_eq word (codes "work") then Some keyword.Work
-    else (if bytes_eq word (codes "end") then Some keyword.End else None)))))))))
+    else (if bytes_eq word (codes "end") then Some keyword.End else None))))))))))))

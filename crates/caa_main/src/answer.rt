@@ -6,7 +6,7 @@ use crate::status::Status;
 use caa_base::journal::Journal;
 use std::alloc::Global;
 
-/// The text of an answer: one that is always the same, or that of a journal.
+/// The text of an answer: one that is always the same, or one that was written for it.
 #[derive(Drop)]
 pub enum Text {
     Fixed(&'static [u8]),
@@ -34,16 +34,16 @@ impl Text {
 }
 
 impl<P> Coming<P> {
-    /// Nothing was played, and the text is one that is always the same.
-    fn unplayed(alloc: Global, status: Status, text: &'static [u8], plant: P) -> Self
+    /// Nothing was played.
+    pub fn unplayed(alloc: Global, status: Status, text: Text, plant: P) -> Self
         ensures status { result.status ≡ status }
-        ensures text { text_bytes result.text ≡ text.now }
+        ensures text { text_bytes result.text ≡ text_bytes text }
         ensures plant { result.plant ≡ plant }
         ensures journal { result.journal.entries ≡ [] }
     {
         Coming {
             status,
-            text: Text::Fixed(text),
+            text,
             plant,
             journal: Journal::empty(alloc),
         }
@@ -56,7 +56,7 @@ impl<P> Coming<P> {
         ensures plant { result.plant ≡ plant }
         ensures journal { result.journal.entries ≡ [] }
     {
-        let text = b"usage: check | sim SEED | run | audit | cell N\n";
+        let text = Text::Fixed(b"usage: check | sim SEED | run | audit | cell N\n");
         Coming::unplayed(alloc, Status::Usage, text, plant)
     }
 
@@ -67,7 +67,8 @@ impl<P> Coming<P> {
         ensures plant { result.plant ≡ plant }
         ensures journal { result.journal.entries ≡ [] }
     {
-        Coming::unplayed(alloc, Status::SourceFault, b"fault source\n", plant)
+        let text = Text::Fixed(b"fault source\n");
+        Coming::unplayed(alloc, Status::SourceFault, text, plant)
     }
 
     /// The input has more bytes than a script may have.
@@ -77,17 +78,19 @@ impl<P> Coming<P> {
         ensures plant { result.plant ≡ plant }
         ensures journal { result.journal.entries ≡ [] }
     {
-        Coming::unplayed(alloc, Status::Refused, b"refused 0 4 too-long\n", plant)
+        let text = Text::Fixed(b"refused 0 4 too-long\n");
+        Coming::unplayed(alloc, Status::Refused, text, plant)
     }
 
-    /// The input is no script of early form that has a plan.
+    /// The input is no script of early form.
     pub fn not_built(alloc: Global, plant: P) -> Self
         ensures status { result.status ≡ status.Refused }
         ensures text { text_bytes result.text ≡ not_built_text }
         ensures plant { result.plant ≡ plant }
         ensures journal { result.journal.entries ≡ [] }
     {
-        Coming::unplayed(alloc, Status::Refused, b"refused 0 9 not-built\n", plant)
+        let text = Text::Fixed(b"refused 0 9 not-built\n");
+        Coming::unplayed(alloc, Status::Refused, text, plant)
     }
 
     /// No memory was found, and nothing was played.
@@ -97,6 +100,6 @@ impl<P> Coming<P> {
         ensures plant { result.plant ≡ plant }
         ensures journal { result.journal.entries ≡ [] }
     {
-        Coming::unplayed(alloc, Status::OutOfMemory, b"", plant)
+        Coming::unplayed(alloc, Status::OutOfMemory, Text::Fixed(b""), plant)
     }
 }

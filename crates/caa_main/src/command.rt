@@ -1,5 +1,5 @@
-ghost use Rattle.std.specs.Prelude.{◌≡◌, map, string_bytes};
-ghost use Rattle.caa_main.specs.Commands.{command_of, seed_of};
+ghost use Rattle.std.specs.Prelude.{◌≡◌, map, string_bytes, IfSome};
+ghost use Rattle.caa_main.specs.Commands.{command_of, sim_of, seed_of, HasSeed};
 
 use crate::script::word::natural_of;
 
@@ -9,6 +9,8 @@ const MOST_SEED: u64 = 2_147_483_647;
 /// A command line that is served.
 #[derive(Clone, Copy, Debug, PartialEq, Eq)]
 pub enum Command {
+    /// Checks a script, and tells the numbers of its plan.
+    Check,
     /// Plays a script by the schedule of this seed, which is below 2^31.
     Sim(u32),
 }
@@ -21,15 +23,31 @@ fn seed_of(word: &[u8]) -> Option<u32>
     Some(seed as u32)
 }
 
-/// The command of these words, where they are those of a command that is built.
-pub fn command_of(words: &[String]) -> Option<Command>
-    ensures { result ≡ command_of (map string_bytes words.now) }
+/// The command `sim` with these words after it.
+fn sim_of(words: &[String]) -> Option<Command>
+    ensures { result ≡ sim_of (map string_bytes words.now) }
 {
-    let [word, seed] = words else {
+    let [seed] = words else {
         return None;
     };
-    if word.as_str() != "sim" {
-        return None;
-    }
     Some(Command::Sim(seed_of(seed.as_bytes())?))
+}
+
+/// The command of these words, where they are those of a command that is built.
+pub fn command_of(words: &[String]) -> Option<Command>
+    ensures command { result ≡ command_of (map string_bytes words.now) }
+    ensures seed { IfSome result HasSeed }
+{
+    let (word, more) = words.split_first()?;
+    if word.as_str() == "check" {
+        if more.is_empty() {
+            Some(Command::Check)
+        } else {
+            None
+        }
+    } else if word.as_str() == "sim" {
+        sim_of(more)
+    } else {
+        None
+    }
 }

@@ -1,8 +1,9 @@
-//! The program `caa`: it plays scripts of coordinated atomic actions and prints their journals.
+//! The program `caa`: it checks and plays scripts of coordinated atomic actions, and prints their journals.
 #![tactic(auto)]
 
 mod answer;
 mod command;
+mod report;
 mod schedule;
 mod script;
 mod status;

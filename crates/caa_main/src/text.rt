@@ -157,7 +157,7 @@ fn push_ending(
 }
 
 /// Adds the end of a line.
-fn push_end(text: &mut Vec<u8>) -> io::Result<()>
+pub fn push_end(text: &mut Vec<u8>) -> io::Result<()>
     ensures { OnOk result (text.new.items ≡ text.old.items ++ 10 ∷ []) }
 {
     text.push(b'\n')?;
@@ -165,7 +165,7 @@ fn push_end(text: &mut Vec<u8>) -> io::Result<()>
 }
 
 /// Adds a space and a word.
-fn push_word(text: &mut Vec<u8>, word: &[u8]) -> io::Result<()>
+pub fn push_word(text: &mut Vec<u8>, word: &[u8]) -> io::Result<()>
     ensures { OnOk result (text.new.items ≡ text.old.items ++ 32 ∷ word.now) }
 {
     text.push(b' ')?;

@@ -9,6 +9,12 @@ pub enum Form {
     Participant(Name),
     /// An object of this name, and its initial value.
     Object(Name, i64),
+    /// A graph of this name begins.
+    Graph(Name),
+    /// The graph has this exception.
+    Exception(Name),
+    /// In the graph the first exception covers the second.
+    Cover(Name, Name),
     /// An action of this name begins.
     Action(Name),
     /// The action of the first name is played by the participants of the others.
@@ -23,7 +29,7 @@ pub enum Form {
     ReadStep(Name),
     /// The role mixes its register for so many rounds.
     WorkStep(u32),
-    /// The action ends.
+    /// The graph or the action ends.
     End,
 }
 
@@ -37,8 +43,10 @@ pub struct Written {
 /// Where the reader of a script is.
 #[derive(Clone, Copy, PartialEq, Eq)]
 pub enum Section {
-    /// Outside all actions.
+    /// Outside all graphs and actions.
     Top,
+    /// In a graph.
+    Graph,
     /// In an action, outside its bodies.
     Action,
     /// In the body of a role.

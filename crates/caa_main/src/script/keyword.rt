@@ -6,6 +6,9 @@ ghost use Rattle.caa_main.specs.ScriptText.{keyword_of};
 pub enum Keyword {
     Participant,
     Object,
+    Graph,
+    Exception,
+    Cover,
     Action,
     Play,
     Use,
@@ -24,6 +27,12 @@ pub fn keyword_of(word: &[u8]) -> Option<Keyword>
         Some(Keyword::Participant)
     } else if word == b"object".as_slice() {
         Some(Keyword::Object)
+    } else if word == b"graph".as_slice() {
+        Some(Keyword::Graph)
+    } else if word == b"exception".as_slice() {
+        Some(Keyword::Exception)
+    } else if word == b"cover".as_slice() {
+        Some(Keyword::Cover)
     } else if word == b"action".as_slice() {
         Some(Keyword::Action)
     } else if word == b"play".as_slice() {

@@ -3,7 +3,7 @@ ghost use Rattle.place_plan.specs.Words.{is_empty};
 ghost use Rattle.std.specs.List.{slice_split, list_all};
 ghost use Rattle.caa_main.specs.ScriptLines.{is_tidy, words_of};
 ghost use Rattle.caa_main.specs.ScriptText.{is_name};
-ghost use Rattle.caa_main.specs.ScriptForms.{only_name, some_names, only_value, object_form, play_form, only_rounds, end_form, form_by, form_of_words, tidy_form_of};
+ghost use Rattle.caa_main.specs.ScriptForms.{only_name, some_names, only_value, object_form, cover_form, play_form, only_rounds, end_form, form_by, form_of_words, tidy_form_of};
 
 use crate::script::early::EarlyError;
 use crate::script::form::Form;
@@ -120,6 +120,21 @@ fn object_form(alloc: Global, words: &[&[u8]]) -> Result<Form, EarlyError>
     Ok(Form::Object(Name::from_bytes(alloc, word)?, value))
 }
 
+/// A cover line, by the words after the first.
+fn cover_form(alloc: Global, words: &[&[u8]]) -> Result<Form, EarlyError>
+    ensures found { IfOk result (λ form. cover_form (map (λ w. w.now) words.now) ≡ Some form) }
+    ensures refused { IfErr result (λ e. e ≡ EarlyError.NotBuilt → cover_form (map (λ w. w.now) words.now) ≡ None) }
+{
+    let Some((word, more)) = words.split_first() else {
+        return Err(EarlyError::NotBuilt);
+    };
+    if !is_name(word) {
+        return Err(EarlyError::NotBuilt);
+    }
+    let lower = only_name(alloc, more)?;
+    Ok(Form::Cover(Name::from_bytes(alloc, word)?, lower))
+}
+
 /// A play line, by the words after the first.
 fn play_form(alloc: Global, words: &[&[u8]]) -> Result<Form, EarlyError>
     ensures found { IfOk result (λ form. play_form (map (λ w. w.now) words.now) ≡ Some form) }
@@ -176,6 +191,9 @@ fn form_by(alloc: Global, keyword: Keyword, words: &[&[u8]]) -> Result<Form, Ear
     match keyword {
         Keyword::Participant => Ok(Form::Participant(only_name(alloc, words)?)),
         Keyword::Object => object_form(alloc, words),
+        Keyword::Graph => Ok(Form::Graph(only_name(alloc, words)?)),
+        Keyword::Exception => Ok(Form::Exception(only_name(alloc, words)?)),
+        Keyword::Cover => cover_form(alloc, words),
         Keyword::Action => Ok(Form::Action(only_name(alloc, words)?)),
         Keyword::Play => play_form(alloc, words),
         Keyword::Use => Ok(Form::Uses(some_names(alloc, words)?)),

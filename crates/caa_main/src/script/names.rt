@@ -1,7 +1,7 @@
-ghost use Rattle.std.specs.Prelude.{◌≡◌, ◌<◌, ◌≤◌, ◌^◌, ◌==◌, length, count_by, map, position, bytes_eq, IfSome, IfOk, IfErr};
+ghost use Rattle.std.specs.Prelude.{◌≡◌, ◌<◌, ◌^◌, ◌==◌, length, count_by, map, position, bytes_eq, IfSome, IfOk, IfErr};
 ghost use Rattle.std.specs.List.{list_all};
 ghost use Rattle.caa_main.specs.ScriptChecks.{is_among, number_of, has_twice, is_object, object_number, is_action, action_number};
-ghost use Rattle.caa_main.specs.ScriptDraft.{named_from, steps_of, role_row, role_rows, plain_action};
+ghost use Rattle.caa_main.specs.ScriptSaid.{named_from, steps_of, role_row, role_rows, plain_action};
 
 use crate::script::early::EarlyError;
 use crate::script::form::Written;

@@ -10,7 +10,7 @@ use caa_base::name::Name;
 use caa_base::rows::Rows;
 use place_plan::draft::Draft;
 use place_plan::plan::Plan;
-use place_plan::rows::{AbortRow, ActionRow, ObjectRow, PlayRow, Program, RoleRow, Step};
+use place_plan::rows::{AbortRow, ActionRow, GraphRow, ObjectRow, PlayRow, Program, RoleRow, Step};
 use place_plan::well_formed::is_well_formed;
 use std::alloc::Global;
 use std::process::Abort;
@@ -113,6 +113,7 @@ fn look(alloc: Global) -> Result<Draft, Fail>
     Ok(Draft {
         participants: two(alloc, ann, bob)?,
         objects: object_x(alloc)?,
+        graphs: one(alloc, GraphRow::plain(alloc)?)?,
         actions,
         plays: one(alloc, play)?,
         drills: none(alloc),
@@ -127,6 +128,7 @@ fn nothing(alloc: Global) -> Result<Draft, Fail>
     Ok(Draft {
         participants: none(alloc),
         objects: object_x(alloc)?,
+        graphs: one(alloc, GraphRow::plain(alloc)?)?,
         actions: none(alloc),
         plays: none(alloc),
         drills: none(alloc),

@@ -7,6 +7,10 @@ use std::test::Fail;
 const FIRST_PATH: &[u8] =
     b"participant ann\nparticipant bob\nobject x 5\naction look\nuse x\nroles a b\nbody a\nread x\nbody b\nwork 2\nend\nplay look ann bob\n";
 
+/// The same, with a graph that nothing uses.
+const FIRST_PATH_WITH_GRAPH: &[u8] =
+    b"participant ann\nparticipant bob\nobject x 5\ngraph g\nexception mid\nexception left\ncover mid left\nend\naction look\nuse x\nroles a b\nbody a\nread x\nbody b\nwork 2\nend\nplay look ann bob\n";
+
 const FIRST_PATH_TEXT: &[u8] =
     b"journal\narrive 0 ann\narrive 0 bob\nstart 0 bob\nwork 0 bob 2 1406932606\nverdict 0 bob done\nread 0 ann x 5\nverdict 0 ann done\nend 0 bob commit\nleave 0 ann\nleave 0 bob\nobject x 5\noutcome 0 look commit\n";
 
@@ -81,6 +85,11 @@ fn plays_scripts(rt: HostRuntime) -> Result<(), Fail> {
     assert_eq!(rt; text.as_slice(), FIRST_PATH_TEXT);
     assert_eq!(rt; entries, 10);
 
+    let (status, text, entries) = call(rt.alloc(), &["sim", "1"], FIRST_PATH_WITH_GRAPH)?;
+    assert_eq!(rt; status, Status::Done);
+    assert_eq!(rt; text.as_slice(), FIRST_PATH_TEXT);
+    assert_eq!(rt; entries, 10);
+
     let (status, text, entries) = call(rt.alloc(), &["sim", "1"], b"object x 5\n")?;
     assert_eq!(rt; status, Status::Done);
     assert_eq!(rt; text.as_slice(), b"journal\nobject x 5\n".as_slice());
@@ -96,7 +105,7 @@ fn other_words_are_usage(rt: HostRuntime) -> Result<(), Fail> {
         &["sim", "01"],
         &["sim", "2147483648"],
         &["sim", "1", "1"],
-        &["check"],
+        &["check", "1"],
         &["--help"],
         &["Sim", "1"],
     ];
@@ -112,7 +121,7 @@ fn other_words_are_usage(rt: HostRuntime) -> Result<(), Fail> {
 #[test]
 fn other_scripts_are_refused(rt: HostRuntime) -> Result<(), Fail> {
     let cases: [&[u8]; 6] = [
-        b"graph g\nend\n",
+        b"graph g\nexception universal\nend\n",
         b"participant 9a\n",
         b"object x 1000000000001\n",
         b"object x 05\n",
@@ -129,6 +138,59 @@ fn other_scripts_are_refused(rt: HostRuntime) -> Result<(), Fail> {
     let (status, text, _) = call(rt.alloc(), &["sim", "1"], long.as_slice())?;
     assert_eq!(rt; status, Status::Refused);
     assert_eq!(rt; text.as_slice(), b"refused 0 4 too-long\n".as_slice());
+    Ok(())
+}
+
+#[test]
+fn checks_scripts(rt: HostRuntime) -> Result<(), Fail> {
+    let cases: [(&[u8], &[u8]); 3] = [
+        (
+            FIRST_PATH,
+            b"ok participants 2 objects 1 places 1 bound 23\n",
+        ),
+        (
+            b"participant ann\ngraph g\nexception mid\nexception left\ncover mid left\nend\n",
+            b"ok participants 1 objects 0 places 0 bound 0\n",
+        ),
+        (b"", b"ok participants 0 objects 0 places 0 bound 0\n"),
+    ];
+    for (script, line) in cases {
+        let (status, text, entries) = call(rt.alloc(), &["check"], script)?;
+        assert_eq!(rt; status, Status::Done);
+        assert_eq!(rt; text.as_slice(), line);
+        assert_eq!(rt; entries, 0);
+    }
+    Ok(())
+}
+
+#[test]
+fn unsound_graphs_are_refused_at_their_end(rt: HostRuntime) -> Result<(), Fail> {
+    let cases: [(&[u8], &[u8]); 4] = [
+        (
+            b"graph g\nexception c\nexception d\nexception a\nexception b\ncover c a\ncover c b\ncover d a\ncover d b\nend\n",
+            b"refused 10 13 no-least a b\n",
+        ),
+        (
+            b"graph g\nexception a\nexception b\nexception c\ncover a b\ncover b c\ncover c a\nend\n",
+            b"refused 8 12 cycle a\n",
+        ),
+        (
+            b"graph f\nexception a\nend\ngraph g\nexception a\ncover a universal\nend\ngraph h\nexception b\ncover b universal\nend\n",
+            b"refused 7 12 cycle universal\n",
+        ),
+        (
+            b"graph g\nexception a\ncover a universal\nend\nobject x 5\n",
+            b"refused 0 9 not-built\n",
+        ),
+    ];
+    for (script, line) in cases {
+        for words in [["check"].as_slice(), ["sim", "1"].as_slice()] {
+            let (status, text, entries) = call(rt.alloc(), words, script)?;
+            assert_eq!(rt; status, Status::Refused);
+            assert_eq!(rt; text.as_slice(), line);
+            assert_eq!(rt; entries, 0);
+        }
+    }
     Ok(())
 }
 

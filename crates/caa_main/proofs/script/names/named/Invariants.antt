@@ -1,5 +1,5 @@
 use Rattle.std.proofs.Common.{◌≡◌, ◌++◌, drop}
-use Rattle.caa_main.specs.ScriptDraft.{named_from}
+use Rattle.caa_main.specs.ScriptSaid.{named_from}
 use Rattle.caa_main.proofs.script.names.named.Given as goal
 
 abbrev pub invariant-loop-number : goal.invariant-loop-number

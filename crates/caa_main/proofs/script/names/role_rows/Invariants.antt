@@ -1,5 +1,5 @@
 use Rattle.std.proofs.Common.{◌≡◌, ◌++◌, drop}
-use Rattle.caa_main.specs.ScriptDraft.{role_rows}
+use Rattle.caa_main.specs.ScriptSaid.{role_rows}
 use Rattle.caa_main.proofs.script.names.role_rows.Given as goal
 
 abbrev pub invariant-loop-number : goal.invariant-loop-number

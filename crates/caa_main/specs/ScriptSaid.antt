@@ -1,7 +1,6 @@
--- The draft of a script: what its lines say, looking back over them, the newest first.
-use Rattle.std.specs.Prelude.{ℕ, ◌+◌, ◌==◌, nat_le, if◌then◌else◌, ◌&&◌, List, [], ◌∷◌, ◌++◌, map, filter, length, Option, Some, None, option_and_then, unwrap_or}
+-- What the lines of a script declare, looking back over them, the newest first.
+use Rattle.std.specs.Prelude.{ℕ, ◌+◌, ◌==◌, nat_le, if◌then◌else◌, ◌&&◌, List, [], ◌∷◌, ◌++◌, map, filter, length, Option, Some, None, option_and_then, unwrap_or, codes}
 use Rattle.caa_base.specs.declared.entry.Verdict.TheVariants as verdict
-use Rattle.place_plan.specs.declared.draft.Draft.{Draft}
 use Rattle.place_plan.specs.declared.rows.ObjectRow.{ObjectRow}
 use Rattle.place_plan.specs.declared.rows.ActionRow.{ActionRow}
 use Rattle.place_plan.specs.declared.rows.RoleRow.{RoleRow}
@@ -14,11 +13,13 @@ use Rattle.caa_main.specs.declared.script.form.Form.TheVariants as form
 use Rattle.caa_main.specs.declared.script.form.Section.{Section}
 use Rattle.caa_main.specs.declared.script.form.Section.TheVariants as section
 use Rattle.caa_main.specs.declared.script.form.Written.{Written}
+use Rattle.caa_main.specs.declared.script.parts.DeclaredGraph.{DeclaredGraph}
+use Rattle.caa_main.specs.declared.script.parts.Script.{Script}
 use Rattle.caa_main.specs.ScriptLines.{lines_of, is_closed, most_bytes}
-use Rattle.caa_main.specs.ScriptForms.{tidy_form_of, at_top, goes_to}
+use Rattle.caa_main.specs.ScriptForms.{tidy_form_of, at_top, in_graph, in_action, goes_to}
 use Rattle.caa_main.specs.ScriptChecks.{SoFar, number_of, object_number, action_number, is_among, told_roles, may_come}
 
--- ---- the lines outside actions
+-- ---- the lines outside graphs and actions
 
 -- where the reader is
 abbrev pub section_of : List Form → Section
@@ -34,6 +35,30 @@ abbrev pub objects_of : List Form → List ObjectRow
 objects_of [] = []
 objects_of (form.Object name value ∷ before) = objects_of before ++ record { name = name; initial = value } ∷ []
 objects_of (_ ∷ before) = objects_of before
+
+-- the names of all graphs
+abbrev pub graph_names_of : List Form → List (List ℕ)
+graph_names_of [] = []
+graph_names_of (form.Graph name ∷ before) = graph_names_of before ++ name ∷ []
+graph_names_of (_ ∷ before) = graph_names_of before
+
+-- ---- the graph that is being read
+
+-- the names of its exceptions: `universal`, and the declared ones in order
+abbrev pub exceptions_of : List Form → List (List ℕ)
+exceptions_of [] = []
+exceptions_of (form.Graph name ∷ before) = codes "universal" ∷ []
+exceptions_of (form.Exception name ∷ before) = exceptions_of before ++ name ∷ []
+exceptions_of (form.End ∷ before) = []
+exceptions_of (_ ∷ before) = exceptions_of before
+
+-- the numbers of the exceptions that it declares, one over the other
+abbrev pub pairs_of : List Form → List (ℕ × ℕ)
+pairs_of [] = []
+pairs_of (form.Cover upper lower ∷ before) = pairs_of before ++ (number_of (exceptions_of before) upper, number_of (exceptions_of before) lower) ∷ []
+pairs_of (form.Graph name ∷ before) = []
+pairs_of (form.End ∷ before) = []
+pairs_of (_ ∷ before) = pairs_of before
 
 -- ---- the action that is being read
 
@@ -88,7 +113,15 @@ written_of (form.Action name ∷ before) = []
 written_of (form.End ∷ before) = []
 written_of (_ ∷ before) = written_of before
 
--- ---- actions and plays
+-- ---- graphs, actions and plays
+
+-- the graphs that have ended, each with the number of the line that ends it
+abbrev pub graphs_of : List Form → List DeclaredGraph
+graphs_of [] = []
+graphs_of (form.End ∷ before) =
+    if in_graph (section_of before) then graphs_of before ++ record { names = exceptions_of before; pairs = pairs_of before; line = length before + 1 } ∷ []
+    else graphs_of before
+graphs_of (_ ∷ before) = graphs_of before
 
 -- the steps of the role of this number
 abbrev pub steps_of : ℕ → List Written → List Step
@@ -113,7 +146,9 @@ action_row name objects roles written = plain_action name objects (role_rows 0 r
 
 abbrev pub actions_of : List Form → List ActionRow
 actions_of [] = []
-actions_of (form.End ∷ before) = actions_of before ++ action_row (unwrap_or (name_of before) []) (unwrap_or (uses_of before) []) (told_roles (roles_of before)) (written_of before) ∷ []
+actions_of (form.End ∷ before) =
+    if in_action (section_of before) then actions_of before ++ action_row (unwrap_or (name_of before) []) (unwrap_or (uses_of before) []) (told_roles (roles_of before)) (written_of before) ∷ []
+    else actions_of before
 actions_of (_ ∷ before) = actions_of before
 
 abbrev pub plays_of : List Form → List PlayRow
@@ -126,9 +161,14 @@ plays_of (_ ∷ before) = plays_of before
 -- what these lines say
 abbrev pub so_far : List Form → SoFar
 so_far before = record {
+  line = length before;
   section = section_of before;
   participants = participants_of before;
   objects = objects_of before;
+  graph_names = graph_names_of before;
+  graphs = graphs_of before;
+  exceptions = exceptions_of before;
+  pairs = pairs_of before;
   actions = actions_of before;
   plays = plays_of before;
   name = name_of before;
@@ -144,14 +184,14 @@ abbrev pub read_after : List Form → List (List ℕ) → Option (List Form)
 read_after before [] = Some before
 read_after before (line ∷ lines) = option_and_then (λ said. if may_come (so_far before) said then read_after (said ∷ before) lines else None) (tidy_form_of line)
 
--- the draft of these lines, where the last of them ends outside all actions
-abbrev pub draft_of : List Form → Option Draft
-draft_of lines =
-    if at_top (section_of lines) then Some (record { participants = participants_of lines; objects = objects_of lines; actions = actions_of lines; plays = plays_of lines; drills = []; watches = [] })
+-- the script of these lines, where the last of them ends outside all graphs and actions
+abbrev pub script_of : List Form → Option Script
+script_of lines =
+    if at_top (section_of lines) then Some (record { participants = participants_of lines; objects = objects_of lines; graphs = graphs_of lines; actions = actions_of lines; plays = plays_of lines })
     else None
 
--- the draft of a script, where it has early form
-abbrev pub early_draft : List ℕ → Option Draft
-early_draft bytes =
-    if nat_le (length bytes) most_bytes && is_closed bytes then option_and_then draft_of (read_after [] (lines_of bytes))
+-- the script that these bytes spell in early form, whether its graphs are sound or not
+abbrev pub early_script : List ℕ → Option Script
+early_script bytes =
+    if nat_le (length bytes) most_bytes && is_closed bytes then option_and_then script_of (read_after [] (lines_of bytes))
     else None
