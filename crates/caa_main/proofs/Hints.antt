@@ -3,7 +3,7 @@ use Rattle.std.proofs.Common.{◌≡◌, ℕ, ℤ, List, refl, reverse, sym, ap,
 use Rattle.caa_base.specs.Mixing.{Worked}
 use Rattle.caa_base.specs.declared.entry.Entry.{Entry}
 use Rattle.place_plan.specs.PlanValue.{Plan}
-use Rattle.place_plan.specs.Roles.{over, register}
+use Rattle.place_plan.specs.Roles.{is_over, register}
 use Rattle.place_plan.specs.Rules.{MayFollow}
 use Rattle.place_plan.specs.Due.{DueIsRight}
 use Rattle.place_plan.specs.Machine.{Answers, work_entry}
@@ -32,7 +32,7 @@ work_then_did plan old mid new t p k from work (answer.Did e) law first rounds s
 work_then_did plan old mid new t p k from work answer.NotYet law first rounds start second refused =
     second.0.silent (work_entry p t k from) refl (subst (λ j. MayFollow plan (reverse j) (work_entry p t k from)) (sym first.kept) first.may)
 work_then_did plan old mid new t p k from work answer.Over law first rounds start second refused =
-    law.over_silent t (subst (λ j. over plan (reverse j) t ≡ true) first.kept second.1) (work_entry p t k from) refl first.may
+    law.over_silent t (subst (λ j. is_over plan (reverse j) t ≡ true) first.kept second.1) (work_entry p t k from) refl first.may
 work_then_did plan old mid new t p k from work (answer.Work q j begin) law first rounds start second refused =
     let same = same_work plan (reverse old) t p q k j from begin law first.may (subst (λ a. MayFollow plan (reverse a) (work_entry q t j begin)) first.kept second.may) in
-    second.unfit (rounds ∙ same.1, start ∙ first.start ∙ ap (λ a. register plan a t (reverse old)) same.0 ∙ ap (λ a. register plan q t (reverse a)) (sym first.kept) ∙ sym second.start)
+    second.unfit (rounds ∙ same.1, start ∙ first.start ∙ ap (λ a. register plan (reverse old) a t) same.0 ∙ ap (λ a. register plan (reverse a) q t) (sym first.kept) ∙ sym second.start)

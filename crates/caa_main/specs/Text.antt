@@ -137,7 +137,7 @@ entry_line plan e = line (kind_word e.kind) (decimal e.place ∷ participant_nam
 
 -- the line of an object, with its value
 abbrev pub object_line : Plan → List Entry → ℕ → List ℕ
-object_line plan past o = line (codes "object") (object_words plan o (value_of plan o past))
+object_line plan past o = line (codes "object") (object_words plan o (value_of plan past o))
 
 -- the outcome that the last End of p says
 abbrev pub last_outcome : List Entry → ℕ → Option Outcome

@@ -7,10 +7,10 @@ use Rattle.place_plan.specs.declared.rows.Step.TheVariants as step
 use Rattle.place_plan.specs.PlanValue.{Plan}
 use Rattle.place_plan.specs.Words.{member, index_of}
 use Rattle.place_plan.specs.Places.{roles_of, body_of, role_at, role_row, role_of, no_role}
-use Rattle.place_plan.specs.Whereabouts.{inside, started, ended}
-use Rattle.place_plan.specs.Raising.{handling}
+use Rattle.place_plan.specs.Whereabouts.{inside, has_started, has_ended}
+use Rattle.place_plan.specs.Raising.{exception_handled}
 use Rattle.place_plan.specs.Objects.{value_of}
-use Rattle.place_plan.specs.Roles.{next_step, position, given}
+use Rattle.place_plan.specs.Roles.{next_step, position, has_given}
 use Rattle.place_plan.specs.Journals.{LegalPast}
 use Rattle.place_plan.specs.WellFormed.{AllWellFormed, IsWellFormed}
 use Rattle.place_plan.specs.Laws.{Holds}
@@ -26,17 +26,17 @@ role_of_number plan p t role h = by_player (member t (roles_of plan p)) h
 
 module _ (plan : Plan) (past : List Entry) where
   -- who handles nothing goes through its body
-  pub next_in_body : (p t : ℕ) → handling p t past ≡ None → next_step plan p t past ≡ slice_get (body_of plan p t).steps (position plan p t past)
+  pub next_in_body : (p t : ℕ) → exception_handled past p t ≡ None → next_step plan past p t ≡ slice_get (body_of plan p t).steps (position plan past p t)
   next_in_body p t h = rw h refl
 
   -- who has no role has no step
-  pub next_of_none : (p t : ℕ) → handling p t past ≡ None → role_row plan p t ≡ no_role → next_step plan p t past ≡ None
-  next_of_none p t h k = next_in_body p t h ∙ ap (λ row. slice_get row.body.steps (position plan p t past)) k
+  pub next_of_none : (p t : ℕ) → exception_handled past p t ≡ None → role_row plan p t ≡ no_role → next_step plan past p t ≡ None
+  next_of_none p t h k = next_in_body p t h ∙ ap (λ row. slice_get row.body.steps (position plan past p t)) k
 
   -- what is read next is an object of the plan
-  pub read_known : LegalPast plan past → DueIsRight plan past → Holds AllWellFormed plan → (p t o : ℕ) → inside plan t past ≡ Some p → ended p past ≡ false → started p past ≡ true → given plan p past t ≡ false → next_step plan p t past ≡ Some (step.Read o) → o < length plan.objects
+  pub read_known : LegalPast plan past → DueIsRight plan past → Holds AllWellFormed plan → (p t o : ℕ) → inside plan past t ≡ Some p → has_ended past p ≡ false → has_started past p ≡ true → has_given plan past p t ≡ false → next_step plan past p t ≡ Some (step.Read o) → o < length plan.objects
   read_known legal right well p t o here lasts on unsaid next =
-      let e : Entry = says kind.Read p t o (value_of plan o past) in
+      let e : Entry = says kind.Read p t o (value_of plan past o) in
       let due : due_of plan past t ≡ Some e = rw (here, lasts, on, unsaid, next) refl in
       let formed : IsWellFormed plan e = All-head (IsWellFormed plan) e past (well (e ∷ past) (legal, (right.may t e due).0)) in
       formed.fields.0.arg

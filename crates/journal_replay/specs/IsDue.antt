@@ -3,7 +3,7 @@ use Rattle.std.specs.Prelude.{◌≡◌, ◌⊎◌, ℕ, true, false, List}
 use Rattle.caa_base.specs.declared.entry.Entry.{Entry}
 use Rattle.place_plan.specs.PlanValue.{Plan}
 use Rattle.place_plan.specs.Journals.{is_put}
-use Rattle.place_plan.specs.Roles.{over}
+use Rattle.place_plan.specs.Roles.{is_over}
 use Rattle.place_plan.specs.Rules.{MayFollow}
 use Rattle.place_plan.specs.Laws.{Silent, as_taken}
 use Rattle.journal_replay.specs.declared.answer.Due.{Due}
@@ -28,5 +28,5 @@ pub record DeviceDecides (plan : Plan) (past : List Entry) (t : ℕ) (well fault
 abbrev pub IsDue : Plan → List Entry → ℕ → Due → Type 0
 IsDue plan past t (due.Now e) = IsTheEntry plan past t e
 IsDue plan past t (due.Put well fault) = DeviceDecides plan past t well fault
-IsDue plan past t due.NotYet = Silent plan past t × (over plan past t ≡ false)
-IsDue plan past t due.Over = Silent plan past t × (over plan past t ≡ true)
+IsDue plan past t due.NotYet = Silent plan past t × (is_over plan past t ≡ false)
+IsDue plan past t due.Over = Silent plan past t × (is_over plan past t ≡ true)

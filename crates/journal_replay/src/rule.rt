@@ -1,8 +1,8 @@
 ghost use Rattle.std.specs.Prelude.{◌≡◌, ◌<◌, false, ℕ, length, slice_get, reverse, Some, None};
 ghost use Rattle.caa_base.specs.declared.entry.Entry.{Entry as JournalEntry};
 ghost use Rattle.place_plan.specs.declared.rows.Step.TheVariants as step;
-ghost use Rattle.place_plan.specs.Whereabouts.{inside, started, ended};
-ghost use Rattle.place_plan.specs.Roles.{next_step, given, all_given};
+ghost use Rattle.place_plan.specs.Whereabouts.{inside, has_started, has_ended};
+ghost use Rattle.place_plan.specs.Roles.{next_step, has_given, all_have_given};
 ghost use Rattle.place_plan.specs.Journals.{LegalPast, IsLegal};
 ghost use Rattle.place_plan.specs.Flat.{StaysQuiet};
 ghost use Rattle.place_plan.specs.Due.{says, plainly, due_waiting, due_step, due_agreed, due_calm, due_inside, due_of, DueIsRight};
@@ -50,7 +50,7 @@ fn step_at(program: &Program, position: usize) -> Option<Step>
 /// The next step of a participant in a place, of its body, since nobody begins a handler yet.
 fn next_step(plan: &Plan, journal: &[Entry], place: Place, by: Participant) -> Option<Step>
     requires quiet { StaysQuiet plan.now (reverse journal.now) }
-    ensures { result ≡ next_step plan.now place by (reverse journal.now) }
+    ensures { result ≡ next_step plan.now (reverse journal.now) place by }
 {
     let role = plan.role_of(place, by)?;
     step_at(plan.body(place, role), position(plan, journal, place, by))
@@ -59,7 +59,7 @@ fn next_step(plan: &Plan, journal: &[Entry], place: Place, by: Participant) -> O
 /// Whether a participant has given its verdict in a place; nothing is raised there yet.
 fn given(plan: &Plan, journal: &[Entry], place: Place, by: Participant) -> bool
     requires quiet { StaysQuiet plan.now (reverse journal.now) }
-    ensures { result ≡ given plan.now place (reverse journal.now) by }
+    ensures { result ≡ has_given plan.now (reverse journal.now) place by }
 {
     has_by(journal, Kind::Verdict, place, by)
 }
@@ -67,7 +67,7 @@ fn given(plan: &Plan, journal: &[Entry], place: Place, by: Participant) -> bool
 /// Whether each role of a place has given its verdict.
 fn all_given(plan: &Plan, journal: &[Entry], place: Place) -> bool
     requires quiet { StaysQuiet plan.now (reverse journal.now) }
-    ensures { result ≡ all_given plan.now place (reverse journal.now) }
+    ensures { result ≡ all_have_given plan.now (reverse journal.now) place }
 {
     plan.roles_of(place)
         .iter()
@@ -88,8 +88,8 @@ fn due_waiting(plan: &Plan, journal: &[Entry], place: Place, by: Participant) ->
 /// What a participant does in a calm place before its verdict.
 fn due_step(plan: &Plan, journal: &[Entry], place: Place, by: Participant) -> Option<Entry>
     requires quiet { StaysQuiet plan.now (reverse journal.now) }
-    requires known { (o : ℕ) → next_step plan.now place by (reverse journal.now) ≡ Some (step.Read o) → o < length plan.now.objects }
-    ensures { result ≡ due_step plan.now (reverse journal.now) place by (next_step plan.now place by (reverse journal.now)) }
+    requires known { (o : ℕ) → next_step plan.now (reverse journal.now) place by ≡ Some (step.Read o) → o < length plan.now.objects }
+    ensures { result ≡ due_step plan.now (reverse journal.now) place by (next_step plan.now (reverse journal.now) place by) }
 {
     match next_step(plan, journal, place, by) {
         None => Some(plainly(Kind::Verdict, place, by)),
@@ -108,7 +108,7 @@ fn due_step(plan: &Plan, journal: &[Entry], place: Place, by: Participant) -> Op
 /// What a participant does in a calm place.
 fn due_calm(plan: &Plan, journal: &[Entry], place: Place, by: Participant) -> Option<Entry>
     requires quiet { StaysQuiet plan.now (reverse journal.now) }
-    requires known { given plan.now place (reverse journal.now) by ≡ false → (o : ℕ) → next_step plan.now place by (reverse journal.now) ≡ Some (step.Read o) → o < length plan.now.objects }
+    requires known { has_given plan.now (reverse journal.now) place by ≡ false → (o : ℕ) → next_step plan.now (reverse journal.now) place by ≡ Some (step.Read o) → o < length plan.now.objects }
     ensures { result ≡ due_calm plan.now (reverse journal.now) place by }
 {
     if !given(plan, journal, place, by) {
@@ -123,7 +123,7 @@ fn due_calm(plan: &Plan, journal: &[Entry], place: Place, by: Participant) -> Op
 /// What a participant does in the place that it is in.
 fn due_inside(plan: &Plan, journal: &[Entry], place: Place, by: Participant) -> Option<Entry>
     requires legal { LegalPast plan.now (reverse journal.now) }
-    requires here { inside plan.now by (reverse journal.now) ≡ Some place }
+    requires here { inside plan.now (reverse journal.now) by ≡ Some place }
     ensures { result ≡ due_inside plan.now (reverse journal.now) place by }
 {
     plan.due_is_right();

@@ -2,9 +2,9 @@ ghost use Rattle.std.specs.Prelude.{◌≡◌, ◌==◌, ◌<◌, ℕ, Bool, Lis
 ghost use Rattle.place_plan.specs.Words.{member, is_at, same_option};
 ghost use Rattle.place_plan.specs.Places.{parent, roles_of, plays_of, initial_of};
 ghost use Rattle.place_plan.specs.Entries.{code_of, is_in, is_by, has, has_by};
-ghost use Rattle.place_plan.specs.Whereabouts.{moved, inside, is_inside, all_inside};
-ghost use Rattle.place_plan.specs.Objects.{taken, holder, objects_ready, value_of};
-ghost use Rattle.place_plan.specs.Roles.{advances, position, gives_value, register, next_step, given, all_given, next_play, over};
+ghost use Rattle.place_plan.specs.Whereabouts.{inside_after, inside, is_inside, all_are_inside};
+ghost use Rattle.place_plan.specs.Objects.{holder_after, holder_of, objects_are_ready, value_of};
+ghost use Rattle.place_plan.specs.Roles.{advances, position, gives_value, register, next_step, has_given, all_have_given, next_play, is_over};
 ghost use Rattle.place_plan.specs.Flat.{StaysQuiet};
 ghost use Rattle.place_plan.specs.Words.{last_of};
 
@@ -35,14 +35,14 @@ fn is_by(entry: &Entry, kind: Kind, place: Place, by: Participant) -> bool
 
 /// Whether a place has an entry of this kind.
 pub fn has(journal: &[Entry], kind: Kind, place: Place) -> bool
-    ensures { result ≡ has kind place (reverse journal.now) }
+    ensures { result ≡ has kind (reverse journal.now) place }
 {
     journal.iter().rev().any(|entry| is_in(entry, kind, place))
 }
 
 /// Whether a place has an entry of this kind by this participant.
 pub fn has_by(journal: &[Entry], kind: Kind, place: Place, by: Participant) -> bool
-    ensures { result ≡ has_by kind place by (reverse journal.now) }
+    ensures { result ≡ has_by kind (reverse journal.now) place by }
 {
     journal
         .iter()
@@ -52,7 +52,7 @@ pub fn has_by(journal: &[Entry], kind: Kind, place: Place, by: Participant) -> b
 
 /// Where a participant is after this entry, if it was in `was` before it.
 fn moved(plan: &Plan, entry: &Entry, by: Participant, was: Option<Place>) -> Option<Place>
-    ensures { result ≡ moved plan.now entry.now.kind entry.now.place (entry.now.by == by) was }
+    ensures { result ≡ inside_after plan.now entry.now.kind entry.now.place (entry.now.by == by) was }
 {
     match entry.kind {
         Kind::Arrive => if entry.by == by {
@@ -71,7 +71,7 @@ fn moved(plan: &Plan, entry: &Entry, by: Participant, was: Option<Place>) -> Opt
 
 /// The innermost place that a participant is in.
 pub fn inside(plan: &Plan, journal: &[Entry], by: Participant) -> Option<Place>
-    ensures { result ≡ inside plan.now by (reverse journal.now) }
+    ensures { result ≡ inside plan.now (reverse journal.now) by }
 {
     let mut place = None;
     for entry in journal {
@@ -82,14 +82,14 @@ pub fn inside(plan: &Plan, journal: &[Entry], by: Participant) -> Option<Place>
 
 /// Whether a participant is in this place, and in none inside it.
 fn is_inside(plan: &Plan, journal: &[Entry], place: Place, by: Participant) -> bool
-    ensures { result ≡ is_inside plan.now place (reverse journal.now) by }
+    ensures { result ≡ is_inside plan.now (reverse journal.now) place by }
 {
     inside(plan, journal, by) == Some(place)
 }
 
 /// Whether each role of a place is in it.
 pub fn all_inside(plan: &Plan, journal: &[Entry], place: Place) -> bool
-    ensures { result ≡ all_inside plan.now place (reverse journal.now) }
+    ensures { result ≡ all_are_inside plan.now (reverse journal.now) place }
 {
     plan.roles_of(place)
         .iter()
@@ -98,7 +98,7 @@ pub fn all_inside(plan: &Plan, journal: &[Entry], place: Place) -> bool
 
 /// Who holds an object after this entry.
 fn taken(plan: &Plan, entry: &Entry, object: Object, was: Option<Place>) -> Option<Place>
-    ensures { result ≡ taken plan.now object entry.now.kind entry.now.place was }
+    ensures { result ≡ holder_after plan.now entry.now.kind entry.now.place object was }
 {
     match entry.kind {
         Kind::Start => if plan.uses(entry.place, object) {
@@ -117,7 +117,7 @@ fn taken(plan: &Plan, entry: &Entry, object: Object, was: Option<Place>) -> Opti
 
 /// The innermost live place that uses the object.
 pub fn holder(plan: &Plan, journal: &[Entry], object: Object) -> Option<Place>
-    ensures { result ≡ holder plan.now object (reverse journal.now) }
+    ensures { result ≡ holder_of plan.now (reverse journal.now) object }
 {
     let mut place = None;
     for entry in journal {
@@ -128,14 +128,14 @@ pub fn holder(plan: &Plan, journal: &[Entry], object: Object) -> Option<Place>
 
 /// Whether the place round this one, or nobody for a play, holds the object.
 fn is_ready(plan: &Plan, journal: &[Entry], place: Place, object: Object) -> bool
-    ensures { result ≡ same_option (holder plan.now object (reverse journal.now)) (parent plan.now place) }
+    ensures { result ≡ same_option (holder_of plan.now (reverse journal.now) object) (parent plan.now place) }
 {
     holder(plan, journal, object) == plan.parent(place)
 }
 
 /// Whether the place round this one, or nobody for a play, holds each of its objects.
 pub fn objects_ready(plan: &Plan, journal: &[Entry], place: Place) -> bool
-    ensures { result ≡ objects_ready plan.now place (reverse journal.now) }
+    ensures { result ≡ objects_are_ready plan.now (reverse journal.now) place }
 {
     plan.objects_of(place)
         .iter()
@@ -155,7 +155,7 @@ fn advances(plan: &Plan, entry: &Entry, place: Place) -> bool
 
 /// How many steps a participant has made in a place.
 pub fn position(plan: &Plan, journal: &[Entry], place: Place, by: Participant) -> usize
-    ensures { result ≡ position plan.now place by (reverse journal.now) }
+    ensures { result ≡ position plan.now (reverse journal.now) place by }
 {
     let mut count = 0;
     for entry in journal {
@@ -177,7 +177,7 @@ fn gives_value(kind: Kind) -> bool
 
 /// What a participant read, mixed or wrote last in a place.
 pub fn register(plan: &Plan, journal: &[Entry], place: Place, by: Participant) -> i64
-    ensures { result ≡ register plan.now place by (reverse journal.now) }
+    ensures { result ≡ register plan.now (reverse journal.now) place by }
 {
     let mut value = 0;
     for entry in journal {
@@ -199,7 +199,7 @@ fn has_role(plan: &Plan, place: Place, by: Participant) -> bool
 
 /// The first play of a participant in which it has not arrived.
 pub fn next_play(plan: &Plan, journal: &[Entry], by: Participant) -> Option<Place>
-    ensures { result ≡ next_play plan.now by (reverse journal.now) }
+    ensures { result ≡ next_play plan.now (reverse journal.now) by }
 {
     for play in plan.play_places() {
         if has_role(plan, *play, by) && !has_by(journal, Kind::Arrive, *play, by) {
@@ -225,7 +225,7 @@ fn last_play(plan: &Plan, by: Participant) -> Option<Place>
 
 /// Whether a participant has left its last play, or has none.
 pub fn is_over(plan: &Plan, journal: &[Entry], by: Participant) -> bool
-    ensures { result ≡ over plan.now (reverse journal.now) by }
+    ensures { result ≡ is_over plan.now (reverse journal.now) by }
 {
     match last_play(plan, by) {
         None => true,

@@ -37,8 +37,8 @@ use Rattle.place_plan.proofs.BuiltDrafts.{get_passes, no_handlers, built_steps, 
 range_suc : (low n : ℕ) → range_with_len low (suc n) ≡ range_with_len low n ++ (low + n) ∷ []
 range_suc low zero = rw add-zero refl
 range_suc low (suc n) =
-    let moved : low + 1 + n ≡ low + suc n = omega arith in
-    ap (λ xs. low ∷ xs) (range_suc (low + 1) n ∙ ap (λ k. range_with_len (low + 1) n ++ k ∷ []) moved)
+    let inside_after : low + 1 + n ≡ low + suc n = omega arith in
+    ap (λ xs. low ∷ xs) (range_suc (low + 1) n ∙ ap (λ k. range_with_len (low + 1) n ++ k ∷ []) inside_after)
 
 pub range_more : (low n : ℕ) → range_with_len low (n + 1) ≡ range_with_len low n ++ (low + n) ∷ []
 range_more low n = rw add-one (range_suc low n)
@@ -443,8 +443,8 @@ sizes_small action played body handler h e f =
     let c = (and_parts (nat_le (length action.nests) 256) _ b.1).1 in
     let first : body ≤ 256 = omega (arith, e, body_within action.roles c) in
     let second : handler ≤ 256 = omega (arith, f, handler_within action.roles c) in
-    let within : 8 + body + handler ≤ 520 = omega arith in
-    let most : played * (8 + body + handler) ≤ 16 * 520 = mul-le-mul h.roles within in
+    let is_within : 8 + body + handler ≤ 520 = omega arith in
+    let most : played * (8 + body + handler) ≤ 16 * 520 = mul-le-mul h.roles is_within in
     record { body_small = first; handler_small = second; steps = most }
 
 pub index_within : (n : ℕ) (xs : List ℕ) → index_of n xs ≤ length xs

@@ -8,8 +8,8 @@ use Rattle.place_plan.specs.PlanValue.{Plan}
 use Rattle.place_plan.specs.Words.{member}
 use Rattle.place_plan.specs.Places.{roles_of}
 use Rattle.place_plan.specs.Entries.{is_in, has, has_by}
-use Rattle.place_plan.specs.Whereabouts.{inside, all_inside, is_inside, started, ended}
-use Rattle.place_plan.specs.Roles.{given, all_given}
+use Rattle.place_plan.specs.Whereabouts.{inside, all_are_inside, is_inside, has_started, has_ended}
+use Rattle.place_plan.specs.Roles.{has_given, all_have_given}
 use Rattle.place_plan.specs.Rules.{MayEnd, EndsAgreed}
 use Rattle.place_plan.specs.Journals.{LegalPast}
 use Rattle.place_plan.specs.Laws.{Holds, Splits, ExitLaw}
@@ -22,43 +22,43 @@ use Rattle.place_plan.proofs.Due.{able_parts, verdict_parts}
 use Rattle.place_plan.proofs.InnerFirst.{legal_rest}
 
 -- what has ended has ended later on
-ended_after : (p : ℕ) (later past : List Entry) → ended p past ≡ true → ended p (later ++ past) ≡ true
+ended_after : (p : ℕ) (later past : List Entry) → has_ended past p ≡ true → has_ended (later ++ past) p ≡ true
 ended_after p [] past h = h
 ended_after p (e ∷ later) past h = or_right _ _ (ended_after p later past h)
 
 module _ (plan : Plan) (fine : IsFlat plan) where
   -- each role of a place that has started has arrived there
-  started_arrived_by : (past : List Entry) (k : Kind) (e : Entry) (t p : ℕ) → LegalPast plan past → member t (roles_of plan p) ≡ true → (started p past ≡ true → has_by kind.Arrive p t past ≡ true) → QuietRow k plan past (of_kind k e) → started p (of_kind k e ∷ past) ≡ true → has_by kind.Arrive p t (of_kind k e ∷ past) ≡ true
+  started_arrived_by : (past : List Entry) (k : Kind) (e : Entry) (t p : ℕ) → LegalPast plan past → member t (roles_of plan p) ≡ true → (has_started past p ≡ true → has_by kind.Arrive past p t ≡ true) → QuietRow k plan past (of_kind k e) → has_started (of_kind k e ∷ past) p ≡ true → has_by kind.Arrive (of_kind k e ∷ past) p t ≡ true
   started_arrived_by past kind.Arrive e t p legal m ih h w = or_right _ _ (ih w)
   started_arrived_by past kind.Start e t p legal m ih h w =
-      elim (or_cases (e.place == p) (started p past) w) [
+      elim (or_cases (e.place == p) (has_started past p) w) [
         | inl x ↦
-            let here : inside plan t past ≡ Some p = at_same _ _ (all_at (is_inside plan p past) (roles_of plan p) t (subst (λ a. all_inside plan a past ≡ true) (eqb-true e.place p x) h.together) m) in
+            let here : inside plan past t ≡ Some p = at_same _ _ (all_at (is_inside plan past p) (roles_of plan p) t (subst (λ a. all_are_inside plan past a ≡ true) (eqb-true e.place p x) h.together) m) in
             inside_arrived plan fine past legal t p here
         | inr x ↦ ih x
       ]
   started_arrived_by past _ e t p legal m ih h w = ih w
 
-  started_arrived : (past : List Entry) → LegalPast plan past → (t p : ℕ) → member t (roles_of plan p) ≡ true → started p past ≡ true → has_by kind.Arrive p t past ≡ true
+  started_arrived : (past : List Entry) → LegalPast plan past → (t p : ℕ) → member t (roles_of plan p) ≡ true → has_started past p ≡ true → has_by kind.Arrive past p t ≡ true
   started_arrived [] h t p m w = absurd (false≢true w)
   started_arrived (e ∷ past) h t p m w = started_arrived_by past e.kind e t p h.0 m (started_arrived past h.0 t p m) (only_quiet plan fine past e h.0 h.1) w
 
   -- a place that someone has left has ended
-  left_first_by : (past : List Entry) (k : Kind) (e : Entry) (p : ℕ) → (has kind.Leave p past ≡ true → ended p past ≡ true) → QuietRow k plan past (of_kind k e) → has kind.Leave p (of_kind k e ∷ past) ≡ true → ended p (of_kind k e ∷ past) ≡ true
+  left_first_by : (past : List Entry) (k : Kind) (e : Entry) (p : ℕ) → (has kind.Leave past p ≡ true → has_ended past p ≡ true) → QuietRow k plan past (of_kind k e) → has kind.Leave (of_kind k e ∷ past) p ≡ true → has_ended (of_kind k e ∷ past) p ≡ true
   left_first_by past kind.End e p ih h w = or_right _ _ (ih w)
   left_first_by past kind.Leave e p ih h w =
-      elim (or_cases (e.place == p) (has kind.Leave p past) w) [
-        | inl x ↦ subst (λ a. ended a past ≡ true) (eqb-true e.place p x) h.when
+      elim (or_cases (e.place == p) (has kind.Leave past p) w) [
+        | inl x ↦ subst (λ a. has_ended past a ≡ true) (eqb-true e.place p x) h.when
         | inr x ↦ ih x
       ]
   left_first_by past _ e p ih h w = ih w
 
-  left_first : (past : List Entry) → LegalPast plan past → (p : ℕ) → has kind.Leave p past ≡ true → ended p past ≡ true
+  left_first : (past : List Entry) → LegalPast plan past → (p : ℕ) → has kind.Leave past p ≡ true → has_ended past p ≡ true
   left_first [] h p w = absurd (false≢true w)
   left_first (e ∷ past) h p w = left_first_by past e.kind e p (left_first past h.0 p) (only_quiet plan fine past e h.0 h.1) w
 
   -- what has ended is only left
-  only_left_by : (past : List Entry) (k : Kind) (e : Entry) → LegalPast plan past → QuietRow k plan past (of_kind k e) → ended e.place past ≡ true → k ≡ kind.Leave
+  only_left_by : (past : List Entry) (k : Kind) (e : Entry) → LegalPast plan past → QuietRow k plan past (of_kind k e) → has_ended past e.place ≡ true → k ≡ kind.Leave
   only_left_by past kind.Arrive e legal h f =
       let next = (arrives_at_next plan fine past (of_kind kind.Arrive e) h).1 in
       let role = (next_has plan fine past e.by e.place next).1 in
@@ -82,21 +82,21 @@ module _ (plan : Plan) (fine : IsFlat plan) where
       let here = legal_rest plan later (e ∷ before) whole in
       let found = end_row before e.kind e p (only_quiet plan fine before e here.0 here.1) is in
       let agreed : EndsAgreed plan before (of_kind kind.End e) = end_tells plan fine before (of_kind kind.End e) here.0 found.0 in
-      let first : ended p before ≡ false = subst (λ a. ended a before ≡ false) found.1 (live_parts e.place before (going_live e.place before agreed.goes)).1 in
+      let first : has_ended before p ≡ false = subst (λ a. has_ended before a ≡ false) found.1 (live_parts e.place before (going_live e.place before agreed.goes)).1 in
       record {
-        only_left = λ later' before' f within at. left_later later before e p is whole later' before' f within at;
+        only_left = λ later' before' f is_within at. left_later later before e p is whole later' before' f is_within at;
         first = first;
         together = false_from_ne_true _ (λ w. both_ways _ first (left_first before here.0 p w));
-        each = λ t m. or_left _ _ (subst (λ b. b ≡ true) (given_plain plan fine before here.0 t p) (all_at (given plan p before) (roles_of plan p) t (subst (λ a. all_given plan a before ≡ true) found.1 agreed.agreed) m));
+        each = λ t m. or_left _ _ (subst (λ b. b ≡ true) (given_plain plan fine before here.0 t p) (all_at (has_given plan before p) (roles_of plan p) t (subst (λ a. all_have_given plan before a ≡ true) found.1 agreed.agreed) m));
       }
     where
       left_later : (later before : List Entry) (e : Entry) (p : ℕ) → is_in kind.End p e ≡ true → LegalPast plan (later ++ e ∷ before) → (later' before' : List Entry) (f : Entry) → Splits later later' f before' → f.place ≡ p → f.kind ≡ kind.Leave
-      left_later later before e p is whole later' before' f within at =
-          let parted : LegalPast plan ((later' ++ f ∷ before') ++ e ∷ before) = subst (λ l. LegalPast plan (l ++ e ∷ before)) within whole in
+      left_later later before e p is whole later' before' f is_within at =
+          let parted : LegalPast plan ((later' ++ f ∷ before') ++ e ∷ before) = subst (λ l. LegalPast plan (l ++ e ∷ before)) is_within whole in
           let joined : LegalPast plan (later' ++ f ∷ (before' ++ e ∷ before)) = rw append_assoc at parted in
           let here = legal_rest plan later' (f ∷ (before' ++ e ∷ before)) joined in
-          let over_there : ended p (before' ++ e ∷ before) ≡ true = ended_after p before' (e ∷ before) (or_left _ _ is) in
-          only_left_by (before' ++ e ∷ before) f.kind f here.0 (only_quiet plan fine (before' ++ e ∷ before) f here.0 here.1) (subst (λ a. ended a (before' ++ e ∷ before) ≡ true) (sym at) over_there)
+          let over_there : has_ended (before' ++ e ∷ before) p ≡ true = ended_after p before' (e ∷ before) (or_left _ _ is) in
+          only_left_by (before' ++ e ∷ before) f.kind f here.0 (only_quiet plan fine (before' ++ e ∷ before) f here.0 here.1) (subst (λ a. has_ended (before' ++ e ∷ before) a ≡ true) (sym at) over_there)
 
 -- exit law
 pub exits : (plan : Plan) → IsFlat plan → Holds ExitLaw plan

@@ -32,7 +32,7 @@ module _ (plan : Plan) (fine : IsFlat plan) where
   no_handle past later before e p legal split w =
       no_handle_by before e.kind e p (quiet before e (legal_rest plan later (e ∷ before) (subst (LegalPast plan) split legal))) w
 
-  not_raised : (past : List Entry) → LegalPast plan past → (p : ℕ) → is_raised plan p past ≡ false
+  not_raised : (past : List Entry) → LegalPast plan past → (p : ℕ) → is_raised plan past p ≡ false
   not_raised past legal p = rw ((still plan fine past legal).unraised p) refl
 
   resolves : (past : List Entry) → LegalPast plan past → ResolutionLaw plan past
@@ -46,11 +46,11 @@ module _ (plan : Plan) (fine : IsFlat plan) where
 
   -- ---- outcome
 
-  no_restore_by : (past : List Entry) (k : Kind) (e : Entry) (p : ℕ) → has kind.Restore p past ≡ false → QuietRow k plan past (of_kind k e) → has kind.Restore p (of_kind k e ∷ past) ≡ false
+  no_restore_by : (past : List Entry) (k : Kind) (e : Entry) (p : ℕ) → has kind.Restore past p ≡ false → QuietRow k plan past (of_kind k e) → has kind.Restore (of_kind k e ∷ past) p ≡ false
   no_restore_by past kind.Restore e p ih h = elim h [ ]
   no_restore_by past _ e p ih h = ih
 
-  no_restore : (past : List Entry) → LegalPast plan past → (p : ℕ) → has kind.Restore p past ≡ false
+  no_restore : (past : List Entry) → LegalPast plan past → (p : ℕ) → has kind.Restore past p ≡ false
   no_restore [] h p = refl
   no_restore (e ∷ past) h p = no_restore_by past e.kind e p (no_restore past h.0 p) (quiet past e h)
 
@@ -89,11 +89,11 @@ module _ (plan : Plan) (fine : IsFlat plan) where
 
   -- ---- effect
 
-  none_written_by : (past : List Entry) (k : Kind) (e : Entry) (o : ℕ) (test : Entry → Bool) → last_write plan o test past ≡ initial_of plan o → QuietRow k plan past (of_kind k e) → last_write plan o test (of_kind k e ∷ past) ≡ initial_of plan o
+  none_written_by : (past : List Entry) (k : Kind) (e : Entry) (o : ℕ) (test : Entry → Bool) → last_write plan past o test ≡ initial_of plan o → QuietRow k plan past (of_kind k e) → last_write plan (of_kind k e ∷ past) o test ≡ initial_of plan o
   none_written_by past kind.Write e o test ih h = elim h [ ]
   none_written_by past _ e o test ih h = ih
 
-  none_written : (past : List Entry) → LegalPast plan past → (o : ℕ) (test : Entry → Bool) → last_write plan o test past ≡ initial_of plan o
+  none_written : (past : List Entry) → LegalPast plan past → (o : ℕ) (test : Entry → Bool) → last_write plan past o test ≡ initial_of plan o
   none_written [] h o test = refl
   none_written (e ∷ past) h o test = none_written_by past e.kind e o test (none_written past h.0 o test) (quiet past e h)
 

@@ -12,7 +12,7 @@ use Rattle.place_plan.specs.PlanValue.{Plan}
 use Rattle.place_plan.specs.Words.{member, index_of}
 use Rattle.place_plan.specs.Places.{roles_of, action_at, action_in, place_at, no_role, no_place, body_of}
 use Rattle.place_plan.specs.Entries.{has_by}
-use Rattle.place_plan.specs.Whereabouts.{inside, started, ended}
+use Rattle.place_plan.specs.Whereabouts.{inside, has_started, has_ended}
 use Rattle.place_plan.specs.Roles.{position, program_of, program_in, next_step}
 use Rattle.place_plan.specs.Journals.{LegalPast}
 use Rattle.place_plan.specs.declared.rows.PlaceRow.{PlaceRow}
@@ -110,23 +110,23 @@ module _ (plan : Plan) (fine : IsFlat plan) where
 
   -- what t has spent in p, and all in p
   role_cost : ℕ → List Entry → ℕ → ℕ
-  role_cost p past t = flag (has_by kind.Arrive p t past) + position plan p t past + flag (has_by kind.Verdict p t past) + flag (has_by kind.Leave p t past)
+  role_cost p past t = flag (has_by kind.Arrive past p t) + position plan past p t + flag (has_by kind.Verdict past p t) + flag (has_by kind.Leave past p t)
 
   cost : List Entry → ℕ → ℕ
-  cost past p = flag (started p past) + flag (ended p past) + adds (role_cost p past) (roles_of plan p)
+  cost past p = flag (has_started past p) + flag (has_ended past p) + adds (role_cost p past) (roles_of plan p)
 
   -- t has made no more steps than its body has
-  stepped : (past : List Entry) (e : Entry) (t p : ℕ) (s : Step) → LegalPast plan past → ((e.place == p) && (e.by == t)) ≡ true → next_step plan e.place e.by past ≡ Some s → position plan p t past < length (body_of plan p t).steps
+  stepped : (past : List Entry) (e : Entry) (t p : ℕ) (s : Step) → LegalPast plan past → ((e.place == p) && (e.by == t)) ≡ true → next_step plan past e.place e.by ≡ Some s → position plan past p t < length (body_of plan p t).steps
   stepped past e t p s legal w n =
       let x = and_parts (e.place == p) (e.by == t) w in
-      let here : next_step plan p t past ≡ Some s = subst₂ (λ a b. next_step plan a b past ≡ Some s) (eqb-true e.place p x.0) (eqb-true e.by t x.1) n in
-      subst (λ h. position plan p t past < length (program_in plan p t h).steps) (no_handling plan fine past legal t p) (slice_get_within (program_of plan p t past).steps (position plan p t past) s here)
+      let here : next_step plan past p t ≡ Some s = subst₂ (λ a b. next_step plan past a b ≡ Some s) (eqb-true e.place p x.0) (eqb-true e.by t x.1) n in
+      subst (λ h. position plan past p t < length (program_in plan p t h).steps) (no_handling plan fine past legal t p) (slice_get_within (program_of plan past p t).steps (position plan past p t) s here)
 
   next_within : (b : Bool) (m n : ℕ) → m ≤ n → (b ≡ true → m < n) → cond b (suc m) m ≤ n
   next_within true m n l h = h refl
   next_within false m n l h = l
 
-  position_within_by : (past : List Entry) (k : Kind) (e : Entry) (t p : ℕ) → LegalPast plan past → position plan p t past ≤ length (body_of plan p t).steps → QuietRow k plan past (of_kind k e) → position plan p t (of_kind k e ∷ past) ≤ length (body_of plan p t).steps
+  position_within_by : (past : List Entry) (k : Kind) (e : Entry) (t p : ℕ) → LegalPast plan past → position plan past p t ≤ length (body_of plan p t).steps → QuietRow k plan past (of_kind k e) → position plan (of_kind k e ∷ past) p t ≤ length (body_of plan p t).steps
   position_within_by past kind.Handle e t p legal ih h = elim h [ ]
   position_within_by past kind.Write e t p legal ih h = elim h [ ]
   position_within_by past kind.Check e t p legal ih h = elim h [ ]
@@ -135,7 +135,7 @@ module _ (plan : Plan) (fine : IsFlat plan) where
   position_within_by past kind.Leave e t p legal ih h = rw (no_parent plan fine e.place) ih
   position_within_by past _ e t p legal ih h = ih
 
-  position_within : (past : List Entry) → LegalPast plan past → (t p : ℕ) → position plan p t past ≤ length (body_of plan p t).steps
+  position_within : (past : List Entry) → LegalPast plan past → (t p : ℕ) → position plan past p t ≤ length (body_of plan p t).steps
   position_within [] h t p = omega arith
   position_within (e ∷ past) h t p = position_within_by past e.kind e t p h.0 (position_within past h.0 t p) (quiet past e h)
 
@@ -153,17 +153,17 @@ module _ (plan : Plan) (fine : IsFlat plan) where
   role_up_by past kind.Handle e p t h = elim h [ ]
   role_up_by past kind.Write e p t h = elim h [ ]
   role_up_by past kind.Check e p t h = elim h [ ]
-  role_up_by past kind.Arrive e p t h = omega (arith, flag_or ((e.place == p) && (e.by == t)) (has_by kind.Arrive p t past))
-  role_up_by past kind.Read e p t h = omega (arith, next_up ((e.place == p) && (e.by == t)) (position plan p t past))
-  role_up_by past kind.Work e p t h = omega (arith, next_up ((e.place == p) && (e.by == t)) (position plan p t past))
-  role_up_by past kind.Verdict e p t h = omega (arith, flag_or ((e.place == p) && (e.by == t)) (has_by kind.Verdict p t past))
-  role_up_by past kind.Leave e p t h = rw (no_parent plan fine e.place) (omega (arith, flag_or ((e.place == p) && (e.by == t)) (has_by kind.Leave p t past)))
+  role_up_by past kind.Arrive e p t h = omega (arith, flag_or ((e.place == p) && (e.by == t)) (has_by kind.Arrive past p t))
+  role_up_by past kind.Read e p t h = omega (arith, next_up ((e.place == p) && (e.by == t)) (position plan past p t))
+  role_up_by past kind.Work e p t h = omega (arith, next_up ((e.place == p) && (e.by == t)) (position plan past p t))
+  role_up_by past kind.Verdict e p t h = omega (arith, flag_or ((e.place == p) && (e.by == t)) (has_by kind.Verdict past p t))
+  role_up_by past kind.Leave e p t h = rw (no_parent plan fine e.place) (omega (arith, flag_or ((e.place == p) && (e.by == t)) (has_by kind.Leave past p t)))
   role_up_by past _ e p t h = omega arith
 
   cost_up_by : (past : List Entry) (k : Kind) (e : Entry) (p : ℕ) → QuietRow k plan past (of_kind k e) → cost past p ≤ cost (of_kind k e ∷ past) p
   unfolding cost
-  cost_up_by past kind.Start e p h = omega (arith, flag_or (e.place == p) (started p past), adds_up (role_cost p past) (role_cost p (of_kind kind.Start e ∷ past)) (roles_of plan p) (λ t. role_up_by past kind.Start e p t h))
-  cost_up_by past kind.End e p h = omega (arith, flag_or (e.place == p) (ended p past), adds_up (role_cost p past) (role_cost p (of_kind kind.End e ∷ past)) (roles_of plan p) (λ t. role_up_by past kind.End e p t h))
+  cost_up_by past kind.Start e p h = omega (arith, flag_or (e.place == p) (has_started past p), adds_up (role_cost p past) (role_cost p (of_kind kind.Start e ∷ past)) (roles_of plan p) (λ t. role_up_by past kind.Start e p t h))
+  cost_up_by past kind.End e p h = omega (arith, flag_or (e.place == p) (has_ended past p), adds_up (role_cost p past) (role_cost p (of_kind kind.End e ∷ past)) (roles_of plan p) (λ t. role_up_by past kind.End e p t h))
   cost_up_by past k e p h = omega (arith, adds_up (role_cost p past) (role_cost p (of_kind k e ∷ past)) (roles_of plan p) (λ t. role_up_by past k e p t h))
 
   -- an entry spends something in its place
@@ -172,36 +172,36 @@ module _ (plan : Plan) (fine : IsFlat plan) where
 
   role_more_by : (past : List Entry) (k : Kind) (e : Entry) → LegalPast plan past → QuietRow k plan past (of_kind k e) → role_cost e.place past e.by < role_cost e.place (of_kind k e ∷ past) e.by → member e.by (roles_of plan e.place) ≡ true → cost past e.place < cost (of_kind k e ∷ past) e.place
   unfolding cost
-  role_more_by past kind.Start e legal h more m = omega (arith, flag_or (e.place == e.place) (started e.place past), adds_more (role_cost e.place past) (role_cost e.place (of_kind kind.Start e ∷ past)) (roles_of plan e.place) e.by (λ t. role_up_by past kind.Start e e.place t h) m more)
-  role_more_by past kind.End e legal h more m = omega (arith, flag_or (e.place == e.place) (ended e.place past), adds_more (role_cost e.place past) (role_cost e.place (of_kind kind.End e ∷ past)) (roles_of plan e.place) e.by (λ t. role_up_by past kind.End e e.place t h) m more)
+  role_more_by past kind.Start e legal h more m = omega (arith, flag_or (e.place == e.place) (has_started past e.place), adds_more (role_cost e.place past) (role_cost e.place (of_kind kind.Start e ∷ past)) (roles_of plan e.place) e.by (λ t. role_up_by past kind.Start e e.place t h) m more)
+  role_more_by past kind.End e legal h more m = omega (arith, flag_or (e.place == e.place) (has_ended past e.place), adds_more (role_cost e.place past) (role_cost e.place (of_kind kind.End e ∷ past)) (roles_of plan e.place) e.by (λ t. role_up_by past kind.End e e.place t h) m more)
   role_more_by past k e legal h more m = omega (arith, adds_more (role_cost e.place past) (role_cost e.place (of_kind k e ∷ past)) (roles_of plan e.place) e.by (λ t. role_up_by past k e e.place t h) m more)
 
-  in_role : (past : List Entry) (t p : ℕ) → LegalPast plan past → inside plan t past ≡ Some p → member t (roles_of plan p) ≡ true
+  in_role : (past : List Entry) (t p : ℕ) → LegalPast plan past → inside plan past t ≡ Some p → member t (roles_of plan p) ≡ true
   in_role past t p legal here = (inside_has_role plan fine past legal t p here).1
 
   cost_more_by : (past : List Entry) (k : Kind) (e : Entry) → LegalPast plan past → QuietRow k plan past (of_kind k e) → cost past e.place < cost (of_kind k e ∷ past) e.place
   unfolding cost role_cost
   cost_more_by past kind.Start e legal h =
-      omega (arith, flag_up (e.place == e.place) (started e.place past) (eq-eqb e.place e.place refl) h.waits, adds_up (role_cost e.place past) (role_cost e.place (of_kind kind.Start e ∷ past)) (roles_of plan e.place) (λ t. role_up_by past kind.Start e e.place t h))
+      omega (arith, flag_up (e.place == e.place) (has_started past e.place) (eq-eqb e.place e.place refl) h.waits, adds_up (role_cost e.place past) (role_cost e.place (of_kind kind.Start e ∷ past)) (roles_of plan e.place) (λ t. role_up_by past kind.Start e e.place t h))
   cost_more_by past kind.End e legal h =
       let parts = live_parts e.place past (going_live e.place past (end_tells plan fine past (of_kind kind.End e) legal h).goes) in
-      omega (arith, flag_up (e.place == e.place) (ended e.place past) (eq-eqb e.place e.place refl) parts.1, adds_up (role_cost e.place past) (role_cost e.place (of_kind kind.End e ∷ past)) (roles_of plan e.place) (λ t. role_up_by past kind.End e e.place t h))
+      omega (arith, flag_up (e.place == e.place) (has_ended past e.place) (eq-eqb e.place e.place refl) parts.1, adds_up (role_cost e.place past) (role_cost e.place (of_kind kind.End e ∷ past)) (roles_of plan e.place) (λ t. role_up_by past kind.End e e.place t h))
   cost_more_by past kind.Arrive e legal h =
       let next = (arrives_at_next plan fine past (of_kind kind.Arrive e) h).1 in
-      let more : role_cost e.place past e.by < role_cost e.place (of_kind kind.Arrive e ∷ past) e.by = omega (arith, flag_up ((e.place == e.place) && (e.by == e.by)) (has_by kind.Arrive e.place e.by past) (same_entry e.place e.by) (next_fresh plan fine past e.by e.place next)) in
+      let more : role_cost e.place past e.by < role_cost e.place (of_kind kind.Arrive e ∷ past) e.by = omega (arith, flag_up ((e.place == e.place) && (e.by == e.by)) (has_by kind.Arrive past e.place e.by) (same_entry e.place e.by) (next_fresh plan fine past e.by e.place next)) in
       role_more_by past kind.Arrive e legal h more (next_has plan fine past e.by e.place next).1
   cost_more_by past kind.Read e legal h =
-      let more : role_cost e.place past e.by < role_cost e.place (of_kind kind.Read e ∷ past) e.by = omega (arith, next_more ((e.place == e.place) && (e.by == e.by)) (position plan e.place e.by past) (same_entry e.place e.by)) in
+      let more : role_cost e.place past e.by < role_cost e.place (of_kind kind.Read e ∷ past) e.by = omega (arith, next_more ((e.place == e.place) && (e.by == e.by)) (position plan past e.place e.by) (same_entry e.place e.by)) in
       role_more_by past kind.Read e legal h more (in_role past e.by e.place legal h.here)
   cost_more_by past kind.Work e legal h =
-      let more : role_cost e.place past e.by < role_cost e.place (of_kind kind.Work e ∷ past) e.by = omega (arith, next_more ((e.place == e.place) && (e.by == e.by)) (position plan e.place e.by past) (same_entry e.place e.by)) in
+      let more : role_cost e.place past e.by < role_cost e.place (of_kind kind.Work e ∷ past) e.by = omega (arith, next_more ((e.place == e.place) && (e.by == e.by)) (position plan past e.place e.by) (same_entry e.place e.by)) in
       role_more_by past kind.Work e legal h more (in_role past e.by e.place legal h.here)
   cost_more_by past kind.Verdict e legal h =
-      let fresh : has_by kind.Verdict e.place e.by past ≡ false = sym (given_plain plan fine past legal e.by e.place) ∙ (verdict_parts plan fine past legal e.place e.by (of_kind kind.Verdict e) h.due).1 in
-      let more : role_cost e.place past e.by < role_cost e.place (of_kind kind.Verdict e ∷ past) e.by = omega (arith, flag_up ((e.place == e.place) && (e.by == e.by)) (has_by kind.Verdict e.place e.by past) (same_entry e.place e.by) fresh) in
+      let fresh : has_by kind.Verdict past e.place e.by ≡ false = sym (given_plain plan fine past legal e.by e.place) ∙ (verdict_parts plan fine past legal e.place e.by (of_kind kind.Verdict e) h.due).1 in
+      let more : role_cost e.place past e.by < role_cost e.place (of_kind kind.Verdict e ∷ past) e.by = omega (arith, flag_up ((e.place == e.place) && (e.by == e.by)) (has_by kind.Verdict past e.place e.by) (same_entry e.place e.by) fresh) in
       role_more_by past kind.Verdict e legal h more (in_role past e.by e.place legal h.here)
   cost_more_by past kind.Leave e legal h =
-      let more : role_cost e.place past e.by < role_cost e.place (of_kind kind.Leave e ∷ past) e.by = rw (no_parent plan fine e.place) (omega (arith, flag_up ((e.place == e.place) && (e.by == e.by)) (has_by kind.Leave e.place e.by past) (same_entry e.place e.by) (inside_not_left plan fine past legal e.by e.place h.here))) in
+      let more : role_cost e.place past e.by < role_cost e.place (of_kind kind.Leave e ∷ past) e.by = rw (no_parent plan fine e.place) (omega (arith, flag_up ((e.place == e.place) && (e.by == e.by)) (has_by kind.Leave past e.place e.by) (same_entry e.place e.by) (inside_not_left plan fine past legal e.by e.place h.here))) in
       role_more_by past kind.Leave e legal h more (in_role past e.by e.place legal h.here)
   cost_more_by past _ e legal h = elim h [ ]
 
@@ -216,12 +216,12 @@ module _ (plan : Plan) (fine : IsFlat plan) where
   role_within : (past : List Entry) → LegalPast plan past → (p t : ℕ) → role_cost p past t ≤ 8 + longest_body (action_at plan p).roles + longest_handler (action_at plan p).roles
   unfolding role_cost
   role_within past h p t =
-      omega (arith, flag_one (has_by kind.Arrive p t past), flag_one (has_by kind.Verdict p t past), flag_one (has_by kind.Leave p t past), position_within past h t p, longest_at (action_at plan p).roles (index_of t (roles_of plan p)))
+      omega (arith, flag_one (has_by kind.Arrive past p t), flag_one (has_by kind.Verdict past p t), flag_one (has_by kind.Leave past p t), position_within past h t p, longest_at (action_at plan p).roles (index_of t (roles_of plan p)))
 
   cost_within : (past : List Entry) → LegalPast plan past → (p : ℕ) → cost past p ≤ place_bound plan p
   unfolding cost place_bound action_bound
   cost_within past h p =
-      omega (arith, flag_one (started p past), flag_one (ended p past), adds_within (role_cost p past) (roles_of plan p) _ (role_within past h p))
+      omega (arith, flag_one (has_started past p), flag_one (has_ended past p), adds_within (role_cost p past) (roles_of plan p) _ (role_within past h p))
 
   place_row : (p : ℕ) (r : PlaceRow) → slice_get plan.places p ≡ Some r → place_bound plan p ≡ row_bound plan.actions r
   unfolding place_bound
@@ -229,10 +229,10 @@ module _ (plan : Plan) (fine : IsFlat plan) where
       let row : place_at plan p ≡ r = get_or_from_slice_get plan.places p r no_place h in
       ap₂ action_bound (ap (action_in plan) h) (ap (λ (x : PlaceRow). length x.roles) row)
 
-  within : (past : List Entry) → LegalPast plan past → length past ≤ bound plan
-  within past h =
+  is_within : (past : List Entry) → LegalPast plan past → length past ≤ bound plan
+  is_within past h =
       omega (arith, spent past h, total_up (cost past) (place_bound plan) (length plan.places) (cost_within past h), total_rows (place_bound plan) (row_bound plan.actions) plan.places place_row)
 
 -- a journal has at most as many entries as the bound says
 pub bounded : (plan : Plan) → IsFlat plan → Holds IsBounded plan
-bounded plan fine past legal = within plan fine past legal
+bounded plan fine past legal = is_within plan fine past legal

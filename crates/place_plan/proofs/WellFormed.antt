@@ -13,7 +13,7 @@ use Rattle.caa_base.specs.declared.entry.Verdict.TheVariants as verdict
 use Rattle.place_plan.specs.declared.rows.Step.TheVariants as step
 use Rattle.place_plan.specs.PlanValue.{Plan}
 use Rattle.place_plan.specs.Places.{roles_of}
-use Rattle.place_plan.specs.Raising.{handling}
+use Rattle.place_plan.specs.Raising.{exception_handled}
 use Rattle.place_plan.specs.Roles.{register}
 use Rattle.place_plan.specs.Rules.{MayFollow, SaysVerdict}
 use Rattle.place_plan.specs.Journals.{LegalPast, IsLegal}
@@ -53,10 +53,10 @@ module _ (plan : Plan) (fine : IsFlat plan) (past : List Entry) (legal : LegalPa
       (record { arg = q.1; value = subst IsValue (sym (h.value ∙ unwritten plan fine past legal e.arg [])) (fine.valued e.arg) }, h.mark)
   fields_by kind.Work e h =
       let q : IsQuietStep plan e.place (Some (step.Work e.arg)) = subst (IsQuietStep plan e.place) h.works (next_step_quiet plan fine past e.place e.by) in
-      (q, h.mark, subst IsValue (sym h.value) (mix_in_range (register plan e.place e.by past) e.arg))
+      (q, h.mark, subst IsValue (sym h.value) (mix_in_range (register plan past e.place e.by) e.arg))
   fields_by kind.Verdict e h =
       let v = verdict_parts plan fine past legal e.place e.by (of_kind kind.Verdict e) h.due in
-      let says_done : SaysVerdict (of_kind kind.Verdict e) verdict.Done = subst (SaysVerdict (of_kind kind.Verdict e)) (fine.done e.place e.by (handling e.place e.by past)) v.3 in
+      let says_done : SaysVerdict (of_kind kind.Verdict e) verdict.Done = subst (SaysVerdict (of_kind kind.Verdict e)) (fine.done e.place e.by (exception_handled past e.place e.by)) v.3 in
       record { mark = rw says_done.0 (omega arith); named = λ m. absurd (omega (arith, says_done.0)); bare = λ n. says_done.1; value = h.value }
   fields_by kind.End e h =
       let ends = end_tells plan fine past (of_kind kind.End e) legal h in

@@ -39,9 +39,9 @@ abbrev pub is_by : Kind → ℕ → ℕ → Entry → Bool
 is_by k p t e = is_in k p e && (e.by == t)
 
 -- such an entry stands in the past
-abbrev pub has : Kind → ℕ → List Entry → Bool
-has k p past = list_any (is_in k p) past
+abbrev pub has : Kind → List Entry → ℕ → Bool
+has k past p = list_any (is_in k p) past
 
 -- the same, made by t
-abbrev pub has_by : Kind → ℕ → ℕ → List Entry → Bool
-has_by k p t past = list_any (is_by k p t) past
+abbrev pub has_by : Kind → List Entry → ℕ → ℕ → Bool
+has_by k past p t = list_any (is_by k p t) past

@@ -7,8 +7,8 @@ use Rattle.place_plan.specs.PlanValue.{Plan}
 use Rattle.place_plan.specs.Words.{member, is_empty, Rises}
 use Rattle.place_plan.specs.Places.{around, roles_of, uses, initial_of}
 use Rattle.caa_base.specs.declared.entry.Entry.{Entry}
-use Rattle.place_plan.specs.Whereabouts.{undoing}
-use Rattle.place_plan.specs.Raising.{raised, handling}
+use Rattle.place_plan.specs.Whereabouts.{is_undoing}
+use Rattle.place_plan.specs.Raising.{exceptions_raised, exception_handled}
 use Rattle.place_plan.specs.Objects.{value_of}
 use Rattle.place_plan.specs.Roles.{program_in}
 use Rattle.place_plan.specs.WellFormed.{IsValue}
@@ -40,8 +40,8 @@ pub record IsFlat (plan : Plan) : Type 0 where
 -- what every legal past of such a plan keeps: nothing is raised, undone or written, nobody begins a handler, and the device is
 -- asked for nothing that it could refuse
 pub record StaysQuiet (plan : Plan) (past : List Entry) : Type 0 where
-  pub unraised : (p : ℕ) → raised plan p past ≡ []
-  pub kept : (p : ℕ) → undoing p past ≡ false
-  pub unhandled : (p t : ℕ) → handling p t past ≡ None
-  pub unwritten : (o : ℕ) → value_of plan o past ≡ initial_of plan o
+  pub unraised : (p : ℕ) → exceptions_raised plan past p ≡ []
+  pub kept : (p : ℕ) → is_undoing past p ≡ false
+  pub unhandled : (p t : ℕ) → exception_handled past p t ≡ None
+  pub unwritten : (o : ℕ) → value_of plan past o ≡ initial_of plan o
   pub unrefused : (e : Entry) → MayFollow plan past e → is_fault e ≡ false

@@ -7,7 +7,7 @@ use Rattle.place_plan.specs.Words.{member}
 use Rattle.place_plan.specs.Places.{parent, top_of}
 use Rattle.place_plan.specs.Entries.{is_of}
 use Rattle.place_plan.specs.Objects.{value_of}
-use Rattle.place_plan.specs.Roles.{over}
+use Rattle.place_plan.specs.Roles.{is_over}
 use Rattle.place_plan.specs.Rules.{MayFollow}
 
 -- each entry may follow those before it; the newest stands first
@@ -21,7 +21,7 @@ IsLegal plan journal = LegalPast plan (reverse journal)
 
 -- each participant has left its last play, or has none
 abbrev pub AllOver : Plan → List Entry → Type 0
-AllOver plan past = (t : ℕ) → t < length plan.participants → over plan past t ≡ true
+AllOver plan past = (t : ℕ) → t < length plan.participants → is_over plan past t ≡ true
 
 -- the same of a journal, whose oldest entry stands first
 abbrev pub IsComplete : Plan → List Entry → Type 0
@@ -45,11 +45,11 @@ puts_of (e ∷ entries) = if is_put e then object_and_value e ∷ puts_of entrie
 -- ---- committed values
 
 -- the plays that have ended, the first first
-abbrev pub ended_plays : Plan → List Entry → List ℕ
-ended_plays plan [] = []
-ended_plays plan (e ∷ past) =
-    if is_of kind.End e && is_none (parent plan e.place) then ended_plays plan past ++ e.place ∷ [] else ended_plays plan past
+abbrev pub plays_ended : Plan → List Entry → List ℕ
+plays_ended plan [] = []
+plays_ended plan (e ∷ past) =
+    if is_of kind.End e && is_none (parent plan e.place) then plays_ended plan past ++ e.place ∷ [] else plays_ended plan past
 
 -- the value of o by the entries of the first n plays that ended, and of the places inside them
-abbrev pub committed : Plan → List Entry → ℕ → ℕ → ℤ
-committed plan past n o = value_of plan o (filter (λ e. member (top_of plan e.place) (take n (ended_plays plan past))) past)
+abbrev pub committed_value : Plan → List Entry → ℕ → ℕ → ℤ
+committed_value plan past n o = value_of plan (filter (λ e. member (top_of plan e.place) (take n (plays_ended plan past))) past) o

@@ -7,11 +7,11 @@ use Rattle.caa_base.specs.declared.entry.Kind.{Kind}
 use Rattle.caa_base.specs.declared.entry.Kind.TheVariants as kind
 use Rattle.place_plan.specs.PlanValue.{Plan}
 use Rattle.place_plan.specs.Words.{member}
-use Rattle.place_plan.specs.Places.{around, within, roles_of, uses, initial_of, internal_of, handler_of}
+use Rattle.place_plan.specs.Places.{around, is_within, roles_of, uses, initial_of, internal_of, handler_of}
 use Rattle.place_plan.specs.Entries.{is_of, is_in, is_by, has, has_by}
-use Rattle.place_plan.specs.Whereabouts.{inside, stays, live, ended, started}
-use Rattle.place_plan.specs.Raising.{raised, is_raised, resolved}
-use Rattle.place_plan.specs.Objects.{holder, value_of, writes, failed}
+use Rattle.place_plan.specs.Whereabouts.{inside, stays, is_live, has_ended, has_started}
+use Rattle.place_plan.specs.Raising.{exceptions_raised, is_raised, exception_resolved}
+use Rattle.place_plan.specs.Objects.{holder_of, value_of, writes, has_failed}
 use Rattle.place_plan.specs.Rules.{MayFollow, newest}
 use Rattle.place_plan.specs.Journals.{LegalPast, AllOver}
 use Rattle.place_plan.specs.Bound.{bound}
@@ -29,14 +29,14 @@ Splits past later e before = past ≡ later ++ e ∷ before
 -- inside is the innermost of the places in which a participant stays
 abbrev pub InsideIsInnermost : Plan → List Entry → Type 0
 InsideIsInnermost plan past =
-    (t p : ℕ) → (inside plan t past ≡ Some p)
-    ↔ ((stays p t past ≡ true) × ((q : ℕ) → stays q t past ≡ true → within plan p q ≡ true))
+    (t p : ℕ) → (inside plan past t ≡ Some p)
+    ↔ ((stays past p t ≡ true) × ((q : ℕ) → stays past q t ≡ true → is_within plan p q ≡ true))
 
 -- the holder of an object is the innermost of the live places that use it
 abbrev pub HolderIsInnermost : Plan → List Entry → Type 0
 HolderIsInnermost plan past =
-    (o p : ℕ) → (holder plan o past ≡ Some p)
-    ↔ ((live p past ≡ true) × (uses plan p o ≡ true) × ((q : ℕ) → live q past ≡ true → uses plan q o ≡ true → within plan p q ≡ true))
+    (o p : ℕ) → (holder_of plan past o ≡ Some p)
+    ↔ ((is_live past p ≡ true) × (uses plan p o ≡ true) × ((q : ℕ) → is_live past q ≡ true → uses plan q o ≡ true → is_within plan p q ≡ true))
 
 -- ---- the next entry
 
@@ -72,7 +72,7 @@ Silent plan past t = (e : Entry) → e.by ≡ t → MayFollow plan past e → �
 
 -- each who handles in p handles the least cover of all that is raised there in the whole journal, and all handle one exception
 pub record HandlesLeast (plan : Plan) (past : List Entry) (p : ℕ) : Type 0 where
-  pub least : (later before : List Entry) (e : Entry) → Splits past later e before → is_in kind.Handle p e ≡ true → IsLeastCover (internal_of plan p) (raised plan p past) e.arg
+  pub least : (later before : List Entry) (e : Entry) → Splits past later e before → is_in kind.Handle p e ≡ true → IsLeastCover (internal_of plan p) (exceptions_raised plan past p) e.arg
   pub one : (later before later' before' : List Entry) (e f : Entry) → Splits past later e before → Splits past later' f before' → is_in kind.Handle p e ≡ true → is_in kind.Handle p f ≡ true → e.arg ≡ f.arg
 
 -- t gave the verdict undo in p after the Resolve of p
@@ -83,7 +83,7 @@ pub record AskedForUndo (past : List Entry) (p t : ℕ) : Type 0 where
   pub stands : Splits past later entry before
   pub own : is_by kind.Verdict p t entry ≡ true
   pub undo : entry.mark ≡ 2
-  pub resolution : has kind.Resolve p before ≡ true
+  pub resolution : has kind.Resolve before p ≡ true
 
 -- t handled x in p, or has no handler for it and asked for undo
 abbrev pub Answered : Plan → List Entry → ℕ → ℕ → ℕ → Type 0
@@ -94,14 +94,14 @@ Answered plan past p x t =
 -- p is resolved, and each role has answered
 pub record IsAnswered (plan : Plan) (past : List Entry) (p : ℕ) : Type 0 where
   pub exception : ℕ
-  pub resolution : resolved p past ≡ Some exception
+  pub resolution : exception_resolved past p ≡ Some exception
   pub each : (t : ℕ) → member t (roles_of plan p) ≡ true → Answered plan past p exception t
 
 -- what is handled is the least cover of all that is raised, and a place that ended without aborts answered what was raised in it
 pub record ResolutionLaw (plan : Plan) (past : List Entry) : Type 0 where
   pub handles : (p : ℕ) → HandlesLeast plan past p
   -- a place in which something was raised, and which ended without aborts, was resolved and answered
-  pub answered : (p : ℕ) → ended p past ≡ true → has kind.Abort p past ≡ false → is_raised plan p past ≡ true → IsAnswered plan past p
+  pub answered : (p : ℕ) → has_ended past p ≡ true → has kind.Abort past p ≡ false → is_raised plan past p ≡ true → IsAnswered plan past p
 
 -- ---- exit law
 
@@ -109,9 +109,9 @@ pub record ResolutionLaw (plan : Plan) (past : List Entry) : Type 0 where
 -- after it the place is only left
 pub record EndsOnce (plan : Plan) (p : ℕ) (later before : List Entry) : Type 0 where
   pub only_left : (later' before' : List Entry) (e : Entry) → Splits later later' e before' → e.place ≡ p → e.kind ≡ kind.Leave
-  pub first : ended p before ≡ false
-  pub together : has kind.Leave p before ≡ false
-  pub each : (t : ℕ) → member t (roles_of plan p) ≡ true → has_by kind.Verdict p t before || has_by kind.Abort p t before ≡ true
+  pub first : has_ended before p ≡ false
+  pub together : has kind.Leave before p ≡ false
+  pub each : (t : ℕ) → member t (roles_of plan p) ≡ true → has_by kind.Verdict before p t || has_by kind.Abort before p t ≡ true
 
 -- each End is the only one of its place, after what each role says and before any leaves
 abbrev pub ExitLaw : Plan → List Entry → Type 0
@@ -125,15 +125,15 @@ is_restore p o mark e = is_in kind.Restore p e && ((e.arg == o) && (e.mark == ma
 
 -- what the restores of p are, by the mark of its End: none after a commit or a signal; each object restored after an undo or an
 -- abort; each object tried once, and one refused, after a failure
-pub record RestoresFit (plan : Plan) (p mark : ℕ) (past : List Entry) : Type 0 where
-  pub kept : mark < 2 → has kind.Restore p past ≡ false
+pub record RestoresFit (plan : Plan) (past : List Entry) (p mark : ℕ) : Type 0 where
+  pub kept : mark < 2 → has kind.Restore past p ≡ false
   pub undone : (mark ≡ 2) ⊎ (mark ≡ 3) → (o : ℕ) → uses plan p o ≡ true → list_any (is_restore p o 0) past ≡ true
   pub tried : mark ≡ 4 → (o : ℕ) → uses plan p o ≡ true → count_by (is_restore p o 0) past + count_by (is_restore p o 1) past ≡ 1
-  pub refused : mark ≡ 4 → failed p past ≡ true
+  pub refused : mark ≡ 4 → has_failed past p ≡ true
 
 -- the restores of a place that has ended are what its End says
 abbrev pub OutcomeLaw : Plan → List Entry → Type 0
-OutcomeLaw plan past = (p : ℕ) (e : Entry) → newest (is_in kind.End p) past ≡ Some e → RestoresFit plan p e.mark past
+OutcomeLaw plan past = (p : ℕ) (e : Entry) → newest (is_in kind.End p) past ≡ Some e → RestoresFit plan past p e.mark
 
 -- ---- effect law
 
@@ -147,18 +147,18 @@ abbrev pub is_kept : Plan → List Entry → ℕ → Bool
 is_kept plan past p = list_all (λ q. is_kept_mark (newest (is_in kind.End q) past)) (p ∷ around plan p)
 
 -- the value of the last write of o that passes a test, else the initial one
-abbrev pub last_write : Plan → ℕ → (Entry → Bool) → List Entry → ℤ
-last_write plan o test [] = initial_of plan o
-last_write plan o test (e ∷ past) = if writes o e && test e then e.value else last_write plan o test past
+abbrev pub last_write : Plan → List Entry → ℕ → (Entry → Bool) → ℤ
+last_write plan [] o test = initial_of plan o
+last_write plan (e ∷ past) o test = if writes o e && test e then e.value else last_write plan past o test
 
 -- the device refused a restore of o
-abbrev pub has_failed_restore : ℕ → List Entry → Bool
-has_failed_restore o past = list_any (λ e. is_of kind.Restore e && ((e.arg == o) && (e.mark == 1))) past
+abbrev pub has_failed_restore : List Entry → ℕ → Bool
+has_failed_restore past o = list_any (λ e. is_of kind.Restore e && ((e.arg == o) && (e.mark == 1))) past
 
 -- in a complete journal an object that no restore failed for holds what the kept places alone leave
 abbrev pub EffectLaw : Plan → List Entry → Type 0
 EffectLaw plan past =
-    AllOver plan past → (o : ℕ) → has_failed_restore o past ≡ false → value_of plan o past ≡ last_write plan o (λ e. is_kept plan past e.place) past
+    AllOver plan past → (o : ℕ) → has_failed_restore past o ≡ false → value_of plan past o ≡ last_write plan past o (λ e. is_kept plan past e.place)
 
 -- ---- inner-first law
 
@@ -166,7 +166,7 @@ EffectLaw plan past =
 abbrev pub InnerFirstLaw : Plan → List Entry → Type 0
 InnerFirstLaw plan past =
     (p q : ℕ) (later before : List Entry) (e : Entry) → Splits past later e before → is_in kind.Abort p e ≡ true
-    → member p (around plan q) ≡ true → started q past ≡ true → ended q before ≡ true
+    → member p (around plan q) ≡ true → has_started past q ≡ true → has_ended before q ≡ true
 
 -- ---- fault law
 
@@ -191,9 +191,9 @@ touches_object _ = false
 -- no two places that go on side by side have one object
 pub record IsolationLaw (plan : Plan) (past : List Entry) : Type 0 where
   -- of two places that use one object and are live at one moment, one encloses the other
-  pub nested : (later before : List Entry) (p q o : ℕ) → past ≡ later ++ before → live p before ≡ true → live q before ≡ true → uses plan p o ≡ true → uses plan q o ≡ true → within plan p q || within plan q p ≡ true
+  pub nested : (later before : List Entry) (p q o : ℕ) → past ≡ later ++ before → is_live before p ≡ true → is_live before q ≡ true → uses plan p o ≡ true → uses plan q o ≡ true → is_within plan p q || is_within plan q p ≡ true
   -- an object is touched only in the place that holds it at that moment
-  pub held : (later before : List Entry) (e : Entry) → Splits past later e before → touches_object e.kind ≡ true → holder plan e.arg before ≡ Some e.place
+  pub held : (later before : List Entry) (e : Entry) → Splits past later e before → touches_object e.kind ≡ true → holder_of plan before e.arg ≡ Some e.place
 
 -- ---- all laws of one journal
 

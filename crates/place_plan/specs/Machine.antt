@@ -4,7 +4,7 @@ use Rattle.caa_base.specs.Mixing.{mix, Worked}
 use Rattle.caa_base.specs.declared.entry.Entry.{Entry}
 use Rattle.caa_base.specs.declared.entry.Kind.TheVariants as kind
 use Rattle.place_plan.specs.PlanValue.{Plan}
-use Rattle.place_plan.specs.Roles.{over, register}
+use Rattle.place_plan.specs.Roles.{is_over, register}
 use Rattle.place_plan.specs.Rules.{MayFollow}
 use Rattle.place_plan.specs.Laws.{Silent}
 use Rattle.place_plan.specs.declared.machine.Answer.{Answer}
@@ -24,13 +24,13 @@ pub record Did (plan : Plan) (old new : List Entry) (t : ℕ) (hint : Option Wor
   pub added : new ≡ old ++ e ∷ []
   pub own : e.by ≡ t
   pub may : MayFollow plan (reverse old) e
-  pub hinted : e.kind ≡ kind.Work → Fits hint e.arg (register plan e.place t (reverse old))
+  pub hinted : e.kind ≡ kind.Work → Fits hint e.arg (register plan (reverse old) e.place t)
 
 -- nothing was added, since the legal entry of t is a work of these rounds from this start, and the hint doesn't fit
 pub record AsksForWork (plan : Plan) (old new : List Entry) (t : ℕ) (hint : Option Worked) (p rounds : ℕ) (from : ℤ) : Type 0 where
   pub kept : new ≡ old
   pub may : MayFollow plan (reverse old) (work_entry p t rounds from)
-  pub start : from ≡ register plan p t (reverse old)
+  pub start : from ≡ register plan (reverse old) p t
   pub unfit : Fits hint rounds from → ⊥
 
 -- nothing was added, since t has no entry, and whether it is over
@@ -42,5 +42,5 @@ pub record IsSilent (plan : Plan) (old new : List Entry) (t : ℕ) : Type 0 wher
 abbrev pub Answers : Plan → List Entry → List Entry → ℕ → Option Worked → Answer → Type 0
 Answers plan old new t hint (answer.Did e) = Did plan old new t hint e
 Answers plan old new t hint (answer.Work p rounds from) = AsksForWork plan old new t hint p rounds from
-Answers plan old new t hint answer.NotYet = IsSilent plan old new t × (over plan (reverse old) t ≡ false)
-Answers plan old new t hint answer.Over = IsSilent plan old new t × (over plan (reverse old) t ≡ true)
+Answers plan old new t hint answer.NotYet = IsSilent plan old new t × (is_over plan (reverse old) t ≡ false)
+Answers plan old new t hint answer.Over = IsSilent plan old new t × (is_over plan (reverse old) t ≡ true)

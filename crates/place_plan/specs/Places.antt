@@ -62,8 +62,8 @@ abbrev pub parent : Plan → ℕ → Option ℕ
 parent plan p = first_of (around plan p)
 
 -- p is q, or inside it
-abbrev pub within : Plan → ℕ → ℕ → Bool
-within plan p q = (p == q) || member q (around plan p)
+abbrev pub is_within : Plan → ℕ → ℕ → Bool
+is_within plan p q = (p == q) || member q (around plan p)
 
 -- the play that p belongs to
 abbrev pub top_of : Plan → ℕ → ℕ

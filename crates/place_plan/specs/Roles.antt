@@ -15,7 +15,7 @@ use Rattle.place_plan.specs.PlanValue.{Plan}
 use Rattle.place_plan.specs.Words.{is_at, first_not, last_of}
 use Rattle.place_plan.specs.Places.{idle, parent, roles_of, body_of, handler_of, plays_of}
 use Rattle.place_plan.specs.Entries.{is_in, is_by, has, has_by}
-use Rattle.place_plan.specs.Raising.{handling, is_raised, calm, hot}
+use Rattle.place_plan.specs.Raising.{exception_handled, is_raised, is_calm, is_hot}
 
 -- ---- steps
 
@@ -29,12 +29,12 @@ advances plan p e kind.Leave = is_at (parent plan e.place) p
 advances plan p e _ = false
 
 -- how many steps t has made in p, since its Handle there where it has one
-abbrev pub position : Plan → ℕ → ℕ → List Entry → ℕ
-position plan p t [] = zero
-position plan p t (e ∷ past) =
+abbrev pub position : Plan → List Entry → ℕ → ℕ → ℕ
+position plan [] p t = zero
+position plan (e ∷ past) p t =
     if is_by kind.Handle p t e then zero
-    else (if advances plan p e e.kind && (e.by == t) then suc (position plan p t past)
-    else position plan p t past)
+    else (if advances plan p e e.kind && (e.by == t) then suc (position plan past p t)
+    else position plan past p t)
 
 -- the kinds of entry that give their maker's register its value
 abbrev pub gives_value : Kind → Bool
@@ -44,12 +44,12 @@ gives_value kind.Write = true
 gives_value _ = false
 
 -- what t read, mixed or wrote last in p, since its Handle there where it has one; else 0
-abbrev pub register : Plan → ℕ → ℕ → List Entry → ℤ
-register plan p t [] = pos 0
-register plan p t (e ∷ past) =
+abbrev pub register : Plan → List Entry → ℕ → ℕ → ℤ
+register plan [] p t = pos 0
+register plan (e ∷ past) p t =
     if is_by kind.Handle p t e then pos 0
     else (if gives_value e.kind && ((e.place == p) && (e.by == t)) then e.value
-    else register plan p t past)
+    else register plan past p t)
 
 -- the program, or the empty one where there is none
 abbrev pub or_idle : Option Program → Program
@@ -62,12 +62,12 @@ program_in plan p t None = body_of plan p t
 program_in plan p t (Some x) = or_idle (handler_of plan p t x)
 
 -- the program that t goes through in p
-abbrev pub program_of : Plan → ℕ → ℕ → List Entry → Program
-program_of plan p t past = program_in plan p t (handling p t past)
+abbrev pub program_of : Plan → List Entry → ℕ → ℕ → Program
+program_of plan past p t = program_in plan p t (exception_handled past p t)
 
 -- the next step of t in p, or none at the end
-abbrev pub next_step : Plan → ℕ → ℕ → List Entry → Option Step
-next_step plan p t past = slice_get (program_of plan p t past).steps (position plan p t past)
+abbrev pub next_step : Plan → List Entry → ℕ → ℕ → Option Step
+next_step plan past p t = slice_get (program_of plan past p t).steps (position plan past p t)
 
 -- the numbers are one
 abbrev pub int_same : ℤ → ℤ → Bool
@@ -86,56 +86,56 @@ raise_of (Some (step.Check test bound x)) r = if meets test bound r then Some x 
 raise_of _ r = None
 
 -- the exception that the next step of t in p raises
-abbrev pub next_raise : Plan → ℕ → ℕ → List Entry → Option ℕ
-next_raise plan p t past = raise_of (next_step plan p t past) (register plan p t past)
+abbrev pub next_raise : Plan → List Entry → ℕ → ℕ → Option ℕ
+next_raise plan past p t = raise_of (next_step plan past p t) (register plan past p t)
 
 -- ---- verdicts
 
 -- t has a verdict in p that stands after the Resolve of p
-abbrev pub given_after : ℕ → ℕ → List Entry → Bool
-given_after p t [] = false
-given_after p t (e ∷ past) =
+abbrev pub has_given_after : List Entry → ℕ → ℕ → Bool
+has_given_after [] p t = false
+has_given_after (e ∷ past) p t =
     if is_in kind.Resolve p e then false
-    else (if is_by kind.Verdict p t e then has kind.Resolve p past else given_after p t past)
+    else (if is_by kind.Verdict p t e then has kind.Resolve past p else has_given_after past p t)
 
 -- t has given its verdict in p: where something was raised there, only one after the Resolve counts
-abbrev pub given : Plan → ℕ → List Entry → ℕ → Bool
-given plan p past t = if is_raised plan p past then given_after p t past else has_by kind.Verdict p t past
+abbrev pub has_given : Plan → List Entry → ℕ → ℕ → Bool
+has_given plan past p t = if is_raised plan past p then has_given_after past p t else has_by kind.Verdict past p t
 
 -- each role of p has given its verdict
-abbrev pub all_given : Plan → ℕ → List Entry → Bool
-all_given plan p past = list_all (given plan p past) (roles_of plan p)
+abbrev pub all_have_given : Plan → List Entry → ℕ → Bool
+all_have_given plan past p = list_all (has_given plan past p) (roles_of plan p)
 
 -- t has a Handle in p, and no verdict after it
-abbrev pub is_handling : ℕ → ℕ → List Entry → Bool
-is_handling p t [] = false
-is_handling p t (e ∷ past) =
+abbrev pub is_handling : List Entry → ℕ → ℕ → Bool
+is_handling [] p t = false
+is_handling (e ∷ past) p t =
     if is_by kind.Handle p t e then true
-    else (if is_by kind.Verdict p t e then false else is_handling p t past)
+    else (if is_by kind.Verdict p t e then false else is_handling past p t)
 
 -- a put of t was refused after its Handle in p
-abbrev pub refused_in_handler : ℕ → ℕ → List Entry → Bool
-refused_in_handler p t [] = false
-refused_in_handler p t (e ∷ past) =
+abbrev pub was_refused_in_handler : List Entry → ℕ → ℕ → Bool
+was_refused_in_handler [] p t = false
+was_refused_in_handler (e ∷ past) p t =
     if is_by kind.Handle p t e then false
-    else (if is_by kind.PutFault p t e then has_by kind.Handle p t past else refused_in_handler p t past)
+    else (if is_by kind.PutFault p t e then has_by kind.Handle past p t else was_refused_in_handler past p t)
 
 -- t goes through its handler: after its Handle in p it has neither a verdict nor a refused put there
-abbrev pub in_handler : ℕ → ℕ → List Entry → Bool
-in_handler p t past = is_handling p t past && not (refused_in_handler p t past)
+abbrev pub is_in_handler : List Entry → ℕ → ℕ → Bool
+is_in_handler past p t = is_handling past p t && not (was_refused_in_handler past p t)
 
 -- t may make a step in p
-abbrev pub able : Plan → ℕ → List Entry → ℕ → Bool
-able plan p past t = (calm plan p past && not (given plan p past t)) || (hot plan p past && in_handler p t past)
+abbrev pub is_able : Plan → List Entry → ℕ → ℕ → Bool
+is_able plan past p t = (is_calm plan past p && not (has_given plan past p t)) || (is_hot plan past p && is_in_handler past p t)
 
 -- the verdict that an entry says
 abbrev pub verdict_at : Entry → Verdict
 verdict_at e = if e.mark == 0 then verdict.Done else (if e.mark == 1 then verdict.Signal e.arg else verdict.Undo)
 
 -- the verdict that t gave last in p
-abbrev pub verdict_of : ℕ → List Entry → ℕ → Option Verdict
-verdict_of p [] t = None
-verdict_of p (e ∷ past) t = if is_by kind.Verdict p t e then Some (verdict_at e) else verdict_of p past t
+abbrev pub verdict_of : List Entry → ℕ → ℕ → Option Verdict
+verdict_of [] p t = None
+verdict_of (e ∷ past) p t = if is_by kind.Verdict p t e then Some (verdict_at e) else verdict_of past p t
 
 -- the verdict is undo
 abbrev pub is_undo : Option Verdict → Bool
@@ -143,8 +143,8 @@ is_undo (Some verdict.Undo) = true
 is_undo _ = false
 
 -- a role of p asks for undo
-abbrev pub wants_undo : Plan → ℕ → List Entry → Bool
-wants_undo plan p past = list_any (λ t. is_undo (verdict_of p past t)) (roles_of plan p)
+abbrev pub wants_undo : Plan → List Entry → ℕ → Bool
+wants_undo plan past p = list_any (λ t. is_undo (verdict_of past p t)) (roles_of plan p)
 
 -- the exception that a verdict signals
 abbrev pub signal_in : Option Verdict → List ℕ
@@ -152,29 +152,29 @@ signal_in (Some (verdict.Signal x)) = x ∷ []
 signal_in _ = []
 
 -- the exceptions that these roles signal in p
-abbrev pub signals : ℕ → List Entry → List ℕ → List ℕ
-signals p past [] = []
-signals p past (t ∷ ts) = signal_in (verdict_of p past t) ++ signals p past ts
+abbrev pub signals : List Entry → ℕ → List ℕ → List ℕ
+signals past p [] = []
+signals past p (t ∷ ts) = signal_in (verdict_of past p t) ++ signals past p ts
 
 -- t has given up in p
-abbrev pub aborted : ℕ → List Entry → ℕ → Bool
-aborted p past t = has_by kind.Abort p t past
+abbrev pub has_aborted : List Entry → ℕ → ℕ → Bool
+has_aborted past p t = has_by kind.Abort past p t
 
 -- each role of p has given up
-abbrev pub all_aborted : Plan → ℕ → List Entry → Bool
-all_aborted plan p past = list_all (aborted p past) (roles_of plan p)
+abbrev pub all_have_aborted : Plan → List Entry → ℕ → Bool
+all_have_aborted plan past p = list_all (has_aborted past p) (roles_of plan p)
 
 -- ---- plays
 
 -- the first play of t in which it has not arrived
-abbrev pub next_play : Plan → ℕ → List Entry → Option ℕ
-next_play plan t past = first_not (λ p. has_by kind.Arrive p t past) (plays_of plan t)
+abbrev pub next_play : Plan → List Entry → ℕ → Option ℕ
+next_play plan past t = first_not (λ p. has_by kind.Arrive past p t) (plays_of plan t)
 
 -- t has left the play, where there is one
-abbrev pub over_after : ℕ → List Entry → Option ℕ → Bool
-over_after t past None = true
-over_after t past (Some p) = has_by kind.Leave p t past
+abbrev pub is_over_after : List Entry → ℕ → Option ℕ → Bool
+is_over_after past t None = true
+is_over_after past t (Some p) = has_by kind.Leave past p t
 
 -- t has left its last play, or has none
-abbrev pub over : Plan → List Entry → ℕ → Bool
-over plan past t = over_after t past (last_of (plays_of plan t))
+abbrev pub is_over : Plan → List Entry → ℕ → Bool
+is_over plan past t = is_over_after past t (last_of (plays_of plan t))

@@ -14,10 +14,10 @@ use Rattle.place_plan.specs.declared.rows.Step.TheVariants as step
 use Rattle.place_plan.specs.PlanValue.{Plan}
 use Rattle.place_plan.specs.Places.{parent, roles_of, handler_of, abort_row, internal_of, interface_of, child, nest_of, map_signal}
 use Rattle.place_plan.specs.Entries.{has, is_in, is_by}
-use Rattle.place_plan.specs.Whereabouts.{inside, all_inside, started, ended, undoing, going}
-use Rattle.place_plan.specs.Raising.{handled, raised, doomed, calm, hot, halted, all_halted, resolved}
-use Rattle.place_plan.specs.Objects.{holder, objects_ready, value_of, before_start, failed, next_restore}
-use Rattle.place_plan.specs.Roles.{register, program_of, next_step, next_raise, meets, given, all_given, is_handling, refused_in_handler, able, wants_undo, signals, aborted, all_aborted, next_play}
+use Rattle.place_plan.specs.Whereabouts.{inside, all_are_inside, has_started, has_ended, is_undoing, is_going}
+use Rattle.place_plan.specs.Raising.{has_handled, exceptions_raised, is_doomed, is_calm, is_hot, is_halted, all_are_halted, exception_resolved}
+use Rattle.place_plan.specs.Objects.{holder_of, objects_are_ready, value_of, before_start, has_failed, next_restore}
+use Rattle.place_plan.specs.Roles.{register, program_of, next_step, next_raise, meets, has_given, all_have_given, is_handling, was_refused_in_handler, is_able, wants_undo, signals, has_aborted, all_have_aborted, next_play}
 
 -- ---- what an entry says
 
@@ -46,47 +46,47 @@ entered plan q (Some (step.Enter nest)) = child plan q nest
 entered plan q _ = None
 
 -- where t arrives next: from no place in its next play, and from a calm place that it is able in, where its next step leads
-abbrev pub arrival : Plan → ℕ → List Entry → Option ℕ → Option ℕ
-arrival plan t past None = next_play plan t past
-arrival plan t past (Some q) = if calm plan q past && able plan q past t then entered plan q (next_step plan q t past) else None
+abbrev pub arrival : Plan → List Entry → ℕ → Option ℕ → Option ℕ
+arrival plan past t None = next_play plan past t
+arrival plan past t (Some q) = if is_calm plan past q && is_able plan past q t then entered plan q (next_step plan past q t) else None
 
 pub record MayArrive (plan : Plan) (past : List Entry) (e : Entry) : Type 0 where
-  pub leads : arrival plan e.by past (inside plan e.by past) ≡ Some e.place
+  pub leads : arrival plan past e.by (inside plan past e.by) ≡ Some e.place
   pub plain : IsPlain e
 
 -- from a doomed place that has not started one withdraws
 pub record MayWithdraw (plan : Plan) (past : List Entry) (e : Entry) : Type 0 where
-  pub here : inside plan e.by past ≡ Some e.place
-  pub waits : started e.place past ≡ false
-  pub doom : doomed plan e.place past ≡ true
+  pub here : inside plan past e.by ≡ Some e.place
+  pub waits : has_started past e.place ≡ false
+  pub doom : is_doomed plan past e.place ≡ true
   pub plain : IsPlain e
 
 -- a place starts once each role is in it and each of its objects has come back to the place round it, or is free for a play
 pub record MayStart (plan : Plan) (past : List Entry) (e : Entry) : Type 0 where
-  pub here : inside plan e.by past ≡ Some e.place
-  pub waits : started e.place past ≡ false
-  pub spared : doomed plan e.place past ≡ false
-  pub together : all_inside plan e.place past ≡ true
-  pub ready : objects_ready plan e.place past ≡ true
+  pub here : inside plan past e.by ≡ Some e.place
+  pub waits : has_started past e.place ≡ false
+  pub spared : is_doomed plan past e.place ≡ false
+  pub together : all_are_inside plan past e.place ≡ true
+  pub ready : objects_are_ready plan past e.place ≡ true
   pub plain : IsPlain e
 
 -- ---- steps
 
 -- a read gives the object's value
 pub record MayRead (plan : Plan) (past : List Entry) (e : Entry) : Type 0 where
-  pub here : inside plan e.by past ≡ Some e.place
-  pub can : able plan e.place past e.by ≡ true
-  pub reads : next_step plan e.place e.by past ≡ Some (step.Read e.arg)
-  pub holds : holder plan e.arg past ≡ Some e.place
-  pub value : e.value ≡ value_of plan e.arg past
+  pub here : inside plan past e.by ≡ Some e.place
+  pub can : is_able plan past e.place e.by ≡ true
+  pub reads : next_step plan past e.place e.by ≡ Some (step.Read e.arg)
+  pub holds : holder_of plan past e.arg ≡ Some e.place
+  pub value : e.value ≡ value_of plan past e.arg
   pub mark : e.mark ≡ 0
 
 -- work gives the mixed register
 pub record MayWork (plan : Plan) (past : List Entry) (e : Entry) : Type 0 where
-  pub here : inside plan e.by past ≡ Some e.place
-  pub can : able plan e.place past e.by ≡ true
-  pub works : next_step plan e.place e.by past ≡ Some (step.Work e.arg)
-  pub value : e.value ≡ mix (register plan e.place e.by past) e.arg
+  pub here : inside plan past e.by ≡ Some e.place
+  pub can : is_able plan past e.place e.by ≡ true
+  pub works : next_step plan past e.place e.by ≡ Some (step.Work e.arg)
+  pub value : e.value ≡ mix (register plan past e.place e.by) e.arg
   pub mark : e.mark ≡ 0
 
 -- brought to the nearer end of the range of values
@@ -101,10 +101,10 @@ put_of _ r = None
 
 -- a write where the device took the put, a put fault where it refused
 pub record MayPut (plan : Plan) (past : List Entry) (e : Entry) : Type 0 where
-  pub here : inside plan e.by past ≡ Some e.place
-  pub can : able plan e.place past e.by ≡ true
-  pub puts : put_of (next_step plan e.place e.by past) (register plan e.place e.by past) ≡ Some (e.arg, e.value)
-  pub holds : holder plan e.arg past ≡ Some e.place
+  pub here : inside plan past e.by ≡ Some e.place
+  pub can : is_able plan past e.place e.by ≡ true
+  pub puts : put_of (next_step plan past e.place e.by) (register plan past e.place e.by) ≡ Some (e.arg, e.value)
+  pub holds : holder_of plan past e.arg ≡ Some e.place
   pub mark : e.mark ≡ 0
 
 -- the step is a check
@@ -114,57 +114,57 @@ is_check _ = false
 
 -- a check that isn't met
 pub record MayCheck (plan : Plan) (past : List Entry) (e : Entry) : Type 0 where
-  pub here : inside plan e.by past ≡ Some e.place
-  pub can : able plan e.place past e.by ≡ true
-  pub checks : is_check (next_step plan e.place e.by past) ≡ true
-  pub passes : next_raise plan e.place e.by past ≡ None
+  pub here : inside plan past e.by ≡ Some e.place
+  pub can : is_able plan past e.place e.by ≡ true
+  pub checks : is_check (next_step plan past e.place e.by) ≡ true
+  pub passes : next_raise plan past e.place e.by ≡ None
   pub plain : IsPlain e
 
 -- ---- raising, and recovering together
 
 -- a role whose next step raises does so, also once others have, as long as it isn't halted and has given no verdict
 pub record MayRaise (plan : Plan) (past : List Entry) (e : Entry) : Type 0 where
-  pub here : inside plan e.by past ≡ Some e.place
-  pub when : calm plan e.place past || hot plan e.place past ≡ true
-  pub running : halted plan e.place past e.by ≡ false
-  pub unsaid : given plan e.place past e.by ≡ false
-  pub raises : next_raise plan e.place e.by past ≡ Some e.arg
+  pub here : inside plan past e.by ≡ Some e.place
+  pub when : is_calm plan past e.place || is_hot plan past e.place ≡ true
+  pub running : is_halted plan past e.place e.by ≡ false
+  pub unsaid : has_given plan past e.place e.by ≡ false
+  pub raises : next_raise plan past e.place e.by ≡ Some e.arg
   pub mark : e.mark ≡ 0
   pub value : e.value ≡ pos 0
 
 -- in a hot place each role that isn't halted and whose next step doesn't raise is informed, also after its verdict
 pub record MayInform (plan : Plan) (past : List Entry) (e : Entry) : Type 0 where
-  pub here : inside plan e.by past ≡ Some e.place
-  pub when : hot plan e.place past ≡ true
-  pub running : halted plan e.place past e.by ≡ false
-  pub silent : next_raise plan e.place e.by past ≡ None
+  pub here : inside plan past e.by ≡ Some e.place
+  pub when : is_hot plan past e.place ≡ true
+  pub running : is_halted plan past e.place e.by ≡ false
+  pub silent : next_raise plan past e.place e.by ≡ None
   pub plain : IsPlain e
 
 -- once all roles are halted, what was raised is resolved to its least cover
 pub record MayResolve (plan : Plan) (past : List Entry) (e : Entry) : Type 0 where
-  pub here : inside plan e.by past ≡ Some e.place
-  pub when : hot plan e.place past ≡ true
-  pub together : all_halted plan e.place past ≡ true
-  pub fresh : resolved e.place past ≡ None
-  pub least : IsLeastCover (internal_of plan e.place) (raised plan e.place past) e.arg
+  pub here : inside plan past e.by ≡ Some e.place
+  pub when : is_hot plan past e.place ≡ true
+  pub together : all_are_halted plan past e.place ≡ true
+  pub fresh : exception_resolved past e.place ≡ None
+  pub least : IsLeastCover (internal_of plan e.place) (exceptions_raised plan past e.place) e.arg
   pub mark : e.mark ≡ 0
   pub value : e.value ≡ pos 0
 
 -- each role that has a handler for the resolved exception begins it
 pub record MayHandle (plan : Plan) (past : List Entry) (e : Entry) : Type 0 where
-  pub here : inside plan e.by past ≡ Some e.place
-  pub when : hot plan e.place past ≡ true
-  pub resolution : resolved e.place past ≡ Some e.arg
+  pub here : inside plan past e.by ≡ Some e.place
+  pub when : is_hot plan past e.place ≡ true
+  pub resolution : exception_resolved past e.place ≡ Some e.arg
   pub able_to : is_none (handler_of plan e.place e.by e.arg) ≡ false
-  pub fresh : handled e.place e.by past ≡ false
+  pub fresh : has_handled past e.place e.by ≡ false
   pub mark : e.mark ≡ 0
   pub value : e.value ≡ pos 0
 
 -- ---- verdicts
 
 -- the verdict of the program of t, once its steps are done
-abbrev pub final_verdict : Plan → ℕ → ℕ → List Entry → Option Verdict
-final_verdict plan p t past = if is_none (next_step plan p t past) then Some (program_of plan p t past).verdict else None
+abbrev pub final_verdict : Plan → List Entry → ℕ → ℕ → Option Verdict
+final_verdict plan past p t = if is_none (next_step plan past p t) then Some (program_of plan past p t).verdict else None
 
 -- a role without a handler for the resolved exception asks for undo
 abbrev pub unhandled_verdict : Plan → ℕ → ℕ → Option ℕ → Option Verdict
@@ -172,26 +172,26 @@ unhandled_verdict plan p t None = None
 unhandled_verdict plan p t (Some x) = if is_none (handler_of plan p t x) then Some verdict.Undo else None
 
 -- the handler of t is broken off: a put was refused in it, or its next step raises
-abbrev pub breaks_off : Plan → ℕ → ℕ → List Entry → Bool
-breaks_off plan p t past = refused_in_handler p t past || not (is_none (next_raise plan p t past))
+abbrev pub breaks_off : Plan → List Entry → ℕ → ℕ → Bool
+breaks_off plan past p t = was_refused_in_handler past p t || not (is_none (next_raise plan past p t))
 
 -- what a handler says at its end: undo where it is broken off
-abbrev pub handler_verdict : Plan → ℕ → ℕ → List Entry → Option Verdict
-handler_verdict plan p t past = if breaks_off plan p t past then Some verdict.Undo else final_verdict plan p t past
+abbrev pub handler_verdict : Plan → List Entry → ℕ → ℕ → Option Verdict
+handler_verdict plan past p t = if breaks_off plan past p t then Some verdict.Undo else final_verdict plan past p t
 
 -- the verdict that is due from t in p: in a calm place at the end of the body; in a hot one from the handler, or, once the place
 -- is resolved, from a role without one
-abbrev pub verdict_due : Plan → ℕ → ℕ → List Entry → Option Verdict
-verdict_due plan p t past =
-    if calm plan p past then (if given plan p past t then None else final_verdict plan p t past)
-    else (if not (hot plan p past) then None
-    else (if handled p t past then (if is_handling p t past then handler_verdict plan p t past else None)
-    else (if given plan p past t then None else unhandled_verdict plan p t (resolved p past))))
+abbrev pub verdict_due : Plan → List Entry → ℕ → ℕ → Option Verdict
+verdict_due plan past p t =
+    if is_calm plan past p then (if has_given plan past p t then None else final_verdict plan past p t)
+    else (if not (is_hot plan past p) then None
+    else (if has_handled past p t then (if is_handling past p t then handler_verdict plan past p t else None)
+    else (if has_given plan past p t then None else unhandled_verdict plan p t (exception_resolved past p))))
 
 -- a role gives the verdict that is due from it
 pub record MayVerdict (plan : Plan) (past : List Entry) (e : Entry) : Type 0 where
-  pub here : inside plan e.by past ≡ Some e.place
-  pub due : MatchOption (verdict_due plan e.place e.by past) ⊥ (SaysVerdict e)
+  pub here : inside plan past e.by ≡ Some e.place
+  pub due : MatchOption (verdict_due plan past e.place e.by) ⊥ (SaysVerdict e)
   pub value : e.value ≡ pos 0
 
 -- ---- aborts and undo
@@ -204,38 +204,38 @@ abort_of (abort.Where test bound x) r = if meets test bound r then Some x else N
 
 -- in a doomed place that goes on, once all roles have come back into it, each gives up
 pub record MayAbort (plan : Plan) (past : List Entry) (e : Entry) : Type 0 where
-  pub here : inside plan e.by past ≡ Some e.place
-  pub when : going e.place past ≡ true
-  pub doom : doomed plan e.place past ≡ true
-  pub together : all_inside plan e.place past ≡ true
-  pub fresh : aborted e.place past e.by ≡ false
-  pub names : Names e (abort_of (abort_row plan e.place e.by) (register plan e.place e.by past))
+  pub here : inside plan past e.by ≡ Some e.place
+  pub when : is_going past e.place ≡ true
+  pub doom : is_doomed plan past e.place ≡ true
+  pub together : all_are_inside plan past e.place ≡ true
+  pub fresh : has_aborted past e.place e.by ≡ false
+  pub names : Names e (abort_of (abort_row plan e.place e.by) (register plan past e.place e.by))
   pub value : e.value ≡ pos 0
 
 -- the roles of a spared place have all given their verdicts, and one is undo
-pub record AskForUndo (plan : Plan) (p : ℕ) (past : List Entry) : Type 0 where
-  pub spared : doomed plan p past ≡ false
-  pub agreed : all_given plan p past ≡ true
-  pub wanted : wants_undo plan p past ≡ true
+pub record AskForUndo (plan : Plan) (past : List Entry) (p : ℕ) : Type 0 where
+  pub spared : is_doomed plan past p ≡ false
+  pub agreed : all_have_given plan past p ≡ true
+  pub wanted : wants_undo plan past p ≡ true
 
 -- all roles have given up, or they ask for undo
-abbrev pub HaveAgreed : Plan → ℕ → List Entry → Type 0
-HaveAgreed plan p past = MatchBool (all_aborted plan p past) (Unit {0}) (AskForUndo plan p past)
+abbrev pub HaveAgreed : Plan → List Entry → ℕ → Type 0
+HaveAgreed plan past p = MatchBool (all_have_aborted plan past p) (Unit {0}) (AskForUndo plan past p)
 
 -- a place that goes on is undone once its roles have agreed on it
 pub record MayUndo (plan : Plan) (past : List Entry) (e : Entry) : Type 0 where
-  pub here : inside plan e.by past ≡ Some e.place
-  pub when : going e.place past ≡ true
-  pub agreed : HaveAgreed plan e.place past
+  pub here : inside plan past e.by ≡ Some e.place
+  pub when : is_going past e.place ≡ true
+  pub agreed : HaveAgreed plan past e.place
   pub plain : IsPlain e
 
 -- the objects get back the values that they had at the start, in order, as far as the device takes them
 pub record MayRestore (plan : Plan) (past : List Entry) (e : Entry) : Type 0 where
-  pub here : inside plan e.by past ≡ Some e.place
-  pub when : undoing e.place past ≡ true
-  pub lasts : ended e.place past ≡ false
-  pub least : next_restore plan e.place past ≡ Some e.arg
-  pub value : e.value ≡ value_of plan e.arg (before_start e.place past)
+  pub here : inside plan past e.by ≡ Some e.place
+  pub when : is_undoing past e.place ≡ true
+  pub lasts : has_ended past e.place ≡ false
+  pub least : next_restore plan past e.place ≡ Some e.arg
+  pub value : e.value ≡ value_of plan (before_start past e.place) e.arg
   pub mark : (e.mark == 0) || (e.mark == 1) ≡ true
 
 -- ---- ends
@@ -246,28 +246,28 @@ SignalsLeast plan e [] = (e.mark ≡ 0) × (e.arg ≡ 0)
 SignalsLeast plan e (x ∷ xs) = (e.mark ≡ 1) × IsLeastCover (interface_of plan e.place) (x ∷ xs) e.arg
 
 -- the mark of an End after an undo: failed where the device refused a restore, aborted where the roles gave up, else undone
-abbrev pub undone_mark : ℕ → List Entry → ℕ
-undone_mark p past = if failed p past then 4 else (if has kind.Abort p past then 3 else 2)
+abbrev pub undone_mark : List Entry → ℕ → ℕ
+undone_mark past p = if has_failed past p then 4 else (if has kind.Abort past p then 3 else 2)
 
 -- an undo ends once each object was tried
 pub record EndsUndone (plan : Plan) (past : List Entry) (e : Entry) : Type 0 where
-  pub lasts : ended e.place past ≡ false
-  pub all_tried : next_restore plan e.place past ≡ None
-  pub mark : e.mark ≡ undone_mark e.place past
+  pub lasts : has_ended past e.place ≡ false
+  pub all_tried : next_restore plan past e.place ≡ None
+  pub mark : e.mark ≡ undone_mark past e.place
   pub arg : e.arg ≡ 0
 
 -- a spared place ends once all roles have given their verdicts, where none is undo
 pub record EndsAgreed (plan : Plan) (past : List Entry) (e : Entry) : Type 0 where
-  pub goes : going e.place past ≡ true
-  pub spared : doomed plan e.place past ≡ false
-  pub agreed : all_given plan e.place past ≡ true
-  pub kept : wants_undo plan e.place past ≡ false
-  pub outcome : SignalsLeast plan e (signals e.place past (roles_of plan e.place))
+  pub goes : is_going past e.place ≡ true
+  pub spared : is_doomed plan past e.place ≡ false
+  pub agreed : all_have_given plan past e.place ≡ true
+  pub kept : wants_undo plan past e.place ≡ false
+  pub outcome : SignalsLeast plan e (signals past e.place (roles_of plan e.place))
 
 -- a place ends once, after an undo or after an agreement
 pub record MayEnd (plan : Plan) (past : List Entry) (e : Entry) : Type 0 where
-  pub here : inside plan e.by past ≡ Some e.place
-  pub how : MatchBool (undoing e.place past) (EndsUndone plan past e) (EndsAgreed plan past e)
+  pub here : inside plan past e.by ≡ Some e.place
+  pub how : MatchBool (is_undoing past e.place) (EndsUndone plan past e) (EndsAgreed plan past e)
   pub value : e.value ≡ pos 0
 
 -- ---- leaving
@@ -278,37 +278,37 @@ newest test [] = None
 newest test (e ∷ past) = if test e then Some e else newest test past
 
 -- what an Abort names, in the place round p
-abbrev pub mapped_abort : Plan → ℕ → Option Entry → Option ℕ
-mapped_abort plan p None = None
-mapped_abort plan p (Some e) = if e.mark == 1 then Some (map_signal plan p e.arg) else None
+abbrev pub abort_mapped : Plan → ℕ → Option Entry → Option ℕ
+abort_mapped plan p None = None
+abort_mapped plan p (Some e) = if e.mark == 1 then Some (map_signal plan p e.arg) else None
 
 -- what the End of p means in the place round p, by its mark: nothing after a commit, the exception that its signal, its undo or its
 -- failure is there, and after an abort the one that the Abort of who leaves is there
-abbrev pub mapped : Plan → ℕ → Option Entry → Option Entry → Option ℕ
-mapped plan p None abort = None
-mapped plan p (Some end) abort =
+abbrev pub outcome_mapped : Plan → ℕ → Option Entry → Option Entry → Option ℕ
+outcome_mapped plan p None abort = None
+outcome_mapped plan p (Some end) abort =
     if end.mark == 0 then None
     else (if end.mark == 1 then Some (map_signal plan p end.arg)
     else (if end.mark == 2 then Some (nest_of plan p).undo
-    else (if end.mark == 3 then mapped_abort plan p abort
+    else (if end.mark == 3 then abort_mapped plan p abort
     else Some (nest_of plan p).failure)))
 
 -- nothing is carried out of a play, or into a doomed place
 abbrev pub is_deaf : Plan → List Entry → Option ℕ → Bool
 is_deaf plan past None = true
-is_deaf plan past (Some q) = doomed plan q past
+is_deaf plan past (Some q) = is_doomed plan past q
 
 -- the exception that t carries out of p
-abbrev pub carried : Plan → ℕ → ℕ → List Entry → Option ℕ
-carried plan p t past =
+abbrev pub exception_carried : Plan → List Entry → ℕ → ℕ → Option ℕ
+exception_carried plan past p t =
     if is_deaf plan past (parent plan p) then None
-    else mapped plan p (newest (is_in kind.End p) past) (newest (is_by kind.Abort p t) past)
+    else outcome_mapped plan p (newest (is_in kind.End p) past) (newest (is_by kind.Abort p t) past)
 
 -- a participant leaves a place that has ended, with the exception that it carries out
 pub record MayLeave (plan : Plan) (past : List Entry) (e : Entry) : Type 0 where
-  pub here : inside plan e.by past ≡ Some e.place
-  pub when : ended e.place past ≡ true
-  pub carries : Names e (carried plan e.place e.by past)
+  pub here : inside plan past e.by ≡ Some e.place
+  pub when : has_ended past e.place ≡ true
+  pub carries : Names e (exception_carried plan past e.place e.by)
   pub value : e.value ≡ pos 0
 
 -- ---- all kinds

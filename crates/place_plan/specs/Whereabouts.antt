@@ -12,56 +12,56 @@ use Rattle.place_plan.specs.Entries.{has}
 -- ---- participants
 
 -- an arrival leads into its place, and a withdrawal or a leave out into the place round it; `own` says that t made the entry
-abbrev pub moved : Plan → Kind → ℕ → Bool → Option ℕ → Option ℕ
-moved plan kind.Arrive p own was = if own then Some p else was
-moved plan kind.Withdraw p own was = if own then parent plan p else was
-moved plan kind.Leave p own was = if own then parent plan p else was
-moved plan _ p own was = was
+abbrev pub inside_after : Plan → Kind → ℕ → Bool → Option ℕ → Option ℕ
+inside_after plan kind.Arrive p own was = if own then Some p else was
+inside_after plan kind.Withdraw p own was = if own then parent plan p else was
+inside_after plan kind.Leave p own was = if own then parent plan p else was
+inside_after plan _ p own was = was
 
 -- the innermost of the places where t has arrived and from which it has since neither withdrawn nor gone out; none where it is in
 -- no place
-abbrev pub inside : Plan → ℕ → List Entry → Option ℕ
-inside plan t [] = None
-inside plan t (e ∷ past) = moved plan e.kind e.place (e.by == t) (inside plan t past)
+abbrev pub inside : Plan → List Entry → ℕ → Option ℕ
+inside plan [] t = None
+inside plan (e ∷ past) t = inside_after plan e.kind e.place (e.by == t) (inside plan past t)
 
 -- p is the innermost place that t is in
-abbrev pub is_inside : Plan → ℕ → List Entry → ℕ → Bool
-is_inside plan p past t = is_at (inside plan t past) p
+abbrev pub is_inside : Plan → List Entry → ℕ → ℕ → Bool
+is_inside plan past p t = is_at (inside plan past t) p
 
 -- each role of p is in p, and in no place inside it
-abbrev pub all_inside : Plan → ℕ → List Entry → Bool
-all_inside plan p past = list_all (is_inside plan p past) (roles_of plan p)
+abbrev pub all_are_inside : Plan → List Entry → ℕ → Bool
+all_are_inside plan past p = list_all (is_inside plan past p) (roles_of plan p)
 
 -- whether t stays in p after such an entry of its own there
-abbrev pub stayed : Kind → Bool → Bool
-stayed kind.Arrive was = true
-stayed kind.Withdraw was = false
-stayed kind.Leave was = false
-stayed _ was = was
+abbrev pub stays_after : Kind → Bool → Bool
+stays_after kind.Arrive was = true
+stays_after kind.Withdraw was = false
+stays_after kind.Leave was = false
+stays_after _ was = was
 
 -- t has arrived in p, and since then has neither withdrawn from it nor left it
-abbrev pub stays : ℕ → ℕ → List Entry → Bool
-stays p t [] = false
-stays p t (e ∷ past) = if (e.place == p) && (e.by == t) then stayed e.kind (stays p t past) else stays p t past
+abbrev pub stays : List Entry → ℕ → ℕ → Bool
+stays [] p t = false
+stays (e ∷ past) p t = if (e.place == p) && (e.by == t) then stays_after e.kind (stays past p t) else stays past p t
 
 -- ---- places
 
 -- p has a Start
-abbrev pub started : ℕ → List Entry → Bool
-started p past = has kind.Start p past
+abbrev pub has_started : List Entry → ℕ → Bool
+has_started past p = has kind.Start past p
 
 -- p has an End
-abbrev pub ended : ℕ → List Entry → Bool
-ended p past = has kind.End p past
+abbrev pub has_ended : List Entry → ℕ → Bool
+has_ended past p = has kind.End past p
 
 -- p has an Undo: it goes on with its restores, or has ended after them
-abbrev pub undoing : ℕ → List Entry → Bool
-undoing p past = has kind.Undo p past
+abbrev pub is_undoing : List Entry → ℕ → Bool
+is_undoing past p = has kind.Undo past p
 
 -- p has started and not ended
-abbrev pub live : ℕ → List Entry → Bool
-live p past = started p past && not (ended p past)
+abbrev pub is_live : List Entry → ℕ → Bool
+is_live past p = has_started past p && not (has_ended past p)
 
 -- p is live and not undoing
-abbrev pub going : ℕ → List Entry → Bool
-going p past = live p past && not (undoing p past)
+abbrev pub is_going : List Entry → ℕ → Bool
+is_going past p = is_live past p && not (is_undoing past p)

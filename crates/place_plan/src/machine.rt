@@ -75,7 +75,7 @@ pub trait Machine {
     /// The value of an object by the journal.
     fn value(&self, object: Object) -> i64
         requires { object < length (plan_of self.now).objects }
-        ensures { result ≡ value_of (plan_of self.now) object (reverse (journal_of self.now)) };
+        ensures { result ≡ value_of (plan_of self.now) (reverse (journal_of self.now)) object };
 
     /// The journal is legal.
     ghost legal: { (m : Self) → LegalPast (plan_of m) (reverse (journal_of m)) };

@@ -1,6 +1,6 @@
 ghost use Rattle.std.specs.Prelude.{◌≡◌, ◌<◌, ◌&&◌, List, length, reverse};
 ghost use Rattle.std.specs.List.{list_any};
-ghost use Rattle.place_plan.specs.Places.{within};
+ghost use Rattle.place_plan.specs.Places.{is_within};
 ghost use Rattle.place_plan.specs.Objects.{restores, writes, value_of};
 
 use crate::plan::Plan;
@@ -9,7 +9,7 @@ use caa_base::entry::{Entry, Kind, Object, Place};
 /// The value of an object after these entries: that of its last write that no later restore took back, else its initial value.
 pub fn value_at(plan: &Plan, entries: &[Entry], object: Object) -> i64
     requires { object < length plan.now.objects }
-    ensures { result ≡ value_of plan.now object (reverse entries.now) }
+    ensures { result ≡ value_of plan.now (reverse entries.now) object }
 {
     for index in (0..entries.len()).rev() {
         let entry = &entries[index];
@@ -22,7 +22,7 @@ pub fn value_at(plan: &Plan, entries: &[Entry], object: Object) -> i64
 
 /// Whether one of these entries restores the object in this place or in one round it, and the device took it.
 fn is_restored(plan: &Plan, entries: &[Entry], object: Object, place: Place) -> bool
-    ensures { result ≡ list_any (λ e. restores object e && within plan.now place e.place) entries.now }
+    ensures { result ≡ list_any (λ e. restores object e && is_within plan.now place e.place) entries.now }
 {
     entries.iter().any(|entry| restores(entry, object) && plan.is_within(place, entry.place))
 }

@@ -172,7 +172,7 @@ pub complete : IsComplete plan journal
 complete = complete_from plan journal refl
 
 -- what the objects hold at the end
-pub values : value_of plan x (reverse journal) ≡ pos 5
+pub values : value_of plan (reverse journal) x ≡ pos 5
 values = refl
 
 -- the puts that the device took
@@ -185,7 +185,7 @@ well_formed = search rules
 
 -- what the places leave that ended, with all round them, by commit or signal
 abbrev kept_value : ℕ → ℤ
-kept_value o = last_write plan o (λ e. is_kept plan (reverse journal) e.place) (reverse journal)
+kept_value o = last_write plan (reverse journal) o (λ e. is_kept plan (reverse journal) e.place)
 
 pub kept_values : kept_value x ≡ pos 5
 kept_values = refl

@@ -144,7 +144,7 @@ pub complete : IsComplete plan journal
 complete = complete_from plan journal refl
 
 -- what the objects hold at the end
-pub values : value_of plan x (reverse journal) ≡ pos 7
+pub values : value_of plan (reverse journal) x ≡ pos 7
 values = refl
 
 -- the puts that the device took

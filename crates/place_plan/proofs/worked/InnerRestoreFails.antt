@@ -130,7 +130,7 @@ pub complete : IsComplete plan journal
 complete = complete_from plan journal refl
 
 -- what the objects hold at the end
-pub values : value_of plan x (reverse journal) ≡ pos 1
+pub values : value_of plan (reverse journal) x ≡ pos 1
 values = refl
 
 -- the puts that the device took

@@ -16,7 +16,7 @@ use Rattle.place_plan.specs.declared.rows.Step.TheVariants as step
 use Rattle.place_plan.specs.PlanValue.{Plan}
 use Rattle.place_plan.specs.Places.{internal_of}
 use Rattle.place_plan.specs.Objects.{value_of}
-use Rattle.place_plan.specs.Journals.{IsLegal, IsComplete, puts_of, committed}
+use Rattle.place_plan.specs.Journals.{IsLegal, IsComplete, puts_of, committed_value}
 use Rattle.place_plan.specs.Laws.{last_write, is_kept}
 use Rattle.place_plan.specs.Bound.{bound, action_bound}
 use Rattle.place_plan.proofs.worked.Words.{plain_graph, arrive, start, write, put_fault, resolve, handle, verdict_done, end_commit, leave}
@@ -105,7 +105,7 @@ pub complete : IsComplete plan journal
 complete = complete_from plan journal refl
 
 -- what the objects hold at the end
-pub values : value_of plan x (reverse journal) ≡ pos 4
+pub values : value_of plan (reverse journal) x ≡ pos 4
 values = refl
 
 -- the puts that the device took
@@ -113,7 +113,7 @@ pub puts : puts_of journal ≡ (x, pos 1) ∷ (x, pos 2) ∷ (x, pos 4) ∷ []
 puts = refl
 
 -- what the object holds by none, and by the one play that ended
-pub committed_values : (committed plan (reverse journal) 0 x ≡ pos 0) × (committed plan (reverse journal) 1 x ≡ pos 4)
+pub committed_values : (committed_value plan (reverse journal) 0 x ≡ pos 0) × (committed_value plan (reverse journal) 1 x ≡ pos 4)
 committed_values = (refl, refl)
 
 -- each entry has fields that fit its kind
@@ -122,7 +122,7 @@ well_formed = search rules
 
 -- what the places leave that ended, with all round them, by commit or signal
 abbrev kept_value : ℕ → ℤ
-kept_value o = last_write plan o (λ e. is_kept plan (reverse journal) e.place) (reverse journal)
+kept_value o = last_write plan (reverse journal) o (λ e. is_kept plan (reverse journal) e.place)
 
 pub kept_values : kept_value x ≡ pos 4
 kept_values = refl

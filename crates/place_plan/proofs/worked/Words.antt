@@ -16,7 +16,7 @@ use Rattle.place_plan.specs.declared.rows.Program.{Program}
 use Rattle.place_plan.specs.declared.rows.Step.{Step}
 use Rattle.place_plan.specs.declared.rows.AbortRow.{AbortRow}
 use Rattle.place_plan.specs.PlanValue.{Plan}
-use Rattle.place_plan.specs.Roles.{over}
+use Rattle.place_plan.specs.Roles.{is_over}
 use Rattle.place_plan.specs.Rules.{MayFollow}
 use Rattle.place_plan.specs.WellFormed.{IsWellFormed}
 use Rattle.place_plan.specs.Journals.{LegalPast, IsLegal, IsComplete}
@@ -193,7 +193,7 @@ least_cover_from order xs x h =
     implied false b h e = absurd (false≢true e)
 
 -- a journal is complete where all its participants are over
-pub complete_from : (plan : Plan) (journal : List Entry) → each_below (length plan.participants) (over plan (reverse journal)) ≡ true → IsComplete plan journal
+pub complete_from : (plan : Plan) (journal : List Entry) → each_below (length plan.participants) (is_over plan (reverse journal)) ≡ true → IsComplete plan journal
 complete_from plan journal h = at_below _ _ h
 
 -- each entry has fields that fit its kind

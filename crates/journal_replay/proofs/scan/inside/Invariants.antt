@@ -3,4 +3,4 @@ use Rattle.place_plan.specs.Whereabouts.{inside}
 use Rattle.journal_replay.proofs.scan.inside.Given as goal
 
 abbrev pub invariant-loop-entry : goal.invariant-loop-entry
-invariant-loop-entry l = l.place ≡ inside l.plan l.by (reverse (take l.entry-index l.journal))
+invariant-loop-entry l = l.place ≡ inside l.plan (reverse (take l.entry-index l.journal)) l.by

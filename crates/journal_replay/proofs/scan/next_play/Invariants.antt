@@ -8,4 +8,4 @@ use Rattle.journal_replay.proofs.scan.next_play.Given as goal
 
 abbrev pub invariant-loop-play : goal.invariant-loop-play
 invariant-loop-play l =
-    first_not (λ p. has_by kind.Arrive p l.by (reverse l.journal)) (plays_with l.plan l.by (drop l.play-index l.play-items)) ≡ next_play l.plan l.by (reverse l.journal)
+    first_not (λ p. has_by kind.Arrive (reverse l.journal) p l.by) (plays_with l.plan l.by (drop l.play-index l.play-items)) ≡ next_play l.plan (reverse l.journal) l.by

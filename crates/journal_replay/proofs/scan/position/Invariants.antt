@@ -4,6 +4,6 @@ use Rattle.journal_replay.proofs.scan.position.Given as goal
 
 abbrev pub invariant-loop-entry : goal.invariant-loop-entry
 invariant-loop-entry l = record {
-  value : l.count ≡ position l.plan l.place l.by (reverse (take l.entry-index l.journal));
+  value : l.count ≡ position l.plan (reverse (take l.entry-index l.journal)) l.place l.by;
   small : l.count ≤ l.entry-index;
 }

@@ -3,4 +3,4 @@ use Rattle.place_plan.specs.Roles.{register}
 use Rattle.journal_replay.proofs.scan.register.Given as goal
 
 abbrev pub invariant-loop-entry : goal.invariant-loop-entry
-invariant-loop-entry l = l.value ≡ register l.plan l.place l.by (reverse (take l.entry-index l.journal))
+invariant-loop-entry l = l.value ≡ register l.plan (reverse (take l.entry-index l.journal)) l.place l.by

@@ -5,5 +5,5 @@ use Rattle.place_plan.proofs.value.value_at.Given as goal
 
 abbrev pub invariant-loop-index : goal.invariant-loop-index
 invariant-loop-index l =
-    value_of l.plan l.object (reverse l.entries)
-    ≡ value_outside l.plan l.object (restored_in l.object (drop l.index l.entries)) (reverse (take l.index l.entries))
+    value_of l.plan (reverse l.entries) l.object
+    ≡ value_outside l.plan (reverse (take l.index l.entries)) l.object (restored_in l.object (drop l.index l.entries))

@@ -10,7 +10,7 @@ pub returns-then-not-fits-clause-answer : goal.returns-then-not-fits-clause-answ
 returns-then-not-fits-clause-answer g c =
     let hall = c.args.self.now in
     let value : to_z w64 (of_z w64 c.register-from.result) ≡ c.register-from.result = omega (arith, ints) in
-    let from = value ∙ c.register-from.ensures ∙ ap (λ j. register hall.plan c.in-Now.entry.place c.args.by (reverse j)) c.as_slice.ensures in
+    let from = value ∙ c.register-from.ensures ∙ ap (λ j. register hall.plan (reverse j) c.in-Now.entry.place c.args.by) c.as_slice.ensures in
     record {
       kept = refl;
       may = work_again hall.plan (reverse hall.journal.entries) c.in-Now.entry c.args.by _ c.in-Work.is c.in-Now.ensures.due from;

@@ -15,7 +15,7 @@ bounds-as_slice-interface_number c =
 pub returns : goal.returns
 returns c =
     let has = subst (λ (p : Plan). (action_at p c.args.place).interface < length c.self.inside.graphs) c.self.view_is (has_graphs (plan_view c.self.inside) c.self.invariant.closed c.args.place).1 in
-    let within : c.interface_number.result < length c.as_slice.result.now = omega (arith, has, c.interface_number.ensures, ap length c.as_slice.ensures) in
+    let is_within : c.interface_number.result < length c.as_slice.result.now = omega (arith, has, c.interface_number.ensures, ap length c.as_slice.ensures) in
     ap (λ (row : GraphRow). row.graph)
-    (get_or_default c.as_slice.result.now c.interface_number.result _ no_graph within
+    (get_or_default c.as_slice.result.now c.interface_number.result _ no_graph is_within
     ∙ ap₂ (λ rows i. slice_index_or rows i no_graph) (c.as_slice.ensures ∙ ap (λ (p : Plan). p.graphs) c.self.view_is) c.interface_number.ensures)
