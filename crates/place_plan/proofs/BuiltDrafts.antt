@@ -11,7 +11,7 @@ use Rattle.place_plan.specs.declared.rows.Step.TheVariants as step
 use Rattle.place_plan.specs.Words.{is_empty}
 use Rattle.place_plan.specs.Places.{no_action}
 use Rattle.place_plan.specs.Unfolding.{plan_of, place_of, unfold_at, most_depth, plays_from, tops_from}
-use Rattle.place_plan.specs.DraftRules.{order_rule, nests_below, enter_rule, roles_enter, entered_by, depth_rule, depths_fit, depth_within, handler_rule, handlers_differ, nest_mapped, size_rule, graph_rule, range_rule, fill_rule, object_rule, bound_rule, broken_rule, KeepsParts}
+use Rattle.place_plan.specs.DraftRules.{order_rule, nests_below, enter_rule, roles_enter, entered_by, depth_rule, depths_fit, depth_within, handler_rule, handlers_differ, nest_mapped, size_rule, graph_rule, range_rule, fill_rule, object_rule, bound_rule, has_one_face, face_rule, broken_rule, KeepsParts}
 use Rattle.place_plan.specs.Built.{IsBuilt, is_built_action, is_built_role, is_built_step}
 
 -- what all pass, and the default, each passes
@@ -97,6 +97,15 @@ actions_map draft (a ∷ actions) h =
 pub built_handlers : (draft : Draft) → IsBuilt draft → handler_rule draft ≡ true
 built_handlers draft h = actions_map draft draft.actions h
 
+actions_face : (draft : Draft) (actions : List ActionRow) → list_all is_built_action actions ≡ true → list_all (λ (a : ActionRow). list_all (has_one_face draft) a.nests) actions ≡ true
+actions_face draft [] h = refl
+actions_face draft (a ∷ actions) h =
+    let parts = and_parts (is_built_action a) (list_all is_built_action actions) h in
+    rw (no_nests a parts.0) (actions_face draft actions parts.1)
+
+pub built_faces : (draft : Draft) → IsBuilt draft → face_rule draft ≡ true
+built_faces draft h = actions_face draft draft.actions h
+
 -- ---- unfolding
 
 -- an instance of such an action is one place
@@ -145,5 +154,5 @@ keeps_parts draft built sizes graphs ranges fillings objects = record {
 pub breaks_bound : (draft : Draft) → KeepsParts draft → bound_rule draft ≡ false → broken_rule draft ≡ Some 10
 breaks_bound draft k b = rw (k.sizes, k.graphs, k.ranges, k.order, k.fillings, k.enters, k.objects, k.depths, k.handlers, b) refl
 
-pub breaks_none : (draft : Draft) → KeepsParts draft → bound_rule draft ≡ true → broken_rule draft ≡ None
-breaks_none draft k b = rw (k.sizes, k.graphs, k.ranges, k.order, k.fillings, k.enters, k.objects, k.depths, k.handlers, b) refl
+pub breaks_none : (draft : Draft) → IsBuilt draft → KeepsParts draft → bound_rule draft ≡ true → broken_rule draft ≡ None
+breaks_none draft built k b = rw (k.sizes, k.graphs, k.ranges, k.order, k.fillings, k.enters, k.objects, k.depths, k.handlers, b, built_faces draft built) refl

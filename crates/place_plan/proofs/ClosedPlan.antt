@@ -27,7 +27,8 @@ use Rattle.place_plan.specs.Unfolding.{plan_of, place_of}
 use Rattle.place_plan.specs.DraftRules.{size_rule, first_is_plain, graph_rule, action_fits, role_fits, program_fits, range_rule, is_value, is_rising, is_rising_above, all_below, step_in_range, role_in_range, exceptions_of, graphs_in_range, objects_in_range, parts_in_range, action_in_range, play_in_range, order_rule, fill_rule, fills, enter_rule, object_rule, step_held, role_held, action_held, depth_rule, handler_rule, bound_rule, broken_rule, broken_if, KeepsParts}
 use Rattle.place_plan.specs.Sizes.{HasSizes, row_fits}
 use Rattle.place_plan.specs.Bound.{longest_body, longest_of, longest_handler}
-use Rattle.place_plan.specs.Built.{IsBuilt, IsClosed, is_built_action, is_built_role, is_built_step, is_done}
+use Rattle.place_plan.specs.Closed.{IsClosed, AreSound}
+use Rattle.place_plan.specs.Built.{IsBuilt, is_built_action, is_built_role, is_built_step, is_done}
 use Rattle.place_plan.proofs.Words.{all_at}
 use Rattle.place_plan.proofs.BuiltDrafts.{get_passes, no_handlers, built_steps, built_places, built_plays}
 
@@ -440,7 +441,7 @@ pub sizes_small : (action : ActionRow) (played body handler : ℕ) → HasSizes 
 sizes_small action played body handler h e f =
     let a = and_parts (not (is_empty action.roles)) _ h.parts in
     let b = and_parts (nat_le (length action.roles) 16) _ a.1 in
-    let c = (and_parts (nat_le (length action.nests) 256) _ b.1).1 in
+    let c = (and_parts (list_all role_fits action.roles) _ (and_parts (nat_le (length action.nests) 256) _ b.1).1).0 in
     let first : body ≤ 256 = omega (arith, e, body_within action.roles c) in
     let second : handler ≤ 256 = omega (arith, f, handler_within action.roles c) in
     let is_within : 8 + body + handler ≤ 520 = omega arith in

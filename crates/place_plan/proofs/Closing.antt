@@ -9,6 +9,7 @@ use Rattle.place_plan.specs.PlanView.{plan_view, IsKept}
 use Rattle.place_plan.specs.Bound.{row_bound, bound}
 use Rattle.place_plan.specs.Unfolding.{plan_of, place_of}
 use Rattle.place_plan.specs.DraftRules.{bound_rule, KeepsParts}
+use Rattle.place_plan.specs.Closed.{AreSound}
 use Rattle.place_plan.specs.Built.{IsBuilt}
 use Rattle.place_plan.proofs.BuiltDrafts.{built_places, built_plays, breaks_none}
 use Rattle.place_plan.proofs.ClosedPlan.{length_map}
@@ -63,12 +64,13 @@ module _ (draft : Draft) (built : IsBuilt draft) where
         watches = draft.watches;
       }
 
-  pub kept : KeepsParts draft → length draft.plays ≤ 65536 → (places : List PlaceRow) (plays : List ℕ) (most : ℕ) → places ≡ map place_of draft.plays → plays ≡ range_with_len 0 (length draft.plays) → most ≡ plays_bound → most ≤ 1000000 → IsKept (made places plays most)
-  kept keeps few places plays most p q b l = record {
+  pub kept : KeepsParts draft → length draft.plays ≤ 65536 → AreSound draft.graphs → (places : List PlaceRow) (plays : List ℕ) (most : ℕ) → places ≡ map place_of draft.plays → plays ≡ range_with_len 0 (length draft.plays) → most ≡ plays_bound → most ≤ 1000000 → IsKept (made places plays most)
+  kept keeps few sound places plays most p q b l = record {
     closed = record {
       draft = draft;
       built = built;
-      whole = breaks_none draft keeps (fits few (omega (arith, b)));
+      whole = breaks_none draft built keeps (fits few (omega (arith, b)));
+      sound = sound;
       same = made_view places plays most p q;
     };
     bound = b ∙ ap (sum_by (row_bound draft.actions)) (sym p);

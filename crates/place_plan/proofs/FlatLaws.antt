@@ -6,9 +6,9 @@ use Rattle.caa_base.specs.declared.entry.Kind.{Kind}
 use Rattle.caa_base.specs.declared.entry.Kind.TheVariants as kind
 use Rattle.place_plan.specs.PlanValue.{Plan}
 use Rattle.place_plan.specs.Places.{roles_of, initial_of}
-use Rattle.place_plan.specs.Entries.{is_in, has}
+use Rattle.place_plan.specs.Entries.{is_in, has, newest}
 use Rattle.place_plan.specs.Raising.{is_raised}
-use Rattle.place_plan.specs.Rules.{newest}
+
 use Rattle.place_plan.specs.Journals.{LegalPast}
 use Rattle.place_plan.specs.Laws.{Holds, Splits, ResolutionLaw, OutcomeLaw, EffectLaw, last_write, is_fault, FaultsWithin}
 use Rattle.place_plan.specs.Flat.{IsFlat}

@@ -9,7 +9,7 @@ use Rattle.place_plan.specs.Words.{member, index_of}
 use Rattle.place_plan.specs.Places.{roles_of, action_at, action_in, role_row, no_action, no_place, no_role}
 use Rattle.place_plan.specs.Unfolding.{place_of}
 use Rattle.place_plan.specs.DraftRules.{fills, all_differ}
-use Rattle.place_plan.specs.Built.{IsClosed}
+use Rattle.place_plan.specs.Closed.{IsClosed}
 use Rattle.place_plan.proofs.ClosedPlan.{flat_plan, plan_is_flat, keeps_rules}
 
 -- a place has as many players as its action has roles

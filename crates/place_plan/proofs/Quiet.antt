@@ -15,7 +15,7 @@ use Rattle.place_plan.specs.Entries.{has_by}
 use Rattle.place_plan.specs.Whereabouts.{inside, is_undoing}
 use Rattle.place_plan.specs.Raising.{exceptions_raised, is_doomed, is_calm, is_hot, exception_handled}
 use Rattle.place_plan.specs.Roles.{position, register, next_step, raise_of, program_of, has_given, is_able, verdict_at, verdict_of, is_undo, has_aborted, all_have_aborted, next_play}
-use Rattle.place_plan.specs.Rules.{Row, MayFollow, MayArrive, MayStart, MayRead, MayWork, MayVerdict, MayEnd, MayLeave, AskForUndo, entered, arrival, put_of, is_check, SaysVerdict, final_verdict, verdict_due}
+use Rattle.place_plan.specs.Rules.{Row, MayFollow, MayArrive, MayStart, MayRead, MayWork, MayVerdict, MayEnd, MayLeave, AskForUndo, place_entered, arrival, put_of, is_check, SaysVerdict, final_verdict, verdict_due}
 use Rattle.place_plan.specs.Journals.{LegalPast}
 use Rattle.place_plan.specs.Flat.{IsFlat, IsQuietStep}
 use Rattle.place_plan.proofs.Words.{all_at, chosen, first_not_fails, plays_in}
@@ -51,15 +51,15 @@ quiet_step plan p (Some (step.Raise x)) r h = elim h [ ]
 quiet_step plan p (Some (step.Enter n)) r h = elim h [ ]
 
 -- nor does it enter a place
-not_entered : (plan : Plan) (q : ℕ) (s : Option Step) → IsQuietStep plan q s → entered plan q s ≡ None
-not_entered plan q None h = refl
-not_entered plan q (Some (step.Read o)) h = refl
-not_entered plan q (Some (step.Work k)) h = refl
-not_entered plan q (Some (step.Put o v)) h = elim h [ ]
-not_entered plan q (Some (step.Add o v)) h = elim h [ ]
-not_entered plan q (Some (step.Check a b c)) h = elim h [ ]
-not_entered plan q (Some (step.Raise x)) h = elim h [ ]
-not_entered plan q (Some (step.Enter n)) h = elim h [ ]
+not_entered : (plan : Plan) (past : List Entry) (q t : ℕ) (s : Option Step) → IsQuietStep plan q s → place_entered plan past q t s ≡ None
+not_entered plan past q t None h = refl
+not_entered plan past q t (Some (step.Read o)) h = refl
+not_entered plan past q t (Some (step.Work k)) h = refl
+not_entered plan past q t (Some (step.Put o v)) h = elim h [ ]
+not_entered plan past q t (Some (step.Add o v)) h = elim h [ ]
+not_entered plan past q t (Some (step.Check a b c)) h = elim h [ ]
+not_entered plan past q t (Some (step.Raise x)) h = elim h [ ]
+not_entered plan past q t (Some (step.Enter n)) h = elim h [ ]
 
 module _ (plan : Plan) (fine : IsFlat plan) where
   pub no_parent : (p : ℕ) → parent plan p ≡ None
@@ -77,7 +77,7 @@ module _ (plan : Plan) (fine : IsFlat plan) where
   pub arrives_from_outside : (past : List Entry) (e : Entry) (q : ℕ) → MayArrive plan past e → inside plan past e.by ≡ Some q → ⊥
   arrives_from_outside past e q h w =
       let leads : arrival plan past e.by (Some q) ≡ Some e.place = subst (λ o. arrival plan past e.by o ≡ Some e.place) w h.leads in
-      let none = not_entered plan q (next_step plan past q e.by) (next_step_quiet past q e.by) in
+      let none = not_entered plan past q e.by (next_step plan past q e.by) (next_step_quiet past q e.by) in
       elim (chosen (is_calm plan past q && is_able plan past q e.by) _ _ _ leads) [ inl x ↦ cc | inr x ↦ cc ]
 
   -- one arrives from nowhere, in one's next play

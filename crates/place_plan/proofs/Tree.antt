@@ -8,14 +8,15 @@ use Rattle.place_plan.specs.declared.rows.Step.{Step}
 use Rattle.place_plan.specs.declared.rows.Step.TheVariants as step
 use Rattle.place_plan.specs.PlanValue.{Plan}
 use Rattle.place_plan.specs.Words.{member}
-use Rattle.place_plan.specs.Places.{around, parent, roles_of, is_within}
+use Rattle.place_plan.specs.Places.{around, parent, roles_of, is_within, alternates_of}
+use Rattle.place_plan.specs.Entries.{has_by}
 use Rattle.place_plan.specs.Whereabouts.{inside, all_are_inside, is_inside, has_started, has_ended}
 use Rattle.place_plan.specs.Raising.{is_calm, exception_handled}
 use Rattle.place_plan.specs.Roles.{is_able, position, program_in, next_step}
-use Rattle.place_plan.specs.Rules.{Row, MayArrive, entered, arrival}
+use Rattle.place_plan.specs.Rules.{Row, MayArrive, place_entered, arrival}
 use Rattle.place_plan.specs.Journals.{LegalPast}
 use Rattle.place_plan.specs.Tree.{IsTree, LeadsInside}
-use Rattle.place_plan.proofs.Words.{all_at, at_same, chosen}
+use Rattle.place_plan.proofs.Words.{all_at, at_same, chosen, first_not_fails}
 use Rattle.place_plan.proofs.Entries.{of_kind}
 
 -- the place that t is in is p, or inside it
@@ -24,23 +25,23 @@ in_within plan None p = false
 in_within plan (Some q) p = is_within plan q p
 
 module _ (plan : Plan) (tree : IsTree plan) where
-  -- the place that one enters from q is right inside q
-  entered_in : (q t p : ℕ) (x : Option ℕ) (n : ℕ) (s : Option Step) → slice_get (program_in plan q t x).steps n ≡ s → entered plan q s ≡ Some p → (around plan p ≡ q ∷ around plan q) × (member t (roles_of plan p) ≡ true)
-  entered_in q t p x n None e h = absurd cc
-  entered_in q t p x n (Some (step.Enter k)) e h =
-      subst (LeadsInside plan q t) h (tree.enters q t x n k e)
-  entered_in q t p x n (Some (step.Read a)) e h = absurd cc
-  entered_in q t p x n (Some (step.Put a b)) e h = absurd cc
-  entered_in q t p x n (Some (step.Add a b)) e h = absurd cc
-  entered_in q t p x n (Some (step.Work a)) e h = absurd cc
-  entered_in q t p x n (Some (step.Check a b c)) e h = absurd cc
-  entered_in q t p x n (Some (step.Raise a)) e h = absurd cc
+  -- the place that t enters from q is right inside q
+  entered_in : (past : List Entry) (q t p : ℕ) (x : Option ℕ) (n : ℕ) (s : Option Step) → slice_get (program_in plan q t x).steps n ≡ s → place_entered plan past q t s ≡ Some p → (around plan p ≡ q ∷ around plan q) × (member t (roles_of plan p) ≡ true)
+  entered_in past q t p x n None e h = absurd cc
+  entered_in past q t p x n (Some (step.Enter k)) e h =
+      tree.enters q t x n k e p (first_not_fails (λ c. has_by kind.Arrive past c t) (alternates_of plan q k) p h).1
+  entered_in past q t p x n (Some (step.Read a)) e h = absurd cc
+  entered_in past q t p x n (Some (step.Put a b)) e h = absurd cc
+  entered_in past q t p x n (Some (step.Add a b)) e h = absurd cc
+  entered_in past q t p x n (Some (step.Work a)) e h = absurd cc
+  entered_in past q t p x n (Some (step.Check a b c)) e h = absurd cc
+  entered_in past q t p x n (Some (step.Raise a)) e h = absurd cc
 
   pub arrives_in : (past : List Entry) (e : Entry) (q : ℕ) → MayArrive plan past e → inside plan past e.by ≡ Some q → (around plan e.place ≡ q ∷ around plan q) × (member e.by (roles_of plan e.place) ≡ true)
   arrives_in past e q h w =
       let leads : arrival plan past e.by (Some q) ≡ Some e.place = subst (λ o. arrival plan past e.by o ≡ Some e.place) w h.leads in
       elim (chosen (is_calm plan past q && is_able plan past q e.by) _ _ _ leads) [
-        | inl x ↦ entered_in q e.by e.place (exception_handled past q e.by) (position plan past q e.by) (next_step plan past q e.by) refl x.1
+        | inl x ↦ entered_in past q e.by e.place (exception_handled past q e.by) (position plan past q e.by) (next_step plan past q e.by) refl x.1
         | inr x ↦ absurd cc
       ]
 

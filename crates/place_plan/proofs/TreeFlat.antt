@@ -14,7 +14,7 @@ flat_is_tree plan fine = record {
   chain = λ p q qs h. absurd (no_first p q qs h);
   tops = λ p m. fine.flat p;
   roles_in = λ p q t m r. absurd (false≢true (rw (fine.flat q) at m));
-  enters = λ p t x n k h. absurd (no_enter p k (subst (IsQuietStep plan p) h (fine.quiet p t x n)));
+  enters = λ p t x n k h q m. absurd (no_enter p k (subst (IsQuietStep plan p) h (fine.quiet p t x n)));
 }
   where
     no_first : (p q : ℕ) (qs : List ℕ) → around plan p ≡ q ∷ qs → ⊥

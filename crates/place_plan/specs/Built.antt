@@ -40,10 +40,3 @@ is_built_action action = is_empty action.nests && list_all is_built_role action.
 -- a draft of such actions
 abbrev pub IsBuilt : Draft → Type 0
 IsBuilt draft = list_all is_built_action draft.actions ≡ true
-
--- the plan is the unfolding of a draft that breaks no rule
-pub record IsClosed (plan : Plan) : Type 0 where
-  pub draft : Draft
-  pub built : IsBuilt draft
-  pub whole : broken_rule draft ≡ None
-  pub same : plan ≡ plan_of draft

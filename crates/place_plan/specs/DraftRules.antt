@@ -21,7 +21,7 @@ use Rattle.place_plan.specs.Places.{graph_at, no_action}
 use Rattle.place_plan.specs.Unfolding.{plan_of, most_depth}
 use Rattle.place_plan.specs.Bound.{bound}
 
--- ---- 1: the numbers of parts are within the limits, and each action has a role
+-- ---- 1: no more parts than the limits allow; each action has a role, and each nested use an action
 
 abbrev pub program_fits : Program → Bool
 program_fits program = nat_le (length program.steps) 256
@@ -29,8 +29,14 @@ program_fits program = nat_le (length program.steps) 256
 abbrev pub role_fits : RoleRow → Bool
 role_fits role = program_fits role.body && list_all (λ h. program_fits h.program) role.handlers
 
+-- a nested use has from one to four actions
+abbrev pub nest_fits : NestRow → Bool
+nest_fits nest = not (is_empty nest.actions) && nat_le (length nest.actions) 4
+
 abbrev pub action_fits : ActionRow → Bool
-action_fits action = not (is_empty action.roles) && (nat_le (length action.roles) 16 && (nat_le (length action.nests) 256 && list_all role_fits action.roles))
+action_fits action =
+    not (is_empty action.roles)
+    && (nat_le (length action.roles) 16 && (nat_le (length action.nests) 256 && (list_all role_fits action.roles && list_all nest_fits action.nests)))
 
 abbrev pub size_rule : Draft → Bool
 size_rule draft =
@@ -100,7 +106,7 @@ role_in_range objects internal interface role =
 
 abbrev pub nest_in_range : ℕ → ℕ → ℕ → NestRow → Bool
 nest_in_range actions roles internal nest =
-    nat_lt nest.action actions && (all_below roles nest.roles && (all_below internal nest.maps && (nat_lt nest.undo internal && nat_lt nest.failure internal)))
+    all_below actions nest.actions && (all_below roles nest.roles && (all_below internal nest.maps && (nat_lt nest.undo internal && nat_lt nest.failure internal)))
 
 -- how many exceptions a graph of the draft has
 abbrev pub exceptions_of : Draft → ℕ → ℕ
@@ -129,23 +135,23 @@ abbrev pub play_in_range : Draft → PlayRow → Bool
 play_in_range draft play = nat_lt play.action (length draft.actions) && all_below (length draft.participants) play.who
 
 abbrev pub drill_in_range : Draft → Drill → Bool
-drill_in_range draft drill = nat_lt drill.object (length draft.objects) && (nat_le 1 drill.nth && nat_le drill.nth 1000000)
+drill_in_range draft drill = nat_lt drill.object (length draft.objects)
 
 abbrev pub range_rule : Draft → Bool
 range_rule draft =
     list_all (λ o. is_value o.initial) draft.objects && (list_all (action_in_range draft) draft.actions && (list_all (play_in_range draft) draft.plays
     && (list_all (drill_in_range draft) draft.drills && all_below (length draft.objects) draft.watches)))
 
--- ---- 4: a nested use names an action of a smaller number
+-- ---- 4: what an action nests was declared before it
 
 abbrev pub nests_below : ℕ → List ActionRow → Bool
 nests_below n [] = true
-nests_below n (action ∷ actions) = list_all (λ nest. nat_lt nest.action n) action.nests && nests_below (suc n) actions
+nests_below n (action ∷ actions) = list_all (λ nest. all_below n nest.actions) action.nests && nests_below (suc n) actions
 
 abbrev pub order_rule : Draft → Bool
 order_rule draft = nests_below 0 draft.actions
 
--- ---- 5: a nested use has one role for each role of its action, and a play one participant; none stands twice
+-- ---- 5: every role of what is nested or played is filled by somebody, and nobody fills two
 
 abbrev pub all_differ : List ℕ → Bool
 all_differ [] = true
@@ -155,12 +161,16 @@ all_differ (x ∷ xs) = not (member x xs) && all_differ xs
 abbrev pub fills : Draft → ℕ → List ℕ → Bool
 fills draft action who = (length who == length (slice_index_or draft.actions action no_action).roles) && all_differ who
 
+-- the same roles of the enclosing action fill each alternate
+abbrev pub nest_fills : Draft → NestRow → Bool
+nest_fills draft nest = list_all (λ action. fills draft action nest.roles) nest.actions
+
 abbrev pub fill_rule : Draft → Bool
 fill_rule draft =
-    list_all (λ action. list_all (λ nest. fills draft nest.action nest.roles) action.nests) draft.actions
+    list_all (λ action. list_all (nest_fills draft) action.nests) draft.actions
     && list_all (λ play. fills draft play.action play.who) draft.plays
 
--- ---- 6: the enter steps of a body are just the uses that the role fills, in order, and handlers have none
+-- ---- 6: a body goes once through each use in which its role takes part, in the order of the uses; a handler through none
 
 abbrev pub entered_by : List Step → List ℕ
 entered_by [] = []
@@ -187,7 +197,7 @@ roles_enter nests n (role ∷ roles) =
 abbrev pub enter_rule : Draft → Bool
 enter_rule draft = list_all (λ action. roles_enter action.nests 0 action.roles) draft.actions
 
--- ---- 7: the objects of a step, and those of a nested action, are among the action's objects
+-- ---- 7: an action owns all objects that its steps, and the actions nested in it, touch
 
 abbrev pub step_held : List ℕ → Step → Bool
 step_held objects (step.Read o) = member o objects
@@ -199,7 +209,7 @@ abbrev pub role_held : List ℕ → RoleRow → Bool
 role_held objects role = list_all (step_held objects) role.body.steps && list_all (λ h. list_all (step_held objects) h.program.steps) role.handlers
 
 abbrev pub nest_held : Draft → List ℕ → NestRow → Bool
-nest_held draft objects nest = list_all (λ o. member o objects) (slice_index_or draft.actions nest.action no_action).objects
+nest_held draft objects nest = list_all (λ action. list_all (λ o. member o objects) (slice_index_or draft.actions action no_action).objects) nest.actions
 
 abbrev pub action_held : Draft → ActionRow → Bool
 action_held draft action = list_all (role_held action.objects) action.roles && list_all (nest_held draft action.objects) action.nests
@@ -209,10 +219,15 @@ object_rule draft = list_all (action_held draft) draft.actions
 
 -- ---- 8: no action is deeper than the most; one without nested uses has depth 1
 
+-- the greatest depth of these actions
+abbrev pub deepest_of : (ℕ → ℕ) → List ℕ → ℕ
+deepest_of depth [] = 0
+deepest_of depth (a ∷ rest) = max (depth a) (deepest_of depth rest)
+
 -- the greatest depth of nested uses
 abbrev pub deepest : (ℕ → ℕ) → List NestRow → ℕ
 deepest depth [] = 0
-deepest depth (nest ∷ nests) = max (depth nest.action) (deepest depth nests)
+deepest depth (nest ∷ nests) = max (deepest_of depth nest.actions) (deepest depth nests)
 
 -- the depth of an action, as far as `most` tells
 unfoldable pub depth_within : ℕ → List ActionRow → ℕ → ℕ
@@ -231,8 +246,12 @@ depth_rule draft = depths_fit 0 draft.actions draft.actions
 abbrev pub handlers_differ : RoleRow → Bool
 handlers_differ role = all_differ (map (λ (h : HandlerRow). h.exception) role.handlers)
 
+-- the interface graph of the first action of a use
+abbrev pub face_of : Draft → NestRow → ℕ
+face_of draft nest = (slice_index_or draft.actions (slice_index_or nest.actions 0 0) no_action).interface
+
 abbrev pub nest_mapped : Draft → NestRow → Bool
-nest_mapped draft nest = length nest.maps == exceptions_of draft (slice_index_or draft.actions nest.action no_action).interface
+nest_mapped draft nest = length nest.maps == exceptions_of draft (face_of draft nest)
 
 abbrev pub handler_rule : Draft → Bool
 handler_rule draft = list_all (λ action. list_all handlers_differ action.roles && list_all (nest_mapped draft) action.nests) draft.actions
@@ -241,6 +260,14 @@ handler_rule draft = list_all (λ action. list_all handlers_differ action.roles 
 
 abbrev pub bound_rule : Draft → Bool
 bound_rule draft = nat_le (length (plan_of draft).places) 65536 && nat_le (bound (plan_of draft)) 1000000
+
+-- ---- 11: all actions of a use tell the same exceptions outside
+
+abbrev pub has_one_face : Draft → NestRow → Bool
+has_one_face draft nest = list_all (λ action. (slice_index_or draft.actions action no_action).interface == face_of draft nest) nest.actions
+
+abbrev pub face_rule : Draft → Bool
+face_rule draft = list_all (λ action. list_all (has_one_face draft) action.nests) draft.actions
 
 -- ---- all rules
 
@@ -253,7 +280,7 @@ abbrev pub broken_rule : Draft → Option ℕ
 broken_rule draft =
     broken_if (size_rule draft) 1 (broken_if (graph_rule draft) 2 (broken_if (range_rule draft) 3 (broken_if (order_rule draft) 4 (broken_if (fill_rule draft) 5
     (broken_if (enter_rule draft) 6 (broken_if (object_rule draft) 7 (broken_if (depth_rule draft) 8 (broken_if (handler_rule draft) 9
-    (broken_if (bound_rule draft) 10 None)))))))))
+    (broken_if (bound_rule draft) 10 (broken_if (face_rule draft) 11 None))))))))))
 
 -- the draft breaks no rule of a number below 10
 pub record KeepsParts (draft : Draft) : Type 0 where

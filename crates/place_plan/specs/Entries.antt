@@ -1,5 +1,5 @@
 -- The entries of a journal: what each kind may say, and which stand in a past.
-use Rattle.std.specs.Prelude.{ℕ, ◌==◌, Bool, ◌&&◌, List}
+use Rattle.std.specs.Prelude.{ℕ, ◌==◌, Bool, ◌&&◌, if◌then◌else◌, List, [], ◌∷◌, Option, Some, None}
 use Rattle.std.specs.List.{list_any}
 use Rattle.caa_base.specs.declared.entry.Entry.{Entry}
 use Rattle.caa_base.specs.declared.entry.Kind.{Kind}
@@ -45,3 +45,8 @@ has k past p = list_any (is_in k p) past
 -- the same, made by t
 abbrev pub has_by : Kind → List Entry → ℕ → ℕ → Bool
 has_by k past p t = list_any (is_by k p t) past
+
+-- the newest entry that passes a test
+abbrev pub newest : (Entry → Bool) → List Entry → Option Entry
+newest test [] = None
+newest test (e ∷ past) = if test e then Some e else newest test past

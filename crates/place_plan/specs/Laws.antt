@@ -8,11 +8,11 @@ use Rattle.caa_base.specs.declared.entry.Kind.TheVariants as kind
 use Rattle.place_plan.specs.PlanValue.{Plan}
 use Rattle.place_plan.specs.Words.{member}
 use Rattle.place_plan.specs.Places.{around, is_within, roles_of, uses, initial_of, internal_of, handler_of}
-use Rattle.place_plan.specs.Entries.{is_of, is_in, is_by, has, has_by}
+use Rattle.place_plan.specs.Entries.{is_of, is_in, is_by, has, has_by, newest}
 use Rattle.place_plan.specs.Whereabouts.{inside, stays, is_live, has_ended, has_started}
 use Rattle.place_plan.specs.Raising.{exceptions_raised, is_raised, exception_resolved}
 use Rattle.place_plan.specs.Objects.{holder_of, value_of, writes, has_failed}
-use Rattle.place_plan.specs.Rules.{MayFollow, newest}
+use Rattle.place_plan.specs.Rules.{MayFollow}
 use Rattle.place_plan.specs.Journals.{LegalPast, AllOver}
 use Rattle.place_plan.specs.Bound.{bound}
 

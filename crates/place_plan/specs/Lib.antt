@@ -15,6 +15,7 @@ pub mod Flat
 pub mod Unfolding
 pub mod DraftRules
 pub mod Built
+pub mod Closed
 pub mod Due
 pub mod Tree
 pub mod PlanView

@@ -13,7 +13,7 @@ use Rattle.place_plan.specs.declared.rows.Program.{Program}
 use Rattle.place_plan.specs.declared.rows.AbortRow.{AbortRow}
 use Rattle.place_plan.specs.declared.rows.AbortRow.TheVariants as abort
 use Rattle.place_plan.specs.PlanValue.{Plan}
-use Rattle.place_plan.specs.Words.{member, index_of, first_of, last_or}
+use Rattle.place_plan.specs.Words.{member, index_of, first_of, last_or, next_after}
 
 -- ---- past the end of a table: nobody has a role there, and nothing is done
 
@@ -30,7 +30,7 @@ abbrev pub no_place : PlaceRow
 no_place = record { around = []; nest = 0; action = 0; roles = []; children = [] }
 
 abbrev pub no_nest : NestRow
-no_nest = record { name = []; action = 0; roles = []; maps = []; undo = 0; failure = 0 }
+no_nest = record { name = []; actions = []; roles = []; maps = []; undo = 0; failure = 0 }
 
 abbrev pub no_graph : GraphRow
 no_graph = record { graph = record { count = 0; rows = [] }; names = [] }
@@ -81,9 +81,28 @@ objects_of plan p = (action_at plan p).objects
 abbrev pub uses : Plan → ℕ → ℕ → Bool
 uses plan p o = member o (objects_of plan p)
 
--- the place of the nested use of this number, if p has one
-abbrev pub child : Plan → ℕ → ℕ → Option ℕ
-child plan p nest = slice_get (place_at plan p).children nest
+-- ---- nested uses and their alternates
+
+-- the places of the nested use of this number in p, one for each of its actions, in the order in which they are tried
+abbrev pub alternates_of : Plan → ℕ → ℕ → List ℕ
+alternates_of plan p nest = slice_index_or (place_at plan p).children nest []
+
+-- the place of this alternate of a nested use, if p has one
+abbrev pub child : Plan → ℕ → ℕ → ℕ → Option ℕ
+child plan p nest alternate = slice_get (alternates_of plan p nest) alternate
+
+-- which nested use of the place round it p is of
+abbrev pub nest_number : Plan → ℕ → ℕ
+nest_number plan p = (place_at plan p).nest
+
+-- the place of the next action of the use of q that p is of
+abbrev pub next_in : Plan → ℕ → Option ℕ → Option ℕ
+next_in plan p None = None
+next_in plan p (Some q) = next_after p (alternates_of plan q (nest_number plan p))
+
+-- the place of the next action of the same use; none for a play, and for the last action of a use
+abbrev pub next_alternate : Plan → ℕ → Option ℕ
+next_alternate plan p = next_in plan p (parent plan p)
 
 -- ---- what t plays in p
 
@@ -143,9 +162,9 @@ abbrev pub nest_in : Plan → ℕ → Option ℕ → NestRow
 nest_in plan nest None = no_nest
 nest_in plan nest (Some q) = slice_index_or (action_at plan q).nests nest no_nest
 
--- the use of the enclosing action that p is
+-- the use of the enclosing action that p is of
 abbrev pub nest_of : Plan → ℕ → NestRow
-nest_of plan p = nest_in plan (place_at plan p).nest (parent plan p)
+nest_of plan p = nest_in plan (nest_number plan p) (parent plan p)
 
 -- what an exception of p is in the place round it
 abbrev pub map_signal : Plan → ℕ → ℕ → ℕ

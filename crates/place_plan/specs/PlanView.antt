@@ -2,7 +2,7 @@
 use Rattle.std.specs.Prelude.{◌≡◌}
 use Rattle.place_plan.specs.PlanValue.{Plan}
 use Rattle.place_plan.specs.Bound.{bound}
-use Rattle.place_plan.specs.Built.{IsClosed}
+use Rattle.place_plan.specs.Closed.{IsClosed}
 use Rattle.place_plan.specs.declared.plan.Plan.TheInside.{Inside}
 
 abbrev pub plan_view : Inside → Plan

@@ -15,25 +15,26 @@ use Rattle.place_plan.specs.PlanValue.{Plan}
 use Rattle.place_plan.specs.Words.{is_at, first_not, last_of}
 use Rattle.place_plan.specs.Places.{idle, parent, roles_of, body_of, handler_of, plays_of}
 use Rattle.place_plan.specs.Entries.{is_in, is_by, has, has_by}
+use Rattle.place_plan.specs.Whereabouts.{is_left_in_silence}
 use Rattle.place_plan.specs.Raising.{exception_handled, is_raised, is_calm, is_hot}
 
 -- ---- steps
 
--- a step of its maker in p; coming back from a nested use is one
-abbrev pub advances : Plan → ℕ → Entry → Kind → Bool
-advances plan p e kind.Read = e.place == p
-advances plan p e kind.Work = e.place == p
-advances plan p e kind.Write = e.place == p
-advances plan p e kind.Check = e.place == p
-advances plan p e kind.Leave = is_at (parent plan e.place) p
-advances plan p e _ = false
+-- a step of its maker in p, where `past` stands before it; coming back from a nested use is one, but not a leave in silence
+abbrev pub advances : Plan → List Entry → ℕ → Entry → Kind → Bool
+advances plan past p e kind.Read = e.place == p
+advances plan past p e kind.Work = e.place == p
+advances plan past p e kind.Write = e.place == p
+advances plan past p e kind.Check = e.place == p
+advances plan past p e kind.Leave = is_at (parent plan e.place) p && not (is_left_in_silence plan past e.place)
+advances plan past p e _ = false
 
 -- how many steps t has made in p, since its Handle there where it has one
 abbrev pub position : Plan → List Entry → ℕ → ℕ → ℕ
 position plan [] p t = zero
 position plan (e ∷ past) p t =
     if is_by kind.Handle p t e then zero
-    else (if advances plan p e e.kind && (e.by == t) then suc (position plan past p t)
+    else (if advances plan past p e e.kind && (e.by == t) then suc (position plan past p t)
     else position plan past p t)
 
 -- the kinds of entry that give their maker's register its value

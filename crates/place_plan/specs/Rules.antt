@@ -12,9 +12,10 @@ use Rattle.place_plan.specs.declared.rows.AbortRow.TheVariants as abort
 use Rattle.place_plan.specs.declared.rows.Step.{Step}
 use Rattle.place_plan.specs.declared.rows.Step.TheVariants as step
 use Rattle.place_plan.specs.PlanValue.{Plan}
-use Rattle.place_plan.specs.Places.{parent, roles_of, handler_of, abort_row, internal_of, interface_of, child, nest_of, map_signal}
-use Rattle.place_plan.specs.Entries.{has, is_in, is_by}
-use Rattle.place_plan.specs.Whereabouts.{inside, all_are_inside, has_started, has_ended, is_undoing, is_going}
+use Rattle.place_plan.specs.Words.{first_not}
+use Rattle.place_plan.specs.Places.{parent, roles_of, handler_of, abort_row, internal_of, interface_of, alternates_of, nest_of, map_signal}
+use Rattle.place_plan.specs.Entries.{has, has_by, is_in, is_by, newest}
+use Rattle.place_plan.specs.Whereabouts.{inside, all_are_inside, has_started, has_ended, is_undoing, is_going, is_left_in_silence}
 use Rattle.place_plan.specs.Raising.{has_handled, exceptions_raised, is_doomed, is_calm, is_hot, is_halted, all_are_halted, exception_resolved}
 use Rattle.place_plan.specs.Objects.{holder_of, objects_are_ready, value_of, before_start, has_failed, next_restore}
 use Rattle.place_plan.specs.Roles.{register, program_of, next_step, next_raise, meets, has_given, all_have_given, is_handling, was_refused_in_handler, is_able, wants_undo, signals, has_aborted, all_have_aborted, next_play}
@@ -40,15 +41,15 @@ SaysVerdict e verdict.Undo = (e.mark ≡ 2) × (e.arg ≡ 0)
 
 -- ---- coming to a place, and going away from one that never started
 
--- the place that an enter step leads into
-abbrev pub entered : Plan → ℕ → Option Step → Option ℕ
-entered plan q (Some (step.Enter nest)) = child plan q nest
-entered plan q _ = None
+-- the place that an enter step of t in q leads into: the first of its use, in order, in which t has not arrived
+abbrev pub place_entered : Plan → List Entry → ℕ → ℕ → Option Step → Option ℕ
+place_entered plan past q t (Some (step.Enter nest)) = first_not (λ p. has_by kind.Arrive past p t) (alternates_of plan q nest)
+place_entered plan past q t _ = None
 
 -- where t arrives next: from no place in its next play, and from a calm place that it is able in, where its next step leads
 abbrev pub arrival : Plan → List Entry → ℕ → Option ℕ → Option ℕ
 arrival plan past t None = next_play plan past t
-arrival plan past t (Some q) = if is_calm plan past q && is_able plan past q t then entered plan q (next_step plan past q t) else None
+arrival plan past t (Some q) = if is_calm plan past q && is_able plan past q t then place_entered plan past q t (next_step plan past q t) else None
 
 pub record MayArrive (plan : Plan) (past : List Entry) (e : Entry) : Type 0 where
   pub leads : arrival plan past e.by (inside plan past e.by) ≡ Some e.place
@@ -272,11 +273,6 @@ pub record MayEnd (plan : Plan) (past : List Entry) (e : Entry) : Type 0 where
 
 -- ---- leaving
 
--- the newest entry that passes a test
-abbrev pub newest : (Entry → Bool) → List Entry → Option Entry
-newest test [] = None
-newest test (e ∷ past) = if test e then Some e else newest test past
-
 -- what an Abort names, in the place round p
 abbrev pub abort_mapped : Plan → ℕ → Option Entry → Option ℕ
 abort_mapped plan p None = None
@@ -298,10 +294,10 @@ abbrev pub is_deaf : Plan → List Entry → Option ℕ → Bool
 is_deaf plan past None = true
 is_deaf plan past (Some q) = is_doomed plan past q
 
--- the exception that t carries out of p
+-- the exception that t carries out of p; none where it goes on to the next alternate
 abbrev pub exception_carried : Plan → List Entry → ℕ → ℕ → Option ℕ
 exception_carried plan past p t =
-    if is_deaf plan past (parent plan p) then None
+    if is_deaf plan past (parent plan p) || is_left_in_silence plan past p then None
     else outcome_mapped plan p (newest (is_in kind.End p) past) (newest (is_by kind.Abort p t) past)
 
 -- a participant leaves a place that has ended, with the exception that it carries out

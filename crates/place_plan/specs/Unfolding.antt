@@ -17,27 +17,45 @@ Unfolding = ℕ → List ℕ → List ℕ → ℕ → ℕ → List PlaceRow
 abbrev pub cast_of : List ℕ → NestRow → List ℕ
 cast_of who nest = map (λ role. slice_index_or who role 0) nest.roles
 
--- nested uses, each with its whole subtree, one after another; `i` is the number of the first, and `n` that of its place
-abbrev pub nested : Unfolding → List ℕ → List ℕ → ℕ → ℕ → List NestRow → List PlaceRow
-nested unfold_one who around i n [] = []
-nested unfold_one who around i n (nest ∷ nests) =
-    let subtree = unfold_one nest.action (cast_of who nest) around i n in
-    subtree ++ nested unfold_one who around (suc i) (n + length subtree) nests
+-- the alternates of one use, each with its whole subtree, one after another; `n` is the number of the first place
+abbrev pub alternates_from : Unfolding → List ℕ → List ℕ → ℕ → ℕ → List ℕ → List PlaceRow
+alternates_from unfold_one who around i n [] = []
+alternates_from unfold_one who around i n (a ∷ rest) =
+    let subtree = unfold_one a who around i n in
+    subtree ++ alternates_from unfold_one who around i (n + length subtree) rest
 
--- the places of nested uses
-abbrev pub numbers : Unfolding → List ℕ → List ℕ → ℕ → ℕ → List NestRow → List ℕ
-numbers unfold_one who around i n [] = []
-numbers unfold_one who around i n (nest ∷ nests) =
-    let subtree = unfold_one nest.action (cast_of who nest) around i n in
-    n ∷ numbers unfold_one who around (suc i) (n + length subtree) nests
+-- the numbers of their places
+abbrev pub numbers_from : Unfolding → List ℕ → List ℕ → ℕ → ℕ → List ℕ → List ℕ
+numbers_from unfold_one who around i n [] = []
+numbers_from unfold_one who around i n (a ∷ rest) =
+    let subtree = unfold_one a who around i n in
+    n ∷ numbers_from unfold_one who around i (n + length subtree) rest
+
+-- the alternates of one nested use of a place that these play
+abbrev pub use_from : Unfolding → List ℕ → List ℕ → ℕ → ℕ → NestRow → List PlaceRow
+use_from unfold_one who around i n nest = alternates_from unfold_one (cast_of who nest) around i n nest.actions
+
+-- nested uses, each with all its alternates, one after another; `i` is the number of the first, and `n` that of its first place
+abbrev pub uses_from : Unfolding → List ℕ → List ℕ → ℕ → ℕ → List NestRow → List PlaceRow
+uses_from unfold_one who around i n [] = []
+uses_from unfold_one who around i n (nest ∷ nests) =
+    let trees = use_from unfold_one who around i n nest in
+    trees ++ uses_from unfold_one who around (suc i) (n + length trees) nests
+
+-- the numbers of the places of nested uses, of each use those of its alternates
+abbrev pub children_from : Unfolding → List ℕ → List ℕ → ℕ → ℕ → List NestRow → List (List ℕ)
+children_from unfold_one who around i n [] = []
+children_from unfold_one who around i n (nest ∷ nests) =
+    let trees = use_from unfold_one who around i n nest in
+    numbers_from unfold_one (cast_of who nest) around i n nest.actions ∷ children_from unfold_one who around (suc i) (n + length trees) nests
 
 -- an instance, and what is nested in it at most `depth` deep: its place first, and then its nested uses in order
 unfoldable pub unfold_at : ℕ → List ActionRow → Unfolding
 unfold_at zero actions a who around i n = []
 unfold_at (suc depth) actions a who around i n =
     let nests = (slice_index_or actions a no_action).nests in
-    record { around = around; nest = i; action = a; roles = who; children = numbers (unfold_at depth actions) who (n ∷ around) 0 (n + 1) nests }
-    ∷ nested (unfold_at depth actions) who (n ∷ around) 0 (n + 1) nests
+    record { around = around; nest = i; action = a; roles = who; children = children_from (unfold_at depth actions) who (n ∷ around) 0 (n + 1) nests }
+    ∷ uses_from (unfold_at depth actions) who (n ∷ around) 0 (n + 1) nests
 
 -- the place of a play in which nothing is nested
 abbrev pub place_of : PlayRow → PlaceRow

@@ -1,13 +1,13 @@
 -- Where participants are, and how far places have come. A past is a list of entries, the newest first.
-use Rattle.std.specs.Prelude.{ℕ, ◌==◌, Bool, true, false, not, ◌&&◌, if◌then◌else◌, List, [], ◌∷◌, Option, Some, None}
+use Rattle.std.specs.Prelude.{ℕ, ◌==◌, Bool, true, false, not, ◌&&◌, if◌then◌else◌, List, [], ◌∷◌, Option, Some, None, is_none}
 use Rattle.std.specs.List.{list_all}
 use Rattle.caa_base.specs.declared.entry.Entry.{Entry}
 use Rattle.caa_base.specs.declared.entry.Kind.{Kind}
 use Rattle.caa_base.specs.declared.entry.Kind.TheVariants as kind
 use Rattle.place_plan.specs.PlanValue.{Plan}
 use Rattle.place_plan.specs.Words.{is_at}
-use Rattle.place_plan.specs.Places.{parent, roles_of}
-use Rattle.place_plan.specs.Entries.{has}
+use Rattle.place_plan.specs.Places.{parent, roles_of, next_alternate}
+use Rattle.place_plan.specs.Entries.{has, is_in, newest}
 
 -- ---- participants
 
@@ -57,6 +57,15 @@ has_ended past p = has kind.End past p
 -- p has an Undo: it goes on with its restores, or has ended after them
 abbrev pub is_undoing : List Entry → ℕ → Bool
 is_undoing past p = has kind.Undo past p
+
+-- the entry is the End of an undo that went well
+abbrev pub is_undone : Option Entry → Bool
+is_undone None = false
+is_undone (Some e) = e.mark == 2
+
+-- p was undone, and its use has a next alternate: its roles leave it in silence and enter that one
+abbrev pub is_left_in_silence : Plan → List Entry → ℕ → Bool
+is_left_in_silence plan past p = is_undone (newest (is_in kind.End p) past) && not (is_none (next_alternate plan p))
 
 -- p has started and not ended
 abbrev pub is_live : List Entry → ℕ → Bool

@@ -2,7 +2,7 @@ ghost use Rattle.std.specs.Prelude.{◌≡◌, ◌<◌, ◌≤◌, ◌+◌, nat_
 ghost use Rattle.std.specs.List.{list_all};
 ghost use Rattle.place_plan.specs.Places.{no_action};
 ghost use Rattle.place_plan.specs.Words.{member};
-ghost use Rattle.place_plan.specs.DraftRules.{program_fits, role_fits, action_fits, size_rule, is_named, graph_rule, is_value, is_rising, is_rising_above, all_below, step_in_range, verdict_in_range, abort_in_range, program_in_range, handler_in_range, role_in_range, nest_in_range, exceptions_of, graphs_in_range, objects_in_range, parts_in_range, action_in_range, play_in_range, drill_in_range, range_rule, all_differ, fills, fill_rule, step_held, role_held, nest_held, action_held, object_rule, broken_rule, KeepsParts};
+ghost use Rattle.place_plan.specs.DraftRules.{program_fits, role_fits, nest_fits, action_fits, size_rule, is_named, graph_rule, is_value, is_rising, is_rising_above, all_below, step_in_range, verdict_in_range, abort_in_range, program_in_range, handler_in_range, role_in_range, nest_in_range, exceptions_of, graphs_in_range, objects_in_range, parts_in_range, action_in_range, play_in_range, drill_in_range, range_rule, all_differ, fills, nest_fills, fill_rule, step_held, role_held, nest_held, action_held, object_rule, broken_rule, KeepsParts};
 ghost use Rattle.place_plan.specs.Built.{IsBuilt};
 
 use crate::draft::Draft;
@@ -24,6 +24,9 @@ const MOST_ROLES: usize = 16;
 
 const MOST_NESTS: usize = 256;
 
+/// How many actions a nested use has at most.
+const MOST_ALTERNATES: usize = 4;
+
 const MOST_STEPS: usize = 256;
 
 const MOST_WATCHES: usize = 16;
@@ -31,8 +34,6 @@ const MOST_WATCHES: usize = 16;
 const MOST_DRILLS: usize = 1000;
 
 const MOST_ROUNDS: u32 = 1_000_000;
-
-const MOST_PUTS: u32 = 1_000_000;
 
 /// How many places a plan has at most.
 pub(crate) const MOST_PLACES: usize = 65_536;
@@ -78,6 +79,18 @@ fn roles_fit(action: &ActionRow) -> bool
     action.roles.as_slice().iter().all(|role| role_fits(role))
 }
 
+fn nest_fits(nest: &NestRow) -> bool
+    ensures { result ≡ nest_fits nest.now }
+{
+    !nest.actions.is_empty() && nest.actions.len() <= MOST_ALTERNATES
+}
+
+fn nests_fit(action: &ActionRow) -> bool
+    ensures { result ≡ list_all nest_fits action.now.nests }
+{
+    action.nests.as_slice().iter().all(|nest| nest_fits(nest))
+}
+
 fn action_fits(action: &ActionRow) -> bool
     ensures { result ≡ action_fits action.now }
 {
@@ -85,6 +98,7 @@ fn action_fits(action: &ActionRow) -> bool
         && action.roles.len() <= MOST_ROLES
         && action.nests.len() <= MOST_NESTS
         && roles_fit(action)
+        && nests_fit(action)
 }
 
 fn actions_fit(draft: &Draft) -> bool
@@ -97,7 +111,7 @@ fn actions_fit(draft: &Draft) -> bool
         .all(|action| action_fits(action))
 }
 
-/// Whether the numbers of parts are within the limits, and each action has a role.
+/// Whether there are no more parts than the limits allow, each action has a role, and each nested use an action.
 fn keeps_sizes(draft: &Draft) -> bool
     ensures { result ≡ size_rule draft.now }
 {
@@ -243,7 +257,7 @@ fn roles_in_range(action: &ActionRow, objects: usize, internal: u32, interface: 
 fn nest_in_range(nest: &NestRow, actions: usize, roles: usize, internal: u32) -> bool
     ensures { result ≡ nest_in_range actions roles internal nest.now }
 {
-    (nest.action as usize) < actions
+    all_below(actions, nest.actions.as_slice())
         && all_below(roles, nest.roles.as_slice())
         && all_below(internal as usize, nest.maps.as_slice())
         && nest.undo < internal
@@ -330,7 +344,7 @@ fn play_in_range(draft: &Draft, play: &PlayRow) -> bool
 fn drill_in_range(draft: &Draft, drill: &Drill) -> bool
     ensures { result ≡ drill_in_range draft.now drill.now }
 {
-    (drill.object as usize) < draft.objects.len() && 1 <= drill.nth && drill.nth <= MOST_PUTS
+    (drill.object as usize) < draft.objects.len()
 }
 
 fn initials_in_range(draft: &Draft) -> bool
@@ -408,18 +422,29 @@ fn fills(draft: &Draft, action: u32, who: &[u32]) -> bool
     who.len() == roles && all_differ(who)
 }
 
+/// Whether the roles that a nested use names fill each of its actions.
+fn nest_fills(draft: &Draft, nest: &NestRow) -> bool
+    ensures { result ≡ nest_fills draft.now nest.now }
+{
+    let who = nest.roles.as_slice();
+    nest.actions
+        .as_slice()
+        .iter()
+        .all(|action| fills(draft, *action, who))
+}
+
 fn nests_fill(draft: &Draft, action: &ActionRow) -> bool
-    ensures { result ≡ list_all (λ nest. fills draft.now nest.action nest.roles) action.now.nests }
+    ensures { result ≡ list_all (nest_fills draft.now) action.now.nests }
 {
     action
         .nests
         .as_slice()
         .iter()
-        .all(|nest| fills(draft, nest.action, nest.roles.as_slice()))
+        .all(|nest| nest_fills(draft, nest))
 }
 
 fn all_nests_fill(draft: &Draft) -> bool
-    ensures { result ≡ list_all (λ action. list_all (λ nest. fills draft.now nest.action nest.roles) action.nests) draft.now.actions }
+    ensures { result ≡ list_all (λ action. list_all (nest_fills draft.now) action.nests) draft.now.actions }
 {
     draft
         .actions
@@ -500,13 +525,23 @@ fn all_members(numbers: &[u32], list: &[u32]) -> bool
     numbers.iter().all(|number| is_member(*number, list))
 }
 
-fn nest_held(draft: &Draft, objects: &[Object], nest: &NestRow) -> bool
-    ensures { result ≡ nest_held draft.now objects.now nest.now }
+/// Whether these objects are among the action's.
+fn objects_held(draft: &Draft, objects: &[Object], action: u32) -> bool
+    ensures { result ≡ list_all (λ o. member o objects.now) (slice_index_or draft.now.actions action no_action).objects }
 {
-    match draft.actions.as_slice().get(nest.action as usize) {
+    match draft.actions.as_slice().get(action as usize) {
         Some(row) => all_members(row.objects.as_slice(), objects),
         None => true,
     }
+}
+
+fn nest_held(draft: &Draft, objects: &[Object], nest: &NestRow) -> bool
+    ensures { result ≡ nest_held draft.now objects.now nest.now }
+{
+    nest.actions
+        .as_slice()
+        .iter()
+        .all(|action| objects_held(draft, objects, *action))
 }
 
 fn nests_held(draft: &Draft, action: &ActionRow) -> bool

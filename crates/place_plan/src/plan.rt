@@ -1,11 +1,12 @@
-ghost use Rattle.std.specs.Prelude.{◌≡◌, ◌<◌, ℕ, List, [], length, map, slice_index_or, Option, Some, None, IfOk, IfSome, unwrap_or, option_copied, IsSome};
+ghost use Rattle.std.specs.Prelude.{◌≡◌, ◌<◌, ℕ, List, [], length, map, slice_index_or, Option, Some, None, IfOk, IfSome, unwrap_or, option_copied};
 ghost use Rattle.std.specs.List.{range_with_len};
-ghost use Rattle.place_plan.specs.Words.{member, index_of, last_or};
-ghost use Rattle.place_plan.specs.Places.{place_at, action_at, role_at, role_row, role_of, roles_of, objects_of, uses, parent, child, nest_of, map_signal, top_of, is_within, fault_of, graph_at, internal_of, interface_of, exception_name, handler_in, initial_of, no_object, no_action, no_role, no_nest};
+ghost use Rattle.place_plan.specs.Words.{member, index_of, last_or, next_after};
+ghost use Rattle.place_plan.specs.Places.{place_at, action_at, role_at, role_row, role_of, roles_of, objects_of, uses, parent, alternates_of, child, next_alternate, nest_of, map_signal, top_of, is_within, fault_of, graph_at, internal_of, interface_of, exception_name, handler_in, initial_of, no_object, no_action, no_role, no_nest};
 ghost use Rattle.place_plan.specs.Bound.{bound};
 ghost use Rattle.place_plan.specs.Unfolding.{place_of, plan_of};
 ghost use Rattle.place_plan.specs.DraftRules.{broken_rule, KeepsParts};
 ghost use Rattle.place_plan.specs.Built.{IsBuilt};
+ghost use Rattle.place_plan.specs.Closed.{AreSound};
 ghost use Rattle.place_plan.specs.WellFormed.{AllWellFormed};
 ghost use Rattle.place_plan.specs.Laws.{Holds, AtMostOne, GoesOn, IsBounded, InsideIsInnermost, HolderIsInnermost, KeepsLaws};
 ghost use Rattle.place_plan.specs.Flat.{StaysQuiet};
@@ -89,6 +90,15 @@ fn places_of(alloc: Global, plays: &[PlayRow]) -> Result<Vec<PlaceRow>, AllocErr
     Ok(places)
 }
 
+/// The graphs of all rows are sound, as the type of a graph keeps it. A statement alone: the call does nothing else.
+fn are_sound(rows: &[GraphRow])
+    ensures { AreSound rows.now }
+{
+    for row in rows {
+        row.graph.is_sound();
+    }
+}
+
 /// The numbers below a count.
 fn numbers_below(alloc: Global, count: u32) -> Result<Vec<u32>, AllocError>
     ensures { IfOk result (λ numbers. numbers.items ≡ range_with_len 0 count) }
@@ -133,6 +143,20 @@ fn last_or(number: u32, list: &[u32]) -> u32
     last
 }
 
+/// The number after the first one that is this, if there is one.
+fn next_after(number: u32, list: &[u32]) -> Option<u32>
+    ensures { result ≡ next_after number list.now }
+{
+    let mut found = false;
+    for item in list {
+        if found {
+            return Some(*item);
+        }
+        found = *item == number;
+    }
+    None
+}
+
 /// The exception at an index, or 0 past the end.
 fn exception_at(exceptions: &[Exception], index: u32) -> Exception
     ensures { result ≡ slice_index_or exceptions.now index 0 }
@@ -158,8 +182,8 @@ fn handler_in(handlers: &[HandlerRow], exception: Exception) -> Option<&Program>
 impl Plan {
     /// The plan into which a draft unfolds.
     ///
-    /// `BadPart` names the least rule that the draft breaks. The rules, by number: 1, the numbers of parts are within the limits and
-    /// each action has a role; 2, graph 0 has one exception alone, and each graph a name for each of its own; 3, all numbers are in
+    /// `BadPart` names the least rule that the draft breaks. The rules, by number: 1, there are no more parts than the limits allow,
+    /// each action has a role, and each nested use an action; 2, graph 0 has one exception alone, and each graph a name for each of its own; 3, all numbers are in
     /// range, and the objects of an action are in ascending order; 4, a nested use names an action of a smaller number; 5, a nested
     /// use or a play has one for each role, and nobody twice; 6, a body enters just the uses that its role fills, in order; 7, the
     /// objects of a step or of a nested action are among the action's; 8, no action is deeper than 8; 9, the handlers of a role have
@@ -190,6 +214,7 @@ impl Plan {
         if bound > MOST_ENTRIES {
             return Err(PlanError::BadPart { rule: 10 });
         }
+        are_sound(draft.graphs.as_slice());
         let Draft {
             participants,
             objects,
@@ -460,23 +485,41 @@ impl Plan {
         }
     }
 
-    /// The place of a nested use of the action of a place.
-    pub fn child(&self, place: Place, nest: u32) -> Place
-        requires { IsSome (child self.now place nest) }
-        ensures { child self.now place nest ≡ Some result }
+    /// The places of a nested use of the action of a place, one for each of its actions, in the order in which they are tried.
+    pub fn alternates_of(&self, place: Place, nest: u32) -> &[Place]
+        ensures { result.now ≡ alternates_of self.now place nest }
     {
-        match self.child_at(place, nest) {
-            Some(child) => child,
-            None => unreachable!(),
+        let Some(row) = self.places.as_slice().get(place as usize) else {
+            return &[];
+        };
+        match row.children.as_slice().get(nest as usize) {
+            Some(places) => places.as_slice(),
+            None => &[],
         }
     }
 
-    /// The place of a nested use, if there is such a use.
-    fn child_at(&self, place: Place, nest: u32) -> Option<Place>
-        ensures { result ≡ child self.now place nest }
+    /// How many actions a nested use of the action of a place has.
+    pub fn alternates(&self, place: Place, nest: u32) -> u32
+        ensures { result ≡ length (alternates_of self.now place nest) }
+    {
+        self.alternates_of(place, nest).len() as u32
+    }
+
+    /// The place of this action of a nested use, counted from 0.
+    pub fn child(&self, place: Place, nest: u32, alternate: u32) -> Place
+        requires { alternate < length (alternates_of self.now place nest) }
+        ensures { child self.now place nest alternate ≡ Some result }
+    {
+        self.alternates_of(place, nest)[alternate as usize]
+    }
+
+    /// The place of the next action of the same use; none for a play and for the last action of a use.
+    pub fn next_alternate(&self, place: Place) -> Option<Place>
+        ensures { result ≡ next_alternate self.now place }
     {
         let row = self.places.as_slice().get(place as usize)?;
-        row.children.as_slice().get(nest as usize).copied()
+        let enclosing = row.around.as_slice().first()?;
+        next_after(place, self.alternates_of(*enclosing, row.nest))
     }
 
     /// The use of the enclosing action that a place is, if it is nested.

@@ -71,17 +71,19 @@ pub struct RoleRow {
     pub abort: AbortRow,
 }
 
-/// A use of another action inside an action.
+/// A use of other actions inside an action.
+///
+/// Its actions are tried in order, as the alternates of a recovery block are (Randell 1975).
 #[derive(Drop)]
 pub struct NestRow {
     pub name: Name,
-    /// The number of the nested action.
-    pub action: u32,
-    /// Which roles of the enclosing action play its roles.
+    /// The numbers of its actions, its alternates: the first is entered, and each further one where the one before it was undone.
+    pub actions: Rows<u32>,
+    /// Which roles of the enclosing action play the roles of its actions.
     pub roles: Rows<u32>,
-    /// What each exception of its interface graph is in the enclosing action.
+    /// What each exception of the interface graph of its actions is in the enclosing action.
     pub maps: Rows<Exception>,
-    /// What its undo is in the enclosing action.
+    /// What the undo of its last action is in the enclosing action.
     pub undo: Exception,
     /// What its failure is in the enclosing action.
     pub failure: Exception,
@@ -169,6 +171,6 @@ pub struct PlaceRow {
     pub action: u32,
     /// The participants that play its roles, in the order of the roles.
     pub roles: Rows<Participant>,
-    /// The places of its nested uses, in their order.
-    pub children: Rows<u32>,
+    /// The places of its nested uses in their order, of each use one for each of its actions.
+    pub children: Rows<Rows<u32>>,
 }

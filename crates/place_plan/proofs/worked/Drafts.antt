@@ -153,15 +153,15 @@ two_plays = play_of 2 (ann ∷ bob ∷ []) ∷ play_of 2 (bob ∷ ann ∷ []) �
 
 abbrev pub two_uses_places : List PlaceRow
 two_uses_places =
-    play 2 (ann ∷ bob ∷ []) (1 ∷ 3 ∷ [])
-    ∷ inner (0 ∷ []) 0 1 (ann ∷ []) (2 ∷ [])
+    play 2 (ann ∷ bob ∷ []) ((1 ∷ []) ∷ (3 ∷ []) ∷ [])
+    ∷ inner (0 ∷ []) 0 1 (ann ∷ []) ((2 ∷ []) ∷ [])
     ∷ inner (1 ∷ 0 ∷ []) 0 0 (ann ∷ []) []
-    ∷ inner (0 ∷ []) 1 1 (ann ∷ []) (4 ∷ [])
+    ∷ inner (0 ∷ []) 1 1 (ann ∷ []) ((4 ∷ []) ∷ [])
     ∷ inner (3 ∷ 0 ∷ []) 0 0 (ann ∷ []) []
-    ∷ play 2 (bob ∷ ann ∷ []) (6 ∷ 8 ∷ [])
-    ∷ inner (5 ∷ []) 0 1 (bob ∷ []) (7 ∷ [])
+    ∷ play 2 (bob ∷ ann ∷ []) ((6 ∷ []) ∷ (8 ∷ []) ∷ [])
+    ∷ inner (5 ∷ []) 0 1 (bob ∷ []) ((7 ∷ []) ∷ [])
     ∷ inner (6 ∷ 5 ∷ []) 0 0 (bob ∷ []) []
-    ∷ inner (5 ∷ []) 1 1 (bob ∷ []) (9 ∷ [])
+    ∷ inner (5 ∷ []) 1 1 (bob ∷ []) ((9 ∷ []) ∷ [])
     ∷ inner (8 ∷ 5 ∷ []) 0 0 (bob ∷ []) []
     ∷ []
 

@@ -63,7 +63,7 @@ abbrev pub outer_n : NestRow
 outer_n =
     record {
       name = codes "n";
-      action = 0;
+      actions = 0 ∷ [];
       roles = 0 ∷ [];
       maps = universal ∷ [];
       undo = universal;
@@ -90,7 +90,7 @@ plan =
       graphs = plain_graph ∷ [];
       actions = inner_action ∷ outer_action ∷ [];
       places =
-          play 1 (ann ∷ []) (1 ∷ [])
+          play 1 (ann ∷ []) ((1 ∷ []) ∷ [])
           ∷ inner (0 ∷ []) 0 0 (ann ∷ []) [] ∷ [];
       plays = 0 ∷ [];
       drills = (record { object = x; nth = 2 }) ∷ [];

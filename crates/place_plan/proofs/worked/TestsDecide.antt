@@ -113,7 +113,7 @@ abbrev pub outer_n : NestRow
 outer_n =
     record {
       name = codes "n";
-      action = 0;
+      actions = 0 ∷ [];
       roles = 0 ∷ [];
       maps = universal ∷ bent ∷ [];
       undo = universal;
@@ -140,7 +140,7 @@ plan =
       graphs = plain_graph ∷ g_graph ∷ f_graph ∷ [];
       actions = inner_action ∷ outer_action ∷ [];
       places =
-          play 1 (ann ∷ bob ∷ []) (1 ∷ [])
+          play 1 (ann ∷ bob ∷ []) ((1 ∷ []) ∷ [])
           ∷ inner (0 ∷ []) 0 0 (ann ∷ []) [] ∷ [];
       plays = 0 ∷ [];
       drills = [];

@@ -103,7 +103,7 @@ abbrev pub mid_k : NestRow
 mid_k =
     record {
       name = codes "k";
-      action = 0;
+      actions = 0 ∷ [];
       roles = 0 ∷ [];
       maps = universal ∷ universal ∷ [];
       undo = universal;
@@ -144,7 +144,7 @@ abbrev pub outer_n : NestRow
 outer_n =
     record {
       name = codes "n";
-      action = 1;
+      actions = 1 ∷ [];
       roles = 0 ∷ [];
       maps = universal ∷ bent ∷ [];
       undo = universal;
@@ -171,8 +171,8 @@ plan =
       graphs = plain_graph ∷ g_graph ∷ f_graph ∷ [];
       actions = deep_action ∷ mid_action ∷ outer_action ∷ [];
       places =
-          play 2 (ann ∷ bob ∷ []) (1 ∷ [])
-          ∷ inner (0 ∷ []) 0 1 (ann ∷ []) (2 ∷ [])
+          play 2 (ann ∷ bob ∷ []) ((1 ∷ []) ∷ [])
+          ∷ inner (0 ∷ []) 0 1 (ann ∷ []) ((2 ∷ []) ∷ [])
           ∷ inner (1 ∷ 0 ∷ []) 0 0 (ann ∷ []) [] ∷ [];
       plays = 0 ∷ [];
       drills = [];

@@ -121,7 +121,7 @@ abbrev pub outer_n : NestRow
 outer_n =
     record {
       name = codes "n";
-      action = 0;
+      actions = 0 ∷ [];
       roles = 0 ∷ 1 ∷ [];
       maps = universal ∷ poor ∷ universal ∷ universal ∷ [];
       undo = universal;
@@ -148,7 +148,7 @@ plan =
       graphs = plain_graph ∷ faces_graph ∷ g_graph ∷ [];
       actions = inner_action ∷ outer_action ∷ [];
       places =
-          play 1 (ann ∷ bob ∷ []) (1 ∷ [])
+          play 1 (ann ∷ bob ∷ []) ((1 ∷ []) ∷ [])
           ∷ inner (0 ∷ []) 0 0 (ann ∷ bob ∷ []) [] ∷ [];
       plays = 0 ∷ [];
       drills = [];

@@ -99,7 +99,7 @@ abbrev pub outer_n : NestRow
 outer_n =
     record {
       name = codes "n";
-      action = 0;
+      actions = 0 ∷ [];
       roles = 0 ∷ 1 ∷ [];
       maps = universal ∷ [];
       undo = universal;
@@ -126,7 +126,7 @@ plan =
       graphs = plain_graph ∷ g_graph ∷ [];
       actions = inner_action ∷ outer_action ∷ [];
       places =
-          play 1 (ann ∷ bob ∷ []) (1 ∷ [])
+          play 1 (ann ∷ bob ∷ []) ((1 ∷ []) ∷ [])
           ∷ inner (0 ∷ []) 0 0 (ann ∷ bob ∷ []) [] ∷ [];
       plays = 0 ∷ [];
       drills = [];

@@ -151,12 +151,12 @@ handler exception program = record { exception = exception; program = program }
 abbrev pub role : List ℕ → Program → List HandlerRow → AbortRow → RoleRow
 role name body handlers abort = record { name = name; body = body; handlers = handlers; abort = abort }
 
--- a play of an action: who plays its roles, and the places of its nested uses
-abbrev pub play : ℕ → List ℕ → List ℕ → PlaceRow
+-- a play of an action: who plays its roles, and the places of its nested uses, of each those of its alternates
+abbrev pub play : ℕ → List ℕ → List (List ℕ) → PlaceRow
 play action roles children = record { around = []; nest = 0; action = action; roles = roles; children = children }
 
 -- an instance inside others, the innermost first, for a nested use of the first of these
-abbrev pub inner : List ℕ → ℕ → ℕ → List ℕ → List ℕ → PlaceRow
+abbrev pub inner : List ℕ → ℕ → ℕ → List ℕ → List (List ℕ) → PlaceRow
 inner around nest action roles children = record { around = around; nest = nest; action = action; roles = roles; children = children }
 
 -- ---- what computing shows

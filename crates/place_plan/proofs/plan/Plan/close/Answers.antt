@@ -1,6 +1,7 @@
-use Rattle.std.proofs.Common.{arith, ◌≡◌, ◌≤◌, ◌∙◌, ap, sym, subst₂, ap₂, map, true, length, sum_by, Some}
+use Rattle.std.proofs.Common.{arith, ◌≡◌, ◌≤◌, ◌∙◌, ap, sym, subst, subst₂, ap₂, map, true, length, sum_by, Some}
 use Rattle.std.specs.List.{list_all, range_with_len}
 use Rattle.place_plan.specs.Bound.{row_bound}
+use Rattle.place_plan.specs.Closed.{AreSound}
 use Rattle.place_plan.specs.Sizes.{row_fits}
 use Rattle.place_plan.specs.Unfolding.{place_of}
 use Rattle.place_plan.proofs.BuiltDrafts.{breaks_bound, breaks_none}
@@ -32,7 +33,7 @@ invariant_of-result c =
     let rows = c.in-Ok-places_of.ensures ∙ ap (map place_of) c.as_slice.ensures in
     let value = c.bound_of-bound.ensures ∙ ap₂ (λ actions rows. sum_by (row_bound actions) rows) c.as_slice-2.ensures (c.as_slice-3.ensures.value ∙ rows) in
     let few : length c.args.draft.plays ≤ 65536 = omega (arith, c.len.ensures) in
-    kept c.args.draft c.requires.built c.in_default.ensures few _ _ c.bound_of-bound.result
+    kept c.args.draft c.requires.built c.in_default.ensures few (subst AreSound c.as_slice-4.ensures c.are_sound.ensures) _ _ c.bound_of-bound.result
     (c.from_vec.ensures ∙ rows)
     (c.from_vec-2.ensures ∙ c.in-Ok.ensures ∙ ap (range_with_len 0) c.len-2.ensures)
     value
@@ -50,4 +51,4 @@ returns-clause-whole c =
     let rows = c.in-Ok-places_of.ensures ∙ ap (map place_of) c.as_slice.ensures in
     let value = c.bound_of-bound.ensures ∙ ap₂ (λ actions rows. sum_by (row_bound actions) rows) c.as_slice-2.ensures (c.as_slice-3.ensures.value ∙ rows) in
     let few : length c.args.draft.plays ≤ 65536 = omega (arith, c.len.ensures) in
-    breaks_none c.args.draft c.in_default.ensures (fits c.args.draft c.requires.built few (omega (arith, value)))
+    breaks_none c.args.draft c.requires.built c.in_default.ensures (fits c.args.draft c.requires.built few (omega (arith, value)))
