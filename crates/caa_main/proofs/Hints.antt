@@ -5,7 +5,7 @@ use Rattle.caa_base.specs.declared.entry.Entry.{Entry}
 use Rattle.place_plan.specs.PlanValue.{Plan}
 use Rattle.place_plan.specs.Roles.{is_over, register}
 use Rattle.place_plan.specs.Rules.{MayFollow}
-use Rattle.place_plan.specs.Due.{DueIsRight}
+use Rattle.journal_laws.specs.FlatDue.{DueIsRight}
 use Rattle.place_plan.specs.Machine.{Answers, work_entry}
 use Rattle.place_plan.specs.declared.machine.Answer.{Answer}
 use Rattle.place_plan.specs.declared.machine.Answer.TheVariants as answer

@@ -13,7 +13,6 @@ pub mod ScriptActions
 pub mod ScriptKeeps
 pub mod ScriptRules
 pub mod ScriptPlans
-pub mod WorkedTexts
 pub mod SoundGraphs
 pub mod Comings
 pub mod ScriptRead

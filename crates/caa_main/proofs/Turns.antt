@@ -5,7 +5,8 @@ use Rattle.std.proofs.lemmas.Nat.{mod-mul-add}
 use Rattle.std.proofs.Math.Nat.{mod-lt, mod-add-div'}
 use Rattle.caa_base.specs.declared.entry.Entry.{Entry}
 use Rattle.place_plan.specs.PlanValue.{Plan}
-use Rattle.place_plan.specs.Laws.{Silent, HasEntry}
+use Rattle.journal_laws.specs.Laws.{HasEntry}
+use Rattle.place_plan.specs.Journals.{Silent}
 use Rattle.caa_main.specs.Schedule.{asked}
 
 -- from any number, going round n, one comes to each number below n

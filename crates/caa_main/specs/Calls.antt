@@ -10,7 +10,7 @@ use Rattle.place_plan.specs.PlanValue.{Plan}
 use Rattle.place_plan.specs.Unfolding.{plan_of}
 use Rattle.place_plan.specs.DraftRules.{broken_rule}
 use Rattle.place_plan.specs.Journals.{IsLegal, IsComplete}
-use Rattle.place_plan.specs.Laws.{KeepsLaws}
+use Rattle.journal_laws.specs.Laws.{KeepsLaws}
 use Rattle.caa_main.specs.declared.command.Command.{Command}
 use Rattle.caa_main.specs.declared.command.Command.TheVariants as command
 use Rattle.caa_main.specs.declared.script.parts.Script.{Script}

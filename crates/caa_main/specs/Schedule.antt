@@ -4,7 +4,7 @@ use Rattle.caa_base.specs.Mixing.{state_after}
 use Rattle.caa_base.specs.declared.entry.Entry.{Entry}
 use Rattle.place_plan.specs.PlanValue.{Plan}
 use Rattle.place_plan.specs.Rules.{MayFollow}
-use Rattle.place_plan.specs.Laws.{Silent}
+use Rattle.place_plan.specs.Journals.{Silent}
 
 -- the participant that is asked after so many others in the turn of this state
 abbrev pub asked : Plan → ℕ → ℕ → ℕ

@@ -13,8 +13,8 @@ use Rattle.place_plan.specs.Objects.{value_of}
 use Rattle.place_plan.specs.Roles.{next_step, position, has_given}
 use Rattle.place_plan.specs.Journals.{LegalPast}
 use Rattle.place_plan.specs.WellFormed.{AllWellFormed, IsWellFormed}
-use Rattle.place_plan.specs.Laws.{Holds}
-use Rattle.place_plan.specs.Due.{says, due_of, DueIsRight}
+use Rattle.journal_laws.specs.Laws.{Holds}
+use Rattle.journal_laws.specs.FlatDue.{says, due_of, DueIsRight}
 
 -- who plays the role of this number plays that role
 pub role_of_number : (plan : Plan) (p t role : ℕ) → Some role ≡ role_of plan p t → role_at plan p role ≡ role_row plan p t

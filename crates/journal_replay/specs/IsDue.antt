@@ -2,10 +2,10 @@
 use Rattle.std.specs.Prelude.{◌≡◌, ◌⊎◌, ℕ, true, false, List}
 use Rattle.caa_base.specs.declared.entry.Entry.{Entry}
 use Rattle.place_plan.specs.PlanValue.{Plan}
-use Rattle.place_plan.specs.Journals.{is_put}
+use Rattle.place_plan.specs.Journals.{is_put, Silent}
 use Rattle.place_plan.specs.Roles.{is_over}
 use Rattle.place_plan.specs.Rules.{MayFollow}
-use Rattle.place_plan.specs.Laws.{Silent, as_taken}
+use Rattle.journal_laws.specs.Laws.{as_taken}
 use Rattle.journal_replay.specs.declared.answer.Due.{Due}
 use Rattle.journal_replay.specs.declared.answer.Due.TheVariants as due
 

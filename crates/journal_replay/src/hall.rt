@@ -2,8 +2,7 @@ ghost use Rattle.std.specs.Prelude.{◌≡◌, ◌<◌, ◌≤◌, [], length, r
 ghost use Rattle.caa_base.specs.Counts.{Rose};
 ghost use Rattle.caa_base.specs.declared.entry.Entry.{Entry as JournalEntry};
 ghost use Rattle.place_plan.specs.Bound.{bound};
-ghost use Rattle.place_plan.specs.Laws.{is_fault};
-ghost use Rattle.place_plan.specs.Journals.{LegalPast, IsLegal};
+ghost use Rattle.place_plan.specs.Journals.{LegalPast, IsLegal, is_fault};
 ghost use Rattle.place_plan.specs.Machine.{Answers, Fits};
 ghost use Rattle.place_plan.proofs.LegalProp.{LegalPast-prop};
 

@@ -5,7 +5,7 @@ ghost use Rattle.place_plan.specs.Whereabouts.{inside, has_started, has_ended};
 ghost use Rattle.place_plan.specs.Roles.{next_step, has_given, all_have_given};
 ghost use Rattle.place_plan.specs.Journals.{LegalPast, IsLegal};
 ghost use Rattle.place_plan.specs.Flat.{StaysQuiet};
-ghost use Rattle.place_plan.specs.Due.{says, plainly, due_waiting, due_step, due_agreed, due_calm, due_inside, due_of, DueIsRight};
+ghost use Rattle.journal_laws.specs.FlatDue.{says, plainly, due_waiting, due_step, due_agreed, due_calm, due_inside, due_of, DueIsRight};
 ghost use Rattle.journal_replay.specs.IsDue.{IsDue};
 
 use crate::answer::Due;

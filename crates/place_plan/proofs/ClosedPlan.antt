@@ -2,6 +2,7 @@
 use Rattle.std.proofs.Common.{◌≡◌, ℕ, ℤ, pos, negsuc, ◌==◌, ◌<◌, ◌≤◌, ◌+◌, ◌*◌, nat_lt, nat_le, int_lt, cond, Bool, true, false, not, ◌&&◌, List, [], ◌∷◌, ◌++◌, map, length, slice_index_or, slice_get, Option, Some, None, zero, suc, refl, sym, ap, ◌∙◌, subst, inl, inr, arith, add-one, add-zero}
 use Rattle.std.specs.List.{list_all, range_with_len}
 use Rattle.std.proofs.lemmas.Int.{ints}
+use Rattle.std.proofs.lemmas.List.{get_or_default}
 use Rattle.std.proofs.lemmas.Bool.Decides.{nat_tests}
 use Rattle.std.proofs.Math.Nat.{mul-le-mul}
 use Rattle.std.proofs.lemmas.Bool.{and_parts, and_from, or_cases, eqb-true, false≢true, ltb-true, leb-true, le-leb, not-true}
@@ -82,7 +83,7 @@ filled_by [] [] e h = h
 filled_by [] (y ∷ ys) e h = absurd (omega (arith, e))
 filled_by (x ∷ xs) ys e h = refl
 
-at_row : {A : Type 0} (test : A → Bool) (xs : List A) (i : ℕ) (d : A) → list_all test xs ≡ true → i < length xs → test (slice_index_or xs i d) ≡ true
+pub at_row : {A : Type 0} (test : A → Bool) (xs : List A) (i : ℕ) (d : A) → list_all test xs ≡ true → i < length xs → test (slice_index_or xs i d) ≡ true
 at_row test [] i d h l = absurd (omega arith)
 at_row test (x ∷ xs) zero d h l = (and_parts (test x) (list_all test xs) h).0
 at_row test (x ∷ xs) (suc i) d h l = at_row test xs i d (and_parts (test x) (list_all test xs) h).1 (omega arith)
@@ -430,6 +431,15 @@ handler_within (r ∷ roles) h =
     let one = handlers_within r.handlers (and_parts (program_fits r.body) _ a.0).1 in
     let rest = handler_within roles a.1 in
     omega arith
+
+-- a place that fits is of an action within the limits
+pub row_sizes : (actions : List ActionRow) (row : PlaceRow) (e : ActionRow) → row_fits actions row ≡ true → HasSizes (slice_index_or actions row.action e) (length row.roles)
+row_sizes actions row e h =
+    let a = and_parts (nat_lt row.action (length actions)) _ h in
+    let b = and_parts (action_fits (slice_index_or actions row.action no_action)) _ a.1 in
+    let c = and_parts (nat_le (length row.roles) 16) _ b.1 in
+    let sizes : HasSizes (slice_index_or actions row.action no_action) (length row.roles) = record { parts = b.0; roles = leb-true _ _ c.0; objects = leb-true _ _ c.1 } in
+    subst (λ action. HasSizes action (length row.roles)) (get_or_default actions row.action no_action e (ltb-true _ _ a.0)) sizes
 
 -- the parts of the bound of an action are small
 pub record IsSmall (played body handler : ℕ) : Type 0 where

@@ -1,5 +1,5 @@
 -- The plan that is made of a draft which breaks no rule.
-use Rattle.std.proofs.Common.{◌≡◌, ℕ, ◌<◌, ◌≤◌, true, false, List, map, length, refl, sym, ap, ◌∙◌, arith, sum_by}
+use Rattle.std.proofs.Common.{◌≡◌, ℕ, ◌<◌, ◌≤◌, true, false, List, [], ◌∷◌, map, length, slice_index_or, zero, suc, refl, sym, ap, ◌∙◌, subst, arith, sum_by}
 use Rattle.std.specs.List.{range_with_len}
 use Rattle.std.proofs.lemmas.Bool.{and_from, and_right, le-leb, lt-leb}
 use Rattle.place_plan.specs.declared.draft.Draft.{Draft}
@@ -12,7 +12,11 @@ use Rattle.place_plan.specs.DraftRules.{bound_rule, KeepsParts}
 use Rattle.place_plan.specs.Closed.{AreSound}
 use Rattle.place_plan.specs.Built.{IsBuilt}
 use Rattle.place_plan.proofs.BuiltDrafts.{built_places, built_plays, breaks_none}
-use Rattle.place_plan.proofs.ClosedPlan.{length_map}
+use Rattle.place_plan.specs.PlanValue.{Plan}
+use Rattle.place_plan.specs.Closed.{IsClosed}
+use Rattle.place_plan.specs.Places.{alternates_of, no_place}
+use Rattle.place_plan.specs.declared.rows.PlayRow.{PlayRow}
+use Rattle.place_plan.proofs.ClosedPlan.{length_map, plan_is_flat}
 
 module _ (draft : Draft) (built : IsBuilt draft) where
   count : length (plan_of draft).places ≡ length draft.plays
@@ -75,3 +79,13 @@ module _ (draft : Draft) (built : IsBuilt draft) where
     };
     bound = b ∙ ap (sum_by (row_bound draft.actions)) (sym p);
   }
+
+-- a use has few alternates: none as long as nothing is nested
+pub few_alternates : (plan : Plan) → IsClosed plan → (p k : ℕ) → length (alternates_of plan p k) ≡ 0
+few_alternates plan closed p k =
+    subst (λ q. length (alternates_of q p k) ≡ 0) (sym (closed.same ∙ plan_is_flat closed.draft closed.built)) (ap length (none closed.draft.plays p))
+  where
+    none : (plays : List PlayRow) (p : ℕ) → slice_index_or (slice_index_or (map place_of plays) p no_place).children k [] ≡ []
+    none [] p = refl
+    none (x ∷ xs) zero = refl
+    none (x ∷ xs) (suc p) = none xs p

@@ -13,7 +13,7 @@ use Rattle.place_plan.specs.Objects.{value_of}
 use Rattle.place_plan.specs.Roles.{program_in}
 use Rattle.place_plan.specs.WellFormed.{IsValue}
 use Rattle.place_plan.specs.Rules.{MayFollow}
-use Rattle.place_plan.specs.Laws.{is_fault}
+use Rattle.place_plan.specs.Journals.{is_fault}
 
 -- the step reads one of the objects of p, or works
 abbrev pub IsQuietStep : Plan → ℕ → Option Step → Type 0

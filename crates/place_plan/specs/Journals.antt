@@ -1,5 +1,5 @@
 -- Legal and complete journals, and what a journal did to the objects.
-use Rattle.std.specs.Prelude.{◌≡◌, ℕ, ℤ, ◌==◌, ◌<◌, Bool, true, ◌&&◌, ◌||◌, if◌then◌else◌, List, [], ◌∷◌, ◌++◌, filter, length, reverse, take, is_none}
+use Rattle.std.specs.Prelude.{◌≡◌, ℕ, ℤ, ◌==◌, ◌<◌, Bool, true, ◌&&◌, ◌||◌, if◌then◌else◌, List, [], ◌∷◌, ◌++◌, filter, length, reverse, take, is_none, count_by}
 use Rattle.caa_base.specs.declared.entry.Entry.{Entry}
 use Rattle.caa_base.specs.declared.entry.Kind.TheVariants as kind
 use Rattle.place_plan.specs.PlanValue.{Plan}
@@ -27,6 +27,10 @@ AllOver plan past = (t : ℕ) → t < length plan.participants → is_over plan 
 abbrev pub IsComplete : Plan → List Entry → Type 0
 IsComplete plan journal = AllOver plan (reverse journal)
 
+-- t has no entry
+abbrev pub Silent : Plan → List Entry → ℕ → Type 0
+Silent plan past t = (e : Entry) → e.by ≡ t → MayFollow plan past e → ⊥
+
 -- ---- the device
 
 -- a put that the device took: a write, or a restore that is well
@@ -41,6 +45,14 @@ object_and_value e = (e.arg, e.value)
 abbrev pub puts_of : List Entry → List (ℕ × ℤ)
 puts_of [] = []
 puts_of (e ∷ entries) = if is_put e then object_and_value e ∷ puts_of entries else puts_of entries
+
+-- a put or a restore that the device refused
+abbrev pub is_fault : Entry → Bool
+is_fault e = is_of kind.PutFault e || (is_of kind.Restore e && (e.mark == 1))
+
+-- how many puts and restores of the journal the device refused
+abbrev pub faults_in : List Entry → ℕ
+faults_in journal = count_by is_fault journal
 
 -- ---- committed values
 

@@ -8,16 +8,14 @@ pub mod Objects
 pub mod Roles
 pub mod Rules
 pub mod Journals
+pub mod Attempts
 pub mod Bound
 pub mod WellFormed
-pub mod Laws
 pub mod Flat
 pub mod Unfolding
 pub mod DraftRules
 pub mod Built
 pub mod Closed
-pub mod Due
-pub mod Tree
 pub mod PlanView
 pub mod Machine
 pub mod Sizes

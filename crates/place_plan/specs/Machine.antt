@@ -6,7 +6,7 @@ use Rattle.caa_base.specs.declared.entry.Kind.TheVariants as kind
 use Rattle.place_plan.specs.PlanValue.{Plan}
 use Rattle.place_plan.specs.Roles.{is_over, register}
 use Rattle.place_plan.specs.Rules.{MayFollow}
-use Rattle.place_plan.specs.Laws.{Silent}
+use Rattle.place_plan.specs.Journals.{Silent}
 use Rattle.place_plan.specs.declared.machine.Answer.{Answer}
 use Rattle.place_plan.specs.declared.machine.Answer.TheVariants as answer
 

@@ -1,10 +1,9 @@
-ghost use Rattle.std.specs.Prelude.{◌≡◌, ◌<◌, ◌≤◌, ℕ, List, length, slice_index_or, reverse, IsTrue, ◌↔◌, true};
+ghost use Rattle.std.specs.Prelude.{◌≡◌, ◌<◌, ◌≤◌, ◌+◌, ◌-◌, ◌^◌, ℕ, List, length, slice_index_or, reverse, IsTrue, ◌↔◌, true};
 ghost use Rattle.caa_base.specs.declared.entry.Entry.{Entry as JournalEntry};
 ghost use Rattle.place_plan.specs.PlanValue.{Plan as PlanValue};
 ghost use Rattle.place_plan.specs.Objects.{value_of};
-ghost use Rattle.place_plan.specs.Journals.{LegalPast, IsComplete};
+ghost use Rattle.place_plan.specs.Journals.{LegalPast, IsComplete, is_fault, faults_in};
 ghost use Rattle.caa_base.specs.Counts.{Rose};
-ghost use Rattle.place_plan.specs.Laws.{is_fault};
 ghost use Rattle.place_plan.specs.Machine.{Answers};
 
 use crate::plan::Plan;
@@ -82,4 +81,8 @@ pub trait Machine {
 
     /// Faults that were counted before the play are counted now.
     ghost counted: { (m : Self) → base_of m ≤ count_of m };
+
+    /// Fault law: as long as the device's count isn't at its end, it rose at least once for each put and restore of the journal
+    /// that the device refused.
+    ghost faulted: { (m : Self) → count_of m < 2 ^ 64 - 1 → base_of m + faults_in (journal_of m) ≤ count_of m };
 }

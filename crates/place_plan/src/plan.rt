@@ -6,11 +6,7 @@ ghost use Rattle.place_plan.specs.Bound.{bound};
 ghost use Rattle.place_plan.specs.Unfolding.{place_of, plan_of};
 ghost use Rattle.place_plan.specs.DraftRules.{broken_rule, KeepsParts};
 ghost use Rattle.place_plan.specs.Built.{IsBuilt};
-ghost use Rattle.place_plan.specs.Closed.{AreSound};
-ghost use Rattle.place_plan.specs.WellFormed.{AllWellFormed};
-ghost use Rattle.place_plan.specs.Laws.{Holds, AtMostOne, GoesOn, IsBounded, InsideIsInnermost, HolderIsInnermost, KeepsLaws};
-ghost use Rattle.place_plan.specs.Flat.{StaysQuiet};
-ghost use Rattle.place_plan.specs.Due.{DueIsRight};
+ghost use Rattle.place_plan.specs.Closed.{AreSound, IsClosed};
 
 use crate::bound::bound_of;
 use crate::close::{MOST_ENTRIES, MOST_PLACES, broken_part, is_member};
@@ -235,6 +231,13 @@ impl Plan {
             watches,
             bound,
         })
+    }
+
+    /// The plan is the unfolding of a draft that breaks no rule, and its graphs are sound. A statement alone: the call does nothing.
+    pub fn is_closed(&self)
+        ensures { IsClosed self.now }
+    {
+        let _ = &self.places;
     }
 
     /// How many entries a journal of the plan has at most.
@@ -502,6 +505,7 @@ impl Plan {
     pub fn alternates(&self, place: Place, nest: u32) -> u32
         ensures { result ≡ length (alternates_of self.now place nest) }
     {
+        self.is_closed();
         self.alternates_of(place, nest).len() as u32
     }
 
@@ -614,72 +618,6 @@ impl Plan {
             Some(row) => name_at(row.names.as_slice(), exception),
             None => &[],
         }
-    }
-}
-
-/// Laws of all legal journals of a plan. Each is a statement alone: the call does nothing.
-impl Plan {
-    /// The entry that is computed for a participant is the one that may follow.
-    pub fn due_is_right(&self)
-        ensures { Holds DueIsRight self.now }
-    {
-        let _ = &self.places;
-    }
-
-    /// A participant has at most one legal entry, the device's answer aside.
-    pub fn at_most_one(&self)
-        ensures { Holds AtMostOne self.now }
-    {
-        let _ = &self.places;
-    }
-
-    /// Progress law: where a participant isn't over, some participant has a legal entry.
-    pub fn goes_on(&self)
-        ensures { Holds GoesOn self.now }
-    {
-        let _ = &self.places;
-    }
-
-    /// Length law: a legal journal has at most as many entries as the bound says.
-    pub fn is_bounded(&self)
-        ensures { Holds IsBounded self.now }
-    {
-        let _ = &self.places;
-    }
-
-    /// Each entry of a legal journal is well formed.
-    pub fn is_well_formed(&self)
-        ensures { Holds AllWellFormed self.now }
-    {
-        let _ = &self.places;
-    }
-
-    /// Where a participant is by its arrivals and leaves is the innermost of the places in which it stays.
-    pub fn inside_is_innermost(&self)
-        ensures { Holds InsideIsInnermost self.now }
-    {
-        let _ = &self.places;
-    }
-
-    /// Who holds an object by the starts and ends is the innermost of the live places that use it.
-    pub fn holder_is_innermost(&self)
-        ensures { Holds HolderIsInnermost self.now }
-    {
-        let _ = &self.places;
-    }
-
-    /// The resolution, exit, outcome, effect, inner-first and isolation laws.
-    pub fn keeps_laws(&self)
-        ensures { Holds KeepsLaws self.now }
-    {
-        let _ = &self.places;
-    }
-
-    /// As long as roles only read and work, nothing is raised, undone or handled, and each object has its initial value.
-    pub fn stays_quiet(&self)
-        ensures { Holds StaysQuiet self.now }
-    {
-        let _ = &self.places;
     }
 }
 

@@ -1,7 +1,7 @@
 use Rattle.std.proofs.Common.{◌≡◌, ◌∙◌, arith, reverse, subst, to_z, of_z, w64, Some}
 use Rattle.std.proofs.lemmas.Int.{ints}
-use Rattle.place_plan.specs.Due.{DueIsRight}
-use Rattle.place_plan.specs.Laws.{Holds}
+use Rattle.journal_laws.specs.FlatDue.{DueIsRight}
+use Rattle.journal_laws.specs.Laws.{Holds}
 use Rattle.place_plan.specs.Machine.{Answers}
 use Rattle.caa_main.proofs.Hints.{work_then_did}
 use Rattle.caa_main.proofs.schedule.act.Goals as goal

@@ -1,7 +1,7 @@
 use Rattle.std.proofs.Common.{◌∙◌, [], ◌∷◌, arith, ap, length, length-append, refl, reverse, subst}
 use Rattle.std.proofs.lemmas.List.{length-reverse}
 use Rattle.place_plan.specs.Bound.{bound}
-use Rattle.place_plan.specs.Laws.{Holds, IsBounded}
+use Rattle.journal_laws.specs.Laws.{Holds, IsBounded}
 use Rattle.caa_main.specs.Schedule.{TakesTurn}
 use Rattle.caa_main.proofs.Grown.{none_yet, one_more}
 use Rattle.caa_main.proofs.schedule.sim.Goals as goal

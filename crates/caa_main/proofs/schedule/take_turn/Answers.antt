@@ -1,5 +1,5 @@
 use Rattle.std.proofs.Common.{◌∙◌, arith, reverse, subst}
-use Rattle.place_plan.specs.Laws.{Holds, GoesOn}
+use Rattle.journal_laws.specs.Laws.{Holds, GoesOn}
 use Rattle.caa_main.proofs.Turns.{round_silent}
 use Rattle.caa_main.proofs.schedule.take_turn.Goals as goal
 

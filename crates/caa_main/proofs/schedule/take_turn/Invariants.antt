@@ -1,5 +1,5 @@
 use Rattle.std.proofs.Common.{◌≡◌, ◌<◌, ℕ, length, reverse}
-use Rattle.place_plan.specs.Laws.{Silent}
+use Rattle.place_plan.specs.Journals.{Silent}
 use Rattle.caa_main.specs.Schedule.{asked}
 use Rattle.caa_main.proofs.schedule.take_turn.Given as goal
 

@@ -1,7 +1,7 @@
 use Rattle.std.proofs.Common.{◌≡◌, reverse, sym, ◌∙◌, subst, subst₂}
 use Rattle.place_plan.specs.Journals.{LegalPast}
 use Rattle.place_plan.specs.WellFormed.{IsWellFormed, AllWellFormed}
-use Rattle.place_plan.proofs.WellFormed.{all_reversed}
+use Rattle.journal_laws.proofs.FlatWellFormed.{all_reversed}
 use Rattle.caa_main.proofs.top.play.Goals as goal
 
 pub write-requires : goal.write-requires

@@ -1,7 +1,7 @@
 use Rattle.std.proofs.Common.{◌≡◌, ◌∙◌, ap, sym, reverse, ℕ, List, Some}
 use Rattle.caa_base.specs.declared.entry.Entry.{Entry}
 use Rattle.place_plan.specs.PlanValue.{Plan}
-use Rattle.place_plan.specs.Due.{due_of, DueIsRight}
+use Rattle.journal_laws.specs.FlatDue.{due_of, DueIsRight}
 use Rattle.journal_replay.specs.IsDue.{IsTheEntry}
 use Rattle.journal_replay.proofs.rule.due.Goals as goal
 

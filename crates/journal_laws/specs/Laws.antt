@@ -1,0 +1,192 @@
+-- What holds of every legal journal of a plan. `past` is its entries, the newest first.
+use Rattle.std.specs.Prelude.{◌≡◌, ℕ, ℤ, ◌==◌, ◌+◌, ◌<◌, ◌≤◌, ◌⊎◌, ◌↔◌, Bool, true, false, ◌&&◌, ◌||◌, if◌then◌else◌, List, [], ◌∷◌, ◌++◌, length, filter, count_by, Option, Some, None, is_none}
+use Rattle.std.specs.List.{list_any, list_all}
+use Rattle.cover_table.specs.Cover.{IsLeastCover}
+use Rattle.caa_base.specs.declared.entry.Entry.{Entry}
+use Rattle.caa_base.specs.declared.entry.Kind.{Kind}
+use Rattle.caa_base.specs.declared.entry.Kind.TheVariants as kind
+use Rattle.place_plan.specs.PlanValue.{Plan}
+use Rattle.place_plan.specs.Words.{member}
+use Rattle.place_plan.specs.Places.{around, is_within, roles_of, uses, initial_of, internal_of, handler_of}
+use Rattle.place_plan.specs.Entries.{is_of, is_in, is_by, has, has_by, newest}
+use Rattle.place_plan.specs.Whereabouts.{inside, stays, is_live, has_ended, has_started}
+use Rattle.place_plan.specs.Raising.{exceptions_raised, is_raised, exception_resolved}
+use Rattle.place_plan.specs.Objects.{holder_of, value_of, writes, has_failed}
+use Rattle.place_plan.specs.Rules.{MayFollow}
+use Rattle.place_plan.specs.Journals.{LegalPast, AllOver}
+use Rattle.place_plan.specs.Bound.{bound}
+
+-- what a law says holds of every legal journal of the plan
+abbrev pub Holds : (Plan → List Entry → Type 0) → Plan → Type 0
+Holds Law plan = (past : List Entry) → LegalPast plan past → Law plan past
+
+-- e stands in the past, after `before` and before `later`
+abbrev pub Splits : List Entry → List Entry → Entry → List Entry → Type 0
+Splits past later e before = past ≡ later ++ e ∷ before
+
+-- ---- the plain words for what is computed along the entries
+
+-- inside is the innermost of the places in which a participant stays
+abbrev pub InsideIsInnermost : Plan → List Entry → Type 0
+InsideIsInnermost plan past =
+    (t p : ℕ) → (inside plan past t ≡ Some p)
+    ↔ ((stays past p t ≡ true) × ((q : ℕ) → stays past q t ≡ true → is_within plan p q ≡ true))
+
+-- the holder of an object is the innermost of the live places that use it
+abbrev pub HolderIsInnermost : Plan → List Entry → Type 0
+HolderIsInnermost plan past =
+    (o p : ℕ) → (holder_of plan past o ≡ Some p)
+    ↔ ((is_live past p ≡ true) × (uses plan p o ≡ true) × ((q : ℕ) → is_live past q ≡ true → uses plan q o ≡ true → is_within plan p q ≡ true))
+
+-- ---- the next entry
+
+-- the entry, as if the device had taken its put
+abbrev pub as_taken : Kind → Entry → Entry
+as_taken kind.PutFault e = record e { kind = kind.Write }
+as_taken kind.Restore e = record e { mark = 0 }
+as_taken _ e = e
+
+-- a participant has at most one entry, the device's answer aside
+abbrev pub AtMostOne : Plan → List Entry → Type 0
+AtMostOne plan past = (e f : Entry) → MayFollow plan past e → MayFollow plan past f → e.by ≡ f.by → as_taken e.kind e ≡ as_taken f.kind f
+
+-- some participant has an entry
+pub record HasEntry (plan : Plan) (past : List Entry) : Type 0 where
+  pub entry : Entry
+  pub known : entry.by < length plan.participants
+  pub may : MayFollow plan past entry
+
+-- progress law: where a participant isn't over, some participant has an entry
+abbrev pub GoesOn : Plan → List Entry → Type 0
+GoesOn plan past = (AllOver plan past → ⊥) → HasEntry plan past
+
+-- length law: there are at most as many entries as the bound says
+abbrev pub IsBounded : Plan → List Entry → Type 0
+IsBounded plan past = length past ≤ bound plan
+
+-- ---- resolution law
+
+-- each who handles in p handles the least cover of all that is raised there in the whole journal, and all handle one exception
+pub record HandlesLeast (plan : Plan) (past : List Entry) (p : ℕ) : Type 0 where
+  pub least : (later before : List Entry) (e : Entry) → Splits past later e before → is_in kind.Handle p e ≡ true → IsLeastCover (internal_of plan p) (exceptions_raised plan past p) e.arg
+  pub one : (later before later' before' : List Entry) (e f : Entry) → Splits past later e before → Splits past later' f before' → is_in kind.Handle p e ≡ true → is_in kind.Handle p f ≡ true → e.arg ≡ f.arg
+
+-- t gave the verdict undo in p after the Resolve of p
+pub record AskedForUndo (past : List Entry) (p t : ℕ) : Type 0 where
+  pub later : List Entry
+  pub entry : Entry
+  pub before : List Entry
+  pub stands : Splits past later entry before
+  pub own : is_by kind.Verdict p t entry ≡ true
+  pub undo : entry.mark ≡ 2
+  pub resolution : has kind.Resolve before p ≡ true
+
+-- t handled x in p, or has no handler for it and asked for undo
+abbrev pub Answered : Plan → List Entry → ℕ → ℕ → ℕ → Type 0
+Answered plan past p x t =
+    (list_any (λ e. is_by kind.Handle p t e && (e.arg == x)) past ≡ true)
+    ⊎ ((is_none (handler_of plan p t x) ≡ true) × AskedForUndo past p t)
+
+-- p is resolved, and each role has answered
+pub record IsAnswered (plan : Plan) (past : List Entry) (p : ℕ) : Type 0 where
+  pub exception : ℕ
+  pub resolution : exception_resolved past p ≡ Some exception
+  pub each : (t : ℕ) → member t (roles_of plan p) ≡ true → Answered plan past p exception t
+
+-- what is handled is the least cover of all that is raised, and a place that ended without aborts answered what was raised in it
+pub record ResolutionLaw (plan : Plan) (past : List Entry) : Type 0 where
+  pub handles : (p : ℕ) → HandlesLeast plan past p
+  -- a place in which something was raised, and which ended without aborts, was resolved and answered
+  pub answered : (p : ℕ) → has_ended past p ≡ true → has kind.Abort past p ≡ false → is_raised plan past p ≡ true → IsAnswered plan past p
+
+-- ---- exit law
+
+-- an End of p between these parts of the journal is the only one; each role has said something before it, none has left, and
+-- after it the place is only left
+pub record EndsOnce (plan : Plan) (p : ℕ) (later before : List Entry) : Type 0 where
+  pub only_left : (later' before' : List Entry) (e : Entry) → Splits later later' e before' → e.place ≡ p → e.kind ≡ kind.Leave
+  pub first : has_ended before p ≡ false
+  pub together : has kind.Leave before p ≡ false
+  pub each : (t : ℕ) → member t (roles_of plan p) ≡ true → has_by kind.Verdict before p t || has_by kind.Abort before p t ≡ true
+
+-- each End is the only one of its place, after what each role says and before any leaves
+abbrev pub ExitLaw : Plan → List Entry → Type 0
+ExitLaw plan past = (p : ℕ) (later before : List Entry) (e : Entry) → Splits past later e before → is_in kind.End p e ≡ true → EndsOnce plan p later before
+
+-- ---- outcome law
+
+-- the entry is a restore of o in p, with this mark: 0 where the device took it, 1 where it refused
+abbrev pub is_restore : ℕ → ℕ → ℕ → Entry → Bool
+is_restore p o mark e = is_in kind.Restore p e && ((e.arg == o) && (e.mark == mark))
+
+-- what the restores of p are, by the mark of its End: none after a commit or a signal; each object restored after an undo or an
+-- abort; each object tried once, and one refused, after a failure
+pub record RestoresFit (plan : Plan) (past : List Entry) (p mark : ℕ) : Type 0 where
+  pub kept : mark < 2 → has kind.Restore past p ≡ false
+  pub undone : (mark ≡ 2) ⊎ (mark ≡ 3) → (o : ℕ) → uses plan p o ≡ true → list_any (is_restore p o 0) past ≡ true
+  pub tried : mark ≡ 4 → (o : ℕ) → uses plan p o ≡ true → count_by (is_restore p o 0) past + count_by (is_restore p o 1) past ≡ 1
+  pub refused : mark ≡ 4 → has_failed past p ≡ true
+
+-- the restores of a place that has ended are what its End says
+abbrev pub OutcomeLaw : Plan → List Entry → Type 0
+OutcomeLaw plan past = (p : ℕ) (e : Entry) → newest (is_in kind.End p) past ≡ Some e → RestoresFit plan past p e.mark
+
+-- ---- effect law
+
+-- the End of a place, where it has one, is a commit or a signal
+abbrev pub is_kept_mark : Option Entry → Bool
+is_kept_mark None = false
+is_kept_mark (Some e) = (e.mark == 0) || (e.mark == 1)
+
+-- p and each place round it ended by commit or signal
+abbrev pub is_kept : Plan → List Entry → ℕ → Bool
+is_kept plan past p = list_all (λ q. is_kept_mark (newest (is_in kind.End q) past)) (p ∷ around plan p)
+
+-- the value of the last write of o that passes a test, else the initial one
+abbrev pub last_write : Plan → List Entry → ℕ → (Entry → Bool) → ℤ
+last_write plan [] o test = initial_of plan o
+last_write plan (e ∷ past) o test = if writes o e && test e then e.value else last_write plan past o test
+
+-- the device refused a restore of o
+abbrev pub has_failed_restore : List Entry → ℕ → Bool
+has_failed_restore past o = list_any (λ e. is_of kind.Restore e && ((e.arg == o) && (e.mark == 1))) past
+
+-- in a complete journal an object that no restore failed for holds what the kept places alone leave
+abbrev pub EffectLaw : Plan → List Entry → Type 0
+EffectLaw plan past =
+    AllOver plan past → (o : ℕ) → has_failed_restore past o ≡ false → value_of plan past o ≡ last_write plan past o (λ e. is_kept plan past e.place)
+
+-- ---- inner-first law
+
+-- an abort stands after the End of each place inside that starts at any time
+abbrev pub InnerFirstLaw : Plan → List Entry → Type 0
+InnerFirstLaw plan past =
+    (p q : ℕ) (later before : List Entry) (e : Entry) → Splits past later e before → is_in kind.Abort p e ≡ true
+    → member p (around plan q) ≡ true → has_started past q ≡ true → has_ended before q ≡ true
+
+-- ---- isolation law
+
+-- the kinds of entry that read an object, or that ask the device to change it
+abbrev pub touches_object : Kind → Bool
+touches_object kind.Read = true
+touches_object kind.Write = true
+touches_object kind.PutFault = true
+touches_object kind.Restore = true
+touches_object _ = false
+
+-- no two places that go on side by side have one object
+pub record IsolationLaw (plan : Plan) (past : List Entry) : Type 0 where
+  -- of two places that use one object and are live at one moment, one encloses the other
+  pub nested : (later before : List Entry) (p q o : ℕ) → past ≡ later ++ before → is_live before p ≡ true → is_live before q ≡ true → uses plan p o ≡ true → uses plan q o ≡ true → is_within plan p q || is_within plan q p ≡ true
+  -- an object is touched only in the place that holds it at that moment
+  pub held : (later before : List Entry) (e : Entry) → Splits past later e before → touches_object e.kind ≡ true → holder_of plan before e.arg ≡ Some e.place
+
+-- ---- all laws of one journal
+
+pub record KeepsLaws (plan : Plan) (past : List Entry) : Type 0 where
+  pub resolution : ResolutionLaw plan past
+  pub exits : ExitLaw plan past
+  pub outcomes : OutcomeLaw plan past
+  pub effects : EffectLaw plan past
+  pub inner_first : InnerFirstLaw plan past
+  pub isolation : IsolationLaw plan past

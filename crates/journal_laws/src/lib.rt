@@ -1,0 +1,72 @@
+//! The laws of all legal journals of a plan. Each is a statement alone: the call does nothing.
+#![tactic(auto)]
+
+ghost use Rattle.journal_laws.specs.Laws.{Holds, AtMostOne, GoesOn, IsBounded, InsideIsInnermost, HolderIsInnermost, KeepsLaws};
+ghost use Rattle.journal_laws.specs.FlatDue.{DueIsRight};
+ghost use Rattle.place_plan.specs.WellFormed.{AllWellFormed};
+ghost use Rattle.place_plan.specs.Flat.{StaysQuiet};
+
+use place_plan::plan::Plan;
+
+/// The entry that is computed for a participant is the one that may follow.
+pub fn due_is_right(plan: &Plan)
+    ensures { Holds DueIsRight plan.now }
+{
+    plan.is_closed();
+}
+
+/// A participant has at most one legal entry, the device's answer aside.
+pub fn at_most_one(plan: &Plan)
+    ensures { Holds AtMostOne plan.now }
+{
+    plan.is_closed();
+}
+
+/// Progress law: where a participant isn't over, some participant has a legal entry.
+pub fn goes_on(plan: &Plan)
+    ensures { Holds GoesOn plan.now }
+{
+    plan.is_closed();
+}
+
+/// Length law: a legal journal has at most as many entries as the bound says.
+pub fn is_bounded(plan: &Plan)
+    ensures { Holds IsBounded plan.now }
+{
+    plan.is_closed();
+}
+
+/// Each entry of a legal journal is well formed.
+pub fn is_well_formed(plan: &Plan)
+    ensures { Holds AllWellFormed plan.now }
+{
+    plan.is_closed();
+}
+
+/// Where a participant is by its arrivals and leaves is the innermost of the places in which it stays.
+pub fn inside_is_innermost(plan: &Plan)
+    ensures { Holds InsideIsInnermost plan.now }
+{
+    plan.is_closed();
+}
+
+/// Who holds an object by the starts and ends is the innermost of the live places that use it.
+pub fn holder_is_innermost(plan: &Plan)
+    ensures { Holds HolderIsInnermost plan.now }
+{
+    plan.is_closed();
+}
+
+/// The resolution, exit, outcome, effect, inner-first and isolation laws.
+pub fn keeps_laws(plan: &Plan)
+    ensures { Holds KeepsLaws plan.now }
+{
+    plan.is_closed();
+}
+
+/// As long as roles only read and work, nothing is raised, undone or handled, and each object has its initial value.
+pub fn stays_quiet(plan: &Plan)
+    ensures { Holds StaysQuiet plan.now }
+{
+    plan.is_closed();
+}

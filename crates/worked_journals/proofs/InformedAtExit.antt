@@ -1,0 +1,168 @@
+-- A role is informed after its verdict, and handles what the other one raised; the action ends with a signal.
+--
+-- The script:
+--   participant ann / participant bob / object x 0 / object y 0 / graph tree / exception left / end / graph faces
+--   / exception weak / end / action duo / internal tree / interface faces / use x y / roles a b / body a / put x 1
+--   / body b / read x / check above 0 left / handler a left / handler b left / put y 9 / signal weak / end / play
+--   duo ann bob
+use Rattle.std.proofs.Common.{◌≡◌, ℕ, ℤ, pos, List, [], ◌∷◌, reverse, refl, codes, rules}
+use Rattle.cover_table.specs.Cover.{IsLeastCover}
+use Rattle.caa_base.specs.declared.entry.Entry.{Entry}
+use Rattle.caa_base.specs.declared.entry.Test.TheVariants.{Above}
+use Rattle.caa_base.specs.declared.entry.Verdict.TheVariants as verdict
+use Rattle.place_plan.specs.declared.rows.AbortRow.TheVariants as abort
+use Rattle.place_plan.specs.declared.rows.GraphRow.{GraphRow}
+use Rattle.place_plan.specs.declared.rows.ActionRow.{ActionRow}
+use Rattle.place_plan.specs.declared.rows.RoleRow.{RoleRow}
+use Rattle.place_plan.specs.declared.rows.Step.TheVariants as step
+use Rattle.place_plan.specs.PlanValue.{Plan}
+use Rattle.place_plan.specs.Places.{internal_of, interface_of}
+use Rattle.place_plan.specs.Objects.{value_of}
+use Rattle.place_plan.specs.Journals.{IsLegal, IsComplete, puts_of}
+use Rattle.journal_laws.specs.Laws.{last_write, is_kept}
+use Rattle.place_plan.specs.Bound.{bound, action_bound}
+use Rattle.worked_journals.proofs.Notation.{plain_graph, arrive, start, read, write, raise, inform, resolve, handle, verdict_done, verdict_signal, end_signal, leave}
+use Rattle.worked_journals.proofs.Notation.{universal, graph, object, program, handler, play}
+use Rattle.worked_journals.proofs.Notation.{least_cover_from, complete_from, AreWellFormed}
+
+-- ---- the plan
+
+abbrev pub ann : ℕ
+ann = 0
+
+abbrev pub bob : ℕ
+bob = 1
+
+abbrev pub x : ℕ
+x = 0
+
+abbrev pub y : ℕ
+y = 1
+
+abbrev pub left : ℕ
+left = 1
+
+-- in tree, universal covers all
+abbrev pub tree_graph : GraphRow
+tree_graph =
+    graph
+    (codes "universal" ∷ codes "left" ∷ [])
+    ((universal ∷ left ∷ [])
+    ∷ (left ∷ [])
+    ∷ [])
+
+abbrev pub weak : ℕ
+weak = 1
+
+-- in faces, universal covers all
+abbrev pub faces_graph : GraphRow
+faces_graph =
+    graph
+    (codes "universal" ∷ codes "weak" ∷ [])
+    ((universal ∷ weak ∷ [])
+    ∷ (weak ∷ [])
+    ∷ [])
+
+abbrev pub duo_a : RoleRow
+duo_a =
+    record {
+      name = codes "a";
+      body = program (step.Put x (pos 1) ∷ []) verdict.Done;
+      handlers = handler left (program [] verdict.Done) ∷ [];
+      abort = abort.Never;
+    }
+
+abbrev pub duo_b : RoleRow
+duo_b =
+    record {
+      name = codes "b";
+      body = program (step.Read x ∷ step.Check Above (pos 0) left ∷ []) verdict.Done;
+      handlers = handler left (program (step.Put y (pos 9) ∷ []) (verdict.Signal weak)) ∷ [];
+      abort = abort.Never;
+    }
+
+abbrev pub duo_action : ActionRow
+duo_action =
+    record {
+      name = codes "duo";
+      internal = 1;
+      interface = 2;
+      fault = universal;
+      objects = x ∷ y ∷ [];
+      roles = duo_a ∷ duo_b ∷ [];
+      nests = [];
+    }
+
+abbrev pub plan : Plan
+plan =
+    record {
+      participants = codes "ann" ∷ codes "bob" ∷ [];
+      objects = object (codes "x") 0 ∷ object (codes "y") 0 ∷ [];
+      graphs = plain_graph ∷ tree_graph ∷ faces_graph ∷ [];
+      actions = duo_action ∷ [];
+      places = play 0 (ann ∷ bob ∷ []) [] ∷ [];
+      plays = 0 ∷ [];
+      drills = [];
+      watches = [];
+    }
+
+-- ---- the journal
+
+abbrev pub journal : List Entry
+journal =
+    arrive 0 ann
+    ∷ arrive 0 bob
+    ∷ start 0 ann
+    ∷ write 0 ann x 1
+    ∷ verdict_done 0 ann
+    ∷ read 0 bob x 1
+    ∷ raise 0 bob left
+    ∷ inform 0 ann
+    ∷ resolve 0 ann left
+    ∷ handle 0 ann left
+    ∷ handle 0 bob left
+    ∷ verdict_done 0 ann
+    ∷ write 0 bob y 9
+    ∷ verdict_signal 0 bob weak
+    ∷ end_signal 0 bob weak
+    ∷ leave 0 ann
+    ∷ leave 0 bob
+    ∷ []
+
+-- left is the least exception that covers all that was raised
+pub left_is_least : IsLeastCover (internal_of plan 0) (left ∷ []) left
+left_is_least = least_cover_from _ _ _ refl
+
+-- weak is the least exception that covers all that was signalled
+pub weak_is_least : IsLeastCover (interface_of plan 0) (weak ∷ []) weak
+weak_is_least = least_cover_from _ _ _ refl
+
+pub legal : IsLegal plan journal
+legal = assumption (left_is_least, weak_is_least)
+
+pub complete : IsComplete plan journal
+complete = complete_from plan journal refl
+
+-- what the objects hold at the end
+pub values : (value_of plan (reverse journal) x ≡ pos 1) × (value_of plan (reverse journal) y ≡ pos 9)
+values = (refl, refl)
+
+-- the puts that the device took
+pub puts : puts_of journal ≡ (x, pos 1) ∷ (y, pos 9) ∷ []
+puts = refl
+
+-- each entry has fields that fit its kind
+pub well_formed : AreWellFormed plan journal
+well_formed = search rules
+
+-- what the places leave that ended, with all round them, by commit or signal
+abbrev kept_value : ℕ → ℤ
+kept_value o = last_write plan (reverse journal) o (λ e. is_kept plan (reverse journal) e.place)
+
+pub kept_values : (kept_value x ≡ pos 1) × (kept_value y ≡ pos 9)
+kept_values = (refl, refl)
+
+-- how many entries a journal of the plan may have
+pub bounded : bound plan ≡ 28
+unfolding action_bound
+bounded = refl

@@ -1,0 +1,25 @@
+-- Journals worked by hand from the rules, shown legal and complete by computing.
+pub mod Notation
+pub mod EndedNotAllLeft
+pub mod FailureHandled
+pub mod FirstPath
+pub mod InformedAtExit
+pub mod InnerCommitted
+pub mod InnerRestoreFails
+pub mod MixingNegative
+pub mod OrdinaryUse
+pub mod PutFailsInHandler
+pub mod RaisedWhileUndoing
+pub mod RestoreFails
+pub mod SameExceptionTwice
+pub mod SaturatingAdd
+pub mod TestsDecide
+pub mod ThirdPutFails
+pub mod ThreeLevels
+pub mod TwoPlays
+pub mod TwoSiblings
+pub mod TwoSignals
+pub mod UndoAsked
+pub mod Withdrawn
+pub mod Drafts
+pub mod Spoiled

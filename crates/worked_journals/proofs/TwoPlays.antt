@@ -1,0 +1,123 @@
+-- Two plays of one action take the object in turn.
+--
+-- The script:
+--   participant ann / participant bob / object x 0 / action w / use x / roles r / body r / read x / add x 1 / end
+--   / play w ann / play w bob
+use Rattle.std.proofs.Common.{◌≡◌, ℕ, ℤ, pos, List, [], ◌∷◌, reverse, refl, codes, rules}
+use Rattle.caa_base.specs.declared.entry.Entry.{Entry}
+use Rattle.caa_base.specs.declared.entry.Verdict.TheVariants as verdict
+use Rattle.place_plan.specs.declared.rows.AbortRow.TheVariants as abort
+use Rattle.place_plan.specs.declared.rows.ActionRow.{ActionRow}
+use Rattle.place_plan.specs.declared.rows.RoleRow.{RoleRow}
+use Rattle.place_plan.specs.declared.rows.Step.TheVariants as step
+use Rattle.place_plan.specs.PlanValue.{Plan}
+use Rattle.place_plan.specs.Objects.{value_of}
+use Rattle.place_plan.specs.Journals.{IsLegal, IsComplete, puts_of, committed_value}
+use Rattle.journal_laws.specs.Laws.{last_write, is_kept}
+use Rattle.place_plan.specs.Bound.{bound, action_bound}
+use Rattle.worked_journals.proofs.Notation.{plain_graph, arrive, start, read, write, verdict_done, end_commit, leave}
+use Rattle.worked_journals.proofs.Notation.{universal, object, program, play}
+use Rattle.worked_journals.proofs.Notation.{complete_from, AreWellFormed}
+
+-- ---- the plan
+
+abbrev pub ann : ℕ
+ann = 0
+
+abbrev pub bob : ℕ
+bob = 1
+
+abbrev pub x : ℕ
+x = 0
+
+abbrev pub w_r : RoleRow
+w_r =
+    record {
+      name = codes "r";
+      body = program (step.Read x ∷ step.Add x (pos 1) ∷ []) verdict.Done;
+      handlers = [];
+      abort = abort.Never;
+    }
+
+abbrev pub w_action : ActionRow
+w_action =
+    record {
+      name = codes "w";
+      internal = 0;
+      interface = 0;
+      fault = universal;
+      objects = x ∷ [];
+      roles = w_r ∷ [];
+      nests = [];
+    }
+
+abbrev pub plan : Plan
+plan =
+    record {
+      participants = codes "ann" ∷ codes "bob" ∷ [];
+      objects = object (codes "x") 0 ∷ [];
+      graphs = plain_graph ∷ [];
+      actions = w_action ∷ [];
+      places =
+          play 0 (ann ∷ []) []
+          ∷ play 0 (bob ∷ []) [] ∷ [];
+      plays = 0 ∷ 1 ∷ [];
+      drills = [];
+      watches = [];
+    }
+
+-- ---- the journal
+
+abbrev pub journal : List Entry
+journal =
+    arrive 0 ann
+    ∷ start 0 ann
+    ∷ arrive 1 bob
+    ∷ read 0 ann x 0
+    ∷ write 0 ann x 1
+    ∷ verdict_done 0 ann
+    ∷ end_commit 0 ann
+    ∷ start 1 bob
+    ∷ leave 0 ann
+    ∷ read 1 bob x 1
+    ∷ write 1 bob x 2
+    ∷ verdict_done 1 bob
+    ∷ end_commit 1 bob
+    ∷ leave 1 bob
+    ∷ []
+
+pub legal : IsLegal plan journal
+legal = assumption
+
+pub complete : IsComplete plan journal
+complete = complete_from plan journal refl
+
+-- what the objects hold at the end
+pub values : value_of plan (reverse journal) x ≡ pos 2
+values = refl
+
+-- the puts that the device took
+pub puts : puts_of journal ≡ (x, pos 1) ∷ (x, pos 2) ∷ []
+puts = refl
+
+-- what the object holds by the first none, one and two of the plays that ended
+pub committed_values :
+    (committed_value plan (reverse journal) 0 x ≡ pos 0) × (committed_value plan (reverse journal) 1 x ≡ pos 1)
+    × (committed_value plan (reverse journal) 2 x ≡ pos 2)
+committed_values = (refl, refl, refl)
+
+-- each entry has fields that fit its kind
+pub well_formed : AreWellFormed plan journal
+well_formed = search rules
+
+-- what the places leave that ended, with all round them, by commit or signal
+abbrev kept_value : ℕ → ℤ
+kept_value o = last_write plan (reverse journal) o (λ e. is_kept plan (reverse journal) e.place)
+
+pub kept_values : kept_value x ≡ pos 2
+kept_values = refl
+
+-- how many entries a journal of the plan may have
+pub bounded : bound plan ≡ 30
+unfolding action_bound
+bounded = refl

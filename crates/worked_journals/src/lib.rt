@@ -1,0 +1,4 @@
+//! Journals worked by hand from the rules. Each is shown legal and complete by computing, and spoiled ones are shown illegal.
+//!
+//! All of it stands in *proofs/*, a file for each journal. Nothing stands on this crate.
+#![tactic(auto)]
