@@ -1,5 +1,5 @@
 -- Legal and complete journals, and what a journal did to the objects.
-use Rattle.std.specs.Prelude.{◌≡◌, ℕ, ℤ, ◌==◌, ◌<◌, Bool, true, ◌&&◌, ◌||◌, if◌then◌else◌, List, [], ◌∷◌, ◌++◌, filter, length, reverse, take, is_none, count_by}
+use Rattle.std.specs.Prelude.{◌≡◌, ℕ, ℤ, ◌==◌, ◌<◌, Bool, true, ◌&&◌, ◌||◌, if◌then◌else◌, List, [], ◌∷◌, ◌++◌, filter, length, reverse, take, is_none}
 use Rattle.caa_base.specs.declared.entry.Entry.{Entry}
 use Rattle.caa_base.specs.declared.entry.Kind.TheVariants as kind
 use Rattle.place_plan.specs.PlanValue.{Plan}
@@ -52,7 +52,7 @@ is_fault e = is_of kind.PutFault e || (is_of kind.Restore e && (e.mark == 1))
 
 -- how many puts and restores of the journal the device refused
 abbrev pub faults_in : List Entry → ℕ
-faults_in journal = count_by is_fault journal
+faults_in journal = length (filter is_fault journal)
 
 -- ---- committed values
 
