@@ -31,6 +31,8 @@ use Rattle.worked_journals.proofs.MixingNegative as mixing_negative
 use Rattle.worked_journals.proofs.TestsDecide as tests_decide
 use Rattle.worked_journals.proofs.TwoSignals as two_signals
 use Rattle.worked_journals.proofs.FailureHandled as failure_handled
+use Rattle.worked_journals.proofs.Alternates as alternates
+use Rattle.worked_journals.proofs.AlternateNotAfterFailure as alternate_not_after_failure
 
 -- the parts of this plan, with these plays
 abbrev pub draft_of : Plan → List PlayRow → Draft
@@ -138,6 +140,14 @@ two_signals_unfolds = record { whole = refl; same = refl }
 failure_handled_unfolds : UnfoldsInto (draft_of failure_handled.plan (play_of 1 (failure_handled.ann ∷ []) ∷ [])) failure_handled.plan
 unfolding unfold_at depth_within action_bound
 failure_handled_unfolds = record { whole = refl; same = refl }
+
+alternates_unfolds : UnfoldsInto (draft_of alternates.plan (play_of 2 (alternates.ann ∷ []) ∷ [])) alternates.plan
+unfolding unfold_at depth_within action_bound
+alternates_unfolds = record { whole = refl; same = refl }
+
+alternate_not_after_failure_unfolds : UnfoldsInto (draft_of alternate_not_after_failure.plan (play_of 2 (alternates.ann ∷ []) ∷ [])) alternate_not_after_failure.plan
+unfolding unfold_at depth_within action_bound
+alternate_not_after_failure_unfolds = record { whole = refl; same = refl }
 
 -- ---- two uses side by side, and two plays: a place comes before what is nested in it, and a use is whole before the next begins
 

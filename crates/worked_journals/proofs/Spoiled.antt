@@ -4,7 +4,9 @@ use Rattle.std.specs.Prelude.{nat_abs}
 use Rattle.std.proofs.lemmas.Bool.{false≢true, true≢false}
 use Rattle.caa_base.specs.declared.entry.Entry.{Entry}
 use Rattle.place_plan.specs.Journals.{IsLegal, IsComplete}
-use Rattle.worked_journals.proofs.Notation.{withdraw, read, work, write, check, end_signal, raise, resolve, handle, verdict_done, abort, abort_naming, restore_well, end_commit, end_undone, leave, leave_carrying, universal, rule_at}
+use Rattle.worked_journals.proofs.Notation.{arrive, withdraw, read, work, write, check, end_signal, raise, resolve, handle, verdict_done, abort, abort_naming, restore_well, end_commit, end_undone, leave, leave_carrying, universal, rule_at}
+use Rattle.worked_journals.proofs.Alternates as alternates
+use Rattle.worked_journals.proofs.AlternateNotAfterFailure as alternate_not_after_failure
 use Rattle.worked_journals.proofs.SaturatingAdd as saturating_add
 use Rattle.worked_journals.proofs.TestsDecide as tests_decide
 use Rattle.worked_journals.proofs.FailureHandled as failure_handled
@@ -135,6 +137,29 @@ writes_after_verdict = inserted 5 (write 0 bob y 7) ordinary_use.journal
 
 pub writes_after_verdict_is_illegal : IsLegal ordinary_use.plan writes_after_verdict → ⊥
 writes_after_verdict_is_illegal h = absurd (false≢true (rule_at ordinary_use.plan writes_after_verdict 5 h).can)
+
+-- ---- alternates
+
+-- the next action of a use is entered after the first one failed
+abbrev pub enters_after_failure : List Entry
+enters_after_failure = inserted 10 (arrive 2 ann) alternate_not_after_failure.journal
+
+pub enters_after_failure_is_illegal : IsLegal alternate_not_after_failure.plan enters_after_failure → ⊥
+enters_after_failure_is_illegal h = let wrong = (rule_at alternate_not_after_failure.plan enters_after_failure 10 h).leads in cc
+
+-- what the undo of a use is mapped to is carried out of an action that isn't its last
+abbrev pub carries_earlier_undo : List Entry
+carries_earlier_undo = replaced 9 (leave_carrying 1 ann universal) alternates.journal
+
+pub carries_earlier_undo_is_illegal : IsLegal alternates.plan carries_earlier_undo → ⊥
+carries_earlier_undo_is_illegal h = let wrong = (rule_at alternates.plan carries_earlier_undo 9 h).carries.0 in cc
+
+-- the first action of a use is left out
+abbrev pub skips_alternate : List Entry
+skips_alternate = replaced 2 (arrive 2 ann) alternates.journal
+
+pub skips_alternate_is_illegal : IsLegal alternates.plan skips_alternate → ⊥
+skips_alternate_is_illegal h = let wrong = (rule_at alternates.plan skips_alternate 2 h).leads in cc
 
 -- ---- wrong values
 
