@@ -1,7 +1,7 @@
 pub mod Counts
-pub mod Device
 pub mod Journal
 pub mod Memory
 pub mod Mixing
+pub mod PlantState
 pub mod Reading
 pub mod Writing

@@ -1,3 +1,4 @@
+use std::alloc::{AllocError, AllocFailed};
 use thiserror::Error;
 
 /// A participant, counted from 0.
@@ -114,6 +115,18 @@ pub struct Drill {
 #[derive(Clone, Copy, Debug, PartialEq, Eq, Error)]
 #[error("out of memory")]
 pub struct OutOfMemory;
+
+impl From<AllocError> for OutOfMemory {
+    fn from(_error: AllocError) -> Self {
+        OutOfMemory
+    }
+}
+
+impl<T: Drop> From<AllocFailed<T>> for OutOfMemory {
+    fn from(_error: AllocFailed<T>) -> Self {
+        OutOfMemory
+    }
+}
 
 /// The outside refused.
 #[derive(Clone, Copy, Debug, PartialEq, Eq, Error)]

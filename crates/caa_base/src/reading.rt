@@ -1,13 +1,13 @@
-ghost use Rattle.std.specs.Prelude.{◌≡◌, ◌<◌, ◌≤◌, vec_len, IfOk, IfErr, IfSome, OnOk, OnErr, IsErrOf};
+ghost use Rattle.std.specs.Prelude.{◌≡◌, ◌<◌, ◌≤◌, vec_len, is_err, IfOk, IfErr, IfSome, OnOk, OnErr};
 ghost use Rattle.std.specs.Io.KnownBytes.{append_known};
-ghost use Rattle.caa_base.specs.Counts.{Rose};
-ghost use Rattle.caa_base.specs.Reading.{emptied, TookUntil};
+ghost use Rattle.caa_base.specs.Counts.{CountsFault};
+ghost use Rattle.caa_base.specs.Reading.{emptied, is_fault, TookUntil};
 ghost use Rattle.caa_base.specs.Writing.{WrotePart};
 
 use crate::entry::Failed;
 use crate::sink::Sink;
 use crate::source::Source;
-use std::alloc::Global;
+use std::alloc::{AllocError, Global};
 use thiserror::Error;
 
 /// How many bytes one read asks for at most.
@@ -27,6 +27,16 @@ pub enum ReadError {
     OutOfMemory,
 }
 
+impl From<AllocError> for ReadError {
+    ghost use Rattle.caa_base.specs.declared.reading.ReadError.{ReadError};
+
+    ghost from_gives = { λ _ error. error ≡ ReadError.OutOfMemory };
+
+    fn from(_error: AllocError) -> Self {
+        ReadError::OutOfMemory
+    }
+}
+
 /// Reads all that a source has left, which is at most `limit` bytes.
 ///
 /// After an error what was read is lost: at `TooLong` one byte more than the limit, and at the
@@ -36,8 +46,7 @@ pub fn read_all<S: Source>(alloc: Global, source: &mut S, limit: u64) -> Result<
     ensures end { OnOk result (S.left source.new ≡ emptied (S.left source.old)) }
     ensures fits { IfOk result (λ bytes. vec_len bytes ≤ limit) }
     ensures taken { IfErr result (TookUntil (S.left source.old) (S.left source.new) limit) }
-    ensures fault { IsErrOf result ReadError.Fault → Rose (S.faults source.old) (S.faults source.new) }
-    ensures count { S.faults source.old ≤ S.faults source.new }
+    ensures count { CountsFault (is_fault result) (S.faults source.old) (S.faults source.new) }
 {
     let mut bytes = Vec::new(alloc);
     let mut piece = [0u8; PIECE];
@@ -53,9 +62,7 @@ pub fn read_all<S: Source>(alloc: Global, source: &mut S, limit: u64) -> Result<
         if taken as u64 > spare {
             return Err(ReadError::TooLong);
         }
-        if bytes.extend_from_slice(&piece[..taken]).is_err() {
-            return Err(ReadError::OutOfMemory);
-        }
+        bytes.extend_from_slice(&piece[..taken])?;
     }
 }
 
@@ -65,9 +72,8 @@ pub fn read_all<S: Source>(alloc: Global, source: &mut S, limit: u64) -> Result<
 pub fn write_all<K: Sink>(sink: &mut K, bytes: &[u8]) -> Result<(), Failed>
     ensures done { OnOk result (K.held sink.new ≡ append_known (K.held sink.old) bytes.now) }
     ensures part { OnErr result (WrotePart (K.held sink.old) (K.held sink.new) bytes.now) }
-    ensures cause { OnErr result (Rose (K.faults sink.old) (K.faults sink.new)) }
+    ensures count { CountsFault (is_err result) (K.faults sink.old) (K.faults sink.new) }
     ensures room { K.room sink.new ≡ K.room sink.old }
-    ensures count { K.faults sink.old ≤ K.faults sink.new }
 {
     let mut done = 0;
     while done < bytes.len() {

@@ -30,14 +30,11 @@ impl Failures {
         ensures calls { IfOk result (λ failures. failures.calls ≡ 0) }
         ensures faults { IfOk result (λ failures. failures.faults ≡ 0) }
     {
-        match Vec::from_slice(alloc, at) {
-            Ok(at) => Ok(Failures {
-                at,
-                calls: 0,
-                faults: 0,
-            }),
-            Err(_) => Err(OutOfMemory),
-        }
+        Ok(Failures {
+            at: Vec::from_slice(alloc, at)?,
+            calls: 0,
+            faults: 0,
+        })
     }
 
     /// Counts one more call, and says whether it is to fail.

@@ -32,14 +32,11 @@ impl SureSink {
         ensures room { IfOk result (λ sink. sink.room ≡ room) }
         ensures refused { IfOk result (λ sink. sink.refused ≡ 0) }
     {
-        match Vec::with_capacity(alloc, room as usize) {
-            Ok(bytes) => Ok(SureSink {
-                bytes,
-                room,
-                refused: 0,
-            }),
-            Err(_) => Err(OutOfMemory),
-        }
+        Ok(SureSink {
+            bytes: Vec::with_capacity(alloc, room as usize)?,
+            room,
+            refused: 0,
+        })
     }
 
     /// The bytes that it holds.

@@ -6,7 +6,7 @@ abbrev pub invariant-loop-taken : goal.invariant-loop-taken
 invariant-loop-taken g l = record {
   fits : vec_len l.bytes ≤ l.limit;
   taken : g.S.Source.left l.fn.source ≡ prepend_known l.bytes.items (g.S.Source.left l.source);
-  count : g.S.Source.faults l.fn.source ≤ g.S.Source.faults l.source;
+  count : g.S.Source.faults l.source ≡ g.S.Source.faults l.fn.source;
 }
 
 abbrev pub decreases-loop-taken : goal.decreases-loop-taken
