@@ -1,5 +1,8 @@
 pub mod Counts
 pub mod Journal
+pub mod Limits
+pub mod Lines
+pub mod Lists
 pub mod Memory
 pub mod Mixing
 pub mod PlantState

@@ -1,21 +1,22 @@
 -- What sources, sinks and plants in memory are seen as.
-use Rattle.std.specs.Prelude.{ℕ, ◌+◌, ◌-◌, ◌^◌, min, Bool, List, [], length, nat_lt, if◌then◌else◌, Option, Some, None, Result, Ok, Err}
+use Rattle.std.specs.Prelude.{ℕ, Bool, List, [], length, nat_lt, if◌then◌else◌, Option, Some, None, Result, Contains}
+use Rattle.caa_base.specs.Counts.{counted_up, faults_after}
 use Rattle.caa_base.specs.PlantState.{PlantState, Drilling}
-
--- a count after one more; it stops at the last number that it can show
-abbrev pub counted_up : ℕ → ℕ
-counted_up count = min (count + 1) (2 ^ 64 - 1)
-
--- a count of faults after a call that gave this answer
-abbrev pub faults_after : {T E : Type 0} → Result T E → ℕ → ℕ
-faults_after (Ok v) faults = faults
-faults_after (Err e) faults = counted_up faults
 
 -- the numbers of the calls that fail, how many calls came, and how many of them failed
 pub record Failures : Type 0 where
   pub at : List ℕ
   pub calls : ℕ
   pub faults : ℕ
+
+-- the next call is one of those that fail
+abbrev pub FailsNext : Failures → Type 0
+FailsNext failures = Contains failures.at (counted_up failures.calls)
+
+-- the failures after one more call, which gave this answer
+abbrev pub failures_after : {T E : Type 0} → Result T E → Failures → Failures
+failures_after result failures =
+    record { at = failures.at; calls = counted_up failures.calls; faults = faults_after result failures.faults }
 
 -- a source that fails at some calls: what is left, and the reads that fail
 pub record FailingSource : Type 0 where

@@ -1,7 +1,8 @@
 ghost use Rattle.std.specs.Prelude.{◌≡◌, ◌<◌, ◌≤◌, ◌+◌, ◌↔◌, [], length, replicate, slice_set, slice_index, slice_index_or, if◌then◌else◌, Some, is_err, IsTrue, IsErrOf, OnOk, OnErr};
 ghost use Rattle.caa_base.specs.PlantState.{after_put, is_drilled, next_try};
-ghost use Rattle.caa_base.specs.Memory.{counted_up, faults_after};
+ghost use Rattle.caa_base.specs.Counts.{counted_up, faults_after};
 
+use crate::count::counted_up;
 use crate::entry::{Drill, Failed, Object, OutOfMemory};
 use crate::memory::drills::Drills;
 use crate::memory::sure_plant::SurePlant;
@@ -99,12 +100,11 @@ impl Plant for MemPlant {
         ensures kept { OnErr result (self.new.plant ≡ self.old.plant) }
         ensures drilling_kept { OnErr result (self.new.drilling ≡ self.old.drilling) }
         ensures lay_faults { self.new.lay_faults ≡ (if self.old.fail_lay then counted_up self.old.lay_faults else self.old.lay_faults) }
-        ensures no_fewer { self.old.lay_faults ≤ self.new.lay_faults }
         ensures faults { self.new.faults ≡ self.old.faults }
         ensures fail_lay { self.new.fail_lay ≡ self.old.fail_lay }
     {
         if self.fail_lay {
-            self.lay_faults = self.lay_faults.saturating_add(1);
+            self.lay_faults = counted_up(self.lay_faults);
             return Err(PlantError::Failed);
         }
         let drills = Drills::new(alloc, drills, values.len())?;
@@ -124,7 +124,6 @@ impl Plant for MemPlant {
         ensures drills { self.new.drilling.drills ≡ self.old.drilling.drills }
         ensures tries { self.new.drilling.tries ≡ slice_set self.old.drilling.tries object (next_try self.old.drilling object) }
         ensures faults { self.new.faults ≡ faults_after result self.old.faults }
-        ensures no_fewer { self.old.faults ≤ self.new.faults }
         ensures lay_faults { self.new.lay_faults ≡ self.old.lay_faults }
         ensures fail_lay { self.new.fail_lay ≡ self.old.fail_lay }
     {
@@ -133,7 +132,7 @@ impl Plant for MemPlant {
             unreachable!();
         };
         if drills.is_next(object) {
-            self.faults = self.faults.saturating_add(1);
+            self.faults = counted_up(self.faults);
             return Err(Failed);
         }
         self.plant.set(object, value);
