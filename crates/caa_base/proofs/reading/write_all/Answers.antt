@@ -8,6 +8,6 @@ loop-done-preserved g c = record {
   within = omega (arith, c.in_ok-done.ensures.bound, length-drop c.loop-done.done c.args.bytes.now);
   written = append_known-more _ _ _ _ _ _ c.loop-done.invariant.written c.in_ok-done.ensures.bytes
       (front_more c.args.bytes.now _ c.loop-done.done c.in_ok-done.field-0 (grind (arith, common_steps)));
-  room = c.write.ensures.room ∙ c.loop-done.invariant.room;
+  room = c.write_once.ensures.room ∙ c.loop-done.invariant.room;
   count = c.in_ok-done.ensures.count ∙ c.loop-done.invariant.count;
 }
