@@ -75,7 +75,7 @@ pub struct Entry {
 pub enum Verdict {
     /// Its part is done.
     Done,
-    /// Its part is done, and this exception of the interface graph is to be told outside.
+    /// Its part is done, and this exception of the interface graph goes outside.
     Signal(Exception),
     /// The whole action is to be undone.
     Undo,
@@ -94,7 +94,7 @@ pub enum Test {
 pub enum Outcome {
     /// Its effects are kept.
     Commit,
-    /// Its effects are kept, and this exception of the interface graph is told outside.
+    /// Its effects are kept, and this exception of the interface graph goes outside.
     Signal(Exception),
     /// Its roles asked for undo, and each object was restored.
     Undone,

@@ -1,11 +1,22 @@
 //! Lines of text: words parted by one space each, and a line feed. Where no memory is found a part may have been added.
 
-ghost use Rattle.std.specs.Prelude.{◌≡◌, ◌∷◌, ◌++◌, [], decimal, OnOk};
+ghost use Rattle.std.specs.Prelude.{◌≡◌, ◌∷◌, ◌++◌, [], decimal, is_ok, OnOk};
 ghost use Rattle.std.specs.Fmt.{signed_decimal};
 ghost use Rattle.caa_base.specs.Lines.{spaced};
 
 use crate::entry::OutOfMemory;
+use std::io;
 use std::io::Write;
+
+/// The answer of `write!` to a text in memory, which fails only where no memory was found.
+pub fn in_memory(answer: io::Result<()>) -> Result<(), OutOfMemory>
+    ensures { is_ok result ≡ is_ok answer }
+{
+    match answer {
+        Ok(()) => Ok(()),
+        Err(_) => Err(OutOfMemory),
+    }
+}
 
 /// Adds a word, after a space.
 pub fn push_word(text: &mut Vec<u8>, word: &[u8]) -> Result<(), OutOfMemory>
@@ -20,20 +31,14 @@ pub fn push_word(text: &mut Vec<u8>, word: &[u8]) -> Result<(), OutOfMemory>
 pub fn push_number(text: &mut Vec<u8>, number: u64) -> Result<(), OutOfMemory>
     ensures { OnOk result (text.new.items ≡ text.old.items ++ spaced (decimal number ∷ [])) }
 {
-    match write!(text, " {number}") {
-        Ok(()) => Ok(()),
-        Err(_) => Err(OutOfMemory),
-    }
+    in_memory(write!(text, " {number}"))
 }
 
 /// Adds a value, after a space.
 pub fn push_value(text: &mut Vec<u8>, value: i64) -> Result<(), OutOfMemory>
     ensures { OnOk result (text.new.items ≡ text.old.items ++ spaced (signed_decimal value ∷ [])) }
 {
-    match write!(text, " {value}") {
-        Ok(()) => Ok(()),
-        Err(_) => Err(OutOfMemory),
-    }
+    in_memory(write!(text, " {value}"))
 }
 
 /// Ends the line.
