@@ -1,7 +1,10 @@
 pub mod Counts
-pub mod Device
 pub mod Journal
+pub mod Limits
+pub mod Lines
+pub mod Lists
 pub mod Memory
 pub mod Mixing
+pub mod PlantState
 pub mod Reading
 pub mod Writing

@@ -1,5 +1,5 @@
 -- How many bytes were read from a source.
-use Rattle.std.specs.Prelude.{◌≡◌, ◌≤◌, ◌+◌, ℕ, List, [], length, Option}
+use Rattle.std.specs.Prelude.{◌≡◌, ◌≤◌, ◌+◌, ℕ, Bool, true, false, List, [], length, Option, Result, Ok, Err}
 use Rattle.std.specs.Option.{option_map}
 use Rattle.std.specs.Io.KnownBytes.{prepend_known}
 use Rattle.caa_base.specs.declared.reading.ReadError.{ReadError}
@@ -7,7 +7,14 @@ use Rattle.caa_base.specs.declared.reading.ReadError.TheVariants.{Fault, TooLong
 
 -- what is left of a source at its end, where it tells that
 abbrev pub emptied : Option (List ℕ) → Option (List ℕ)
-emptied told = option_map (λ _. []) told
+emptied known = option_map (λ _. []) known
+
+-- a reading answered a fault
+abbrev pub is_fault : {T : Type 0} → Result T ReadError → Bool
+is_fault (Ok v) = false
+is_fault (Err Fault) = true
+is_fault (Err TooLong) = false
+is_fault (Err OutOfMemory) = false
 
 -- so many bytes were taken off the front of what a source had left
 pub record TookOff (old new : Option (List ℕ)) (count : ℕ) : Type 0 where

@@ -1,3 +1,4 @@
+use std::alloc::{AllocError, AllocFailed};
 use thiserror::Error;
 
 /// A participant, counted from 0.
@@ -74,7 +75,7 @@ pub struct Entry {
 pub enum Verdict {
     /// Its part is done.
     Done,
-    /// Its part is done, and this exception of the interface graph is to be told outside.
+    /// Its part is done, and this exception of the interface graph goes outside.
     Signal(Exception),
     /// The whole action is to be undone.
     Undo,
@@ -93,7 +94,7 @@ pub enum Test {
 pub enum Outcome {
     /// Its effects are kept.
     Commit,
-    /// Its effects are kept, and this exception of the interface graph is told outside.
+    /// Its effects are kept, and this exception of the interface graph goes outside.
     Signal(Exception),
     /// Its roles asked for undo, and each object was restored.
     Undone,
@@ -114,6 +115,18 @@ pub struct Drill {
 #[derive(Clone, Copy, Debug, PartialEq, Eq, Error)]
 #[error("out of memory")]
 pub struct OutOfMemory;
+
+impl From<AllocError> for OutOfMemory {
+    fn from(_error: AllocError) -> Self {
+        OutOfMemory
+    }
+}
+
+impl<T: Drop> From<AllocFailed<T>> for OutOfMemory {
+    fn from(_error: AllocFailed<T>) -> Self {
+        OutOfMemory
+    }
+}
 
 /// The outside refused.
 #[derive(Clone, Copy, Debug, PartialEq, Eq, Error)]

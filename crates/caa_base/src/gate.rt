@@ -1,6 +1,6 @@
 use crate::entry::{Participant, Place};
 
-/// What is told of each piece of mixing work, before it begins.
+/// What is called before each piece of mixing work begins.
 pub trait Gate {
     /// This participant is about to work in this place.
     fn work(&self, by: Participant, place: Place);

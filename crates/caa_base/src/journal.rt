@@ -35,10 +35,8 @@ impl Journal {
         ensures entries { IfOk result (λ j. j.entries ≡ []) }
         ensures room { IfOk result (λ j. j.room ≡ room) }
     {
-        match Vec::with_capacity(alloc, room as usize) {
-            Ok(items) => Ok(Journal { items }),
-            Err(_) => Err(OutOfMemory),
-        }
+        let items = Vec::with_capacity(alloc, room as usize)?;
+        Ok(Journal { items })
     }
 
     /// Adds an entry at the end, where there is room for it. It takes no memory.

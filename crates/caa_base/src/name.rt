@@ -23,10 +23,8 @@ impl Name {
     pub fn from_bytes(alloc: Global, bytes: &[u8]) -> Result<Name, OutOfMemory>
         ensures { IfOk result (λ name. name ≡ bytes.now) }
     {
-        match Vec::from_slice(alloc, bytes) {
-            Ok(text) => Ok(Name { text }),
-            Err(_) => Err(OutOfMemory),
-        }
+        let text = Vec::from_slice(alloc, bytes)?;
+        Ok(Name { text })
     }
 
     /// The bytes of the name.

@@ -1,8 +1,8 @@
-ghost use Rattle.std.specs.Prelude.{◌≡◌, ◌<◌, ◌≤◌, ◌+◌, ℕ, Option, length, is_some, IsErrOf, OnOk, OnErr};
-ghost use Rattle.caa_base.specs.Counts.{Rose};
-ghost use Rattle.caa_base.specs.Device.{Device, after_lay, after_put};
+ghost use Rattle.std.specs.Prelude.{◌≡◌, ◌<◌, ◌+◌, ℕ, Option, None, length, is_some, is_err, IfSome, OnOk, OnErr};
+ghost use Rattle.caa_base.specs.Counts.{CountsFault};
+ghost use Rattle.caa_base.specs.PlantState.{PlantState, Drilling, after_lay, after_put, after_drills, after_try, is_drilled, is_refused};
 
-use crate::entry::{Drill, Failed, Object};
+use crate::entry::{Drill, Failed, Object, OutOfMemory};
 use std::alloc::Global;
 use thiserror::Error;
 
@@ -17,6 +17,16 @@ pub enum PlantError {
     OutOfMemory,
 }
 
+impl From<OutOfMemory> for PlantError {
+    ghost use Rattle.caa_base.specs.declared.plant.PlantError.{PlantError};
+
+    ghost from_gives = { λ _ error. error ≡ PlantError.OutOfMemory };
+
+    fn from(_error: OutOfMemory) -> Self {
+        PlantError::OutOfMemory
+    }
+}
+
 /// The device that keeps the values of the objects.
 pub trait Plant {
     /// How many calls of `lay` failed; the count stops at its last number.
@@ -25,8 +35,11 @@ pub trait Plant {
     /// How many calls of `put` failed; the count stops at its last number.
     ghost faults: { Self → ℕ };
 
-    /// The values and the puts, where the plant tells them.
-    ghost device: { Self → Option Device };
+    /// The values, and the puts that succeeded, where the plant tells them.
+    ghost state: { Self → Option PlantState };
+
+    /// The drills, and how many puts of each object were tried, where the plant tells them.
+    ghost drilling: { Self → Option Drilling } = { λ _. None };
 
     /// How many calls of `put` came since the plant was laid out.
     ghost calls: { Self → ℕ };
@@ -38,9 +51,10 @@ pub trait Plant {
     ghost objects: { Self → ℕ };
 
     /// Lays out the values of the objects, those puts that are to be refused, and room for this
-    /// many calls of `put`.
+    /// many calls of `put`. Whether the plant tells its state or its drilling is never changed.
     ///
-    /// `Failed` comes only from the device. Neither error says anything of the values that are left.
+    /// `Failed` comes only from the device, and is counted. Neither error says anything of the
+    /// values and the drills that are left.
     fn lay(
         &mut self,
         alloc: Global,
@@ -48,27 +62,32 @@ pub trait Plant {
         drills: &[Drill],
         puts: u64,
     ) -> Result<(), PlantError>
-        ensures device { OnOk result (device self.new ≡ after_lay (device self.old) values.now) }
+        ensures state { OnOk result (state self.new ≡ after_lay (state self.old) values.now) }
+        ensures drilling { OnOk result (drilling self.new ≡ after_drills (drilling self.old) drills.now (length values.now)) }
         ensures calls { OnOk result (calls self.new ≡ 0) }
         ensures room { OnOk result (room self.new ≡ puts) }
         ensures objects { OnOk result (objects self.new ≡ length values.now) }
         ensures refused { OnErr result (calls self.new ≡ calls self.old) }
-        ensures told { is_some (device self.new) ≡ is_some (device self.old) }
-        ensures count { lay_faults self.old ≤ lay_faults self.new }
-        ensures cause { IsErrOf result PlantError.Failed → Rose (lay_faults self.old) (lay_faults self.new) }
+        ensures tells_state { is_some (state self.new) ≡ is_some (state self.old) }
+        ensures tells_drilling { is_some (drilling self.new) ≡ is_some (drilling self.old) }
+        ensures count { CountsFault (is_refused result) (lay_faults self.old) (lay_faults self.new) }
         ensures put_faults { faults self.new ≡ faults self.old };
 
-    /// Sets the value of an object. A put that fails leaves the value.
+    /// Sets the value of an object. A put that fails is counted, and leaves the value.
+    ///
+    /// A plant that tells its drilling fails exactly where a drill has this object and the number
+    /// of this try; a try counts whatever is answered.
     fn put(&mut self, object: Object, value: i64) -> Result<(), Failed>
         requires room { calls self.old < room self.old }
         requires laid { object < objects self.old }
-        ensures done { OnOk result (device self.new ≡ after_put (device self.old) object value) }
-        ensures failed { OnErr result (device self.new ≡ device self.old) }
+        ensures done { OnOk result (state self.new ≡ after_put (state self.old) object value) }
+        ensures failed { OnErr result (state self.new ≡ state self.old) }
+        ensures drilled { IfSome (drilling self.old) (λ d. is_err result ≡ is_drilled d object) }
+        ensures drilling { drilling self.new ≡ after_try (drilling self.old) object }
         ensures calls { calls self.new ≡ calls self.old + 1 }
         ensures room { room self.new ≡ room self.old }
         ensures objects { objects self.new ≡ objects self.old }
-        ensures count { faults self.old ≤ faults self.new }
-        ensures cause { OnErr result (Rose (faults self.old) (faults self.new)) }
+        ensures count { CountsFault (is_err result) (faults self.old) (faults self.new) }
         ensures lay_faults { lay_faults self.new ≡ lay_faults self.old };
 
     /// How many calls of `lay` failed so far.

@@ -1,6 +1,6 @@
-ghost use Rattle.std.specs.Prelude.{◌≡◌, ◌<◌, ◌≤◌, ℕ, List, Option, None, length, take, IfOk, OnErr};
+ghost use Rattle.std.specs.Prelude.{◌≡◌, ◌<◌, ◌≤◌, ℕ, List, Option, None, length, take, is_err, IfOk, OnErr};
 ghost use Rattle.std.specs.Io.KnownBytes.{append_known};
-ghost use Rattle.caa_base.specs.Counts.{Rose};
+ghost use Rattle.caa_base.specs.Counts.{CountsFault};
 
 use crate::entry::Failed;
 
@@ -17,7 +17,7 @@ pub trait Sink {
 
     /// Writes some bytes of the front of the piece, and says how many: at least one.
     ///
-    /// A write that fails appends nothing.
+    /// A write that fails is counted, and appends nothing.
     fn write(&mut self, piece: &[u8]) -> Result<usize, Failed>
         requires { 0 < length piece.now }
         ensures some { IfOk result (λ n. 0 < n) }
@@ -25,8 +25,7 @@ pub trait Sink {
         ensures bytes { IfOk result (λ n. held self.new ≡ append_known (held self.old) (take n piece.now)) }
         ensures failed { OnErr result (held self.new ≡ held self.old) }
         ensures room { room self.new ≡ room self.old }
-        ensures count { faults self.old ≤ faults self.new }
-        ensures cause { OnErr result (Rose (faults self.old) (faults self.new)) };
+        ensures count { CountsFault (is_err result) (faults self.old) (faults self.new) };
 
     /// How many writes failed so far.
     fn faults(&self) -> u64

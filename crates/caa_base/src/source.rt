@@ -1,6 +1,6 @@
-ghost use Rattle.std.specs.Prelude.{◌≡◌, ◌<◌, ◌≤◌, ℕ, List, Option, length, take, IfOk, OnErr};
+ghost use Rattle.std.specs.Prelude.{◌≡◌, ◌<◌, ◌≤◌, ℕ, List, Option, length, take, is_err, IfOk, OnErr};
 ghost use Rattle.std.specs.Io.KnownBytes.{prepend_known, IsAtEnd};
-ghost use Rattle.caa_base.specs.Counts.{Rose};
+ghost use Rattle.caa_base.specs.Counts.{CountsFault};
 
 use crate::entry::Failed;
 
@@ -14,15 +14,14 @@ pub trait Source {
 
     /// Reads some bytes into the front of the buffer, and says how many. None is the end of the input.
     ///
-    /// A read that fails takes nothing.
+    /// A read that fails is counted, and takes nothing.
     fn read(&mut self, buf: &mut [u8]) -> Result<usize, Failed>
         requires { 0 < length buf.old }
         ensures bound { IfOk result (λ n. n ≤ length buf.new) }
         ensures bytes { IfOk result (λ n. left self.old ≡ prepend_known (take n buf.new) (left self.new)) }
         ensures end { IfOk result (λ n. n ≡ 0 → IsAtEnd (left self.new)) }
         ensures failed { OnErr result (left self.new ≡ left self.old) }
-        ensures count { faults self.old ≤ faults self.new }
-        ensures cause { OnErr result (Rose (faults self.old) (faults self.new)) };
+        ensures count { CountsFault (is_err result) (faults self.old) (faults self.new) };
 
     /// How many reads failed so far.
     fn faults(&self) -> u64

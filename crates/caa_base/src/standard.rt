@@ -1,6 +1,7 @@
 ghost use Rattle.std.specs.Prelude.{◌≡◌, ◌<◌, ◌≤◌, length, None, IfOk};
-ghost use Rattle.caa_base.specs.Memory.{faults_after};
+ghost use Rattle.caa_base.specs.Counts.{faults_after};
 
+use crate::count::counted_up;
 use crate::entry::Failed;
 use crate::sink::Sink;
 use crate::source::Source;
@@ -42,12 +43,11 @@ impl<R: Read> Source for StdSource<R> {
         requires { 0 < length buf.old }
         ensures bound { IfOk result (λ n. n ≤ length buf.new) }
         ensures faults { self.new ≡ faults_after result self.old }
-        ensures no_fewer { self.old ≤ self.new }
     {
         match self.stream.read(buf) {
             Ok(count) => Ok(count),
             Err(_) => {
-                self.faults = self.faults.saturating_add(1);
+                self.faults = counted_up(self.faults);
                 Err(Failed)
             }
         }
@@ -94,12 +94,11 @@ impl<W: Write> Sink for StdSink<W> {
         ensures some { IfOk result (λ n. 0 < n) }
         ensures bound { IfOk result (λ n. n ≤ length piece.now) }
         ensures faults { self.new ≡ faults_after result self.old }
-        ensures no_fewer { self.old ≤ self.new }
     {
         match self.stream.write(piece) {
             Ok(count) if count > 0 => Ok(count),
             _ => {
-                self.faults = self.faults.saturating_add(1);
+                self.faults = counted_up(self.faults);
                 Err(Failed)
             }
         }

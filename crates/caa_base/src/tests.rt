@@ -1,4 +1,5 @@
 use crate::entry::{Failed, OutOfMemory};
+use crate::limits::{MOST_VALUE, is_value};
 use crate::plant::PlantError;
 use crate::reading::ReadError;
 use std::test::Fail;
@@ -33,4 +34,14 @@ fn errors_have_their_texts(rt: HostRuntime) -> Result<(), Fail> {
         assert_eq!(rt; shown.as_str(), *text);
     }
     Ok(())
+}
+
+#[test]
+fn values_lie_within_a_million_million(rt: HostRuntime) {
+    for number in [0, MOST_VALUE, -MOST_VALUE] {
+        assert!(rt; is_value(number));
+    }
+    for number in [MOST_VALUE + 1, -MOST_VALUE - 1, i64::MAX, i64::MIN] {
+        assert!(rt; !is_value(number));
+    }
 }

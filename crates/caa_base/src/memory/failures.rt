@@ -1,6 +1,8 @@
-ghost use Rattle.std.specs.Prelude.{◌≡◌, ◌≤◌, ◌↔◌, [], IfOk, IsTrue, Contains, if◌then◌else◌};
-ghost use Rattle.caa_base.specs.Memory.{counted_up};
+ghost use Rattle.std.specs.Prelude.{◌≡◌, ◌↔◌, [], IfOk, IsTrue};
+ghost use Rattle.caa_base.specs.Counts.{counted_up};
+ghost use Rattle.caa_base.specs.Memory.{FailsNext};
 
+use crate::count::counted_up;
 use crate::entry::OutOfMemory;
 use std::alloc::Global;
 use std::marker::Model;
@@ -26,39 +28,29 @@ impl Model for Failures {
 impl Failures {
     /// The calls with these numbers fail, and none came yet.
     pub fn new(alloc: Global, at: &[u64]) -> Result<Self, OutOfMemory>
-        ensures at { IfOk result (λ failures. failures.at ≡ at.now) }
-        ensures calls { IfOk result (λ failures. failures.calls ≡ 0) }
-        ensures faults { IfOk result (λ failures. failures.faults ≡ 0) }
+        ensures { IfOk result (λ failures. failures ≡ record { at = at.now; calls = 0; faults = 0 }) }
     {
-        match Vec::from_slice(alloc, at) {
-            Ok(at) => Ok(Failures {
-                at,
-                calls: 0,
-                faults: 0,
-            }),
-            Err(_) => Err(OutOfMemory),
-        }
+        Ok(Failures {
+            at: Vec::from_slice(alloc, at)?,
+            calls: 0,
+            faults: 0,
+        })
     }
 
     /// Counts one more call, and says whether it is to fail.
     pub fn is_next(&mut self) -> bool
-        ensures fails { IsTrue result ↔ Contains self.old.at self.new.calls }
-        ensures calls { self.new.calls ≡ counted_up self.old.calls }
-        ensures at { self.new.at ≡ self.old.at }
-        ensures faults { self.new.faults ≡ self.old.faults }
+        ensures fails { IsTrue result ↔ FailsNext self.old }
+        ensures after { self.new ≡ record self.old { calls = counted_up self.old.calls } }
     {
-        self.calls = self.calls.saturating_add(1);
+        self.calls = counted_up(self.calls);
         self.at.contains(&self.calls)
     }
 
     /// Counts one more fault.
     pub fn add_fault(&mut self)
-        ensures faults { self.new.faults ≡ counted_up self.old.faults }
-        ensures no_fewer { self.old.faults ≤ self.new.faults }
-        ensures calls { self.new.calls ≡ self.old.calls }
-        ensures at { self.new.at ≡ self.old.at }
+        ensures { self.new ≡ record self.old { faults = counted_up self.old.faults } }
     {
-        self.faults = self.faults.saturating_add(1);
+        self.faults = counted_up(self.faults);
     }
 
     /// How many calls failed so far.

@@ -17,31 +17,27 @@ impl Model for Laid {
 
     ghost Value = { LaidValue };
 
-    ghost view = { λ l. record { device = record { values = l.values.items; puts = l.puts.items }; room = vec_capacity l.puts } };
+    ghost view = { λ l. record { state = record { values = l.values.items; puts = l.puts.items }; room = vec_capacity l.puts } };
 }
 
 impl Laid {
     /// These values, no puts yet, and room for this many.
     pub fn new(alloc: Global, values: &[i64], room: u64) -> Result<Self, OutOfMemory>
-        ensures values { IfOk result (λ laid. laid.device.values ≡ values.now) }
-        ensures puts { IfOk result (λ laid. laid.device.puts ≡ []) }
+        ensures values { IfOk result (λ laid. laid.state.values ≡ values.now) }
+        ensures puts { IfOk result (λ laid. laid.state.puts ≡ []) }
         ensures room { IfOk result (λ laid. laid.room ≡ room) }
     {
-        let Ok(values) = Vec::from_slice(alloc, values) else {
-            return Err(OutOfMemory);
-        };
-        let Ok(puts) = Vec::with_capacity(alloc, room as usize) else {
-            return Err(OutOfMemory);
-        };
+        let values = Vec::from_slice(alloc, values)?;
+        let puts = Vec::with_capacity(alloc, room as usize)?;
         Ok(Laid { values, puts })
     }
 
     /// Sets the value of an object, and keeps the put.
     pub fn put(&mut self, object: Object, value: i64)
-        requires laid { object < length self.old.device.values }
-        requires room { length self.old.device.puts < self.old.room }
-        ensures values { self.new.device.values ≡ slice_set self.old.device.values object value }
-        ensures puts { self.new.device.puts ≡ self.old.device.puts ++ (object, value) ∷ [] }
+        requires laid { object < length self.old.state.values }
+        requires room { length self.old.state.puts < self.old.room }
+        ensures values { self.new.state.values ≡ slice_set self.old.state.values object value }
+        ensures puts { self.new.state.puts ≡ self.old.state.puts ++ (object, value) ∷ [] }
         ensures room { self.new.room ≡ self.old.room }
     {
         self.values[object as usize] = value;
@@ -50,15 +46,15 @@ impl Laid {
 
     /// The value of an object.
     pub fn value(&self, object: Object) -> i64
-        requires { object < length self.now.device.values }
-        ensures { result ≡ slice_index_or self.now.device.values object result }
+        requires { object < length self.now.state.values }
+        ensures { result ≡ slice_index_or self.now.state.values object result }
     {
         self.values[object as usize]
     }
 
     /// The puts, the oldest first.
     pub fn puts(&self) -> &[(Object, i64)]
-        ensures { result.now ≡ self.now.device.puts }
+        ensures { result.now ≡ self.now.state.puts }
     {
         self.puts.as_slice()
     }

@@ -1,5 +1,5 @@
-ghost use Rattle.std.specs.Prelude.{◌≡◌, ◌<◌, ◌≤◌, ◌-◌, ◌++◌, ◌⊎◌, ◌↔◌, [], min, length, take, Some, IsErr, IfOk, OnErr, Contains};
-ghost use Rattle.caa_base.specs.Memory.{counted_up, faults_after};
+ghost use Rattle.std.specs.Prelude.{◌≡◌, ◌<◌, ◌≤◌, ◌-◌, ◌++◌, ◌⊎◌, ◌↔◌, [], min, length, take, Some, IsErr, IfOk, OnErr};
+ghost use Rattle.caa_base.specs.Memory.{FailsNext, failures_after};
 
 use crate::entry::{Failed, OutOfMemory};
 use crate::memory::failures::Failures;
@@ -30,9 +30,7 @@ impl MemSink {
     pub fn new(alloc: Global, room: u64, fail: &[u64]) -> Result<Self, OutOfMemory>
         ensures held { IfOk result (λ s. s.held ≡ []) }
         ensures room { IfOk result (λ s. s.room ≡ room) }
-        ensures at { IfOk result (λ s. s.failures.at ≡ fail.now) }
-        ensures calls { IfOk result (λ s. s.failures.calls ≡ 0) }
-        ensures faults { IfOk result (λ s. s.failures.faults ≡ 0) }
+        ensures failures { IfOk result (λ s. s.failures ≡ record { at = fail.now; calls = 0; faults = 0 }) }
     {
         let sink = SureSink::new(alloc, room)?;
         let failures = Failures::new(alloc, fail)?;
@@ -56,15 +54,12 @@ impl Sink for MemSink {
 
     fn write(&mut self, piece: &[u8]) -> Result<usize, Failed>
         requires { 0 < length piece.now }
-        ensures fails { IsErr result ↔ (Contains self.old.failures.at self.new.failures.calls ⊎ (self.old.room ≤ length self.old.held)) }
+        ensures fails { IsErr result ↔ (FailsNext self.old.failures ⊎ (self.old.room ≤ length self.old.held)) }
         ensures most { IfOk result (λ n. n ≡ min (length piece.now) (self.old.room - length self.old.held)) }
         ensures appended { IfOk result (λ n. self.new.held ≡ self.old.held ++ take n piece.now) }
         ensures kept { OnErr result (self.new.held ≡ self.old.held) }
         ensures room { self.new.room ≡ self.old.room }
-        ensures calls { self.new.failures.calls ≡ counted_up self.old.failures.calls }
-        ensures faults { self.new.failures.faults ≡ faults_after result self.old.failures.faults }
-        ensures no_fewer { self.old.failures.faults ≤ self.new.failures.faults }
-        ensures at { self.new.failures.at ≡ self.old.failures.at }
+        ensures failures { self.new.failures ≡ failures_after result self.old.failures }
     {
         if self.failures.is_next() || self.sink.is_full() {
             self.failures.add_fault();

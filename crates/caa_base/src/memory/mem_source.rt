@@ -1,5 +1,5 @@
-ghost use Rattle.std.specs.Prelude.{◌≡◌, ◌<◌, ◌≤◌, ◌↔◌, ◌++◌, [], min, length, take, Some, IsErr, IfOk, OnErr, Contains};
-ghost use Rattle.caa_base.specs.Memory.{counted_up, faults_after};
+ghost use Rattle.std.specs.Prelude.{◌≡◌, ◌<◌, ◌↔◌, ◌++◌, [], min, length, take, Some, IsErr, IfOk, OnErr};
+ghost use Rattle.caa_base.specs.Memory.{FailsNext, failures_after};
 
 use crate::entry::{Failed, OutOfMemory};
 use crate::memory::failures::Failures;
@@ -27,9 +27,7 @@ impl MemSource {
     /// A source of these bytes. The n-th read, counted from 1, fails where n is in `fail`.
     pub fn new(alloc: Global, bytes: &[u8], fail: &[u64]) -> Result<Self, OutOfMemory>
         ensures left { IfOk result (λ s. s.left ≡ bytes.now) }
-        ensures at { IfOk result (λ s. s.failures.at ≡ fail.now) }
-        ensures calls { IfOk result (λ s. s.failures.calls ≡ 0) }
-        ensures faults { IfOk result (λ s. s.failures.faults ≡ 0) }
+        ensures failures { IfOk result (λ s. s.failures ≡ record { at = fail.now; calls = 0; faults = 0 }) }
     {
         let source = SureSource::new(alloc, bytes)?;
         let failures = Failures::new(alloc, fail)?;
@@ -51,15 +49,12 @@ impl Source for MemSource {
 
     fn read(&mut self, buf: &mut [u8]) -> Result<usize, Failed>
         requires { 0 < length buf.old }
-        ensures fails { IsErr result ↔ Contains self.old.failures.at self.new.failures.calls }
+        ensures fails { IsErr result ↔ FailsNext self.old.failures }
         ensures most { IfOk result (λ n. n ≡ min (length self.old.left) (length buf.new)) }
         ensures taken { IfOk result (λ n. self.old.left ≡ take n buf.new ++ self.new.left) }
         ensures end { IfOk result (λ n. n ≡ 0 → self.new.left ≡ []) }
         ensures kept { OnErr result (self.new.left ≡ self.old.left) }
-        ensures calls { self.new.failures.calls ≡ counted_up self.old.failures.calls }
-        ensures faults { self.new.failures.faults ≡ faults_after result self.old.failures.faults }
-        ensures no_fewer { self.old.failures.faults ≤ self.new.failures.faults }
-        ensures at { self.new.failures.at ≡ self.old.failures.at }
+        ensures failures { self.new.failures ≡ failures_after result self.old.failures }
     {
         if self.failures.is_next() {
             self.failures.add_fault();

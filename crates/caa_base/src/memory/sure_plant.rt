@@ -1,5 +1,5 @@
-ghost use Rattle.std.specs.Prelude.{◌≡◌, ◌<◌, ◌+◌, [], length, slice_index_or, Some, OnOk, OnErr, IfOk};
-ghost use Rattle.caa_base.specs.Device.{after_lay, after_put};
+ghost use Rattle.std.specs.Prelude.{◌≡◌, ◌<◌, ◌+◌, ◌^◌, [], length, slice_index_or, Some, OnOk, OnErr, IfOk};
+ghost use Rattle.caa_base.specs.PlantState.{after_lay, after_put};
 
 use crate::entry::{Drill, Failed, Object, OutOfMemory};
 use crate::memory::laid::Laid;
@@ -17,20 +17,20 @@ pub struct SurePlant {
 
 impl Model for SurePlant {
     ghost use Rattle.std.specs.Prelude.{◌≤◌, length};
-    ghost use Rattle.caa_base.specs.Memory.{WillingPlant, device_of, room_of};
+    ghost use Rattle.caa_base.specs.Memory.{WillingPlant, state_of, room_of};
 
     ghost Value = { WillingPlant };
 
-    ghost view = { λ p. record { device = device_of p.laid; calls = p.calls; room = p.room } };
+    ghost view = { λ p. record { state = state_of p.laid; calls = p.calls; room = p.room } };
 
-    ghost invariant = { λ p. (length (device_of p.laid).puts ≤ p.calls) × (p.room ≤ room_of p.laid) };
+    ghost invariant = { λ p. record { puts : length (state_of p.laid).puts ≤ p.calls; calls : p.calls ≤ p.room; memory : p.room ≤ room_of p.laid } };
 }
 
 impl SurePlant {
     /// A plant with no objects and no room for puts. It takes no memory.
     pub fn new() -> Self
-        ensures values { result.device.values ≡ [] }
-        ensures puts { result.device.puts ≡ [] }
+        ensures values { result.state.values ≡ [] }
+        ensures puts { result.state.puts ≡ [] }
         ensures calls { result.calls ≡ 0 }
         ensures room { result.room ≡ 0 }
     {
@@ -43,8 +43,8 @@ impl SurePlant {
 
     /// The value of an object.
     pub fn value(&self, object: Object) -> i64
-        requires { object < length self.now.device.values }
-        ensures { result ≡ slice_index_or self.now.device.values object result }
+        requires { object < length self.now.state.values }
+        ensures { result ≡ slice_index_or self.now.state.values object result }
     {
         match &self.laid {
             Some(laid) => laid.value(object),
@@ -54,7 +54,7 @@ impl SurePlant {
 
     /// The puts that were made since the plant was laid out, the oldest first.
     pub fn puts(&self) -> &[(Object, i64)]
-        ensures { result.now ≡ self.now.device.puts }
+        ensures { result.now ≡ self.now.state.puts }
     {
         match &self.laid {
             Some(laid) => laid.puts(),
@@ -69,8 +69,8 @@ impl SurePlant {
         values: &[i64],
         puts: u64,
     ) -> Result<(), OutOfMemory>
-        ensures values { OnOk result (self.new.device.values ≡ values.now) }
-        ensures puts { OnOk result (self.new.device.puts ≡ []) }
+        ensures values { OnOk result (self.new.state.values ≡ values.now) }
+        ensures puts { OnOk result (self.new.state.puts ≡ []) }
         ensures calls { OnOk result (self.new.calls ≡ 0) }
         ensures room { OnOk result (self.new.room ≡ puts) }
         ensures refused { OnErr result (self.new ≡ self.old) }
@@ -82,28 +82,29 @@ impl SurePlant {
         Ok(())
     }
 
-    /// Sets the value of an object, and keeps the put.
-    pub(super) fn set(&mut self, object: Object, value: i64)
-        requires room { self.old.calls < self.old.room }
-        requires laid { object < length self.old.device.values }
-        ensures device { Some self.new.device ≡ after_put (Some self.old.device) object value }
+    /// Counts one more call of `put`.
+    pub(super) fn count(&mut self)
+        requires { self.old.calls < self.old.room }
         ensures calls { self.new.calls ≡ self.old.calls + 1 }
+        ensures fits { self.new.calls < 2 ^ 64 }
+        ensures spare { length self.new.state.puts < self.new.calls }
+        ensures state { self.new.state ≡ self.old.state }
+        ensures room { self.new.room ≡ self.old.room }
+    {
+        self.calls += 1;
+    }
+
+    /// Sets the value of an object, and keeps the put, which was counted.
+    pub(super) fn set(&mut self, object: Object, value: i64)
+        requires laid { object < length self.old.state.values }
+        requires spare { length self.old.state.puts < self.old.calls }
+        ensures state { Some self.new.state ≡ after_put (Some self.old.state) object value }
+        ensures calls { self.new.calls ≡ self.old.calls }
         ensures room { self.new.room ≡ self.old.room }
     {
         if let Some(laid) = &mut self.laid {
             laid.put(object, value);
         }
-        self.calls += 1;
-    }
-
-    /// Counts a put that was refused.
-    pub(super) fn skip(&mut self)
-        requires room { self.old.calls < self.old.room }
-        ensures device { self.new.device ≡ self.old.device }
-        ensures calls { self.new.calls ≡ self.old.calls + 1 }
-        ensures room { self.new.room ≡ self.old.room }
-    {
-        self.calls += 1;
     }
 }
 
@@ -112,13 +113,13 @@ impl Plant for SurePlant {
 
     ghost faults = { λ _. 0 };
 
-    ghost device = { λ p. Some p.device };
+    ghost state = { λ p. Some p.state };
 
     ghost calls = { λ p. p.calls };
 
     ghost room = { λ p. p.room };
 
-    ghost objects = { λ p. length p.device.values };
+    ghost objects = { λ p. length p.state.values };
 
     fn lay(
         &mut self,
@@ -127,13 +128,12 @@ impl Plant for SurePlant {
         _drills: &[Drill],
         puts: u64,
     ) -> Result<(), PlantError> {
-        match self.lay_out(alloc, values, puts) {
-            Ok(()) => Ok(()),
-            Err(OutOfMemory) => Err(PlantError::OutOfMemory),
-        }
+        self.lay_out(alloc, values, puts)?;
+        Ok(())
     }
 
     fn put(&mut self, object: Object, value: i64) -> Result<(), Failed> {
+        self.count();
         self.set(object, value);
         Ok(())
     }

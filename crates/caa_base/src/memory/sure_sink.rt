@@ -1,6 +1,8 @@
 ghost use Rattle.std.specs.Prelude.{◌≡◌, ◌<◌, ◌≤◌, ◌-◌, ◌++◌, ◌↔◌, [], min, length, take, Some, IsTrue, IsErr, IfOk, OnOk, OnErr};
-ghost use Rattle.caa_base.specs.Memory.{faults_after, refused_by};
+ghost use Rattle.caa_base.specs.Counts.{faults_after};
+ghost use Rattle.caa_base.specs.Memory.{refused_by};
 
+use crate::count::counted_up;
 use crate::entry::{Failed, OutOfMemory};
 use crate::sink::Sink;
 use std::alloc::Global;
@@ -32,14 +34,11 @@ impl SureSink {
         ensures room { IfOk result (λ sink. sink.room ≡ room) }
         ensures refused { IfOk result (λ sink. sink.refused ≡ 0) }
     {
-        match Vec::with_capacity(alloc, room as usize) {
-            Ok(bytes) => Ok(SureSink {
-                bytes,
-                room,
-                refused: 0,
-            }),
-            Err(_) => Err(OutOfMemory),
-        }
+        Ok(SureSink {
+            bytes: Vec::with_capacity(alloc, room as usize)?,
+            room,
+            refused: 0,
+        })
     }
 
     /// The bytes that it holds.
@@ -85,10 +84,9 @@ impl Sink for SureSink {
         ensures kept { OnErr result (self.new.held ≡ self.old.held) }
         ensures room { self.new.room ≡ self.old.room }
         ensures faults { refused_by self.new ≡ faults_after result (refused_by self.old) }
-        ensures no_fewer { refused_by self.old ≤ refused_by self.new }
     {
         if self.is_full() {
-            self.refused = self.refused.saturating_add(1);
+            self.refused = counted_up(self.refused);
             return Err(Failed);
         }
         Ok(self.append(piece))

@@ -27,10 +27,8 @@ impl SureSource {
     pub fn new(alloc: Global, bytes: &[u8]) -> Result<Self, OutOfMemory>
         ensures { IfOk result (λ source. source ≡ bytes.now) }
     {
-        match Vec::from_slice(alloc, bytes) {
-            Ok(bytes) => Ok(SureSource { bytes, read: 0 }),
-            Err(_) => Err(OutOfMemory),
-        }
+        let bytes = Vec::from_slice(alloc, bytes)?;
+        Ok(SureSource { bytes, read: 0 })
     }
 
     /// The bytes that are left.

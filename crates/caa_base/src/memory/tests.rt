@@ -1,5 +1,5 @@
 ghost use Rattle.std.specs.Prelude.{◌≡◌, ◌∷◌, [], pos, OnOk};
-ghost use Rattle.caa_base.specs.Device.{after_lay, after_put};
+ghost use Rattle.caa_base.specs.PlantState.{after_lay, after_put};
 
 use super::{MemPlant, MemSink, MemSource, SurePlant, SureSink, SureSource};
 use crate::entry::{Drill, Failed};
@@ -87,7 +87,7 @@ fn a_plant_that_fails_to_be_laid_out(rt: HostRuntime) {
 
 /// Lays out one object of the value 7, with a drill, and puts another value.
 fn lay_and_put<P: Plant>(alloc: Global, plant: &mut P, value: i64) -> Result<(), PlantError>
-    ensures { OnOk result (P.device plant.new ≡ after_put (after_lay (P.device plant.old) (pos 7 ∷ [])) 0 value) }
+    ensures { OnOk result (P.state plant.new ≡ after_put (after_lay (P.state plant.old) (pos 7 ∷ [])) 0 value) }
 {
     plant.lay(alloc, &[7], &[Drill { object: 0, nth: 1 }], 1)?;
     match plant.put(0, value) {

@@ -1,48 +1,11 @@
 ghost use Rattle.std.specs.Prelude.{◌≡◌, ◌≢◌, ◌<◌, ◌≤◌, ◌+◌, ◌++◌, length, IsOk, IsErrOf, IfOk, IfErr};
 
 use super::*;
-use crate::memory::{MemSink, MemSource, SureSink, SureSource};
+use crate::memory::{SureSink, SureSource};
+use crate::one_byte::{OneByteSink, OneByteSource};
 use std::test::Fail;
 
 const TEXT: &[u8; 10] = b"some bytes";
-
-/// A source that gives at most one byte a call.
-#[derive(Drop)]
-struct OneByteSource<S>(S);
-
-impl<S: Source> Source for OneByteSource<S> {
-    ghost faults = { λ s. S.faults s.0 };
-
-    ghost left = { λ s. S.left s.0 };
-
-    fn read(&mut self, buf: &mut [u8]) -> Result<usize, Failed> {
-        self.0.read(&mut buf[..1])
-    }
-
-    fn faults(&self) -> u64 {
-        self.0.faults()
-    }
-}
-
-/// A sink that takes at most one byte a call.
-#[derive(Drop)]
-struct OneByteSink<K>(K);
-
-impl<K: Sink> Sink for OneByteSink<K> {
-    ghost faults = { λ s. K.faults s.0 };
-
-    ghost held = { λ s. K.held s.0 };
-
-    ghost room = { λ s. K.room s.0 };
-
-    fn write(&mut self, piece: &[u8]) -> Result<usize, Failed> {
-        self.0.write(&piece[..1])
-    }
-
-    fn faults(&self) -> u64 {
-        self.0.faults()
-    }
-}
 
 /// Over a source that never fails, a reading ends without a fault.
 fn read_sure(alloc: Global, source: &mut SureSource, limit: u64) -> Result<Vec<u8>, ReadError>
@@ -69,7 +32,7 @@ fn reads_up_to_the_limit(rt: HostRuntime) -> Result<(), Fail> {
     assert_eq!(rt; bytes.as_slice(), TEXT.as_slice());
     assert_eq!(rt; source.left().len(), 0);
 
-    let mut source = OneByteSource(MemSource::new(rt.alloc(), TEXT, &[])?);
+    let mut source = OneByteSource::new(rt.alloc(), TEXT, &[])?;
     let bytes = read_all(rt.alloc(), &mut source, 10)?;
     assert_eq!(rt; bytes.as_slice(), TEXT.as_slice());
 
@@ -83,7 +46,7 @@ fn reads_up_to_the_limit(rt: HostRuntime) -> Result<(), Fail> {
 #[test]
 fn reads_one_byte_past_the_limit(rt: HostRuntime) -> Result<(), Fail> {
     for limit in 0..10u64 {
-        let mut source = MemSource::new(rt.alloc(), TEXT, &[])?;
+        let mut source = OneByteSource::new(rt.alloc(), TEXT, &[])?;
         let result = read_all(rt.alloc(), &mut source, limit);
         assert_eq!(rt; result.err(), Some(ReadError::TooLong), "limit {limit}");
         assert_eq!(rt; source.left().len() as u64 + limit, 9, "limit {limit}");
@@ -93,7 +56,7 @@ fn reads_one_byte_past_the_limit(rt: HostRuntime) -> Result<(), Fail> {
 
 #[test]
 fn a_read_that_fails_ends_the_reading(rt: HostRuntime) -> Result<(), Fail> {
-    let mut source = OneByteSource(MemSource::new(rt.alloc(), TEXT, &[4])?);
+    let mut source = OneByteSource::new(rt.alloc(), TEXT, &[4])?;
     let result = read_all(rt.alloc(), &mut source, 10);
     assert_eq!(rt; result.err(), Some(ReadError::Fault));
     assert_eq!(rt; source.faults(), 1);
@@ -110,9 +73,9 @@ fn writes_all(rt: HostRuntime) -> Result<(), Fail> {
     write_all(&mut sink, &[])?;
     assert_eq!(rt; sink.faults(), 0);
 
-    let mut sink = OneByteSink(MemSink::new(rt.alloc(), 10, &[])?);
+    let mut sink = OneByteSink::new(rt.alloc(), 10, &[])?;
     write_all(&mut sink, TEXT)?;
-    assert_eq!(rt; sink.0.bytes(), TEXT.as_slice());
+    assert_eq!(rt; sink.bytes(), TEXT.as_slice());
     Ok(())
 }
 
@@ -123,9 +86,9 @@ fn a_write_that_fails_ends_the_writing(rt: HostRuntime) -> Result<(), Fail> {
     assert_eq!(rt; full.bytes(), b"some".as_slice());
     assert_eq!(rt; full.faults(), 1);
 
-    let mut sink = OneByteSink(MemSink::new(rt.alloc(), 10, &[4])?);
+    let mut sink = OneByteSink::new(rt.alloc(), 10, &[4])?;
     assert_eq!(rt; write_all(&mut sink, TEXT), Err(Failed));
-    assert_eq!(rt; sink.0.bytes(), b"som".as_slice());
+    assert_eq!(rt; sink.bytes(), b"som".as_slice());
     assert_eq!(rt; sink.faults(), 1);
     Ok(())
 }

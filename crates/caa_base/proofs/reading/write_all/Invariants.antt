@@ -7,7 +7,7 @@ invariant-loop-done g l = record {
   within : l.done ≤ length l.bytes;
   written : g.K.Sink.held l.sink ≡ append_known (g.K.Sink.held l.fn.sink) (take l.done l.bytes);
   room : g.K.Sink.room l.sink ≡ g.K.Sink.room l.fn.sink;
-  count : g.K.Sink.faults l.fn.sink ≤ g.K.Sink.faults l.sink;
+  count : g.K.Sink.faults l.sink ≡ g.K.Sink.faults l.fn.sink;
 }
 
 abbrev pub decreases-loop-done : goal.decreases-loop-done

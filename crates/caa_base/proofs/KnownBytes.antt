@@ -1,7 +1,10 @@
 -- Lemmas on what a source has left and what a sink holds, where they tell it.
-use Rattle.std.proofs.Common.{◌≡◌, ℕ, ◌+◌, List, ◌++◌, Option, Some, None, refl, ap, append_assoc, sym, take, drop, ◌∙◌}
+use Rattle.std.proofs.Common.{◌≡◌, ℕ, ◌+◌, List, ◌++◌, Option, Some, None, Result, Ok, Err, IfErr, IsErrAnd, refl, ap, subst, append_assoc, sym, take, drop, ◌∙◌}
 use Rattle.std.specs.Io.KnownBytes.{append_known, prepend_known}
 use lib.Seq.{take-add}
+use Rattle.caa_base.specs.Reading.{TookAtMost, TookUntil}
+use Rattle.caa_base.specs.declared.reading.ReadError.{ReadError}
+use Rattle.caa_base.specs.declared.reading.ReadError.TheVariants.{OutOfMemory}
 
 -- two pieces appended, one after the other
 pub append_known-append_known : (known : Option (List ℕ)) (xs ys : List ℕ) → append_known (append_known known xs) ys ≡ append_known known (xs ++ ys)
@@ -27,3 +30,9 @@ prepend_known-more old mid new xs ys p q = p ∙ ap (prepend_known xs) q ∙ pre
 -- two fronts, one after the other, are the front of both lengths
 pub front_more : (bytes rest : List ℕ) (m n : ℕ) → rest ≡ drop m bytes → take m bytes ++ take n rest ≡ take (m + n) bytes
 front_more bytes rest m n e = ap (λ r. take m bytes ++ take n r) e ∙ sym (take-add m n bytes)
+
+-- a reading that found no memory took no more than the limit
+pub took_without_memory : {T : Type 0} (result : Result T ReadError) (old new : Option (List ℕ)) (limit : ℕ)
+    → IsErrAnd result (λ error. error ≡ OutOfMemory) → TookAtMost old new limit → IfErr result (TookUntil old new limit)
+took_without_memory (Ok v) old new limit is took = tt
+took_without_memory (Err error) old new limit is took = subst (TookUntil old new limit) (sym is) took

@@ -1,0 +1,83 @@
+-- How much of each thing there may be at most, and which numbers values and rounds may be.
+use Rattle.std.specs.Prelude.{ℕ, ℤ, pos, neg_ℤ, ◌≤◌, ◌≤ℤ◌, int_lt, nat_le, not, ◌&&◌, Bool}
+
+-- ---- numbers
+
+-- the value of an object or a register lies between this number below 0 and this number above
+abbrev pub most_value : ℕ
+most_value = 1000000000000
+
+abbrev pub IsValue : ℤ → Type 0
+IsValue v = (neg_ℤ (pos most_value) ≤ℤ v) × (v ≤ℤ pos most_value)
+
+abbrev pub is_value : ℤ → Bool
+is_value v = not (int_lt v (neg_ℤ (pos most_value))) && not (int_lt (pos most_value) v)
+
+-- rounds of one piece of work
+abbrev pub most_rounds : ℕ
+most_rounds = 1000000
+
+-- the number of the put that a drill refuses
+abbrev pub most_puts : ℕ
+most_puts = 1000000
+
+-- ---- texts, in bytes
+
+abbrev pub most_script_bytes : ℕ
+most_script_bytes = 1048576
+
+-- a line without its line feed
+abbrev pub most_line_bytes : ℕ
+most_line_bytes = 16384
+
+abbrev pub most_name_bytes : ℕ
+most_name_bytes = 32
+
+-- ---- parts of a script
+
+abbrev pub most_participants : ℕ
+most_participants = 64
+
+abbrev pub most_objects : ℕ
+most_objects = 256
+
+abbrev pub most_actions : ℕ
+most_actions = 256
+
+-- graphs that a script declares
+abbrev pub most_graphs : ℕ
+most_graphs = 256
+
+-- exceptions of a graph, `universal` among them
+abbrev pub most_exceptions : ℕ
+most_exceptions = 128
+
+-- roles of an action
+abbrev pub most_roles : ℕ
+most_roles = 16
+
+-- nested uses of an action
+abbrev pub most_nests : ℕ
+most_nests = 256
+
+-- steps of a body or a handler
+abbrev pub most_steps : ℕ
+most_steps = 256
+
+abbrev pub most_watches : ℕ
+most_watches = 16
+
+abbrev pub most_drills : ℕ
+most_drills = 1000
+
+-- ---- plans and journals
+
+-- places that stand round one another, the innermost counted
+abbrev pub most_depth : ℕ
+most_depth = 8
+
+abbrev pub most_places : ℕ
+most_places = 65536
+
+abbrev pub most_entries : ℕ
+most_entries = 1000000
