@@ -54,20 +54,19 @@ module _ (order : CoverOrder) (many : length order.rows ≡ order.count) (ordere
       let parts = and_parts (covers order x a) (covers order x b && true) h.above in
       let last = and_parts (covers order x b) true parts.1 in
       let a_fits = upper.fits a (omega arith) in
-      let smaller = and_le_l (slice_index uppers a) (slice_index uppers b) in
-      (
+      let smaller = and_le_l (slice_index uppers a) (slice_index uppers b) in (
         x,
         record {
           in_range = omega arith;
           common = same_from_bits_below most_exceptions (slice_index uppers x) (bit_and (slice_index uppers a) (slice_index uppers b)) (upper.fits x x_row) (omega arith) (λ y y_in. same_bit _ _ y
               (λ had.
-                  let over = sym (upper.tell y x x_row) ∙ had in
-                  let below = cover_in order.rows y x over in
-                  let y_below : y < order.count = omega arith in
-                  common_from y (ordered.transitive y x a y_below x_in a_in over parts.0) (ordered.transitive y x b y_below x_in b_in over last.0))
+              let over = sym (upper.tell y x x_row) ∙ had in
+              let below = cover_in order.rows y x over in
+              let y_below : y < order.count = omega arith in
+              common_from y (ordered.transitive y x a y_below x_in a_in over parts.0) (ordered.transitive y x b y_below x_in b_in over last.0))
               (λ had.
-                  let over = common_covers y had in
-                  let below = cover_in order.rows y a over.0 in
-                  upper.tell y x x_row ∙ h.least y (omega arith) (and_from _ _ over.0 (and_from _ _ over.1 refl))));
+              let over = common_covers y had in
+              let below = cover_in order.rows y a over.0 in
+              upper.tell y x x_row ∙ h.least y (omega arith) (and_from _ _ over.0 (and_from _ _ over.1 refl))));
         },
       )

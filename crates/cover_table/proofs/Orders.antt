@@ -1,18 +1,12 @@
 -- Least covers in an order, and the first pair without one.
-use Rattle.std.proofs.Common.{◌≡◌, ◌<◌, ◌≤◌, ◌+◌, ℕ, Bool, true, false, ◌&&◌, inl, inr, List, [], ◌∷◌, length, take, slice_index, slice_index_or, slice_set, arith, refl, All, ◌++◌, sym, ◌∙◌, ap, subst, Ok, Err, Result, MatchResult, ◌↔◌}
+use Rattle.std.proofs.Common.{◌≡◌, ◌<◌, ◌+◌, ℕ, Bool, true, false, ◌&&◌, inl, inr, List, [], ◌∷◌, length, slice_index, slice_index_or, slice_set, arith, refl, All, ◌++◌, sym, ◌∙◌, ap, subst, Ok, Err, Result, MatchResult, ◌↔◌}
 use Rattle.std.specs.Prelude.{IsErrOf}
-use Rattle.std.proofs.lemmas.List.{length-take-le, get_or-set_same, get_or-set_other}
+use Rattle.std.proofs.lemmas.List.{get_or-set_same, get_or-set_other}
 use Rattle.std.proofs.lemmas.List.Elements.{All-head, All-tail}
 use Rattle.std.proofs.lemmas.List.Folds.{list_all-append}
 use Rattle.std.proofs.lemmas.Bool.{and_parts, and_from, cases_order, cases_eq}
-use Rattle.cover_table.specs.Cover.{CoverOrder, covers, covers_each, order_of, order_of_rows, IsLeastCover, HasLeastCover, IsOrder, IsSound, IsFirstWithoutLeast, SetsHaveLeastCovers}
+use Rattle.cover_table.specs.Cover.{CoverOrder, covers, covers_each, IsLeastCover, HasLeastCover, IsOrder, IsSound, IsFirstWithoutLeast, SetsHaveLeastCovers}
 use Rattle.cover_table.specs.declared.rows.NoLeast.{NoLeast}
-
--- the first rows of more tell the order of their number
-pub order_of-first : (count : ℕ) (rows : List ℕ) → count ≤ length rows → order_of_rows (take count rows) ≡ order_of count rows
-order_of-first count rows fits =
-    let e : length (take count rows) ≡ count = length-take-le count rows fits in
-    ap (λ (n : ℕ). let o : CoverOrder = record { count = n; rows = take count rows } in o) e
 
 and_swapped : (p q : Bool) → (p && (q && true)) ≡ (q && (p && true))
 and_swapped true true = refl

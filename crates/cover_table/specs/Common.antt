@@ -1,11 +1,11 @@
 -- What the search for a least cover looks at.
 use Rattle.std.specs.Prelude.{◌≡◌, ℕ, ◌<◌, ◌^◌, List, length, slice_index, bit_and}
-use Rattle.cover_table.specs.Cover.{has_bit, most_exceptions}
+use Rattle.cover_table.specs.Cover.{most_exceptions, tells}
 
 -- row b of `uppers` has bit a where row a of `rows` has bit b, and has no more bits than a row may have
 pub record AreUppers (rows uppers : List ℕ) : Type 0 where
   pub as_many : length uppers ≡ length rows
-  pub tell : (a b : ℕ) → b < length rows → has_bit (slice_index uppers b) a ≡ has_bit (slice_index rows a) b
+  pub tell : (a b : ℕ) → b < length rows → tells uppers b a ≡ tells rows a b
   pub fits : (b : ℕ) → b < length rows → slice_index uppers b < 2 ^ most_exceptions
 
 -- row x has the bits that rows a and b share, and no others

@@ -15,9 +15,13 @@ pub record CoverOrder : Type 0 where
 abbrev pub has_bit : ℕ → ℕ → Bool
 has_bit row b = row / 2 ^ b % 2 == 1
 
+-- row a has bit b
+abbrev pub tells : List ℕ → ℕ → ℕ → Bool
+tells rows a b = has_bit (slice_index rows a) b
+
 -- a covers b
 abbrev pub covers : CoverOrder → ℕ → ℕ → Bool
-covers order a b = has_bit (slice_index order.rows a) b
+covers order a b = tells order.rows a b
 
 -- x covers each of xs
 abbrev pub covers_each : CoverOrder → ℕ → List ℕ → Bool

@@ -1,5 +1,5 @@
-ghost use Rattle.std.specs.Prelude.{◌≡◌, ◌<◌, ◌≤◌, ℕ, length, slice_index, take, IfSome, IfNone};
-ghost use Rattle.cover_table.specs.Cover.{has_bit, most_exceptions};
+ghost use Rattle.std.specs.Prelude.{◌≡◌, ◌<◌, ◌≤◌, ℕ, length, take, IfSome, IfNone};
+ghost use Rattle.cover_table.specs.Cover.{has_bit, most_exceptions, tells};
 ghost use Rattle.cover_table.specs.Common.{AreUppers, HasJoin, IsJoin};
 
 use crate::rows::{Row, has_bit, with_bit};
@@ -8,7 +8,7 @@ use crate::rows::{Row, has_bit, with_bit};
 fn upper_row(rows: &[Row], b: u32) -> Row
     requires few { length rows.now ≤ most_exceptions }
     requires b_in { b < most_exceptions }
-    ensures { (a : ℕ) → has_bit result a ≡ has_bit (slice_index rows.now a) b }
+    ensures { (a : ℕ) → has_bit result a ≡ tells rows.now a b }
 {
     let mut upper = 0;
     for (a, row) in rows.iter().enumerate() {
@@ -19,7 +19,7 @@ fn upper_row(rows: &[Row], b: u32) -> Row
     upper
 }
 
-/// For each number, the row of those that cover it; past them, empty rows.
+/// For each number, the row of those that cover it.
 pub fn uppers_of<const N: usize>(rows: &[Row]) -> [Row; N]
     requires limit { N ≤ most_exceptions }
     requires fits { length rows.now ≤ N }

@@ -1,6 +1,5 @@
 use Rattle.std.proofs.Common.{◌≡◌, ◌==◌, ◌||◌, ◌<◌, ℕ}
-use Rattle.cover_table.specs.Cover.{most_exceptions}
-use Rattle.exception_graph.specs.Closing.{tells}
+use Rattle.cover_table.specs.Cover.{most_exceptions, tells}
 use Rattle.exception_graph.proofs.closing.make_bare.Given as goal
 
 abbrev pub invariant-loop-a : goal.invariant-loop-a

@@ -1,4 +1,4 @@
-use Rattle.std.proofs.Common.{◌≡◌, ◌<◌, ◌≤◌, ℕ, List, length, arith, subst, take, Ok, Err, [], ◌∷◌, slice_index}
+use Rattle.std.proofs.Common.{◌<◌, ◌≤◌, ℕ, List, length, arith, subst, take, Ok, Err, slice_index}
 use Rattle.std.proofs.lemmas.List.{length-set, length-take-le}
 use Rattle.std.proofs.lemmas.Result.{err_from_is_err_and}
 use Rattle.cover_table.specs.Cover.{CoverOrder, order_of, IsFirstWithoutLeast}
@@ -27,9 +27,9 @@ returns-in_err-joins-clause-no_least g c =
     let same = c.in_err-joins.ensures.lacks.0 in
     let a_in : e.a < order.count = omega arith in
     let first : IsFirstWithoutLeast order e.a e.b = first_from_row order e.a e.b c.requires.order a_in b_in
-      (λ c' d c_in d_in. (_, c.loop-a.invariant.found c' d (omega arith) d_in))
-      (λ found. fails.without (join_from_least order many c.requires.order uppers upper e.a e.b a_in b_in found))
-      (λ d less. let join = fails.earlier d less in (join.0, least_from_join order many c.requires.order uppers upper e.a d a_in (omega arith) join.0 join.1)) in
+    (λ c' d c_in d_in. (_, c.loop-a.invariant.found c' d (omega arith) d_in))
+    (λ found. fails.without (join_from_least order many c.requires.order uppers upper e.a e.b a_in b_in found))
+    (λ d less. let join = fails.earlier d less in (join.0, least_from_join order many c.requires.order uppers upper e.a d a_in (omega arith) join.0 join.1)) in
     rw (p.1, p.2) (refused_at order (Err e) first)
 
 pub loop-a-preserved : goal.loop-a-preserved
@@ -43,7 +43,7 @@ loop-a-preserved g c =
     record {
       len = grind (arith, length-set);
       found = joins_more order c.loop-a.joins c.loop-a.a c.in_ok-joins.field-0 (omega arith) c.loop-a.invariant.found
-        (λ d d_in. least_from_join order many c.requires.order uppers upper c.loop-a.a d c.loop-a-test.true d_in (slice_index c.in_ok-joins.field-0 d) (c.in_ok-joins.ensures.found d (omega arith)));
+          (λ d d_in. least_from_join order many c.requires.order uppers upper c.loop-a.a d c.loop-a-test.true d_in (slice_index c.in_ok-joins.field-0 d) (c.in_ok-joins.ensures.found d (omega arith)));
     }
 
 pub returns-clause-sound : goal.returns-clause-sound
