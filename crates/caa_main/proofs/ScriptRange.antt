@@ -1,9 +1,10 @@
--- Each graph of a script in early form has from 1 to 64 exceptions, and pairs of these.
+-- Each graph of a script in early form has an exception, no more of them than a graph may have, and pairs of these.
 use Rattle.std.proofs.Common.{◌≡◌, ℕ, ◌+◌, ◌<◌, Bool, true, false, cond, List, [], ◌∷◌, ◌++◌, length, Some, refl, arith}
 use Rattle.std.specs.List.{All}
 use Rattle.std.proofs.lemmas.Bool.{leb-false, or_parts, not-false}
 use Rattle.std.proofs.lemmas.List.{length_push}
 use Rattle.std.proofs.lemmas.List.Elements.{All-nil, All-push, All-weaker}
+use Rattle.cover_table.specs.Cover.{most_exceptions}
 use Rattle.caa_main.specs.declared.script.form.Form.TheVariants as form
 use Rattle.caa_main.specs.declared.script.parts.DeclaredGraph.{DeclaredGraph}
 use Rattle.caa_main.specs.declared.script.parts.Script.{Script}
@@ -25,7 +26,7 @@ record AreInRange (s : SoFar) : Type 0 where
 
 -- ---- the graph that is being read
 
-with_exception : (names : List (List ℕ)) (name : List ℕ) (pairs : List (ℕ × ℕ)) → length names < 64 → AnyInRange names pairs → AnyInRange (names ++ name ∷ []) pairs
+with_exception : (names : List (List ℕ)) (name : List ℕ) (pairs : List (ℕ × ℕ)) → length names < most_exceptions → AnyInRange names pairs → AnyInRange (names ++ name ∷ []) pairs
 with_exception names name pairs room h line =
     let longer = length_push names name in
     let some = (h line).some in
@@ -52,7 +53,7 @@ range_kept : IsStep AreInRange
 range_kept s (form.Graph n) w c h = record { ended = h.ended; begun = λ e line. record { some = omega arith; few = omega arith; pairs = All-nil _ } }
 range_kept s (form.Exception n) w c h = record {
   ended = h.ended;
-  begun = λ e. with_exception s.exceptions n s.pairs (leb-false 64 (length s.exceptions) c.limit) (h.begun e);
+  begun = λ e. with_exception s.exceptions n s.pairs (leb-false most_exceptions (length s.exceptions) c.limit) (h.begun e);
 }
 range_kept s (form.Cover n m) w c h =
     let known = or_parts _ _ c.known in

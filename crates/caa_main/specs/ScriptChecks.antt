@@ -1,6 +1,7 @@
 -- When a line of a script is refused, by what the lines before it say.
 use Rattle.std.specs.Prelude.{ℕ, ◌==◌, nat_lt, nat_le, Bool, true, false, not, ◌&&◌, ◌||◌, List, [], ◌∷◌, length, count_by, position, Option, is_some, is_none, unwrap_or, bytes_eq, slice_index_or}
 use Rattle.std.specs.List.{list_all, list_any}
+use Rattle.cover_table.specs.Cover.{most_exceptions}
 use Rattle.place_plan.specs.Words.{member, is_empty}
 use Rattle.place_plan.specs.Places.{no_action}
 use Rattle.place_plan.specs.declared.rows.ObjectRow.{ObjectRow}
@@ -112,7 +113,7 @@ abbrev pub is_past_limit : SoFar → Form → Bool
 is_past_limit s (form.Participant name) = nat_le 64 (length s.participants)
 is_past_limit s (form.Object name value) = nat_le 256 (length s.objects)
 is_past_limit s (form.Graph name) = nat_le 256 (length s.graph_names)
-is_past_limit s (form.Exception name) = nat_le 64 (length s.exceptions)
+is_past_limit s (form.Exception name) = nat_le most_exceptions (length s.exceptions)
 is_past_limit s (form.Action name) = nat_le 256 (length s.actions)
 is_past_limit s (form.Roles names) = nat_lt 16 (length names)
 is_past_limit s (form.ReadStep object) = nat_le 256 (body_length s)

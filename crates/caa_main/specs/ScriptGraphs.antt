@@ -1,6 +1,6 @@
 -- The draft that a script makes, and why a graph of it is refused.
 use Rattle.std.specs.Prelude.{◌≡◌, ℕ, ◌<◌, ◌≤◌, List, [], ◌∷◌, ◌++◌, length, slice_index_or, All, codes}
-use Rattle.cover_table.specs.Cover.{IsSound}
+use Rattle.cover_table.specs.Cover.{IsSound, most_exceptions}
 use Rattle.exception_graph.specs.Chains.{IsOrderOf, IsSoundGraph, IsFirstInCycle, IsFirstUnjoined}
 use Rattle.place_plan.specs.declared.draft.Draft.{Draft}
 use Rattle.place_plan.specs.declared.rows.GraphRow.{GraphRow}
@@ -12,10 +12,10 @@ use Rattle.caa_main.specs.declared.script.graphs.UnsoundGraph.{UnsoundGraph}
 
 -- ---- graphs
 
--- it has from 1 to 64 exceptions, and its pairs are of these
+-- it has an exception, no more of them than a graph may have, and its pairs are of these
 pub record IsInRange (graph : DeclaredGraph) : Type 0 where
   pub some : 0 < length graph.names
-  pub few : length graph.names ≤ 64
+  pub few : length graph.names ≤ most_exceptions
   pub pairs : All (λ p. (p.0 < length graph.names) × (p.1 < length graph.names)) graph.pairs
 
 -- it is sound: no two different exceptions cover each other, and each two have a least cover

@@ -1,7 +1,7 @@
 -- Bits of rows.
-use Rattle.std.proofs.Common.{sym, ◌∙◌, ◌||◌, ◌≡◌, ℕ, ◌-◌, ◌^◌, ◌<◌, true, ◌⊎◌, inl, inr, bit_and, bit_or, arith}
+use Rattle.std.proofs.Common.{sym, ◌∙◌, ap, nat_eq, false, ◌||◌, ◌≡◌, ℕ, ◌-◌, ◌^◌, ◌<◌, true, ◌⊎◌, inl, inr, bit_and, bit_or, arith}
 use Rattle.std.specs.Int.{bit_at}
-use Rattle.std.proofs.lemmas.Nat.Bits.{bit_at_and, bit_at_or, bit_at_ones, bit_at-lt}
+use Rattle.std.proofs.lemmas.Nat.Bits.{bit_at_and, bit_at_or, bit_at_ones, bit_at-lt, bit_at-zero}
 use Rattle.std.proofs.lemmas.Bool.{eqb-true, eq-eqb, cases_eq, cases_Bool, or_left, or_right, or_from, false_from_ne_true, both_ways}
 use Rattle.cover_table.specs.Cover.{has_bit}
 
@@ -11,6 +11,23 @@ bit_at-had row b h = eqb-true _ _ h
 
 pub had_from_one : (row b : ℕ) → bit_at row b ≡ 1 → has_bit row b ≡ true
 had_from_one row b h = eq-eqb _ _ h
+
+-- the empty row has no bit
+pub had_in_zero : (b : ℕ) → has_bit 0 b ≡ false
+had_in_zero b = ap (λ bit. nat_eq bit 1) (bit_at-zero b)
+
+-- where each of two rows has a bit if the other has it, the bit is the same in both
+pub same_bit : (x y b : ℕ) → (has_bit x b ≡ true → has_bit y b ≡ true) → (has_bit y b ≡ true → has_bit x b ≡ true) → bit_at x b ≡ bit_at y b
+same_bit x y b there back =
+    let p = bit_at-lt x b in
+    let q = bit_at-lt y b in
+    elim (cases_eq (bit_at x b) 1) [
+      | inl one ↦ one ∙ sym (bit_at-had y b (there (had_from_one x b one)))
+      | inr other ↦ elim (cases_eq (bit_at y b) 1) [
+        | inl one ↦ absurd (other (bit_at-had x b (back (had_from_one y b one))))
+        | inr neither ↦ omega arith
+      ]
+    ]
 
 pub had_in_both : (x y b : ℕ) → has_bit (bit_and x y) b ≡ true → (has_bit x b ≡ true) × (has_bit y b ≡ true)
 had_in_both x y b h =

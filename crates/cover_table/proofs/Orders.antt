@@ -1,19 +1,12 @@
 -- Least covers in an order, and the first pair without one.
-use Rattle.std.proofs.Common.{◌≡◌, ◌<◌, ◌≤◌, ◌+◌, ℕ, Bool, true, false, ◌&&◌, inl, inr, List, [], ◌∷◌, length, take, slice_index, slice_index_or, slice_set, arith, refl, All, ◌++◌, sym, ◌∙◌, ap, subst, Ok, Err, Result, MatchResult, ◌↔◌}
+use Rattle.std.proofs.Common.{◌≡◌, ◌<◌, ◌+◌, ℕ, Bool, true, false, ◌&&◌, inl, inr, List, [], ◌∷◌, length, slice_index, slice_index_or, slice_set, arith, refl, All, ◌++◌, sym, ◌∙◌, ap, subst, Ok, Err, Result, MatchResult, ◌↔◌}
 use Rattle.std.specs.Prelude.{IsErrOf}
-use Rattle.std.proofs.lemmas.List.{length-take-le, get_or-set_same, get_or-set_other}
+use Rattle.std.proofs.lemmas.List.{get_or-set_same, get_or-set_other}
 use Rattle.std.proofs.lemmas.List.Elements.{All-head, All-tail}
 use Rattle.std.proofs.lemmas.List.Folds.{list_all-append}
 use Rattle.std.proofs.lemmas.Bool.{and_parts, and_from, cases_order, cases_eq}
-use Rattle.cover_table.specs.Cover.{CoverOrder, covers, covers_each, order_of, order_of_rows, IsLeastCover, HasLeastCover, IsOrder, IsSound, IsFirstWithoutLeast, SetsHaveLeastCovers}
-use Rattle.cover_table.specs.Common.{FailsAt}
+use Rattle.cover_table.specs.Cover.{CoverOrder, covers, covers_each, IsLeastCover, HasLeastCover, IsOrder, IsSound, IsFirstWithoutLeast, SetsHaveLeastCovers}
 use Rattle.cover_table.specs.declared.rows.NoLeast.{NoLeast}
-
--- the first rows of more tell the order of their number
-pub order_of-first : (count : ℕ) (rows : List ℕ) → count ≤ length rows → order_of_rows (take count rows) ≡ order_of count rows
-order_of-first count rows fits =
-    let e : length (take count rows) ≡ count = length-take-le count rows fits in
-    ap (λ (n : ℕ). let o : CoverOrder = record { count = n; rows = take count rows } in o) e
 
 and_swapped : (p q : Bool) → (p && (q && true)) ≡ (q && (p && true))
 and_swapped true true = refl
@@ -48,20 +41,20 @@ least-one order a h lt = record {
 }
 
 -- where all rows before a hold, the first failure in row a is the first pair without a least cover
-pub first_from_row : (order : CoverOrder) (a b : ℕ) → IsOrder order → a < order.count → ((c d : ℕ) → c < a → d < order.count → HasLeastCover order (c ∷ d ∷ [])) → FailsAt order a b → IsFirstWithoutLeast order a b
-first_from_row order a b h a_in before fails = record {
+pub first_from_row : (order : CoverOrder) (a b : ℕ) → IsOrder order → a < order.count → b < order.count → ((c d : ℕ) → c < a → d < order.count → HasLeastCover order (c ∷ d ∷ [])) → ¬ (HasLeastCover order (a ∷ b ∷ [])) → ((d : ℕ) → d < b → HasLeastCover order (a ∷ d ∷ [])) → IsFirstWithoutLeast order a b
+first_from_row order a b h a_in b_in before without here = record {
   ascending = elim (cases_order a b) [
-    | inl same ↦ absurd (fails.without (subst (λ e. HasLeastCover order (a ∷ e ∷ [])) same (a, least-self order a h a_in)))
+    | inl same ↦ absurd (without (subst (λ e. HasLeastCover order (a ∷ e ∷ [])) same (a, least-self order a h a_in)))
     | inr apart ↦ elim apart [
       | inl less ↦ less
-      | inr more ↦ let found = before b a more a_in in absurd (fails.without (found.0, least-swapped order b a found.0 found.1))
+      | inr more ↦ let found = before b a more a_in in absurd (without (found.0, least-swapped order b a found.0 found.1))
     ]
   ];
-  in_range = fails.in_range;
-  without = fails.without;
+  in_range = b_in;
+  without = without;
   earlier = λ c d less d_in first. elim first [
     | inl row ↦ before c d row d_in
-    | inr column ↦ subst (λ r. HasLeastCover order (r ∷ d ∷ [])) (sym column.0) (fails.earlier d column.1)
+    | inr column ↦ subst (λ r. HasLeastCover order (r ∷ d ∷ [])) (sym column.0) (here d column.1)
   ];
 }
 

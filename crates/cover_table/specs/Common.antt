@@ -1,22 +1,24 @@
 -- What the search for a least cover looks at.
-use Rattle.std.specs.Prelude.{◌≡◌, ℕ, ◌<◌, ◌&&◌, Bool, true, List, [], ◌∷◌, slice_index}
-use Rattle.cover_table.specs.Cover.{CoverOrder, HasLeastCover, has_bit}
+use Rattle.std.specs.Prelude.{◌≡◌, ℕ, ◌<◌, ◌^◌, List, length, slice_index, bit_and}
+use Rattle.cover_table.specs.Cover.{most_exceptions, tells}
 
--- bits a and b of a row
-abbrev pub has_both : ℕ → ℕ → ℕ → Bool
-has_both row a b = has_bit row a && has_bit row b
+-- row b of `uppers` has bit a where row a of `rows` has bit b, and has no more bits than a row may have
+pub record AreUppers (rows uppers : List ℕ) : Type 0 where
+  pub as_many : length uppers ≡ length rows
+  pub tell : (a b : ℕ) → b < length rows → tells uppers b a ≡ tells rows a b
+  pub fits : (b : ℕ) → b < length rows → slice_index uppers b < 2 ^ most_exceptions
 
--- each of the first n rows that has bits a and b has bit x
-abbrev pub EachCommonHas : List ℕ → ℕ → ℕ → ℕ → ℕ → Type 0
-EachCommonHas rows n a b x = (y : ℕ) → y < n → has_both (slice_index rows y) a b ≡ true → has_bit (slice_index rows y) x ≡ true
+-- row x has the bits that rows a and b share, and no others
+pub record IsJoin (uppers : List ℕ) (a b x : ℕ) : Type 0 where
+  pub in_range : x < length uppers
+  pub common : slice_index uppers x ≡ bit_and (slice_index uppers a) (slice_index uppers b)
 
--- of the bits below `limit`, a row has those that each of the first n rows has that has bits a and b
-pub record IsCommonPart (limit : ℕ) (rows : List ℕ) (n a b part : ℕ) : Type 0 where
-  pub kept : (x : ℕ) → has_bit part x ≡ true → EachCommonHas rows n a b x
-  pub whole : (x : ℕ) → x < limit → EachCommonHas rows n a b x → has_bit part x ≡ true
+-- some row has just the bits that rows a and b share
+abbrev pub HasJoin : List ℕ → ℕ → ℕ → Type 0
+HasJoin uppers a b = (x : ℕ) × IsJoin uppers a b x
 
--- a and b have no least cover, and a has one with each number below b
-pub record FailsAt (order : CoverOrder) (a b : ℕ) : Type 0 where
-  pub in_range : b < order.count
-  pub without : ¬ (HasLeastCover order (a ∷ b ∷ []))
-  pub earlier : (d : ℕ) → d < b → HasLeastCover order (a ∷ d ∷ [])
+-- no row has just the bits that rows a and b share, and there is one for a and each number below b
+pub record FailsAt (uppers : List ℕ) (a b : ℕ) : Type 0 where
+  pub in_range : b < length uppers
+  pub without : ¬ (HasJoin uppers a b)
+  pub earlier : (d : ℕ) → d < b → HasJoin uppers a d

@@ -2,6 +2,10 @@
 use Rattle.std.specs.Prelude.{◌≡◌, ℕ, ◌==◌, ◌/◌, ◌%◌, ◌^◌, ◌<◌, ◌⊎◌, Bool, true, List, [], ◌∷◌, length, take, slice_index, All}
 use Rattle.std.specs.List.{list_all}
 
+-- a graph has no more exceptions than this, the universal one among them
+abbrev pub most_exceptions : ℕ
+most_exceptions = 128
+
 -- which of the numbers below `count` cover which: row a has bit b where a covers b
 pub record CoverOrder : Type 0 where
   pub count : ℕ
@@ -11,15 +15,19 @@ pub record CoverOrder : Type 0 where
 abbrev pub has_bit : ℕ → ℕ → Bool
 has_bit row b = row / 2 ^ b % 2 == 1
 
+-- row a has bit b
+abbrev pub tells : List ℕ → ℕ → ℕ → Bool
+tells rows a b = has_bit (slice_index rows a) b
+
 -- a covers b
 abbrev pub covers : CoverOrder → ℕ → ℕ → Bool
-covers order a b = has_bit (slice_index order.rows a) b
+covers order a b = tells order.rows a b
 
 -- x covers each of xs
 abbrev pub covers_each : CoverOrder → ℕ → List ℕ → Bool
 covers_each order x xs = list_all (covers order x) xs
 
--- x covers each of xs, and each number that does so covers x
+-- x is above all of xs, and below whatever else is above all of them
 pub record IsLeastCover (order : CoverOrder) (xs : List ℕ) (x : ℕ) : Type 0 where
   pub in_range : x < order.count
   pub above : covers_each order x xs ≡ true

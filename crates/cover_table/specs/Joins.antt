@@ -1,15 +1,15 @@
 -- What a table of least covers keeps.
 use Rattle.std.specs.Prelude.{ℕ, ◌<◌, ◌≤◌, List, [], ◌∷◌, slice_index, slice_index_or, nat_le, if◌then◌else◌}
-use Rattle.cover_table.specs.declared.rows.TheConstants.{LIMIT}
-use Rattle.cover_table.specs.Cover.{order_of, IsLeastCover, IsOrder}
+use Rattle.cover_table.specs.Cover.{most_exceptions, order_of, IsLeastCover, IsOrder}
 
 -- row a of `joins` has at b the least cover of a and b, for the order on the first `count` of `width` numbers
 pub record HoldsJoins (width count : ℕ) (rows : List ℕ) (joins : List (List ℕ)) : Type 0 where
   pub fits : count ≤ width
-  pub within : width ≤ LIMIT
+  pub within : width ≤ most_exceptions
   pub is_order : IsOrder (order_of count rows)
   pub least : (a b : ℕ) → a < count → b < count → IsLeastCover (order_of count rows) (a ∷ b ∷ []) (slice_index (slice_index_or joins a []) b)
 
--- the least of the sizes 8, 16, 32 and 64 that holds this many numbers
+-- the smallest size of a table that has room for this many numbers
 abbrev pub least_size : ℕ → ℕ
-least_size count = if nat_le count 8 then 8 else (if nat_le count 16 then 16 else (if nat_le count 32 then 32 else 64))
+least_size count =
+    if nat_le count 8 then 8 else (if nat_le count 16 then 16 else (if nat_le count 32 then 32 else (if nat_le count 64 then 64 else 128)))

@@ -3,7 +3,7 @@ use Rattle.std.specs.Prelude.{◌≡◌}
 use Rattle.cover_table.specs.Cover.{CoverOrder}
 use Rattle.cover_table.specs.Joins.{least_size}
 use Rattle.cover_table.specs.declared.sizes.Sized.{Sized}
-use Rattle.cover_table.specs.declared.sizes.Sized.TheVariants.{UpTo8, UpTo16, UpTo32, UpTo64}
+use Rattle.cover_table.specs.declared.sizes.Sized.TheVariants.{UpTo8, UpTo16, UpTo32, UpTo64, UpTo128}
 
 -- the order of a table of some size
 abbrev pub order_of_sized : Sized → CoverOrder
@@ -11,6 +11,7 @@ order_of_sized (UpTo8 table) = table
 order_of_sized (UpTo16 table) = table
 order_of_sized (UpTo32 table) = table
 order_of_sized (UpTo64 table) = table
+order_of_sized (UpTo128 table) = table
 
 -- its size is the least that holds the order
 abbrev pub HasLeastSize : Sized → Type 0
@@ -18,3 +19,4 @@ HasLeastSize (UpTo8 table) = least_size table.count ≡ 8
 HasLeastSize (UpTo16 table) = least_size table.count ≡ 16
 HasLeastSize (UpTo32 table) = least_size table.count ≡ 32
 HasLeastSize (UpTo64 table) = least_size table.count ≡ 64
+HasLeastSize (UpTo128 table) = least_size table.count ≡ 128

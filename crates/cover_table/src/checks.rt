@@ -1,12 +1,12 @@
 ghost use Rattle.std.specs.Prelude.{◌<◌, ◌≤◌, ◌↔◌, length, IsTrue};
 ghost use Rattle.cover_table.specs.Checks.{CoversAllOf, IsRightAt, IsRightPair};
-ghost use Rattle.cover_table.specs.Cover.{IsOrder, order_of_rows};
+ghost use Rattle.cover_table.specs.Cover.{IsOrder, most_exceptions, order_of_rows};
 
-use crate::rows::{LIMIT, Row, has_bit};
+use crate::rows::{Row, has_bit};
 
 /// Whether `a` covers all that `b` covers.
 fn covers_all_of(rows: &[Row], a: u32, b: u32) -> bool
-    requires few { length rows.now ≤ LIMIT }
+    requires few { length rows.now ≤ most_exceptions }
     requires a_in { a < length rows.now }
     requires b_in { b < length rows.now }
     ensures { IsTrue result ↔ CoversAllOf (order_of_rows rows.now) a b }
@@ -21,7 +21,7 @@ fn covers_all_of(rows: &[Row], a: u32, b: u32) -> bool
 
 /// Whether `a` may cover `b`.
 fn is_right_pair(rows: &[Row], a: u32, b: u32) -> bool
-    requires few { length rows.now ≤ LIMIT }
+    requires few { length rows.now ≤ most_exceptions }
     requires a_in { a < length rows.now }
     requires b_in { b < length rows.now }
     ensures { IsTrue result ↔ IsRightPair (order_of_rows rows.now) a b }
@@ -31,7 +31,7 @@ fn is_right_pair(rows: &[Row], a: u32, b: u32) -> bool
 
 /// Whether `a` covers itself, and whatever it covers rightly.
 fn is_right_at(rows: &[Row], a: u32) -> bool
-    requires few { length rows.now ≤ LIMIT }
+    requires few { length rows.now ≤ most_exceptions }
     requires a_in { a < length rows.now }
     ensures { IsTrue result ↔ IsRightAt (order_of_rows rows.now) a }
 {
@@ -45,7 +45,7 @@ fn is_right_at(rows: &[Row], a: u32) -> bool
 
 /// Whether these rows are an order: the test of what a table asks of its rows.
 pub fn is_order(rows: &[Row]) -> bool
-    requires { length rows.now ≤ LIMIT }
+    requires { length rows.now ≤ most_exceptions }
     ensures { IsTrue result ↔ IsOrder (order_of_rows rows.now) }
 {
     for a in 0..rows.len() as u32 {

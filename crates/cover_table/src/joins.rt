@@ -1,8 +1,9 @@
 ghost use Rattle.std.specs.Prelude.{◌≡◌, ◌<◌, ◌≤◌, ◌↔◌, ℕ, ◌∷◌, [], length, slice_index, IfOk, IfErr, OnOk, IsErrOf, All};
-ghost use Rattle.cover_table.specs.Cover.{covers, order_of, order_of_rows, IsLeastCover, HasLeastCover, IsOrder, IsSound, IsFirstWithoutLeast};
-ghost use Rattle.cover_table.specs.Common.{FailsAt};
+ghost use Rattle.cover_table.specs.Cover.{covers, most_exceptions, order_of, IsLeastCover, IsOrder, IsSound, IsFirstWithoutLeast};
+ghost use Rattle.cover_table.specs.Common.{FailsAt, IsJoin};
 
-use crate::rows::{LIMIT, NoLeast, Order, Row, has_bit, least_of_two};
+use crate::rows::{NoLeast, Order, Row, has_bit};
+use crate::uppers::{least_of_two, uppers_of};
 use std::marker::Model;
 
 /// The least covers of each two numbers of an order, seen as the order.
@@ -24,17 +25,17 @@ impl<const N: usize> Model for JoinTable<N> {
     ghost invariant = { λ t. HoldsJoins N t.count t.rows t.joins };
 }
 
-/// The least covers of `a` with each number.
-fn joins_of<const N: usize>(rows: &[Row], a: u32) -> Result<[u8; N], NoLeast>
-    requires limit { N ≤ LIMIT }
-    requires fits { length rows.now ≤ N }
-    requires a_in { a < length rows.now }
-    ensures found { IfOk result (λ joins. (b : ℕ) → b < length rows.now → IsLeastCover (order_of_rows rows.now) (a ∷ b ∷ []) (slice_index joins b)) }
-    ensures lacks { IfErr result (λ e. (e.a ≡ a) × FailsAt (order_of_rows rows.now) e.a e.b) }
+/// The least covers of `a` with each number, as the rows of what covers each tell them.
+fn joins_of<const N: usize>(uppers: &[Row], a: u32) -> Result<[u8; N], NoLeast>
+    requires limit { N ≤ most_exceptions }
+    requires fits { length uppers.now ≤ N }
+    requires a_in { a < length uppers.now }
+    ensures found { IfOk result (λ joins. (b : ℕ) → b < length uppers.now → IsJoin uppers.now a b (slice_index joins b)) }
+    ensures lacks { IfErr result (λ e. (e.a ≡ a) × FailsAt uppers.now e.a e.b) }
 {
     let mut joins = [0; N];
-    for b in 0..rows.len() as u32 {
-        match least_of_two(rows, a, b) {
+    for b in 0..uppers.len() as u32 {
+        match least_of_two(uppers, a, b) {
             Some(join) => joins[b as usize] = join as u8,
             None => return Err(NoLeast { a, b }),
         }
@@ -47,17 +48,18 @@ impl<const N: usize> JoinTable<N> {
     ///
     /// Where two numbers have no least cover, the first two such are named.
     pub fn from_order(order: &Order<N>) -> Result<JoinTable<N>, NoLeast>
-        requires limit { N ≤ LIMIT }
+        requires limit { N ≤ most_exceptions }
         requires fits { order.now.count ≤ N }
         requires order { IsOrder (order_of order.now.count order.now.rows) }
         ensures same { IfOk result (λ table. table ≡ order_of order.now.count order.now.rows) }
         ensures sound { OnOk result (IsSound (order_of order.now.count order.now.rows)) }
         ensures no_least { (a b : ℕ) → IsErrOf result (record { a = a; b = b }) ↔ IsFirstWithoutLeast (order_of order.now.count order.now.rows) a b }
     {
-        let rows = &order.rows[..order.count as usize];
+        let all_uppers: [Row; N] = uppers_of(&order.rows[..order.count as usize]);
+        let uppers = &all_uppers[..order.count as usize];
         let mut joins = [[0; N]; N];
         for a in 0..order.count {
-            joins[a as usize] = joins_of(rows, a)?;
+            joins[a as usize] = joins_of(uppers, a)?;
         }
         Ok(JoinTable {
             count: order.count,
@@ -116,7 +118,7 @@ impl<const N: usize> JoinTable<N> {
     /// An order that has a table is sound: each two of its numbers have a least cover.
     pub fn is_sound(&self)
         ensures sound { IsSound self.now }
-        ensures few { self.now.count ≤ LIMIT }
+        ensures few { self.now.count ≤ most_exceptions }
     {
         let _ = &self.joins;
     }

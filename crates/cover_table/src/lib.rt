@@ -7,8 +7,9 @@ mod rows;
 mod sizes;
 #[cfg(test)]
 mod tests;
+mod uppers;
 
 pub use checks::is_order;
 pub use joins::JoinTable;
-pub use rows::{LIMIT, NoLeast, Order, Row, has_bit, with_bit};
+pub use rows::{MOST_EXCEPTIONS, NoLeast, Order, Row, has_bit, with_bit};
 pub use sizes::AnyTable;

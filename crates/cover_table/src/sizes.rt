@@ -1,9 +1,9 @@
 ghost use Rattle.std.specs.Prelude.{◌≡◌, ◌<◌, ◌≤◌, ◌↔◌, ℕ, ◌∷◌, [], length, take, All, IfOk, OnOk, IsErrOf};
-ghost use Rattle.cover_table.specs.Cover.{covers, order_of, order_of_rows, IsLeastCover, IsOrder, IsSound, IsFirstWithoutLeast};
+ghost use Rattle.cover_table.specs.Cover.{covers, order_of, order_of_rows, IsLeastCover, IsOrder, IsSound, IsFirstWithoutLeast, most_exceptions};
 ghost use Rattle.cover_table.specs.Joins.{least_size};
 
 use crate::joins::JoinTable;
-use crate::rows::{LIMIT, NoLeast, Order, Row};
+use crate::rows::{NoLeast, Order, Row};
 use std::marker::Model;
 
 /// A table of least covers of the least size that holds its order.
@@ -13,6 +13,7 @@ enum Sized {
     UpTo16(JoinTable<16>),
     UpTo32(JoinTable<32>),
     UpTo64(JoinTable<64>),
+    UpTo128(JoinTable<128>),
 }
 
 /// The sizes of tables, the least first.
@@ -26,6 +27,7 @@ macro_rules! sizes {
             Sized::UpTo16($table) => $answer,
             Sized::UpTo32($table) => $answer,
             Sized::UpTo64($table) => $answer,
+            Sized::UpTo128($table) => $answer,
         }
     };
     (same $sized:expr, $table:ident => $answer:expr) => {
@@ -34,6 +36,7 @@ macro_rules! sizes {
             Sized::UpTo16($table) => Sized::UpTo16($answer),
             Sized::UpTo32($table) => Sized::UpTo32($answer),
             Sized::UpTo64($table) => Sized::UpTo64($answer),
+            Sized::UpTo128($table) => Sized::UpTo128($answer),
         }
     };
     (fitting $count:expr, $rows:expr) => {
@@ -43,15 +46,17 @@ macro_rules! sizes {
             Sized::UpTo16(table_of($rows)?)
         } else if $count <= 32 {
             Sized::UpTo32(table_of($rows)?)
-        } else {
+        } else if $count <= 64 {
             Sized::UpTo64(table_of($rows)?)
+        } else {
+            Sized::UpTo128(table_of($rows)?)
         }
     };
 }
 
 /// A table of least covers that knows its size when it runs, seen as the order.
 ///
-/// Its size is the least of 8, 16, 32 and 64 that holds the order.
+/// It has room for 8, 16, 32, 64 or 128 numbers: the first of these that its order fits in.
 #[derive(Drop)]
 pub struct AnyTable {
     sized: Sized,
@@ -71,7 +76,7 @@ impl Model for AnyTable {
 
 /// An order with these rows and empty ones past them.
 fn padded<const N: usize>(rows: &[Row]) -> Order<N>
-    requires limit { N ≤ LIMIT }
+    requires limit { N ≤ most_exceptions }
     requires fits { length rows.now ≤ N }
     ensures { order_of result.count result.rows ≡ order_of_rows rows.now }
 {
@@ -85,7 +90,7 @@ fn padded<const N: usize>(rows: &[Row]) -> Order<N>
 
 /// The table of this size of the order that these rows tell.
 fn table_of<const N: usize>(rows: &[Row]) -> Result<JoinTable<N>, NoLeast>
-    requires limit { N ≤ LIMIT }
+    requires limit { N ≤ most_exceptions }
     requires fits { length rows.now ≤ N }
     requires order { IsOrder (order_of_rows rows.now) }
     ensures same { IfOk result (λ table. table ≡ order_of_rows rows.now) }
@@ -100,7 +105,7 @@ impl AnyTable {
     ///
     /// Where two numbers have no least cover, the first two such are named.
     pub fn from_rows(count: u32, rows: &[Row]) -> Result<AnyTable, NoLeast>
-        requires limit { count ≤ LIMIT }
+        requires limit { count ≤ most_exceptions }
         requires rows { length rows.now ≡ count }
         requires order { IsOrder (order_of_rows rows.now) }
         ensures same { IfOk result (λ table. table ≡ order_of_rows rows.now) }
@@ -119,7 +124,7 @@ impl AnyTable {
         sizes!(with &self.sized, table => table.count())
     }
 
-    /// The size of the table: the least that holds the order.
+    /// How many numbers the table has room for.
     pub fn size(&self) -> usize
         ensures { result ≡ least_size self.now.count }
     {
@@ -156,7 +161,7 @@ impl AnyTable {
     /// An order that has a table is sound: each two of its numbers have a least cover.
     pub fn is_sound(&self)
         ensures sound { IsSound self.now }
-        ensures few { self.now.count ≤ LIMIT }
+        ensures few { self.now.count ≤ most_exceptions }
     {
         sizes!(with &self.sized, table => table.is_sound())
     }

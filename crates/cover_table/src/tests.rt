@@ -1,10 +1,10 @@
-use crate::{AnyTable, JoinTable, NoLeast, Order, Row, is_order};
+use crate::{AnyTable, JoinTable, MOST_EXCEPTIONS, NoLeast, Order, Row, is_order};
 use std::alloc::AllocError;
 
 /// Each number covers itself and those after it.
-fn chain() -> [Row; 64] {
-    let mut rows = [0; 64];
-    for a in 0..64 {
+fn chain() -> [Row; MOST_EXCEPTIONS] {
+    let mut rows = [0; MOST_EXCEPTIONS];
+    for a in 0..MOST_EXCEPTIONS {
         rows[a] = Row::MAX << a;
     }
     rows
@@ -36,8 +36,10 @@ fn a_chain_has_the_least_size_that_holds_it_and_joins_to_the_upper(rt: HostRunti
         (17, 32),
         (33, 64),
         (64, 64),
+        (65, 128),
+        (128, 128),
     ] {
-        assert!(rt; count <= 64);
+        assert!(rt; count <= 128);
         let rows = &rows[..count as usize];
         assert!(rt; is_order(rows));
         let table = AnyTable::from_rows(count, rows).expect(&rt, "a chain is sound");

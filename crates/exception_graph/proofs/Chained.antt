@@ -3,9 +3,9 @@ use Rattle.std.proofs.Common.{◌≡◌, ◌==◌, ◌<◌, inl, inr, ℕ, true,
 use Rattle.std.proofs.Math.Seq.{take-length}
 use Rattle.std.proofs.lemmas.Bool.{or_cases, or_right, eqb-true, eq-eqb}
 use Rattle.std.proofs.lemmas.List.Elements.{All-contains}
-use Rattle.cover_table.specs.Cover.{order_of_rows}
+use Rattle.cover_table.specs.Cover.{order_of_rows, tells}
 use Rattle.exception_graph.specs.Chains.{Chain, IsDeclared, IsOrderOf, none, more, universal, pair}
-use Rattle.exception_graph.specs.Closing.{tells, AddsPairs, AreBare, AreClosedOver, TellChains, TellDeclared, TellMore}
+use Rattle.exception_graph.specs.Closing.{AddsPairs, AreBare, AreClosedOver, TellChains, TellDeclared, TellMore}
 
 module _ (count : ℕ) (pairs : List (ℕ × ℕ)) (in_range : All (λ (p : ℕ × ℕ). (p.0 < count) × (p.1 < count)) pairs) where
   declared_in : {a b : ℕ} → IsDeclared count pairs a b → b < count

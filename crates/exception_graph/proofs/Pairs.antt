@@ -2,7 +2,8 @@
 use Rattle.std.proofs.Common.{◌≡◌, ◌<◌, ◌+◌, inl, inr, ℕ, true, List, [], ◌∷◌, ◌++◌, Contains, length, take, get_or, sym, ap, ◌∙◌, subst, arith}
 use Rattle.std.proofs.lemmas.List.{take_more}
 use Rattle.std.proofs.lemmas.List.Elements.{Contains-push, Contains-push_cases, Contains-append_left}
-use Rattle.exception_graph.specs.Closing.{tells, AddsPair, AddsPairs}
+use Rattle.cover_table.specs.Cover.{tells}
+use Rattle.exception_graph.specs.Closing.{AddsPair, AddsPairs}
 
 -- one more pair
 pub pairs_more : (start old new : List ℕ) (pairs : List (ℕ × ℕ)) (n : ℕ) → n < length pairs → AddsPairs start old pairs n → AddsPair old new (get_or pairs n (0, 0)).0 (get_or pairs n (0, 0)).1 → AddsPairs start new pairs (n + 1)

@@ -2,8 +2,7 @@
 use Rattle.std.proofs.Common.{◌≡◌, ◌<◌, ◌≤◌, ◌↔◌, inl, inr, ℕ, Bool, true, false, List, [], ◌∷◌, Result, Ok, Err, MatchResult, sym, ap, ◌∙◌, subst, refl, arith}
 use Rattle.std.specs.Prelude.{IsErrOf, IsOkUnless}
 use Rattle.std.proofs.lemmas.Bool.{cases_order}
-use Rattle.cover_table.specs.Cover.{CoverOrder, covers, covers_each, IsLeastCover, IsFirstWithoutLeast}
-use Rattle.cover_table.specs.declared.rows.TheConstants.{LIMIT}
+use Rattle.cover_table.specs.Cover.{most_exceptions, CoverOrder, covers, covers_each, IsLeastCover, IsFirstWithoutLeast}
 use Rattle.cover_table.proofs.Orders.{first-same, sound_has_none}
 use Rattle.exception_graph.specs.Chains.{IsFirstInCycle, IsFirstUnjoined, IsInCycle, IsOrderOf, IsSoundGraph}
 use Rattle.exception_graph.specs.Graph.{IsRefusal}
@@ -84,7 +83,7 @@ module _ (count : ℕ) (pairs : List (ℕ × ℕ)) where
 
   module _ {T : Type 0} where
     -- a right answer names an exception in a cycle exactly where it is the first
-    pub cycle_exactly : (answer : Result T GraphError) → MatchResult answer (λ _. IsSoundGraph count pairs) (IsRefusal count pairs) → (at : ℕ) → IsErrOf answer (Cycle at) ↔ ((count ≤ LIMIT) × IsFirstInCycle count pairs at)
+    pub cycle_exactly : (answer : Result T GraphError) → MatchResult answer (λ _. IsSoundGraph count pairs) (IsRefusal count pairs) → (at : ℕ) → IsErrOf answer (Cycle at) ↔ ((count ≤ most_exceptions) × IsFirstInCycle count pairs at)
     cycle_exactly (Ok t) sound at = (λ e. absurd cc, λ h. absurd (sound_acyclic sound at h.1.in_range h.1.cycle))
     cycle_exactly (Err (Cycle other)) found at = (λ e. let same : other ≡ at = cc in (found.0, subst (λ (x : ℕ). IsFirstInCycle count pairs x) same found.1), λ h. let same = cycle-same other at found.1 h.1 in ap (λ (x : ℕ). Err (Cycle x)) same)
     cycle_exactly (Err (NoLeast a b)) found at = (λ e. absurd cc, λ h. absurd (found.1.acyclic at h.1.in_range h.1.cycle))
@@ -92,7 +91,7 @@ module _ (count : ℕ) (pairs : List (ℕ × ℕ)) where
     cycle_exactly (Err OutOfMemory) sound at = (λ e. absurd cc, λ h. absurd (sound_acyclic sound at h.1.in_range h.1.cycle))
 
     -- and two without a least cover exactly where they are the first
-    pub no_least_exactly : (answer : Result T GraphError) → MatchResult answer (λ _. IsSoundGraph count pairs) (IsRefusal count pairs) → (a b : ℕ) → IsErrOf answer (NoLeast a b) ↔ ((count ≤ LIMIT) × IsFirstUnjoined count pairs a b)
+    pub no_least_exactly : (answer : Result T GraphError) → MatchResult answer (λ _. IsSoundGraph count pairs) (IsRefusal count pairs) → (a b : ℕ) → IsErrOf answer (NoLeast a b) ↔ ((count ≤ most_exceptions) × IsFirstUnjoined count pairs a b)
     no_least_exactly (Ok t) sound a b = (λ e. absurd cc, λ h. absurd (sound_joined sound a b h.1))
     no_least_exactly (Err (Cycle at)) found a b = (λ e. absurd cc, λ h. absurd (h.1.acyclic at found.1.in_range found.1.cycle))
     no_least_exactly (Err (NoLeast c d)) found a b = (

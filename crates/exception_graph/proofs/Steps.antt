@@ -1,8 +1,9 @@
 -- A step of closing rows: what is told over one exception more.
 use Rattle.std.proofs.Common.{◌≡◌, ◌<◌, ◌+◌, ◌&&◌, ◌⊎◌, inl, inr, ℕ, true, List, length, sym, ◌∙◌, subst, arith}
 use Rattle.std.proofs.lemmas.Bool.{or_cases, or_left, or_right, and_parts, and_from, cases_eq}
+use Rattle.cover_table.specs.Cover.{tells}
 use Rattle.exception_graph.specs.Chains.{Chain, none, more}
-use Rattle.exception_graph.specs.Closing.{tells, TellChains, AreClosedOver, AreExtended}
+use Rattle.exception_graph.specs.Closing.{TellChains, AreClosedOver, AreExtended}
 
 -- chains one after another
 pub chain-append : {count : ℕ} {pairs : List (ℕ × ℕ)} {a b c : ℕ} → Chain count pairs a b → Chain count pairs b c → Chain count pairs a c

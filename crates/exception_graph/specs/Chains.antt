@@ -1,14 +1,13 @@
 -- The order that declared pairs make, and what makes a graph of exceptions unsound.
 use Rattle.std.specs.Prelude.{◌≡◌, ◌≢◌, ◌↔◌, ◌<◌, ◌≤◌, ℕ, true, List, Contains}
-use Rattle.cover_table.specs.Cover.{CoverOrder, covers, IsFirstWithoutLeast, IsSound}
-use Rattle.cover_table.specs.declared.rows.TheConstants.{LIMIT}
+use Rattle.cover_table.specs.Cover.{most_exceptions, CoverOrder, covers, IsFirstWithoutLeast, IsSound}
 
 -- a is declared over b: by a pair, or since 0 is universal
 pub data IsDeclared (count : ℕ) (pairs : List (ℕ × ℕ)) : ℕ → ℕ → Type 0 where
   universal : {b : ℕ} → b < count → IsDeclared count pairs 0 b
   pair : {a b : ℕ} → Contains pairs (a, b) → IsDeclared count pairs a b
 
--- zero or more declared pairs lead from a down to b
+-- b is reached from a by going down declared pairs, as often as it takes; a reaches itself by none
 pub data Chain (count : ℕ) (pairs : List (ℕ × ℕ)) : ℕ → ℕ → Type 0 where
   none : {a : ℕ} → Chain count pairs a a
   more : {a b c : ℕ} → IsDeclared count pairs a b → Chain count pairs b c → Chain count pairs a c
@@ -41,7 +40,7 @@ pub record IsFirstUnjoined (count : ℕ) (pairs : List (ℕ × ℕ)) (a b : ℕ)
 
 -- few enough exceptions, and an order in which each two have a least cover
 pub record IsSoundGraph (count : ℕ) (pairs : List (ℕ × ℕ)) : Type 0 where
-  pub few : count ≤ LIMIT
+  pub few : count ≤ most_exceptions
   pub order : CoverOrder
   pub is_order_of : IsOrderOf count pairs order
   pub sound : IsSound order

@@ -1,11 +1,7 @@
 -- How rows of bits come to tell the chains of declared pairs.
-use Rattle.std.specs.Prelude.{◌≡◌, ◌==◌, ◌<◌, ◌⊎◌, ◌&&◌, ◌||◌, ℕ, Bool, true, List, Contains, length, slice_index, take}
-use Rattle.cover_table.specs.Cover.{has_bit}
+use Rattle.std.specs.Prelude.{◌≡◌, ◌==◌, ◌<◌, ◌⊎◌, ◌&&◌, ◌||◌, ℕ, true, List, Contains, length, take}
+use Rattle.cover_table.specs.Cover.{tells}
 use Rattle.exception_graph.specs.Chains.{Chain, IsDeclared}
-
--- row a has bit b
-abbrev pub tells : List ℕ → ℕ → ℕ → Bool
-tells rows a b = has_bit (slice_index rows a) b
 
 -- what rows tell of exceptions below the count is a chain
 abbrev pub TellChains : ℕ → List (ℕ × ℕ) → List ℕ → Type 0

@@ -1,7 +1,6 @@
 -- What a graph keeps, and why one is refused.
 use Rattle.std.specs.Prelude.{◌≡◌, ◌<◌, ◌≤◌, ℕ, true, List}
-use Rattle.cover_table.specs.Cover.{CoverOrder, covers}
-use Rattle.cover_table.specs.declared.rows.TheConstants.{LIMIT}
+use Rattle.cover_table.specs.Cover.{most_exceptions, CoverOrder, covers}
 use Rattle.exception_graph.specs.Chains.{IsFirstInCycle, IsFirstUnjoined, IsSoundGraph}
 use Rattle.exception_graph.specs.declared.error.GraphError.{GraphError}
 use Rattle.exception_graph.specs.declared.error.GraphError.TheVariants.{Cycle, NoLeast, TooMany, OutOfMemory}
@@ -13,7 +12,7 @@ pub record HasUniversal (order : CoverOrder) : Type 0 where
 
 -- the cause of a refusal; memory is wanted only where there is no other cause
 abbrev pub IsRefusal : ℕ → List (ℕ × ℕ) → GraphError → Type 0
-IsRefusal count pairs (Cycle at) = (count ≤ LIMIT) × IsFirstInCycle count pairs at
-IsRefusal count pairs (NoLeast a b) = (count ≤ LIMIT) × IsFirstUnjoined count pairs a b
-IsRefusal count pairs (TooMany number) = (LIMIT < count) × (number ≡ count)
+IsRefusal count pairs (Cycle at) = (count ≤ most_exceptions) × IsFirstInCycle count pairs at
+IsRefusal count pairs (NoLeast a b) = (count ≤ most_exceptions) × IsFirstUnjoined count pairs a b
+IsRefusal count pairs (TooMany number) = (most_exceptions < count) × (number ≡ count)
 IsRefusal count pairs OutOfMemory = IsSoundGraph count pairs

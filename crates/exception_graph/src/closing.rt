@@ -1,13 +1,13 @@
 ghost use Rattle.std.specs.Prelude.{◌≡◌, ◌==◌, ◌&&◌, ◌||◌, ◌<◌, ◌≤◌, ◌⊎◌, ℕ, List, length, true, All, Contains};
-ghost use Rattle.cover_table.specs.Cover.{has_bit, order_of_rows};
+ghost use Rattle.cover_table.specs.Cover.{has_bit, order_of_rows, most_exceptions, tells};
 ghost use Rattle.exception_graph.specs.Chains.{IsOrderOf};
-ghost use Rattle.exception_graph.specs.Closing.{AddsPair, AddsPairs, AreBare, AreClosedOver, AreExtended, TellChains, TellDeclared, TellMore, tells};
+ghost use Rattle.exception_graph.specs.Closing.{AddsPair, AddsPairs, AreBare, AreClosedOver, AreExtended, TellChains, TellDeclared, TellMore};
 
-use cover_table::{LIMIT, Row, has_bit, with_bit};
+use cover_table::{Row, has_bit, with_bit};
 
 /// A row, with what `more` has where the row has bit `over`.
 fn extended(row: Row, over: u32, more: Row) -> Row
-    requires { over < LIMIT }
+    requires { over < most_exceptions }
     ensures { (b : ℕ) → has_bit result b ≡ (has_bit row b || (has_bit row over && has_bit more b)) }
 {
     if has_bit(row, over) { row | more } else { row }
@@ -15,7 +15,7 @@ fn extended(row: Row, over: u32, more: Row) -> Row
 
 /// Adds to each row that has bit `over` what the row of `over` has.
 fn extend_over(rows: &mut [Row], over: u32)
-    requires few { length rows.old ≤ LIMIT }
+    requires few { length rows.old ≤ most_exceptions }
     requires over_in { over < length rows.old }
     ensures { AreExtended rows.old rows.new over }
 {
@@ -27,7 +27,7 @@ fn extend_over(rows: &mut [Row], over: u32)
 
 /// Makes rows tell what they tell in any number of steps.
 fn close(rows: &mut [Row])
-    requires { length rows.old ≤ LIMIT }
+    requires { length rows.old ≤ most_exceptions }
     ensures as_many { length rows.new ≡ length rows.old }
     ensures more { TellMore rows.old rows.new }
     ensures closed { AreClosedOver rows.new (length rows.new) }
@@ -40,15 +40,15 @@ fn close(rows: &mut [Row])
 
 /// The row of an exception before anything is declared: itself, or all for 0.
 fn bare_row(a: u32) -> Row
-    requires { a < LIMIT }
-    ensures { (b : ℕ) → b < LIMIT → has_bit result b ≡ (a == 0 || b == a) }
+    requires { a < most_exceptions }
+    ensures { (b : ℕ) → b < most_exceptions → has_bit result b ≡ (a == 0 || b == a) }
 {
     if a == 0 { Row::MAX } else { with_bit(0, a) }
 }
 
 /// Makes rows tell that each exception covers itself and 0 covers all, and nothing more.
 fn make_bare(rows: &mut [Row])
-    requires { length rows.old ≤ LIMIT }
+    requires { length rows.old ≤ most_exceptions }
     ensures as_many { length rows.new ≡ length rows.old }
     ensures bare { AreBare rows.new }
 {
@@ -59,7 +59,7 @@ fn make_bare(rows: &mut [Row])
 
 /// Makes rows tell that `upper` covers `lower`.
 fn add_pair(rows: &mut [Row], upper: u32, lower: u32)
-    requires few { length rows.old ≤ LIMIT }
+    requires few { length rows.old ≤ most_exceptions }
     requires upper_in { upper < length rows.old }
     requires lower_in { lower < length rows.old }
     ensures { AddsPair rows.old rows.new upper lower }
@@ -69,7 +69,7 @@ fn add_pair(rows: &mut [Row], upper: u32, lower: u32)
 
 /// Makes rows tell of each of these pairs that its first covers its second.
 fn add_pairs(rows: &mut [Row], pairs: &[(u32, u32)])
-    requires few { length rows.old ≤ LIMIT }
+    requires few { length rows.old ≤ most_exceptions }
     requires in_range { All (λ p. (p.0 < length rows.old) × (p.1 < length rows.old)) pairs.now }
     ensures { AddsPairs rows.old rows.new pairs.now (length pairs.now) }
 {
@@ -80,7 +80,7 @@ fn add_pairs(rows: &mut [Row], pairs: &[(u32, u32)])
 
 /// Makes rows tell just the chains of these pairs.
 pub fn tell_chains(rows: &mut [Row], pairs: &[(u32, u32)])
-    requires few { length rows.old ≤ LIMIT }
+    requires few { length rows.old ≤ most_exceptions }
     requires in_range { All (λ p. (p.0 < length rows.old) × (p.1 < length rows.old)) pairs.now }
     ensures as_many { length rows.new ≡ length rows.old }
     ensures chains { IsOrderOf (length rows.old) pairs.now (order_of_rows rows.new) }

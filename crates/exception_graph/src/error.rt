@@ -3,7 +3,7 @@ use thiserror::Error;
 /// Why a graph of exceptions is refused.
 #[derive(Clone, Copy, Debug, PartialEq, Eq, Error)]
 pub enum GraphError {
-    /// Two different exceptions cover each other; `at` is the least that does so.
+    /// The declared pairs run in a circle; `at` is the least exception that stands in one.
     #[error("exception {at} covers another that covers it")]
     Cycle { at: u32 },
     /// `a` and `b` are the first exceptions without a least common cover.

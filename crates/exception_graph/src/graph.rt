@@ -1,5 +1,5 @@
 ghost use Rattle.std.specs.Prelude.{◌≡◌, ◌<◌, ◌≤◌, ◌↔◌, ◌∷◌, [], ℕ, length, All, IfOk, IfErr, OnOk, IsErrOf, IsOkUnless};
-ghost use Rattle.cover_table.specs.Cover.{IsLeastCover, IsSound, SetsHaveLeastCovers, covers, order_of_rows};
+ghost use Rattle.cover_table.specs.Cover.{IsLeastCover, IsSound, SetsHaveLeastCovers, covers, order_of_rows, most_exceptions};
 ghost use Rattle.exception_graph.specs.Chains.{IsFirstInCycle, IsFirstUnjoined, IsOrderOf, IsSoundGraph};
 ghost use Rattle.exception_graph.specs.Graph.{HasUniversal, IsRefusal};
 
@@ -7,13 +7,13 @@ use crate::closing::tell_chains;
 use crate::cycles::first_in_cycle;
 use crate::error::GraphError;
 use caa_base::entry::OutOfMemory;
-use cover_table::{AnyTable, LIMIT};
+use cover_table::{AnyTable, MOST_EXCEPTIONS};
 use std::alloc::Global;
 use std::marker::Model;
 
 /// A sound graph of exceptions, seen as the order that its declared pairs make.
 ///
-/// Exceptions are numbers below its count, and 0 is universal: it covers all.
+/// Each exception goes by its number. Number 0 is the universal one, above all the others.
 #[derive(Drop)]
 pub struct Graph {
     table: Box<AnyTable>,
@@ -36,13 +36,13 @@ fn table_of_pairs(count: u32, pairs: &[(u32, u32)]) -> Result<AnyTable, GraphErr
     requires in_range { All (λ p. (p.0 < count) × (p.1 < count)) pairs.now }
     ensures same { IfOk result (λ table. IsOrderOf count pairs.now table) }
     ensures sound { IfOk result IsSound }
-    ensures few { OnOk result (count ≤ LIMIT) }
+    ensures few { OnOk result (count ≤ most_exceptions) }
     ensures refusal { IfErr result (IsRefusal count pairs.now) }
 {
-    if count as usize > LIMIT {
+    if count as usize > MOST_EXCEPTIONS {
         return Err(GraphError::TooMany { count });
     }
-    let mut all_rows = [0; LIMIT];
+    let mut all_rows = [0; MOST_EXCEPTIONS];
     let rows = &mut all_rows[..count as usize];
     tell_chains(rows, pairs);
     if let Some(at) = first_in_cycle(rows) {
@@ -60,16 +60,17 @@ fn table_of_pairs(count: u32, pairs: &[(u32, u32)]) -> Result<AnyTable, GraphErr
 impl Graph {
     /// The graph of these exceptions, where each pair declares its first over its second.
     ///
-    /// It is refused where there are too many exceptions, else where two different ones cover each
-    /// other, else where two have no least common cover; only a graph without fault takes memory.
+    /// First too many exceptions are refused, then a circle of pairs, and then two exceptions
+    /// without a least common cover. Memory is asked for once the graph has no fault, so only a
+    /// sound one can come to `OutOfMemory`.
     pub fn build(alloc: Global, count: u32, pairs: &[(u32, u32)]) -> Result<Graph, GraphError>
         requires some { 0 < count }
         requires in_range { All (λ p. (p.0 < count) × (p.1 < count)) pairs.now }
         ensures built { IfOk result (λ graph. IsOrderOf count pairs.now graph) }
         ensures sound { OnOk result (IsSoundGraph count pairs.now) }
-        ensures too_many { (number : ℕ) → IsErrOf result (GraphError.TooMany number) ↔ ((LIMIT < count) × (number ≡ count)) }
-        ensures cycle { (at : ℕ) → IsErrOf result (GraphError.Cycle at) ↔ ((count ≤ LIMIT) × IsFirstInCycle count pairs.now at) }
-        ensures no_least { (a b : ℕ) → IsErrOf result (GraphError.NoLeast a b) ↔ ((count ≤ LIMIT) × IsFirstUnjoined count pairs.now a b) }
+        ensures too_many { (number : ℕ) → IsErrOf result (GraphError.TooMany number) ↔ ((most_exceptions < count) × (number ≡ count)) }
+        ensures cycle { (at : ℕ) → IsErrOf result (GraphError.Cycle at) ↔ ((count ≤ most_exceptions) × IsFirstInCycle count pairs.now at) }
+        ensures no_least { (a b : ℕ) → IsErrOf result (GraphError.NoLeast a b) ↔ ((count ≤ most_exceptions) × IsFirstUnjoined count pairs.now a b) }
         ensures accepted { IsSoundGraph count pairs.now → IsOkUnless result GraphError.OutOfMemory }
         ensures out_of_memory { IsErrOf result GraphError.OutOfMemory → IsSoundGraph count pairs.now }
     {
@@ -119,7 +120,7 @@ impl Graph {
     /// Each graph is sound: each list of its exceptions that isn't empty has a least cover.
     pub fn is_sound(&self)
         ensures sound { IsSound self.now }
-        ensures few { self.now.count ≤ LIMIT }
+        ensures few { self.now.count ≤ most_exceptions }
         ensures sets { SetsHaveLeastCovers self.now }
     {
         self.table.is_sound();

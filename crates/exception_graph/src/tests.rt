@@ -5,8 +5,8 @@ use std::alloc::AllocError;
 fn unsound_graphs_are_refused_by_their_first_fault(rt: HostRuntime) {
     let alloc = rt.alloc();
     let none: [(u32, u32); 0] = [];
-    let too_many = Graph::build(alloc, 65, &none).err();
-    assert_eq!(rt; too_many, Some(GraphError::TooMany { count: 65 }));
+    let too_many = Graph::build(alloc, 129, &none).err();
+    assert_eq!(rt; too_many, Some(GraphError::TooMany { count: 129 }));
     let two_smallest = Graph::build(alloc, 5, &[(1, 3), (1, 4), (2, 3), (2, 4)]).err();
     assert_eq!(rt; two_smallest, Some(GraphError::NoLeast { a: 3, b: 4 }));
     let circle = Graph::build(alloc, 4, &[(1, 2), (2, 3), (3, 1)]).err();
@@ -33,8 +33,8 @@ fn refusals_are_told_in_words(rt: HostRuntime) -> Result<(), AllocError> {
             "exceptions 3 and 4 have no least common cover",
         ),
         (
-            GraphError::TooMany { count: 65 },
-            "65 exceptions are too many for a graph",
+            GraphError::TooMany { count: 129 },
+            "129 exceptions are too many for a graph",
         ),
         (GraphError::OutOfMemory, "out of memory"),
     ];
@@ -65,13 +65,20 @@ fn a_graph_tells_its_order_and_so_does_its_copy(rt: HostRuntime) {
 }
 
 #[test]
-fn a_chain_of_64_exceptions_is_sound(rt: HostRuntime) {
-    let mut pairs = [(0, 1); 63];
-    for upper in 1..63u32 {
-        pairs[upper as usize] = (upper, upper + 1);
+fn a_chain_of_128_exceptions_is_sound(rt: HostRuntime) {
+    let mut pairs = [(0, 1); 126];
+    for upper in 1..127u32 {
+        pairs[upper as usize - 1] = (upper, upper + 1);
     }
-    assert!(rt; pairs.iter().all(|pair| pair.0 < 64 && pair.1 < 64));
-    let graph = Graph::build(rt.alloc(), 64, &pairs).expect(&rt, "a sound graph");
-    assert_eq!(rt; graph.least(&[63, 32]), 32);
-    assert!(rt; graph.covers(1, 63) && !graph.covers(63, 1));
+    assert!(rt; pairs.iter().all(|pair| pair.0 < 128 && pair.1 < 128));
+    let graph = Graph::build(rt.alloc(), 128, &pairs).expect(&rt, "a sound graph");
+    assert_eq!(rt; graph.least(&[127, 64]), 64);
+    assert!(rt; graph.covers(1, 127) && !graph.covers(127, 1));
+}
+
+#[test]
+fn a_graph_of_65_exceptions_is_sound(rt: HostRuntime) {
+    let graph = Graph::build(rt.alloc(), 65, &[(1, 64)]).expect(&rt, "a sound graph");
+    assert_eq!(rt; graph.least(&[64, 1]), 1);
+    assert_eq!(rt; graph.least(&[63, 64]), 0);
 }

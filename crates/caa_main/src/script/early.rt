@@ -200,12 +200,12 @@ mod tests {
     }
 
     #[test]
-    fn reads_64_exceptions_at_most(rt: HostRuntime) -> Result<(), Fail> {
+    fn reads_128_exceptions_at_most(rt: HostRuntime) -> Result<(), Fail> {
         let alloc = rt.alloc();
-        let script = read_early(alloc, &graph_with(alloc, 63)?)?;
+        let script = read_early(alloc, &graph_with(alloc, 127)?)?;
         assert_eq!(rt; script.graphs.len(), 1);
-        assert_eq!(rt; script.graphs.as_slice()[0].names.len(), 64);
-        assert!(rt; is_refused(alloc, &graph_with(alloc, 64)?));
+        assert_eq!(rt; script.graphs.as_slice()[0].names.len(), 128);
+        assert!(rt; is_refused(alloc, &graph_with(alloc, 128)?));
         Ok(())
     }
 

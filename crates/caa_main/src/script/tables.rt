@@ -1,4 +1,5 @@
 ghost use Rattle.std.specs.Prelude.{◌≡◌, ◌<◌, ◌≤◌, ◌+◌, ◌||◌, [], true, false, not, is_some, unwrap_or, length, vec_len, IfOk, IfErr, OnOk};
+ghost use Rattle.cover_table.specs.Cover.{most_exceptions};
 ghost use Rattle.caa_main.specs.ScriptForms.{at_top, in_graph, in_action, begun};
 
 use crate::script::early::EarlyError;
@@ -10,6 +11,7 @@ use crate::script::names::{
 use crate::script::parts::{DeclaredGraph, Script};
 use caa_base::name::Name;
 use caa_base::rows::Rows;
+use cover_table::MOST_EXCEPTIONS;
 use place_plan::rows::{ActionRow, ObjectRow, PlayRow, Step};
 use std::alloc::Global;
 use std::mem::replace;
@@ -19,9 +21,6 @@ const MOST_PARTICIPANTS: usize = 64;
 const MOST_OBJECTS: usize = 256;
 
 const MOST_GRAPHS: usize = 256;
-
-/// Of one graph, `universal` counted.
-const MOST_EXCEPTIONS: usize = 64;
 
 const MOST_ACTIONS: usize = 256;
 
@@ -62,7 +61,7 @@ pub struct Tables {
     pub written: Vec<Written>,
     ghost few_participants: { vec_len participants ≤ 64 },
     ghost few_objects: { vec_len objects ≤ 256 },
-    ghost few_exceptions: { vec_len exceptions ≤ 64 },
+    ghost few_exceptions: { vec_len exceptions ≤ most_exceptions },
     ghost few_actions: { vec_len actions + begun section ≤ 256 },
     ghost few_roles: { length (unwrap_or roles []) ≤ 16 },
     ghost named: { (not (in_action section) || is_some name) ≡ true },
@@ -316,7 +315,7 @@ impl Tables {
     }
 
     fn add_exception(&mut self, name: Name) -> Result<(), EarlyError>
-        requires { vec_len self.old.exceptions < 64 }
+        requires { vec_len self.old.exceptions < most_exceptions }
         ensures added { OnOk result (told self.new ≡ with_said (told self.old) (Form.Exception name)) }
         ensures refused { IfErr result (λ e. e ≡ EarlyError.OutOfMemory) }
     {

@@ -1,5 +1,5 @@
 use Rattle.std.proofs.Common.{◌≡◌, ◌<◌, ◌≤◌, ◌||◌, ◌&&◌, ℕ, get_or}
-use Rattle.exception_graph.specs.Closing.{tells}
+use Rattle.cover_table.specs.Cover.{tells}
 use Rattle.exception_graph.proofs.closing.extend_over.Given as goal
 
 abbrev pub invariant-loop-row : goal.invariant-loop-row

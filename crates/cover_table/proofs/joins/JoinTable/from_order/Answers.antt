@@ -1,30 +1,49 @@
-use Rattle.std.proofs.Common.{◌≡◌, ◌≤◌, length, arith, subst, take, Ok, Err, [], ◌∷◌, slice_index}
+use Rattle.std.proofs.Common.{◌<◌, ◌≤◌, ℕ, List, length, arith, subst, take, Ok, Err, slice_index}
 use Rattle.std.proofs.lemmas.List.{length-set, length-take-le}
 use Rattle.std.proofs.lemmas.Result.{err_from_is_err_and}
-use Rattle.cover_table.specs.Cover.{CoverOrder, order_of, order_of_rows, IsLeastCover, IsFirstWithoutLeast}
-use Rattle.cover_table.specs.Common.{FailsAt}
-use Rattle.cover_table.proofs.Orders.{order_of-first, first_from_row, refused_at, joins_more}
+use Rattle.cover_table.specs.Cover.{CoverOrder, order_of, IsFirstWithoutLeast}
+use Rattle.cover_table.specs.Common.{AreUppers}
+use Rattle.cover_table.proofs.Least.{join_from_least, least_from_join}
+use Rattle.cover_table.proofs.Orders.{first_from_row, refused_at, joins_more}
 use Rattle.cover_table.proofs.joins.JoinTable.from_order.Goals as goal
+
+-- the first rows of more, and as many of the rows of what covers each
+first_uppers : (count : ℕ) (rows all : List ℕ) → count ≤ length rows → AreUppers (take count rows) (take (length (take count rows)) all) → AreUppers (take count rows) (take count all)
+first_uppers count rows all fits upper = subst (λ (n : ℕ). AreUppers (take count rows) (take n all)) (length-take-le count rows fits) upper
 
 pub returns-in_err-joins-clause-no_least : goal.returns-in_err-joins-clause-no_least
 returns-in_err-joins-clause-no_least g c =
     let p = err_from_is_err_and c.from_residual.result c.from_residual.ensures.1 in
     let order : CoverOrder = order_of c.args.order.now.count c.args.order.now.rows in
-    let lacks = c.in_err-joins.ensures.lacks in
+    let fits : order.count ≤ length c.args.order.now.rows = omega arith in
+    let many = length-take-le order.count c.args.order.now.rows fits in
+    let uppers : List ℕ = take order.count c.uppers_of-all_uppers.result in
+    let upper : AreUppers order.rows uppers = first_uppers order.count c.args.order.now.rows c.uppers_of-all_uppers.result fits c.uppers_of-all_uppers.ensures in
+    let as_many = upper.as_many in
+    let fails = c.in_err-joins.ensures.lacks.1 in
+    let below = fails.in_range in
     let e = c.in_err-joins.field-0.0 in
-    let same : order_of_rows (take c.args.order.now.count c.args.order.now.rows) ≡ order = order_of-first _ _ (omega arith) in
-    let fails : FailsAt order e.a e.b = subst (λ o. FailsAt o e.a e.b) same lacks.1 in
-    let first : IsFirstWithoutLeast order e.a e.b = first_from_row order e.a e.b c.requires.order (omega arith) (λ c' d c_in d_in. (_, c.loop-a.invariant.found c' d (omega arith) d_in)) fails in
+    let b_in : e.b < order.count = omega arith in
+    let same = c.in_err-joins.ensures.lacks.0 in
+    let a_in : e.a < order.count = omega arith in
+    let first : IsFirstWithoutLeast order e.a e.b = first_from_row order e.a e.b c.requires.order a_in b_in
+    (λ c' d c_in d_in. (_, c.loop-a.invariant.found c' d (omega arith) d_in))
+    (λ found. fails.without (join_from_least order many c.requires.order uppers upper e.a e.b a_in b_in found))
+    (λ d less. let join = fails.earlier d less in (join.0, least_from_join order many c.requires.order uppers upper e.a d a_in (omega arith) join.0 join.1)) in
     rw (p.1, p.2) (refused_at order (Err e) first)
 
 pub loop-a-preserved : goal.loop-a-preserved
 loop-a-preserved g c =
     let order : CoverOrder = order_of c.args.order.now.count c.args.order.now.rows in
-    let fits : c.args.order.now.count ≤ length c.args.order.now.rows = omega arith in
-    let same : order_of_rows (take c.args.order.now.count c.args.order.now.rows) ≡ order = order_of-first _ _ fits in
+    let fits : order.count ≤ length c.args.order.now.rows = omega arith in
+    let many = length-take-le order.count c.args.order.now.rows fits in
+    let uppers : List ℕ = take order.count c.uppers_of-all_uppers.result in
+    let upper : AreUppers order.rows uppers = first_uppers order.count c.args.order.now.rows c.uppers_of-all_uppers.result fits c.uppers_of-all_uppers.ensures in
+    let as_many = upper.as_many in
     record {
       len = grind (arith, length-set);
-      found = joins_more order c.loop-a.joins c.loop-a.a c.in_ok-joins.field-0 (omega arith) c.loop-a.invariant.found (λ d d_in. subst (λ o. IsLeastCover o (c.loop-a.a ∷ d ∷ []) (slice_index c.in_ok-joins.field-0 d)) same (c.in_ok-joins.ensures.found d (let e = length-take-le c.args.order.now.count c.args.order.now.rows fits in omega arith)));
+      found = joins_more order c.loop-a.joins c.loop-a.a c.in_ok-joins.field-0 (omega arith) c.loop-a.invariant.found
+          (λ d d_in. least_from_join order many c.requires.order uppers upper c.loop-a.a d c.loop-a-test.true d_in (slice_index c.in_ok-joins.field-0 d) (c.in_ok-joins.ensures.found d (omega arith)));
     }
 
 pub returns-clause-sound : goal.returns-clause-sound

@@ -22,3 +22,8 @@ pub returns-in_err-table_of-4-clause-no_least : goal.returns-in_err-table_of-4-c
 returns-in_err-table_of-4-clause-no_least c =
     let p = err_from_is_err_and c.from_residual-in_err-table_of-4.result c.from_residual-in_err-table_of-4.ensures.1 in
     rw (p.1, p.2) (refused_on (order_of_rows c.args.rows.now) c.in_err-table_of-4.field-0.0 c.in_err-table_of-4.ensures.no_least)
+
+pub returns-in_err-table_of-5-clause-no_least : goal.returns-in_err-table_of-5-clause-no_least
+returns-in_err-table_of-5-clause-no_least c =
+    let p = err_from_is_err_and c.from_residual-in_err-table_of-5.result c.from_residual-in_err-table_of-5.ensures.1 in
+    rw (p.1, p.2) (refused_on (order_of_rows c.args.rows.now) c.in_err-table_of-5.field-0.0 c.in_err-table_of-5.ensures.no_least)
