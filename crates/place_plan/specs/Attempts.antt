@@ -1,9 +1,8 @@
 -- How a journal asks the device, attempt by attempt, and whether the device refused just what it was drilled to refuse.
 use Rattle.std.specs.Prelude.{◌≡◌, ℕ, ◌==◌, Bool, ◌&&◌, ◌||◌, List, filter, slice_get, Some, suc}
-use Rattle.std.specs.List.{list_any}
-use Rattle.caa_base.specs.declared.entry.Drill.{Drill}
 use Rattle.caa_base.specs.declared.entry.Entry.{Entry}
 use Rattle.caa_base.specs.declared.entry.Kind.TheVariants as kind
+use Rattle.caa_base.specs.PlantState.{has_drill}
 use Rattle.place_plan.specs.PlanValue.{Plan}
 use Rattle.place_plan.specs.Entries.{is_of}
 use Rattle.place_plan.specs.Journals.{is_fault}
@@ -15,10 +14,6 @@ is_attempt o e = (is_of kind.Write e || (is_of kind.PutFault e || is_of kind.Res
 -- the attempts on o in a journal, in order
 abbrev pub attempts_on : List Entry → ℕ → List Entry
 attempts_on journal o = filter (is_attempt o) journal
-
--- one of these drills is of this object and this number
-abbrev pub has_drill : List Drill → ℕ → ℕ → Bool
-has_drill drills o number = list_any (λ (d : Drill). (d.object == o) && (d.nth == number)) drills
 
 -- of the attempts on each object, counted from 1, the device refused just those that the plan drills
 abbrev pub IsDrilled : Plan → List Entry → Type 0
