@@ -1,5 +1,6 @@
 pub mod Playable
 pub mod Core
+pub mod Phases
 pub mod Quiet
 pub mod Kept
 pub mod FlatOver
