@@ -8,6 +8,7 @@ use Rattle.place_plan.specs.PlanValue.{Plan}
 use Rattle.place_plan.specs.Places.{roles_of, initial_of}
 use Rattle.place_plan.specs.Entries.{is_in, has, newest}
 use Rattle.place_plan.specs.Raising.{is_raised}
+
 use Rattle.place_plan.specs.Journals.{LegalPast, is_fault, faults_in}
 use Rattle.journal_laws.specs.Laws.{Holds, Splits, ResolutionLaw, OutcomeLaw, EffectLaw, last_write}
 use Rattle.place_plan.specs.Flat.{IsFlat}
