@@ -4,6 +4,7 @@ pub mod Phases
 pub mod Newest
 pub mod Raised
 pub mod Frozen
+pub mod Said
 pub mod Quiet
 pub mod Kept
 pub mod FlatOver
