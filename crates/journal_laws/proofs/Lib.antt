@@ -5,6 +5,8 @@ pub mod Newest
 pub mod Raised
 pub mod Frozen
 pub mod Said
+pub mod Resolution
+pub mod LeastOf
 pub mod Quiet
 pub mod Kept
 pub mod FlatOver
