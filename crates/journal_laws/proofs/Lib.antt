@@ -7,6 +7,7 @@ pub mod Frozen
 pub mod Said
 pub mod Resolution
 pub mod LeastOf
+pub mod Recovering
 pub mod Quiet
 pub mod Kept
 pub mod FlatOver
