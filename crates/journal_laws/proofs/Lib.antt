@@ -8,6 +8,7 @@ pub mod Said
 pub mod Resolution
 pub mod LeastOf
 pub mod Recovering
+pub mod DueOnly
 pub mod Quiet
 pub mod Kept
 pub mod FlatOver
