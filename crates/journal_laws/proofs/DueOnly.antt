@@ -49,7 +49,7 @@ made_verdict e verdict.Done h w = made kind.Verdict e 0 0 (pos 0) h.0 h.1 w
 made_verdict e (verdict.Signal x) h w = made kind.Verdict e 1 x (pos 0) h.0 h.1 w
 made_verdict e verdict.Undo h w = made kind.Verdict e 2 0 (pos 0) h.0 h.1 w
 
-none_is : {A : Type 0} (o : Option A) → is_none o ≡ true → o ≡ None
+pub none_is : {A : Type 0} (o : Option A) → is_none o ≡ true → o ≡ None
 none_is None h = refl
 none_is (Some x) h = absurd (false≢true h)
 

@@ -9,6 +9,8 @@ pub mod Resolution
 pub mod LeastOf
 pub mod Recovering
 pub mod DueOnly
+pub mod DueMay
+pub mod Due
 pub mod Quiet
 pub mod Kept
 pub mod FlatOver
