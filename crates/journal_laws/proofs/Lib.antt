@@ -13,6 +13,9 @@ pub mod TreeFlat
 pub mod Innermost
 pub mod Holding
 pub mod Isolation
+pub mod Silence
+pub mod Arrivals
+pub mod Uses
 pub mod FlatExit
 pub mod FlatLaws
 pub mod FlatLength
