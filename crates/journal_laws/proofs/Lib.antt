@@ -16,6 +16,7 @@ pub mod Isolation
 pub mod Silence
 pub mod Arrivals
 pub mod Uses
+pub mod Visited
 pub mod FlatExit
 pub mod FlatLaws
 pub mod FlatLength
