@@ -17,6 +17,7 @@ pub mod Silence
 pub mod Arrivals
 pub mod Uses
 pub mod Visited
+pub mod Over
 pub mod FlatExit
 pub mod FlatLaws
 pub mod FlatLength

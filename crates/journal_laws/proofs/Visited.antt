@@ -58,7 +58,7 @@ module _ (plan : Plan) (playable : IsPlayable plan) where
   plays_by past kind.Leave e p q t legal l m n r ih h w = or_right _ _ (ih w)
   plays_by past _ e p q t legal l m n r ih h w = ih w
 
-  plays_kept : (past : List Entry) → LegalPast plan past → (p q t : ℕ) → p < q → member p plan.plays ≡ true → member q plan.plays ≡ true → member t (roles_of plan p) ≡ true → has_by kind.Arrive past q t ≡ true → has_by kind.Leave past p t ≡ true
+  pub plays_kept : (past : List Entry) → LegalPast plan past → (p q t : ℕ) → p < q → member p plan.plays ≡ true → member q plan.plays ≡ true → member t (roles_of plan p) ≡ true → has_by kind.Arrive past q t ≡ true → has_by kind.Leave past p t ≡ true
   plays_kept [] h p q t l m n r w = absurd (false≢true w)
   plays_kept (e ∷ past) h p q t l m n r w = plays_by past e.kind e p q t h.0 l m n r (plays_kept past h.0 p q t l m n r) h.1 w
 
