@@ -72,7 +72,7 @@ module _ (plan : Plan) (tree : IsTree plan) where
   abort_doomed_by past kind.Arrive e p t ih h w = doom_stays plan p (of_kind kind.Arrive e) past (ih w)
   abort_doomed_by past k e p t ih h w = doom_stays plan p (of_kind k e) past (ih w)
 
-  abort_doomed : (past : List Entry) → LegalPast plan past → (p t : ℕ) → has_by kind.Abort past p t ≡ true → is_doomed plan past p ≡ true
+  pub abort_doomed : (past : List Entry) → LegalPast plan past → (p t : ℕ) → has_by kind.Abort past p t ≡ true → is_doomed plan past p ≡ true
   abort_doomed [] h p t w = absurd (false≢true w)
   abort_doomed (e ∷ past) h p t w = abort_doomed_by past e.kind e p t (abort_doomed past h.0 p t) h.1 w
 

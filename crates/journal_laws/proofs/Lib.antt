@@ -1,5 +1,9 @@
 pub mod Playable
 pub mod Core
+pub mod Phases
+pub mod Newest
+pub mod Raised
+pub mod Frozen
 pub mod Quiet
 pub mod Kept
 pub mod FlatOver
