@@ -22,6 +22,7 @@ pub mod Arrivals
 pub mod Uses
 pub mod Visited
 pub mod Over
+pub mod Exit
 pub mod FlatExit
 pub mod FlatLaws
 pub mod FlatLength

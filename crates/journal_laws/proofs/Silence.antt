@@ -17,15 +17,15 @@ use Rattle.journal_laws.proofs.Kept.{live_parts}
 use Rattle.journal_laws.proofs.Holding.{end_live}
 
 -- where no entry passes a test, none is the newest that does
-pub newest_none : (test : Entry → Bool) (past : List Entry) → list_any test past ≡ false → newest test past ≡ None
-newest_none test [] h = refl
-newest_none test (e ∷ past) h = let parts = or_parts (test e) (list_any test past) h in rw parts.0 (newest_none test past parts.1)
+pub none_newest : (test : Entry → Bool) (past : List Entry) → list_any test past ≡ false → newest test past ≡ None
+none_newest test [] h = refl
+none_newest test (e ∷ past) h = let parts = or_parts (test e) (list_any test past) h in rw parts.0 (none_newest test past parts.1)
 
 -- what is left in silence has ended
 pub silent_ended : (plan : Plan) (past : List Entry) (c : ℕ) → is_left_in_silence plan past c ≡ true → has_ended past c ≡ true
 silent_ended plan past c h =
     true_from_ne_false _ (λ lasts.
-    let none : newest (is_in kind.End c) past ≡ None = newest_none (is_in kind.End c) past lasts in
+    let none : newest (is_in kind.End c) past ≡ None = none_newest (is_in kind.End c) past lasts in
     let undone : is_undone (newest (is_in kind.End c) past) ≡ true = (and_parts (is_undone (newest (is_in kind.End c) past)) (not (is_none (next_alternate plan c))) h).0 in
     false≢true (subst (λ o. is_undone o ≡ true) none undone))
 
