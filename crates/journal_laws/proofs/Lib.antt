@@ -4,6 +4,10 @@ pub mod Phases
 pub mod Newest
 pub mod Raised
 pub mod Frozen
+pub mod Said
+pub mod Resolution
+pub mod LeastOf
+pub mod Recovering
 pub mod Quiet
 pub mod Kept
 pub mod FlatOver

@@ -32,8 +32,11 @@ pub all_up : (f g : ℕ → Bool) (xs : List ℕ) → ((x : ℕ) → f x ≡ tru
 all_up f g [] h w = refl
 all_up f g (x ∷ xs) h w = let parts = and_parts _ _ w in and_from _ _ (h x parts.0) (all_up f g xs h parts.1)
 
-some_apart : {A : Type 0} {x : A} → None ≡ Some x → ⊥
+pub some_apart : {A : Type 0} {x : A} → None ≡ Some x → ⊥
 some_apart h = cc
+
+pub some_same : {A : Type 0} {x y : A} → Some x ≡ Some y → x ≡ y
+some_same h = cc
 
 -- an entry that halts its maker raises, too
 halting_raises : (b c d : Bool) (x : ℕ) (ys : List ℕ) → (d ≡ true → not (is_empty ys) ≡ true) → (b && c) || d ≡ true → not (is_empty (cond b (x ∷ []) [] ++ ys)) ≡ true
