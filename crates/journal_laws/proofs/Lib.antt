@@ -17,3 +17,5 @@ pub mod FlatExit
 pub mod FlatLaws
 pub mod FlatLength
 pub mod LawsKept
+pub mod Tried
+pub mod Outcome
