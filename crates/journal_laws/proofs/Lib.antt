@@ -19,3 +19,5 @@ pub mod FlatLength
 pub mod LawsKept
 pub mod Tried
 pub mod Outcome
+pub mod Going
+pub mod Versions
