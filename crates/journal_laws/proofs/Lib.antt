@@ -21,3 +21,4 @@ pub mod Tried
 pub mod Outcome
 pub mod Going
 pub mod Versions
+pub mod Effects

@@ -18,7 +18,7 @@ use Rattle.journal_laws.proofs.Core.{Tries}
 use Rattle.place_plan.proofs.Words.{chosen, first_not_none}
 use Rattle.place_plan.proofs.Entries.{of_kind}
 use Rattle.journal_laws.proofs.Busy.{live_of}
-use Rattle.journal_laws.proofs.Tried.{count_next}
+use Rattle.journal_laws.proofs.Tried.{count_next, tries}
 
 -- ---- lists
 
@@ -32,7 +32,7 @@ newest_any test (e ∷ past) f w =
     ]
 
 -- what was counted is there
-counted_any : (test : Entry → Bool) (past : List Entry) → (count_by test past ≡ 0 → ⊥) → list_any test past ≡ true
+pub counted_any : (test : Entry → Bool) (past : List Entry) → (count_by test past ≡ 0 → ⊥) → list_any test past ≡ true
 counted_any test [] h = absurd (h refl)
 counted_any test (e ∷ past) h = by_test (test e) refl (counted_any test past)
   where
@@ -77,7 +77,7 @@ fits_agreed plan past p mark none small = record {
   refused = λ l. absurd (omega arith);
 }
 
-small_mark : (plan : Plan) (e : Entry) (xs : List ℕ) → SignalsLeast plan e xs → e.mark < 2
+pub small_mark : (plan : Plan) (e : Entry) (xs : List ℕ) → SignalsLeast plan e xs → e.mark < 2
 small_mark plan e [] h = rw h.0 (omega arith)
 small_mark plan e (x ∷ xs) h = rw h.0 (omega arith)
 
@@ -90,12 +90,12 @@ fits_on plan past e p mark other fit = record {
   refused = λ l. rw other (fit.refused l);
 }
 
-module _ (plan : Plan) (tries : Holds Tries plan) where
+module _ (plan : Plan) where
   end_fits : (past : List Entry) (e : Entry) → LegalPast plan past → MayEnd plan past e → RestoresFit plan past e.place e.mark
   end_fits past e legal h = by_undo (is_undoing past e.place) refl h.how
     where
       t : Tries plan past
-      t = tries past legal
+      t = tries plan past legal
 
       by_undo : (b : Bool) → is_undoing past e.place ≡ b → MatchBool b (EndsUndone plan past e) (EndsAgreed plan past e) → RestoresFit plan past e.place e.mark
       by_undo true u h = fits_undone plan past e.place e.mark t (λ o u. first_not_none (is_tried past e.place) (objects_of plan e.place) o h.all_tried u) h.mark
@@ -118,5 +118,5 @@ module _ (plan : Plan) (tries : Holds Tries plan) where
   outcome (e ∷ past) h p f w = outcome_by past e.kind e h.0 (outcome past h.0) h.1 p f w
 
 -- outcome law
-pub outcomes : (plan : Plan) → Holds Tries plan → Holds OutcomeLaw plan
-outcomes plan tries past legal = outcome plan tries past legal
+pub outcomes : (plan : Plan) → Holds OutcomeLaw plan
+outcomes plan past legal = outcome plan past legal
