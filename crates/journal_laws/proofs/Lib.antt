@@ -22,3 +22,4 @@ pub mod Outcome
 pub mod Going
 pub mod Versions
 pub mod Effects
+pub mod Ranges

@@ -42,10 +42,10 @@ none_any test [] h = refl
 none_any test (x ∷ xs) h = or_from _ _ (h x (or_left _ _ (eq-eqb x x refl))) (none_any test xs (λ y m. h y (or_right _ _ m)))
 
 -- each of these places is p, or inside it
-abbrev pub AllWithin : Plan → ℕ → List ℕ → Type 0
-AllWithin plan p us = (q : ℕ) → member q us ≡ true → is_within plan q p ≡ true
+abbrev pub AreWithin : Plan → ℕ → List ℕ → Type 0
+AreWithin plan p us = (q : ℕ) → member q us ≡ true → is_within plan q p ≡ true
 
-with_within : (plan : Plan) (p q : ℕ) (us : List ℕ) → is_within plan q p ≡ true → AllWithin plan p us → AllWithin plan p (q ∷ us)
+with_within : (plan : Plan) (p q : ℕ) (us : List ℕ) → is_within plan q p ≡ true → AreWithin plan p us → AreWithin plan p (q ∷ us)
 with_within plan p q us h k r m =
     elim (or_cases (q == r) (member r us) m) [
       | inl x ↦ subst (λ a. is_within plan a p ≡ true) (eqb-true q r x) h
@@ -56,10 +56,10 @@ module _ (plan : Plan) (tree : IsTree plan) where
   -- ---- before its start a place has changed nothing
 
   abbrev pub Unmoved : List Entry → ℕ → ℕ → Type 0
-  Unmoved past p o = (vs us : List ℕ) → AllWithin plan p us → value_outside plan past o (vs ++ us) ≡ value_outside plan past o vs
+  Unmoved past p o = (vs us : List ℕ) → AreWithin plan p us → value_outside plan past o (vs ++ us) ≡ value_outside plan past o vs
 
   -- what is written before p starts isn't within it
-  written_outside : (past : List Entry) (e : Entry) (p : ℕ) (us : List ℕ) → LegalPast plan past → MayPut plan past e → has_started past p ≡ false → AllWithin plan p us → is_within_any plan e.place us ≡ false
+  written_outside : (past : List Entry) (e : Entry) (p : ℕ) (us : List ℕ) → LegalPast plan past → MayPut plan past e → has_started past p ≡ false → AreWithin plan p us → is_within_any plan e.place us ≡ false
   written_outside past e p us legal h waits all =
       none_any (is_within plan e.place) us (λ q m. false_from_ne_true _ (λ w.
       both_ways _ waits (live_of plan tree p past (put_going plan tree past e p legal h (within_through plan tree e.place q p w (all q m)))).0))
@@ -87,7 +87,7 @@ module _ (plan : Plan) (tree : IsTree plan) where
   -- ---- a live place finds the values of its start outside what is within it
 
   abbrev pub Versions : List Entry → ℕ → ℕ → Type 0
-  Versions past p o = (us : List ℕ) → AllWithin plan p us → member p us ≡ true → value_outside plan past o us ≡ value_of plan (before_start past p) o
+  Versions past p o = (us : List ℕ) → AreWithin plan p us → member p us ≡ true → value_outside plan past o us ≡ value_of plan (before_start past p) o
 
   -- the holder of o is within each live place that uses it
   holder_within : (past : List Entry) (o p q : ℕ) → LegalPast plan past → holder_of plan past o ≡ Some q → is_live past p ≡ true → uses plan p o ≡ true → is_within plan q p ≡ true
@@ -134,7 +134,7 @@ module _ (plan : Plan) (tree : IsTree plan) where
   restores_version past e o legal h same =
       let used : uses plan e.place e.arg ≡ true = (first_not_fails (is_tried past e.place) (objects_of plan e.place) e.arg h.least).1 in
       let live : is_live past e.place ≡ true = live_from e.place past (undoing_started plan tree past legal e.place h.when) h.lasts in
-      let own : AllWithin plan e.place (e.place ∷ []) = with_within plan e.place e.place [] (or_left _ _ (eq-eqb e.place e.place refl)) (λ q m. absurd (false≢true m)) in
+      let own : AreWithin plan e.place (e.place ∷ []) = with_within plan e.place e.place [] (or_left _ _ (eq-eqb e.place e.place refl)) (λ q m. absurd (false≢true m)) in
       h.value ∙ subst (λ a. value_of plan (before_start past e.place) e.arg ≡ value_outside plan past a (e.place ∷ [])) same (sym (versions past legal e.place e.arg used live (e.place ∷ []) own (or_left _ _ (eq-eqb e.place e.place refl))))
 
   device_by : (past : List Entry) (k : Kind) (e : Entry) (o : ℕ) → LegalPast plan past → last_put plan past o ≡ value_of plan past o → Row k plan past (of_kind k e) → last_put plan (of_kind k e ∷ past) o ≡ value_of plan (of_kind k e ∷ past) o
