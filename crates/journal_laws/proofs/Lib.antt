@@ -23,3 +23,4 @@ pub mod Going
 pub mod Versions
 pub mod Effects
 pub mod Ranges
+pub mod WellFormed
