@@ -1,5 +1,9 @@
 pub mod Playable
 pub mod Core
+pub mod Phases
+pub mod Newest
+pub mod Raised
+pub mod Frozen
 pub mod Quiet
 pub mod Kept
 pub mod FlatOver
@@ -13,6 +17,11 @@ pub mod TreeFlat
 pub mod Innermost
 pub mod Holding
 pub mod Isolation
+pub mod Silence
+pub mod Arrivals
+pub mod Uses
+pub mod Visited
+pub mod Over
 pub mod FlatExit
 pub mod FlatLaws
 pub mod FlatLength
