@@ -31,3 +31,10 @@ pub mod FlatExit
 pub mod FlatLaws
 pub mod FlatLength
 pub mod LawsKept
+pub mod Tried
+pub mod Outcome
+pub mod Going
+pub mod Versions
+pub mod Effects
+pub mod Ranges
+pub mod WellFormed
