@@ -27,6 +27,7 @@ pub mod Uses
 pub mod Visited
 pub mod Over
 pub mod Exit
+pub mod Room
 pub mod FlatExit
 pub mod FlatLaws
 pub mod FlatLength
