@@ -28,6 +28,7 @@ pub mod Visited
 pub mod Over
 pub mod Exit
 pub mod Room
+pub mod Waiting
 pub mod FlatExit
 pub mod FlatLaws
 pub mod FlatLength
