@@ -43,7 +43,7 @@ given_has p t (e ∷ past) h = by_tests (is_in kind.Resolve p e) (is_by kind.Ver
     by_tests false true h ih = refl
     by_tests false false h ih = ih h
 
-not_given : (plan : Plan) (p t : ℕ) (past : List Entry) → has_by kind.Verdict past p t ≡ false → has_given plan past p t ≡ false
+pub not_given : (plan : Plan) (p t : ℕ) (past : List Entry) → has_by kind.Verdict past p t ≡ false → has_given plan past p t ≡ false
 not_given plan p t past h = by_raised (is_raised plan past p)
   where
     by_raised : (b : Bool) → cond b (has_given_after past p t) (has_by kind.Verdict past p t) ≡ false

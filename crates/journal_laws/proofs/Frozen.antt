@@ -36,7 +36,7 @@ pub frozen_wants : (plan : Plan) (past : List Entry) (e : Entry) (p : ℕ) → I
 frozen_wants plan past e p f = λ i. list_any (λ t. is_undo (f.verdict t i)) (roles_of plan p)
 
 -- the kinds that are made in a calm or hot place alone
-abbrev acts : Kind → Bool
+abbrev pub acts : Kind → Bool
 acts kind.Read = true
 acts kind.Work = true
 acts kind.Write = true
@@ -65,7 +65,7 @@ verdict_open plan past p t e w = by_phase (is_calm plan past p) (is_hot plan pas
     by_phase false true a h x y w = (hot_open plan past p h).0
     by_phase false false a h x y w = elim w [ ]
 
-open_by : (plan : Plan) (past : List Entry) (k : Kind) (e : Entry) → Row k plan past (of_kind k e) → acts k ≡ true → IsOpen plan past e.place
+pub open_by : (plan : Plan) (past : List Entry) (k : Kind) (e : Entry) → Row k plan past (of_kind k e) → acts k ≡ true → IsOpen plan past e.place
 open_by plan past kind.Read e h a = able_open plan past e.place e.by h.can
 open_by plan past kind.Work e h a = able_open plan past e.place e.by h.can
 open_by plan past kind.Write e h a = able_open plan past e.place e.by h.can
