@@ -25,8 +25,8 @@ use Rattle.journal_laws.proofs.Core.{Core}
 use Rattle.place_plan.proofs.Words.{chosen}
 use Rattle.journal_laws.proofs.Holding.{same_from_option}
 use Rattle.journal_laws.proofs.Phases.{IsOpen, open_parts, open_from, going_from, calm_from, hot_from, not_calm}
-use Rattle.journal_laws.proofs.Raised.{role_inside, some_apart, some_same, plain_calm}
-use Rattle.journal_laws.proofs.DueOnly.{none_is}
+use Rattle.journal_laws.proofs.Options.{some_apart, some_same, none_is}
+use Rattle.journal_laws.proofs.Raised.{role_inside, plain_calm}
 use Rattle.journal_laws.proofs.LeastOf.{found_least}
 use Rattle.journal_laws.proofs.Recovering.{handling_given, running_unsaid, some_stay}
 

@@ -27,7 +27,8 @@ use Rattle.place_plan.proofs.Entries.{of_kind}
 use Rattle.journal_laws.proofs.Busy.{abort_doomed}
 use Rattle.journal_laws.proofs.Holding.{ended_started, undoing_started}
 use Rattle.journal_laws.proofs.Phases.{IsOpen, going_parts, open_parts, open_from, calm_open, hot_open, open_either, calm_from, hot_from, not_hot, not_calm}
-use Rattle.journal_laws.proofs.Raised.{role_inside, arrives_calm, some_apart, some_same, plain_calm}
+use Rattle.journal_laws.proofs.Options.{some_apart, some_same, none_is}
+use Rattle.journal_laws.proofs.Raised.{role_inside, arrives_calm, plain_calm}
 use Rattle.journal_laws.proofs.Frozen.{verdict_open}
 use Rattle.journal_laws.proofs.LeastOf.{least_found}
 use Rattle.journal_laws.proofs.Recovering.{InHandler, halted_in, in_handler, handling_given, handled_resolved, able_unsaid, due_in_calm, due_in_hot, due_in_resolved, due_in_agreed}
@@ -48,10 +49,6 @@ made_verdict : (e : Entry) (v : Verdict) → SaysVerdict (of_kind kind.Verdict e
 made_verdict e verdict.Done h w = made kind.Verdict e 0 0 (pos 0) h.0 h.1 w
 made_verdict e (verdict.Signal x) h w = made kind.Verdict e 1 x (pos 0) h.0 h.1 w
 made_verdict e verdict.Undo h w = made kind.Verdict e 2 0 (pos 0) h.0 h.1 w
-
-pub none_is : {A : Type 0} (o : Option A) → is_none o ≡ true → o ≡ None
-none_is None h = refl
-none_is (Some x) h = absurd (false≢true h)
 
 -- ---- what a verdict that is due says
 
