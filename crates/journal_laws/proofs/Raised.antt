@@ -9,7 +9,7 @@ use Rattle.caa_base.specs.declared.entry.Kind.TheVariants as kind
 use Rattle.place_plan.specs.PlanValue.{Plan}
 use Rattle.place_plan.specs.Words.{member, is_empty, first_of}
 use Rattle.place_plan.specs.Places.{around, parent, roles_of, plays_of, internal_of, handler_of}
-use Rattle.place_plan.specs.Entries.{is_in, is_by, has_by}
+use Rattle.place_plan.specs.Entries.{is_by, has_by}
 use Rattle.place_plan.specs.Whereabouts.{inside, inside_after}
 use Rattle.place_plan.specs.Raising.{has_handled, raises_in, carries_into, exceptions_raised, is_raised, is_calm, is_hot, is_halted, all_are_halted, exception_resolved, exception_handled}
 use Rattle.place_plan.specs.Roles.{has_given, is_able, is_in_handler, is_handling, was_refused_in_handler, next_play}

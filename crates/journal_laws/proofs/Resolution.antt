@@ -1,19 +1,18 @@
 -- Resolution law: what is handled is the least cover of all that is raised, and each role of a place that ended without aborts answered.
-use Rattle.std.proofs.Common.{◌≡◌, ℕ, ◌==◌, Bool, true, false, cond, ◌&&◌, ◌||◌, ◌⊎◌, List, [], ◌∷◌, ◌++◌, Some, None, Option, refl, sym, ◌∙◌, subst, inl, inr, is_none}
+use Rattle.std.proofs.Common.{◌≡◌, ℕ, ◌==◌, Bool, true, false, cond, ◌&&◌, ◌||◌, List, [], ◌∷◌, ◌++◌, Some, None, refl, sym, ◌∙◌, subst, inl, inr, is_none}
 use Rattle.std.specs.List.{list_any}
-use Rattle.std.proofs.lemmas.Bool.{and_from, or_cases, or_left, or_right, eqb-true, eq-eqb, false≢true, cases_Bool, false_from_ne_true, both_ways}
-use Rattle.cover_table.specs.Cover.{IsLeastCover}
+use Rattle.std.proofs.lemmas.Bool.{and_from, or_left, eqb-true, eq-eqb, cases_Bool, false_from_ne_true, both_ways}
 use Rattle.caa_base.specs.declared.entry.Entry.{Entry}
 use Rattle.caa_base.specs.declared.entry.Kind.{Kind}
 use Rattle.caa_base.specs.declared.entry.Kind.TheVariants as kind
 use Rattle.place_plan.specs.PlanValue.{Plan}
 use Rattle.place_plan.specs.Words.{member}
-use Rattle.place_plan.specs.Places.{roles_of, internal_of, handler_of}
-use Rattle.place_plan.specs.Entries.{is_in, is_by, has, has_by}
+use Rattle.place_plan.specs.Places.{roles_of, handler_of}
+use Rattle.place_plan.specs.Entries.{is_in, is_by, has}
 use Rattle.place_plan.specs.Whereabouts.{has_ended}
-use Rattle.place_plan.specs.Raising.{exceptions_raised, is_raised, newest_arg, exception_resolved, exception_handled, has_handled}
-use Rattle.place_plan.specs.Roles.{has_given_after, has_given, all_have_given, has_aborted, all_have_aborted}
-use Rattle.place_plan.specs.Rules.{Row, MayFollow}
+use Rattle.place_plan.specs.Raising.{is_raised, newest_arg, exception_resolved, exception_handled, has_handled}
+use Rattle.place_plan.specs.Roles.{has_given_after, has_given, all_have_given, has_aborted}
+use Rattle.place_plan.specs.Rules.{Row}
 use Rattle.place_plan.specs.Journals.{LegalPast}
 use Rattle.journal_laws.specs.Laws.{Holds, Splits, HandlesLeast, Answered, IsAnswered, ResolutionLaw}
 use Rattle.journal_laws.proofs.Playable.{IsPlayable}
