@@ -29,6 +29,7 @@ pub mod Over
 pub mod Exit
 pub mod Room
 pub mod Waiting
+pub mod LastLive
 pub mod FlatExit
 pub mod FlatLaws
 pub mod FlatLength
