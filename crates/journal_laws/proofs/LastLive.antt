@@ -55,10 +55,10 @@ none_is None h = refl
 none_is (Some x) h = absurd cc
 
 module _ (plan : Plan) (playable : IsPlayable plan) (past : List Entry) (legal : LegalPast plan past) (still : NothingDue plan past) (p : ℕ) (live : is_live past p ≡ true) (last : (q : ℕ) → p < q → is_live past q ≡ false) where
-  started : has_started past p ≡ true
+  pub started : has_started past p ≡ true
   started = (live_parts p past live).0
 
-  lasts : has_ended past p ≡ false
+  pub lasts : has_ended past p ≡ false
   lasts = (live_parts p past live).1
 
   -- ---- where its roles are
@@ -134,7 +134,7 @@ module _ (plan : Plan) (playable : IsPlayable plan) (past : List Entry) (legal :
 
   -- ---- something is due, whatever its phase
 
-  not_undoing : is_undoing past p ≡ true → ⊥
+  pub not_undoing : is_undoing past p ≡ true → ⊥
   not_undoing u = by_standing some_role.0 (stands some_role.0 some_role.1)
     where
       by_object : (t : ℕ) (o : Option ℕ) → due_restore plan past p t o ≡ None → ⊥
@@ -147,7 +147,7 @@ module _ (plan : Plan) (playable : IsPlayable plan) (past : List Entry) (legal :
           let busy = busy_inside plan playable.tree past legal t p r c.place (parent_round plan playable.tree r p c.up) in
           both_ways _ (going_parts past p busy.goes).kept u
 
-  not_doomed : is_undoing past p ≡ false → is_doomed plan past p ≡ true → ⊥
+  pub not_doomed : is_undoing past p ≡ false → is_doomed plan past p ≡ true → ⊥
   not_doomed u d =
       let all = all_from (has_aborted past p) (roles_of plan p) aborted in
       cc (rw (aborted some_role.0 some_role.1, all) at (due some_role.0 some_role.1))
@@ -217,7 +217,7 @@ module _ (plan : Plan) (playable : IsPlayable plan) (past : List Entry) (legal :
         all : all_have_given plan past p ≡ true
         all = all_from (has_given plan past p) (roles_of plan p) given
 
-    not_hot : ⊥
+    pub not_hot : ⊥
     not_hot = by_resolved (exception_resolved past p) refl
       where
         by_resolved : (o : Option ℕ) → exception_resolved past p ≡ o → ⊥

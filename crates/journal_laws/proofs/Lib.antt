@@ -30,6 +30,7 @@ pub mod Exit
 pub mod Room
 pub mod Waiting
 pub mod LastLive
+pub mod LastCalm
 pub mod FlatExit
 pub mod FlatLaws
 pub mod FlatLength
