@@ -31,6 +31,7 @@ pub mod Room
 pub mod Waiting
 pub mod LastLive
 pub mod LastCalm
+pub mod GoesOn
 pub mod FlatExit
 pub mod FlatLaws
 pub mod FlatLength
