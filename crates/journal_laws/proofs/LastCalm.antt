@@ -1,7 +1,6 @@
 -- The last of the live places, where it is calm: a step or a verdict is due in it, or all agree, or the least of the places that wait in
 -- it is full and starts.
-use Rattle.std.proofs.Common.{◌≡◌, ℕ, ◌==◌, ◌<◌, ◌≤◌, Bool, true, false, List, [], ◌∷◌, Some, None, Option, length, refl, sym, ap, ◌∙◌, subst, arith, slice_get, inl, inr, ◌⊎◌}
-use Rattle.std.specs.List.{list_all}
+use Rattle.std.proofs.Common.{◌≡◌, ℕ, ◌==◌, ◌<◌, ◌≤◌, true, false, List, [], ◌∷◌, Some, None, Option, length, refl, sym, ap, ◌∙◌, subst, arith, slice_get, inl, inr, ◌⊎◌}
 use Rattle.std.proofs.lemmas.Bool.{or_cases, or_left, or_right, eqb-true, eq-eqb, false≢true, cases_lt, cases_order, true_from_ne_false, both_ways, cond-false}
 use Rattle.std.proofs.lemmas.Option.{slice_get_within, slice_get-get_or}
 use Rattle.caa_base.specs.declared.entry.Entry.{Entry}
@@ -10,12 +9,12 @@ use Rattle.place_plan.specs.declared.rows.Step.{Step}
 use Rattle.place_plan.specs.declared.rows.Step.TheVariants as step
 use Rattle.place_plan.specs.PlanValue.{Plan}
 use Rattle.place_plan.specs.Words.{member, first_of, same_option}
-use Rattle.place_plan.specs.Places.{parent, roles_of, objects_of, uses, nest_number, body_of}
+use Rattle.place_plan.specs.Places.{parent, roles_of, objects_of, nest_number, body_of}
 use Rattle.place_plan.specs.Entries.{has_by}
-use Rattle.place_plan.specs.Whereabouts.{inside, is_inside, all_are_inside, has_started, has_ended, is_undoing, is_live}
+use Rattle.place_plan.specs.Whereabouts.{inside, is_inside, has_started, has_ended, is_undoing, is_live}
 use Rattle.place_plan.specs.Raising.{has_handled, is_raised, is_doomed, is_calm}
-use Rattle.place_plan.specs.Objects.{holder_of, objects_are_ready}
-use Rattle.place_plan.specs.Roles.{position, next_step, next_raise, has_given, all_have_given}
+use Rattle.place_plan.specs.Objects.{holder_of}
+use Rattle.place_plan.specs.Roles.{position, next_step, next_raise, has_given}
 use Rattle.place_plan.specs.Rules.{place_entered}
 use Rattle.place_plan.specs.Journals.{LegalPast}
 use Rattle.journal_laws.specs.Due.{due_hot, due_calm, due_body, due_forward, due_arrival}
@@ -25,7 +24,7 @@ use Rattle.journal_laws.proofs.Holding.{ended_started}
 use Rattle.journal_laws.proofs.Phases.{going_from, calm_from}
 use Rattle.journal_laws.proofs.Raised.{parent_round}
 use Rattle.journal_laws.proofs.Arrivals.{inside_arrived, inside_not_left, left_ended, parent_below}
-use Rattle.journal_laws.proofs.Uses.{Uses, AtStep, LeftAloud, body_step, calm_unhandled, uses_kept}
+use Rattle.journal_laws.proofs.Uses.{Uses, AtStep, body_step, calm_unhandled, uses_kept}
 use Rattle.journal_laws.proofs.Visited.{done}
 use Rattle.journal_laws.proofs.Room.{room, used_up}
 use Rattle.journal_laws.proofs.Waiting.{NothingDue, not_due, not_ready}
@@ -73,27 +72,39 @@ module _ (plan : Plan) (playable : IsPlayable plan) (past : List Entry) (legal :
 
       by_standing : Stands plan past p u → ((t : ℕ) → member t ts ≡ true → inside plan past t ≡ Some p) ⊎ ((r : ℕ) × IsLowest plan past p ts r) → ((t : ℕ) → member t (u ∷ ts) ≡ true → inside plan past t ≡ Some p) ⊎ ((r : ℕ) × IsLowest plan past p (u ∷ ts) r)
       by_standing (at_itself w) (inl all) = inl (each (λ t. inside plan past t ≡ Some p) w all)
-      by_standing (at_itself w) (inr (r, low)) = inr (r, record {
-        who = low.who;
-        waits = low.waits;
-        least = λ t s m. each (λ t. WaitsIn plan past p t s → r ≤ s) (λ c. absurd (not_both p u s w c)) (λ t n. low.least t s n) t m;
-      })
-      by_standing (at_child r c) (inl all) = inr (r, record {
-        who = u;
-        waits = c;
-        least = λ t s m. each (λ t. WaitsIn plan past p t s → r ≤ s) (λ d. let same = one_place p u r s c d in omega arith) (λ t n d. absurd (not_both p t s (all t n) d)) t m;
-      })
-      by_standing (at_child r c) (inr (q, low)) = elim (cases_lt r q) [
-        | inl l ↦ inr (r, record {
-          who = u;
-          waits = c;
-          least = λ t s m. each (λ t. WaitsIn plan past p t s → r ≤ s) (λ d. let same = one_place p u r s c d in omega arith) (λ t n d. let more = low.least t s n d in omega arith) t m;
-        })
-        | inr l ↦ inr (q, record {
+      by_standing (at_itself w) (inr (r, low)) = inr (
+        r,
+        record {
           who = low.who;
           waits = low.waits;
-          least = λ t s m. each (λ t. WaitsIn plan past p t s → q ≤ s) (λ d. let same = one_place p u r s c d in omega arith) (λ t n. low.least t s n) t m;
-        })
+          least = λ t s m. each (λ t. WaitsIn plan past p t s → r ≤ s) (λ c. absurd (not_both p u s w c)) (λ t n. low.least t s n) t m;
+        },
+      )
+      by_standing (at_child r c) (inl all) = inr (
+        r,
+        record {
+          who = u;
+          waits = c;
+          least = λ t s m. each (λ t. WaitsIn plan past p t s → r ≤ s) (λ d. let same = one_place p u r s c d in omega arith) (λ t n d. absurd (not_both p t s (all t n) d)) t m;
+        },
+      )
+      by_standing (at_child r c) (inr (q, low)) = elim (cases_lt r q) [
+        | inl l ↦ inr (
+          r,
+          record {
+            who = u;
+            waits = c;
+            least = λ t s m. each (λ t. WaitsIn plan past p t s → r ≤ s) (λ d. let same = one_place p u r s c d in omega arith) (λ t n d. let more = low.least t s n d in omega arith) t m;
+          },
+        )
+        | inr l ↦ inr (
+          q,
+          record {
+            who = low.who;
+            waits = low.waits;
+            least = λ t s m. each (λ t. WaitsIn plan past p t s → q ≤ s) (λ d. let same = one_place p u r s c d in omega arith) (λ t n. low.least t s n) t m;
+          },
+        )
       ]
 
 module _ (plan : Plan) (playable : IsPlayable plan) (past : List Entry) (legal : LegalPast plan past) (still : NothingDue plan past) (p : ℕ) (live : is_live past p ≡ true) (last : (q : ℕ) → p < q → is_live past q ≡ false) (kept : is_undoing past p ≡ false) (spared : is_doomed plan past p ≡ false) (cool : is_raised plan past p ≡ false) where

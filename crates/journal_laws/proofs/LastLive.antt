@@ -1,24 +1,24 @@
 -- The last of the live places: its roles are in it or wait right inside it, it holds its objects, and unless it is calm something is due
 -- to one of its roles.
-use Rattle.std.proofs.Common.{◌≡◌, ℕ, ◌==◌, ◌<◌, Bool, true, false, not, cond, ◌&&◌, ◌||◌, List, [], ◌∷◌, Some, None, Option, length, refl, sym, ap, ◌∙◌, subst, arith, slice_get, inl, inr, is_none}
-use Rattle.std.specs.List.{list_any, list_all}
-use Rattle.std.proofs.lemmas.Bool.{and_parts, or_cases, or_left, or_right, or_parts, eqb-true, eq-eqb, cases_Bool, false≢true, not-true, not-false, false_from_ne_true, true_from_ne_false, both_ways}
+use Rattle.std.proofs.Common.{◌≡◌, ℕ, ◌==◌, ◌<◌, Bool, true, false, not, cond, ◌||◌, List, [], ◌∷◌, Some, None, Option, length, refl, sym, ap, ◌∙◌, subst, arith, slice_get, inl, inr, is_none}
+use Rattle.std.specs.List.{list_any}
+use Rattle.std.proofs.lemmas.Bool.{or_cases, or_left, or_right, or_parts, eqb-true, eq-eqb, false≢true, not-false, true_from_ne_false, both_ways}
 use Rattle.caa_base.specs.declared.entry.Entry.{Entry}
 use Rattle.caa_base.specs.declared.entry.Kind.TheVariants as kind
 use Rattle.caa_base.specs.declared.entry.Verdict.TheVariants as verdict
 use Rattle.place_plan.specs.declared.rows.Step.{Step}
 use Rattle.place_plan.specs.declared.rows.Step.TheVariants as step
 use Rattle.place_plan.specs.PlanValue.{Plan}
-use Rattle.place_plan.specs.Words.{member, is_empty, first_of, same_option}
-use Rattle.place_plan.specs.Places.{around, parent, roles_of, objects_of, uses, internal_of, interface_of, handler_of}
+use Rattle.place_plan.specs.Words.{member, is_empty, first_of}
+use Rattle.place_plan.specs.Places.{around, parent, roles_of, uses, internal_of, interface_of, handler_of}
 use Rattle.place_plan.specs.Entries.{is_by}
 use Rattle.place_plan.specs.Whereabouts.{inside, is_inside, all_are_inside, has_started, has_ended, is_undoing, is_live}
 use Rattle.place_plan.specs.Raising.{has_handled, exceptions_raised, is_raised, is_doomed, is_halted, all_are_halted, exception_resolved, exception_handled}
 use Rattle.place_plan.specs.Objects.{holder_of, next_restore}
-use Rattle.place_plan.specs.Roles.{program_in, position, register, next_step, next_raise, raise_of, has_given, all_have_given, was_refused_in_handler, wants_undo, signals, has_aborted, all_have_aborted}
+use Rattle.place_plan.specs.Roles.{program_in, position, register, next_step, next_raise, raise_of, has_given, all_have_given, was_refused_in_handler, wants_undo, signals, has_aborted}
 use Rattle.place_plan.specs.Rules.{breaks_off}
 use Rattle.place_plan.specs.Journals.{LegalPast}
-use Rattle.journal_laws.specs.Due.{plainly, marked, verdict_entry, due_inside, due_restore, due_doomed, due_hot, due_halted, due_running, due_resolve, due_resolved, due_answer, due_handler, due_step, due_held, due_agreed, due_end, due_signal, least_of}
+use Rattle.journal_laws.specs.Due.{plainly, marked, verdict_entry, due_restore, due_doomed, due_hot, due_halted, due_running, due_answer, due_handler, due_step, due_held, due_agreed, due_end}
 use Rattle.journal_laws.proofs.Playable.{IsPlayable}
 use Rattle.place_plan.proofs.Words.{all_from, same_at}
 use Rattle.journal_laws.proofs.Kept.{live_parts, going_live}
@@ -26,7 +26,7 @@ use Rattle.journal_laws.proofs.Tree.{in_within, live_within}
 use Rattle.journal_laws.proofs.InnerFirst.{started_filled}
 use Rattle.journal_laws.proofs.Holding.{holds_within, holds_own}
 use Rattle.journal_laws.proofs.Newest.{stands_newest}
-use Rattle.journal_laws.proofs.Phases.{IsOpen, going_parts}
+use Rattle.journal_laws.proofs.Phases.{going_parts}
 use Rattle.journal_laws.proofs.Raised.{busy_inside, parent_round}
 use Rattle.journal_laws.proofs.LeastOf.{least_some}
 use Rattle.journal_laws.proofs.Ranges.{raised_in_range, signals_in_range}
