@@ -1,6 +1,7 @@
 pub mod Playable
 pub mod Core
 pub mod Phases
+pub mod Options
 pub mod Newest
 pub mod Raised
 pub mod Frozen
@@ -8,6 +9,10 @@ pub mod Said
 pub mod Resolution
 pub mod LeastOf
 pub mod Recovering
+pub mod DueOnly
+pub mod DueMay
+pub mod Due
+pub mod CoreKept
 pub mod Quiet
 pub mod Kept
 pub mod FlatOver

@@ -22,6 +22,7 @@ use Rattle.place_plan.proofs.Words.{all_at, at_same, chosen, first_not_fails, pl
 use Rattle.place_plan.proofs.Entries.{of_kind, both_same}
 use Rattle.journal_laws.proofs.Tree.{arrives_in}
 use Rattle.journal_laws.proofs.Busy.{IsBusy, AllBusy, all_busy, raised_stays}
+use Rattle.journal_laws.proofs.Options.{some_apart}
 use Rattle.journal_laws.proofs.Newest.{stands_newest, handling_handled}
 use Rattle.journal_laws.proofs.Phases.{calm_open, hot_open}
 
@@ -31,12 +32,6 @@ use Rattle.journal_laws.proofs.Phases.{calm_open, hot_open}
 pub all_up : (f g : ℕ → Bool) (xs : List ℕ) → ((x : ℕ) → f x ≡ true → g x ≡ true) → list_all f xs ≡ true → list_all g xs ≡ true
 all_up f g [] h w = refl
 all_up f g (x ∷ xs) h w = let parts = and_parts _ _ w in and_from _ _ (h x parts.0) (all_up f g xs h parts.1)
-
-pub some_apart : {A : Type 0} {x : A} → None ≡ Some x → ⊥
-some_apart h = cc
-
-pub some_same : {A : Type 0} {x y : A} → Some x ≡ Some y → x ≡ y
-some_same h = cc
 
 -- an entry that halts its maker raises, too
 halting_raises : (b c d : Bool) (x : ℕ) (ys : List ℕ) → (d ≡ true → not (is_empty ys) ≡ true) → (b && c) || d ≡ true → not (is_empty (cond b (x ∷ []) [] ++ ys)) ≡ true

@@ -19,7 +19,8 @@ use Rattle.place_plan.proofs.Words.{all_at}
 use Rattle.journal_laws.proofs.Busy.{abort_doomed}
 use Rattle.journal_laws.proofs.Newest.{stands_newest, newest_none, handling_handled, given_resolved}
 use Rattle.journal_laws.proofs.Phases.{IsOpen, calm_open, hot_open}
-use Rattle.journal_laws.proofs.Raised.{role_inside, some_same}
+use Rattle.journal_laws.proofs.Options.{some_same}
+use Rattle.journal_laws.proofs.Raised.{role_inside}
 
 -- t is in its handler for what p is resolved to
 pub record InHandler (plan : Plan) (past : List Entry) (p t : ℕ) : Type 0 where

@@ -22,8 +22,9 @@ use Rattle.place_plan.proofs.Words.{all_at}
 use Rattle.place_plan.proofs.Entries.{of_kind}
 use Rattle.journal_laws.proofs.InnerFirst.{legal_rest, started_filled}
 use Rattle.journal_laws.proofs.Holding.{ended_started}
+use Rattle.journal_laws.proofs.Arrivals.{one_has}
 use Rattle.journal_laws.proofs.Newest.{stands_newest, given_resolved}
-use Rattle.journal_laws.proofs.Raised.{some_apart, some_same}
+use Rattle.journal_laws.proofs.Options.{some_apart, some_same}
 
 -- ---- the resolved exception stays
 
@@ -47,15 +48,6 @@ newest_says test (e ∷ past) x h = by_test (test e) h (newest_says test past x)
     by_test : (b : Bool) → cond b (Some e.arg) (newest_arg test past) ≡ Some x → (newest_arg test past ≡ Some x → list_any (λ e. test e && (e.arg == x)) past ≡ true) → (b && (e.arg == x)) || list_any (λ e. test e && (e.arg == x)) past ≡ true
     by_test true h ih = or_left _ _ (eq-eqb e.arg x (some_same h))
     by_test false h ih = ih h
-
--- what t has made in p stands in p
-by_stands : (k : Kind) (p t : ℕ) (past : List Entry) → has_by k past p t ≡ true → has k past p ≡ true
-by_stands k p t [] h = absurd (false≢true h)
-by_stands k p t (e ∷ past) h = two (is_in k p e) (e.by == t) h (by_stands k p t past)
-  where
-    two : (b c : Bool) → (b && c) || has_by k past p t ≡ true → (has_by k past p t ≡ true → has k past p ≡ true) → b || has k past p ≡ true
-    two true c h ih = refl
-    two false c h ih = ih h
 
 module _ (plan : Plan) (playable : IsPlayable plan) (core : Holds Core plan) where
   -- ---- what is handled
@@ -85,7 +77,7 @@ module _ (plan : Plan) (playable : IsPlayable plan) (core : Holds Core plan) whe
       | inr s ↦ s.1
       | inl x ↦
           let some = started_filled plan playable.tree past legal p (ended_started plan playable.tree past legal p w) in
-          absurd (both_ways _ a (by_stands kind.Abort p some.0 past (all_at (has_aborted past p) (roles_of plan p) some.0 x some.1)))
+          absurd (both_ways _ a (one_has kind.Abort past p some.0 (all_at (has_aborted past p) (roles_of plan p) some.0 x some.1)))
     ]
   ]
 

@@ -23,7 +23,8 @@ use Rattle.place_plan.proofs.Words.{chosen}
 use Rattle.journal_laws.proofs.Busy.{abort_doomed}
 use Rattle.journal_laws.proofs.Newest.{newest_stands, stands_newest, given_resolved}
 use Rattle.journal_laws.proofs.Phases.{not_calm}
-use Rattle.journal_laws.proofs.Raised.{raises, some_apart, some_same}
+use Rattle.journal_laws.proofs.Options.{some_apart, some_same}
+use Rattle.journal_laws.proofs.Raised.{raises}
 use Rattle.journal_laws.proofs.Frozen.{IsFrozen, frozen, frozen_given, frozen_wants, unaborted, no_abort, stopped_shut}
 
 -- ---- verdicts
