@@ -33,3 +33,6 @@ pub mod Versions
 pub mod Effects
 pub mod Ranges
 pub mod WellFormed
+pub mod Costs
+pub mod Walked
+pub mod LengthLaw
