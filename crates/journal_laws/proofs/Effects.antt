@@ -26,8 +26,8 @@ use Rattle.journal_laws.proofs.Holding.{live_uses, holds_within}
 use Rattle.journal_laws.proofs.InnerFirst.{legal_rest, started_filled}
 use Rattle.journal_laws.proofs.Innermost.{within_itself}
 use Rattle.journal_laws.proofs.Tried.{count_next, tries}
-use Rattle.journal_laws.proofs.Outcome.{outcomes, counted_any, small_mark}
-use Rattle.journal_laws.proofs.Going.{put_going}
+use Rattle.journal_laws.proofs.Outcome.{outcomes, counted_any, undone_marks, agreed_mark, below_two}
+use Rattle.journal_laws.proofs.Makers.{put_going}
 use Rattle.journal_laws.proofs.Over.{over_outside}
 
 -- ---- lists
@@ -165,8 +165,8 @@ end_row plan past _ e q h w = absurd (false≢true w)
 
 -- ---- what a write comes to
 
-below_two : (n : ℕ) → n < 2 → (n == 0) ≡ false → (n == 1) ≡ false → ⊥
-below_two n l a b = elim (cases_eq n 0) [ inl x ↦ eqb-false n 0 a x | inr x ↦ eqb-false n 1 b (omega arith) ]
+kept_marked : (mark : ℕ) → mark < 2 → (mark == 0) || (mark == 1) ≡ true
+kept_marked mark l = elim (cases_eq mark 0) [ inl x ↦ or_left _ _ (eq-eqb mark 0 x) | inr x ↦ or_right _ _ (eq-eqb mark 1 (omega arith)) ]
 
 -- the marks of an End
 abbrev Marks : ℕ → Type 0
@@ -175,14 +175,9 @@ Marks mark = (mark < 2) ⊎ (((mark ≡ 2) ⊎ (mark ≡ 3)) ⊎ (mark ≡ 4))
 end_marks : (plan : Plan) (past : List Entry) (e : Entry) → MayEnd plan past e → Marks e.mark
 end_marks plan past e h = by_undo (is_undoing past e.place) h.how
   where
-    by_mark : (b c : Bool) → e.mark ≡ cond b 4 (cond c 3 2) → Marks e.mark
-    by_mark true c m = inr (inr m)
-    by_mark false true m = inr (inl (inr m))
-    by_mark false false m = inr (inl (inl m))
-
     by_undo : (b : Bool) → MatchBool b (EndsUndone plan past e) (EndsAgreed plan past e) → Marks e.mark
-    by_undo true h = by_mark (has_failed past e.place) (has kind.Abort past e.place) h.mark
-    by_undo false h = inl (small_mark plan e (signals past e.place (roles_of plan e.place)) h.outcome)
+    by_undo true h = elim (undone_marks past e.place e.mark h.mark) [ inl x ↦ inr (inl x) | inr x ↦ inr (inr x.0) ]
+    by_undo false h = inl (agreed_mark plan e (signals past e.place (roles_of plan e.place)) h.outcome)
 
 ended_marks : (plan : Plan) (past : List Entry) (q : ℕ) (f : Entry) → LegalPast plan past → newest (is_in kind.End q) past ≡ Some f → Marks f.mark
 ended_marks plan past q f legal w =
@@ -219,7 +214,7 @@ module _ (plan : Plan) (playable : IsPlayable plan) where
       any_implied (is_restore q o 0) (restores_round plan o e.place) later (λ f. restore_round plan o e.place q f round) (in_later goes.kept here.0 (list_any-append (is_restore q o 0) later (e ∷ before)) (subst (λ es. list_any (is_restore q o 0) es ≡ true) split restored))
     where
       well_restored : (f : Entry) → RestoresFit plan past q f.mark → uses plan q o ≡ true → is_kept_mark (Some f) ≡ false → Marks f.mark → list_any (is_restore q o 0) past ≡ true
-      well_restored f fits used lost (inl low) = absurd (let parts = or_parts (f.mark == 0) (f.mark == 1) lost in below_two f.mark low parts.0 parts.1)
+      well_restored f fits used lost (inl low) = absurd (both_ways _ lost (kept_marked f.mark low))
       well_restored f fits used lost (inr (inl well)) = fits.undone well o used
       well_restored f fits used lost (inr (inr bad)) = counted_any (is_restore q o 0) past (λ z. omega (arith, z, none_failed past q o whole, fits.tried bad o used))
 
@@ -237,7 +232,7 @@ module _ (plan : Plan) (playable : IsPlayable plan) where
   kept_whole : (past : List Entry) (q : ℕ) (f : Option Entry) → LegalPast plan past → newest (is_in kind.End q) past ≡ f → is_kept_mark f ≡ true → has kind.Restore past q ≡ false
   kept_whole past q None legal w k = absurd (false≢true k)
   kept_whole past q (Some f) legal w k =
-      (outcomes plan past legal q f w).kept (elim (or_cases (f.mark == 0) (f.mark == 1) k) [ inl x ↦ omega (arith, eqb-true f.mark 0 x) | inr x ↦ omega (arith, eqb-true f.mark 1 x) ])
+      (outcomes plan past legal q f w).kept (below_two f.mark k)
 
   -- a write is kept as long as no later restore undoes it
   kept_or_undone : (past : List Entry) (o : ℕ) → LegalPast plan past → AllOver plan past → has_failed_restore past o ≡ false → (later before : List Entry) (e : Entry) → Splits past later e before → writes o e ≡ true → is_kept plan past e.place ≡ not (list_any (restores_round plan o e.place) later)

@@ -28,7 +28,7 @@ pub mod FlatLength
 pub mod LawsKept
 pub mod Tried
 pub mod Outcome
-pub mod Going
+pub mod Makers
 pub mod Versions
 pub mod Effects
 pub mod Ranges

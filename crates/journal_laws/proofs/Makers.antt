@@ -1,4 +1,4 @@
--- Who may put an object in a place finds that place, and each place round it, going on.
+-- The maker of an entry has a role in its place, and who puts an object there finds it, and each place round it, going on.
 use Rattle.std.proofs.Common.{◌≡◌, ℕ, ◌==◌, Bool, true, false, not, ◌&&◌, ◌||◌, List, ◌∷◌, Some, refl, sym, subst, inl, inr}
 use Rattle.std.proofs.lemmas.Bool.{and_parts, or_cases, or_left, or_right, eqb-true, eq-eqb}
 use Rattle.caa_base.specs.declared.entry.Entry.{Entry}
