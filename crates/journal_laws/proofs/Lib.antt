@@ -43,8 +43,11 @@ pub mod FlatLength
 pub mod LawsKept
 pub mod Tried
 pub mod Outcome
-pub mod Going
+pub mod Makers
 pub mod Versions
 pub mod Effects
 pub mod Ranges
 pub mod WellFormed
+pub mod Costs
+pub mod Walked
+pub mod LengthLaw
