@@ -21,13 +21,14 @@ use Rattle.journal_laws.proofs.Core.{Tries}
 use Rattle.place_plan.proofs.Words.{chosen, all_at}
 use Rattle.place_plan.proofs.Entries.{of_kind, both_same, from_both}
 use Rattle.journal_laws.proofs.Tree.{in_within, live_within}
-use Rattle.journal_laws.proofs.Busy.{live_of}
+use Rattle.journal_laws.proofs.Phases.{going_parts}
 use Rattle.journal_laws.proofs.Holding.{live_uses, holds_within}
 use Rattle.journal_laws.proofs.InnerFirst.{legal_rest, started_filled}
 use Rattle.journal_laws.proofs.Innermost.{within_itself}
 use Rattle.journal_laws.proofs.Tried.{count_next, tries}
-use Rattle.journal_laws.proofs.Outcome.{outcomes, counted_any, small_mark}
-use Rattle.journal_laws.proofs.Going.{put_going}
+use Rattle.journal_laws.proofs.Outcome.{outcomes, counted_any, undone_marks, agreed_mark, below_two}
+use Rattle.journal_laws.proofs.Makers.{put_going}
+use Rattle.journal_laws.proofs.Over.{over_outside}
 
 -- ---- lists
 
@@ -38,17 +39,17 @@ pub record Stands (test : Entry → Bool) (past : List Entry) (e : Entry) : Type
   pub split : Splits past later e before
   pub passes : test e ≡ true
 
-stands_deeper : (test : Entry → Bool) (past : List Entry) (e f : Entry) → Stands test past f → Stands test (e ∷ past) f
-stands_deeper test past e f s = record { later = e ∷ s.later; before = s.before; split = ap (λ es. e ∷ es) s.split; passes = s.passes }
+deeper_in : (test : Entry → Bool) (past : List Entry) (e f : Entry) → Stands test past f → Stands test (e ∷ past) f
+deeper_in test past e f s = record { later = e ∷ s.later; before = s.before; split = ap (λ es. e ∷ es) s.split; passes = s.passes }
 
-pub newest_stands : (test : Entry → Bool) (past : List Entry) (f : Entry) → newest test past ≡ Some f → Stands test past f
-newest_stands test [] f w = absurd cc
-newest_stands test (e ∷ past) f w =
+pub newest_in : (test : Entry → Bool) (past : List Entry) (f : Entry) → newest test past ≡ Some f → Stands test past f
+newest_in test [] f w = absurd cc
+newest_in test (e ∷ past) f w =
     elim (chosen (test e) (Some e) (newest test past) (Some f) w) [
       | inl x ↦
           let same : e ≡ f = cc in
           record { later = []; before = past; split = ap (λ g. g ∷ past) same; passes = subst (λ g. test g ≡ true) same x.0 }
-      | inr x ↦ stands_deeper test past e f (newest_stands test past f x.1)
+      | inr x ↦ deeper_in test past e f (newest_in test past f x.1)
     ]
 
 -- one that passes is the newest of some
@@ -164,8 +165,8 @@ end_row plan past _ e q h w = absurd (false≢true w)
 
 -- ---- what a write comes to
 
-below_two : (n : ℕ) → n < 2 → (n == 0) ≡ false → (n == 1) ≡ false → ⊥
-below_two n l a b = elim (cases_eq n 0) [ inl x ↦ eqb-false n 0 a x | inr x ↦ eqb-false n 1 b (omega arith) ]
+kept_marked : (mark : ℕ) → mark < 2 → (mark == 0) || (mark == 1) ≡ true
+kept_marked mark l = elim (cases_eq mark 0) [ inl x ↦ or_left _ _ (eq-eqb mark 0 x) | inr x ↦ or_right _ _ (eq-eqb mark 1 (omega arith)) ]
 
 -- the marks of an End
 abbrev Marks : ℕ → Type 0
@@ -174,27 +175,22 @@ Marks mark = (mark < 2) ⊎ (((mark ≡ 2) ⊎ (mark ≡ 3)) ⊎ (mark ≡ 4))
 end_marks : (plan : Plan) (past : List Entry) (e : Entry) → MayEnd plan past e → Marks e.mark
 end_marks plan past e h = by_undo (is_undoing past e.place) h.how
   where
-    by_mark : (b c : Bool) → e.mark ≡ cond b 4 (cond c 3 2) → Marks e.mark
-    by_mark true c m = inr (inr m)
-    by_mark false true m = inr (inl (inr m))
-    by_mark false false m = inr (inl (inl m))
-
     by_undo : (b : Bool) → MatchBool b (EndsUndone plan past e) (EndsAgreed plan past e) → Marks e.mark
-    by_undo true h = by_mark (has_failed past e.place) (has kind.Abort past e.place) h.mark
-    by_undo false h = inl (small_mark plan e (signals past e.place (roles_of plan e.place)) h.outcome)
+    by_undo true h = elim (undone_marks past e.place e.mark h.mark) [ inl x ↦ inr (inl x) | inr x ↦ inr (inr x.0) ]
+    by_undo false h = inl (agreed_mark plan e (signals past e.place (roles_of plan e.place)) h.outcome)
 
 ended_marks : (plan : Plan) (past : List Entry) (q : ℕ) (f : Entry) → LegalPast plan past → newest (is_in kind.End q) past ≡ Some f → Marks f.mark
 ended_marks plan past q f legal w =
-    let s = newest_stands (is_in kind.End q) past f w in
+    let s = newest_in (is_in kind.End q) past f w in
     let here = legal_rest plan s.later (f ∷ s.before) (subst (LegalPast plan) s.split legal) in
     end_marks plan s.before (of_kind kind.End f) (end_row plan s.before f.kind f q here.1 s.passes)
 
-module _ (plan : Plan) (playable : IsPlayable plan) (over_outside : (past : List Entry) → LegalPast plan past → (t : ℕ) → is_over plan past t ≡ true → inside plan past t ≡ None) where
+module _ (plan : Plan) (playable : IsPlayable plan) where
   -- in a complete journal, what has started has ended
   pub all_ended : (past : List Entry) → LegalPast plan past → AllOver plan past → (q : ℕ) → has_started past q ≡ true → has_ended past q ≡ true
   all_ended past legal over q s = true_from_ne_false _ (λ lasts.
       let some = started_filled plan playable.tree past legal q s in
-      let out = over_outside past legal some.0 (over some.0 (playable.known q some.0 some.1)) in
+      let out = over_outside plan playable past legal some.0 (over some.0 (playable.known q some.0 some.1)) in
       let deep : in_within plan None q ≡ true = subst (λ o. in_within plan o q ≡ true) out (live_within plan playable.tree past legal some.0 q some.1 s lasts) in
       false≢true deep)
 
@@ -209,16 +205,16 @@ module _ (plan : Plan) (playable : IsPlayable plan) (over_outside : (past : List
   undone_after past later before e o q legal over whole split w round lost =
       let here = legal_rest plan later (e ∷ before) (subst (LegalPast plan) split legal) in
       let put = write_row plan before e.kind e o here.1 w in
-      let goes = live_of plan playable.tree q before (put_going plan playable.tree before (of_kind kind.Write e) q here.0 put.0 round) in
-      let started : has_started past q ≡ true = subst (λ es. has_started es q ≡ true) (sym split) (any_later (is_in kind.Start q) later (e ∷ before) (or_right _ _ goes.0)) in
+      let goes = going_parts before q (put_going plan playable.tree before (of_kind kind.Write e) q here.0 put.0 round) in
+      let started : has_started past q ≡ true = subst (λ es. has_started es q ≡ true) (sym split) (any_later (is_in kind.Start q) later (e ∷ before) (or_right _ _ goes.started)) in
       let ended = any_newest (is_in kind.End q) past (all_ended past legal over q started) in
       let used = uses_round before (of_kind kind.Write e) o q here.0 (subst (λ a. holder_of plan before a ≡ Some e.place) put.1 put.0.holds) round in
       let fits = outcomes plan past legal q ended.0 ended.1 in
       let restored = well_restored ended.0 fits used (subst (λ x. is_kept_mark x ≡ false) ended.1 lost) (ended_marks plan past q ended.0 legal ended.1) in
-      any_implied (is_restore q o 0) (restores_round plan o e.place) later (λ f. restore_round plan o e.place q f round) (in_later goes.2 here.0 (list_any-append (is_restore q o 0) later (e ∷ before)) (subst (λ es. list_any (is_restore q o 0) es ≡ true) split restored))
+      any_implied (is_restore q o 0) (restores_round plan o e.place) later (λ f. restore_round plan o e.place q f round) (in_later goes.kept here.0 (list_any-append (is_restore q o 0) later (e ∷ before)) (subst (λ es. list_any (is_restore q o 0) es ≡ true) split restored))
     where
       well_restored : (f : Entry) → RestoresFit plan past q f.mark → uses plan q o ≡ true → is_kept_mark (Some f) ≡ false → Marks f.mark → list_any (is_restore q o 0) past ≡ true
-      well_restored f fits used lost (inl low) = absurd (let parts = or_parts (f.mark == 0) (f.mark == 1) lost in below_two f.mark low parts.0 parts.1)
+      well_restored f fits used lost (inl low) = absurd (both_ways _ lost (kept_marked f.mark low))
       well_restored f fits used lost (inr (inl well)) = fits.undone well o used
       well_restored f fits used lost (inr (inr bad)) = counted_any (is_restore q o 0) past (λ z. omega (arith, z, none_failed past q o whole, fits.tried bad o used))
 
@@ -236,7 +232,7 @@ module _ (plan : Plan) (playable : IsPlayable plan) (over_outside : (past : List
   kept_whole : (past : List Entry) (q : ℕ) (f : Option Entry) → LegalPast plan past → newest (is_in kind.End q) past ≡ f → is_kept_mark f ≡ true → has kind.Restore past q ≡ false
   kept_whole past q None legal w k = absurd (false≢true k)
   kept_whole past q (Some f) legal w k =
-      (outcomes plan past legal q f w).kept (elim (or_cases (f.mark == 0) (f.mark == 1) k) [ inl x ↦ omega (arith, eqb-true f.mark 0 x) | inr x ↦ omega (arith, eqb-true f.mark 1 x) ])
+      (outcomes plan past legal q f w).kept (below_two f.mark k)
 
   -- a write is kept as long as no later restore undoes it
   kept_or_undone : (past : List Entry) (o : ℕ) → LegalPast plan past → AllOver plan past → has_failed_restore past o ≡ false → (later before : List Entry) (e : Entry) → Splits past later e before → writes o e ≡ true → is_kept plan past e.place ≡ not (list_any (restores_round plan o e.place) later)
@@ -255,5 +251,5 @@ module _ (plan : Plan) (playable : IsPlayable plan) (over_outside : (past : List
   effect past legal over o whole = value_tested plan o (λ e. is_kept plan past e.place) past (kept_or_undone past o legal over whole) [] past [] refl (λ p. refl)
 
 -- effect law
-pub effects : (plan : Plan) → IsPlayable plan → ((past : List Entry) → LegalPast plan past → (t : ℕ) → is_over plan past t ≡ true → inside plan past t ≡ None) → Holds EffectLaw plan
-effects plan playable over_outside past legal = effect plan playable over_outside past legal
+pub effects : (plan : Plan) → IsPlayable plan → Holds EffectLaw plan
+effects plan playable past legal = effect plan playable past legal

@@ -42,31 +42,38 @@ counted_any test (e ∷ past) h = by_test (test e) refl (counted_any test past)
 
 -- ---- marks
 
+-- the mark of an undo says that it went well, that the roles gave up, or that it failed
+pub undone_marks : (past : List Entry) (p mark : ℕ) → mark ≡ undone_mark past p → ((mark ≡ 2) ⊎ (mark ≡ 3)) ⊎ ((mark ≡ 4) × (has_failed past p ≡ true))
+undone_marks past p mark m = by_failure (has_failed past p) (has kind.Abort past p) refl m
+  where
+    by_failure : (b c : Bool) → has_failed past p ≡ b → mark ≡ cond b 4 (cond c 3 2) → ((mark ≡ 2) ⊎ (mark ≡ 3)) ⊎ ((mark ≡ 4) × (has_failed past p ≡ true))
+    by_failure true c f m = inr (m, f)
+    by_failure false true f m = inl (inr m)
+    by_failure false false f m = inl (inl m)
+
+unfailed_mark : (past : List Entry) (p mark : ℕ) → mark ≡ undone_mark past p → (mark ≡ 2) ⊎ (mark ≡ 3) → has_failed past p ≡ false
+unfailed_mark past p mark m well = by_failure (has_failed past p) m
+  where
+    by_failure : (b : Bool) → mark ≡ cond b 4 (cond (has kind.Abort past p) 3 2) → b ≡ false
+    by_failure true m = absurd (elim well [ inl x ↦ omega arith | inr x ↦ omega arith ])
+    by_failure false m = refl
+
 -- what an undo says of its restores
 fits_undone : (plan : Plan) (past : List Entry) (p mark : ℕ) → Tries plan past → ((o : ℕ) → uses plan p o ≡ true → is_tried past p o ≡ true) → mark ≡ undone_mark past p → RestoresFit plan past p mark
-fits_undone plan past p mark t all same = by_failure (has_failed past p) (has kind.Abort past p) refl same
-  where
-    by_failure : (b c : Bool) → has_failed past p ≡ b → mark ≡ cond b 4 (cond c 3 2) → RestoresFit plan past p mark
-    by_failure true c f m = record {
-      kept = λ l. absurd (omega arith);
-      undone = λ l. absurd (elim l [ inl x ↦ omega arith | inr x ↦ omega arith ]);
-      tried = λ l o u. (t.once p o).0 (all o u);
-      refused = λ l. f;
-    }
-    by_failure false c f m = record {
-      kept = λ l. absurd (below c m l);
-      undone = λ l o u. counted_any (is_restore p o 0) past (λ z. omega (arith, z, t.failed p o f, (t.once p o).0 (all o u)));
-      tried = λ l. absurd (apart c m l);
-      refused = λ l. absurd (apart c m l);
-    }
-      where
-        below : (c : Bool) → mark ≡ cond c 3 2 → mark < 2 → ⊥
-        below true m l = omega arith
-        below false m l = omega arith
-
-        apart : (c : Bool) → mark ≡ cond c 3 2 → mark ≡ 4 → ⊥
-        apart true m l = omega arith
-        apart false m l = omega arith
+fits_undone plan past p mark t all m = record {
+  kept = λ l. absurd (elim (undone_marks past p mark m) [
+    | inl (inl x) ↦ omega arith
+    | inl (inr x) ↦ omega arith
+    | inr x ↦ omega (arith, x.0)
+  ]);
+  undone = λ well o u. counted_any (is_restore p o 0) past (λ z. omega (arith, z, t.failed p o (unfailed_mark past p mark m well), (t.once p o).0 (all o u)));
+  tried = λ four o u. (t.once p o).0 (all o u);
+  refused = λ four. elim (undone_marks past p mark m) [
+    | inl (inl x) ↦ absurd (omega arith)
+    | inl (inr x) ↦ absurd (omega arith)
+    | inr x ↦ x.1
+  ];
+}
 
 -- what an agreement says of them
 fits_agreed : (plan : Plan) (past : List Entry) (p mark : ℕ) → has kind.Restore past p ≡ false → mark < 2 → RestoresFit plan past p mark
@@ -77,9 +84,13 @@ fits_agreed plan past p mark none small = record {
   refused = λ l. absurd (omega arith);
 }
 
-pub small_mark : (plan : Plan) (e : Entry) (xs : List ℕ) → SignalsLeast plan e xs → e.mark < 2
-small_mark plan e [] h = rw h.0 (omega arith)
-small_mark plan e (x ∷ xs) h = rw h.0 (omega arith)
+-- the mark of an agreement is 0 or 1
+pub agreed_mark : (plan : Plan) (e : Entry) (xs : List ℕ) → SignalsLeast plan e xs → e.mark < 2
+agreed_mark plan e [] h = rw h.0 (omega arith)
+agreed_mark plan e (x ∷ xs) h = rw h.0 (omega arith)
+
+pub below_two : (mark : ℕ) → (mark == 0) || (mark == 1) ≡ true → mark < 2
+below_two mark h = elim (or_cases (mark == 0) (mark == 1) h) [ inl x ↦ omega (arith, eqb-true mark 0 x) | inr x ↦ omega (arith, eqb-true mark 1 x) ]
 
 -- an entry that restores nothing in p leaves its restores as they are
 fits_on : (plan : Plan) (past : List Entry) (e : Entry) (p mark : ℕ) → is_in kind.Restore p e ≡ false → RestoresFit plan past p mark → RestoresFit plan (e ∷ past) p mark
@@ -99,7 +110,7 @@ module _ (plan : Plan) where
 
       by_undo : (b : Bool) → is_undoing past e.place ≡ b → MatchBool b (EndsUndone plan past e) (EndsAgreed plan past e) → RestoresFit plan past e.place e.mark
       by_undo true u h = fits_undone plan past e.place e.mark t (λ o u. first_not_none (is_tried past e.place) (objects_of plan e.place) o h.all_tried u) h.mark
-      by_undo false u h = fits_agreed plan past e.place e.mark (false_from_ne_true _ (λ w. both_ways _ u (t.undone e.place w))) (small_mark plan e (signals past e.place (roles_of plan e.place)) h.outcome)
+      by_undo false u h = fits_agreed plan past e.place e.mark (false_from_ne_true _ (λ w. both_ways _ u (t.undone e.place w))) (agreed_mark plan e (signals past e.place (roles_of plan e.place)) h.outcome)
 
   outcome_by : (past : List Entry) (k : Kind) (e : Entry) → LegalPast plan past → OutcomeLaw plan past → Row k plan past (of_kind k e) → OutcomeLaw plan (of_kind k e ∷ past)
   outcome_by past kind.End e legal ih h p f w =

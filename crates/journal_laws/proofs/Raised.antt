@@ -62,7 +62,7 @@ plain_calm plan past p t core r = (
 )
 
 -- a put that is refused before a handler finds nothing raised
-unhandled_fault : (plan : Plan) (past : List Entry) (t p : ℕ) → is_raised plan past p ≡ true → has_handled past p t ≡ false → is_able plan past p t ≡ true → ⊥
+pub unhandled_fault : (plan : Plan) (past : List Entry) (t p : ℕ) → is_raised plan past p ≡ true → has_handled past p t ≡ false → is_able plan past p t ≡ true → ⊥
 unhandled_fault plan past t p r f h = elim (or_cases (is_calm plan past p && not (has_given plan past p t)) (is_hot plan past p && is_in_handler past p t) h) [
   | inl w ↦ both_ways _ (calm_open plan past p (and_parts (is_calm plan past p) _ w).0).1 r
   | inr w ↦ both_ways _ f (handling_handled p t past (and_parts (is_handling past p t) (not (was_refused_in_handler past p t)) (and_parts (is_hot plan past p) (is_in_handler past p t) w).1).0)

@@ -33,7 +33,7 @@ use Rattle.cover_table.specs.Cover.{CoverOrder}
 use Rattle.journal_laws.proofs.Playable.{IsPlayable}
 use Rattle.place_plan.proofs.Words.{chosen, at_same}
 use Rattle.place_plan.proofs.Entries.{of_kind}
-use Rattle.journal_laws.proofs.Going.{maker_role}
+use Rattle.journal_laws.proofs.Makers.{maker_role}
 
 -- ---- values
 

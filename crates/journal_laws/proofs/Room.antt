@@ -1,12 +1,12 @@
 -- A use has room: who is at its enter step finds an alternate in which it has not arrived. And once somebody has left a use aloud, the
 -- alternates in which anybody has arrived have ended.
-use Rattle.std.proofs.Common.{◌≡◌, ℕ, ◌==◌, ◌<◌, ◌≤◌, Bool, true, false, not, cond, ◌&&◌, List, [], ◌∷◌, Some, None, Option, refl, sym, ap, ◌∙◌, subst, arith, suc, inl, inr, ◌⊎◌, is_none}
-use Rattle.std.proofs.lemmas.Bool.{and_parts, or_left, eq-eqb, eqb-true, cases_Bool, cases_order, false≢true, false_from_ne_true, both_ways}
+use Rattle.std.proofs.Common.{◌≡◌, ℕ, ◌==◌, Bool, true, false, not, cond, List, [], ◌∷◌, Some, None, refl, sym, ap, ◌∙◌, subst, arith, suc, inl, inr, is_none}
+use Rattle.std.proofs.lemmas.Bool.{and_parts, eqb-true, cases_order, false≢true, false_from_ne_true, both_ways}
 use Rattle.caa_base.specs.declared.entry.Entry.{Entry}
 use Rattle.caa_base.specs.declared.entry.Kind.TheVariants as kind
 use Rattle.place_plan.specs.declared.rows.Step.TheVariants as step
 use Rattle.place_plan.specs.PlanValue.{Plan}
-use Rattle.place_plan.specs.Words.{member, is_empty, first_of, next_after, last_or, last_of, Rises}
+use Rattle.place_plan.specs.Words.{is_empty, first_of, next_after, last_or, last_of, Rises}
 use Rattle.place_plan.specs.Places.{parent, alternates_of, nest_number, next_in, next_alternate}
 use Rattle.place_plan.specs.Entries.{has_by, is_in, newest}
 use Rattle.place_plan.specs.Whereabouts.{inside, has_ended, is_undone, is_left_in_silence}

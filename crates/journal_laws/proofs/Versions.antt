@@ -23,7 +23,7 @@ use Rattle.journal_laws.proofs.Tree.{in_within}
 use Rattle.journal_laws.proofs.Busy.{live_of}
 use Rattle.journal_laws.proofs.Holding.{live_uses, holds_within, undoing_started}
 use Rattle.journal_laws.proofs.Isolation.{isolation}
-use Rattle.journal_laws.proofs.Going.{within_through, put_going}
+use Rattle.journal_laws.proofs.Makers.{within_through, put_going}
 
 -- ---- lists
 

@@ -1,6 +1,6 @@
 -- What every legal past keeps of visits, and that who has given its verdict has done its body.
-use Rattle.std.proofs.Common.{◌≡◌, ℕ, ◌==◌, ◌<◌, Bool, true, false, not, cond, ◌&&◌, ◌||◌, List, [], ◌∷◌, Some, None, Option, refl, sym, ap, ◌∙◌, subst, subst₂, arith, inl, inr, ◌⊎◌, MatchOption, is_none, suc, slice_get}
-use Rattle.std.proofs.lemmas.Bool.{and_parts, or_cases, or_left, or_right, or_parts, eqb-true, eq-eqb, false≢true, cases_Bool, both_ways, not-true, and_right, false_from_ne_true}
+use Rattle.std.proofs.Common.{◌≡◌, ℕ, ◌==◌, ◌<◌, Bool, true, false, not, cond, ◌&&◌, List, [], ◌∷◌, Some, None, Option, refl, sym, ap, ◌∙◌, subst, subst₂, inl, inr, MatchOption, is_none, suc, slice_get}
+use Rattle.std.proofs.lemmas.Bool.{and_parts, or_cases, or_right, eqb-true, false≢true, cases_Bool, both_ways, not-true, false_from_ne_true}
 use Rattle.caa_base.specs.declared.entry.Entry.{Entry}
 use Rattle.caa_base.specs.declared.entry.Kind.{Kind}
 use Rattle.caa_base.specs.declared.entry.Kind.TheVariants as kind
@@ -10,15 +10,15 @@ use Rattle.place_plan.specs.PlanValue.{Plan}
 use Rattle.place_plan.specs.Words.{member, is_at}
 use Rattle.place_plan.specs.Places.{around, parent, roles_of, plays_of}
 use Rattle.place_plan.specs.Entries.{has_by}
-use Rattle.place_plan.specs.Whereabouts.{inside, is_going, is_left_in_silence}
-use Rattle.place_plan.specs.Raising.{has_handled, is_raised, is_doomed, is_calm, is_hot}
-use Rattle.place_plan.specs.Roles.{program_of, position, next_step, has_given, is_handling, is_able, is_in_handler}
-use Rattle.place_plan.specs.Rules.{Row, MayArrive, SaysVerdict, final_verdict, handler_verdict, unhandled_verdict, verdict_due}
+use Rattle.place_plan.specs.Whereabouts.{inside, is_left_in_silence}
+use Rattle.place_plan.specs.Raising.{is_raised, is_calm, is_hot}
+use Rattle.place_plan.specs.Roles.{program_of, position, next_step, has_given, is_able, is_in_handler}
+use Rattle.place_plan.specs.Rules.{Row, SaysVerdict, final_verdict, verdict_due}
 use Rattle.place_plan.specs.Journals.{LegalPast}
 use Rattle.journal_laws.specs.Laws.{Holds}
 use Rattle.journal_laws.proofs.Playable.{IsTree, IsPlayable}
 use Rattle.journal_laws.proofs.Core.{Visits}
-use Rattle.place_plan.proofs.Words.{at_same, chosen, first_not_before, plays_rise, in_plays}
+use Rattle.place_plan.proofs.Words.{at_same, first_not_before, plays_rise, in_plays}
 use Rattle.place_plan.proofs.Entries.{of_kind, both_same}
 use Rattle.journal_laws.proofs.Tree.{in_within, arrives_in}
 use Rattle.journal_laws.proofs.Busy.{raised_stays}

@@ -10,7 +10,7 @@ use Rattle.place_plan.specs.Entries.{has_by}
 use Rattle.place_plan.specs.Whereabouts.{inside, is_inside, all_are_inside, has_started, has_ended, is_live}
 use Rattle.place_plan.specs.Raising.{is_doomed}
 use Rattle.place_plan.specs.Objects.{holder_of, objects_are_ready}
-use Rattle.place_plan.specs.Roles.{next_play, is_over}
+use Rattle.place_plan.specs.Roles.{next_play}
 use Rattle.place_plan.specs.Journals.{LegalPast, AllOver}
 use Rattle.journal_laws.specs.Due.{due_of, due_at, due_inside, due_arrival}
 use Rattle.journal_laws.proofs.Playable.{IsPlayable}
@@ -18,7 +18,7 @@ use Rattle.place_plan.proofs.Words.{all_from, same_at, first_not_fails, first_no
 use Rattle.journal_laws.proofs.Kept.{live_from, going_live}
 use Rattle.journal_laws.proofs.Tree.{in_within}
 use Rattle.journal_laws.proofs.Innermost.{within_itself}
-use Rattle.journal_laws.proofs.Holding.{live_uses, holds_within, ended_started}
+use Rattle.journal_laws.proofs.Holding.{holds_within, ended_started}
 use Rattle.journal_laws.proofs.Raised.{role_inside, busy_inside}
 use Rattle.journal_laws.proofs.Arrivals.{inside_arrived, left_ended}
 use Rattle.journal_laws.proofs.Visited.{outside_left, plays_kept}

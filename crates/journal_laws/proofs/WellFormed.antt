@@ -1,5 +1,5 @@
 -- Each entry of a legal journal of a playable plan is well formed.
-use Rattle.std.proofs.Common.{◌≡◌, ℕ, ℤ, pos, ◌==◌, ◌-◌, ◌<◌, Bool, true, false, cond, ◌&&◌, ◌||◌, List, [], ◌∷◌, Option, Some, None, refl, sym, ap, ◌∙◌, subst, arith, inl, inr, length, get_or, reverse, MatchBool}
+use Rattle.std.proofs.Common.{◌≡◌, ℕ, ℤ, pos, ◌==◌, ◌-◌, ◌<◌, ◌⊎◌, Bool, true, false, cond, ◌&&◌, ◌||◌, List, [], ◌∷◌, Option, Some, None, refl, sym, ap, ◌∙◌, subst, arith, inl, inr, length, get_or, reverse, MatchBool}
 use Rattle.std.specs.List.{All}
 use Rattle.std.proofs.lemmas.List.{reverse-reverse, length-reverse, get_or-reverse}
 use Rattle.std.proofs.lemmas.List.Elements.{All-nil, All-cons}
@@ -24,7 +24,8 @@ use Rattle.journal_laws.proofs.Playable.{IsPlayable}
 use Rattle.journal_laws.proofs.Core.{Core}
 use Rattle.place_plan.proofs.Words.{first_not_fails}
 use Rattle.place_plan.proofs.Entries.{of_kind}
-use Rattle.journal_laws.proofs.Going.{maker_role}
+use Rattle.journal_laws.proofs.Outcome.{undone_marks, below_two}
+use Rattle.journal_laws.proofs.Makers.{maker_role}
 use Rattle.journal_laws.proofs.Ranges.{mix_in_range, named_fields, abort_below, place_known, step_fits, raise_in_range, put_in_range, carried_in_range, verdict_fields, values_in_range}
 
 -- what stood before a start is legal
@@ -42,20 +43,17 @@ agreed_fields : (plan : Plan) (e : Entry) (xs : List ℕ) → SignalsLeast plan 
 agreed_fields plan e [] h v = record { mark = rw h.0 (omega arith); named = λ m. absurd (omega (arith, h.0)); bare = λ n. h.1; value = v }
 agreed_fields plan e (x ∷ xs) h v = record { mark = rw h.0 (omega arith); named = λ m. h.1.in_range; bare = λ n. absurd (n h.0); value = v }
 
-undone_fields : (plan : Plan) (e : Entry) (b c : Bool) → e.mark ≡ cond b 4 (cond c 3 2) → e.arg ≡ 0 → e.value ≡ pos 0 → MayShowException (interface_of plan e.place) 1 5 e
-undone_fields plan e true c m a v = record { mark = rw m (omega arith); named = λ n. absurd (omega (arith, m)); bare = λ n. a; value = v }
-undone_fields plan e false true m a v = record { mark = rw m (omega arith); named = λ n. absurd (omega (arith, m)); bare = λ n. a; value = v }
-undone_fields plan e false false m a v = record { mark = rw m (omega arith); named = λ n. absurd (omega (arith, m)); bare = λ n. a; value = v }
+undone_fields : (plan : Plan) (e : Entry) → ((e.mark ≡ 2) ⊎ (e.mark ≡ 3)) ⊎ (e.mark ≡ 4) → e.arg ≡ 0 → e.value ≡ pos 0 → MayShowException (interface_of plan e.place) 1 5 e
+undone_fields plan e (inl (inl m)) a v = record { mark = rw m (omega arith); named = λ n. absurd (omega (arith, m)); bare = λ n. a; value = v }
+undone_fields plan e (inl (inr m)) a v = record { mark = rw m (omega arith); named = λ n. absurd (omega (arith, m)); bare = λ n. a; value = v }
+undone_fields plan e (inr m) a v = record { mark = rw m (omega arith); named = λ n. absurd (omega (arith, m)); bare = λ n. a; value = v }
 
 end_fields : (plan : Plan) (past : List Entry) (e : Entry) → MayEnd plan past e → MayShowException (interface_of plan e.place) 1 5 e
 end_fields plan past e h = by_undo (is_undoing past e.place) h.how
   where
     by_undo : (b : Bool) → MatchBool b (EndsUndone plan past e) (EndsAgreed plan past e) → MayShowException (interface_of plan e.place) 1 5 e
-    by_undo true ends = undone_fields plan e (has_failed past e.place) (has kind.Abort past e.place) ends.mark ends.arg h.value
+    by_undo true ends = undone_fields plan e (elim (undone_marks past e.place e.mark ends.mark) [ inl x ↦ inl x | inr x ↦ inr x.0 ]) ends.arg h.value
     by_undo false ends = agreed_fields plan e (signals past e.place (roles_of plan e.place)) ends.outcome h.value
-
-small_mark : (mark : ℕ) → (mark == 0) || (mark == 1) ≡ true → mark < 2
-small_mark mark h = elim (or_cases (mark == 0) (mark == 1) h) [ inl x ↦ omega (arith, eqb-true mark 0 x) | inr x ↦ omega (arith, eqb-true mark 1 x) ]
 
 module _ (plan : Plan) (playable : IsPlayable plan) (core : Holds Core plan) where
   leave_fields : (past : List Entry) (e : Entry) → MayLeave plan past e → MayCarry plan (parent plan e.place) e
@@ -92,7 +90,7 @@ module _ (plan : Plan) (playable : IsPlayable plan) (core : Holds Core plan) whe
   fields_by past kind.Restore e legal h =
       let used : uses plan e.place e.arg ≡ true = (first_not_fails (is_tried past e.place) (objects_of plan e.place) e.arg h.least).1 in (
         record { arg = playable.objects e.place e.arg used; value = subst IsValue (sym h.value) (values_in_range plan playable (before_start past e.place) (legal_before_start plan past e.place legal) e.arg []) },
-        small_mark e.mark h.mark,
+        below_two e.mark h.mark,
       )
   fields_by past kind.End e legal h = end_fields plan past (of_kind kind.End e) h
   fields_by past kind.Leave e legal h = leave_fields past (of_kind kind.Leave e) h

@@ -1,4 +1,4 @@
--- Who may put an object in a place finds that place, and each place round it, going on.
+-- The maker of an entry has a role in its place, and who puts an object there finds it, and each place round it, going on.
 use Rattle.std.proofs.Common.{◌≡◌, ℕ, ◌==◌, Bool, true, false, not, ◌&&◌, ◌||◌, List, ◌∷◌, Some, refl, sym, subst, inl, inr}
 use Rattle.std.proofs.lemmas.Bool.{and_parts, or_cases, or_left, or_right, eqb-true, eq-eqb}
 use Rattle.caa_base.specs.declared.entry.Entry.{Entry}
@@ -8,22 +8,14 @@ use Rattle.place_plan.specs.PlanValue.{Plan}
 use Rattle.place_plan.specs.Words.{member}
 use Rattle.place_plan.specs.Places.{around, roles_of, is_within}
 use Rattle.place_plan.specs.Whereabouts.{inside, is_going}
-use Rattle.place_plan.specs.Raising.{is_raised, is_doomed, is_calm, is_hot}
-use Rattle.place_plan.specs.Roles.{has_given, is_in_handler, is_able}
 use Rattle.place_plan.specs.Rules.{Row, MayPut, MayFollow}
 use Rattle.place_plan.specs.Journals.{LegalPast}
 use Rattle.journal_laws.proofs.Playable.{IsTree}
 use Rattle.place_plan.proofs.Entries.{of_kind}
-use Rattle.journal_laws.proofs.Busy.{AllBusy, all_busy}
+use Rattle.journal_laws.proofs.Raised.{role_inside, busy_inside}
+use Rattle.journal_laws.proofs.Frozen.{able_open}
+use Rattle.journal_laws.proofs.Arrivals.{arrives_with_role}
 use Rattle.journal_laws.proofs.InnerFirst.{round_round}
-
--- a place where one may make a step goes on
-pub able_going : (plan : Plan) (past : List Entry) (p t : ℕ) → is_able plan past p t ≡ true → is_going past p ≡ true
-able_going plan past p t h =
-    elim (or_cases (is_calm plan past p && not (has_given plan past p t)) (is_hot plan past p && is_in_handler past p t) h) [
-      | inl x ↦ (and_parts (is_going past p) (not (is_doomed plan past p) && not (is_raised plan past p)) (and_parts (is_calm plan past p) (not (has_given plan past p t)) x).0).0
-      | inr x ↦ (and_parts (is_going past p) (not (is_doomed plan past p) && is_raised plan past p) (and_parts (is_hot plan past p) (is_in_handler past p t) x).0).0
-    ]
 
 module _ (plan : Plan) (tree : IsTree plan) where
   -- what is within a place is within what that place is within
@@ -38,23 +30,17 @@ module _ (plan : Plan) (tree : IsTree plan) where
       ]
 
   -- the maker of an entry has a role in its place
-  maker_role_by : (past : List Entry) (k : Kind) (e : Entry) → LegalPast plan past → LegalPast plan (of_kind k e ∷ past) → Row k plan past (of_kind k e) → member e.by (roles_of plan e.place) ≡ true
-  maker_role_by past kind.Arrive e legal more h =
-      let busy : AllBusy plan e.by (of_kind kind.Arrive e ∷ past) (Some e.place) = rw (eq-eqb e.by e.by refl) at (all_busy plan tree (of_kind kind.Arrive e ∷ past) more e.by) in
-      busy.0
-  maker_role_by past k e legal more h =
-      let busy : AllBusy plan e.by past (Some e.place) = subst (AllBusy plan e.by past) h.here (all_busy plan tree past legal e.by) in
-      busy.0
+  maker_role_by : (past : List Entry) (k : Kind) (e : Entry) → LegalPast plan past → Row k plan past (of_kind k e) → member e.by (roles_of plan e.place) ≡ true
+  maker_role_by past kind.Arrive e legal h = arrives_with_role plan tree past (of_kind kind.Arrive e) h
+  maker_role_by past k e legal h = role_inside plan tree past legal e.by e.place h.here
 
   pub maker_role : (past : List Entry) (e : Entry) → LegalPast plan past → MayFollow plan past e → member e.by (roles_of plan e.place) ≡ true
-  maker_role past e legal h = maker_role_by past e.kind e legal (legal, h) h
+  maker_role past e legal h = maker_role_by past e.kind e legal h
 
   -- a place within which one puts an object goes on
   pub put_going : (past : List Entry) (e : Entry) (p : ℕ) → LegalPast plan past → MayPut plan past e → is_within plan e.place p ≡ true → is_going past p ≡ true
   put_going past e p legal h w =
       elim (or_cases (e.place == p) (member p (around plan e.place)) w) [
-        | inl x ↦ subst (λ a. is_going past a ≡ true) (eqb-true e.place p x) (able_going plan past e.place e.by h.can)
-        | inr x ↦
-            let busy : AllBusy plan e.by past (Some e.place) = subst (AllBusy plan e.by past) h.here (all_busy plan tree past legal e.by) in
-            (busy.1 p x).goes
+        | inl x ↦ subst (λ a. is_going past a ≡ true) (eqb-true e.place p x) (able_open plan past e.place e.by h.can).goes
+        | inr x ↦ (busy_inside plan tree past legal e.by p e.place h.here x).goes
       ]
