@@ -52,8 +52,8 @@ module _ (plan : Plan) (playable : IsPlayable plan) (core : Holds Core plan) whe
   -- ---- what is handled
 
   -- who handles in p handles what p is resolved to at last
-  handled_resolved : (past later before : List Entry) (e : Entry) (p : ℕ) → LegalPast plan past → Splits past later e before → is_in kind.Handle p e ≡ true → exception_resolved past p ≡ Some e.arg
-  handled_resolved past later before e p legal split own =
+  handled_last : (past later before : List Entry) (e : Entry) (p : ℕ) → LegalPast plan past → Splits past later e before → is_in kind.Handle p e ≡ true → exception_resolved past p ≡ Some e.arg
+  handled_last past later before e p legal split own =
       let whole : LegalPast plan (later ++ e ∷ before) = subst (LegalPast plan) split legal in
       let rest = legal_rest plan later (e ∷ before) whole in
       let made : is_by kind.Handle p e.by e ≡ true = and_from (is_in kind.Handle p e) _ own (eq-eqb e.by e.by refl) in
@@ -62,8 +62,8 @@ module _ (plan : Plan) (playable : IsPlayable plan) (core : Holds Core plan) whe
 
   handles_least : (past : List Entry) (p : ℕ) → LegalPast plan past → HandlesLeast plan past p
   handles_least past p legal = record {
-    least = λ later before e split own. ((core past legal).raises.resolves p e.arg (handled_resolved past later before e p legal split own)).2;
-    one = λ later before later' before' e f split split' own own'. some_same ((sym (handled_resolved past later before e p legal split own)) ∙ handled_resolved past later' before' f p legal split' own');
+    least = λ later before e split own. ((core past legal).raises.resolves p e.arg (handled_last past later before e p legal split own)).2;
+    one = λ later before later' before' e f split split' own own'. some_same ((sym (handled_last past later before e p legal split own)) ∙ handled_last past later' before' f p legal split' own');
   }
 
   -- ---- what is answered
