@@ -7,10 +7,10 @@ use Rattle.caa_base.specs.declared.entry.Kind.TheVariants as kind
 use Rattle.caa_base.specs.declared.entry.Verdict.{Verdict}
 use Rattle.place_plan.specs.declared.rows.Step.{Step}
 use Rattle.place_plan.specs.PlanValue.{Plan}
-use Rattle.place_plan.specs.Words.{member, is_at}
-use Rattle.place_plan.specs.Places.{around, parent, roles_of, plays_of}
+use Rattle.place_plan.specs.Words.{member}
+use Rattle.place_plan.specs.Places.{around, roles_of, plays_of}
 use Rattle.place_plan.specs.Entries.{has_by}
-use Rattle.place_plan.specs.Whereabouts.{inside, is_left_in_silence}
+use Rattle.place_plan.specs.Whereabouts.{inside}
 use Rattle.place_plan.specs.Raising.{is_raised, is_calm, is_hot}
 use Rattle.place_plan.specs.Roles.{advances, program_of, position, next_step, has_given, is_able, is_in_handler}
 use Rattle.place_plan.specs.Rules.{Row, SaysVerdict, final_verdict, verdict_due}
@@ -18,7 +18,7 @@ use Rattle.place_plan.specs.Journals.{LegalPast}
 use Rattle.journal_laws.specs.Laws.{Holds}
 use Rattle.journal_laws.proofs.Playable.{IsTree, IsPlayable}
 use Rattle.journal_laws.proofs.Core.{Visits}
-use Rattle.place_plan.proofs.Words.{at_same, first_not_before, plays_rise, in_plays}
+use Rattle.place_plan.proofs.Words.{first_not_before, plays_rise, in_plays}
 use Rattle.place_plan.proofs.Entries.{of_kind, both_same}
 use Rattle.journal_laws.proofs.Tree.{in_within, arrives_in}
 use Rattle.journal_laws.proofs.Busy.{raised_stays}
