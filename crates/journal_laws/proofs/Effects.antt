@@ -1,30 +1,28 @@
 -- Effect law: in a complete journal an object that no restore failed for holds what the kept places alone leave.
-use Rattle.std.proofs.Common.{◌≡◌, ℕ, ◌==◌, ◌+◌, ◌<◌, ◌⊎◌, Bool, true, false, not, cond, ◌&&◌, ◌||◌, List, [], ◌∷◌, ◌++◌, Option, Some, None, refl, sym, ap, ◌∙◌, subst, arith, inl, inr, zero, suc, length, count_by, append_assoc, MatchBool}
+use Rattle.std.proofs.Common.{◌≡◌, ℕ, ◌==◌, ◌<◌, ◌⊎◌, Bool, true, false, not, cond, ◌&&◌, ◌||◌, List, [], ◌∷◌, ◌++◌, Option, Some, None, refl, sym, ap, ◌∙◌, subst, arith, inl, inr, count_by, append_assoc, MatchBool}
 use Rattle.std.specs.List.{list_any, list_all}
 use Rattle.std.proofs.lemmas.List.Folds.{list_any-append}
-use Rattle.std.proofs.lemmas.Bool.{and_parts, and_from, and_cases, not_from_true, not_from_false, or_cases, or_left, or_right, or_parts, eqb-true, eqb-false, cases_eq, eq-eqb, false≢true, cases_Bool, false_from_ne_true, true_from_ne_false, both_ways}
+use Rattle.std.proofs.lemmas.Bool.{and_parts, and_from, and_cases, not_from_true, not_from_false, or_cases, or_left, or_right, or_parts, eqb-true, cases_eq, eq-eqb, false≢true, cases_Bool, false_from_ne_true, true_from_ne_false, both_ways}
 use Rattle.caa_base.specs.declared.entry.Entry.{Entry}
 use Rattle.caa_base.specs.declared.entry.Kind.{Kind}
 use Rattle.caa_base.specs.declared.entry.Kind.TheVariants as kind
 use Rattle.place_plan.specs.PlanValue.{Plan}
 use Rattle.place_plan.specs.Words.{member}
-use Rattle.place_plan.specs.Places.{around, roles_of, uses, objects_of, is_within}
+use Rattle.place_plan.specs.Places.{around, roles_of, uses, is_within}
 use Rattle.place_plan.specs.Entries.{code_of, is_of, is_in, has, newest}
-use Rattle.place_plan.specs.Whereabouts.{inside, has_started, has_ended, is_undoing, is_live}
-use Rattle.place_plan.specs.Objects.{restores, writes, holder_of, is_within_any, places_undone, value_outside, value_of, has_failed}
-use Rattle.place_plan.specs.Roles.{is_over, signals}
-use Rattle.place_plan.specs.Rules.{Row, MayPut, MayEnd, EndsUndone, EndsAgreed, undone_mark}
+use Rattle.place_plan.specs.Whereabouts.{has_started, has_ended, is_undoing, is_live}
+use Rattle.place_plan.specs.Objects.{restores, writes, holder_of, is_within_any, places_undone, value_outside}
+use Rattle.place_plan.specs.Roles.{signals}
+use Rattle.place_plan.specs.Rules.{Row, MayPut, MayEnd, EndsUndone, EndsAgreed}
 use Rattle.place_plan.specs.Journals.{LegalPast, AllOver}
-use Rattle.journal_laws.specs.Laws.{Holds, EffectLaw, OutcomeLaw, RestoresFit, Splits, is_restore, is_kept_mark, is_kept, last_write, has_failed_restore}
-use Rattle.journal_laws.proofs.Playable.{IsTree, IsPlayable}
-use Rattle.journal_laws.proofs.Core.{Tries}
+use Rattle.journal_laws.specs.Laws.{Holds, EffectLaw, RestoresFit, Splits, is_restore, is_kept_mark, is_kept, last_write, has_failed_restore}
+use Rattle.journal_laws.proofs.Playable.{IsPlayable}
 use Rattle.place_plan.proofs.Words.{chosen, all_at}
-use Rattle.place_plan.proofs.Entries.{of_kind, both_same, from_both}
+use Rattle.place_plan.proofs.Entries.{of_kind}
 use Rattle.journal_laws.proofs.Tree.{in_within, live_within}
 use Rattle.journal_laws.proofs.Phases.{going_parts}
 use Rattle.journal_laws.proofs.Holding.{live_uses, holds_within}
 use Rattle.journal_laws.proofs.InnerFirst.{legal_rest, started_filled}
-use Rattle.journal_laws.proofs.Innermost.{within_itself}
 use Rattle.journal_laws.proofs.Tried.{count_next, tries}
 use Rattle.journal_laws.proofs.Outcome.{outcomes, counted_any, undone_marks, agreed_mark, below_two}
 use Rattle.journal_laws.proofs.Makers.{put_going}
@@ -39,17 +37,17 @@ pub record Stands (test : Entry → Bool) (past : List Entry) (e : Entry) : Type
   pub split : Splits past later e before
   pub passes : test e ≡ true
 
-deeper_in : (test : Entry → Bool) (past : List Entry) (e f : Entry) → Stands test past f → Stands test (e ∷ past) f
-deeper_in test past e f s = record { later = e ∷ s.later; before = s.before; split = ap (λ es. e ∷ es) s.split; passes = s.passes }
+split_deeper : (test : Entry → Bool) (past : List Entry) (e f : Entry) → Stands test past f → Stands test (e ∷ past) f
+split_deeper test past e f s = record { later = e ∷ s.later; before = s.before; split = ap (λ es. e ∷ es) s.split; passes = s.passes }
 
-pub newest_in : (test : Entry → Bool) (past : List Entry) (f : Entry) → newest test past ≡ Some f → Stands test past f
-newest_in test [] f w = absurd cc
-newest_in test (e ∷ past) f w =
+pub newest_split : (test : Entry → Bool) (past : List Entry) (f : Entry) → newest test past ≡ Some f → Stands test past f
+newest_split test [] f w = absurd cc
+newest_split test (e ∷ past) f w =
     elim (chosen (test e) (Some e) (newest test past) (Some f) w) [
       | inl x ↦
           let same : e ≡ f = cc in
           record { later = []; before = past; split = ap (λ g. g ∷ past) same; passes = subst (λ g. test g ≡ true) same x.0 }
-      | inr x ↦ deeper_in test past e f (newest_in test past f x.1)
+      | inr x ↦ split_deeper test past e f (newest_split test past f x.1)
     ]
 
 -- one that passes is the newest of some
@@ -181,7 +179,7 @@ end_marks plan past e h = by_undo (is_undoing past e.place) h.how
 
 ended_marks : (plan : Plan) (past : List Entry) (q : ℕ) (f : Entry) → LegalPast plan past → newest (is_in kind.End q) past ≡ Some f → Marks f.mark
 ended_marks plan past q f legal w =
-    let s = newest_in (is_in kind.End q) past f w in
+    let s = newest_split (is_in kind.End q) past f w in
     let here = legal_rest plan s.later (f ∷ s.before) (subst (LegalPast plan) s.split legal) in
     end_marks plan s.before (of_kind kind.End f) (end_row plan s.before f.kind f q here.1 s.passes)
 
