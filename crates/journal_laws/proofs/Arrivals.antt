@@ -20,7 +20,8 @@ use Rattle.journal_laws.proofs.Playable.{IsTree}
 use Rattle.place_plan.proofs.Words.{all_at, at_same, chosen, first_not_fails, plays_in}
 use Rattle.place_plan.proofs.Entries.{of_kind, both_same}
 use Rattle.journal_laws.proofs.Tree.{in_within, arrives_in}
-use Rattle.journal_laws.proofs.Busy.{AllBusy, all_busy, calm_parts, doom_stays}
+use Rattle.journal_laws.proofs.Phases.{calm_open}
+use Rattle.journal_laws.proofs.Busy.{doom_stays}
 use Rattle.journal_laws.proofs.Innermost.{stays_within, within_itself}
 
 -- ---- how one arrives
@@ -244,8 +245,8 @@ module _ (plan : Plan) (tree : IsTree plan) where
   -- ---- who is back
 
   -- the places round c are its parent and those round that
-  pub parent_round : (p c : ℕ) → parent plan c ≡ Some p → around plan c ≡ p ∷ around plan p
-  parent_round p c h = by_around (around plan c) refl h
+  pub around_parent : (p c : ℕ) → parent plan c ≡ Some p → around plan c ≡ p ∷ around plan p
+  around_parent p c h = by_around (around plan c) refl h
     where
       by_around : (qs : List ℕ) → around plan c ≡ qs → first_of qs ≡ Some p → around plan c ≡ p ∷ around plan p
       by_around [] a h = absurd cc
@@ -255,7 +256,7 @@ module _ (plan : Plan) (tree : IsTree plan) where
           cc
 
   pub parent_below : (p c : ℕ) → parent plan c ≡ Some p → p < c
-  parent_below p c h = tree.above c p (rw (parent_round p c h) (or_left _ _ (eq-eqb p p refl)))
+  parent_below p c h = tree.above c p (rw (around_parent p c h) (or_left _ _ (eq-eqb p p refl)))
 
   -- who is inside a calm place has left each place right inside it in which it arrived
   pub settled : (past : List Entry) → LegalPast plan past → (p c t : ℕ) → inside plan past t ≡ Some p → is_calm plan past p ≡ true → parent plan c ≡ Some p → has_by kind.Arrive past c t ≡ true → has_by kind.Leave past c t ≡ true
@@ -269,7 +270,7 @@ module _ (plan : Plan) (tree : IsTree plan) where
             ])
         | inr (inl l) ↦ l
         | inr (inr d) ↦
-            let parts = calm_parts plan tree p past calm in
-            let doomed : is_raised plan past p || is_doomed plan past p ≡ true = subst (λ qs. list_any (λ q. is_raised plan past q) qs ≡ true) (parent_round p c up) (withdrew past legal c t d).0 in
-            absurd (elim (or_cases (is_raised plan past p) (is_doomed plan past p) doomed) [ inl x ↦ both_ways _ parts.2 x | inr x ↦ both_ways _ parts.1 x ])
+            let phase = calm_open plan past p calm in
+            let doomed : is_raised plan past p || is_doomed plan past p ≡ true = subst (λ qs. list_any (λ q. is_raised plan past q) qs ≡ true) (around_parent p c up) (withdrew past legal c t d).0 in
+            absurd (elim (or_cases (is_raised plan past p) (is_doomed plan past p) doomed) [ inl x ↦ both_ways _ phase.1 x | inr x ↦ both_ways _ phase.0.spared x ])
       ]

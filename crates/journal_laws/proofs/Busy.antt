@@ -34,7 +34,7 @@ any_up f g (x ∷ xs) h w = elim (or_cases _ _ w) [ inl a ↦ or_left _ _ (h x a
 pub doom_stays : (plan : Plan) (p : ℕ) (e : Entry) (past : List Entry) → is_doomed plan past p ≡ true → is_doomed plan (e ∷ past) p ≡ true
 doom_stays plan p e past h = any_up (λ q. is_raised plan past q) (λ q. is_raised plan (e ∷ past) q) (around plan p) (λ q. raised_stays plan q e past) h
 
-pub given_has : (p t : ℕ) (past : List Entry) → has_given_after past p t ≡ true → has_by kind.Verdict past p t ≡ true
+given_has : (p t : ℕ) (past : List Entry) → has_given_after past p t ≡ true → has_by kind.Verdict past p t ≡ true
 given_has p t [] h = absurd (false≢true h)
 given_has p t (e ∷ past) h = by_tests (is_in kind.Resolve p e) (is_by kind.Verdict p t e) h (given_has p t past)
   where
@@ -76,7 +76,7 @@ module _ (plan : Plan) (tree : IsTree plan) where
   abort_doomed [] h p t w = absurd (false≢true w)
   abort_doomed (e ∷ past) h p t w = abort_doomed_by past e.kind e p t (abort_doomed past h.0 p t) h.1 w
 
-  pub calm_parts : (p : ℕ) (past : List Entry) → is_calm plan past p ≡ true → (is_going past p ≡ true) × (is_doomed plan past p ≡ false) × (is_raised plan past p ≡ false)
+  calm_parts : (p : ℕ) (past : List Entry) → is_calm plan past p ≡ true → (is_going past p ≡ true) × (is_doomed plan past p ≡ false) × (is_raised plan past p ≡ false)
   calm_parts p past h =
       let a = and_parts (is_going past p) (not (is_doomed plan past p) && not (is_raised plan past p)) h in
       let b = and_parts (not (is_doomed plan past p)) (not (is_raised plan past p)) a.1 in
@@ -126,7 +126,7 @@ module _ (plan : Plan) (tree : IsTree plan) where
       let b = and_parts (has_started past p) (not (has_ended past p)) a.0 in
       (b.0, not-true _ b.1, not-true _ a.1)
 
-  pub going_from : (p : ℕ) (past : List Entry) → has_started past p ≡ true → has_ended past p ≡ false → is_undoing past p ≡ false → is_going past p ≡ true
+  going_from : (p : ℕ) (past : List Entry) → has_started past p ≡ true → has_ended past p ≡ false → is_undoing past p ≡ false → is_going past p ≡ true
   going_from p past s f u = and_from (is_live past p) (not (is_undoing past p)) (and_from (has_started past p) (not (has_ended past p)) s (not_from_false _ f)) (not_from_false _ u)
 
   -- t, inside r, stays busy in p through an entry that moves nobody out of r

@@ -13,7 +13,7 @@ use Rattle.place_plan.specs.Journals.{LegalPast}
 use Rattle.journal_laws.proofs.Playable.{IsPlayable}
 use Rattle.place_plan.proofs.Words.{first_not_none, first_not_nowhere, plays_in, in_plays, plays_rise, last_member, last_greatest, no_last}
 use Rattle.journal_laws.proofs.Tree.{in_within}
-use Rattle.journal_laws.proofs.Busy.{AllBusy, all_busy}
+use Rattle.journal_laws.proofs.Raised.{role_inside}
 use Rattle.journal_laws.proofs.Innermost.{stays_within}
 use Rattle.journal_laws.proofs.Arrivals.{left_arrived, gone}
 use Rattle.journal_laws.proofs.Visited.{outside_left, plays_kept}
@@ -29,10 +29,10 @@ module _ (plan : Plan) (playable : IsPlayable plan) where
   play_round past legal p t w =
       let top = top_among p (around plan p) refl in
       let q = top.0 in
-      let busy : AllBusy plan t past (Some p) = subst (AllBusy plan t past) w (all_busy plan playable.tree past legal t) in
+      let own = role_inside plan playable.tree past legal t p w in
       let role : member t (roles_of plan q) ≡ true = elim (or_cases (p == q) (member q (around plan p)) top.1) [
-        | inl x ↦ subst (λ a. member t (roles_of plan a) ≡ true) (eqb-true p q x) busy.0
-        | inr x ↦ playable.tree.roles_in q p t x busy.0
+        | inl x ↦ subst (λ a. member t (roles_of plan a) ≡ true) (eqb-true p q x) own
+        | inr x ↦ playable.tree.roles_in q p t x own
       ] in
       (q, top.1, playable.topped q t top.2 role, role)
 

@@ -1,14 +1,14 @@
 -- Once a place has ended, it is settled whether its roles leave it in silence.
-use Rattle.std.proofs.Common.{◌≡◌, ℕ, ◌==◌, Bool, true, false, not, cond, ◌&&◌, List, [], ◌∷◌, Some, None, Option, refl, subst, sym, inl, inr, is_none}
+use Rattle.std.proofs.Common.{◌≡◌, ℕ, ◌==◌, Bool, true, false, not, List, [], ◌∷◌, None, refl, subst, sym, inl, inr, is_none}
 use Rattle.std.specs.List.{list_any}
-use Rattle.std.proofs.lemmas.Bool.{and_parts, or_left, or_right, or_parts, eqb-true, false≢true, cases_Bool, true_from_ne_false, both_ways}
+use Rattle.std.proofs.lemmas.Bool.{and_parts, or_parts, eqb-true, false≢true, cases_Bool, true_from_ne_false, both_ways}
 use Rattle.caa_base.specs.declared.entry.Entry.{Entry}
 use Rattle.caa_base.specs.declared.entry.Kind.{Kind}
 use Rattle.caa_base.specs.declared.entry.Kind.TheVariants as kind
 use Rattle.place_plan.specs.PlanValue.{Plan}
 use Rattle.place_plan.specs.Places.{next_alternate}
 use Rattle.place_plan.specs.Entries.{is_in, newest}
-use Rattle.place_plan.specs.Whereabouts.{has_started, has_ended, is_undone, is_left_in_silence}
+use Rattle.place_plan.specs.Whereabouts.{has_ended, is_undone, is_left_in_silence}
 use Rattle.place_plan.specs.Rules.{Row, MayFollow}
 use Rattle.place_plan.specs.Journals.{LegalPast}
 use Rattle.journal_laws.proofs.Playable.{IsTree}
@@ -17,15 +17,15 @@ use Rattle.journal_laws.proofs.Kept.{live_parts}
 use Rattle.journal_laws.proofs.Holding.{end_live}
 
 -- where no entry passes a test, none is the newest that does
-pub newest_none : (test : Entry → Bool) (past : List Entry) → list_any test past ≡ false → newest test past ≡ None
-newest_none test [] h = refl
-newest_none test (e ∷ past) h = let parts = or_parts (test e) (list_any test past) h in rw parts.0 (newest_none test past parts.1)
+pub none_newest : (test : Entry → Bool) (past : List Entry) → list_any test past ≡ false → newest test past ≡ None
+none_newest test [] h = refl
+none_newest test (e ∷ past) h = let parts = or_parts (test e) (list_any test past) h in rw parts.0 (none_newest test past parts.1)
 
 -- what is left in silence has ended
 pub silent_ended : (plan : Plan) (past : List Entry) (c : ℕ) → is_left_in_silence plan past c ≡ true → has_ended past c ≡ true
 silent_ended plan past c h =
     true_from_ne_false _ (λ lasts.
-    let none : newest (is_in kind.End c) past ≡ None = newest_none (is_in kind.End c) past lasts in
+    let none : newest (is_in kind.End c) past ≡ None = none_newest (is_in kind.End c) past lasts in
     let undone : is_undone (newest (is_in kind.End c) past) ≡ true = (and_parts (is_undone (newest (is_in kind.End c) past)) (not (is_none (next_alternate plan c))) h).0 in
     false≢true (subst (λ o. is_undone o ≡ true) none undone))
 

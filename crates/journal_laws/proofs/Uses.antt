@@ -1,29 +1,31 @@
 -- Where a role is in its nested uses: it is at the enter step of a use until it has left one of the alternates aloud, and it comes to
 -- an alternate only once it has left all earlier ones in silence.
 use Rattle.std.proofs.Common.{◌≡◌, ℕ, ℤ, ◌==◌, ◌<◌, Bool, true, false, not, cond, ◌&&◌, ◌||◌, List, [], ◌∷◌, Some, None, Option, refl, sym, ap, ◌∙◌, subst, subst₂, arith, suc, slice_get, inl, inr, ◌⊎◌}
-use Rattle.std.proofs.lemmas.Bool.{and_parts, and_from, and_right, or_cases, or_left, or_right, or_parts, eqb-true, eq-eqb, false≢true, cases_Bool, cases_order, cases_lt, both_ways, not-true, false_from_ne_true, true_from_ne_false, not_from_false}
+use Rattle.std.proofs.lemmas.Bool.{and_parts, and_from, or_cases, or_left, or_right, or_parts, eqb-true, eq-eqb, false≢true, cases_Bool, cases_order, cases_lt, both_ways, not-true, true_from_ne_false, not_from_false}
 use Rattle.caa_base.specs.declared.entry.Entry.{Entry}
 use Rattle.caa_base.specs.declared.entry.Kind.{Kind}
 use Rattle.caa_base.specs.declared.entry.Kind.TheVariants as kind
 use Rattle.place_plan.specs.declared.rows.Step.{Step}
 use Rattle.place_plan.specs.declared.rows.Step.TheVariants as step
 use Rattle.place_plan.specs.PlanValue.{Plan}
-use Rattle.place_plan.specs.Words.{member, is_at, first_not}
-use Rattle.place_plan.specs.Places.{around, parent, alternates_of, nest_number, body_of}
+use Rattle.place_plan.specs.Words.{member, is_at}
+use Rattle.place_plan.specs.Places.{parent, alternates_of, nest_number, body_of}
 use Rattle.place_plan.specs.Entries.{is_by, has_by}
 use Rattle.place_plan.specs.Whereabouts.{inside, is_left_in_silence}
-use Rattle.place_plan.specs.Raising.{has_handled, is_raised, is_calm, newest_arg, exception_handled}
+use Rattle.place_plan.specs.Raising.{has_handled, is_calm}
 use Rattle.place_plan.specs.Roles.{program_in, program_of, position, next_step}
-use Rattle.place_plan.specs.Rules.{Row, MayArrive, MayRead, put_of, is_check}
+use Rattle.place_plan.specs.Rules.{Row, MayArrive, put_of, is_check}
 use Rattle.place_plan.specs.Journals.{LegalPast}
 use Rattle.journal_laws.specs.Laws.{Holds}
 use Rattle.journal_laws.proofs.Playable.{IsPlayable}
-use Rattle.journal_laws.proofs.Core.{Raises, PassedEnter}
-use Rattle.place_plan.proofs.Words.{at_same, same_at, chosen, first_not_fails, first_not_before}
+use Rattle.journal_laws.proofs.Core.{PassedEnter}
+use Rattle.place_plan.proofs.Words.{at_same, same_at, first_not_fails, first_not_before}
 use Rattle.place_plan.proofs.Entries.{of_kind, both_same, from_both}
-use Rattle.journal_laws.proofs.Busy.{calm_parts}
+use Rattle.journal_laws.proofs.Newest.{newest_none}
+use Rattle.journal_laws.proofs.Phases.{calm_open}
+use Rattle.journal_laws.proofs.Raised.{plain_calm, raises}
 use Rattle.journal_laws.proofs.Silence.{silent_ended, silence_stays}
-use Rattle.journal_laws.proofs.Arrivals.{enters_use, begins_play, next_has, fresh, not_arrived, inside_arrived, inside_not_left, left_ended, parent_round, settled}
+use Rattle.journal_laws.proofs.Arrivals.{enters_use, begins_play, next_has, fresh, not_arrived, inside_arrived, inside_not_left, left_ended, around_parent, settled}
 
 -- ---- what a step tells
 
@@ -52,14 +54,9 @@ check_stays (Some (step.Work a)) h = refl
 check_stays (Some (step.Check a b c)) h = refl
 check_stays (Some (step.Raise a)) h = refl
 
--- who has begun no handler handles nothing
-pub none_handled : (past : List Entry) (p t : ℕ) → has_handled past p t ≡ false → exception_handled past p t ≡ None
-none_handled [] p t h = refl
-none_handled (e ∷ past) p t h = let parts = or_parts (is_by kind.Handle p t e) (has_handled past p t) h in rw parts.0 (none_handled past p t parts.1)
-
--- so its next step is one of its body
+-- who has begun no handler makes the steps of its body
 pub body_step : (plan : Plan) (past : List Entry) (p t : ℕ) → has_handled past p t ≡ false → next_step plan past p t ≡ slice_get (body_of plan p t).steps (position plan past p t)
-body_step plan past p t h = ap (λ o. slice_get (program_in plan p t o).steps (position plan past p t)) (none_handled past p t h)
+body_step plan past p t h = ap (λ o. slice_get (program_in plan p t o).steps (position plan past p t)) (newest_none (is_by kind.Handle p t) past h)
 
 -- ---- what is kept of uses
 
@@ -77,25 +74,12 @@ AtStep plan past p c t = ((has_by kind.Leave past c t ≡ true) × PassedEnter p
 abbrev pub LeftAloud : Plan → List Entry → ℕ → ℕ → ℕ → Type 0
 LeftAloud plan past p t k = (c : ℕ) × (member c (alternates_of plan p k) ≡ true) × (has_by kind.Leave past c t ≡ true) × (is_left_in_silence plan past c ≡ false)
 
-module _ (plan : Plan) (playable : IsPlayable plan) (raises : Holds Raises plan) where
+module _ (plan : Plan) (playable : IsPlayable plan) where
   -- ---- in the turn of its use
 
   -- nobody handles in a calm place
   pub calm_unhandled : (past : List Entry) → LegalPast plan past → (p t : ℕ) → is_calm plan past p ≡ true → has_handled past p t ≡ false
-  calm_unhandled past legal p t calm =
-      let parts = calm_parts plan playable.tree p past calm in
-      false_from_ne_true _ (λ w. both_ways _ parts.2 (by_handled (exception_handled past p t) refl w))
-    where
-      found : (past : List Entry) → has_handled past p t ≡ true → exception_handled past p t ≡ None → ⊥
-      found [] w n = false≢true w
-      found (e ∷ past) w n = elim (chosen (is_by kind.Handle p t e) _ _ _ n) [
-        | inl x ↦ cc
-        | inr x ↦ found past (subst (λ b. b || has_handled past p t ≡ true) x.0 w) x.1
-      ]
-
-      by_handled : (o : Option ℕ) → exception_handled past p t ≡ o → has_handled past p t ≡ true → is_raised plan past p ≡ true
-      by_handled None e w = absurd (found past w e)
-      by_handled (Some x) e w = let kept = raises past legal in (kept.resolves p x (kept.handles p t x e).0).1
+  calm_unhandled past legal p t calm = (plain_calm plan past p t (raises plan playable.tree past legal) (calm_open plan past p calm).1).1
 
   -- who is at an enter step has not passed it
   pub not_passed : (past : List Entry) (p t k : ℕ) → has_handled past p t ≡ false → next_step plan past p t ≡ Some (step.Enter k) → PassedEnter plan p t k (position plan past p t) → ⊥
@@ -110,7 +94,7 @@ module _ (plan : Plan) (playable : IsPlayable plan) (raises : Holds Raises plan)
       let enters = enters_use plan past e q h w in
       let k = enters.0 in
       let fits = playable.placed q k e.place (first_not_fails (λ a. has_by kind.Arrive past a e.by) (alternates_of plan q k) e.place enters.1.first).1 in
-      let round = parent_round plan playable.tree p e.place up_d in
+      let round = around_parent plan playable.tree p e.place up_d in
       let same : q ≡ p = cc in
       let its_use : nest_number plan c ≡ k = same_use ∙ fits.1 in
       let place : member c (alternates_of plan q k) ≡ true = subst₂ (λ a b. member c (alternates_of plan a b) ≡ true) (sym same) its_use (playable.back p c up_c) in
@@ -135,7 +119,7 @@ module _ (plan : Plan) (playable : IsPlayable plan) (raises : Holds Raises plan)
       by_place up same_use below None w =
           let next = begins_play plan past (of_kind kind.Arrive e) h w in
           let top = playable.tree.tops e.place (next_has plan past e.by e.place next).0 in
-          let round = parent_round plan playable.tree p e.place up in
+          let round = around_parent plan playable.tree p e.place up in
           absurd cc
       by_place up same_use below (Some q) w = arrived_in_turn past (of_kind kind.Arrive e) legal kept h p c q up_c up same_use below w
   turn_by past kind.Leave e legal kept h p c d t up_c up_d same_use below w = let was = kept.turn p c d t up_c up_d same_use below w in (or_right _ _ was.0, was.1)
@@ -157,12 +141,12 @@ module _ (plan : Plan) (playable : IsPlayable plan) (raises : Holds Raises plan)
       by_place None w =
           let next = begins_play plan past e h w in
           let top = playable.tree.tops e.place (next_has plan past e.by e.place next).0 in
-          let round = parent_round plan playable.tree p e.place up in
+          let round = around_parent plan playable.tree p e.place up in
           absurd cc
       by_place (Some q) w =
           let enters = enters_use plan past e q h w in
           let fits = playable.placed q enters.0 e.place (first_not_fails (λ a. has_by kind.Arrive past a e.by) (alternates_of plan q enters.0) e.place enters.1.first).1 in
-          let round = parent_round plan playable.tree p e.place up in
+          let round = around_parent plan playable.tree p e.place up in
           let same : q ≡ p = cc in
           let next : next_step plan past p e.by ≡ Some (step.Enter (nest_number plan e.place)) = subst₂ (λ a b. next_step plan past a e.by ≡ Some (step.Enter b)) same (sym fits.1) enters.1.next in
           inr (next, λ l. absurd (both_ways _ (not_arrived plan playable.tree past legal e.place e.by (fresh plan past e h)).0 l))

@@ -1,6 +1,6 @@
 -- What every legal past keeps of visits, and that who has given its verdict has done its body.
-use Rattle.std.proofs.Common.{◌≡◌, ℕ, ◌==◌, ◌<◌, Bool, true, false, not, cond, ◌&&◌, ◌||◌, List, [], ◌∷◌, Some, None, Option, refl, sym, ap, ◌∙◌, subst, subst₂, arith, inl, inr, ◌⊎◌, MatchOption, is_none, suc, slice_get}
-use Rattle.std.proofs.lemmas.Bool.{and_parts, or_cases, or_left, or_right, or_parts, eqb-true, eq-eqb, false≢true, cases_Bool, both_ways, not-true, and_right, false_from_ne_true}
+use Rattle.std.proofs.Common.{◌≡◌, ℕ, ◌==◌, ◌<◌, Bool, true, false, not, cond, ◌&&◌, List, [], ◌∷◌, Some, None, Option, refl, sym, ap, ◌∙◌, subst, subst₂, inl, inr, MatchOption, is_none, suc, slice_get}
+use Rattle.std.proofs.lemmas.Bool.{and_parts, or_cases, or_right, eqb-true, false≢true, cases_Bool, both_ways, not-true, false_from_ne_true}
 use Rattle.caa_base.specs.declared.entry.Entry.{Entry}
 use Rattle.caa_base.specs.declared.entry.Kind.{Kind}
 use Rattle.caa_base.specs.declared.entry.Kind.TheVariants as kind
@@ -10,20 +10,22 @@ use Rattle.place_plan.specs.PlanValue.{Plan}
 use Rattle.place_plan.specs.Words.{member, is_at}
 use Rattle.place_plan.specs.Places.{around, parent, roles_of, plays_of}
 use Rattle.place_plan.specs.Entries.{has_by}
-use Rattle.place_plan.specs.Whereabouts.{inside, is_going, is_left_in_silence}
-use Rattle.place_plan.specs.Raising.{has_handled, is_raised, is_doomed, is_calm, is_hot}
-use Rattle.place_plan.specs.Roles.{program_of, position, next_step, has_given, is_handling, is_able, is_in_handler}
-use Rattle.place_plan.specs.Rules.{Row, MayArrive, SaysVerdict, final_verdict, handler_verdict, unhandled_verdict, verdict_due}
+use Rattle.place_plan.specs.Whereabouts.{inside, is_left_in_silence}
+use Rattle.place_plan.specs.Raising.{is_raised, is_calm, is_hot}
+use Rattle.place_plan.specs.Roles.{program_of, position, next_step, has_given, is_able, is_in_handler}
+use Rattle.place_plan.specs.Rules.{Row, SaysVerdict, final_verdict, verdict_due}
 use Rattle.place_plan.specs.Journals.{LegalPast}
 use Rattle.journal_laws.specs.Laws.{Holds}
 use Rattle.journal_laws.proofs.Playable.{IsTree, IsPlayable}
-use Rattle.journal_laws.proofs.Core.{Raises, Visits}
-use Rattle.place_plan.proofs.Words.{at_same, chosen, first_not_before, plays_rise, in_plays}
+use Rattle.journal_laws.proofs.Core.{Visits}
+use Rattle.place_plan.proofs.Words.{at_same, first_not_before, plays_rise, in_plays}
 use Rattle.place_plan.proofs.Entries.{of_kind, both_same}
 use Rattle.journal_laws.proofs.Tree.{in_within, arrives_in}
-use Rattle.journal_laws.proofs.Busy.{AllBusy, all_busy, raised_stays}
+use Rattle.journal_laws.proofs.Busy.{raised_stays}
+use Rattle.journal_laws.proofs.Phases.{not_hot}
+use Rattle.journal_laws.proofs.Raised.{busy_inside, parent_round}
 use Rattle.journal_laws.proofs.Innermost.{stays_within}
-use Rattle.journal_laws.proofs.Arrivals.{begins_play, whereabouts, came, gone, left, withdrew, whole, parent_round}
+use Rattle.journal_laws.proofs.Arrivals.{begins_play, whereabouts, came, gone, left, withdrew, whole}
 use Rattle.journal_laws.proofs.Uses.{uses_kept}
 
 -- ---- plays, one after another
@@ -64,9 +66,9 @@ module _ (plan : Plan) (playable : IsPlayable plan) where
 
   -- ---- all of it
 
-  pub visits : Holds Raises plan → Holds Visits plan
-  visits raises past legal =
-      let uses = uses_kept plan playable raises past legal in
+  pub visits : Holds Visits plan
+  visits past legal =
+      let uses = uses_kept plan playable past legal in
       record {
         came = came plan playable.tree past legal;
         gone = gone plan playable.tree past legal;
@@ -84,10 +86,6 @@ module _ (plan : Plan) (playable : IsPlayable plan) where
 -- t has no step left in p, where nothing is raised and it has given its verdict
 abbrev pub IsDone : Plan → List Entry → ℕ → ℕ → Type 0
 IsDone plan past p t = is_raised plan past p ≡ false → has_by kind.Verdict past p t ≡ true → next_step plan past p t ≡ None
-
--- where nothing is raised a place is not hot
-not_hot : (plan : Plan) (past : List Entry) (p : ℕ) → is_raised plan past p ≡ false → is_hot plan past p ≡ false
-not_hot plan past p cool = and_right (is_going past p) _ (and_right (not (is_doomed plan past p)) _ cool)
 
 -- the final verdict is said after the last step
 says_last : (past : List Entry) (s : Option Step) (v : Verdict) (e : Entry) → MatchOption (cond (is_none s) (Some v) None) ⊥ (SaysVerdict e) → s ≡ None
@@ -125,8 +123,7 @@ module _ (plan : Plan) (tree : IsTree plan) where
         let parts = and_parts (is_at (parent plan e.place) p && not (is_left_in_silence plan past e.place)) (e.by == t) x in
         let out : parent plan e.place ≡ Some p = at_same _ p (and_parts (is_at (parent plan e.place) p) (not (is_left_in_silence plan past e.place)) parts.0).0 in
         let there : inside plan past t ≡ Some e.place = subst (λ a. inside plan past a ≡ Some e.place) (eqb-true e.by t parts.1) here in
-        let busy : AllBusy plan t past (Some e.place) = subst (AllBusy plan t past) there (all_busy plan tree past legal t) in
-        absurd (both_ways _ (busy.1 p (rw (parent_round plan tree p e.place out) (or_left _ _ (eq-eqb p p refl)))).silent w)
+        absurd (both_ways _ (busy_inside plan tree past legal t p e.place there (parent_round plan tree e.place p out)).silent w)
     | inr x ↦ rw x (ih cool w)
   ]
 
