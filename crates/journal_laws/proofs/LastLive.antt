@@ -26,6 +26,7 @@ use Rattle.journal_laws.proofs.Tree.{in_within, live_within}
 use Rattle.journal_laws.proofs.InnerFirst.{started_filled}
 use Rattle.journal_laws.proofs.Holding.{holds_within, holds_own}
 use Rattle.journal_laws.proofs.Newest.{stands_newest}
+use Rattle.journal_laws.proofs.Options.{none_is}
 use Rattle.journal_laws.proofs.Phases.{going_parts}
 use Rattle.journal_laws.proofs.Raised.{busy_inside, parent_round}
 use Rattle.journal_laws.proofs.LeastOf.{least_some}
@@ -49,10 +50,6 @@ pub data Stands (plan : Plan) (past : List Entry) (p t : ℕ) : Type 0 where
 some_raised : (xs : List ℕ) → not (is_empty xs) ≡ true → 0 < length xs
 some_raised [] h = absurd (false≢true h)
 some_raised (x ∷ xs) h = omega arith
-
-none_is : {A : Type 0} (o : Option A) → is_none o ≡ true → o ≡ None
-none_is None h = refl
-none_is (Some x) h = absurd cc
 
 module _ (plan : Plan) (playable : IsPlayable plan) (past : List Entry) (legal : LegalPast plan past) (still : NothingDue plan past) (p : ℕ) (live : is_live past p ≡ true) (last : (q : ℕ) → p < q → is_live past q ≡ false) where
   pub started : has_started past p ≡ true
