@@ -27,6 +27,7 @@ use Rattle.journal_laws.proofs.Tried.{count_next, tries}
 use Rattle.journal_laws.proofs.Outcome.{outcomes, counted_any, undone_marks, agreed_mark, below_two}
 use Rattle.journal_laws.proofs.Makers.{put_going}
 use Rattle.journal_laws.proofs.Over.{over_outside}
+use Rattle.journal_laws.proofs.Exit.{end_row}
 
 -- ---- lists
 
@@ -151,15 +152,10 @@ none_failed (e ∷ past) q o h =
 any_later : (test : Entry → Bool) (later before : List Entry) → list_any test before ≡ true → list_any test (later ++ before) ≡ true
 any_later test later before h = rw (list_any-append test later before) (or_right _ _ h)
 
--- the row of a write, and of an End
-
+-- what writes keeps the row of a write
 write_row : (plan : Plan) (past : List Entry) (k : Kind) (e : Entry) (o : ℕ) → Row k plan past (of_kind k e) → writes o (of_kind k e) ≡ true → MayPut plan past (of_kind kind.Write e) × (e.arg ≡ o)
 write_row plan past kind.Write e o h w = (h, eqb-true e.arg o w)
 write_row plan past _ e o h w = absurd (false≢true w)
-
-end_row : (plan : Plan) (past : List Entry) (k : Kind) (e : Entry) (q : ℕ) → Row k plan past (of_kind k e) → is_in kind.End q (of_kind k e) ≡ true → MayEnd plan past (of_kind kind.End e)
-end_row plan past kind.End e q h w = h
-end_row plan past _ e q h w = absurd (false≢true w)
 
 -- ---- what a write comes to
 
@@ -181,7 +177,7 @@ ended_marks : (plan : Plan) (past : List Entry) (q : ℕ) (f : Entry) → LegalP
 ended_marks plan past q f legal w =
     let s = newest_split (is_in kind.End q) past f w in
     let here = legal_rest plan s.later (f ∷ s.before) (subst (LegalPast plan) s.split legal) in
-    end_marks plan s.before (of_kind kind.End f) (end_row plan s.before f.kind f q here.1 s.passes)
+    end_marks plan s.before (of_kind kind.End f) (end_row plan s.before f.kind f q here.1 s.passes).0
 
 module _ (plan : Plan) (playable : IsPlayable plan) where
   -- in a complete journal, what has started has ended
@@ -192,7 +188,7 @@ module _ (plan : Plan) (playable : IsPlayable plan) where
       let deep : in_within plan None q ≡ true = subst (λ o. in_within plan o q ≡ true) out (live_within plan playable.tree past legal some.0 q some.1 s lasts) in
       false≢true deep)
 
-  -- the place of a write uses its object, and so does each place round it
+  -- each place round the holder of an object uses it, as the holder does
   uses_round : (past : List Entry) (e : Entry) (o q : ℕ) → LegalPast plan past → holder_of plan past o ≡ Some e.place → is_within plan e.place q ≡ true → uses plan q o ≡ true
   uses_round past e o q legal held w =
       let at : live_uses plan o past q ≡ is_within plan e.place q = holds_within plan playable.tree past legal o q ∙ ap (λ x. in_within plan x q) held in
@@ -229,8 +225,7 @@ module _ (plan : Plan) (playable : IsPlayable plan) where
   -- a kept place has restored nothing
   kept_whole : (past : List Entry) (q : ℕ) (f : Option Entry) → LegalPast plan past → newest (is_in kind.End q) past ≡ f → is_kept_mark f ≡ true → has kind.Restore past q ≡ false
   kept_whole past q None legal w k = absurd (false≢true k)
-  kept_whole past q (Some f) legal w k =
-      (outcomes plan past legal q f w).kept (below_two f.mark k)
+  kept_whole past q (Some f) legal w k = (outcomes plan past legal q f w).kept (below_two f.mark k)
 
   -- a write is kept as long as no later restore undoes it
   kept_or_undone : (past : List Entry) (o : ℕ) → LegalPast plan past → AllOver plan past → has_failed_restore past o ≡ false → (later before : List Entry) (e : Entry) → Splits past later e before → writes o e ≡ true → is_kept plan past e.place ≡ not (list_any (restores_round plan o e.place) later)
