@@ -31,7 +31,7 @@ ended_after p [] past h = h
 ended_after p (e ∷ later) past h = or_right _ _ (ended_after p later past h)
 
 -- an End of p
-end_row : (plan : Plan) (past : List Entry) (k : Kind) (e : Entry) (p : ℕ) → Row k plan past (of_kind k e) → is_in kind.End p (of_kind k e) ≡ true → MayEnd plan past (of_kind kind.End e) × (e.place ≡ p)
+pub end_row : (plan : Plan) (past : List Entry) (k : Kind) (e : Entry) (p : ℕ) → Row k plan past (of_kind k e) → is_in kind.End p (of_kind k e) ≡ true → MayEnd plan past (of_kind kind.End e) × (e.place ≡ p)
 end_row plan past kind.End e p h w = (h, eqb-true e.place p w)
 end_row plan past _ e p h w = absurd (false≢true w)
 

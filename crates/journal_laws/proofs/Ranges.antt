@@ -1,5 +1,5 @@
 -- The exceptions and values that a legal journal of a playable plan names are in range.
-use Rattle.std.proofs.Common.{◌≡◌, ℕ, ℤ, pos, negsuc, ◌+ℤ◌, int_lt, ◌==◌, ◌+◌, ◌*◌, ◌<◌, Bool, true, false, not, cond, ◌&&◌, ◌||◌, List, [], ◌∷◌, Option, Some, None, refl, sym, subst, arith, inl, inr, zero, suc, length, slice_index_or, is_none, MatchOption}
+use Rattle.std.proofs.Common.{◌≡◌, ℕ, ℤ, pos, negsuc, ◌+ℤ◌, int_lt, ◌==◌, ◌+◌, ◌*◌, ◌<◌, Bool, true, false, not, cond, ◌&&◌, ◌||◌, List, [], ◌∷◌, Option, Some, None, refl, subst, arith, inl, inr, zero, suc, length, slice_index_or, is_none, MatchOption}
 use Rattle.std.specs.List.{All}
 use Rattle.std.proofs.Math.Nat.{mod-lt}
 use Rattle.std.proofs.lemmas.Int.{ints}
@@ -100,6 +100,11 @@ place_known plan p t m = in_table plan.places p m
     in_table [] p m = absurd (false≢true m)
     in_table (row ∷ rows) zero m = omega arith
     in_table (row ∷ rows) (suc p) m = let more = in_table rows p m in omega arith
+
+-- the verdict that is due in a hot place: from a handler, or from a role without one
+abbrev pub recovery_verdict : Plan → List Entry → ℕ → ℕ → Option Verdict
+recovery_verdict plan past p t =
+    cond (has_handled past p t) (cond (is_handling past p t) (handler_verdict plan past p t) None) (cond (has_given plan past p t) None (unhandled_verdict plan p t (exception_resolved past p)))
 
 one_or_none : (P : ℕ → Type 0) (b : Bool) (x : ℕ) → (b ≡ true → P x) → All P (cond b (x ∷ []) [])
 one_or_none P true x h = All-cons P x [] (h refl) (All-nil P)
@@ -235,7 +240,7 @@ module _ (plan : Plan) (playable : IsPlayable plan) where
   handler_in_range past p t v h =
       elim (chosen (breaks_off plan past p t) (Some verdict.Undo) (final_verdict plan past p t) (Some v) h) [ inl z ↦ undo_in_range _ v z.1 | inr z ↦ final_in_range past p t v z.1 ]
 
-  hot_in_range : (past : List Entry) (p t : ℕ) (v : Verdict) → cond (has_handled past p t) (cond (is_handling past p t) (handler_verdict plan past p t) None) (cond (has_given plan past p t) None (unhandled_verdict plan p t (exception_resolved past p))) ≡ Some v → verdict_in_range (interface_of plan p).count v ≡ true
+  hot_in_range : (past : List Entry) (p t : ℕ) (v : Verdict) → recovery_verdict plan past p t ≡ Some v → verdict_in_range (interface_of plan p).count v ≡ true
   hot_in_range past p t v h =
       elim (chosen (has_handled past p t) _ _ (Some v) h) [
         | inl a ↦ elim (chosen (is_handling past p t) (handler_verdict plan past p t) None (Some v) a.1) [ inl b ↦ handler_in_range past p t v b.1 | inr b ↦ absurd cc ]

@@ -1,7 +1,7 @@
 -- Which restores were tried: none before the Undo of its place, and each object of a place at most once.
 use Rattle.std.proofs.Common.{◌≡◌, ℕ, ◌==◌, ◌+◌, Bool, true, false, cond, ◌&&◌, ◌||◌, List, [], ◌∷◌, refl, subst, subst₂, arith, inl, inr, count_by}
 use Rattle.std.proofs.lemmas.List.Sums.{sum_by-cons}
-use Rattle.std.proofs.lemmas.Bool.{and_right, and_parts, or_cases, or_right, or_parts, eqb-true, false≢true}
+use Rattle.std.proofs.lemmas.Bool.{or_cases, or_right, or_parts, eqb-true, false≢true}
 use Rattle.caa_base.specs.declared.entry.Entry.{Entry}
 use Rattle.caa_base.specs.declared.entry.Kind.{Kind}
 use Rattle.caa_base.specs.declared.entry.Kind.TheVariants as kind
