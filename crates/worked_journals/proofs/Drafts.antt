@@ -213,16 +213,16 @@ never_enters_breaks : broken_rule never_enters ≡ Some 6
 unfolding unfold_at depth_within action_bound
 never_enters_breaks = refl
 
--- the outer action of that plan, round this one
-abbrev pub round : ℕ → ActionRow
-round action = record inner_committed.outer_action { nests = (record inner_committed.outer_n { actions = action ∷ [] }) ∷ [] }
+-- an action that nests this one alone
+abbrev pub action_round : ℕ → ActionRow
+action_round action = record inner_committed.outer_action { nests = (record inner_committed.outer_n { actions = action ∷ [] }) ∷ [] }
 
-abbrev pub eight_deep : List ActionRow
-eight_deep = inner_committed.inner_action ∷ round 0 ∷ round 1 ∷ round 2 ∷ round 3 ∷ round 4 ∷ round 5 ∷ round 6 ∷ []
+abbrev pub actions_eight_deep : List ActionRow
+actions_eight_deep = inner_committed.inner_action ∷ action_round 0 ∷ action_round 1 ∷ action_round 2 ∷ action_round 3 ∷ action_round 4 ∷ action_round 5 ∷ action_round 6 ∷ []
 
--- eight deep is as deep as may be
+-- nesting goes eight deep at most, and this draft does
 abbrev pub nests_eight_deep : Draft
-nests_eight_deep = record (draft_of inner_committed.plan (play_of 7 (inner_committed.ann ∷ []) ∷ [])) { actions = eight_deep }
+nests_eight_deep = record (draft_of inner_committed.plan (play_of 7 (inner_committed.ann ∷ []) ∷ [])) { actions = actions_eight_deep }
 
 nests_eight_deep_is_whole : broken_rule nests_eight_deep ≡ None
 unfolding unfold_at depth_within action_bound
@@ -230,7 +230,7 @@ nests_eight_deep_is_whole = refl
 
 -- rule 8: nine deep
 abbrev pub nests_nine_deep : Draft
-nests_nine_deep = record (draft_of inner_committed.plan (play_of 8 (inner_committed.ann ∷ []) ∷ [])) { actions = eight_deep ++ round 7 ∷ [] }
+nests_nine_deep = record (draft_of inner_committed.plan (play_of 8 (inner_committed.ann ∷ []) ∷ [])) { actions = actions_eight_deep ++ action_round 7 ∷ [] }
 
 nests_nine_deep_breaks : broken_rule nests_nine_deep ≡ Some 8
 unfolding unfold_at depth_within action_bound

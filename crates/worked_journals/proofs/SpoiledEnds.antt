@@ -1,6 +1,6 @@
--- Wrong rules for how a place starts, is undone, ends and is left, and a wrong bound. Each lets a journal through that the right
--- ones refuse, and that breaks a law: so each shows what one condition of a rule is for.
-use Rattle.std.proofs.Common.{◌≡◌, ℕ, ℤ, pos, ◌+◌, ◌*◌, ◌≤◌, Bool, true, false, not, ◌||◌, ◌&&◌, if◌then◌else◌, ◌==◌, List, [], ◌∷◌, ◌++◌, length, reverse, take, Option, Some, None, MatchBool, inl, arith, refl, ap, sum_by}
+-- Wrong rules for how a place starts, is undone, ends and is left, and a wrong bound. Each leaves out one condition of a right rule, and
+-- lets a journal through that the right rules refuse and that breaks a law. So each shows what one condition is there for.
+use Rattle.std.proofs.Common.{◌≡◌, ℕ, pos, ◌+◌, ◌*◌, ◌≤◌, Bool, true, false, not, ◌||◌, ◌&&◌, if◌then◌else◌, ◌==◌, List, [], ◌∷◌, ◌++◌, length, take, Option, Some, None, MatchBool, inl, arith, refl, ap, sum_by}
 use Rattle.std.specs.Prelude.{slice_index_or, nat_abs}
 use Rattle.std.specs.List.{list_any}
 use Rattle.std.proofs.lemmas.Bool.{false≢true, true≢false}
@@ -20,9 +20,9 @@ use Rattle.place_plan.specs.Rules.{Row, IsPlain, Names, EndsAgreed, undone_mark,
 use Rattle.place_plan.specs.Bound.{longest_body, longest_handler}
 use Rattle.place_plan.specs.Journals.{IsLegal, IsComplete}
 use Rattle.journal_laws.specs.Laws.{ExitLaw, OutcomeLaw, EffectLaw, IsolationLaw}
-use Rattle.worked_journals.proofs.Notation.{arrive, start, read, write, work, verdict_done, verdict_undo, undo, end_commit, end_undone, leave, complete_from, rule_at}
-use Rattle.worked_journals.proofs.Spoiled.{replaced}
-use Rattle.worked_journals.proofs.SpoiledRules.{RuleBook, LegalBy, IsTooLax, before, after}
+use Rattle.worked_journals.proofs.Notation.{arrive, start, read, work, verdict_done, end_commit, end_undone, leave, complete_from, rule_at}
+use Rattle.worked_journals.proofs.Spoiled.{ends_undone_after_refusal, ends_undone_after_refusal_is_illegal}
+use Rattle.worked_journals.proofs.SpoiledRules.{RuleBook, IsTooLax, entries_before, entries_after}
 use Rattle.worked_journals.proofs.FirstPath as first_path
 use Rattle.worked_journals.proofs.FirstPath.{ann, bob, x}
 use Rattle.worked_journals.proofs.RestoreFails as restore_fails
@@ -31,7 +31,9 @@ use Rattle.worked_journals.proofs.InnerCommitted as inner_committed
 use Rattle.worked_journals.proofs.TwoPlays as two_plays
 use Rattle.worked_journals.proofs.ThreeLevels as three_levels
 
--- ---- a start while an object is held elsewhere
+-- ---- a Start while an object is held elsewhere
+--
+-- Two places that change one object at the same time lose one of the changes, and neither could be undone without the other.
 
 -- the rule of a Start, but for the condition that the objects of the place have come back
 pub record StartsWhileHeld (plan : Plan) (past : List Entry) (e : Entry) : Type 0 where
@@ -45,7 +47,7 @@ abbrev pub starts_while_held : RuleBook
 starts_while_held kind.Start = StartsWhileHeld
 starts_while_held k = Row k
 
--- ann has read the object and is about to change it, and bob's play starts and reads it too: one of the two changes will be lost
+-- ann has read the object and is about to add to it, and bob's play starts and reads it too
 abbrev pub both_read : List Entry
 both_read =
     arrive 0 ann
@@ -60,10 +62,13 @@ pub starts_while_held_is_too_lax : IsTooLax starts_while_held IsolationLaw two_p
 starts_while_held_is_too_lax = record {
   lets_through = assumption;
   refused = λ h. absurd (false≢true (rule_at two_plays.plan both_read 4 h).ready);
-  breaks = λ law. absurd (false≢true (law.nested (read 1 bob x 0 ∷ []) (before 5 both_read) 0 1 x refl refl refl refl refl));
+  breaks = λ law. absurd (false≢true (law.nested (read 1 bob x 0 ∷ []) (entries_before 5 both_read) 0 1 x refl refl refl refl refl));
 }
 
 -- ---- an undo that spares what an inner action wrote
+--
+-- What an inner action commits is final only once the outer one ends well. If the outer one is undone, it must be as if neither had
+-- been.
 
 -- p wrote o, and not only a place inside it
 abbrev pub wrote_itself : List Entry → ℕ → ℕ → Bool
@@ -81,20 +86,20 @@ pub record RestoresOwn (plan : Plan) (past : List Entry) (e : Entry) : Type 0 wh
   pub value : e.value ≡ value_of plan (before_start past e.place) e.arg
   pub mark : (e.mark == 0) || (e.mark == 1) ≡ true
 
-pub record EndsOwnUndone (plan : Plan) (past : List Entry) (e : Entry) : Type 0 where
+pub record EndsAfterOwn (plan : Plan) (past : List Entry) (e : Entry) : Type 0 where
   pub lasts : has_ended past e.place ≡ false
   pub all_tried : next_own_restore plan past e.place ≡ None
   pub mark : e.mark ≡ undone_mark past e.place
   pub arg : e.arg ≡ 0
 
-pub record MayEndOwn (plan : Plan) (past : List Entry) (e : Entry) : Type 0 where
+pub record MayEndAfterOwn (plan : Plan) (past : List Entry) (e : Entry) : Type 0 where
   pub here : inside plan past e.by ≡ Some e.place
-  pub how : MatchBool (is_undoing past e.place) (EndsOwnUndone plan past e) (EndsAgreed plan past e)
+  pub how : MatchBool (is_undoing past e.place) (EndsAfterOwn plan past e) (EndsAgreed plan past e)
   pub value : e.value ≡ pos 0
 
 abbrev pub undo_spares_inner : RuleBook
 undo_spares_inner kind.Restore = RestoresOwn
-undo_spares_inner kind.End = MayEndOwn
+undo_spares_inner kind.End = MayEndAfterOwn
 undo_spares_inner k = Row k
 
 -- the inner action wrote 5 and committed; the outer one asks for undo, and yet the 5 stays
@@ -111,7 +116,10 @@ undo_spares_inner_is_too_lax = record {
   breaks = λ law. absurd (omega (arith, ap nat_abs (law inner_write_stays_is_complete x refl)));
 }
 
--- ---- an undo that ends well though a restore was refused
+-- ---- an undo that ends as undone though a restore was refused
+--
+-- Undone says to everyone outside that all objects have their old values. If the device refused to put one back, that isn't so, and
+-- the End has to say failed.
 
 -- the End of an undo, with a mark that says nothing of refused restores
 pub record EndsUndoneAnyway (plan : Plan) (past : List Entry) (e : Entry) : Type 0 where
@@ -129,18 +137,18 @@ abbrev pub failed_restore_ends_undone : RuleBook
 failed_restore_ends_undone kind.End = MayEndAnyway
 failed_restore_ends_undone k = Row k
 
--- the device refuses to put the old value of y back, and the End says all the same that the action has left no trace
-abbrev pub says_undone : List Entry
-says_undone = replaced 8 (end_undone 0 ann) restore_fails.journal
-
-pub failed_restore_ends_undone_is_too_lax : IsTooLax failed_restore_ends_undone OutcomeLaw restore_fails.plan says_undone
+-- the device refuses to put the old value of y back, and the End says undone
+pub failed_restore_ends_undone_is_too_lax : IsTooLax failed_restore_ends_undone OutcomeLaw restore_fails.plan ends_undone_after_refusal
 failed_restore_ends_undone_is_too_lax = record {
   lets_through = assumption;
-  refused = λ h. let wrong = (rule_at restore_fails.plan says_undone 8 h).how.mark in cc;
+  refused = ends_undone_after_refusal_is_illegal;
   breaks = λ law. absurd (false≢true ((law 0 (end_undone 0 ann) refl).undone (inl refl) y refl));
 }
 
--- ---- a Leave at one's own verdict
+-- ---- a Leave at the participant's own verdict
+--
+-- Roles leave together, after all have agreed on how the action ends. A role that has said done may still be needed: if another
+-- raises something, all recover together.
 
 -- the rule of a Leave, but for the wait until the place has ended: the participant's own verdict is enough
 pub record LeavesAtOwnVerdict (plan : Plan) (past : List Entry) (e : Entry) : Type 0 where
@@ -153,7 +161,7 @@ abbrev pub leaves_at_own_verdict : RuleBook
 leaves_at_own_verdict kind.Leave = LeavesAtOwnVerdict
 leaves_at_own_verdict k = Row k
 
--- bob is gone while ann still works: had ann met trouble then, bob would not have been there to recover with it
+-- bob says done and is gone while ann still works
 abbrev pub bob_leaves_first : List Entry
 bob_leaves_first =
     arrive 0 ann
@@ -172,19 +180,22 @@ pub leaves_at_own_verdict_is_too_lax : IsTooLax leaves_at_own_verdict ExitLaw fi
 leaves_at_own_verdict_is_too_lax = record {
   lets_through = assumption (first_path.mixed);
   refused = λ h. absurd (false≢true (rule_at first_path.plan bob_leaves_first 5 h).when);
-  breaks = λ law. absurd (true≢false (law 0 (after 8 bob_leaves_first) (before 8 bob_leaves_first) (end_commit 0 ann) refl refl).together);
+  breaks = λ law. absurd (true≢false (law 0 (entries_after 8 bob_leaves_first) (entries_before 8 bob_leaves_first) (end_commit 0 ann) refl refl).together);
 }
 
 -- ---- a bound that counts the steps of a role alone
+--
+-- A role has up to eight entries that are no steps: it arrives, is halted, says a verdict before a resolution and one after it, begins
+-- its handler, is refused a put there, gives up, leaves.
 
--- for each role its steps, without the eight for what else it does; the rest as in the right bound
+-- for each role its steps, without the eight; the rest as in the right bound
 abbrev pub action_steps : ActionRow → ℕ → ℕ
 action_steps action roles = roles * (longest_body action.roles + longest_handler action.roles) + length action.objects + 4
 
 abbrev pub bound_of_steps : Plan → ℕ
 bound_of_steps plan = sum_by (λ (row : PlaceRow). action_steps (slice_index_or plan.actions row.action no_action) (length row.roles)) plan.places
 
--- the journal with three levels is legal and complete, and has 27 entries: this bound would leave memory for 19
+-- the journal with three levels is legal and complete and has 27 entries, where this bound allows 19
 pub bound_of_steps_is_short : (bound_of_steps three_levels.plan ≡ 19) × (length three_levels.journal ≡ 27)
 bound_of_steps_is_short = (refl, refl)
 

@@ -1,5 +1,5 @@
--- Wrong rules for the time after something was raised. Each lets a journal through that the right rules refuse, and that breaks a
--- law: so each shows what one condition of a rule is for.
+-- Wrong rules for what comes once something was raised. Each leaves out one condition of a right rule, and lets a journal through that
+-- the right rules refuse and that breaks a law. So each shows what one condition is there for.
 use Rattle.std.proofs.Common.{◌≡◌, ℕ, pos, Bool, true, false, not, ◌&&◌, ◌||◌, if◌then◌else◌, List, [], ◌∷◌, ◌++◌, length, reverse, codes, suc, take, drop, Option, Some, None, MatchBool, arith, refl, ap, subst}
 use Rattle.std.specs.Prelude.{is_none}
 use Rattle.std.proofs.lemmas.Bool.{false≢true, true≢false}
@@ -8,7 +8,6 @@ use Rattle.caa_base.specs.declared.entry.Entry.{Entry}
 use Rattle.caa_base.specs.declared.entry.Kind.{Kind}
 use Rattle.caa_base.specs.declared.entry.Kind.TheVariants as kind
 use Rattle.caa_base.specs.declared.entry.Verdict.TheVariants as verdict
-use Rattle.place_plan.specs.declared.rows.ActionRow.{ActionRow}
 use Rattle.place_plan.specs.declared.rows.RoleRow.{RoleRow}
 use Rattle.place_plan.specs.PlanValue.{Plan}
 use Rattle.place_plan.specs.Bound.{action_bound}
@@ -33,7 +32,7 @@ use Rattle.worked_journals.proofs.TwoSiblings as two_siblings
 use Rattle.worked_journals.proofs.TwoSiblings.{ann, bob, x, mid, left, right}
 use Rattle.worked_journals.proofs.ThreeLevels as three_levels
 use Rattle.worked_journals.proofs.ThreeLevels.{big, stop, bent, bad}
-use Rattle.worked_journals.proofs.Spoiled.{replaced}
+use Rattle.worked_journals.proofs.Spoiled.{carries_into_doom, carries_into_doom_is_illegal}
 
 -- ---- rules that are too lax
 
@@ -51,20 +50,23 @@ pub legal_by_rows : (plan : Plan) (past : List Entry) → LegalBy Row plan past 
 legal_by_rows plan [] h = tt
 legal_by_rows plan (e ∷ past) h = (legal_by_rows plan past h.0, h.1)
 
--- these rules let a journal through that the right rules refuse, and that breaks a law
+-- the rules let this journal through, the right rules refuse it, and it breaks the law
 pub record IsTooLax (rules : RuleBook) (Law : Plan → List Entry → Type 0) (plan : Plan) (journal : List Entry) : Type 0 where
   pub lets_through : LegalBy rules plan (reverse journal)
   pub refused : IsLegal plan journal → ⊥
   pub breaks : Law plan (reverse journal) → ⊥
 
 -- what stands before the entry with this index of a journal, and after it; the newest stands first
-abbrev pub before : ℕ → List Entry → List Entry
-before index journal = reverse (take index journal)
+abbrev pub entries_before : ℕ → List Entry → List Entry
+entries_before index journal = reverse (take index journal)
 
-abbrev pub after : ℕ → List Entry → List Entry
-after index journal = reverse (drop (suc index) journal)
+abbrev pub entries_after : ℕ → List Entry → List Entry
+entries_after index journal = reverse (drop (suc index) journal)
 
 -- ---- a Resolve that doesn't wait for all roles
+--
+-- A role that isn't halted may still raise something of its own. If the exception to recover from is chosen before, it doesn't cover
+-- what comes then, and nobody recovers from that.
 
 -- the rule of a Resolve, but for the wait until all roles are halted
 pub record ResolvesEarly (plan : Plan) (past : List Entry) (e : Entry) : Type 0 where
@@ -80,20 +82,20 @@ resolves_early kind.Resolve = ResolvesEarly
 resolves_early k = Row k
 
 -- the two siblings, each with a handler for `right` too
-abbrev pub handling_right : RoleRow → RoleRow
-handling_right role = record role { handlers = handler right (program [] verdict.Done) ∷ role.handlers }
+abbrev pub with_right_handler : RoleRow → RoleRow
+with_right_handler role = record role { handlers = handler right (program [] verdict.Done) ∷ role.handlers }
 
 abbrev pub siblings : Plan
 siblings =
     record two_siblings.plan {
-      actions = (record two_siblings.duo_action { roles = handling_right two_siblings.duo_a ∷ handling_right two_siblings.duo_b ∷ [] }) ∷ [];
+      actions = (record two_siblings.duo_action { roles = with_right_handler two_siblings.duo_a ∷ with_right_handler two_siblings.duo_b ∷ [] }) ∷ [];
     }
 
 siblings_unfold : UnfoldsInto (draft_of siblings (play_of 0 (ann ∷ bob ∷ []) ∷ [])) siblings
 unfolding unfold_at depth_within action_bound
 siblings_unfold = record { whole = refl; same = refl }
 
--- bob raises, resolves and handles `right` before ann raises `left`: what ann met is handled by nobody
+-- bob raises, resolves and handles `right`, and only then ann raises `left`, which `right` doesn't cover
 abbrev pub left_comes_late : List Entry
 left_comes_late =
     arrive 0 ann
@@ -118,10 +120,12 @@ pub resolves_early_is_too_lax : IsTooLax resolves_early ResolutionLaw siblings l
 resolves_early_is_too_lax = record {
   lets_through = assumption (right_is_least);
   refused = λ h. absurd (false≢true (rule_at siblings left_comes_late 4 h).together);
-  breaks = λ law. absurd (false≢true ((law.handles 0).least (after 5 left_comes_late) (before 5 left_comes_late) (handle 0 bob right) refl refl).above);
+  breaks = λ law. absurd (false≢true ((law.handles 0).least (entries_after 5 left_comes_late) (entries_before 5 left_comes_late) (handle 0 bob right) refl refl).above);
 }
 
 -- ---- a Handle of another exception than the resolved one
+--
+-- All roles are to recover from one and the same trouble, as the least cover of all that was raised names it.
 
 -- the rule of a Handle, but for which exception it is: once the place is resolved, any for which the role has a handler
 pub record HandlesAnother (plan : Plan) (past : List Entry) (e : Entry) : Type 0 where
@@ -137,7 +141,7 @@ abbrev pub handles_another : RuleBook
 handles_another kind.Handle = HandlesAnother
 handles_another k = Row k
 
--- the two siblings are resolved to `mid`, and yet bob goes on with what it raised itself: the two recover from different troubles
+-- the action is resolved to `mid`; ann handles that, and bob what it raised itself
 abbrev pub bob_handles_right : List Entry
 bob_handles_right =
     arrive 0 ann
@@ -164,11 +168,14 @@ handles_another_is_too_lax = record {
   lets_through = assumption (mid_is_least);
   refused = λ h. let wrong = (rule_at siblings bob_handles_right 7 h).resolution in cc;
   breaks = λ law.
-      let both = (law.handles 0).one (after 6 bob_handles_right) (before 6 bob_handles_right) (after 7 bob_handles_right) (before 7 bob_handles_right) (handle 0 ann mid) (handle 0 bob right) refl refl refl refl in
+      let both = (law.handles 0).one (entries_after 6 bob_handles_right) (entries_before 6 bob_handles_right) (entries_after 7 bob_handles_right) (entries_before 7 bob_handles_right) (handle 0 ann mid) (handle 0 bob right) refl refl refl refl in
       absurd (omega (arith, both));
 }
 
--- ---- an Abort that doesn't wait for who is further in
+-- ---- an Abort that doesn't wait for those further in
+--
+-- Work is given up from the inside out. If the outer place is given up first, the inner one still works on objects of a place that
+-- nobody stands by any more.
 
 -- the rule of an Abort, but for the wait until all roles have come back into the place
 pub record AbortsFirst (plan : Plan) (past : List Entry) (e : Entry) : Type 0 where
@@ -201,9 +208,9 @@ levels =
           three_levels.deep_action
           ∷ (record three_levels.mid_action { roles = three_levels.mid_m ∷ mid_n ∷ [] })
           ∷ (record three_levels.outer_action {
-              roles = three_levels.outer_a ∷ three_levels.outer_b ∷ outer_c ∷ [];
-              nests = (record three_levels.outer_n { roles = 0 ∷ 2 ∷ [] }) ∷ [];
-            }) ∷ [];
+            roles = three_levels.outer_a ∷ three_levels.outer_b ∷ outer_c ∷ [];
+            nests = (record three_levels.outer_n { roles = 0 ∷ 2 ∷ [] }) ∷ [];
+          }) ∷ [];
       places =
           play 2 (ann ∷ bob ∷ cid ∷ []) ((1 ∷ []) ∷ [])
           ∷ inner (0 ∷ []) 0 1 (ann ∷ cid ∷ []) ((2 ∷ []) ∷ [])
@@ -260,10 +267,13 @@ pub outer_aborts_first_is_too_lax : IsTooLax outer_aborts_first InnerFirstLaw le
 outer_aborts_first_is_too_lax = record {
   lets_through = assumption (big_is_least);
   refused = λ h. absurd (false≢true (rule_at levels cid_aborts_first 11 h).together);
-  breaks = λ law. absurd (false≢true (law 1 2 (after 11 cid_aborts_first) (before 11 cid_aborts_first) (abort_naming 1 cid bad) refl refl refl refl));
+  breaks = λ law. absurd (false≢true (law 1 2 (entries_after 11 cid_aborts_first) (entries_before 11 cid_aborts_first) (abort_naming 1 cid bad) refl refl refl refl));
 }
 
 -- ---- a commit in a doomed place
+--
+-- Once something was raised round a place, its roles have one way out of it, which is to give up. If an agreement could still end
+-- it, they would have two.
 
 -- the End of an agreement, but for the condition that nothing was raised round the place
 pub record EndsInDoom (plan : Plan) (past : List Entry) (e : Entry) : Type 0 where
@@ -291,7 +301,7 @@ AtMostOneBy rules plan past =
 pub at_most_one_by_rows : (plan : Plan) → Holds AtMostOne plan → Holds (AtMostOneBy Row) plan
 at_most_one_by_rows plan law past legal later before split e f = law before (legal_rest plan later before (subst (LegalPast plan) split legal)) e f
 
--- bob raises while ann, in the innermost place, has said done: ann may then end that place well, and may give it up just as well
+-- bob raises when ann, in the innermost place, has said done: ann may then end that place as if all were well, and may also give up
 abbrev pub ann_commits_in_doom : List Entry
 ann_commits_in_doom =
     arrive 0 ann
@@ -321,18 +331,20 @@ ann_commits_in_doom =
     ∷ leave 0 bob
     ∷ []
 
--- what this journal has done, the laws on whole journals allow: ann's work is undone with the place round it. But what a participant
--- does next would be no longer settled by the journal
+-- taken as a whole this journal does no harm, since what ann wrote is undone with the place round it. What breaks is the law that a
+-- participant has at most one entry: after bob's raise it is no longer settled by the journal what ann does
 pub inner_commit_after_doom_is_too_lax : IsTooLax inner_commit_after_doom (AtMostOneBy inner_commit_after_doom) three_levels.plan ann_commits_in_doom
 inner_commit_after_doom_is_too_lax = record {
   lets_through = assumption (three_levels.big_is_least);
   refused = λ h. absurd (true≢false (rule_at three_levels.plan ann_commits_in_doom 10 h).how.spared);
   breaks = λ law.
-      let two = law (reverse (drop 10 ann_commits_in_doom)) (before 10 ann_commits_in_doom) refl (end_commit 2 ann) (abort_naming 2 ann bad) (assumption) (assumption) refl in
+      let two = law (reverse (drop 10 ann_commits_in_doom)) (entries_before 10 ann_commits_in_doom) refl (end_commit 2 ann) (abort_naming 2 ann bad) (assumption) (assumption) refl in
       absurd (omega (arith, ap (λ e. code_of e.kind) two));
 }
 
 -- ---- an exception that is carried into a doomed place
+--
+-- In a doomed place nobody resolves or handles anything, its roles only give up. An exception that is raised there is lost.
 
 -- what is carried out, but for the condition that the place round it isn't doomed
 abbrev pub carried_into_doom : Plan → List Entry → ℕ → ℕ → Option ℕ
@@ -369,17 +381,14 @@ doom_is_quiet plan tree past legal p later before e split doom =
     not_open false true h = refl
     not_open a false h = absurd (false≢true h)
 
--- what ann's abort in the innermost place names is raised in `mid`, which is itself given up: nobody there will resolve it
-abbrev pub raised_in_doom : List Entry
-raised_in_doom = replaced 13 (leave_carrying 2 ann universal) three_levels.journal
-
--- a place that is given up owes no resolution, so the laws on whole journals allow this one. What breaks is a lemma on which the
--- proofs of the exit law and of the resolution law stand
-pub carries_past_doom_is_too_lax : IsTooLax carries_past_doom DoomIsQuiet three_levels.plan raised_in_doom
+-- what ann names where it gives up in the innermost place is raised in the place round that one, which is given up as well. The
+-- resolution law asks nothing of a place that is given up, so this journal does not break it. What breaks is a lemma from which the
+-- exit law and the resolution law are proved: what was raised in a place stays as it is once the place is doomed
+pub carries_past_doom_is_too_lax : IsTooLax carries_past_doom DoomIsQuiet three_levels.plan carries_into_doom
 carries_past_doom_is_too_lax = record {
   lets_through = assumption (three_levels.big_is_least);
-  refused = λ h. let wrong = (rule_at three_levels.plan raised_in_doom 13 h).carries.0 in cc;
+  refused = carries_into_doom_is_illegal;
   breaks = λ quiet.
-      let same = quiet 1 (after 13 raised_in_doom) (before 13 raised_in_doom) (leave_carrying 2 ann universal) refl refl in
+      let same = quiet 1 (entries_after 13 carries_into_doom) (entries_before 13 carries_into_doom) (leave_carrying 2 ann universal) refl refl in
       absurd (omega (arith, ap length same));
 }
