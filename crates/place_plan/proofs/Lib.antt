@@ -1,4 +1,5 @@
 pub mod Words
+pub mod Unfolded
 pub mod Entries
 pub mod LegalProp
 pub mod BuiltDrafts
