@@ -1,5 +1,6 @@
 pub mod Words
 pub mod Unfolded
+pub mod UnfoldedPlan
 pub mod Entries
 pub mod LegalProp
 pub mod BuiltDrafts

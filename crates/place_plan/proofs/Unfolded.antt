@@ -81,7 +81,7 @@ pub record IsInstance (plan : Plan) (p : ℕ) : Type 0 where
 abbrev pub AllInstances : Plan → ℕ → ℕ → Type 0
 AllInstances plan n count = (p : ℕ) → n ≤ p → p < n + count → IsInstance plan p
 
-both_instances : (plan : Plan) (n : ℕ) (xs ys : List PlaceRow) → AllInstances plan n (length xs) → AllInstances plan (n + length xs) (length ys) → AllInstances plan n (length (xs ++ ys))
+pub both_instances : (plan : Plan) (n : ℕ) (xs ys : List PlaceRow) → AllInstances plan n (length xs) → AllInstances plan (n + length xs) (length ys) → AllInstances plan n (length (xs ++ ys))
 both_instances plan n xs ys a b p l h = either (p_side p (n + length xs))
   where
     p_side : (p m : ℕ) → (p < m) ⊎ (m ≤ p)
@@ -121,7 +121,7 @@ less_deep : (d : ℕ) (actions : List ActionRow) (a : ℕ) → Fits (suc d) acti
 unfolding depth_within
 less_deep d actions a f = omega arith
 
-placed_at : (plan : Plan) (d : ℕ) (a : ℕ) (who outer : List ℕ) (i n : ℕ) → Fits d plan.actions a → Sits plan.places n (unfold_at d plan.actions a who outer i n) → IsPlaced plan n outer who i (a ∷ [])
+pub placed_at : (plan : Plan) (d : ℕ) (a : ℕ) (who outer : List ℕ) (i n : ℕ) → Fits d plan.actions a → Sits plan.places n (unfold_at d plan.actions a who outer i n) → IsPlaced plan n outer who i (a ∷ [])
 unfolding unfold_at
 placed_at plan zero a who outer i n f s = absurd (not_bottom plan.actions a f)
 placed_at plan (suc d) a who outer i n f s =
