@@ -1,10 +1,11 @@
 pub mod Words
-pub mod Unfolded
+pub mod Passing
+pub mod DraftKeeps
+pub mod ActionSizes
+pub mod Subtrees
 pub mod UnfoldedPlan
+pub mod Casts
 pub mod Entries
 pub mod LegalProp
-pub mod BuiltDrafts
 pub mod ClosedPlan
-pub mod Closing
-pub mod Played
 pub mod Values

@@ -12,7 +12,8 @@ use Rattle.place_plan.specs.Places.{place_at, around, roles_of, nest_number, alt
 use Rattle.place_plan.specs.Unfolding.{Unfolding, unfold_at, plays_from, tops_from, plan_of, most_depth}
 use Rattle.place_plan.specs.DraftRules.{depth_within, depths_fit, depth_rule}
 use Rattle.place_plan.proofs.Words.{Rises-weaker, member_above}
-use Rattle.place_plan.proofs.Unfolded.{Sits, sits_first, sits_second, sits_all, IsPlaced, IsKnown, RowsRise, IsInstance, AllInstances, both_instances, Fits, has_place, placed_at, all_grow}
+use Rattle.place_plan.proofs.Passing.{past_end, below_or_not}
+use Rattle.place_plan.proofs.Subtrees.{Sits, sits_first, sits_second, sits_all, IsPlaced, IsKnown, RowsRise, IsInstance, AllInstances, both_instances, Fits, has_place, placed_at, all_grow}
 
 -- ---- the plays
 
@@ -55,12 +56,6 @@ module _ (plan : Plan) (d : ℕ) (fits : (a : ℕ) → Fits d plan.actions a) wh
 
 -- ---- the depth of all actions
 
--- past the end of a list is the default
-pub past_end : {A : Type 0} (xs : List A) (i : ℕ) (d : A) → length xs ≤ i → slice_index_or xs i d ≡ d
-past_end [] i d l = refl
-past_end (x ∷ xs) zero d l = absurd (omega arith)
-past_end (x ∷ xs) (suc i) d l = past_end xs i d (omega arith)
-
 depth_below : (n : ℕ) (actions rest : List ActionRow) → depths_fit n actions rest ≡ true → (i : ℕ) → i < length rest → depth_within (suc most_depth) actions (n + i) ≤ most_depth
 depth_below n actions [] h i l = absurd (omega arith)
 depth_below n actions (a ∷ rest) h zero l =
@@ -72,11 +67,6 @@ depth_below n actions (a ∷ rest) h (suc i) l =
 no_depth : (actions : List ActionRow) (a : ℕ) → length actions ≤ a → depth_within (suc most_depth) actions a ≤ most_depth
 unfolding depth_within
 no_depth actions a l = rw (past_end actions a no_action l) (omega arith)
-
-below_or_not : (a n : ℕ) → (a < n) ⊎ (n ≤ a)
-below_or_not a zero = inr (omega arith)
-below_or_not zero (suc n) = inl (omega arith)
-below_or_not (suc a) (suc n) = elim (below_or_not a n) [ inl x ↦ inl (omega arith) | inr x ↦ inr (omega arith) ]
 
 pub all_fit_depth : (draft : Draft) → depth_rule draft ≡ true → (a : ℕ) → Fits most_depth draft.actions a
 all_fit_depth draft h a = elim (below_or_not a (length draft.actions)) [

@@ -10,6 +10,7 @@ use Rattle.place_plan.specs.Places.{place_at, action_at, action_in, around, role
 use Rattle.place_plan.specs.Unfolding.{Unfolding, cast_of, alternates_from, numbers_from, use_from, uses_from, children_from, unfold_at}
 use Rattle.place_plan.specs.DraftRules.{deepest_of, deepest, depth_within}
 use Rattle.place_plan.proofs.Words.{Rises-weaker}
+use Rattle.place_plan.proofs.Passing.{below_or_not}
 
 -- ---- rows one after another
 
@@ -82,14 +83,8 @@ abbrev pub AllInstances : Plan → ℕ → ℕ → Type 0
 AllInstances plan n count = (p : ℕ) → n ≤ p → p < n + count → IsInstance plan p
 
 pub both_instances : (plan : Plan) (n : ℕ) (xs ys : List PlaceRow) → AllInstances plan n (length xs) → AllInstances plan (n + length xs) (length ys) → AllInstances plan n (length (xs ++ ys))
-both_instances plan n xs ys a b p l h = either (p_side p (n + length xs))
+both_instances plan n xs ys a b p l h = either (below_or_not p (n + length xs))
   where
-    p_side : (p m : ℕ) → (p < m) ⊎ (m ≤ p)
-    p_side zero zero = inr (omega arith)
-    p_side zero (suc m) = inl (omega arith)
-    p_side (suc p) zero = inr (omega arith)
-    p_side (suc p) (suc m) = elim (p_side p m) [ inl x ↦ inl (omega arith) | inr x ↦ inr (omega arith) ]
-
     either : (p < n + length xs) ⊎ (n + length xs ≤ p) → IsInstance plan p
     either (inl x) = a p l x
     either (inr x) = b p x (omega (arith, h, length-append xs ys))
