@@ -102,6 +102,13 @@ action_is plan p l = row_action plan.places p l
     row_action (row ∷ rows) zero l = refl
     row_action (row ∷ rows) (suc p) l = row_action rows p (omega arith)
 
+-- those of a play do
+pub play_is_cast : (draft : Draft) (play : PlayRow) → play_in_range draft play && fills draft play.action play.who ≡ true → IsCast draft play.action play.who
+play_is_cast draft play h =
+    let a = and_parts (play_in_range draft play) _ h in
+    let b = and_parts (nat_lt play.action (length draft.actions)) _ a.0 in
+    cast_from draft play.action play.who (ltb-true _ _ b.0) a.1 b.1
+
 module _ (draft : Draft) (keeps : KeepsParts draft) where
   abbrev plan : Plan
   plan = plan_of draft
@@ -114,12 +121,10 @@ module _ (draft : Draft) (keeps : KeepsParts draft) where
       let found = whole.plays (λ (play : PlayRow). play_in_range draft play && fills draft play.action play.who) (all_both (play_in_range draft) (λ (play : PlayRow). fills draft play.action play.who) draft.plays (plays_range draft keeps) (plays_fill draft keeps)) p m in
       let play = found.0 in
       let placed = found.2 in
-      let a = and_parts (play_in_range draft play) _ found.1 in
-      let b = and_parts (nat_lt play.action (length draft.actions)) _ a.0 in
-      let cast = cast_from draft play.action play.who (ltb-true _ _ b.0) a.1 b.1 in
+      let cast = play_is_cast draft play found.1 in
       subst (λ who. IsCast draft (place_at plan p).action who) (sym placed.cast) (subst (λ z. IsCast draft z play.who) (only_one _ _ placed.action) cast)
 
-  use_cast : (a : ℕ) (who : List ℕ) → IsCast draft a who → (k b : ℕ) → member b (slice_index_or (slice_index_or draft.actions a no_action).nests k no_nest).actions ≡ true → IsCast draft b (cast_of who (slice_index_or (slice_index_or draft.actions a no_action).nests k no_nest))
+  pub use_cast : (a : ℕ) (who : List ℕ) → IsCast draft a who → (k b : ℕ) → member b (slice_index_or (slice_index_or draft.actions a no_action).nests k no_nest).actions ≡ true → IsCast draft b (cast_of who (slice_index_or (slice_index_or draft.actions a no_action).nests k no_nest))
   use_cast a who cast k b m =
       let action = slice_index_or draft.actions a no_action in
       let nest = slice_index_or action.nests k no_nest in

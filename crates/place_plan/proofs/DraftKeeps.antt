@@ -15,6 +15,7 @@ use Rattle.place_plan.specs.Places.{no_action, no_nest}
 use Rattle.place_plan.specs.WellFormed.{IsValue}
 use Rattle.place_plan.specs.DraftRules.{size_rule, first_is_plain, graph_rule, action_fits, nest_fits, range_rule, is_value, is_rising, is_rising_above, all_below, exceptions_of, graphs_in_range, objects_in_range, parts_in_range, nest_in_range, action_in_range, play_in_range, order_rule, fill_rule, fills, nest_fills, enter_rule, object_rule, depth_rule, handler_rule, bound_rule, face_rule, broken_rule, broken_if, KeepsParts}
 use Rattle.place_plan.specs.Sizes.{HasSizes}
+use Rattle.place_plan.specs.Weights.{nests_known}
 use Rattle.place_plan.proofs.Passing.{at_row, all_imply, all_both}
 
 -- ---- numbers
@@ -88,6 +89,16 @@ all_fit draft h =
 pub some_graphs : (rows : List GraphRow) → first_is_plain rows ≡ true → nat_lt 0 (length rows) ≡ true
 some_graphs [] h = absurd (false≢true h)
 some_graphs (row ∷ rows) h = grind (arith, nat_tests)
+
+-- each use is of actions that are there
+pub range_known : (draft : Draft) → range_rule draft ≡ true → nests_known draft.actions ≡ true
+range_known draft h =
+    all_imply (action_in_range draft) (λ (action : ActionRow). list_all (λ (nest : NestRow). all_below (length draft.actions) nest.actions) action.nests) draft.actions
+    (λ a k.
+    all_imply (nest_in_range (length draft.actions) (length a.roles) (exceptions_of draft a.internal)) (λ (nest : NestRow). all_below (length draft.actions) nest.actions) a.nests
+    (λ nest m. (and_parts (all_below (length draft.actions) nest.actions) _ m).0)
+    (and_parts _ _ (and_parts (objects_in_range draft a) _ (and_parts (graphs_in_range draft a) _ k).1).1).1)
+    (and_parts _ _ (and_parts (list_all (λ (o : ObjectRow). is_value o.initial) draft.objects) _ h).1).0
 
 module _ (draft : Draft) (keeps : KeepsParts draft) where
   pub initials_range : list_all (λ (o : ObjectRow). is_value o.initial) draft.objects ≡ true

@@ -5,6 +5,8 @@ pub mod ActionSizes
 pub mod Subtrees
 pub mod UnfoldedPlan
 pub mod Casts
+pub mod Counted
+pub mod Weighing
 pub mod Entries
 pub mod LegalProp
 pub mod ClosedPlan

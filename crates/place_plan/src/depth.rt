@@ -53,7 +53,7 @@ fn depths_of(actions: &[ActionRow]) -> Table
     ensures { Tells actions.now result (depth_within 9 actions.now) }
 {
     let mut table = [0; MOST_ACTIONS];
-    for _level in 0..MOST_DEPTH + 1 {
+    for level in 0..MOST_DEPTH + 1 {
         table = one_level_more(actions, &table);
     }
     table

@@ -65,7 +65,7 @@ fn weights_of(actions: &[ActionRow], own: &[u64]) -> Table
     ensures { Tells actions.now result (weight own.now 8 actions.now) }
 {
     let mut table = [0; MOST_ACTIONS];
-    for _level in 0..MOST_DEPTH {
+    for level in 0..MOST_DEPTH {
         table = one_level_deeper(actions, own, &table);
     }
     table
