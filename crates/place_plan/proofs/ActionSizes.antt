@@ -1,5 +1,5 @@
 -- The parts of the bound of an action within the limits.
-use Rattle.std.proofs.Common.{◌≡◌, ℕ, ◌≤◌, ◌+◌, ◌*◌, nat_le, true, not, ◌&&◌, List, [], ◌∷◌, length, arith}
+use Rattle.std.proofs.Common.{◌≡◌, ℕ, ◌≤◌, ◌+◌, ◌*◌, nat_le, true, not, List, [], ◌∷◌, length, arith}
 use Rattle.std.specs.List.{list_all}
 use Rattle.std.proofs.Math.Nat.{mul-le-mul}
 use Rattle.std.proofs.lemmas.Bool.{and_parts, leb-true}
@@ -7,7 +7,7 @@ use Rattle.place_plan.specs.declared.rows.ActionRow.{ActionRow}
 use Rattle.place_plan.specs.declared.rows.RoleRow.{RoleRow}
 use Rattle.place_plan.specs.declared.rows.HandlerRow.{HandlerRow}
 use Rattle.place_plan.specs.Words.{is_empty}
-use Rattle.place_plan.specs.DraftRules.{action_fits, role_fits, program_fits}
+use Rattle.place_plan.specs.DraftRules.{role_fits, program_fits}
 use Rattle.place_plan.specs.Sizes.{HasSizes}
 use Rattle.place_plan.specs.Bound.{longest_body, longest_of, longest_handler}
 

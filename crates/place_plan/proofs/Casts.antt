@@ -1,21 +1,20 @@
 -- Who plays a place: each role of its action is played by a participant, and by another one.
-use Rattle.std.proofs.Common.{◌≡◌, ℕ, ◌==◌, ◌<◌, nat_lt, ◌&&◌, ◌||◌, Bool, true, false, not, List, [], ◌∷◌, map, length, slice_index_or, slice_get, zero, suc, refl, sym, ap, ◌∙◌, subst, inl, inr, ◌⊎◌, arith}
-use Rattle.std.specs.List.{list_all}
-use Rattle.std.proofs.lemmas.Bool.{and_parts, and_from, or_cases, or_left, or_right, eqb-true, eq-eqb, false≢true, ltb-true, lt-ltb, not-true, false_from_ne_true, both_ways}
+use Rattle.std.proofs.Common.{◌≡◌, ℕ, ◌==◌, ◌<◌, nat_lt, ◌&&◌, true, false, not, List, [], ◌∷◌, map, length, slice_index_or, slice_get, zero, suc, refl, sym, ap, ◌∙◌, subst, inl, inr, arith}
+use Rattle.std.proofs.lemmas.Bool.{and_parts, and_from, or_cases, or_left, or_right, eqb-true, eq-eqb, false≢true, ltb-true, not-true, false_from_ne_true, both_ways}
 use Rattle.place_plan.specs.declared.draft.Draft.{Draft}
 use Rattle.place_plan.specs.declared.rows.PlayRow.{PlayRow}
 use Rattle.place_plan.specs.declared.rows.NestRow.{NestRow}
 use Rattle.place_plan.specs.declared.rows.ActionRow.{ActionRow}
 use Rattle.place_plan.specs.declared.rows.PlaceRow.{PlaceRow}
 use Rattle.place_plan.specs.PlanValue.{Plan}
-use Rattle.place_plan.specs.Words.{member, is_empty}
-use Rattle.place_plan.specs.Places.{place_at, action_at, action_in, around, roles_of, alternates_of, no_action, no_nest, no_place}
+use Rattle.place_plan.specs.Words.{member}
+use Rattle.place_plan.specs.Places.{place_at, action_at, action_in, around, roles_of, no_action, no_nest, no_place}
 use Rattle.place_plan.specs.Unfolding.{plan_of, cast_of}
-use Rattle.place_plan.specs.DraftRules.{all_differ, all_below, fills, nest_fills, nest_in_range, exceptions_of, play_in_range, KeepsParts}
+use Rattle.place_plan.specs.DraftRules.{all_differ, all_below, fills, play_in_range, KeepsParts}
 use Rattle.place_plan.proofs.Words.{all_at}
 use Rattle.place_plan.proofs.Passing.{at_row, all_both}
 use Rattle.place_plan.proofs.DraftKeeps.{plays_range, plays_fill, nests_range, nests_filled}
-use Rattle.place_plan.proofs.Subtrees.{get_is, IsPlaced}
+use Rattle.place_plan.proofs.Subtrees.{IsPlaced}
 use Rattle.place_plan.proofs.UnfoldedPlan.{IsUnfolded, is_unfolded, by_parents, child_of, in_table}
 
 -- ---- lists

@@ -1,7 +1,7 @@
 -- Tables that tell of each action how deep it is and how much it unfolds into, level by level.
-use Rattle.std.proofs.Common.{◌≡◌, ◌≢◌, ℕ, ◌+◌, ◌<◌, ◌≤◌, ◌==◌, min, max, nat_lt, nat_le, Bool, true, false, ◌&&◌, List, [], ◌∷◌, ◌++◌, drop, length, slice_index_or, slice_set, get_or, zero, suc, refl, sym, ap, ap₂, ◌∙◌, subst, arith, add-zero, add-one, sum_by, below_more, get_or-set_other, get_or-set_same, replicate}
+use Rattle.std.proofs.Common.{◌≡◌, ◌≢◌, ℕ, ◌+◌, ◌<◌, ◌≤◌, nat_lt, nat_le, true, false, ◌&&◌, List, [], ◌∷◌, drop, length, slice_index_or, slice_set, get_or, suc, refl, arith, add-one, sum_by, below_more, get_or-set_other, get_or-set_same, replicate}
 use Rattle.std.specs.List.{list_all}
-use Rattle.std.proofs.lemmas.Bool.{and_parts, false≢true, ltb-true, lt-leb, le-leb}
+use Rattle.std.proofs.lemmas.Bool.{and_parts, ltb-true, lt-leb, le-leb}
 use Rattle.std.proofs.Math.Seq.{drop-cons}
 use Rattle.std.proofs.lemmas.List.{get_or-replicate}
 use Rattle.std.proofs.lemmas.List.Sums.{sum_by-cons}

@@ -1,9 +1,9 @@
 -- What a draft keeps that breaks none of the rules 1 to 9, action by action.
-use Rattle.std.proofs.Common.{◌≡◌, ℕ, ℤ, pos, negsuc, ◌<◌, ◌≤◌, ◌+◌, ◌==◌, nat_lt, nat_le, int_lt, Bool, true, false, not, ◌&&◌, List, [], ◌∷◌, length, slice_index_or, Option, None, Some, refl, arith}
+use Rattle.std.proofs.Common.{◌≡◌, ℕ, ℤ, pos, negsuc, ◌<◌, ◌≤◌, ◌+◌, nat_lt, nat_le, int_lt, Bool, true, false, not, List, [], ◌∷◌, length, slice_index_or, Option, None, Some, refl, arith}
 use Rattle.std.specs.List.{list_all}
 use Rattle.std.proofs.lemmas.Int.{ints}
 use Rattle.std.proofs.lemmas.Bool.Decides.{nat_tests}
-use Rattle.std.proofs.lemmas.Bool.{and_parts, and_from, false≢true, ltb-true, leb-true, not-true}
+use Rattle.std.proofs.lemmas.Bool.{and_parts, false≢true, ltb-true, leb-true, not-true}
 use Rattle.place_plan.specs.declared.draft.Draft.{Draft}
 use Rattle.place_plan.specs.declared.rows.GraphRow.{GraphRow}
 use Rattle.place_plan.specs.declared.rows.ObjectRow.{ObjectRow}
@@ -11,12 +11,12 @@ use Rattle.place_plan.specs.declared.rows.PlayRow.{PlayRow}
 use Rattle.place_plan.specs.declared.rows.ActionRow.{ActionRow}
 use Rattle.place_plan.specs.declared.rows.NestRow.{NestRow}
 use Rattle.place_plan.specs.Words.{is_empty}
-use Rattle.place_plan.specs.Places.{no_action, no_nest}
+use Rattle.place_plan.specs.Places.{no_action}
 use Rattle.place_plan.specs.WellFormed.{IsValue}
 use Rattle.place_plan.specs.DraftRules.{size_rule, first_is_plain, graph_rule, action_fits, nest_fits, range_rule, is_value, is_rising, is_rising_above, all_below, exceptions_of, graphs_in_range, objects_in_range, parts_in_range, nest_in_range, action_in_range, play_in_range, order_rule, fill_rule, fills, nest_fills, enter_rule, object_rule, depth_rule, handler_rule, bound_rule, face_rule, broken_rule, broken_if, KeepsParts}
 use Rattle.place_plan.specs.Sizes.{HasSizes}
 use Rattle.place_plan.specs.Weights.{nests_known}
-use Rattle.place_plan.proofs.Passing.{at_row, all_imply, all_both}
+use Rattle.place_plan.proofs.Passing.{at_row, all_imply}
 
 -- ---- numbers
 
@@ -125,6 +125,14 @@ module _ (draft : Draft) (keeps : KeepsParts draft) where
 
   pub parts_range : list_all (parts_in_range draft) draft.actions ≡ true
   parts_range = all_imply (action_in_range draft) (parts_in_range draft) draft.actions (λ a h. (and_parts _ _ (and_parts (graphs_in_range draft a) _ h).1).1) actions_range
+
+  -- there are few actions
+  pub few_actions : length draft.actions ≤ 256
+  few_actions =
+      let a = and_parts (nat_le (length draft.participants) 64) _ keeps.sizes in
+      let b = and_parts (nat_le (length draft.objects) 256) _ a.1 in
+      let c = and_parts (nat_le (length draft.graphs) 257) _ b.1 in
+      leb-true _ _ (and_parts (nat_le (length draft.actions) 256) _ c.1).0
 
   -- an action is within the limits
   pub action_sizes : (a : ℕ) → a < length draft.actions → HasSizes (slice_index_or draft.actions a no_action) (length (slice_index_or draft.actions a no_action).roles)

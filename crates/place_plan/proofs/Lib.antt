@@ -7,6 +7,8 @@ pub mod UnfoldedPlan
 pub mod Casts
 pub mod Counted
 pub mod Weighing
+pub mod Unfolds
+pub mod MadePlan
 pub mod Entries
 pub mod LegalProp
 pub mod ClosedPlan

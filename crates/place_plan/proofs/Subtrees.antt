@@ -1,5 +1,5 @@
 -- What the unfolding of a draft says of its places, as far as the draft is no deeper than the unfolding goes.
-use Rattle.std.proofs.Common.{◌≡◌, ℕ, ◌+◌, ◌<◌, ◌≤◌, ◌==◌, Bool, true, false, List, [], ◌∷◌, ◌++◌, length, slice_index_or, slice_get, Option, Some, None, zero, suc, refl, sym, ap, ◌∙◌, subst, inl, inr, ◌⊎◌, arith, length-append, add-zero, zero-add}
+use Rattle.std.proofs.Common.{◌≡◌, ℕ, ◌+◌, ◌<◌, ◌≤◌, ◌==◌, true, false, List, [], ◌∷◌, ◌++◌, length, slice_index_or, slice_get, Some, zero, suc, refl, sym, ap, subst, inl, inr, ◌⊎◌, arith, length-append, add-zero, zero-add}
 use Rattle.std.proofs.lemmas.Bool.{or_cases, or_left, or_right, eqb-true, eq-eqb, false≢true}
 use Rattle.place_plan.specs.declared.rows.PlaceRow.{PlaceRow}
 use Rattle.place_plan.specs.declared.rows.ActionRow.{ActionRow}

@@ -1,5 +1,5 @@
 -- The plan of a draft that is not too deep: its plays rise, and each of its places is an instance that the place round it knows.
-use Rattle.std.proofs.Common.{◌≡◌, ℕ, ◌+◌, ◌<◌, ◌≤◌, ◌==◌, nat_le, Bool, true, false, ◌&&◌, List, [], ◌∷◌, ◌++◌, length, slice_index_or, slice_get, Option, Some, None, zero, suc, refl, sym, ap, ◌∙◌, subst, inl, inr, ◌⊎◌, arith, length-append, add-zero, zero-add}
+use Rattle.std.proofs.Common.{◌≡◌, ℕ, ◌+◌, ◌<◌, ◌≤◌, ◌==◌, nat_le, Bool, true, List, [], ◌∷◌, length, slice_index_or, zero, suc, refl, subst, inl, inr, arith, length-append, add-zero, zero-add}
 use Rattle.std.specs.List.{list_all}
 use Rattle.std.proofs.lemmas.Bool.{and_parts, or_cases, or_left, or_right, eqb-true, eq-eqb, false≢true, leb-true}
 use Rattle.place_plan.specs.declared.draft.Draft.{Draft}
@@ -7,8 +7,8 @@ use Rattle.place_plan.specs.declared.rows.PlaceRow.{PlaceRow}
 use Rattle.place_plan.specs.declared.rows.PlayRow.{PlayRow}
 use Rattle.place_plan.specs.declared.rows.ActionRow.{ActionRow}
 use Rattle.place_plan.specs.PlanValue.{Plan}
-use Rattle.place_plan.specs.Words.{member, first_of, Rises}
-use Rattle.place_plan.specs.Places.{place_at, around, roles_of, nest_number, alternates_of, no_action, no_place}
+use Rattle.place_plan.specs.Words.{member, Rises}
+use Rattle.place_plan.specs.Places.{place_at, around, nest_number, alternates_of, no_action, no_place}
 use Rattle.place_plan.specs.Unfolding.{Unfolding, unfold_at, plays_from, tops_from, plan_of, most_depth}
 use Rattle.place_plan.specs.DraftRules.{depth_within, depths_fit, depth_rule}
 use Rattle.place_plan.proofs.Words.{Rises-weaker, member_above}

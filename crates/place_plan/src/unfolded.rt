@@ -103,8 +103,10 @@ pub fn unfolded(draft: &Draft) -> Size
 {
     let actions = draft.actions.as_slice();
     let plays = draft.plays.as_slice();
-    let places = weights_of(actions, &[1; MOST_ACTIONS]);
-    let bounds = weights_of(actions, &own_bounds(actions));
+    let ones = [1; MOST_ACTIONS];
+    let places = weights_of(actions, &ones);
+    let own = own_bounds(actions);
+    let bounds = weights_of(actions, &own);
     Size {
         places: played_weight(plays, &places),
         bound: played_weight(plays, &bounds),

@@ -1,4 +1,4 @@
-use Rattle.std.proofs.Common.{◌≡◌, ◌∙◌, ◌<◌, ◌≤◌, ◌+◌, ℕ, length, ap, sym, subst, arith, add-one}
+use Rattle.std.proofs.Common.{◌≡◌, ◌∙◌, ap, sym, subst, arith, add-one}
 use Rattle.place_plan.specs.DraftRules.{depth_within}
 use Rattle.place_plan.specs.Weights.{counted, Tells}
 use Rattle.place_plan.proofs.Counted.{depth_more, depth_none, zeros_tell}

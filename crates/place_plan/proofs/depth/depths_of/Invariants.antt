@@ -1,4 +1,3 @@
-use Rattle.std.proofs.Common.{ℕ}
 use Rattle.place_plan.specs.DraftRules.{depth_within}
 use Rattle.place_plan.specs.Weights.{Tells}
 use Rattle.place_plan.proofs.depth.depths_of.Given as goal

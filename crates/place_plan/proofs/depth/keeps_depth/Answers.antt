@@ -1,6 +1,6 @@
-use Rattle.std.proofs.Common.{◌≡◌, ◌∙◌, ◌<◌, ◌≤◌, ◌+◌, ℕ, length, ap, sym, subst, arith}
+use Rattle.std.proofs.Common.{◌∙◌, ◌<◌, length, ap, sym, arith}
 use Rattle.place_plan.specs.DraftRules.{depth_within}
-use Rattle.place_plan.specs.Weights.{counted, at}
+use Rattle.place_plan.specs.Weights.{counted}
 use Rattle.place_plan.proofs.Counted.{depths_deep, depths_next}
 use Rattle.place_plan.proofs.depth.keeps_depth.Goals as goal
 

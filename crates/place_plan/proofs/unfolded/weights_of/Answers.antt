@@ -1,4 +1,4 @@
-use Rattle.std.proofs.Common.{◌≡◌, ◌∙◌, ◌<◌, ◌≤◌, ◌+◌, ℕ, length, ap, sym, subst, arith, add-one}
+use Rattle.std.proofs.Common.{◌≡◌, ◌∙◌, ap, sym, subst, arith, add-one}
 use Rattle.place_plan.specs.Weights.{counted, Tells, weight}
 use Rattle.place_plan.proofs.Counted.{weight_more, weight_none, zeros_tell}
 use Rattle.place_plan.proofs.unfolded.weights_of.Goals as goal

@@ -1,4 +1,3 @@
-use Rattle.std.proofs.Common.{ℕ}
 use Rattle.place_plan.specs.Weights.{Tells, weight}
 use Rattle.place_plan.proofs.unfolded.weights_of.Given as goal
 

@@ -1,6 +1,6 @@
 use Rattle.std.proofs.Common.{◌≡◌, drop, map}
 use Rattle.place_plan.specs.declared.rows.HandlerRow.{HandlerRow}
-use Rattle.place_plan.specs.DraftRules.{all_differ, handlers_differ}
+use Rattle.place_plan.specs.DraftRules.{all_differ}
 use Rattle.place_plan.proofs.uses.handlers_differ.Given as goal
 
 abbrev pub invariant-loop-index : goal.invariant-loop-index
