@@ -2,8 +2,10 @@
 #![tactic(auto)]
 
 pub mod answer;
+pub mod audit;
 pub mod hall;
 pub mod rule;
-mod scan;
+mod look_back;
 #[cfg(test)]
 mod tests;
+mod work_due;
