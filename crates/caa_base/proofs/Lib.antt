@@ -1,2 +1,3 @@
 pub mod KnownBytes
 pub mod ListLemmas
+pub mod Values

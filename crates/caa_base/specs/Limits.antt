@@ -1,5 +1,5 @@
 -- How much of each thing there may be at most, and which numbers values and rounds may be.
-use Rattle.std.specs.Prelude.{ℕ, ℤ, pos, neg_ℤ, ◌≤◌, ◌≤ℤ◌, int_lt, nat_le, not, ◌&&◌, Bool}
+use Rattle.std.specs.Prelude.{ℕ, ℤ, pos, neg_ℤ, ◌≤ℤ◌, int_lt, not, ◌&&◌, Bool}
 
 -- ---- numbers
 

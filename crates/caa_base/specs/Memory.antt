@@ -60,6 +60,10 @@ pub record WillingPlant : Type 0 where
   pub calls : ℕ
   pub room : ℕ
 
+-- a plant that wasn't laid out yet
+abbrev pub empty_plant : WillingPlant
+empty_plant = record { state = record { values = []; puts = [] }; calls = 0; room = 0 }
+
 -- the drills and tries of a plant, of which there are none before the plant is laid out
 abbrev pub drilling_of : Option Drilling → Drilling
 drilling_of None = record { drills = []; tries = [] }

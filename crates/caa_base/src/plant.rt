@@ -53,8 +53,8 @@ pub trait Plant {
     /// Lays out the values of the objects, those puts that are to be refused, and room for this
     /// many calls of `put`. Whether the plant tells its state or its drilling is never changed.
     ///
-    /// `Failed` comes only from the device, and is counted. Neither error says anything of the
-    /// values and the drills that are left.
+    /// `Failed` comes only from the device, and is counted; want of memory isn't. Neither error
+    /// says anything of the values and the drills that are left.
     fn lay(
         &mut self,
         alloc: Global,

@@ -47,7 +47,7 @@ module _ (count : ℕ) (pairs : List (ℕ × ℕ)) (in_range : All (λ (p : ℕ 
   chain_told rows many declares closed (more {a} {b} {c} step rest) a_in =
       let b_in = declared_in step in
       let c_in = chain_in rest b_in in
-      closed b a c (omega arith) (omega arith) (omega arith) (declares.declared a b a_in b_in step) (chain_told rows many declares closed rest b_in)
+      closed b a c (omega arith) (omega arith) (declares.declared a b a_in b_in step) (chain_told rows many declares closed rest b_in)
 
   -- rows that tell more still tell what is declared
   pub declared_more : (old new : List ℕ) → length old ≡ count → TellDeclared count pairs old → TellMore old new → TellDeclared count pairs new

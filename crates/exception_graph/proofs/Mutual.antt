@@ -1,7 +1,9 @@
 -- Cycles of declared pairs, by the rows that tell the chains.
-use Rattle.std.proofs.Common.{◌<◌, inl, inr, ℕ, List, length, sym, arith}
+use Rattle.std.proofs.Common.{◌≡◌, ◌<◌, ◌^◌, inl, inr, ℕ, true, List, length, slice_index, sym, arith}
 use Rattle.std.proofs.lemmas.Bool.{cases_eq}
-use Rattle.cover_table.specs.Cover.{CoverOrder, order_of_rows, IsOrder}
+use Rattle.std.proofs.lemmas.Nat.Bits.{same_from_bits_below}
+use Rattle.cover_table.specs.Cover.{CoverOrder, most_exceptions, order_of_rows, tells, IsOrder}
+use Rattle.cover_table.proofs.Bits.{same_bit}
 use Rattle.exception_graph.specs.Chains.{IsInCycle, IsFirstInCycle, IsOrderOf, none, more, universal}
 use Rattle.exception_graph.specs.Closing.{AreClosedOver}
 use Rattle.exception_graph.specs.Graph.{HasUniversal}
@@ -55,11 +57,16 @@ module _ (count : ℕ) (pairs : List (ℕ × ℕ)) (order : CoverOrder) (is : Is
         covers_all = λ a below. let a_in : a < count = omega arith in (is.tells 0 a some a_in).1 (more (universal a_in) none);
       }
 
+-- in closed rows two numbers that tell each other have the same row
+pub same_row : (rows : List ℕ) (a b : ℕ) → AreClosedOver rows (length rows) → a < length rows → b < length rows → slice_index rows a < 2 ^ most_exceptions → slice_index rows b < 2 ^ most_exceptions → tells rows a b ≡ true → tells rows b a ≡ true → slice_index rows b ≡ slice_index rows a
+same_row rows a b closed a_in b_in a_fits b_fits down up =
+    same_from_bits_below most_exceptions (slice_index rows b) (slice_index rows a) b_fits a_fits (λ c below. same_bit _ _ c (λ told. closed b a c b_in a_in down told) (λ told. closed a b c a_in b_in up told))
+
 -- closed rows without a cycle are an order
 pub order_without_cycle : (pairs : List (ℕ × ℕ)) (rows : List ℕ) → AreClosedOver rows (length rows) → IsOrderOf (length rows) pairs (order_of_rows rows) → ((a : ℕ) → a < length rows → ¬ (IsMutual (order_of_rows rows) a)) → IsOrder (order_of_rows rows)
 order_without_cycle pairs rows closed is acyclic = record {
   reflexive = λ a a_in. (is.tells a a a_in a_in).1 none;
-  transitive = λ a b c a_in b_in c_in down further. closed b a c b_in a_in c_in down further;
+  transitive = λ a b c a_in b_in c_in down further. closed b a c b_in a_in down further;
   antisymmetric = λ a b a_in b_in down up. elim (cases_eq b a) [
     | inl same ↦ sym same
     | inr apart ↦ absurd (acyclic a a_in (record { other = b; in_range = b_in; apart = apart; down = down; up = up }))

@@ -34,10 +34,9 @@ module _ (old new : List ℕ) (m : ℕ) (step : AreExtended old new m) where
 
   -- rows closed over all below m are then closed over m too
   pub closed_more : m < length old → AreClosedOver old m → AreClosedOver new (m + 1)
-  closed_more m_in closed k a b k_in a_new b_new first second =
+  closed_more m_in closed k a b k_in a_new first second =
       let many = step.as_many in
       let a_in : a < length old = omega arith in
-      let b_in : b < length old = omega arith in
       elim (cases_eq k m) [
         | inl same ↦
             let first' : tells new a m ≡ true = subst (λ (x : ℕ). tells new a x ≡ true) same first in
@@ -48,11 +47,11 @@ module _ (old new : List ℕ) (m : ℕ) (step : AreExtended old new m) where
             let k_old : k < length old = omega arith in
             elim (told_before a k a_in first) [
               | inl ak ↦ elim (told_before k b k_old second) [
-                | inl kb ↦ told_in_one a b a_in (closed k a b k_below a_in b_in ak kb)
-                | inr kmb ↦ told_in_two a b a_in (closed k a m k_below a_in m_in ak kmb.0) kmb.1
+                | inl kb ↦ told_in_one a b a_in (closed k a b k_below a_in ak kb)
+                | inr kmb ↦ told_in_two a b a_in (closed k a m k_below a_in ak kmb.0) kmb.1
               ]
               | inr amk ↦ elim (told_before k b k_old second) [
-                | inl kb ↦ told_in_two a b a_in amk.0 (closed k m b k_below m_in b_in amk.1 kb)
+                | inl kb ↦ told_in_two a b a_in amk.0 (closed k m b k_below m_in amk.1 kb)
                 | inr kmb ↦ told_in_two a b a_in amk.0 kmb.1
               ]
             ]

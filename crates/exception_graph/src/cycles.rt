@@ -1,17 +1,22 @@
 ghost use Rattle.std.specs.Prelude.{◌≡◌, ◌≢◌, ◌<◌, ◌≤◌, ◌↔◌, ℕ, length, true, IsTrue, IfNone, IfSome};
-ghost use Rattle.cover_table.specs.Cover.{order_of_rows, most_exceptions};
+ghost use Rattle.cover_table.specs.Cover.{most_exceptions, order_of_rows, tells};
+ghost use Rattle.exception_graph.specs.Closing.{AreClosedOver};
 ghost use Rattle.exception_graph.specs.Cycles.{IsFirstMutual, IsMutual};
 
-use cover_table::{Row, has_bit};
+use cover_table::Row;
 
 /// Whether `a` covers another exception that covers it.
+///
+/// In closed rows two such have the same row, and no others do.
 fn is_mutual(rows: &[Row], a: u32) -> bool
     requires few { length rows.now ≤ most_exceptions }
     requires a_in { a < length rows.now }
+    requires itself { (b : ℕ) → b < length rows.now → tells rows.now b b ≡ true }
+    requires closed { AreClosedOver rows.now (length rows.now) }
     ensures { IsTrue result ↔ IsMutual (order_of_rows rows.now) a }
 {
     for b in 0..rows.len() as u32 {
-        if b != a && has_bit(rows[a as usize], b) && has_bit(rows[b as usize], a) {
+        if b != a && rows[b as usize] == rows[a as usize] {
             return true;
         }
     }
@@ -20,7 +25,9 @@ fn is_mutual(rows: &[Row], a: u32) -> bool
 
 /// The least exception that covers another which covers it.
 pub fn first_in_cycle(rows: &[Row]) -> Option<u32>
-    requires { length rows.now ≤ most_exceptions }
+    requires few { length rows.now ≤ most_exceptions }
+    requires itself { (b : ℕ) → b < length rows.now → tells rows.now b b ≡ true }
+    requires closed { AreClosedOver rows.now (length rows.now) }
     ensures found { IfSome result (λ at. IsFirstMutual (order_of_rows rows.now) at) }
     ensures none { IfNone result ((a : ℕ) → a < length rows.now → ¬ (IsMutual (order_of_rows rows.now) a)) }
 {

@@ -1,6 +1,7 @@
 ghost use Rattle.std.specs.Prelude.{◌≡◌, ◌<◌, ◌≤◌, ◌+◌, ◌↔◌, [], length, replicate, slice_set, slice_index, slice_index_or, if◌then◌else◌, Some, is_err, IsTrue, IsErrOf, OnOk, OnErr};
 ghost use Rattle.caa_base.specs.PlantState.{after_put, is_drilled, next_try};
 ghost use Rattle.caa_base.specs.Counts.{counted_up, faults_after};
+ghost use Rattle.caa_base.specs.Memory.{empty_plant};
 
 use crate::count::counted_up;
 use crate::entry::{Drill, Failed, Object, OutOfMemory};
@@ -36,10 +37,8 @@ impl MemPlant {
     /// no memory.
     pub fn new(fail_lay: bool) -> Self
         ensures fail_lay { result.fail_lay ≡ fail_lay }
-        ensures values { result.plant.state.values ≡ [] }
-        ensures puts { result.plant.state.puts ≡ [] }
-        ensures calls { result.plant.calls ≡ 0 }
-        ensures room { result.plant.room ≡ 0 }
+        ensures plant { result.plant ≡ empty_plant }
+        ensures drilling { result.drilling ≡ record { drills = []; tries = [] } }
         ensures lay_faults { result.lay_faults ≡ 0 }
         ensures faults { result.faults ≡ 0 }
     {

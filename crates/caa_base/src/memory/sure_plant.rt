@@ -1,5 +1,6 @@
 ghost use Rattle.std.specs.Prelude.{◌≡◌, ◌<◌, ◌+◌, ◌^◌, [], length, slice_index_or, Some, OnOk, OnErr, IfOk};
-ghost use Rattle.caa_base.specs.PlantState.{after_lay, after_put};
+ghost use Rattle.caa_base.specs.Memory.{empty_plant};
+ghost use Rattle.caa_base.specs.PlantState.{after_put};
 
 use crate::entry::{Drill, Failed, Object, OutOfMemory};
 use crate::memory::laid::Laid;
@@ -29,10 +30,7 @@ impl Model for SurePlant {
 impl SurePlant {
     /// A plant with no objects and no room for puts. It takes no memory.
     pub fn new() -> Self
-        ensures values { result.state.values ≡ [] }
-        ensures puts { result.state.puts ≡ [] }
-        ensures calls { result.calls ≡ 0 }
-        ensures room { result.room ≡ 0 }
+        ensures { result ≡ empty_plant }
     {
         SurePlant {
             laid: None,

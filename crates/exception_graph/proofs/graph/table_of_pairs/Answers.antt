@@ -1,6 +1,6 @@
 use Rattle.std.proofs.Common.{◌≡◌, ℕ, List, length, sym, ◌∙◌, subst, arith, rules, refl}
 use Rattle.cover_table.specs.Cover.{order_of_rows}
-use Rattle.exception_graph.specs.Chains.{IsOrderOf}
+use Rattle.exception_graph.specs.Chains.{IsOrderOf, none}
 use Rattle.exception_graph.proofs.Mutual.{first_cycle, mutual_from_cycle, order_without_cycle}
 use Rattle.exception_graph.proofs.graph.table_of_pairs.Goals as goal
 
@@ -30,3 +30,6 @@ returns-in-Err-clause-refusal c =
         first = (c.in-Err.ensures.no_least _ _).0 refl;
       },
     )
+
+pub first_in_cycle-requires-clause-itself : goal.first_in_cycle-requires-clause-itself
+first_in_cycle-requires-clause-itself c = λ b b_in. (c.tell_chains.ensures.chains.tells b b (omega arith) (omega arith)).1 none
