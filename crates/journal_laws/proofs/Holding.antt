@@ -21,7 +21,7 @@ use Rattle.journal_laws.proofs.Busy.{IsBusy, AllBusy, all_busy, not_ending, live
 use Rattle.journal_laws.proofs.InnerFirst.{started_filled, round_round}
 use Rattle.journal_laws.proofs.Innermost.{parent_within, within_both, within_itself, out_of}
 
-same_from_option : (a b : Option ℕ) → same_option a b ≡ true → a ≡ b
+pub same_from_option : (a b : Option ℕ) → same_option a b ≡ true → a ≡ b
 same_from_option None None h = refl
 same_from_option None (Some n) h = absurd (false≢true h)
 same_from_option (Some m) None h = absurd (false≢true h)

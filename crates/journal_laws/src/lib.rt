@@ -1,7 +1,7 @@
 //! The laws of all legal journals of a plan. Each is a statement alone: the call does nothing.
 #![tactic(auto)]
 
-ghost use Rattle.journal_laws.specs.Laws.{Holds, AtMostOne, GoesOn, IsBounded, InsideIsInnermost, HolderIsInnermost, KeepsLaws};
+ghost use Rattle.journal_laws.specs.Laws.{Holds, AtMostOne, GoesOn, IsBounded, InsideIsInnermost, HolderIsInnermost, DeviceLaw, KeepsLaws};
 ghost use Rattle.journal_laws.specs.FlatDue.{DueIsRight};
 ghost use Rattle.place_plan.specs.WellFormed.{AllWellFormed};
 ghost use Rattle.place_plan.specs.Flat.{StaysQuiet};
@@ -53,6 +53,14 @@ pub fn inside_is_innermost(plan: &Plan)
 /// Who holds an object by the starts and ends is the innermost of the live places that use it.
 pub fn holder_is_innermost(plan: &Plan)
     ensures { Holds HolderIsInnermost plan.now }
+{
+    plan.is_closed();
+}
+
+/// Device law: what was put last in an object, by a write or a restore that the device took, is its value by the journal; where
+/// nothing was, that is its first value.
+pub fn last_put_is_value(plan: &Plan)
+    ensures { Holds DeviceLaw plan.now }
 {
     plan.is_closed();
 }
