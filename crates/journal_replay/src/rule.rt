@@ -32,7 +32,7 @@ use caa_base::limits::MOST_VALUE;
 use caa_base::work::WorkDone;
 use place_plan::plan::Plan;
 use place_plan::rows::{AbortRow, Step};
-use journal_laws::due_is_right;
+use crate::laws::due_is_right;
 use place_plan::value::value_at;
 
 // ---- what an entry says
@@ -432,7 +432,7 @@ fn due_inside(plan: &Plan, journal: &[Entry], place: Place, by: Participant) -> 
 }
 
 /// The entry that the rules give a participant, as if the device took each put.
-fn entry_due(plan: &Plan, journal: &[Entry], by: Participant) -> Option<Entry>
+pub(crate) fn entry_due(plan: &Plan, journal: &[Entry], by: Participant) -> Option<Entry>
     requires legal { LegalPast plan.now (reverse journal.now) }
     ensures { result ≡ due_of plan.now (reverse journal.now) by }
 {
@@ -446,14 +446,14 @@ fn entry_due(plan: &Plan, journal: &[Entry], by: Participant) -> Option<Entry>
 }
 
 /// Whether the device decides between this entry and its refusal.
-fn asks_device(entry: &Entry) -> bool
+pub(crate) fn asks_device(entry: &Entry) -> bool
     ensures { result ≡ is_put entry.now }
 {
     entry.kind == Kind::Write || (entry.kind == Kind::Restore && entry.mark == 0)
 }
 
 /// The entry, where the device refuses what it asks.
-fn refused(entry: Entry) -> Entry
+pub(crate) fn refused(entry: Entry) -> Entry
     ensures { result ≡ as_refused entry.kind entry }
 {
     match entry.kind {

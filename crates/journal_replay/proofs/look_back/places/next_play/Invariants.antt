@@ -4,7 +4,7 @@ use Rattle.place_plan.specs.Words.{first_not}
 use Rattle.place_plan.specs.Places.{plays_with}
 use Rattle.place_plan.specs.Entries.{has_by}
 use Rattle.place_plan.specs.Roles.{next_play}
-use Rattle.journal_replay.proofs.scan.next_play.Given as goal
+use Rattle.journal_replay.proofs.look_back.places.next_play.Given as goal
 
 abbrev pub invariant-loop-play : goal.invariant-loop-play
 invariant-loop-play l =

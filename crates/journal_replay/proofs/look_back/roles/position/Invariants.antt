@@ -1,6 +1,6 @@
 use Rattle.std.proofs.Common.{◌≡◌, ◌≤◌, take, reverse}
 use Rattle.place_plan.specs.Roles.{position}
-use Rattle.journal_replay.proofs.scan.position.Given as goal
+use Rattle.journal_replay.proofs.look_back.roles.position.Given as goal
 
 abbrev pub invariant-loop-entry : goal.invariant-loop-entry
 invariant-loop-entry l = record {
