@@ -9,6 +9,8 @@ ghost use Rattle.place_plan.proofs.LegalProp.{LegalPast-prop};
 ghost use Rattle.journal_replay.specs.Device.{FitsJournal, HasValues, HasDrills, has_asked};
 ghost use Rattle.caa_base.specs.PlantState.{is_refused};
 ghost use Rattle.journal_replay.specs.Opening.{is_plant_fault};
+ghost use Rattle.std.proofs.Math.Nat.{le_of_eq};
+ghost use Rattle.std.proofs.Common.{sym};
 ghost use Rattle.journal_replay.specs.IsDue.{DeviceDecides};
 ghost use Rattle.journal_replay.specs.WorkDue.{MayWorkNow};
 
@@ -259,7 +261,7 @@ impl<P: Plant> Machine for PlainHall<P> {
 
     ghost counted = { λ hall. hall.device.begun };
 
-    ghost faulted = { λ hall. at_least (hall.device.counted) };
+    ghost faulted = { λ hall below. le_of_eq (sym (hall.device.counted below)) };
 
     fn plan(&self) -> &Plan {
         &self.plan

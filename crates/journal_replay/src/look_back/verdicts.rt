@@ -130,9 +130,11 @@ pub fn least_signalled(plan: &Plan, journal: &[Entry], place: Place) -> Option<E
     requires { LegalPast plan.now (reverse journal.now) }
     ensures { MatchOption result (signals (reverse journal.now) place (roles_of plan.now place) ≡ []) (IsLeastCover (interface_of plan.now place) (signals (reverse journal.now) place (roles_of plan.now place))) }
 {
+    plan.is_closed();
+    let roles = plan.roles_of(place);
     let mut cover = None;
-    for by in plan.roles_of(place).iter().rev() {
-        if let Some(signalled) = signalled_by(journal, place, *by) {
+    for index in (0..roles.len()).rev() {
+        if let Some(signalled) = signalled_by(journal, place, roles[index]) {
             cover = Some(joined(plan.interface(place), cover, signalled));
         }
     }
