@@ -1,0 +1,11 @@
+//! The text of a script, both ways: it is read by the grammar, or its first fault is named; and a script is printed so that it
+//! reads back.
+#![tactic(auto)]
+
+pub mod error;
+pub mod field;
+pub mod form;
+pub mod kind;
+pub mod names;
+pub mod numbers;
+pub mod word;
