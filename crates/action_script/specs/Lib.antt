@@ -1,3 +1,7 @@
 pub mod Words
 pub mod Names
 pub mod Kinds
+pub mod Forms
+pub mod Lines
+pub mod ScriptValue
+pub mod Reading

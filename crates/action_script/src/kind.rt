@@ -211,10 +211,30 @@ impl LineKind {
         ensures { result.now ≡ parts_of self }
     {
         match self {
-            LineKind::Participant | LineKind::Watch | LineKind::Graph | LineKind::Action | LineKind::Exception | LineKind::Internal | LineKind::Interface | LineKind::Fault | LineKind::Use | LineKind::Roles | LineKind::Body | LineKind::Read | LineKind::Raise | LineKind::Enter | LineKind::Signal => &[Part::Name],
+            LineKind::Participant
+            | LineKind::Watch
+            | LineKind::Graph
+            | LineKind::Action
+            | LineKind::Exception
+            | LineKind::Internal
+            | LineKind::Interface
+            | LineKind::Fault
+            | LineKind::Use
+            | LineKind::Roles
+            | LineKind::Body
+            | LineKind::Read
+            | LineKind::Raise
+            | LineKind::Enter
+            | LineKind::Signal => &[Part::Name],
             LineKind::Object | LineKind::Put | LineKind::Add => &[Part::Name, Part::Value],
             LineKind::Drill => &[Part::Name, Part::Count],
-            LineKind::Play | LineKind::Cover | LineKind::MapUndo | LineKind::MapFailure | LineKind::Alternate | LineKind::Abort | LineKind::Handler => &[Part::Name, Part::Name],
+            LineKind::Play
+            | LineKind::Cover
+            | LineKind::MapUndo
+            | LineKind::MapFailure
+            | LineKind::Alternate
+            | LineKind::Abort
+            | LineKind::Handler => &[Part::Name, Part::Name],
             LineKind::End | LineKind::Done | LineKind::Undo => &[],
             LineKind::Nest | LineKind::Map => &[Part::Name, Part::Name, Part::Name],
             LineKind::AbortTest => &[Part::Name, Part::Test, Part::Value, Part::Name],
@@ -249,11 +269,38 @@ impl LineKind {
         ensures { result ≡ stands_in self section }
     {
         match self {
-            LineKind::Participant | LineKind::Object | LineKind::Drill | LineKind::Watch | LineKind::Graph | LineKind::Action | LineKind::Play => section.at_top(),
+            LineKind::Participant
+            | LineKind::Object
+            | LineKind::Drill
+            | LineKind::Watch
+            | LineKind::Graph
+            | LineKind::Action
+            | LineKind::Play => section.at_top(),
             LineKind::Exception | LineKind::Cover => section.in_graph(),
             LineKind::End => !section.at_top(),
-            LineKind::Internal | LineKind::Interface | LineKind::Fault | LineKind::Use | LineKind::Roles | LineKind::Nest | LineKind::Map | LineKind::MapUndo | LineKind::MapFailure | LineKind::Alternate | LineKind::Abort | LineKind::AbortTest | LineKind::Body | LineKind::Handler => section.in_action(),
-            LineKind::Read | LineKind::Put | LineKind::Add | LineKind::Work | LineKind::Check | LineKind::Raise | LineKind::Done | LineKind::Signal | LineKind::Undo => section.in_program(),
+            LineKind::Internal
+            | LineKind::Interface
+            | LineKind::Fault
+            | LineKind::Use
+            | LineKind::Roles
+            | LineKind::Nest
+            | LineKind::Map
+            | LineKind::MapUndo
+            | LineKind::MapFailure
+            | LineKind::Alternate
+            | LineKind::Abort
+            | LineKind::AbortTest
+            | LineKind::Body
+            | LineKind::Handler => section.in_action(),
+            LineKind::Read
+            | LineKind::Put
+            | LineKind::Add
+            | LineKind::Work
+            | LineKind::Check
+            | LineKind::Raise
+            | LineKind::Done
+            | LineKind::Signal
+            | LineKind::Undo => section.in_program(),
             LineKind::Enter => section.in_body(),
         }
     }
@@ -263,9 +310,37 @@ impl LineKind {
         ensures { result ≡ goes_to self section }
     {
         match self {
-            LineKind::Participant | LineKind::Object | LineKind::Drill | LineKind::Watch | LineKind::Play | LineKind::Exception | LineKind::Cover | LineKind::Read | LineKind::Put | LineKind::Add | LineKind::Work | LineKind::Check | LineKind::Raise | LineKind::Enter => section,
+            LineKind::Participant
+            | LineKind::Object
+            | LineKind::Drill
+            | LineKind::Watch
+            | LineKind::Play
+            | LineKind::Exception
+            | LineKind::Cover
+            | LineKind::Read
+            | LineKind::Put
+            | LineKind::Add
+            | LineKind::Work
+            | LineKind::Check
+            | LineKind::Raise
+            | LineKind::Enter => section,
             LineKind::Graph => Section::Graph,
-            LineKind::Action | LineKind::Internal | LineKind::Interface | LineKind::Fault | LineKind::Use | LineKind::Roles | LineKind::Nest | LineKind::Map | LineKind::MapUndo | LineKind::MapFailure | LineKind::Alternate | LineKind::Abort | LineKind::AbortTest | LineKind::Done | LineKind::Signal | LineKind::Undo => Section::Action,
+            LineKind::Action
+            | LineKind::Internal
+            | LineKind::Interface
+            | LineKind::Fault
+            | LineKind::Use
+            | LineKind::Roles
+            | LineKind::Nest
+            | LineKind::Map
+            | LineKind::MapUndo
+            | LineKind::MapFailure
+            | LineKind::Alternate
+            | LineKind::Abort
+            | LineKind::AbortTest
+            | LineKind::Done
+            | LineKind::Signal
+            | LineKind::Undo => Section::Action,
             LineKind::End => Section::Top,
             LineKind::Body => Section::Body,
             LineKind::Handler => Section::Handler,

@@ -8,4 +8,5 @@ pub mod form;
 pub mod kind;
 pub mod names;
 pub mod numbers;
+pub mod script;
 pub mod word;
