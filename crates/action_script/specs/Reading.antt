@@ -13,6 +13,7 @@ use Rattle.action_script.specs.declared.kind.Section.{Section}
 use Rattle.action_script.specs.declared.kind.Section.TheVariants as section
 use Rattle.action_script.specs.declared.kind.LineKind.{LineKind}
 use Rattle.action_script.specs.declared.script.Line.{Line}
+use Rattle.action_script.specs.Asked.{Asked, Said}
 use Rattle.action_script.specs.Words.{is_name, value_of, count_of, rounds_of, test_of}
 use Rattle.action_script.specs.Lines.{most_bytes, most_line, lines_of, words_of, is_plain, begins_comment}
 use Rattle.action_script.specs.Kinds.{word_of, parts_of, takes, stands_in, goes_to, at_top, kinds}
@@ -21,11 +22,6 @@ use Rattle.action_script.specs.Forms.{form_by}
 use Rattle.action_script.specs.ScriptValue.{Script}
 
 -- ---- one word
-
--- a word, and what it is asked to be at its place
-pub record Asked : Type 0 where
-  pub part : Part
-  pub word : List ℕ
 
 -- what each word of a line is asked to be; where the parts end, names go on
 abbrev pub asked_of : List Part → List (List ℕ) → List Asked
@@ -82,27 +78,31 @@ names_of asked = map (λ a. a.word) (filter (λ a. is_name_part a.part) asked)
 
 -- ---- one line
 
--- what a line says: its kind, and its words after the first
-pub record Said : Type 0 where
-  pub kind : LineKind
-  pub asked : List Asked
+-- a line that begins with this word and has so many more is of this kind, where the reader is here
+abbrev pub is_here : Section → List ℕ → ℕ → LineKind → Bool
+is_here s word count kind = bytes_eq word (word_of kind) && (takes kind count && stands_in kind s)
 
--- a line is of the first kind that has this word, takes so many words after it and may stand here; no other kind does
+-- no line is of two kinds
 abbrev pub kind_here : Section → List ℕ → ℕ → Option LineKind
-kind_here s word count = find (λ k. bytes_eq word (word_of k) && (takes k count && stands_in k s)) kinds
+kind_here s word count = find (is_here s word count) kinds
 
 -- the words after the first are tried from left to right
-abbrev pub by_first_wrong : Said → Option Asked → Result (Option Said) ScriptCause
-by_first_wrong said None = Ok (Some said)
-by_first_wrong said (Some wrong) = Err (cause_of wrong.part)
+abbrev pub by_first_wrong : Option Asked → Result (Unit {0}) ScriptCause
+by_first_wrong None = Ok tt
+by_first_wrong (Some wrong) = Err (cause_of wrong.part)
 
 -- after the tests
-abbrev pub by_words : Said → Result (Option Said) ScriptCause
-by_words said = if list_all (λ a. not (is_wrong_test a)) said.asked then by_first_wrong said (find (λ a. not (is_right a)) said.asked) else Err cause.BadLine
+abbrev pub checked : List Asked → Result (Unit {0}) ScriptCause
+checked asked = if list_all (λ a. not (is_wrong_test a)) asked then by_first_wrong (find (λ a. not (is_right a)) asked) else Err cause.BadLine
+
+-- a line whose words were tried
+abbrev pub by_check : Said → Result (Unit {0}) ScriptCause → Result (Option Said) ScriptCause
+by_check said (Ok none) = Ok (Some said)
+by_check said (Err c) = Err c
 
 abbrev pub by_kind : List (List ℕ) → Option LineKind → Result (Option Said) ScriptCause
 by_kind words None = Err cause.BadLine
-by_kind words (Some kind) = by_words (record { kind = kind; asked = asked_of (parts_of kind) words })
+by_kind words (Some kind) = by_check (record { kind = kind; asked = asked_of (parts_of kind) words }) (checked (asked_of (parts_of kind) words))
 
 -- a line without words, and a comment, says nothing; another one has plain bytes alone and is of some kind
 abbrev pub line_by_words : Section → Bool → List (List ℕ) → Result (Option Said) ScriptCause

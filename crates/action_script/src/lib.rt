@@ -2,10 +2,12 @@
 //! reads back.
 #![tactic(auto)]
 
+pub mod asked;
 pub mod error;
 pub mod field;
 pub mod form;
 pub mod kind;
+pub mod line;
 pub mod names;
 pub mod numbers;
 pub mod script;
