@@ -6,3 +6,4 @@ pub mod Lines
 pub mod Asked
 pub mod ScriptValue
 pub mod Reading
+pub mod SoFar

@@ -10,5 +10,6 @@ pub mod kind;
 pub mod line;
 pub mod names;
 pub mod numbers;
+pub mod reader;
 pub mod script;
 pub mod word;
