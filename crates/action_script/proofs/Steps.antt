@@ -50,10 +50,10 @@ has_read-more bytes rest more line s new h cut took = by (line_of s.section line
     by : (r : Result (Option Said) ScriptCause) → line_of s.section line ≡ r → TookLine r s new → HasRead bytes more new
     by (Err c) e took = absurd took
     by (Ok None) e took = subst (HasRead bytes more) (sym took) (record {
-        done = h.done;
-        names = h.names;
-        lines = h.lines;
-        whole = whole ∙ ap (λ r. all_before h.done (with_line s.line s.section (λ t. said_from (s.line + 1) t (lines_of more)) r)) e;
+      done = h.done;
+      names = h.names;
+      lines = h.lines;
+      whole = whole ∙ ap (λ r. all_before h.done (with_line s.line s.section (λ t. said_from (s.line + 1) t (lines_of more)) r)) e;
     })
     by (Ok (Some said)) e took =
         let own : Numbered = record { number = s.line; said = said } in
@@ -61,10 +61,10 @@ has_read-more bytes rest more line s new h cut took = by (line_of s.section line
         let named : are_named s.names h.done ≡ true = subst (λ n. are_named n h.done ≡ true) (sym h.names) (are_named-script_names h.done) in
         let kept : s.lines ≡ map (line_by (with_names s.names (names_of said.asked))) h.done = h.lines ∙ sym (lines-with_names s.names (names_of said.asked) h.done named) in
         subst (HasRead bytes more) (sym took) (record {
-            done = h.done ++ own ∷ [];
-            names = names;
-            lines = ap (λ l. l ++ line_by (with_names s.names (names_of said.asked)) own ∷ []) kept ∙ sym (map-push (line_by (with_names s.names (names_of said.asked))) h.done own);
-            whole = whole ∙ ap (λ r. all_before h.done (with_line s.line s.section (λ t. said_from (s.line + 1) t (lines_of more)) r)) e ∙ sym (all_before-push h.done own (said_from (s.line + 1) (goes_to said.kind s.section) (lines_of more)));
+          done = h.done ++ own ∷ [];
+          names = names;
+          lines = ap (λ l. l ++ line_by (with_names s.names (names_of said.asked)) own ∷ []) kept ∙ sym (map-push (line_by (with_names s.names (names_of said.asked))) h.done own);
+          whole = whole ∙ ap (λ r. all_before h.done (with_line s.line s.section (λ t. said_from (s.line + 1) t (lines_of more)) r)) e ∙ sym (all_before-push h.done own (said_from (s.line + 1) (goes_to said.kind s.section) (lines_of more)));
         })
 
 -- ---- a line with a fault

@@ -7,3 +7,4 @@ pub mod Asked
 pub mod ScriptValue
 pub mod Reading
 pub mod SoFar
+pub mod Printing

@@ -10,6 +10,7 @@ pub mod kind;
 pub mod line;
 pub mod names;
 pub mod numbers;
+pub mod printer;
 pub mod reader;
 pub mod script;
 pub mod word;
