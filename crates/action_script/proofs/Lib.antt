@@ -6,3 +6,7 @@ pub mod Speaking
 pub mod Counting
 pub mod Steadiness
 pub mod Steps
+pub mod Numerals
+pub mod Inky
+pub mod Fits
+pub mod Shapes

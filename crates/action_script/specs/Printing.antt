@@ -1,20 +1,22 @@
 -- The text of a script.
-use Rattle.std.specs.Prelude.{◌≡◌, ℕ, ◌+◌, ◌<◌, ◌^◌, nat_le, Bool, true, ◌&&◌, List, [], ◌∷◌, ◌++◌, length, map, slice_index_or, decimal}
+use Rattle.std.specs.Prelude.{◌≡◌, ℕ, ℤ, pos, negsuc, ◌+◌, ◌<◌, ◌^◌, nat_le, Bool, true, false, ◌&&◌, List, [], ◌∷◌, ◌++◌, length, map, slice_index_or, decimal}
 use Rattle.std.specs.List.{list_all, flat_map}
 use Rattle.std.specs.Fmt.{signed_decimal}
+use Rattle.action_script.specs.declared.field.Part.{Part}
+use Rattle.action_script.specs.declared.field.Part.TheVariants as part
 use Rattle.action_script.specs.declared.field.Field.{Field}
 use Rattle.action_script.specs.declared.field.Field.TheVariants as field
 use Rattle.action_script.specs.declared.form.Form.{Form}
 use Rattle.action_script.specs.declared.kind.Section.{Section}
 use Rattle.action_script.specs.declared.kind.Section.TheVariants as section
 use Rattle.action_script.specs.declared.script.Line.{Line}
-use Rattle.action_script.specs.Words.{test_word}
+use Rattle.action_script.specs.Words.{is_name, test_word}
 use Rattle.action_script.specs.Lines.{most_line, spaced}
 use Rattle.action_script.specs.Asked.{Said}
 use Rattle.action_script.specs.Kinds.{word_of, parts_of, takes, stands_in, goes_to, at_top}
 use Rattle.action_script.specs.Forms.{kind_of, fields_of}
 use Rattle.action_script.specs.Names.{with_names}
-use Rattle.action_script.specs.Reading.{asked_of, is_right, names_of}
+use Rattle.action_script.specs.Reading.{asked_of, names_of}
 use Rattle.action_script.specs.ScriptValue.{Script}
 
 -- ---- the text
@@ -44,13 +46,29 @@ text_of script = flat_map (line_text script.names) script.lines
 
 -- ---- what makes lines and names a script
 
--- what the line of a form says
-abbrev pub said_by : List (List ℕ) → Form → Said
-said_by names form = record { kind = kind_of form; asked = asked_of (parts_of (kind_of form)) (words_after names form) }
+-- a value is from -1000000000000 to 1000000000000
+abbrev pub is_value : ℤ → Bool
+is_value (pos n) = nat_le n 1000000000000
+is_value (negsuc n) = nat_le (n + 1) 1000000000000
 
--- the line has the number of words that its kind takes, and each is what it is asked to be: the names are names, the values in their ranges, the lists not empty
+-- a field is what this part asks for: a name by the grammar, or a number in its range
+abbrev pub fits_part : List (List ℕ) → Part → Field → Bool
+fits_part names part.Name (field.Name n) = is_name (slice_index_or names n [])
+fits_part names part.Value (field.Value v) = is_value v
+fits_part names part.Count (field.Count k) = nat_le 1 k && nat_le k 1000000
+fits_part names part.Rounds (field.Count k) = nat_le k 1000000
+fits_part names part.Test (field.Test t) = true
+fits_part names _ _ = false
+
+-- fields are what these parts ask for, one after the other; where the parts end, names go on
+abbrev pub fit : List (List ℕ) → List Part → List Field → Bool
+fit names parts [] = true
+fit names [] (f ∷ fields) = fits_part names part.Name f && fit names [] fields
+fit names (p ∷ parts) (f ∷ fields) = fits_part names p f && fit names parts fields
+
+-- a form has as many fields as its kind takes, so its list isn't empty, and they are what is asked for
 abbrev pub is_sound : List (List ℕ) → Form → Bool
-is_sound names form = takes (kind_of form) (length (fields_of form)) && list_all is_right (said_by names form).asked
+is_sound names form = takes (kind_of form) (length (fields_of form)) && fit names (parts_of (kind_of form)) (fields_of form)
 
 -- the line is no longer than a line may be
 abbrev pub is_short : List (List ℕ) → Form → Bool
@@ -60,6 +78,10 @@ is_short names form = nat_le (length (form_line names form)) most_line
 abbrev pub lead_to_top : Section → List Form → Bool
 lead_to_top s [] = at_top s
 lead_to_top s (form ∷ forms) = stands_in (kind_of form) s && lead_to_top (goes_to (kind_of form) s) forms
+
+-- what the line of a form says
+abbrev pub said_by : List (List ℕ) → Form → Said
+said_by names form = record { kind = kind_of form; asked = asked_of (parts_of (kind_of form)) (words_after names form) }
 
 -- the names of a form, in the order in which its line has them
 abbrev pub form_names : List (List ℕ) → Form → List (List ℕ)
