@@ -10,3 +10,7 @@ pub mod Numerals
 pub mod Inky
 pub mod Fits
 pub mod Shapes
+pub mod Joining
+pub mod Numbered
+pub mod PrintedLines
+pub mod ReadsBack

@@ -29,10 +29,10 @@ pieces_of-whole text h =
     let past = ltb-false i (length text) (failed (nat_lt i (length text)) i h) in
     slice_split_none (λ b. b == 10) text (λ k d l. fails_before_first (λ b. b == 10) text k d (omega arith))
 
-some_piece : (text : List ℕ) → pieces_of text ≢ []
+pub some_piece : (text : List ℕ) → pieces_of text ≢ []
 some_piece text h = omega (arith, length-slice_split (λ b. b == 10) text, ap length h)
 
-without_empty_last-cons : (piece : List ℕ) (pieces : List (List ℕ)) → pieces ≢ [] → without_empty_last (piece ∷ pieces) ≡ piece ∷ without_empty_last pieces
+pub without_empty_last-cons : (piece : List ℕ) (pieces : List (List ℕ)) → pieces ≢ [] → without_empty_last (piece ∷ pieces) ≡ piece ∷ without_empty_last pieces
 without_empty_last-cons piece [] h = absurd (h refl)
 without_empty_last-cons piece (next ∷ more) h = refl
 

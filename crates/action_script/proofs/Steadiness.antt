@@ -40,7 +40,7 @@ is_among-new (name ∷ names) word = by (bytes_eq word name) (is_among-new names
     by true h = refl
     by false h = h
 
-number_in-push : (names : List (List ℕ)) (new word : List ℕ) → is_among names word ≡ true → number_in (names ++ new ∷ []) word ≡ number_in names word
+pub number_in-push : (names : List (List ℕ)) (new word : List ℕ) → is_among names word ≡ true → number_in (names ++ new ∷ []) word ≡ number_in names word
 number_in-push [] new word h = cc
 number_in-push (name ∷ names) new word h = by (bytes_eq word name) (number_in-push names new word) h
   where
