@@ -87,4 +87,3 @@ pub lines_of-line : (line rest : List ℕ) → is_one_line line ≡ true → lin
 lines_of-line line rest h =
     ap without_empty_last (slice_split_at (λ b. b == 10) line 10 rest (not_line_feed line h) refl)
     ∙ without_empty_last-cons line (slice_split (λ b. b == 10) rest) (some_piece rest)
-

@@ -14,3 +14,5 @@ pub mod Joining
 pub mod Numbered
 pub mod PrintedLines
 pub mod ReadsBack
+pub mod WellRead
+pub mod LineNumbers

@@ -1,5 +1,5 @@
 -- Reading a text line by line gives what it says.
-use Rattle.std.proofs.Common.{◌≡◌, ℕ, ◌+◌, ◌≤◌, Bool, true, false, cond, if◌then◌else◌, List, [], ◌∷◌, ◌++◌, length, map, Option, Some, None, Result, Ok, Err, refl, sym, ap, ◌∙◌, subst, arith, append_assoc}
+use Rattle.std.proofs.Common.{◌≡◌, ℕ, ◌+◌, ◌≤◌, Bool, true, false, cond, if◌then◌else◌, List, [], ◌∷◌, ◌++◌, length, map, Option, Some, None, Result, Ok, Err, refl, sym, ap, ◌∙◌, subst, arith, append_assoc, length-append}
 use Rattle.std.specs.List.{flat_map}
 use Rattle.std.proofs.lemmas.List.{append-nil}
 use Rattle.std.proofs.lemmas.Bool.{le-ltb}
@@ -128,3 +128,14 @@ reading_of-read bytes s script h read top lines names =
     let own_lines : script.lines ≡ map (line_by (script_names read.done)) read.done = lines ∙ read.lines ∙ ap (λ n. map (line_by n) read.done) read.names in
     let same : script_by read.done ≡ script = (λ j. record { lines = sym own_lines j; names = sym own_names j }) in
     within bytes h ∙ ap spelled said ∙ ap Ok same
+
+pub took-lines : (s : SoFar) (line : List ℕ) (new : SoFar) → Took s line new → length new.lines ≤ length s.lines + 1
+took-lines s line new took = by (line_of s.section line) took
+  where
+    by : (r : Result (Option Said) ScriptCause) → TookLine r s new → length new.lines ≤ length s.lines + 1
+    by (Err c) took = absurd took
+    by (Ok None) took = let same : new.lines ≡ s.lines = ap (λ n. n.lines) took in omega (arith, ap length same)
+    by (Ok (Some said)) took =
+        let own = line_by (with_names s.names (names_of said.asked)) (record { number = s.line; said = said }) in
+        let same : new.lines ≡ s.lines ++ own ∷ [] = ap (λ n. n.lines) took in
+        omega (arith, ap length same, length-append s.lines (own ∷ []))

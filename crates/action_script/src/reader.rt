@@ -105,6 +105,8 @@ impl<'a> Reader<'a> {
 fn read_lines(alloc: Global, bytes: &[u8]) -> Result<Reader<'_>, ScriptError>
     requires { length bytes.now ≤ most_bytes }
     ensures read { IfOk result (λ reader. HasRead bytes.now [] (so_far reader)) }
+    ensures few_lines { IfOk result (λ reader. length reader.lines.items < 2 ^ 32) }
+    ensures few_names { IfOk result (λ reader. length reader.names < 2 ^ 32) }
     ensures refused { IfErr result (λ e. e.cause ≢ cause.OutOfMemory → said_from 1 section.Top (lines_of bytes.now) ≡ Err e) }
 {
     let mut reader = Reader {

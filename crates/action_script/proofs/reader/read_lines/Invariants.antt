@@ -7,6 +7,7 @@ abbrev pub invariant-loop-rest : goal.invariant-loop-rest
 invariant-loop-rest l = record {
   read : HasRead l.bytes l.rest (so_far l.reader);
   few : l.reader.line + length l.rest ≤ length l.bytes + 1;
+  lines : length l.reader.lines.items + length l.rest ≤ length l.bytes;
   room : length l.reader.names + length l.rest ≤ length l.bytes;
 }
 
