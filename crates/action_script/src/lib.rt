@@ -13,4 +13,6 @@ pub mod numbers;
 pub mod printer;
 pub mod reader;
 pub mod script;
+#[cfg(test)]
+mod tests;
 pub mod word;

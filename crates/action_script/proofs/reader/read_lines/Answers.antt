@@ -15,5 +15,5 @@ loop-rest-preserved c =
       read = has_read-more c.args.bytes.now c.loop-rest.rest.now c.cut_line.result.1.now c.cut_line.result.0.now (so_far c.loop-rest.reader) (so_far c.take_line.new.self) c.loop-rest.invariant.read c.cut_line.ensures.cut took;
       few = omega (arith, took-line (so_far c.loop-rest.reader) c.cut_line.result.0.now (so_far c.take_line.new.self) took);
       lines = omega (arith, took-lines (so_far c.loop-rest.reader) c.cut_line.result.0.now (so_far c.take_line.new.self) took);
-    room = omega (arith, took-names (so_far c.loop-rest.reader) c.cut_line.result.0.now (so_far c.take_line.new.self) took);
+      room = omega (arith, took-names (so_far c.loop-rest.reader) c.cut_line.result.0.now (so_far c.take_line.new.self) took);
     }
