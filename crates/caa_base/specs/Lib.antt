@@ -1,7 +1,9 @@
 pub mod Counts
 pub mod Device
 pub mod Journal
+pub mod Lines
 pub mod Memory
 pub mod Mixing
+pub mod Names
 pub mod Reading
 pub mod Writing

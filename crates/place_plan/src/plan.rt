@@ -1,7 +1,7 @@
 ghost use Rattle.std.specs.Prelude.{◌≡◌, ◌<◌, ℕ, List, [], length, map, slice_index_or, Option, Some, None, IfOk, IfSome, unwrap_or, option_copied};
 ghost use Rattle.std.specs.List.{range_with_len};
 ghost use Rattle.place_plan.specs.Words.{member, index_of, last_or, next_after};
-ghost use Rattle.place_plan.specs.Places.{place_at, action_at, role_at, role_row, role_of, roles_of, objects_of, uses, parent, alternates_of, child, next_alternate, nest_of, map_signal, top_of, is_within, fault_of, graph_at, internal_of, interface_of, exception_name, handler_in, initial_of, no_object, no_action, no_role, no_nest};
+ghost use Rattle.place_plan.specs.Places.{place_at, around, action_at, role_at, role_row, role_of, roles_of, objects_of, uses, parent, alternates_of, child, next_alternate, nest_of, map_signal, top_of, is_within, fault_of, graph_at, internal_of, interface_of, exception_name, handler_in, initial_of, no_object, no_action, no_role, no_nest};
 ghost use Rattle.place_plan.specs.Bound.{bound};
 ghost use Rattle.place_plan.specs.Unfolding.{place_of, plan_of};
 ghost use Rattle.place_plan.specs.DraftRules.{broken_rule, KeepsParts};
@@ -342,6 +342,16 @@ impl Plan {
         ensures { result.now ≡ self.now.plays }
     {
         self.plays.as_slice()
+    }
+
+    /// The places round a place, the innermost first.
+    pub fn around(&self, place: Place) -> &[Place]
+        ensures { result.now ≡ around self.now place }
+    {
+        match self.places.as_slice().get(place as usize) {
+            Some(row) => row.around.as_slice(),
+            None => &[],
+        }
     }
 
     /// The place right round this one; none for a play.
