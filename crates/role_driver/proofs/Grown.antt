@@ -5,8 +5,9 @@ use Rattle.caa_base.specs.declared.entry.Entry.{Entry}
 use Rattle.place_plan.specs.PlanValue.{Plan}
 use Rattle.role_driver.specs.Schedule.{IsTurnOf, TakesTurn, GrewBy}
 
-pub none_yet : (begins : ℕ → ℕ) (plan : Plan) (old : List Entry) → GrewBy begins plan old old
-none_yet begins plan old = record { added = []; kept = sym (append-nil old); turns = tt }
+-- before the first turn, there is none
+pub none_yet : (begins : ℕ → ℕ) (plan : Plan) (old : List Entry) → (none : GrewBy begins plan old old) × (length none.added ≡ 0)
+none_yet begins plan old = (record { added = []; kept = sym (append-nil old); turns = tt }, refl)
 
 -- after one more turn, there is one entry more
 pub one_more : (begins : ℕ → ℕ) (plan : Plan) (old mid new : List Entry) (grown : GrewBy begins plan old mid) (first : ℕ) → first ≡ begins (suc (length grown.added)) → TakesTurn plan mid new first → (more : GrewBy begins plan old new) × (length more.added ≡ suc (length grown.added))

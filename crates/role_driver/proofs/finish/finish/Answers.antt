@@ -1,6 +1,6 @@
 use Rattle.std.proofs.Common.{◌∙◌, arith, refl, subst}
 use Rattle.role_driver.specs.Schedule.{TakesTurn, always_least}
-use Rattle.role_driver.proofs.Grown.{none_yet, one_more}
+use Rattle.role_driver.proofs.Grown.{one_more}
 use Rattle.role_driver.proofs.finish.finish.Goals as goal
 
 pub loop-machine-preserved : goal.loop-machine-preserved

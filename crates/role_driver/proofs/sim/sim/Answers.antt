@@ -1,4 +1,4 @@
-use Rattle.std.proofs.Common.{◌≡◌, ◌≤◌, ◌∙◌, ◌/◌, suc, arith, ap, refl, sym, subst, length}
+use Rattle.std.proofs.Common.{◌≡◌, ◌∙◌, ◌/◌, suc, arith, ap, refl, sym, subst, length}
 use Rattle.caa_base.specs.Mixing.{next_state, state_after}
 use Rattle.role_driver.specs.Schedule.{TakesTurn, first_of_seed}
 use Rattle.role_driver.proofs.Grown.{none_yet, one_more}
@@ -6,13 +6,15 @@ use Rattle.role_driver.proofs.sim.sim.Goals as goal
 
 pub loop-state-init : goal.loop-state-init
 unfolding state_after
-loop-state-init g c = record {
-  plan = refl;
-  base = refl;
-  count = omega arith;
-  small = c.requires;
-  scheduled = (none_yet (first_of_seed c.args.seed) (g.M.Machine.plan_of c.args.machine) (g.M.Machine.journal_of c.args.machine), refl);
-}
+loop-state-init g c =
+    let none = none_yet (first_of_seed c.args.seed) (g.M.Machine.plan_of c.args.machine) (g.M.Machine.journal_of c.args.machine) in
+    record {
+      plan = refl;
+      base = refl;
+      count = omega arith;
+      small = c.requires;
+      scheduled = (none.0, sym (ap (λ n. state_after c.args.seed n) none.1));
+    }
 
 pub loop-state-preserved : goal.loop-state-preserved
 unfolding state_after
