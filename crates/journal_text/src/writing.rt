@@ -1,44 +1,92 @@
-//! The text of a journal.
-
 ghost use Rattle.std.specs.Prelude.{◌≡◌, ◌<◌, ◌∷◌, ◌++◌, [], map, length, reverse, codes, decimal, OnOk, IfOk};
 ghost use Rattle.std.specs.List.{flat_map, range_with_len};
 ghost use Rattle.caa_base.specs.declared.entry.Kind.TheVariants as kind;
+ghost use Rattle.caa_base.specs.Lines.{spaced, line};
 ghost use Rattle.place_plan.specs.Places.{parent};
 ghost use Rattle.place_plan.specs.Entries.{is_of};
 ghost use Rattle.place_plan.specs.Roles.{verdict_at};
 ghost use Rattle.place_plan.specs.WellFormed.{IsWellFormed, AllWellFormed};
-ghost use Rattle.caa_main.specs.Text.{spaced, line, action_name, internal_name, interface_name, kind_word, object_words, restore_word, verdict_words, outcome_at, outcome_words, abort_words, leave_words, field_words, entry_line, object_line, last_outcome, ending_words, outcome_line, text_of};
+ghost use Rattle.journal_text.specs.Text.{action_name, object_name, internal_name, interface_name, kind_word, object_words, restore_word, verdict_words, outcome_at, outcome_words, abort_words, leave_words, field_words, entry_line, object_line, last_outcome, ending_words, outcome_line, closing_lines, seen_line, watched_object, first_line, text_of};
+ghost use Rattle.journal_text.specs.Values.{value_found};
+ghost use Rattle.journal_text.specs.Looks.{AreOfPlan};
 
+use crate::seens::{Seen, Seens};
+use crate::values::{last_values, value_found};
 use caa_base::entry::{Entry, Exception, Kind, Object, OutOfMemory, Outcome, Place, Verdict};
 use caa_base::journal::Journal;
 use place_plan::plan::Plan;
-use place_plan::value::value_at;
 use std::alloc::{AllocError, Global};
 use std::io;
 use std::io::Write;
 
+/// The first line of each text.
+pub(crate) const FIRST_LINE: &[u8] = b"journal\n";
+
 /// The text of a journal: one line for each entry, with the names of the plan, then the value of each object and the outcome of
-/// each place.
-pub fn write(alloc: Global, plan: &Plan, journal: &Journal) -> Result<Vec<u8>, OutOfMemory>
-    requires { AllWellFormed plan.now journal.now.entries }
-    ensures { IfOk result (λ text. text.items ≡ text_of plan.now journal.now.entries) }
+/// each place, and then what was seen.
+pub fn write(
+    alloc: Global,
+    plan: &Plan,
+    journal: &Journal,
+    seens: &Seens,
+) -> Result<Vec<u8>, OutOfMemory>
+    requires entries { AllWellFormed plan.now journal.now.entries }
+    requires watches { AreOfPlan plan.now seens.now.seens }
+    ensures { IfOk result (λ text. text.items ≡ text_of plan.now journal.now.entries seens.now.seens) }
+{
+    write_text(alloc, plan, journal.as_slice(), seens.as_slice())
+}
+
+/// The text of these entries and looks.
+pub(crate) fn write_text(
+    alloc: Global,
+    plan: &Plan,
+    entries: &[Entry],
+    seens: &[Seen],
+) -> Result<Vec<u8>, OutOfMemory>
+    requires entries { AllWellFormed plan.now entries.now }
+    requires watches { AreOfPlan plan.now seens.now }
+    ensures { IfOk result (λ text. text.items ≡ text_of plan.now entries.now seens.now) }
 {
     let mut text = Vec::new(alloc);
-    match push_text(alloc, &mut text, plan, journal.as_slice()) {
+    match push_text(alloc, &mut text, plan, entries, seens) {
+        Ok(()) => Ok(text),
+        Err(_) => Err(OutOfMemory),
+    }
+}
+
+/// The lines that follow from these entries.
+pub(crate) fn write_closing(
+    alloc: Global,
+    plan: &Plan,
+    entries: &[Entry],
+) -> Result<Vec<u8>, OutOfMemory>
+    requires { AllWellFormed plan.now entries.now }
+    ensures { IfOk result (λ text. text.items ≡ closing_lines plan.now (reverse entries.now)) }
+{
+    let mut text = Vec::new(alloc);
+    match push_closing(alloc, &mut text, plan, entries) {
         Ok(()) => Ok(text),
         Err(_) => Err(OutOfMemory),
     }
 }
 
 /// Adds all lines.
-fn push_text(alloc: Global, text: &mut Vec<u8>, plan: &Plan, entries: &[Entry]) -> io::Result<()>
-    requires { AllWellFormed plan.now entries.now }
-    ensures { OnOk result (text.new.items ≡ text.old.items ++ text_of plan.now entries.now) }
+fn push_text(
+    alloc: Global,
+    text: &mut Vec<u8>,
+    plan: &Plan,
+    entries: &[Entry],
+    seens: &[Seen],
+) -> io::Result<()>
+    requires entries { AllWellFormed plan.now entries.now }
+    requires watches { AreOfPlan plan.now seens.now }
+    ensures { OnOk result (text.new.items ≡ text.old.items ++ text_of plan.now entries.now seens.now) }
 {
     text.extend_from_slice(b"journal\n")?;
     push_entries(text, plan, entries)?;
-    push_objects(text, plan, entries)?;
-    push_outcomes(alloc, text, plan, entries)
+    push_closing(alloc, text, plan, entries)?;
+    push_seens(text, plan, seens)
 }
 
 /// Adds a line for each entry.
@@ -52,14 +100,46 @@ fn push_entries(text: &mut Vec<u8>, plan: &Plan, entries: &[Entry]) -> io::Resul
     Ok(())
 }
 
+/// Adds the lines that follow from the entries.
+fn push_closing(
+    alloc: Global,
+    text: &mut Vec<u8>,
+    plan: &Plan,
+    entries: &[Entry],
+) -> io::Result<()>
+    requires { AllWellFormed plan.now entries.now }
+    ensures { OnOk result (text.new.items ≡ text.old.items ++ closing_lines plan.now (reverse entries.now)) }
+{
+    push_objects(alloc, text, plan, entries)?;
+    push_outcomes(alloc, text, plan, entries)
+}
+
+/// Adds a line for each look.
+fn push_seens(text: &mut Vec<u8>, plan: &Plan, seens: &[Seen]) -> io::Result<()>
+    requires { AreOfPlan plan.now seens.now }
+    ensures { OnOk result (text.new.items ≡ text.old.items ++ flat_map (seen_line plan.now) seens.now) }
+{
+    for seen in seens {
+        push_seen(text, plan, seen)?;
+    }
+    Ok(())
+}
+
 /// Adds a line for each object, with its value after the entries.
 #[tactic(auto, using(crate::proofs::TextLemmas::lines_more))]
-fn push_objects(text: &mut Vec<u8>, plan: &Plan, entries: &[Entry]) -> io::Result<()>
+fn push_objects(
+    alloc: Global,
+    text: &mut Vec<u8>,
+    plan: &Plan,
+    entries: &[Entry],
+) -> io::Result<()>
+    requires { AllWellFormed plan.now entries.now }
     ensures { OnOk result (text.new.items
         ≡ text.old.items ++ flat_map (object_line plan.now (reverse entries.now)) (range_with_len 0 (length plan.now.objects))) }
 {
+    let found = last_values(alloc, plan, entries)?;
     for object in 0..plan.objects() {
-        push_object_line(text, plan, entries, object)?;
+        push_object_line(text, plan, object, &found)?;
     }
     Ok(())
 }
@@ -110,7 +190,7 @@ fn is_end(entry: &Entry) -> bool
 }
 
 /// Adds the line of an entry.
-fn push_entry(text: &mut Vec<u8>, plan: &Plan, entry: &Entry) -> io::Result<()>
+pub(crate) fn push_entry(text: &mut Vec<u8>, plan: &Plan, entry: &Entry) -> io::Result<()>
     requires { IsWellFormed plan.now entry.now }
     ensures { OnOk result (text.new.items ≡ text.old.items ++ entry_line plan.now entry.now) }
 {
@@ -121,18 +201,20 @@ fn push_entry(text: &mut Vec<u8>, plan: &Plan, entry: &Entry) -> io::Result<()>
     push_end(text)
 }
 
-/// Adds the line of an object.
+/// Adds the line of an object with the value that was found for it.
 fn push_object_line(
     text: &mut Vec<u8>,
     plan: &Plan,
-    entries: &[Entry],
     object: Object,
+    found: &[Option<i64>],
 ) -> io::Result<()>
-    requires { object < length plan.now.objects }
-    ensures { OnOk result (text.new.items ≡ text.old.items ++ object_line plan.now (reverse entries.now) object) }
+    requires object { object < length plan.now.objects }
+    requires objects { length found.now ≡ length plan.now.objects }
+    ensures { OnOk result (text.new.items
+        ≡ text.old.items ++ line (codes "object") (object_words plan.now object (value_found plan.now found.now object))) }
 {
     text.extend_from_slice(b"object")?;
-    push_object(text, plan, object, value_at(plan, entries, object))?;
+    push_object(text, plan, object, value_found(plan, found, object))?;
     push_end(text)
 }
 
@@ -157,7 +239,7 @@ fn push_ending(
 }
 
 /// Adds the end of a line.
-pub fn push_end(text: &mut Vec<u8>) -> io::Result<()>
+fn push_end(text: &mut Vec<u8>) -> io::Result<()>
     ensures { OnOk result (text.new.items ≡ text.old.items ++ 10 ∷ []) }
 {
     text.push(b'\n')?;
@@ -165,7 +247,7 @@ pub fn push_end(text: &mut Vec<u8>) -> io::Result<()>
 }
 
 /// Adds a space and a word.
-pub fn push_word(text: &mut Vec<u8>, word: &[u8]) -> io::Result<()>
+fn push_word(text: &mut Vec<u8>, word: &[u8]) -> io::Result<()>
     ensures { OnOk result (text.new.items ≡ text.old.items ++ 32 ∷ word.now) }
 {
     text.push(b' ')?;
@@ -173,12 +255,33 @@ pub fn push_word(text: &mut Vec<u8>, word: &[u8]) -> io::Result<()>
     Ok(())
 }
 
+/// Adds the line of a look.
+fn push_seen(text: &mut Vec<u8>, plan: &Plan, seen: &Seen) -> io::Result<()>
+    requires { seen.now.watch < length plan.now.watches }
+    ensures { OnOk result (text.new.items ≡ text.old.items ++ seen_line plan.now seen.now) }
+{
+    text.extend_from_slice(b"seen")?;
+    push_word(text, object_name(plan, plan.watch(seen.watch)))?;
+    write!(text, " {} {}", seen.ends, seen.value)?;
+    push_end(text)
+}
+
+/// The name of an object, which is empty past the last one.
+fn object_name(plan: &Plan, object: Object) -> &[u8]
+    ensures { result.now ≡ object_name plan.now object }
+{
+    if object < plan.objects() {
+        plan.object_name(object)
+    } else {
+        b""
+    }
+}
+
 /// Adds the name of an object and its value.
 fn push_object(text: &mut Vec<u8>, plan: &Plan, object: Object, value: i64) -> io::Result<()>
-    requires { object < length plan.now.objects }
     ensures { OnOk result (text.new.items ≡ text.old.items ++ spaced (object_words plan.now object value)) }
 {
-    push_word(text, plan.object_name(object))?;
+    push_word(text, object_name(plan, object))?;
     write!(text, " {value}")
 }
 
@@ -265,7 +368,6 @@ fn push_leave(text: &mut Vec<u8>, plan: &Plan, entry: &Entry) -> io::Result<()>
 
 /// Adds the object and the value of a restore, and whether the device took it.
 fn push_restore(text: &mut Vec<u8>, plan: &Plan, entry: &Entry) -> io::Result<()>
-    requires { entry.now.arg < length plan.now.objects }
     ensures { OnOk result (text.new.items
         ≡ text.old.items ++ spaced (object_words plan.now entry.now.arg entry.now.value ++ restore_word entry.now.mark ∷ [])) }
 {
@@ -357,5 +459,3 @@ fn kind_word(kind: Kind) -> &'static [u8]
     }
 }
 
-#[cfg(test)]
-mod tests;

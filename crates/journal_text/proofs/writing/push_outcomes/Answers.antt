@@ -1,8 +1,8 @@
 use Rattle.std.proofs.Common.{◌≡◌, reverse, length, arith, ap, get_or, ◌∙◌}
 use Rattle.std.proofs.lemmas.List.FromFn.{length-map-range_with_len, get_or-map-range_with_len}
-use Rattle.caa_main.specs.Text.{last_outcome, outcome_line}
-use Rattle.caa_main.proofs.TextLemmas.{lines_more}
-use Rattle.caa_main.proofs.text.push_outcomes.Goals as goal
+use Rattle.journal_text.specs.Text.{last_outcome, outcome_line}
+use Rattle.journal_text.proofs.TextLemmas.{lines_more}
+use Rattle.journal_text.proofs.writing.push_outcomes.Goals as goal
 
 pub index-requires : goal.index-requires
 index-requires c =

@@ -6,7 +6,7 @@ use Rattle.std.proofs.lemmas.Bool.Decides.{nat_tests}
 use Rattle.caa_base.specs.declared.entry.Entry.{Entry}
 use Rattle.caa_base.specs.declared.entry.Kind.TheVariants as kind
 use Rattle.place_plan.specs.Entries.{is_of}
-use Rattle.caa_main.specs.Text.{outcome_at, last_outcome}
+use Rattle.journal_text.specs.Text.{outcome_at, last_outcome}
 
 -- one number more
 range_more : (a n : ℕ) → range_with_len a (n + 1) ≡ range_with_len a n ++ (a + n) ∷ []

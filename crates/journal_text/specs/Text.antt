@@ -1,4 +1,4 @@
--- The text of a journal.
+-- The text of a journal and of what was seen while it was made.
 use Rattle.std.specs.Prelude.{ℕ, ℤ, ◌==◌, if◌then◌else◌, List, [], ◌∷◌, ◌++◌, length, reverse, slice_index_or, Option, None, Some, codes, decimal}
 use Rattle.std.specs.Option.{option_map}
 use Rattle.std.specs.Fmt.{signed_decimal}
@@ -10,23 +10,13 @@ use Rattle.caa_base.specs.declared.entry.Verdict.{Verdict}
 use Rattle.caa_base.specs.declared.entry.Verdict.TheVariants as verdict
 use Rattle.caa_base.specs.declared.entry.Outcome.{Outcome}
 use Rattle.caa_base.specs.declared.entry.Outcome.TheVariants as outcome
+use Rattle.caa_base.specs.Lines.{spaced, line}
 use Rattle.place_plan.specs.PlanValue.{Plan}
 use Rattle.place_plan.specs.Places.{no_object, action_at, parent, exception_name}
-use Rattle.place_plan.specs.Entries.{is_in}
+use Rattle.place_plan.specs.Entries.{is_in, newest}
 use Rattle.place_plan.specs.Objects.{value_of}
 use Rattle.place_plan.specs.Roles.{verdict_at}
-use Rattle.place_plan.specs.Rules.{newest}
-
--- ---- lines
-
--- each of these words after a space
-abbrev pub spaced : List (List ℕ) → List ℕ
-spaced [] = []
-spaced (word ∷ words) = 32 ∷ word ++ spaced words
-
--- words parted by one space each, and the end of the line
-abbrev pub line : List ℕ → List (List ℕ) → List ℕ
-line first others = first ++ spaced others ++ 10 ∷ []
+use Rattle.journal_text.specs.declared.seens.Seen.{Seen}
 
 -- ---- names; past the end of a table they are empty
 
@@ -152,12 +142,33 @@ ending_words plan p (Some outcome) = outcome_words plan p outcome
 abbrev pub outcome_line : Plan → List Entry → ℕ → List ℕ
 outcome_line plan past p = line (codes "outcome") (decimal p ∷ action_name plan p ∷ ending_words plan p (last_outcome past p))
 
+-- the lines that follow from the entries: one for each object, and one for each place
+abbrev pub closing_lines : Plan → List Entry → List ℕ
+closing_lines plan past =
+    flat_map (object_line plan past) (range_with_len 0 (length plan.objects))
+    ++ flat_map (outcome_line plan past) (range_with_len 0 (length plan.places))
+
+-- ---- what was seen
+
+-- the object of a watch
+abbrev pub watched_object : Plan → ℕ → ℕ
+watched_object plan w = slice_index_or plan.watches w 0
+
+-- the line of one look: the object, how many plays had ended, and the value
+abbrev pub seen_line : Plan → Seen → List ℕ
+seen_line plan s =
+    line (codes "seen") (object_name plan (watched_object plan s.watch) ∷ decimal s.ends ∷ signed_decimal s.value ∷ [])
+
 -- ---- the text
 
--- the line `journal`, one line for each entry, one for each object, and one for each place
-abbrev pub text_of : Plan → List Entry → List ℕ
-text_of plan journal =
-    line (codes "journal") []
+-- the first line of each text
+abbrev pub first_line : List ℕ
+first_line = codes "journal" ++ 10 ∷ []
+
+-- the first line, one line for each entry, the lines that follow from the entries, and one for each look
+abbrev pub text_of : Plan → List Entry → List Seen → List ℕ
+text_of plan journal seens =
+    first_line
     ++ flat_map (entry_line plan) journal
-    ++ flat_map (object_line plan (reverse journal)) (range_with_len 0 (length plan.objects))
-    ++ flat_map (outcome_line plan (reverse journal)) (range_with_len 0 (length plan.places))
+    ++ closing_lines plan (reverse journal)
+    ++ flat_map (seen_line plan) seens

@@ -1,8 +1,8 @@
 use Rattle.std.proofs.Common.{◌≡◌, reverse, length, take, None, arith}
 use Rattle.std.proofs.lemmas.List.{take_all}
 use Rattle.std.proofs.lemmas.List.FromFn.{fill_by_all}
-use Rattle.caa_main.specs.Text.{last_outcome}
-use Rattle.caa_main.proofs.text.last_outcomes.Goals as goal
+use Rattle.journal_text.specs.Text.{last_outcome}
+use Rattle.journal_text.proofs.writing.last_outcomes.Goals as goal
 
 pub returns : goal.returns
 returns c =

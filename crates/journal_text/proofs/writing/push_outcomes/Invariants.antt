@@ -1,7 +1,7 @@
 use Rattle.std.proofs.Common.{◌≡◌, ◌++◌, reverse}
 use Rattle.std.specs.List.{flat_map, range_with_len}
-use Rattle.caa_main.specs.Text.{outcome_line}
-use Rattle.caa_main.proofs.text.push_outcomes.Given as goal
+use Rattle.journal_text.specs.Text.{outcome_line}
+use Rattle.journal_text.proofs.writing.push_outcomes.Given as goal
 
 abbrev pub invariant-loop-place : goal.invariant-loop-place
 invariant-loop-place l =

@@ -1,6 +1,6 @@
 use Rattle.std.proofs.Common.{◌≡◌, ℕ, ◌<◌, length, reverse, take, slice_index_or, None}
-use Rattle.caa_main.specs.Text.{last_outcome}
-use Rattle.caa_main.proofs.text.last_outcomes.Given as goal
+use Rattle.journal_text.specs.Text.{last_outcome}
+use Rattle.journal_text.proofs.writing.last_outcomes.Given as goal
 
 abbrev pub invariant-loop-entry : goal.invariant-loop-entry
 invariant-loop-entry l = record {

@@ -1,7 +1,7 @@
 use Rattle.std.proofs.Common.{◌≡◌, ◌++◌, reverse}
 use Rattle.std.specs.List.{flat_map, range_with_len}
-use Rattle.caa_main.specs.Text.{object_line}
-use Rattle.caa_main.proofs.text.push_objects.Given as goal
+use Rattle.journal_text.specs.Text.{object_line}
+use Rattle.journal_text.proofs.writing.push_objects.Given as goal
 
 abbrev pub invariant-loop-object : goal.invariant-loop-object
 invariant-loop-object l =
