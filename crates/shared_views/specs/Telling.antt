@@ -1,5 +1,8 @@
 -- What is kept of the resolutions in a journal.
-use Rattle.std.specs.Prelude.{◌≡◌, ℕ, ◌<◌, Bool, true, false, List, length, slice_index_or, Option, Some, None, All, Result, Ok, Err}
+use Rattle.std.specs.Prelude.{◌≡◌, ℕ, ◌<◌, Bool, true, false, List, length, slice_index_or, Option, Some, None, Result, Ok, Err}
+use Rattle.caa_base.specs.declared.entry.Kind.{Kind}
+use Rattle.caa_base.specs.declared.entry.Kind.TheVariants as kind
+use Rattle.place_plan.specs.Entries.{is_of}
 use Rattle.caa_base.specs.declared.entry.Entry.{Entry}
 use Rattle.place_plan.specs.Raising.{exception_resolved}
 use Rattle.shared_views.specs.Noted.{Noted}
@@ -59,3 +62,21 @@ pub record SaysTheSame (b b' : Bulletin) : Type 0 where
   pub cells : cells_of b' ≡ cells_of b
   pub boxes : b'.announcer ≡ b.announcer
   pub words : b'.told.items ≡ b.told.items
+
+-- an entry after this past: its place has a cell, a Resolve comes to a place that isn't resolved, and a Handle carries the exception
+-- to which its place is resolved
+pub record Suits (cells : List ℕ) (past : List Entry) (e : Entry) : Type 0 where
+  pub inside : e.place < length cells
+  pub fresh : e.kind ≡ kind.Resolve → exception_resolved past e.place ≡ None
+  pub carried : e.kind ≡ kind.Handle → exception_resolved past e.place ≡ Some e.arg
+
+-- a note of the entry's place, which knows the entry's exception, or the refusal of that place
+abbrev pub IsHanded : List ℕ → Entry → Option (Result Noted NoteRefused) → Type 0
+IsHanded cells e None = ⊥
+IsHanded cells e (Some r) = Hands cells e.place e.arg r
+
+-- what comes of an entry, by its kind: that note of a Resolve or a Handle, and nothing of all others
+abbrev pub Slip : Kind → List ℕ → Entry → Option (Result Noted NoteRefused) → Type 0
+Slip kind.Resolve cells e slip = IsHanded cells e slip
+Slip kind.Handle cells e slip = IsHanded cells e slip
+Slip _ cells e slip = slip ≡ None

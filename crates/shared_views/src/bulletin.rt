@@ -1,8 +1,9 @@
-ghost use Rattle.std.specs.Prelude.{◌≡◌, ◌<◌, ℕ, true, false, length, slice_index_or, slice_set, replicate, Some, IfOk};
+ghost use Rattle.std.specs.Prelude.{◌≡◌, ◌<◌, ℕ, true, false, List, ◌∷◌, length, slice_index_or, slice_set, replicate, Some, IfOk};
+ghost use Rattle.caa_base.specs.declared.entry.Entry.{Entry as JournalEntry};
 
 use crate::cells::{Announcer, ResolutionCells};
 use crate::notes::{NoteRefused, PlaceNote};
-use caa_base::entry::{Exception, OutOfMemory, Place};
+use caa_base::entry::{Entry, Exception, Kind, OutOfMemory, Place};
 use std::alloc::Global;
 use std::snapshot::Snapshot;
 
@@ -26,7 +27,7 @@ pub struct Bulletin {
 }
 
 impl Bulletin {
-    ghost use Rattle.shared_views.specs.Telling.{cells_of, IsFresh, IsSet, IsTold, told_at, Hands, SaysTheSame};
+    ghost use Rattle.shared_views.specs.Telling.{cells_of, IsFresh, IsSet, IsTold, told_at, Hands, SaysTheSame, KeepsUp, Suits, Slip};
 
     /// A bulletin by which nothing was told, with the announcer that was opened with these cells.
     pub fn open(
@@ -77,6 +78,31 @@ impl Bulletin {
         ensures hands { (x : ℕ) → IsTold cells.now place x (told_at self.old place) → Hands cells.now place x result }
     {
         self.told[place as usize].share(cells, place)
+    }
+
+    /// Takes in an entry that was made: a Resolve is announced.
+    ///
+    /// Of a Resolve and of a Handle comes a note of the place, which knows the exception, or the refusal of its cell; of all others
+    /// nothing.
+    pub fn take_in(
+        &mut self,
+        cells: &ResolutionCells,
+        entry: Entry,
+    ) -> Option<Result<PlaceNote, NoteRefused>>
+        requires ours { cells_of self.old ≡ cells.now }
+        requires follows { (past : List JournalEntry) × KeepsUp past self.old × Suits cells.now past entry }
+        ensures cells { cells_of self.new ≡ cells.now }
+        ensures keeps_up { (past : List JournalEntry) → KeepsUp past self.old → Suits cells.now past entry → KeepsUp (entry ∷ past) self.new }
+        ensures slip { Slip entry.kind cells.now entry result }
+    {
+        match entry.kind {
+            Kind::Resolve => {
+                self.announce(cells, entry.place, entry.arg);
+                Some(self.share(cells, entry.place))
+            }
+            Kind::Handle => Some(self.share(cells, entry.place)),
+            _ => None,
+        }
     }
 }
 
