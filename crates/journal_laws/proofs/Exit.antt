@@ -17,7 +17,7 @@ use Rattle.journal_laws.proofs.Playable.{IsPlayable}
 use Rattle.journal_laws.proofs.Core.{Core}
 use Rattle.place_plan.proofs.Words.{all_at}
 use Rattle.place_plan.proofs.Entries.{of_kind}
-use Rattle.journal_laws.proofs.Kept.{live_parts}
+use Rattle.journal_laws.proofs.Lives.{live_parts}
 use Rattle.journal_laws.proofs.Busy.{not_given}
 use Rattle.journal_laws.proofs.InnerFirst.{legal_rest}
 use Rattle.journal_laws.proofs.Holding.{ended_started, end_live}

@@ -15,7 +15,7 @@ use Rattle.journal_laws.specs.Laws.{Holds, IsolationLaw, touches_object}
 use Rattle.journal_laws.proofs.Playable.{IsTree}
 use Rattle.place_plan.proofs.Words.{first_not_fails}
 use Rattle.place_plan.proofs.Entries.{of_kind}
-use Rattle.journal_laws.proofs.Kept.{live_from}
+use Rattle.journal_laws.proofs.Lives.{live_from}
 use Rattle.journal_laws.proofs.Tree.{in_within}
 use Rattle.journal_laws.proofs.Busy.{live_of}
 use Rattle.journal_laws.proofs.InnerFirst.{legal_rest}

@@ -21,7 +21,7 @@ use Rattle.place_plan.specs.Journals.{LegalPast}
 use Rattle.journal_laws.specs.Due.{plainly, marked, verdict_entry, due_restore, due_doomed, due_hot, due_halted, due_running, due_answer, due_handler, due_step, due_held, due_agreed, due_end}
 use Rattle.journal_laws.proofs.Playable.{IsPlayable}
 use Rattle.place_plan.proofs.Words.{all_from, same_at}
-use Rattle.journal_laws.proofs.Kept.{live_parts, going_live}
+use Rattle.journal_laws.proofs.Lives.{live_parts, going_live}
 use Rattle.journal_laws.proofs.Tree.{in_within, live_within}
 use Rattle.journal_laws.proofs.InnerFirst.{started_filled}
 use Rattle.journal_laws.proofs.Holding.{holds_within, holds_own}

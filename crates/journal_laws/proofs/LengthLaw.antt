@@ -24,7 +24,7 @@ use Rattle.journal_laws.proofs.Phases.{calm_open, hot_open, going_parts}
 use Rattle.journal_laws.proofs.Raised.{plain_calm, unhandled_fault}
 use Rattle.journal_laws.proofs.Arrivals.{fresh, inside_stays, gone}
 use Rattle.journal_laws.proofs.Holding.{end_live}
-use Rattle.journal_laws.proofs.Kept.{live_parts}
+use Rattle.journal_laws.proofs.Lives.{live_parts}
 use Rattle.journal_laws.proofs.Makers.{maker_role}
 use Rattle.journal_laws.proofs.Ranges.{place_known, recovery_verdict}
 use Rattle.journal_laws.proofs.Costs.{flag, flag_or, flag_up, total, total_rows, total_up, total_more, walked, has_said_before, has_said_after, was_refused_once, role_cost, stages, place_cost, place_up, stage_spent, object_spent, role_spent, place_bound, place_within, place_row}

@@ -18,7 +18,7 @@ use Rattle.journal_laws.specs.Laws.{Holds, DeviceLaw, last_put}
 use Rattle.journal_laws.proofs.Playable.{IsTree}
 use Rattle.place_plan.proofs.Words.{first_not_fails}
 use Rattle.place_plan.proofs.Entries.{of_kind}
-use Rattle.journal_laws.proofs.Kept.{live_parts, live_from}
+use Rattle.journal_laws.proofs.Lives.{live_parts, live_from}
 use Rattle.journal_laws.proofs.Tree.{in_within}
 use Rattle.journal_laws.proofs.Busy.{live_of}
 use Rattle.journal_laws.proofs.Holding.{live_uses, holds_within, undoing_started}

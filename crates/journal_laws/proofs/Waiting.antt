@@ -15,7 +15,7 @@ use Rattle.place_plan.specs.Journals.{LegalPast, AllOver}
 use Rattle.journal_laws.specs.Due.{due_of, due_at, due_inside, due_arrival}
 use Rattle.journal_laws.proofs.Playable.{IsPlayable}
 use Rattle.place_plan.proofs.Words.{all_from, same_at, first_not_fails, first_not_none, first_not_before, in_plays}
-use Rattle.journal_laws.proofs.Kept.{live_from, going_live}
+use Rattle.journal_laws.proofs.Lives.{live_from, going_live}
 use Rattle.journal_laws.proofs.Tree.{in_within}
 use Rattle.journal_laws.proofs.Innermost.{within_itself}
 use Rattle.journal_laws.proofs.Holding.{holds_within, ended_started}
