@@ -1,6 +1,6 @@
 -- Wrong rules for how a place starts, is undone, ends and is left, and a wrong bound. Each leaves out one condition of a right rule, and
 -- lets a journal through that the right rules refuse and that breaks a law. So each shows what one condition is there for.
-use Rattle.std.proofs.Common.{◌≡◌, ℕ, pos, ◌+◌, ◌*◌, ◌≤◌, Bool, true, false, not, ◌||◌, ◌&&◌, if◌then◌else◌, ◌==◌, List, [], ◌∷◌, ◌++◌, length, take, Option, Some, None, MatchBool, inl, arith, refl, ap, sum_by}
+use Rattle.std.proofs.Common.{◌≡◌, ℕ, pos, ◌+◌, ◌*◌, ◌<◌, Bool, true, false, not, ◌||◌, ◌&&◌, if◌then◌else◌, ◌==◌, List, [], ◌∷◌, ◌++◌, length, take, Option, Some, None, MatchBool, inl, arith, refl, ap, sum_by}
 use Rattle.std.specs.Prelude.{slice_index_or, nat_abs}
 use Rattle.std.specs.List.{list_any}
 use Rattle.std.proofs.lemmas.Bool.{false≢true, true≢false}
@@ -195,13 +195,15 @@ action_steps action roles = roles * (longest_body action.roles + longest_handler
 abbrev pub bound_of_steps : Plan → ℕ
 bound_of_steps plan = sum_by (λ (row : PlaceRow). action_steps (slice_index_or plan.actions row.action no_action) (length row.roles)) plan.places
 
--- the journal with three levels is legal and complete and has 27 entries, where this bound allows 19
-pub bound_of_steps_is_short : (bound_of_steps three_levels.plan ≡ 19) × (length three_levels.journal ≡ 27)
-bound_of_steps_is_short = (refl, refl)
+-- a journal that is legal and complete, and longer than a bound allows
+pub record IsTooLong (bound : Plan → ℕ) (plan : Plan) (journal : List Entry) : Type 0 where
+  pub legal : IsLegal plan journal
+  pub complete : IsComplete plan journal
+  pub long : bound plan < length journal
 
--- a bound of the entries of all legal journals
-abbrev pub IsBound : (Plan → ℕ) → Plan → Type 0
-IsBound bound plan = (journal : List Entry) → IsLegal plan journal → length journal ≤ bound plan
+-- the journal with three levels has 27 entries, where this bound allows 19
+pub bound_of_steps_counts : (bound_of_steps three_levels.plan ≡ 19) × (length three_levels.journal ≡ 27)
+bound_of_steps_counts = (refl, refl)
 
-pub bound_of_steps_is_none : IsBound bound_of_steps three_levels.plan → ⊥
-bound_of_steps_is_none h = absurd (omega (arith, h three_levels.journal three_levels.legal))
+pub bound_of_steps_is_too_low : IsTooLong bound_of_steps three_levels.plan three_levels.journal
+bound_of_steps_is_too_low = record { legal = three_levels.legal; complete = three_levels.complete; long = omega arith }

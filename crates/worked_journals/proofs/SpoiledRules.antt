@@ -15,6 +15,7 @@ use Rattle.place_plan.specs.Places.{parent, roles_of, internal_of, handler_of, a
 use Rattle.place_plan.specs.Entries.{code_of, is_in, is_by, newest}
 use Rattle.place_plan.specs.Whereabouts.{inside, has_ended, is_undoing, is_going, is_left_in_silence}
 use Rattle.place_plan.specs.Raising.{has_handled, exceptions_raised, is_doomed, is_hot, exception_resolved}
+use Rattle.place_plan.specs.Objects.{value_of}
 use Rattle.place_plan.specs.Roles.{register, all_have_given, wants_undo, signals, has_aborted}
 use Rattle.place_plan.specs.Rules.{Row, Names, abort_of, SignalsLeast, EndsUndone, outcome_mapped}
 use Rattle.place_plan.specs.Unfolding.{unfold_at}
@@ -331,8 +332,11 @@ ann_commits_in_doom =
     ∷ leave 0 bob
     ∷ []
 
--- taken as a whole this journal does no harm, since what ann wrote is undone with the place round it. What breaks is the law that a
--- participant has at most one entry: after bob's raise it is no longer settled by the journal what ann does
+-- taken as a whole this journal does no harm, since what ann wrote is undone with the place round it
+pub ann_commits_in_doom_value : value_of three_levels.plan (reverse ann_commits_in_doom) x ≡ pos 0
+ann_commits_in_doom_value = refl
+
+-- what breaks is the law that a participant has at most one entry: after bob's raise the journal no longer settles what ann does
 pub inner_commit_after_doom_is_too_lax : IsTooLax inner_commit_after_doom (AtMostOneBy inner_commit_after_doom) three_levels.plan ann_commits_in_doom
 inner_commit_after_doom_is_too_lax = record {
   lets_through = assumption (three_levels.big_is_least);
