@@ -7,12 +7,11 @@ use Rattle.place_plan.specs.declared.rows.NestRow.{NestRow}
 use Rattle.place_plan.specs.declared.rows.ActionRow.{ActionRow}
 use Rattle.place_plan.specs.declared.rows.PlaceRow.{PlaceRow}
 use Rattle.place_plan.specs.PlanValue.{Plan}
-use Rattle.place_plan.specs.Words.{member}
+use Rattle.caa_base.specs.Lists.{member}
 use Rattle.place_plan.specs.Places.{place_at, action_at, action_in, around, roles_of, no_action, no_nest, no_place}
 use Rattle.place_plan.specs.Unfolding.{plan_of, cast_of}
 use Rattle.place_plan.specs.DraftRules.{all_differ, all_below, fills, play_in_range, KeepsParts}
-use Rattle.place_plan.proofs.Words.{all_at}
-use Rattle.place_plan.proofs.Passing.{at_row, all_both}
+use Rattle.caa_base.proofs.ListLemmas.{all_at, at_row, all_both}
 use Rattle.place_plan.proofs.DraftKeeps.{plays_range, plays_fill, nests_range, nests_filled}
 use Rattle.place_plan.proofs.Subtrees.{IsPlaced}
 use Rattle.place_plan.proofs.UnfoldedPlan.{IsUnfolded, is_unfolded, by_parents, child_of, in_table}

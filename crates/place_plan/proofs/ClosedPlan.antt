@@ -7,12 +7,13 @@ use Rattle.place_plan.specs.declared.rows.ActionRow.{ActionRow}
 use Rattle.place_plan.specs.declared.rows.NestRow.{NestRow}
 use Rattle.place_plan.specs.declared.draft.Draft.{Draft}
 use Rattle.place_plan.specs.PlanValue.{Plan}
-use Rattle.place_plan.specs.Words.{member, index_of}
+use Rattle.caa_base.specs.Lists.{member, index_of}
 use Rattle.place_plan.specs.Places.{roles_of, place_at, action_at, action_in, role_row, alternates_of, no_action, no_place, no_role, no_nest}
 use Rattle.place_plan.specs.Unfolding.{plan_of}
 use Rattle.place_plan.specs.DraftRules.{first_is_plain, graphs_in_range, nest_fits, KeepsParts}
 use Rattle.place_plan.specs.Closed.{IsClosed}
-use Rattle.place_plan.proofs.Passing.{get_passes, past_end, below_or_not, all_imply}
+use Rattle.place_plan.proofs.Passing.{past_end, below_or_not}
+use Rattle.caa_base.proofs.ListLemmas.{get_passes, all_imply}
 use Rattle.place_plan.proofs.DraftKeeps.{keeps_rules, some_graphs, graphs_range, action_sizes, nests_fit}
 use Rattle.place_plan.proofs.UnfoldedPlan.{is_unfolded}
 use Rattle.place_plan.proofs.Casts.{action_is, all_cast}

@@ -10,22 +10,15 @@ use Rattle.place_plan.specs.declared.rows.ObjectRow.{ObjectRow}
 use Rattle.place_plan.specs.declared.rows.PlayRow.{PlayRow}
 use Rattle.place_plan.specs.declared.rows.ActionRow.{ActionRow}
 use Rattle.place_plan.specs.declared.rows.NestRow.{NestRow}
-use Rattle.place_plan.specs.Words.{is_empty}
+use Rattle.caa_base.specs.Lists.{is_empty}
 use Rattle.place_plan.specs.Places.{no_action}
-use Rattle.place_plan.specs.WellFormed.{IsValue}
-use Rattle.place_plan.specs.DraftRules.{size_rule, first_is_plain, graph_rule, action_fits, nest_fits, range_rule, is_value, is_rising, is_rising_above, all_below, exceptions_of, graphs_in_range, objects_in_range, parts_in_range, nest_in_range, action_in_range, play_in_range, order_rule, fill_rule, fills, nest_fills, enter_rule, object_rule, depth_rule, handler_rule, bound_rule, face_rule, broken_rule, broken_if, KeepsParts}
+use Rattle.caa_base.specs.Limits.{IsValue, is_value}
+use Rattle.place_plan.specs.DraftRules.{size_rule, first_is_plain, graph_rule, action_fits, nest_fits, range_rule, is_rising, is_rising_above, all_below, exceptions_of, graphs_in_range, objects_in_range, parts_in_range, nest_in_range, action_in_range, play_in_range, order_rule, fill_rule, fills, nest_fills, enter_rule, object_rule, depth_rule, handler_rule, bound_rule, face_rule, broken_rule, broken_if, KeepsParts}
 use Rattle.place_plan.specs.Sizes.{HasSizes}
 use Rattle.place_plan.specs.Weights.{nests_known}
-use Rattle.place_plan.proofs.Passing.{at_row, all_imply}
+use Rattle.caa_base.proofs.ListLemmas.{at_row, all_imply}
 
 -- ---- numbers
-
-pub value_from : (v : ℤ) → is_value v ≡ true → IsValue v
-value_from v h =
-    let a = and_parts (not (int_lt v (negsuc 999999999999))) (not (int_lt (pos 1000000000000) v)) h in
-    let low : int_lt v (negsuc 999999999999) ≡ false = not-true _ a.0 in
-    let high : int_lt (pos 1000000000000) v ≡ false = not-true _ a.1 in
-    (grind (arith, ints), grind (arith, ints))
 
 -- rising numbers below n are at most n
 rising_few : (low n : ℕ) (xs : List ℕ) → low < n → is_rising_above low xs ≡ true → all_below n xs ≡ true → length xs + low < n
