@@ -1,5 +1,7 @@
 pub mod Playable
 pub mod Core
+pub mod EnterSteps
+pub mod PlayablePlan
 pub mod Quiet
 pub mod Kept
 pub mod FlatOver
