@@ -142,6 +142,15 @@ module _ (draft : Draft) (keeps : KeepsParts draft) where
         objects = omega arith;
       }
 
+  -- each use has alternates, and few
+  pub all_nests_fit : list_all (λ (action : ActionRow). list_all nest_fits action.nests) draft.actions ≡ true
+  all_nests_fit =
+      all_imply action_fits (λ (action : ActionRow). list_all nest_fits action.nests) draft.actions
+      (λ action h.
+      let b = and_parts (nat_le (length action.roles) 16) _ (and_parts (not (is_empty action.roles)) _ h).1 in
+      (and_parts _ _ (and_parts (nat_le (length action.nests) 256) _ b.1).1).1)
+      (all_fit draft keeps.sizes)
+
   pub has_roles : (a : ℕ) → a < length draft.actions → is_empty (slice_index_or draft.actions a no_action).roles ≡ false
   has_roles a l = not-true _ (and_parts _ _ (at_row action_fits draft.actions a no_action (all_fit draft keeps.sizes) l)).0
 
@@ -154,9 +163,7 @@ module _ (draft : Draft) (keeps : KeepsParts draft) where
     nests_range = (and_parts _ _ (at_row (parts_in_range draft) draft.actions a no_action parts_range l)).1
 
     pub nests_fit : list_all nest_fits action.nests ≡ true
-    nests_fit =
-        let b = and_parts (nat_le (length action.roles) 16) _ (and_parts (not (is_empty action.roles)) _ (at_row action_fits draft.actions a no_action (all_fit draft keeps.sizes) l)).1 in
-        (and_parts _ _ (and_parts (nat_le (length action.nests) 256) _ b.1).1).1
+    nests_fit = at_row (λ (action : ActionRow). list_all nest_fits action.nests) draft.actions a no_action all_nests_fit l
 
     pub nests_filled : list_all (nest_fills draft) action.nests ≡ true
     nests_filled = at_row (λ (action : ActionRow). list_all (nest_fills draft) action.nests) draft.actions a no_action nests_fill l
