@@ -9,7 +9,7 @@ use Rattle.caa_base.specs.declared.entry.Verdict.TheVariants as verdict
 use Rattle.place_plan.specs.declared.rows.Step.{Step}
 use Rattle.place_plan.specs.declared.rows.Step.TheVariants as step
 use Rattle.place_plan.specs.PlanValue.{Plan}
-use Rattle.place_plan.specs.Words.{member, same_option}
+use Rattle.caa_base.specs.Lists.{member, same_option}
 use Rattle.place_plan.specs.Places.{roles_of, internal_of, interface_of, handler_of, abort_row}
 use Rattle.place_plan.specs.Whereabouts.{inside, all_are_inside, has_started, has_ended, is_undoing, is_going}
 use Rattle.place_plan.specs.Raising.{has_handled, exceptions_raised, is_raised, is_doomed, is_calm, is_hot, is_halted, all_are_halted, exception_resolved}
@@ -21,7 +21,7 @@ use Rattle.journal_laws.specs.Laws.{Holds}
 use Rattle.journal_laws.specs.Due.{says, plainly, marked, naming, verdict_entry, least_of, as_refused, due_of, due_at, due_inside, due_arrival, due_waiting, due_live, due_restore, due_doomed, due_signal, due_end, due_agreed, due_held, due_step, due_forward, due_body, due_handler, due_answer, due_resolved, due_resolve, due_halted, due_running, due_hot, due_calm}
 use Rattle.journal_laws.proofs.Playable.{IsPlayable}
 use Rattle.journal_laws.proofs.Core.{Core}
-use Rattle.place_plan.proofs.Words.{chosen}
+use Rattle.caa_base.proofs.ListLemmas.{chosen}
 use Rattle.journal_laws.proofs.Holding.{same_from_option}
 use Rattle.journal_laws.proofs.Phases.{IsOpen, open_parts, open_from, going_from, calm_from, hot_from, not_calm}
 use Rattle.journal_laws.proofs.Options.{some_apart, some_same, none_is}

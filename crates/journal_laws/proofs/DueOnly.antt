@@ -10,7 +10,7 @@ use Rattle.caa_base.specs.declared.entry.Verdict.TheVariants as verdict
 use Rattle.place_plan.specs.declared.rows.Step.{Step}
 use Rattle.place_plan.specs.declared.rows.Step.TheVariants as step
 use Rattle.place_plan.specs.PlanValue.{Plan}
-use Rattle.place_plan.specs.Words.{member}
+use Rattle.caa_base.specs.Lists.{member}
 use Rattle.place_plan.specs.Places.{roles_of, internal_of, interface_of, handler_of, abort_row}
 use Rattle.place_plan.specs.Whereabouts.{inside, has_started, has_ended, is_undoing}
 use Rattle.place_plan.specs.Raising.{has_handled, exceptions_raised, is_raised, is_calm, is_hot, is_halted, exception_resolved}
@@ -22,7 +22,7 @@ use Rattle.journal_laws.specs.Laws.{Holds, as_taken}
 use Rattle.journal_laws.specs.Due.{says, plainly, naming, verdict_entry, due_of, due_held, due_step, due_forward, due_body, due_handler, due_end}
 use Rattle.journal_laws.proofs.Playable.{IsPlayable}
 use Rattle.journal_laws.proofs.Core.{Core}
-use Rattle.place_plan.proofs.Words.{all_at, chosen}
+use Rattle.caa_base.proofs.ListLemmas.{all_at, chosen}
 use Rattle.place_plan.proofs.Entries.{of_kind}
 use Rattle.journal_laws.proofs.Busy.{abort_doomed}
 use Rattle.journal_laws.proofs.Holding.{ended_started, undoing_started}

@@ -7,7 +7,7 @@ use Rattle.caa_base.specs.declared.entry.Entry.{Entry}
 use Rattle.caa_base.specs.declared.entry.Kind.{Kind}
 use Rattle.caa_base.specs.declared.entry.Kind.TheVariants as kind
 use Rattle.place_plan.specs.PlanValue.{Plan}
-use Rattle.place_plan.specs.Words.{member}
+use Rattle.caa_base.specs.Lists.{member}
 use Rattle.place_plan.specs.Places.{around, roles_of, uses, is_within}
 use Rattle.place_plan.specs.Entries.{code_of, is_of, is_in, has, newest}
 use Rattle.place_plan.specs.Whereabouts.{has_started, has_ended, is_undoing, is_live}
@@ -17,7 +17,7 @@ use Rattle.place_plan.specs.Rules.{Row, MayPut, MayEnd, EndsUndone, EndsAgreed}
 use Rattle.place_plan.specs.Journals.{LegalPast, AllOver}
 use Rattle.journal_laws.specs.Laws.{Holds, EffectLaw, RestoresFit, Splits, is_restore, is_kept_mark, is_kept, last_write, has_failed_restore}
 use Rattle.journal_laws.proofs.Playable.{IsPlayable}
-use Rattle.place_plan.proofs.Words.{chosen, all_at}
+use Rattle.caa_base.proofs.ListLemmas.{chosen, all_at}
 use Rattle.place_plan.proofs.Entries.{of_kind}
 use Rattle.journal_laws.proofs.Tree.{in_within, live_within}
 use Rattle.journal_laws.proofs.Phases.{going_parts}

@@ -17,7 +17,7 @@ use Rattle.place_plan.specs.Bound.{row_bound, bound}
 use Rattle.journal_laws.specs.Laws.{Holds, IsBounded}
 use Rattle.journal_laws.proofs.Playable.{IsPlayable}
 use Rattle.journal_laws.proofs.Core.{Core}
-use Rattle.place_plan.proofs.Words.{first_not_fails}
+use Rattle.caa_base.proofs.ListLemmas.{first_not_fails}
 use Rattle.place_plan.proofs.Entries.{of_kind, both_same}
 use Rattle.journal_laws.proofs.Newest.{newest_stands, stands_newest}
 use Rattle.journal_laws.proofs.Phases.{calm_open, hot_open, going_parts}

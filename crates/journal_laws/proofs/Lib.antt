@@ -1,5 +1,6 @@
 pub mod Playable
 pub mod Core
+pub mod EnterSteps
 pub mod PlayablePlan
 pub mod Lives
 pub mod Phases

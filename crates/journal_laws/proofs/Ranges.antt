@@ -18,7 +18,7 @@ use Rattle.place_plan.specs.declared.rows.AbortRow.TheVariants as abort
 use Rattle.place_plan.specs.declared.rows.Step.{Step}
 use Rattle.place_plan.specs.declared.rows.Step.TheVariants as step
 use Rattle.place_plan.specs.PlanValue.{Plan}
-use Rattle.place_plan.specs.Words.{member, is_at}
+use Rattle.caa_base.specs.Lists.{member, is_at}
 use Rattle.place_plan.specs.Places.{parent, roles_of, no_place, internal_of, interface_of, fault_of, handler_of, map_signal, nest_of}
 use Rattle.place_plan.specs.Entries.{is_in, is_by, newest}
 use Rattle.place_plan.specs.Whereabouts.{is_left_in_silence}
@@ -27,11 +27,12 @@ use Rattle.place_plan.specs.Objects.{is_within_any, value_outside, places_undone
 use Rattle.place_plan.specs.Roles.{position, register, program_of, next_step, next_raise, raise_of, meets, has_given, is_handling, verdict_at, verdict_of, signal_in, signals}
 use Rattle.place_plan.specs.Rules.{Row, Names, SaysVerdict, MayVerdict, clamped, put_of, final_verdict, unhandled_verdict, breaks_off, handler_verdict, verdict_due, abort_of, abort_mapped, outcome_mapped, is_deaf, exception_carried}
 use Rattle.place_plan.specs.Journals.{LegalPast}
-use Rattle.place_plan.specs.DraftRules.{is_value, step_in_range, verdict_in_range, abort_in_range}
-use Rattle.place_plan.specs.WellFormed.{IsValue, MayShowException}
+use Rattle.place_plan.specs.DraftRules.{step_in_range, verdict_in_range, abort_in_range}
+use Rattle.caa_base.specs.Limits.{is_value, IsValue}
+use Rattle.place_plan.specs.WellFormed.{MayShowException}
 use Rattle.cover_table.specs.Cover.{CoverOrder}
 use Rattle.journal_laws.proofs.Playable.{IsPlayable}
-use Rattle.place_plan.proofs.Words.{chosen, at_same}
+use Rattle.caa_base.proofs.ListLemmas.{chosen, at_same}
 use Rattle.place_plan.proofs.Entries.{of_kind}
 use Rattle.journal_laws.proofs.Makers.{maker_role}
 

@@ -4,7 +4,7 @@ use Rattle.std.proofs.lemmas.Bool.{and_parts, not-true, false_from_ne_true, both
 use Rattle.caa_base.specs.declared.entry.Entry.{Entry}
 use Rattle.caa_base.specs.declared.entry.Kind.TheVariants as kind
 use Rattle.place_plan.specs.PlanValue.{Plan}
-use Rattle.place_plan.specs.Words.{member}
+use Rattle.caa_base.specs.Lists.{member}
 use Rattle.place_plan.specs.Places.{roles_of, handler_of}
 use Rattle.place_plan.specs.Entries.{is_in, is_by}
 use Rattle.place_plan.specs.Whereabouts.{inside}
@@ -15,7 +15,7 @@ use Rattle.journal_laws.specs.Laws.{Holds}
 use Rattle.journal_laws.specs.Due.{due_of, due_calm, due_hot, due_resolved, due_agreed}
 use Rattle.journal_laws.proofs.Playable.{IsPlayable}
 use Rattle.journal_laws.proofs.Core.{Core}
-use Rattle.place_plan.proofs.Words.{all_at}
+use Rattle.caa_base.proofs.ListLemmas.{all_at}
 use Rattle.journal_laws.proofs.Busy.{abort_doomed}
 use Rattle.journal_laws.proofs.Newest.{stands_newest, handling_handled, given_resolved}
 use Rattle.journal_laws.proofs.Phases.{IsOpen}

@@ -6,7 +6,7 @@ use Rattle.caa_base.specs.declared.entry.Entry.{Entry}
 use Rattle.caa_base.specs.declared.entry.Kind.{Kind}
 use Rattle.caa_base.specs.declared.entry.Kind.TheVariants as kind
 use Rattle.place_plan.specs.PlanValue.{Plan}
-use Rattle.place_plan.specs.Words.{member}
+use Rattle.caa_base.specs.Lists.{member}
 use Rattle.place_plan.specs.Places.{roles_of, handler_of}
 use Rattle.place_plan.specs.Entries.{is_in, is_by, has}
 use Rattle.place_plan.specs.Whereabouts.{has_ended}
@@ -17,7 +17,7 @@ use Rattle.place_plan.specs.Journals.{LegalPast}
 use Rattle.journal_laws.specs.Laws.{Holds, Splits, HandlesLeast, Answered, IsAnswered, ResolutionLaw}
 use Rattle.journal_laws.proofs.Playable.{IsPlayable}
 use Rattle.journal_laws.proofs.Core.{Core}
-use Rattle.place_plan.proofs.Words.{all_at}
+use Rattle.caa_base.proofs.ListLemmas.{all_at}
 use Rattle.place_plan.proofs.Entries.{of_kind}
 use Rattle.journal_laws.proofs.InnerFirst.{legal_rest, started_filled}
 use Rattle.journal_laws.proofs.Holding.{ended_started}

@@ -14,7 +14,7 @@ use Rattle.place_plan.specs.Rules.{Row}
 use Rattle.place_plan.specs.Journals.{LegalPast}
 use Rattle.journal_laws.specs.Laws.{Holds, is_restore}
 use Rattle.journal_laws.proofs.Core.{Tries}
-use Rattle.place_plan.proofs.Words.{first_not_fails}
+use Rattle.caa_base.proofs.ListLemmas.{first_not_fails}
 use Rattle.place_plan.proofs.Entries.{of_kind, both_same}
 
 -- ---- counts

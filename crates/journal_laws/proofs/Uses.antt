@@ -8,7 +8,7 @@ use Rattle.caa_base.specs.declared.entry.Kind.TheVariants as kind
 use Rattle.place_plan.specs.declared.rows.Step.{Step}
 use Rattle.place_plan.specs.declared.rows.Step.TheVariants as step
 use Rattle.place_plan.specs.PlanValue.{Plan}
-use Rattle.place_plan.specs.Words.{member, is_at}
+use Rattle.caa_base.specs.Lists.{member, is_at}
 use Rattle.place_plan.specs.Places.{parent, alternates_of, nest_number, body_of}
 use Rattle.place_plan.specs.Entries.{is_by, has_by}
 use Rattle.place_plan.specs.Whereabouts.{inside, is_left_in_silence}
@@ -19,7 +19,7 @@ use Rattle.place_plan.specs.Journals.{LegalPast}
 use Rattle.journal_laws.specs.Laws.{Holds}
 use Rattle.journal_laws.proofs.Playable.{IsPlayable}
 use Rattle.journal_laws.proofs.Core.{PassedEnter}
-use Rattle.place_plan.proofs.Words.{at_same, same_at, first_not_fails, first_not_before}
+use Rattle.caa_base.proofs.ListLemmas.{at_same, same_at, first_not_fails, first_not_before}
 use Rattle.place_plan.proofs.Entries.{of_kind, both_same, from_both}
 use Rattle.journal_laws.proofs.Newest.{newest_none}
 use Rattle.journal_laws.proofs.Phases.{calm_open}

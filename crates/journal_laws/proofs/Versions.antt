@@ -8,7 +8,7 @@ use Rattle.caa_base.specs.declared.entry.Entry.{Entry}
 use Rattle.caa_base.specs.declared.entry.Kind.{Kind}
 use Rattle.caa_base.specs.declared.entry.Kind.TheVariants as kind
 use Rattle.place_plan.specs.PlanValue.{Plan}
-use Rattle.place_plan.specs.Words.{member}
+use Rattle.caa_base.specs.Lists.{member}
 use Rattle.place_plan.specs.Places.{objects_of, uses, is_within}
 use Rattle.place_plan.specs.Whereabouts.{has_started, has_ended, is_live}
 use Rattle.place_plan.specs.Objects.{holder_of, is_within_any, value_outside, value_of, before_start, is_tried}
@@ -16,7 +16,7 @@ use Rattle.place_plan.specs.Rules.{Row, MayPut, MayRestore}
 use Rattle.place_plan.specs.Journals.{LegalPast}
 use Rattle.journal_laws.specs.Laws.{Holds, DeviceLaw, last_put}
 use Rattle.journal_laws.proofs.Playable.{IsTree}
-use Rattle.place_plan.proofs.Words.{first_not_fails}
+use Rattle.caa_base.proofs.ListLemmas.{first_not_fails}
 use Rattle.place_plan.proofs.Entries.{of_kind}
 use Rattle.journal_laws.proofs.Lives.{live_parts, live_from}
 use Rattle.journal_laws.proofs.Tree.{in_within}

@@ -7,7 +7,7 @@ use Rattle.caa_base.specs.declared.entry.Kind.{Kind}
 use Rattle.caa_base.specs.declared.entry.Kind.TheVariants as kind
 use Rattle.place_plan.specs.declared.rows.Step.{Step}
 use Rattle.place_plan.specs.PlanValue.{Plan}
-use Rattle.place_plan.specs.Words.{is_at}
+use Rattle.caa_base.specs.Lists.{is_at}
 use Rattle.place_plan.specs.Places.{parent, action_at, body_of}
 use Rattle.place_plan.specs.Entries.{is_by}
 use Rattle.place_plan.specs.Whereabouts.{is_left_in_silence}
@@ -19,7 +19,7 @@ use Rattle.place_plan.specs.Bound.{longest_body, longest_handler}
 use Rattle.journal_laws.specs.Laws.{Holds}
 use Rattle.journal_laws.proofs.Playable.{IsPlayable}
 use Rattle.journal_laws.proofs.Core.{Core}
-use Rattle.place_plan.proofs.Words.{at_same}
+use Rattle.caa_base.proofs.ListLemmas.{at_same}
 use Rattle.place_plan.proofs.Entries.{of_kind, both_same}
 use Rattle.journal_laws.proofs.Newest.{stands_newest, newest_none}
 use Rattle.journal_laws.proofs.Raised.{parent_round}

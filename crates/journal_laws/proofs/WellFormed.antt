@@ -16,11 +16,12 @@ use Rattle.place_plan.specs.Objects.{before_start, is_tried}
 use Rattle.place_plan.specs.Roles.{register, signals}
 use Rattle.place_plan.specs.Rules.{Row, MayFollow, MayEnd, MayLeave, EndsUndone, EndsAgreed, SignalsLeast, abort_of, exception_carried}
 use Rattle.place_plan.specs.Journals.{LegalPast, IsLegal}
-use Rattle.place_plan.specs.WellFormed.{IsValue, FieldsFit, MayShowException, MayCarry, IsWellFormed, AllWellFormed}
+use Rattle.place_plan.specs.WellFormed.{FieldsFit, MayShowException, MayCarry, IsWellFormed, AllWellFormed}
+use Rattle.caa_base.specs.Limits.{IsValue}
 use Rattle.journal_laws.specs.Laws.{Holds}
 use Rattle.journal_laws.proofs.Playable.{IsPlayable}
 use Rattle.journal_laws.proofs.Core.{Core}
-use Rattle.place_plan.proofs.Words.{first_not_fails}
+use Rattle.caa_base.proofs.ListLemmas.{first_not_fails}
 use Rattle.place_plan.proofs.Entries.{of_kind}
 use Rattle.journal_laws.proofs.Outcome.{undone_marks, below_two}
 use Rattle.journal_laws.proofs.Makers.{maker_role}

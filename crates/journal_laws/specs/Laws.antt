@@ -6,7 +6,7 @@ use Rattle.caa_base.specs.declared.entry.Entry.{Entry}
 use Rattle.caa_base.specs.declared.entry.Kind.{Kind}
 use Rattle.caa_base.specs.declared.entry.Kind.TheVariants as kind
 use Rattle.place_plan.specs.PlanValue.{Plan}
-use Rattle.place_plan.specs.Words.{member}
+use Rattle.caa_base.specs.Lists.{member}
 use Rattle.place_plan.specs.Places.{around, is_within, roles_of, uses, initial_of, internal_of, handler_of}
 use Rattle.place_plan.specs.Entries.{is_of, is_in, is_by, has, has_by, newest}
 use Rattle.place_plan.specs.Whereabouts.{inside, stays, is_live, has_ended, has_started}

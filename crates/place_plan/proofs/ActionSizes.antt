@@ -6,7 +6,7 @@ use Rattle.std.proofs.lemmas.Bool.{and_parts, leb-true}
 use Rattle.place_plan.specs.declared.rows.ActionRow.{ActionRow}
 use Rattle.place_plan.specs.declared.rows.RoleRow.{RoleRow}
 use Rattle.place_plan.specs.declared.rows.HandlerRow.{HandlerRow}
-use Rattle.place_plan.specs.Words.{is_empty}
+use Rattle.caa_base.specs.Lists.{is_empty}
 use Rattle.place_plan.specs.DraftRules.{role_fits, program_fits}
 use Rattle.place_plan.specs.Sizes.{HasSizes}
 use Rattle.place_plan.specs.Bound.{longest_body, longest_of, longest_handler}

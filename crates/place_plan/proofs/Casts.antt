@@ -7,25 +7,24 @@ use Rattle.place_plan.specs.declared.rows.NestRow.{NestRow}
 use Rattle.place_plan.specs.declared.rows.ActionRow.{ActionRow}
 use Rattle.place_plan.specs.declared.rows.PlaceRow.{PlaceRow}
 use Rattle.place_plan.specs.PlanValue.{Plan}
-use Rattle.place_plan.specs.Words.{member}
+use Rattle.caa_base.specs.Lists.{member}
 use Rattle.place_plan.specs.Places.{place_at, action_at, action_in, around, roles_of, no_action, no_nest, no_place}
 use Rattle.place_plan.specs.Unfolding.{plan_of, cast_of}
 use Rattle.place_plan.specs.DraftRules.{all_differ, all_below, fills, play_in_range, KeepsParts}
-use Rattle.place_plan.proofs.Words.{all_at}
-use Rattle.place_plan.proofs.Passing.{at_row, all_both}
+use Rattle.caa_base.proofs.ListLemmas.{all_at, at_row, all_both}
 use Rattle.place_plan.proofs.DraftKeeps.{plays_range, plays_fill, nests_range, nests_filled}
 use Rattle.place_plan.proofs.Subtrees.{IsPlaced}
 use Rattle.place_plan.proofs.UnfoldedPlan.{IsUnfolded, is_unfolded, by_parents, child_of, in_table}
 
 -- ---- lists
 
-member_at : (xs : List ℕ) (i d : ℕ) → i < length xs → member (slice_index_or xs i d) xs ≡ true
+pub member_at : (xs : List ℕ) (i d : ℕ) → i < length xs → member (slice_index_or xs i d) xs ≡ true
 member_at [] i d l = absurd (omega arith)
 member_at (x ∷ xs) zero d l = or_left _ _ (eq-eqb x x refl)
 member_at (x ∷ xs) (suc i) d l = or_right _ _ (member_at xs i d (omega arith))
 
 -- where all differ, equal numbers stand at one index
-one_index : (xs : List ℕ) (i j d : ℕ) → all_differ xs ≡ true → i < length xs → j < length xs → slice_index_or xs i d ≡ slice_index_or xs j d → i ≡ j
+pub one_index : (xs : List ℕ) (i j d : ℕ) → all_differ xs ≡ true → i < length xs → j < length xs → slice_index_or xs i d ≡ slice_index_or xs j d → i ≡ j
 one_index [] i j d h l k e = absurd (omega arith)
 one_index (x ∷ xs) zero zero d h l k e = refl
 one_index (x ∷ xs) zero (suc j) d h l k e =
@@ -35,7 +34,7 @@ one_index (x ∷ xs) (suc i) zero d h l k e =
 one_index (x ∷ xs) (suc i) (suc j) d h l k e = ap suc (one_index xs i j d (and_parts (not (member x xs)) _ h).1 (omega arith) (omega arith) e)
 
 -- the participants at these indices
-abbrev picked : List ℕ → List ℕ → List ℕ
+abbrev pub picked : List ℕ → List ℕ → List ℕ
 picked who roles = map (λ role. slice_index_or who role 0) roles
 
 pub length_picked : (who roles : List ℕ) → length (picked who roles) ≡ length roles
@@ -49,6 +48,15 @@ from_picked who (r ∷ roles) t m =
     elim (or_cases (slice_index_or who r 0 == t) _ m) [
       | inl e ↦ (r, or_left _ _ (eq-eqb r r refl), eqb-true _ _ e)
       | inr e ↦ let rest = from_picked who roles t e in (rest.0, or_right _ _ rest.1, rest.2)
+    ]
+
+-- and who stands at one of them is picked
+pub in_picked : (who roles : List ℕ) (r : ℕ) → member r roles ≡ true → member (slice_index_or who r 0) (picked who roles) ≡ true
+in_picked who [] r m = absurd (false≢true m)
+in_picked who (x ∷ roles) r m =
+    elim (or_cases (x == r) _ m) [
+      | inl e ↦ or_left _ _ (eq-eqb _ _ (ap (λ z. slice_index_or who z 0) (eqb-true x r e)))
+      | inr e ↦ or_right _ _ (in_picked who roles r e)
     ]
 
 picked_differ : (who roles : List ℕ) → all_differ who ≡ true → all_below (length who) roles ≡ true → all_differ roles ≡ true → all_differ (picked who roles) ≡ true
@@ -75,7 +83,7 @@ use_there [] k b m = absurd (false≢true m)
 use_there (nest ∷ nests) zero b m = omega arith
 use_there (nest ∷ nests) (suc k) b m = omega (arith, use_there nests k b m)
 
-only_one : (a b : ℕ) → member a (b ∷ []) ≡ true → b ≡ a
+pub only_one : (a b : ℕ) → member a (b ∷ []) ≡ true → b ≡ a
 only_one a b m = elim (or_cases (b == a) false m) [ inl e ↦ eqb-true b a e | inr e ↦ absurd (false≢true e) ]
 
 -- ---- casts

@@ -7,12 +7,13 @@ use Rattle.place_plan.specs.declared.rows.ActionRow.{ActionRow}
 use Rattle.place_plan.specs.declared.rows.NestRow.{NestRow}
 use Rattle.place_plan.specs.declared.draft.Draft.{Draft}
 use Rattle.place_plan.specs.PlanValue.{Plan}
-use Rattle.place_plan.specs.Words.{member, index_of}
+use Rattle.caa_base.specs.Lists.{member, index_of}
 use Rattle.place_plan.specs.Places.{roles_of, place_at, action_at, action_in, role_row, alternates_of, no_action, no_place, no_role, no_nest}
 use Rattle.place_plan.specs.Unfolding.{plan_of}
 use Rattle.place_plan.specs.DraftRules.{first_is_plain, graphs_in_range, nest_fits, KeepsParts}
 use Rattle.place_plan.specs.Closed.{IsClosed}
-use Rattle.place_plan.proofs.Passing.{get_passes, past_end, below_or_not, all_imply}
+use Rattle.place_plan.proofs.Passing.{past_end, below_or_not}
+use Rattle.caa_base.proofs.ListLemmas.{get_passes, all_imply}
 use Rattle.place_plan.proofs.DraftKeeps.{keeps_rules, some_graphs, graphs_range, action_sizes, nests_fit}
 use Rattle.place_plan.proofs.UnfoldedPlan.{is_unfolded}
 use Rattle.place_plan.proofs.Casts.{action_is, all_cast}
@@ -57,13 +58,13 @@ few_plays plan closed =
     omega (arith, few, few_places plan closed)
 
 -- each place has its two graphs
-abbrev HasGraphs : ℕ → Plan → Type 0
+abbrev pub HasGraphs : ℕ → Plan → Type 0
 HasGraphs p plan = ((action_at plan p).internal < length plan.graphs) × ((action_at plan p).interface < length plan.graphs)
 
 -- ---- roles
 
 -- a place has as many players as its action has roles, and few
-abbrev HasPlayers : ℕ → Plan → Type 0
+abbrev pub HasPlayers : ℕ → Plan → Type 0
 HasPlayers p plan = (length (roles_of plan p) ≡ length (action_at plan p).roles) × (length (roles_of plan p) ≤ 16)
 
 few_actions : (nests : List NestRow) (k : ℕ) → list_all nest_fits nests ≡ true → length (slice_index_or nests k no_nest).actions ≤ 4
@@ -83,13 +84,13 @@ module _ (draft : Draft) (keeps : KeepsParts draft) where
       let b = and_parts (nat_lt a.internal (length draft.graphs)) _ h in
       and_from _ _ b.0 (and_parts (nat_lt a.interface (length draft.graphs)) _ b.1).0
 
-  made_graphs : (p : ℕ) → HasGraphs p made
+  pub made_graphs : (p : ℕ) → HasGraphs p made
   made_graphs p =
       let some = some_graphs draft.graphs (and_parts (first_is_plain draft.graphs) _ keeps.graphs).0 in
       let both = and_parts _ _ (action_passes has_both made (all_imply (graphs_in_range draft) has_both draft.actions in_range (graphs_range draft keeps)) (and_from _ _ some some) p) in
       (ltb-true _ _ both.0, ltb-true _ _ both.1)
 
-  made_players : (p : ℕ) → HasPlayers p made
+  pub made_players : (p : ℕ) → HasPlayers p made
   made_players p =
       elim (below_or_not p (length made.places)) [
         | inl l ↦

@@ -10,9 +10,9 @@ use Rattle.place_plan.specs.declared.rows.NestRow.{NestRow}
 use Rattle.place_plan.specs.declared.rows.PlayRow.{PlayRow}
 use Rattle.place_plan.specs.Places.{no_action}
 use Rattle.place_plan.specs.DraftRules.{all_below, deepest_of, deepest, depth_within, depths_fit}
-use Rattle.place_plan.specs.Unfolding.{most_depth}
+use Rattle.caa_base.specs.Limits.{most_depth}
 use Rattle.place_plan.specs.Weights.{counted, at, nested_weight, weight, played_weight, Tells, nests_known}
-use Rattle.place_plan.proofs.Passing.{get_passes}
+use Rattle.caa_base.proofs.ListLemmas.{get_passes}
 
 -- a table that tells the first n values tells one more, once it is written
 pub one_more : (table : List ℕ) (n v : ℕ) (f : ℕ → ℕ) → n < length table → ((a : ℕ) → a < n → at table a ≡ f a) → v ≡ f n → (a : ℕ) → a < n + 1 → at (slice_set table n v) a ≡ f a

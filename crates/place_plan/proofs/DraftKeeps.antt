@@ -10,22 +10,15 @@ use Rattle.place_plan.specs.declared.rows.ObjectRow.{ObjectRow}
 use Rattle.place_plan.specs.declared.rows.PlayRow.{PlayRow}
 use Rattle.place_plan.specs.declared.rows.ActionRow.{ActionRow}
 use Rattle.place_plan.specs.declared.rows.NestRow.{NestRow}
-use Rattle.place_plan.specs.Words.{is_empty}
+use Rattle.caa_base.specs.Lists.{is_empty}
 use Rattle.place_plan.specs.Places.{no_action}
-use Rattle.place_plan.specs.WellFormed.{IsValue}
-use Rattle.place_plan.specs.DraftRules.{size_rule, first_is_plain, graph_rule, action_fits, nest_fits, range_rule, is_value, is_rising, is_rising_above, all_below, exceptions_of, graphs_in_range, objects_in_range, parts_in_range, nest_in_range, action_in_range, play_in_range, order_rule, fill_rule, fills, nest_fills, enter_rule, object_rule, depth_rule, handler_rule, bound_rule, face_rule, broken_rule, broken_if, KeepsParts}
+use Rattle.caa_base.specs.Limits.{IsValue, is_value}
+use Rattle.place_plan.specs.DraftRules.{size_rule, first_is_plain, graph_rule, action_fits, nest_fits, range_rule, is_rising, is_rising_above, all_below, exceptions_of, graphs_in_range, objects_in_range, parts_in_range, nest_in_range, action_in_range, play_in_range, order_rule, fill_rule, fills, nest_fills, enter_rule, object_rule, depth_rule, handler_rule, bound_rule, face_rule, broken_rule, broken_if, KeepsParts}
 use Rattle.place_plan.specs.Sizes.{HasSizes}
 use Rattle.place_plan.specs.Weights.{nests_known}
-use Rattle.place_plan.proofs.Passing.{at_row, all_imply}
+use Rattle.caa_base.proofs.ListLemmas.{at_row, all_imply}
 
 -- ---- numbers
-
-pub value_from : (v : ℤ) → is_value v ≡ true → IsValue v
-value_from v h =
-    let a = and_parts (not (int_lt v (negsuc 999999999999))) (not (int_lt (pos 1000000000000) v)) h in
-    let low : int_lt v (negsuc 999999999999) ≡ false = not-true _ a.0 in
-    let high : int_lt (pos 1000000000000) v ≡ false = not-true _ a.1 in
-    (grind (arith, ints), grind (arith, ints))
 
 -- rising numbers below n are at most n
 rising_few : (low n : ℕ) (xs : List ℕ) → low < n → is_rising_above low xs ≡ true → all_below n xs ≡ true → length xs + low < n
@@ -149,6 +142,15 @@ module _ (draft : Draft) (keeps : KeepsParts draft) where
         objects = omega arith;
       }
 
+  -- each use has alternates, and few
+  pub all_nests_fit : list_all (λ (action : ActionRow). list_all nest_fits action.nests) draft.actions ≡ true
+  all_nests_fit =
+      all_imply action_fits (λ (action : ActionRow). list_all nest_fits action.nests) draft.actions
+      (λ action h.
+      let b = and_parts (nat_le (length action.roles) 16) _ (and_parts (not (is_empty action.roles)) _ h).1 in
+      (and_parts _ _ (and_parts (nat_le (length action.nests) 256) _ b.1).1).1)
+      (all_fit draft keeps.sizes)
+
   pub has_roles : (a : ℕ) → a < length draft.actions → is_empty (slice_index_or draft.actions a no_action).roles ≡ false
   has_roles a l = not-true _ (and_parts _ _ (at_row action_fits draft.actions a no_action (all_fit draft keeps.sizes) l)).0
 
@@ -161,9 +163,7 @@ module _ (draft : Draft) (keeps : KeepsParts draft) where
     nests_range = (and_parts _ _ (at_row (parts_in_range draft) draft.actions a no_action parts_range l)).1
 
     pub nests_fit : list_all nest_fits action.nests ≡ true
-    nests_fit =
-        let b = and_parts (nat_le (length action.roles) 16) _ (and_parts (not (is_empty action.roles)) _ (at_row action_fits draft.actions a no_action (all_fit draft keeps.sizes) l)).1 in
-        (and_parts _ _ (and_parts (nat_le (length action.nests) 256) _ b.1).1).1
+    nests_fit = at_row (λ (action : ActionRow). list_all nest_fits action.nests) draft.actions a no_action all_nests_fit l
 
     pub nests_filled : list_all (nest_fills draft) action.nests ≡ true
     nests_filled = at_row (λ (action : ActionRow). list_all (nest_fills draft) action.nests) draft.actions a no_action nests_fill l

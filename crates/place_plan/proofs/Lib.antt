@@ -1,4 +1,4 @@
-pub mod Words
+pub mod Plays
 pub mod Passing
 pub mod DraftKeeps
 pub mod ActionSizes

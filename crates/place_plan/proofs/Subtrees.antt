@@ -5,11 +5,11 @@ use Rattle.place_plan.specs.declared.rows.PlaceRow.{PlaceRow}
 use Rattle.place_plan.specs.declared.rows.ActionRow.{ActionRow}
 use Rattle.place_plan.specs.declared.rows.NestRow.{NestRow}
 use Rattle.place_plan.specs.PlanValue.{Plan}
-use Rattle.place_plan.specs.Words.{member, Rises}
+use Rattle.caa_base.specs.Lists.{member, Rises}
 use Rattle.place_plan.specs.Places.{place_at, action_at, action_in, around, roles_of, nest_number, alternates_of, no_action, no_place, no_nest}
 use Rattle.place_plan.specs.Unfolding.{Unfolding, cast_of, alternates_from, numbers_from, use_from, uses_from, children_from, unfold_at}
 use Rattle.place_plan.specs.DraftRules.{deepest_of, deepest, depth_within}
-use Rattle.place_plan.proofs.Words.{Rises-weaker}
+use Rattle.caa_base.proofs.ListLemmas.{Rises-weaker}
 use Rattle.place_plan.proofs.Passing.{below_or_not}
 
 -- ---- rows one after another

@@ -7,11 +7,12 @@ use Rattle.place_plan.specs.declared.rows.PlaceRow.{PlaceRow}
 use Rattle.place_plan.specs.declared.rows.PlayRow.{PlayRow}
 use Rattle.place_plan.specs.declared.rows.ActionRow.{ActionRow}
 use Rattle.place_plan.specs.PlanValue.{Plan}
-use Rattle.place_plan.specs.Words.{member, Rises}
+use Rattle.caa_base.specs.Lists.{member, Rises}
 use Rattle.place_plan.specs.Places.{place_at, around, nest_number, alternates_of, no_action, no_place}
-use Rattle.place_plan.specs.Unfolding.{Unfolding, unfold_at, plays_from, tops_from, plan_of, most_depth}
+use Rattle.place_plan.specs.Unfolding.{Unfolding, unfold_at, plays_from, tops_from, plan_of}
+use Rattle.caa_base.specs.Limits.{most_depth}
 use Rattle.place_plan.specs.DraftRules.{depth_within, depths_fit, depth_rule}
-use Rattle.place_plan.proofs.Words.{Rises-weaker, member_above}
+use Rattle.caa_base.proofs.ListLemmas.{Rises-weaker, member_above}
 use Rattle.place_plan.proofs.Passing.{past_end, below_or_not}
 use Rattle.place_plan.proofs.Subtrees.{Sits, sits_first, sits_second, sits_all, IsPlaced, IsKnown, RowsRise, IsInstance, AllInstances, both_instances, Fits, has_place, placed_at, all_grow}
 

@@ -7,13 +7,13 @@ use Rattle.place_plan.specs.declared.draft.Draft.{Draft}
 use Rattle.place_plan.specs.declared.rows.NestRow.{NestRow}
 use Rattle.place_plan.specs.declared.rows.PlayRow.{PlayRow}
 use Rattle.place_plan.specs.declared.rows.PlaceRow.{PlaceRow}
-use Rattle.place_plan.specs.Words.{member}
+use Rattle.caa_base.specs.Lists.{member}
 use Rattle.place_plan.specs.Places.{no_action, no_nest}
 use Rattle.place_plan.specs.Unfolding.{Unfolding, cast_of, alternates_from, use_from, uses_from, children_from, unfold_at, plays_from, plan_of}
 use Rattle.place_plan.specs.Weights.{at, counted, nested_weight, weight, played_weight, Tells}
 use Rattle.place_plan.specs.Bound.{row_bound, action_bound, bound}
 use Rattle.place_plan.specs.DraftRules.{KeepsParts, play_in_range, fills}
-use Rattle.place_plan.proofs.Passing.{all_both, all_imply}
+use Rattle.caa_base.proofs.ListLemmas.{all_both, all_imply}
 use Rattle.place_plan.proofs.Counted.{played_counted}
 use Rattle.place_plan.proofs.DraftKeeps.{plays_range, plays_fill}
 use Rattle.place_plan.proofs.Casts.{IsCast, play_is_cast, use_cast}

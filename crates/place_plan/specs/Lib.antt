@@ -1,4 +1,3 @@
-pub mod Words
 pub mod PlanValue
 pub mod Places
 pub mod Entries

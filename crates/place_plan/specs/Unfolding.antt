@@ -1,5 +1,6 @@
 -- How the plays of a draft unfold into places.
 use Rattle.std.specs.Prelude.{◌≡◌, ℕ, ◌+◌, List, [], ◌∷◌, ◌++◌, map, length, slice_index_or, zero, suc}
+use Rattle.caa_base.specs.Limits.{most_depth}
 use Rattle.place_plan.specs.declared.draft.Draft.{Draft}
 use Rattle.place_plan.specs.declared.rows.PlaceRow.{PlaceRow}
 use Rattle.place_plan.specs.declared.rows.PlayRow.{PlayRow}
@@ -70,10 +71,6 @@ tops_from unfold_one n [] = []
 tops_from unfold_one n (play ∷ plays) =
     let subtree = unfold_one play.action play.who [] 0 n in
     n ∷ tops_from unfold_one (n + length subtree) plays
-
--- the depth that actions may have, nested uses and all
-abbrev pub most_depth : ℕ
-most_depth = 8
 
 -- the plan into which a draft unfolds
 abbrev pub plan_of : Draft → Plan

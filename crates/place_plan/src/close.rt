@@ -9,12 +9,7 @@ use crate::unfolded::unfolded;
 use crate::uses::{
     keeps_enters, keeps_faces, keeps_fillings, keeps_handlers, keeps_objects, keeps_order,
 };
-
-/// How many places a plan has at most.
-const MOST_PLACES: u64 = 65_536;
-
-/// How many entries a journal may have at most.
-const MOST_ENTRIES: u64 = 1_000_000;
+use caa_base::limits::{MOST_ENTRIES, MOST_PLACES};
 
 /// The least rule of a number below 10 that a draft breaks.
 fn broken_part(draft: &Draft) -> Option<u32>

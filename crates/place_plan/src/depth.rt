@@ -5,12 +5,9 @@ ghost use Rattle.place_plan.specs.DraftRules.{deepest_of, deepest, depth_within,
 ghost use Rattle.place_plan.specs.Weights.{counted, at, Tells, nests_known};
 
 use crate::draft::Draft;
-use crate::limits::MOST_ACTIONS;
 use crate::rows::{ActionRow, NestRow};
 use crate::tables::{Table, counted_sum, number_at};
-
-/// How deep an action may be.
-pub(crate) const MOST_DEPTH: u32 = 8;
+use caa_base::limits::{MOST_ACTIONS, MOST_DEPTH};
 
 /// The greatest depth of these actions, by a table.
 fn deepest_of(actions: &[u32], depths: &[u64]) -> u64

@@ -4,28 +4,10 @@ ghost use Rattle.place_plan.specs.DraftRules.{program_fits, role_fits, nest_fits
 
 use crate::draft::Draft;
 use crate::rows::{ActionRow, GraphRow, NestRow, Program, RoleRow};
-
-const MOST_PARTICIPANTS: usize = 64;
-
-const MOST_OBJECTS: usize = 256;
-
-/// The plain graph, and the declared ones.
-const MOST_GRAPHS: usize = 257;
-
-pub(crate) const MOST_ACTIONS: usize = 256;
-
-const MOST_ROLES: usize = 16;
-
-const MOST_NESTS: usize = 256;
-
-/// How many actions a nested use has at most.
-const MOST_ALTERNATES: usize = 4;
-
-const MOST_STEPS: usize = 256;
-
-const MOST_WATCHES: usize = 16;
-
-const MOST_DRILLS: usize = 1000;
+use caa_base::limits::{
+    MOST_ACTIONS, MOST_ALTERNATES, MOST_DRILLS, MOST_GRAPHS, MOST_NESTS, MOST_OBJECTS, MOST_PARTICIPANTS,
+    MOST_ROLES, MOST_STEPS, MOST_WATCHES,
+};
 
 fn program_fits(program: &Program) -> bool
     ensures { result ≡ program_fits program.now }
@@ -92,7 +74,7 @@ pub(crate) fn keeps_sizes(draft: &Draft) -> bool
 {
     draft.participants.len() <= MOST_PARTICIPANTS
         && draft.objects.len() <= MOST_OBJECTS
-        && draft.graphs.len() <= MOST_GRAPHS
+        && draft.graphs.len() <= MOST_GRAPHS + 1
         && draft.actions.len() <= MOST_ACTIONS
         && draft.watches.len() <= MOST_WATCHES
         && draft.drills.len() <= MOST_DRILLS

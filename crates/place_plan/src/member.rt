@@ -1,5 +1,5 @@
 ghost use Rattle.std.specs.Prelude.{◌≡◌};
-ghost use Rattle.place_plan.specs.Words.{member};
+ghost use Rattle.caa_base.specs.Lists.{member};
 
 /// Whether a number is in a list.
 pub(crate) fn is_member(number: u32, list: &[u32]) -> bool

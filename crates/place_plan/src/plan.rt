@@ -1,6 +1,6 @@
 ghost use Rattle.std.specs.Prelude.{◌≡◌, ◌<◌, ℕ, List, [], length, map, slice_index_or, Option, Some, None, IfOk, IfSome, unwrap_or, option_copied};
 ghost use Rattle.std.specs.List.{range_with_len};
-ghost use Rattle.place_plan.specs.Words.{member, index_of, last_or, next_after};
+ghost use Rattle.caa_base.specs.Lists.{member, index_of, last_or, next_after};
 ghost use Rattle.place_plan.specs.Places.{place_at, around, action_at, role_at, role_row, role_of, roles_of, objects_of, uses, parent, alternates_of, child, next_alternate, nest_of, map_signal, top_of, is_within, fault_of, graph_at, internal_of, interface_of, exception_name, handler_in, initial_of, no_object, no_action, no_role, no_nest};
 ghost use Rattle.place_plan.specs.Bound.{bound};
 ghost use Rattle.place_plan.specs.Unfolding.{plan_of};

@@ -1,21 +1,12 @@
 ghost use Rattle.std.specs.Prelude.{◌≡◌, List, length};
 ghost use Rattle.std.specs.List.{list_all};
-ghost use Rattle.place_plan.specs.DraftRules.{is_value, is_rising, is_rising_above, all_below, step_in_range, verdict_in_range, abort_in_range, program_in_range, handler_in_range, role_in_range, nest_in_range, exceptions_of, graphs_in_range, objects_in_range, parts_in_range, action_in_range, play_in_range, drill_in_range, range_rule};
+ghost use Rattle.place_plan.specs.DraftRules.{is_rising, is_rising_above, all_below, step_in_range, verdict_in_range, abort_in_range, program_in_range, handler_in_range, role_in_range, nest_in_range, exceptions_of, graphs_in_range, objects_in_range, parts_in_range, action_in_range, play_in_range, drill_in_range, range_rule};
+ghost use Rattle.caa_base.specs.Limits.{is_value};
 
 use crate::draft::Draft;
 use crate::rows::{AbortRow, ActionRow, HandlerRow, NestRow, PlayRow, Program, RoleRow, Step};
 use caa_base::entry::{Drill, Verdict};
-
-const MOST_ROUNDS: u32 = 1_000_000;
-
-const MOST_VALUE: i64 = 1_000_000_000_000;
-
-/// Whether an object may have this value.
-fn is_value(value: i64) -> bool
-    ensures { result ≡ is_value value }
-{
-    value >= -MOST_VALUE && value <= MOST_VALUE
-}
+use caa_base::limits::{MOST_ROUNDS, is_value};
 
 pub(crate) fn all_below(count: usize, numbers: &[u32]) -> bool
     ensures { result ≡ all_below count numbers.now }

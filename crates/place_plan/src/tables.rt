@@ -1,7 +1,7 @@
 ghost use Rattle.std.specs.Prelude.{◌≡◌, ◌+◌};
 ghost use Rattle.place_plan.specs.Weights.{counted, at};
 
-use crate::limits::MOST_ACTIONS;
+use caa_base::limits::MOST_ACTIONS;
 
 /// A number for each action of a draft.
 pub(crate) type Table = [u64; MOST_ACTIONS];

@@ -8,11 +8,10 @@ ghost use Rattle.place_plan.specs.DraftRules.{KeepsParts};
 ghost use Rattle.place_plan.specs.Weights.{counted, at, nested_weight, weight, played_weight, Tells, nests_known};
 
 use crate::bound::action_bound;
-use crate::depth::MOST_DEPTH;
 use crate::draft::Draft;
-use crate::limits::MOST_ACTIONS;
 use crate::rows::{ActionRow, NestRow, PlayRow};
 use crate::tables::{Table, counted_sum, number_at};
+use caa_base::limits::{MOST_ACTIONS, MOST_DEPTH};
 
 /// How much a draft unfolds into.
 #[derive(Clone, Copy, Debug, PartialEq, Eq)]

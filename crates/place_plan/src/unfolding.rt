@@ -4,9 +4,9 @@ ghost use Rattle.place_plan.specs.Places.{no_action};
 ghost use Rattle.place_plan.specs.DraftRules.{action_fits};
 ghost use Rattle.place_plan.specs.Unfolding.{unfold_at, use_from, numbers_from, cast_of, bare_place, plan_of, IsMade};
 
-use crate::depth::MOST_DEPTH;
 use crate::draft::Draft;
 use crate::rows::{ActionRow, NestRow, PlaceRow, PlayRow};
+use caa_base::limits::MOST_DEPTH;
 use caa_base::entry::{Participant, Place};
 use caa_base::rows::Rows;
 use std::alloc::{AllocError, Global};

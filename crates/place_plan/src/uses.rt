@@ -1,7 +1,7 @@
 ghost use Rattle.std.specs.Prelude.{◌≡◌, ◌≤◌, true, [], ◌∷◌, map, length, slice_index_or, MatchOption};
 ghost use Rattle.std.specs.List.{list_all};
 ghost use Rattle.place_plan.specs.Places.{no_action};
-ghost use Rattle.place_plan.specs.Words.{is_empty, member};
+ghost use Rattle.caa_base.specs.Lists.{is_empty, member};
 ghost use Rattle.place_plan.specs.DraftRules.{all_below, nests_below, order_rule, all_differ, fills, nest_fills, fill_rule, action_fits, entered_by, filled_by, same_numbers, roles_enter, enter_rule, step_held, role_held, nest_held, action_held, object_rule, handlers_differ, face_of, nest_mapped, handler_rule, has_one_face, face_rule};
 
 use crate::draft::Draft;

@@ -1,5 +1,6 @@
 use Rattle.std.proofs.Common.{◌≡◌, ◌++◌, length, drop}
-use Rattle.place_plan.specs.Unfolding.{unfold_at, plays_from, tops_from, plan_of, most_depth}
+use Rattle.place_plan.specs.Unfolding.{unfold_at, plays_from, tops_from, plan_of}
+use Rattle.caa_base.specs.Limits.{most_depth}
 use Rattle.place_plan.proofs.unfolding.unfold_plays.Given as goal
 
 -- the places and the numbers so far, with those of the plays that are left
