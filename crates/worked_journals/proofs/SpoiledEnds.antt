@@ -9,7 +9,7 @@ use Rattle.caa_base.specs.declared.entry.Kind.TheVariants as kind
 use Rattle.place_plan.specs.declared.rows.ActionRow.{ActionRow}
 use Rattle.place_plan.specs.declared.rows.PlaceRow.{PlaceRow}
 use Rattle.place_plan.specs.PlanValue.{Plan}
-use Rattle.place_plan.specs.Words.{first_not}
+use Rattle.caa_base.specs.Lists.{first_not}
 use Rattle.place_plan.specs.Places.{objects_of, no_action}
 use Rattle.place_plan.specs.Entries.{has}
 use Rattle.place_plan.specs.Whereabouts.{inside, all_are_inside, has_started, has_ended, is_undoing}
