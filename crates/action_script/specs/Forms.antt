@@ -83,6 +83,20 @@ fields_of form.DoneLine = []
 fields_of (form.SignalLine n) = field.Name n ∷ []
 fields_of form.UndoLine = []
 
+-- the names among some fields, by their numbers
+abbrev pub numbers_in : List Field → List ℕ
+numbers_in [] = []
+numbers_in (field.Name n ∷ fields) = n ∷ numbers_in fields
+numbers_in (_ ∷ fields) = numbers_in fields
+
+-- the names of a form, by their numbers
+abbrev pub numbers_of : Form → List ℕ
+numbers_of (form.Play n list) = n ∷ list
+numbers_of (form.Uses list) = list
+numbers_of (form.Roles list) = list
+numbers_of (form.Nest n m list) = n ∷ m ∷ list
+numbers_of f = numbers_in (fields_of f)
+
 -- ---- the form of a kind and its fields; a field that isn't there, or is none of what is asked for, is never looked at
 
 abbrev pub name_in : Option Field → ℕ
