@@ -101,6 +101,7 @@ pub record AreScript (names : List (List ℕ)) (forms : List Form) : Type 0 wher
   pub short : list_all (is_short names) forms ≡ true
   pub order : with_names [] (flat_map (form_names names) forms) ≡ names
 
+-- the forms of some lines
 abbrev pub forms_of : List Line → List Form
 forms_of lines = map (λ l. l.form) lines
 
