@@ -1,6 +1,10 @@
 //! The text of a journal, both ways, and what watchers saw while it was made.
 #![tactic(auto)]
 
+mod entry_line;
+pub mod reading;
+mod seen_line;
 pub mod seens;
 mod values;
+mod words;
 pub mod writing;

@@ -256,7 +256,7 @@ fn push_word(text: &mut Vec<u8>, word: &[u8]) -> io::Result<()>
 }
 
 /// Adds the line of a look.
-fn push_seen(text: &mut Vec<u8>, plan: &Plan, seen: &Seen) -> io::Result<()>
+pub(crate) fn push_seen(text: &mut Vec<u8>, plan: &Plan, seen: &Seen) -> io::Result<()>
     requires { seen.now.watch < length plan.now.watches }
     ensures { OnOk result (text.new.items ≡ text.old.items ++ seen_line plan.now seen.now) }
 {
@@ -267,7 +267,7 @@ fn push_seen(text: &mut Vec<u8>, plan: &Plan, seen: &Seen) -> io::Result<()>
 }
 
 /// The name of an object, which is empty past the last one.
-fn object_name(plan: &Plan, object: Object) -> &[u8]
+pub(crate) fn object_name(plan: &Plan, object: Object) -> &[u8]
     ensures { result.now ≡ object_name plan.now object }
 {
     if object < plan.objects() {
