@@ -5,3 +5,4 @@ pub mod WordLemmas
 pub mod NamingLemmas
 pub mod EntryLines
 pub mod ReadingLemmas
+pub mod BadLines

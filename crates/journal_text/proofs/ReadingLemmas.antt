@@ -5,7 +5,7 @@ use Rattle.std.proofs.lemmas.Bool.{cond-true, cond-false, cases_eq, cases_Bool, 
 use Rattle.std.proofs.lemmas.List.Elements.{recursion_from_All, All-from_recursion}
 use Rattle.std.proofs.lemmas.Slice.Eq.{bytes_eq-Decides}
 use Rattle.std.specs.Fmt.{signed_decimal}
-use Rattle.std.proofs.lemmas.List.{append_cancel_left, append-nil, drop-ge}
+use Rattle.std.proofs.lemmas.List.{append_cancel_left, append-nil, drop_all}
 use Rattle.std.proofs.Math.Seq.{drop-cons}
 use Rattle.place_plan.specs.Objects.{value_of}
 use Rattle.caa_base.specs.Lines.{spaced, line}
@@ -41,7 +41,7 @@ shared-turned (a ∷ x) (b ∷ y) = by (cases_eq a b) (shared-turned x y)
       (step-same a x y ∙ ap (λ n. cond (a == 10) (suc n) n) rest ∙ sym (step-same a y x))
     by (inr other) rest = step-other a b x y other ∙ sym (step-other b a y x (λ e. other (sym e)))
 
-shared-nothing : (x : List ℕ) → lines_shared x [] ≡ 0
+pub shared-nothing : (x : List ℕ) → lines_shared x [] ≡ 0
 shared-nothing [] = refl
 shared-nothing (a ∷ x) = refl
 
@@ -105,7 +105,7 @@ shared-no_front (a ∷ r) (b ∷ c) x y n = by (cases_eq a b) (λ m. shared-no_f
 
 -- the same at an index
 pub shared-end : (text other : List ℕ) (i : ℕ) → length other ≤ i → lines_shared (drop i text) (drop i other) ≡ 0
-shared-end text other i h = ap (lines_shared (drop i text)) (drop-ge i other h) ∙ shared-nothing (drop i text)
+shared-end text other i h = ap (lines_shared (drop i text)) (drop_all i other h) ∙ shared-nothing (drop i text)
 
 pub shared-unlike : (text other : List ℕ) (i : ℕ) → i < length text → i < length other → (get_or text i 0 ≡ get_or other i 0 → ⊥) → lines_shared (drop i text) (drop i other) ≡ 0
 shared-unlike text other i h k n =
@@ -174,17 +174,17 @@ pub record Tells (plan : Plan) : Type 0 where
   pub named : is_well_named plan ≡ true
   pub small : length plan.places < 2 ^ 32
 
-abbrev entry_lines : Plan → List Entry → List ℕ
+abbrev pub entry_lines : Plan → List Entry → List ℕ
 entry_lines plan entries = flat_map (entry_line plan) entries
 
-abbrev EachFits : Plan → List Entry → Type 0
+abbrev pub EachFits : Plan → List Entry → Type 0
 EachFits plan entries = AllByRecursion (IsWellFormed plan) entries
 
 same-entry : (plan : Plan) (e j : Entry) (x y : List ℕ) → Tells plan → IsWellFormed plan e → IsWellFormed plan j → entry_line plan e ++ x ≡ entry_line plan j ++ y → e ≡ j
 same-entry plan e j x y t fe fj same =
     let q : Some e ≡ Some j = sym (entry_in-line plan e x t.named t.small fe) ∙ ap (entry_in plan) same ∙ entry_in-line plan j y t.named t.small fj in cc
 
-entries-same : (plan : Plan) (es js : List Entry) (r x : List ℕ) → Tells plan → EachFits plan es → EachFits plan js → BeginsNoEntry plan r → BeginsNoEntry plan x
+pub entries-same : (plan : Plan) (es js : List Entry) (r x : List ℕ) → Tells plan → EachFits plan es → EachFits plan js → BeginsNoEntry plan r → BeginsNoEntry plan x
     → entry_lines plan es ++ r ≡ entry_lines plan js ++ x → (es ≡ js) × (r ≡ x)
 entries-same plan [] [] r x t fe fj nr nx same = (refl, same)
 entries-same plan [] (j ∷ js) r x t fe fj nr nx same = absurd (nr j (entry_lines plan js ++ x) fj.0 (same ∙ append_assoc (entry_line plan j) (entry_lines plan js) x))
@@ -199,7 +199,7 @@ entries-same plan (e ∷ es) (j ∷ js) r x t fe fj nr nx same =
     (ap (λ k. k ∷ es) one ∙ ap (λ ks. j ∷ ks) later.0, later.1)
 
 -- where no entry follows, there are no more entries
-front-longest : (plan : Plan) (es js : List Entry) (r x : List ℕ) → Tells plan → EachFits plan es → EachFits plan js → BeginsNoEntry plan r
+pub front-longest : (plan : Plan) (es js : List Entry) (r x : List ℕ) → Tells plan → EachFits plan es → EachFits plan js → BeginsNoEntry plan r
     → entry_lines plan es ++ r ≡ entry_lines plan js ++ x → length js ≤ length es
 front-longest plan es [] r x t fe fj nr same = omega arith
 front-longest plan [] (j ∷ js) r x t fe fj nr same = absurd (nr j (entry_lines plan js ++ x) fj.0 (same ∙ append_assoc (entry_line plan j) (entry_lines plan js) x))
@@ -213,7 +213,7 @@ front-longest plan (e ∷ es) (j ∷ js) r x t fe fj nr same =
     omega arith
 
 -- entries that both begin with
-entries-front : (plan : Plan) (es : List Entry) (x y : List ℕ) → Tells plan → EachFits plan es → lines_shared (entry_lines plan es ++ x) (entry_lines plan es ++ y) ≡ length es + lines_shared x y
+pub entries-front : (plan : Plan) (es : List Entry) (x y : List ℕ) → Tells plan → EachFits plan es → lines_shared (entry_lines plan es ++ x) (entry_lines plan es ++ y) ≡ length es + lines_shared x y
 entries-front plan [] x y t f = omega arith
 entries-front plan (e ∷ es) x y t f =
     let one = shared-line (entry_line plan e) (entry_lines plan es ++ x) (entry_lines plan es ++ y) (entry_line-is plan e t.named t.small f.0) in
@@ -222,7 +222,7 @@ entries-front plan (e ∷ es) x y t f =
     omega (arith, cut, one, entries-front plan es x y t f.1)
 
 -- entries that both begin with, and then all that follows; or they differ among the entries
-entries-shared : (plan : Plan) (es js : List Entry) (r x : List ℕ) → Tells plan → EachFits plan es → EachFits plan js → BeginsNoEntry plan r → BeginsNoEntry plan x
+pub entries-shared : (plan : Plan) (es js : List Entry) (r x : List ℕ) → Tells plan → EachFits plan es → EachFits plan js → BeginsNoEntry plan r → BeginsNoEntry plan x
     → (es ≡ js) ⊎ (lines_shared (entry_lines plan es ++ r) (entry_lines plan js ++ x) ≤ length es)
 entries-shared plan [] [] r x t fe fj nr nx = inl refl
 entries-shared plan [] (j ∷ js) r x t fe fj nr nx =

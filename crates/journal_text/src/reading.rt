@@ -245,6 +245,20 @@ pub fn read(
     ensures back { ReadsBack plan.now limit bytes.now result }
 {
     plan.places();
+    read_text(alloc, plan, bytes, limit)
+}
+
+/// The same, without the law that what was written is read back.
+fn read_text(
+    alloc: Global,
+    plan: &Plan,
+    bytes: &[u8],
+    limit: u64,
+) -> Result<(Journal, Seens), TextError>
+    requires { is_well_named plan.now ≡ true }
+    ensures { Reads plan.now limit bytes.now result }
+{
+    plan.places();
     let Some(text) = bytes.strip_prefix(FIRST_LINE) else {
         return Err(refused_after(alloc, plan, bytes, &[], &[]));
     };
