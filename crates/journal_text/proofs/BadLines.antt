@@ -3,6 +3,7 @@ use Rattle.std.proofs.Common.{◌≡◌, ℕ, ◌<◌, ◌≤◌, ◌+◌, ◌^�
 use Rattle.std.specs.List.{AllByRecursion, flat_map}
 use Rattle.std.proofs.lemmas.Bool.{cases_Bool, false≢true}
 use Rattle.std.proofs.lemmas.List.{append_cancel_left, append-nil}
+use Rattle.std.proofs.lemmas.List.Concat.{flat_map-append}
 use Rattle.std.proofs.lemmas.List.Elements.{recursion_from_All}
 use Rattle.std.proofs.lemmas.Slice.Eq.{bytes_eq-Decides}
 use Rattle.caa_base.specs.declared.entry.Entry.{Entry}
@@ -249,3 +250,14 @@ reads-back plan limit bytes (Err (error.TooMany line)) t h js ms k =
     absurd (omega (arith, less, k.fit.few, h.1.many))
 reads-back plan limit bytes (Err (error.BadLine line)) t h js ms k = absurd (h.none js ms k)
 reads-back plan limit bytes (Err error.OutOfMemory) t h js ms k = refl
+
+-- ---- one line more
+
+pub front-more : {A : Type 0} (line_of : A → List ℕ) (xs : List A) (x : A) (text rest after : List ℕ) → text ≡ flat_map line_of xs ++ rest → rest ≡ line_of x ++ after → text ≡ flat_map line_of (xs ++ x ∷ []) ++ after
+front-more line_of xs x text rest after h k =
+    let more : flat_map line_of (xs ++ x ∷ []) ≡ flat_map line_of xs ++ line_of x = flat_map-append line_of xs (x ∷ []) ∙ ap (λ z. flat_map line_of xs ++ z) (append-nil (line_of x)) in
+    h ∙ ap (λ z. flat_map line_of xs ++ z) k ∙ sym (append_assoc (flat_map line_of xs) (line_of x) after) ∙ ap (λ z. z ++ after) (sym more)
+
+pub last_watch-push : (low : ℕ) (seens : List Seen) (s : Seen) → last_watch low (seens ++ s ∷ []) ≡ s.watch
+last_watch-push low [] s = refl
+last_watch-push low (m ∷ seens) s = last_watch-push m.watch seens s

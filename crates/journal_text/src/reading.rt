@@ -2,7 +2,7 @@ ghost use Rattle.std.specs.Prelude.{◌≡◌, ◌≤◌, ◌∷◌, ◌++◌, [
 ghost use Rattle.caa_base.specs.declared.entry.OutOfMemory.{OutOfMemory};
 ghost use Rattle.place_plan.specs.WellFormed.{IsWellFormed, AllWellFormed};
 ghost use Rattle.journal_text.specs.Naming.{is_well_named};
-ghost use Rattle.journal_text.specs.Text.{entry_line, seen_line, text_of};
+ghost use Rattle.journal_text.specs.Text.{entry_line, seen_line, first_line, text_of};
 ghost use Rattle.journal_text.specs.Looks.{AreOfPlan};
 ghost use Rattle.journal_text.specs.Reading.{lines_shared, Reads, ReadsBack, TextsDiffer};
 ghost use Rattle.journal_text.specs.Steps.{BeginsNoEntry, BeginsNoSeen, MayCome, EntryFound, SeenFound, EntriesRead, SeensRead, StopsEntries, RefusesAfter};
@@ -10,7 +10,7 @@ ghost use Rattle.journal_text.specs.Steps.{BeginsNoEntry, BeginsNoSeen, MayCome,
 use crate::entry_line::entry_in;
 use crate::seen_line::{may_stand, seen_in};
 use crate::seens::{Seen, Seens};
-use crate::writing::{FIRST_LINE, push_entry, push_seen, write_closing, write_text};
+use crate::writing::{push_entry, push_seen, write_closing, write_text};
 use caa_base::entry::{Entry, OutOfMemory};
 use caa_base::journal::Journal;
 use place_plan::plan::Plan;
@@ -63,6 +63,24 @@ impl From<OutOfMemory> for TextError {
     }
 }
 
+/// What a text is left as after this front, where it begins with that.
+fn after_front<'a>(text: &'a [u8], front: &[u8]) -> Option<&'a [u8]>
+    ensures { MatchOption result
+        ((rest : List ℕ) → text.now ≡ front.now ++ rest → ⊥)
+        (λ rest. text.now ≡ front.now ++ rest.now) }
+{
+    text.strip_prefix(front)
+}
+
+/// What bytes are left as after the first line of a text, where they begin with that.
+fn after_first_line(bytes: &[u8]) -> Option<&[u8]>
+    ensures { MatchOption result
+        ((rest : List ℕ) → bytes.now ≡ first_line ++ rest → ⊥)
+        (λ rest. bytes.now ≡ first_line ++ rest.now) }
+{
+    after_front(bytes, b"journal\n")
+}
+
 /// What a text is left as after the line of this entry, where it begins with that.
 fn after_entry<'a>(
     alloc: Global,
@@ -77,7 +95,7 @@ fn after_entry<'a>(
 {
     let mut line = Vec::new(alloc);
     match push_entry(&mut line, plan, entry) {
-        Ok(()) => Ok(text.strip_prefix(line.as_slice())),
+        Ok(()) => Ok(after_front(text, line.as_slice())),
         Err(_) => Err(OutOfMemory),
     }
 }
@@ -96,7 +114,7 @@ fn after_seen<'a>(
 {
     let mut line = Vec::new(alloc);
     match push_seen(&mut line, plan, seen) {
-        Ok(()) => Ok(text.strip_prefix(line.as_slice())),
+        Ok(()) => Ok(after_front(text, line.as_slice())),
         Err(_) => Err(OutOfMemory),
     }
 }
@@ -259,12 +277,12 @@ fn read_text(
     ensures { Reads plan.now limit bytes.now result }
 {
     plan.places();
-    let Some(text) = bytes.strip_prefix(FIRST_LINE) else {
+    let Some(text) = after_first_line(bytes) else {
         return Err(refused_after(alloc, plan, bytes, &[], &[]));
     };
     let (entries, text) = read_entries(alloc, plan, text, limit)?;
     let closing = write_closing(alloc, plan, &entries)?;
-    let Some(text) = text.strip_prefix(closing.as_slice()) else {
+    let Some(text) = after_front(text, closing.as_slice()) else {
         return Err(refused_after(alloc, plan, bytes, &entries, &[]));
     };
     let (seens, text) = read_seens(alloc, plan, text)?;

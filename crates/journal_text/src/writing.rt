@@ -19,9 +19,6 @@ use std::alloc::{AllocError, Global};
 use std::io;
 use std::io::Write;
 
-/// The first line of each text.
-pub(crate) const FIRST_LINE: &[u8] = b"journal\n";
-
 /// The text of a journal: one line for each entry, with the names of the plan, then the value of each object and the outcome of
 /// each place, and then what was seen.
 pub fn write(
