@@ -261,3 +261,7 @@ front-more line_of xs x text rest after h k =
 pub last_watch-push : (low : ℕ) (seens : List Seen) (s : Seen) → last_watch low (seens ++ s ∷ []) ≡ s.watch
 last_watch-push low [] s = refl
 last_watch-push low (m ∷ seens) s = last_watch-push m.watch seens s
+
+pub nothing-left : (text : List ℕ) → length text ≡ 0 → text ≡ []
+nothing-left [] h = refl
+nothing-left (b ∷ text) h = absurd (omega (arith, h))
