@@ -5,3 +5,4 @@ pub mod Values
 pub mod Words
 pub mod Reading
 pub mod Steps
+pub mod Right

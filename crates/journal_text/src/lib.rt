@@ -2,7 +2,9 @@
 #![tactic(auto)]
 
 mod entry_line;
+
 pub mod reading;
+pub mod right;
 mod seen_line;
 pub mod seens;
 mod values;
