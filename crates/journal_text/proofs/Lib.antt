@@ -6,3 +6,4 @@ pub mod NamingLemmas
 pub mod EntryLines
 pub mod ReadingLemmas
 pub mod BadLines
+pub mod RightLemmas

@@ -3,7 +3,8 @@ ghost use Rattle.caa_base.specs.declared.entry.Kind.TheVariants as kind;
 ghost use Rattle.place_plan.specs.Words.{member};
 ghost use Rattle.place_plan.specs.Places.{top_of, parent};
 ghost use Rattle.place_plan.specs.Entries.{is_of};
-ghost use Rattle.place_plan.specs.Journals.{plays_ended, committed_value};
+ghost use Rattle.place_plan.specs.Objects.{value_of};
+ghost use Rattle.place_plan.specs.Journals.{plays_ended};
 ghost use Rattle.journal_text.specs.Looks.{AreOfPlan};
 ghost use Rattle.journal_text.specs.Naming.{is_well_named};
 ghost use Rattle.journal_text.specs.Text.{watched_object};
@@ -131,9 +132,37 @@ fn is_committed(
     requires ended { ended.now ≡ plays_ended plan.now (reverse entries.now) }
     ensures { IfOk result (λ yes. yes ≡ is_committed plan.now (reverse entries.now) seen.now) }
 {
-    let count = seen.ends.min(ended.len() as u64) as usize;
-    let kept = entries_of(alloc, plan, entries, &ended[..count])?;
-    Ok(seen.value == value_at(plan, &kept, watched_object(plan, seen.watch)))
+    let object = watched_object(plan, seen.watch);
+    let value = committed_value(alloc, plan, entries, first_of(ended, seen.ends), object)?;
+    Ok(seen.value == value)
+}
+
+/// The value of an object by the entries of these plays and of the places inside them.
+#[tactic(auto, using(crate::proofs::RightLemmas::reverse_filter))]
+fn committed_value(
+    alloc: Global,
+    plan: &Plan,
+    entries: &[Entry],
+    plays: &[Place],
+    object: Object,
+) -> Result<i64, AllocError>
+    requires { object < length plan.now.objects }
+    ensures { IfOk result (λ value.
+        value ≡ value_of plan.now (filter (λ e. member (top_of plan.now e.place) plays.now) (reverse entries.now)) object) }
+{
+    let kept = entries_of(alloc, plan, entries, plays)?;
+    Ok(value_at(plan, &kept, object))
+}
+
+/// The first of these places, at most so many.
+fn first_of(places: &[Place], count: u64) -> &[Place]
+    ensures { result.now ≡ take count places.now }
+{
+    if count < places.len() as u64 {
+        &places[..count as usize]
+    } else {
+        places
+    }
 }
 
 /// The object of a watch.
