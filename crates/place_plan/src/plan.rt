@@ -565,7 +565,7 @@ impl Plan {
     }
 
     /// How many exceptions a graph has; none where there is no such graph.
-    pub(crate) fn exceptions_of(&self, graph: u32) -> u32
+    pub fn exceptions_of(&self, graph: u32) -> u32
         ensures { result ≡ (graph_at self.now graph).count }
     {
         match self.graphs.as_slice().get(graph as usize) {
