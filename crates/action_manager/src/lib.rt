@@ -1,7 +1,12 @@
 //! A machine that several threads step, one turn at a time.
 #![tactic(auto)]
 
+mod handed;
 mod home;
+mod housed;
 mod lock;
+mod seat;
 mod turns;
 mod view;
+
+pub use seat::{NoNote, Seat, Slip};
