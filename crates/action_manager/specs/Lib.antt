@@ -3,5 +3,7 @@ pub mod Turns
 pub mod Stepping
 pub mod Locks
 pub mod Housed
-pub mod Slips
+pub mod Tidings
 pub mod Seats
+pub mod Openings
+pub mod Managers

@@ -1,11 +1,11 @@
 -- Seats, as a manager's owner sees them.
-use Rattle.std.specs.Prelude.{◌≡◌, ℕ, ◌==◌, ◌<◌, Bool, true, false, List, length, Option, None, Result}
+use Rattle.std.specs.Prelude.{◌≡◌, ℕ, ◌==◌, ◌<◌, Bool, true, false, List, length, Option}
 use Rattle.std.specs.List.{list_any}
 use mathlib.Core.List.{IsPrefix}
 use Rattle.atomic_table.specs.Seated.{TableId}
 use Rattle.atomic_table.specs.declared.shared.Seat.{Seat as TableSeat}
-use Rattle.shared_views.specs.Noted.{Noted}
-use Rattle.shared_views.specs.declared.notes.NoteRefused.{NoteRefused}
+use Rattle.shared_views.specs.declared.bulletin.Told.{Told}
+use Rattle.shared_views.specs.declared.bulletin.Told.TheVariants as told
 use Rattle.action_manager.specs.Journals.{Journal, entries_by}
 use Rattle.action_manager.specs.Stepping.{IsAtRest}
 use Rattle.action_manager.specs.declared.view.Terms.{Terms}
@@ -25,9 +25,9 @@ token_of seat = seat.token
 abbrev pub seen_by : {M : Type 0} → Seat M → Journal
 seen_by seat = seat.token.me.0.seen
 
--- the note that its last step left, or the refusal, until it is taken
-abbrev pub slip_of : {M : Type 0} → Seat M → Option (Result Noted NoteRefused)
-slip_of seat = seat.slip
+-- what its last step told, until it is taken
+abbrev pub told_to : {M : Type 0} → Seat M → Told
+told_to seat = seat.told
 
 -- the seat was opened by the manager of this table, on these terms
 pub record IsSeatOf {M : Type 0} (table : TableId) (terms : Terms) (seat : Seat M) : Type 0 where
@@ -48,7 +48,7 @@ pub record Accounts {M : Type 0} (journal : Journal) (seat : Seat M) : Type 0 wh
 pub record IsNewSeat {M : Type 0} (table : TableId) (terms : Terms) (journal : Journal) (seat : Seat M) : Type 0 where
   pub opened : IsSeatOf table terms seat
   pub seen : seen_by seat ≡ journal
-  pub quiet : slip_of seat ≡ None
+  pub quiet : told_to seat ≡ told.Nothing
 
 -- each participant below this number has a seat in the list
 abbrev pub HaveAll : {M : Type 0} → ℕ → List (Seat M) → Type 0

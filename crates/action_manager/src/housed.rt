@@ -3,12 +3,11 @@ ghost use Rattle.place_plan.specs.Machine.{Answers};
 ghost use Rattle.shared_views.specs.Telling.{cells_of};
 
 use crate::home::Home;
-use crate::seat::Slip;
 use caa_base::entry::Participant;
 use caa_base::work::WorkDone;
 use journal_laws::is_well_formed;
 use place_plan::machine::{Answer, Machine};
-use shared_views::{Bulletin, ResolutionCells};
+use shared_views::{Bulletin, ResolutionCells, Told};
 
 /// What lies in the slot: a machine, and what keeps up with its journal.
 pub struct Housed<M> {
@@ -29,7 +28,18 @@ impl<M: Machine> Home for Housed<M> {
 
 impl<M: Machine> Housed<M> {
     ghost use Rattle.action_manager.specs.Housed.{IsKept};
-    ghost use Rattle.action_manager.specs.Slips.{SlipAfter};
+    ghost use Rattle.action_manager.specs.Tidings.{TellsAfter};
+
+    /// The machine alone.
+    pub fn into_machine(self) -> M
+        ensures { result ≡ self.machine }
+    {
+        let Housed {
+            machine,
+            bulletin: _,
+        } = self;
+        machine
+    }
 
     /// Makes the entry of a participant, and takes it in: a Resolve is announced.
     pub fn next(
@@ -37,7 +47,7 @@ impl<M: Machine> Housed<M> {
         cells: &ResolutionCells,
         by: Participant,
         hint: Option<WorkDone>,
-    ) -> (Answer, Option<Slip>)
+    ) -> (Answer, Told)
         requires who { by < length (M.plan_of self.old.machine).participants }
         requires ours { cells_of self.old.bulletin ≡ cells.now }
         requires kept { IsKept M.plan_of M.journal_of self.old }
@@ -46,16 +56,16 @@ impl<M: Machine> Housed<M> {
         ensures cells { cells_of self.new.bulletin ≡ cells_of self.old.bulletin }
         ensures kept { IsKept M.plan_of M.journal_of self.new }
         ensures answer { Answers (M.plan_of self.old.machine) (M.journal_of self.old.machine) (M.journal_of self.new.machine) by hint result.0 }
-        ensures slip { SlipAfter cells.now result.0 result.1 }
+        ensures told { TellsAfter cells.now result.0 result.1 }
     {
         let answer = self.machine.next(by, hint);
-        let slip = match answer {
+        let told = match answer {
             Answer::Did(entry) => {
                 is_well_formed(self.machine.plan());
                 self.bulletin.take_in(cells, entry)
             }
-            _ => None,
+            _ => Told::Nothing,
         };
-        (answer, slip)
+        (answer, told)
     }
 }

@@ -5,8 +5,10 @@ mod handed;
 mod home;
 mod housed;
 mod lock;
+mod manager;
 mod seat;
 mod turns;
 mod view;
 
-pub use seat::{NoNote, Seat, Slip};
+pub use manager::{Closed, Manager, ManagerError, Opened, StillOut};
+pub use seat::{NoNote, Seat};

@@ -4,10 +4,8 @@ ghost use Rattle.action_manager.specs.Journals.{entries_by};
 use crate::housed::Housed;
 use crate::turns::Token;
 use caa_base::entry::Participant;
-use shared_views::{NoteRefused, PlaceNote};
-
-/// The note of a resolved place, or the refusal of its cell.
-pub type Slip = Result<PlaceNote, NoteRefused>;
+use shared_views::{NoteRefused, PlaceNote, Told};
+use std::mem;
 
 /// The right of one participant to take turns. It may go to another thread.
 #[derive(Drop)]
@@ -16,7 +14,7 @@ pub struct Seat<M> {
     pub(crate) participant: Participant,
     pub(crate) seen: u64,
     pub(crate) made: u64,
-    pub(crate) slip: Option<Slip>,
+    pub(crate) told: Told,
     ghost who: { participant ≡ token.me.0.who },
     ghost so_long: { seen ≡ length token.me.0.seen },
     ghost so_many: { made ≡ length (entries_by participant token.me.0.seen) },
@@ -31,9 +29,9 @@ pub enum NoNote {
 }
 
 impl<M> Seat<M> {
-    ghost use Rattle.action_manager.specs.Seats.{participant_of, seen_by, slip_of, token_of};
-    ghost use Rattle.action_manager.specs.Slips.{Takes};
-    ghost use Rattle.std.specs.Prelude.{None as Nothing};
+    ghost use Rattle.action_manager.specs.Seats.{participant_of, seen_by, told_to, token_of};
+    ghost use Rattle.action_manager.specs.Tidings.{Takes};
+    ghost use Rattle.shared_views.specs.declared.bulletin.Told.TheVariants.{Nothing};
 
     /// Whose seat it is.
     pub fn participant(&self) -> Participant
@@ -60,14 +58,28 @@ impl<M> Seat<M> {
     ///
     /// The seat has none afterwards, whatever the answer, and is else as it was.
     pub fn take_note(&mut self) -> Result<PlaceNote, NoNote>
-        ensures taken { Takes (slip_of self.old) result }
-        ensures left { slip_of self.new ≡ Nothing }
+        ensures taken { Takes (told_to self.old) result }
+        ensures left { told_to self.new ≡ Nothing }
         ensures same { (token_of self.new ≡ token_of self.old) × (participant_of self.new ≡ participant_of self.old) }
     {
-        match self.slip.take() {
-            None => Err(NoNote::NotDue),
-            Some(Ok(note)) => Ok(note),
-            Some(Err(refused)) => Err(NoNote::Refused(refused)),
+        match mem::replace(&mut self.told, Told::Nothing) {
+            Told::Nothing => Err(NoNote::NotDue),
+            Told::Noted(note) => Ok(note),
+            Told::Refused(refused) => Err(NoNote::Refused(refused)),
         }
+    }
+
+    /// Its place at the table; the rest goes.
+    pub(crate) fn into_token(self) -> Token<Housed<M>>
+        ensures { result ≡ token_of self }
+    {
+        let Seat {
+            token,
+            participant: _,
+            seen: _,
+            made: _,
+            told: _,
+        } = self;
+        token
     }
 }
