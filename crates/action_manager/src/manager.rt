@@ -8,7 +8,7 @@ ghost use Rattle.action_manager.specs.Stepping.{IsAtRest, Steps, Looks};
 ghost use Rattle.action_manager.specs.Locks.{home_at, plan_at};
 ghost use Rattle.action_manager.specs.Openings.{IsUnresolved};
 ghost use Rattle.action_manager.specs.Tidings.{TellsAfter};
-ghost use Rattle.action_manager.specs.Seats.{IsSeatOf, IsNewSeat, participant_of, seen_by, told_to, stand, has_seat, HaveAll, IsLeastMissing, Accounts};
+ghost use Rattle.action_manager.specs.Seats.{IsNewSeat, participant_of, seen_by, told_to, stand, has_seat, HaveAll, IsLeastMissing, Accounts};
 
 use crate::handed::Handed;
 use crate::housed::Housed;
@@ -103,7 +103,7 @@ fn fresh_cells(alloc: Global, plan: &Plan) -> Result<(ResolutionCells, Bulletin)
 }
 
 impl<M: Machine> Manager<M> {
-    ghost use Rattle.action_manager.specs.Managers.{table_of, plan_in, handed_in, cells_in, terms_in};
+    ghost use Rattle.action_manager.specs.Managers.{table_of, plan_in, handed_in, cells_in, terms_in, IsSeatIn};
 
     /// A lock round a machine, with the maker's seat.
     fn set_up(
@@ -234,8 +234,8 @@ impl<M: Machine> Manager<M> {
     /// The seat has then seen the journal that the machine left. After a Resolve or a Handle it has the note of that place, to be
     /// taken; a refused announcement leaves the entry made. It may wait, and need not return.
     pub fn step<R: Wait>(&self, rt: &R, seat: &mut Seat<M>, hint: Option<WorkDone>) -> Answer
-        requires opened { IsSeatOf (table_of self.now) (terms_in M.base_of self.now) seat.old }
-        ensures opened { IsSeatOf (table_of self.now) (terms_in M.base_of self.now) seat.new }
+        requires opened { IsSeatIn M.base_of self.now seat.old }
+        ensures opened { IsSeatIn M.base_of self.now seat.new }
         ensures same { participant_of seat.new ≡ participant_of seat.old }
         ensures turn { Steps (plan_in self.now) (participant_of seat.old) (seen_by seat.old) (seen_by seat.new) hint result }
         ensures told { TellsAfter (cells_in self.now) result (told_to seat.new) }
@@ -255,8 +255,8 @@ impl<M: Machine> Manager<M> {
 
     /// A turn that makes no entry, and says whether the journal is longer than what the seat had seen.
     fn look<R: Wait>(&self, rt: &R, seat: &mut Seat<M>) -> bool
-        requires opened { IsSeatOf (table_of self.now) (terms_in M.base_of self.now) seat.old }
-        ensures opened { IsSeatOf (table_of self.now) (terms_in M.base_of self.now) seat.new }
+        requires opened { IsSeatIn M.base_of self.now seat.old }
+        ensures opened { IsSeatIn M.base_of self.now seat.new }
         ensures same { (participant_of seat.new ≡ participant_of seat.old) × (told_to seat.new ≡ told_to seat.old) }
         ensures turn { Looks (plan_in self.now) (participant_of seat.old) (seen_by seat.old) (seen_by seat.new) }
         ensures longer { IsTrue result ↔ (length (seen_by seat.old) < length (seen_by seat.new)) }
@@ -273,8 +273,8 @@ impl<M: Machine> Manager<M> {
     ///
     /// It need not return.
     pub fn wait_past<R: Wait>(&self, rt: &R, seat: &mut Seat<M>)
-        requires opened { IsSeatOf (table_of self.now) (terms_in M.base_of self.now) seat.old }
-        ensures opened { IsSeatOf (table_of self.now) (terms_in M.base_of self.now) seat.new }
+        requires opened { IsSeatIn M.base_of self.now seat.old }
+        ensures opened { IsSeatIn M.base_of self.now seat.new }
         ensures same { (participant_of seat.new ≡ participant_of seat.old) × (told_to seat.new ≡ told_to seat.old) }
         ensures turn { Looks (plan_in self.now) (participant_of seat.old) (seen_by seat.old) (seen_by seat.new) }
         ensures longer { length (seen_by seat.old) < length (seen_by seat.new) }
@@ -304,7 +304,7 @@ impl<M: Machine> Manager<M> {
     /// One seat takes in all others.
     fn gather(&self, first: Token<Housed<M>>, mut others: Vec<Seat<M>>) -> Token<Housed<M>>
         requires first { (first.table_id ≡ table_of self.now) × IsAtRest (terms_in M.base_of self.now) first.me }
-        requires others { All (λ s. IsSeatOf (table_of self.now) (terms_in M.base_of self.now) s) others.items }
+        requires others { All (λ s. IsSeatIn M.base_of self.now s) others.items }
         ensures kept { (result.table_id ≡ table_of self.now) × (result.me.0.has_book ≡ false) }
         ensures all { held result.me.0 ≡ (first.me.0.who, first.me.0.seen) ∷ reverse (map stand others.items) }
     {
@@ -320,7 +320,7 @@ impl<M: Machine> Manager<M> {
     /// What each seat has seen begins the machine's journal, which has no further entry of that participant. At `Err` a seat is
     /// missing, and manager and seats come back as they were.
     pub fn close(self, mut seats: Vec<Seat<M>>) -> Result<Closed<M>, StillOut<M>>
-        requires opened { All (λ s. IsSeatOf (table_of self) (terms_in M.base_of self) s) seats.items }
+        requires opened { All (λ s. IsSeatIn M.base_of self s) seats.items }
         ensures all { OnOk result (HaveAll (length (plan_in self).participants) seats.items) }
         ensures plan { IfOk result (λ c. M.plan_of c.machine ≡ plan_in self) }
         ensures base { IfOk result (λ c. M.base_of c.machine ≡ M.base_of (handed_in self)) }

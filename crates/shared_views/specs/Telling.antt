@@ -5,7 +5,7 @@ use Rattle.caa_base.specs.declared.entry.Kind.TheVariants as kind
 use Rattle.place_plan.specs.Entries.{is_of}
 use Rattle.caa_base.specs.declared.entry.Entry.{Entry}
 use Rattle.place_plan.specs.Raising.{exception_resolved}
-use Rattle.shared_views.specs.Noted.{Noted}
+use Rattle.shared_views.specs.Noted.{Noted, IsOf}
 use Rattle.shared_views.specs.Refusals.{place_refused}
 use Rattle.shared_views.specs.declared.bulletin.Bulletin.{Bulletin}
 use Rattle.shared_views.specs.declared.bulletin.Told.{Told}
@@ -18,7 +18,7 @@ cells_of b = b.cells.value
 -- the note is of p, by these cells, and knows the exception
 pub record Knows (cells : List ℕ) (p : ℕ) (x : ℕ) (note : Noted) : Type 0 where
   pub place : note.place ≡ p
-  pub cell : note.cell ≡ slice_index_or cells p 0
+  pub ours : IsOf cells note
   pub known : note.known ≡ Some x
 
 -- that p is resolved to the exception was told: a note knows it, or the cell of p refused
