@@ -6,7 +6,7 @@ use Rattle.caa_base.specs.declared.entry.Entry.{Entry}
 use Rattle.caa_base.specs.declared.entry.Kind.{Kind}
 use Rattle.caa_base.specs.declared.entry.Kind.TheVariants as kind
 use Rattle.place_plan.specs.PlanValue.{Plan}
-use Rattle.place_plan.specs.Words.{member, is_empty, first_of}
+use Rattle.caa_base.specs.Lists.{member, is_empty, first_of}
 use Rattle.place_plan.specs.Places.{around, parent, roles_of, plays_of}
 use Rattle.place_plan.specs.Entries.{is_in, is_by, has, has_by}
 use Rattle.place_plan.specs.Whereabouts.{inside, is_inside, has_started, has_ended, is_undoing, is_live, is_going}
@@ -15,12 +15,13 @@ use Rattle.place_plan.specs.Roles.{has_given_after, has_given, all_have_given, i
 use Rattle.place_plan.specs.Rules.{Row, MayArrive, MayAbort, AskForUndo, HaveAgreed, EndsAgreed, MayEnd, arrival}
 use Rattle.place_plan.specs.Journals.{LegalPast}
 use Rattle.journal_laws.proofs.Playable.{IsTree}
-use Rattle.place_plan.proofs.Words.{all_at, at_same, chosen, first_not_fails, plays_in}
+use Rattle.caa_base.proofs.ListLemmas.{all_at, at_same, chosen, first_not_fails}
+use Rattle.place_plan.proofs.Plays.{plays_in}
 use Rattle.place_plan.proofs.Entries.{of_kind}
 use Rattle.journal_laws.proofs.Tree.{arrives_in}
 
 -- something that was raised stays raised
-raised_stays : (plan : Plan) (p : ℕ) (e : Entry) (past : List Entry) → is_raised plan past p ≡ true → is_raised plan (e ∷ past) p ≡ true
+pub raised_stays : (plan : Plan) (p : ℕ) (e : Entry) (past : List Entry) → is_raised plan past p ≡ true → is_raised plan (e ∷ past) p ≡ true
 raised_stays plan p e past h = longer (raises_in plan past p e e.kind) (exceptions_raised plan past p) h
   where
     longer : (xs ys : List ℕ) → not (is_empty ys) ≡ true → not (is_empty (xs ++ ys)) ≡ true
@@ -43,7 +44,7 @@ given_has p t (e ∷ past) h = by_tests (is_in kind.Resolve p e) (is_by kind.Ver
     by_tests false true h ih = refl
     by_tests false false h ih = ih h
 
-not_given : (plan : Plan) (p t : ℕ) (past : List Entry) → has_by kind.Verdict past p t ≡ false → has_given plan past p t ≡ false
+pub not_given : (plan : Plan) (p t : ℕ) (past : List Entry) → has_by kind.Verdict past p t ≡ false → has_given plan past p t ≡ false
 not_given plan p t past h = by_raised (is_raised plan past p)
   where
     by_raised : (b : Bool) → cond b (has_given_after past p t) (has_by kind.Verdict past p t) ≡ false
@@ -72,7 +73,7 @@ module _ (plan : Plan) (tree : IsTree plan) where
   abort_doomed_by past kind.Arrive e p t ih h w = doom_stays plan p (of_kind kind.Arrive e) past (ih w)
   abort_doomed_by past k e p t ih h w = doom_stays plan p (of_kind k e) past (ih w)
 
-  abort_doomed : (past : List Entry) → LegalPast plan past → (p t : ℕ) → has_by kind.Abort past p t ≡ true → is_doomed plan past p ≡ true
+  pub abort_doomed : (past : List Entry) → LegalPast plan past → (p t : ℕ) → has_by kind.Abort past p t ≡ true → is_doomed plan past p ≡ true
   abort_doomed [] h p t w = absurd (false≢true w)
   abort_doomed (e ∷ past) h p t w = abort_doomed_by past e.kind e p t (abort_doomed past h.0 p t) h.1 w
 

@@ -1,19 +1,19 @@
 -- What holds of every legal journal of a plan. `past` is its entries, the newest first.
-use Rattle.std.specs.Prelude.{◌≡◌, ℕ, ℤ, ◌==◌, ◌+◌, ◌<◌, ◌≤◌, ◌⊎◌, ◌↔◌, Bool, true, false, ◌&&◌, ◌||◌, if◌then◌else◌, List, [], ◌∷◌, ◌++◌, length, filter, count_by, Option, Some, None, is_none}
+use Rattle.std.specs.Prelude.{◌≡◌, ℕ, ℤ, ◌==◌, ◌+◌, ◌<◌, ◌≤◌, ◌⊎◌, ◌↔◌, Bool, true, false, ◌&&◌, ◌||◌, if◌then◌else◌, List, [], ◌∷◌, ◌++◌, length, count_by, Option, Some, None, is_none}
 use Rattle.std.specs.List.{list_any, list_all}
 use Rattle.cover_table.specs.Cover.{IsLeastCover}
 use Rattle.caa_base.specs.declared.entry.Entry.{Entry}
 use Rattle.caa_base.specs.declared.entry.Kind.{Kind}
 use Rattle.caa_base.specs.declared.entry.Kind.TheVariants as kind
 use Rattle.place_plan.specs.PlanValue.{Plan}
-use Rattle.place_plan.specs.Words.{member}
+use Rattle.caa_base.specs.Lists.{member}
 use Rattle.place_plan.specs.Places.{around, is_within, roles_of, uses, initial_of, internal_of, handler_of}
 use Rattle.place_plan.specs.Entries.{is_of, is_in, is_by, has, has_by, newest}
 use Rattle.place_plan.specs.Whereabouts.{inside, stays, is_live, has_ended, has_started}
 use Rattle.place_plan.specs.Raising.{exceptions_raised, is_raised, exception_resolved}
 use Rattle.place_plan.specs.Objects.{holder_of, value_of, writes, has_failed}
 use Rattle.place_plan.specs.Rules.{MayFollow}
-use Rattle.place_plan.specs.Journals.{LegalPast, AllOver}
+use Rattle.place_plan.specs.Journals.{LegalPast, AllOver, is_put}
 use Rattle.place_plan.specs.Bound.{bound}
 
 -- what a law says holds of every legal journal of the plan
@@ -155,6 +155,17 @@ has_failed_restore past o = list_any (λ e. is_of kind.Restore e && ((e.arg == o
 abbrev pub EffectLaw : Plan → List Entry → Type 0
 EffectLaw plan past =
     AllOver plan past → (o : ℕ) → has_failed_restore past o ≡ false → value_of plan past o ≡ last_write plan past o (λ e. is_kept plan past e.place)
+
+-- ---- device law
+
+-- the value that was put last in o, by a write or a restore that the device took, else the initial one
+abbrev pub last_put : Plan → List Entry → ℕ → ℤ
+last_put plan [] o = initial_of plan o
+last_put plan (e ∷ past) o = if is_put e && (e.arg == o) then e.value else last_put plan past o
+
+-- what was put last in an object is its value by the journal: so a device that keeps what it took has that value
+abbrev pub DeviceLaw : Plan → List Entry → Type 0
+DeviceLaw plan past = (o : ℕ) → last_put plan past o ≡ value_of plan past o
 
 -- ---- inner-first law
 

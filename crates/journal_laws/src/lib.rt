@@ -1,10 +1,9 @@
 //! The laws of all legal journals of a plan. Each is a statement alone: the call does nothing.
 #![tactic(auto)]
 
-ghost use Rattle.journal_laws.specs.Laws.{Holds, AtMostOne, GoesOn, IsBounded, InsideIsInnermost, HolderIsInnermost, KeepsLaws};
-ghost use Rattle.journal_laws.specs.FlatDue.{DueIsRight};
+ghost use Rattle.journal_laws.specs.Laws.{Holds, AtMostOne, GoesOn, IsBounded, InsideIsInnermost, HolderIsInnermost, DeviceLaw, KeepsLaws};
+ghost use Rattle.journal_laws.specs.Due.{DueIsRight};
 ghost use Rattle.place_plan.specs.WellFormed.{AllWellFormed};
-ghost use Rattle.place_plan.specs.Flat.{StaysQuiet};
 
 use place_plan::plan::Plan;
 
@@ -57,16 +56,17 @@ pub fn holder_is_innermost(plan: &Plan)
     plan.is_closed();
 }
 
-/// The resolution, exit, outcome, effect, inner-first and isolation laws.
-pub fn keeps_laws(plan: &Plan)
-    ensures { Holds KeepsLaws plan.now }
+/// Device law: what was put last in an object, by a write or a restore that the device took, is its value by the journal; where
+/// nothing was, that is its first value.
+pub fn last_put_is_value(plan: &Plan)
+    ensures { Holds DeviceLaw plan.now }
 {
     plan.is_closed();
 }
 
-/// As long as roles only read and work, nothing is raised, undone or handled, and each object has its initial value.
-pub fn stays_quiet(plan: &Plan)
-    ensures { Holds StaysQuiet plan.now }
+/// The resolution, exit, outcome, effect, inner-first and isolation laws.
+pub fn keeps_laws(plan: &Plan)
+    ensures { Holds KeepsLaws plan.now }
 {
     plan.is_closed();
 }

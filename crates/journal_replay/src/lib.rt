@@ -2,8 +2,9 @@
 #![tactic(auto)]
 
 pub mod answer;
+pub mod audit;
 pub mod hall;
 pub mod rule;
-mod scan;
-#[cfg(test)]
-mod tests;
+mod laws;
+mod look_back;
+mod work_due;

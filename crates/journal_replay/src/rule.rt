@@ -1,23 +1,41 @@
-ghost use Rattle.std.specs.Prelude.{◌≡◌, ◌<◌, false, ℕ, length, slice_get, reverse, Some, None};
-ghost use Rattle.caa_base.specs.declared.entry.Entry.{Entry as JournalEntry};
-ghost use Rattle.place_plan.specs.declared.rows.Step.TheVariants as step;
-ghost use Rattle.place_plan.specs.Whereabouts.{inside, has_started, has_ended};
-ghost use Rattle.place_plan.specs.Roles.{next_step, has_given, all_have_given};
-ghost use Rattle.place_plan.specs.Journals.{LegalPast, IsLegal};
-ghost use Rattle.place_plan.specs.Flat.{StaysQuiet};
-ghost use Rattle.journal_laws.specs.FlatDue.{says, plainly, due_waiting, due_step, due_agreed, due_calm, due_inside, due_of, DueIsRight};
+ghost use Rattle.std.specs.Prelude.{◌≡◌, ◌<◌, ◌+ℤ◌, not, is_none, length, reverse, Some, None};
+ghost use Rattle.caa_base.specs.declared.entry.Kind.TheVariants as kind;
+ghost use Rattle.caa_base.specs.Limits.{IsValue};
+ghost use Rattle.place_plan.specs.Places.{roles_of, handler_of, abort_row};
+ghost use Rattle.place_plan.specs.Entries.{is_by, newest};
+ghost use Rattle.place_plan.specs.Raising.{exception_resolved};
+ghost use Rattle.place_plan.specs.Objects.{next_restore};
+ghost use Rattle.place_plan.specs.Roles.{register, program_of, next_step, signals};
+ghost use Rattle.place_plan.specs.Rules.{clamped, breaks_off, abort_of, undone_mark, abort_mapped, exception_carried};
+ghost use Rattle.place_plan.specs.Journals.{LegalPast, IsLegal, is_put};
+ghost use Rattle.journal_laws.specs.Due.{says, plainly, marked, naming, verdict_entry, due_waiting, due_restore, due_doomed, due_end, due_agreed, due_held, due_step, due_forward, due_handler, due_resolved, due_halted, due_hot, due_calm, due_live, due_inside, due_of, as_refused};
 ghost use Rattle.journal_replay.specs.IsDue.{IsDue};
 
 use crate::answer::Due;
-use crate::scan::{
-    all_inside, has, has_by, inside, is_over, next_play, objects_ready, position, register,
+use crate::look_back::entries::{has, has_by, newest_by, newest_in};
+use crate::look_back::objects::{has_failed, holds, next_restore, objects_are_ready, value_at_start};
+use crate::look_back::places::{
+    all_are_inside, has_ended, has_started, inside, is_left_in_silence, is_over, is_undoing, next_play,
+    place_entered,
 };
-use caa_base::entry::{Entry, Kind, Participant, Place};
+use crate::look_back::raising::{
+    all_are_halted, exception_resolved, has_handled, is_doomed, is_halted, is_raised, least_raised,
+};
+use crate::look_back::roles::{meets, next_raise, next_step, program_of, register};
+use crate::look_back::verdicts::{
+    all_have_aborted, all_have_given, has_aborted, has_given, least_signalled, wants_undo,
+    was_refused_in_handler,
+};
+use caa_base::entry::{Entry, Exception, Kind, Object, Participant, Place, Verdict};
 use caa_base::journal::Journal;
+use caa_base::limits::MOST_VALUE;
 use caa_base::work::WorkDone;
 use place_plan::plan::Plan;
-use place_plan::rows::{Program, Step};
+use place_plan::rows::{AbortRow, Step};
+use crate::laws::due_is_right;
 use place_plan::value::value_at;
+
+// ---- what an entry says
 
 /// An entry with mark 0.
 fn says(kind: Kind, place: Place, by: Participant, arg: u32, value: i64) -> Entry
@@ -40,81 +58,360 @@ fn plainly(kind: Kind, place: Place, by: Participant) -> Entry
     says(kind, place, by, 0, 0)
 }
 
-/// The step of a program at this position.
-fn step_at(program: &Program, position: usize) -> Option<Step>
-    ensures { result ≡ slice_get program.now.steps position }
+/// An entry with this mark and this exception.
+fn marked(kind: Kind, place: Place, by: Participant, mark: u32, arg: u32) -> Entry
+    ensures { result ≡ marked kind place by mark arg }
 {
-    program.steps.as_slice().get(position).copied()
+    Entry {
+        kind,
+        place,
+        by,
+        arg,
+        mark,
+        value: 0,
+    }
 }
 
-/// The next step of a participant in a place, of its body, since nobody begins a handler yet.
-fn next_step(plan: &Plan, journal: &[Entry], place: Place, by: Participant) -> Option<Step>
-    requires quiet { StaysQuiet plan.now (reverse journal.now) }
-    ensures { result ≡ next_step plan.now (reverse journal.now) place by }
+/// An entry that names an exception, or none.
+fn naming(kind: Kind, place: Place, by: Participant, exception: Option<Exception>) -> Entry
+    ensures { result ≡ naming kind place by exception }
 {
-    let role = plan.role_of(place, by)?;
-    step_at(plan.body(place, role), position(plan, journal, place, by))
+    match exception {
+        Some(exception) => marked(kind, place, by, 1, exception),
+        None => plainly(kind, place, by),
+    }
 }
 
-/// Whether a participant has given its verdict in a place; nothing is raised there yet.
-fn given(plan: &Plan, journal: &[Entry], place: Place, by: Participant) -> bool
-    requires quiet { StaysQuiet plan.now (reverse journal.now) }
-    ensures { result ≡ has_given plan.now (reverse journal.now) place by }
+/// The entry that says this verdict.
+fn verdict_entry(place: Place, by: Participant, verdict: Verdict) -> Entry
+    ensures { result ≡ verdict_entry place by verdict }
 {
-    has_by(journal, Kind::Verdict, place, by)
+    match verdict {
+        Verdict::Done => plainly(Kind::Verdict, place, by),
+        Verdict::Signal(exception) => marked(Kind::Verdict, place, by, 1, exception),
+        Verdict::Undo => marked(Kind::Verdict, place, by, 2, 0),
+    }
 }
 
-/// Whether each role of a place has given its verdict.
-fn all_given(plan: &Plan, journal: &[Entry], place: Place) -> bool
-    requires quiet { StaysQuiet plan.now (reverse journal.now) }
-    ensures { result ≡ all_have_given plan.now (reverse journal.now) place }
-{
-    plan.roles_of(place)
-        .iter()
-        .all(|by| given(plan, journal, place, *by))
-}
+// ---- a place that waits, or is undone
 
 /// What a participant does in a place that waits.
 fn due_waiting(plan: &Plan, journal: &[Entry], place: Place, by: Participant) -> Option<Entry>
     ensures { result ≡ due_waiting plan.now (reverse journal.now) place by }
 {
-    if all_inside(plan, journal, place) && objects_ready(plan, journal, place) {
+    if is_doomed(plan, journal, place) {
+        Some(plainly(Kind::Withdraw, place, by))
+    } else if all_are_inside(plan, journal, place) && objects_are_ready(plan, journal, place) {
         Some(plainly(Kind::Start, place, by))
     } else {
         None
     }
 }
 
-/// What a participant does in a calm place before its verdict.
+/// The mark of the End after an undo.
+fn undone_mark(journal: &[Entry], place: Place) -> u32
+    ensures { result ≡ undone_mark (reverse journal.now) place }
+{
+    if has_failed(journal, place) {
+        4
+    } else if has(journal, Kind::Abort, place) {
+        3
+    } else {
+        2
+    }
+}
+
+/// The restore that is next in a place that is undone, or its End.
+fn due_restore(plan: &Plan, journal: &[Entry], place: Place, by: Participant) -> Entry
+    ensures { Some result ≡ due_restore plan.now (reverse journal.now) place by (next_restore plan.now (reverse journal.now) place) }
+{
+    match next_restore(plan, journal, place) {
+        Some(object) => {
+            let value = value_at_start(plan, journal, place, object);
+            says(Kind::Restore, place, by, object, value)
+        }
+        None => marked(Kind::End, place, by, undone_mark(journal, place), 0),
+    }
+}
+
+/// The exception that an abort names at this register.
+fn abort_of(row: &AbortRow, register: i64) -> Option<Exception>
+    ensures { result ≡ abort_of row.now register }
+{
+    match row {
+        AbortRow::Never => None,
+        AbortRow::Always(exception) => Some(*exception),
+        AbortRow::Where {
+            test,
+            value,
+            exception,
+        } => if meets(*test, *value, register) {
+            Some(*exception)
+        } else {
+            None
+        },
+    }
+}
+
+/// The exception that a participant names where it gives up in a place.
+fn exception_named(plan: &Plan, journal: &[Entry], place: Place, by: Participant) -> Option<Exception>
+    ensures { result ≡ abort_of (abort_row plan.now place by) (register plan.now (reverse journal.now) place by) }
+{
+    let role = plan.role_of(place, by)?;
+    abort_of(plan.abort_row(place, role), register(plan, journal, place, by))
+}
+
+/// What a participant does in a doomed place.
+fn due_doomed(plan: &Plan, journal: &[Entry], place: Place, by: Participant) -> Option<Entry>
+    ensures { result ≡ due_doomed plan.now (reverse journal.now) place by }
+{
+    if has_aborted(journal, place, by) {
+        if all_have_aborted(plan, journal, place) {
+            Some(plainly(Kind::Undo, place, by))
+        } else {
+            None
+        }
+    } else if all_are_inside(plan, journal, place) {
+        Some(naming(Kind::Abort, place, by, exception_named(plan, journal, place, by)))
+    } else {
+        None
+    }
+}
+
+// ---- agreement
+
+/// The End of a place whose roles have agreed on it.
+fn due_end(plan: &Plan, journal: &[Entry], place: Place, by: Participant) -> Entry
+    requires legal { LegalPast plan.now (reverse journal.now) }
+    ensures { Some result ≡ due_end plan.now place by (signals (reverse journal.now) place (roles_of plan.now place)) }
+{
+    naming(Kind::End, place, by, least_signalled(plan, journal, place))
+}
+
+/// What a participant does that has given its verdict.
+fn due_agreed(plan: &Plan, journal: &[Entry], place: Place, by: Participant) -> Option<Entry>
+    requires legal { LegalPast plan.now (reverse journal.now) }
+    ensures { result ≡ due_agreed plan.now (reverse journal.now) place by }
+{
+    if !all_have_given(plan, journal, place) {
+        None
+    } else if wants_undo(plan, journal, place) {
+        Some(plainly(Kind::Undo, place, by))
+    } else {
+        Some(due_end(plan, journal, place, by))
+    }
+}
+
+// ---- steps
+
+/// The entry, where the place holds the object.
+fn due_held(plan: &Plan, journal: &[Entry], place: Place, object: Object, entry: Entry) -> Option<Entry>
+    ensures { result ≡ due_held plan.now (reverse journal.now) place object entry }
+{
+    if holds(plan, journal, place, object) {
+        Some(entry)
+    } else {
+        None
+    }
+}
+
+/// A register plus a number, brought to the nearer end of the range of values.
+fn clamped(register: i64, number: i64) -> i64
+    requires register { IsValue register }
+    requires number { IsValue number }
+    ensures { result ≡ clamped (register +ℤ number) }
+{
+    (register + number).clamp(-MOST_VALUE, MOST_VALUE)
+}
+
+/// The verdict of the program of a participant.
+fn final_verdict(plan: &Plan, journal: &[Entry], place: Place, by: Participant) -> Verdict
+    ensures { result ≡ (program_of plan.now (reverse journal.now) place by).verdict }
+{
+    match program_of(plan, journal, place, by) {
+        Some(program) => program.verdict,
+        None => Verdict::Done,
+    }
+}
+
+/// What a participant does at a step that neither raises nor enters, and after its last.
 fn due_step(plan: &Plan, journal: &[Entry], place: Place, by: Participant) -> Option<Entry>
-    requires quiet { StaysQuiet plan.now (reverse journal.now) }
-    requires known { (o : ℕ) → next_step plan.now (reverse journal.now) place by ≡ Some (step.Read o) → o < length plan.now.objects }
+    requires legal { LegalPast plan.now (reverse journal.now) }
     ensures { result ≡ due_step plan.now (reverse journal.now) place by (next_step plan.now (reverse journal.now) place by) }
 {
+    let register = register(plan, journal, place, by);
     match next_step(plan, journal, place, by) {
-        None => Some(plainly(Kind::Verdict, place, by)),
+        None => {
+            let verdict = final_verdict(plan, journal, place, by);
+            Some(verdict_entry(place, by, verdict))
+        }
         Some(Step::Read(object)) => {
             let value = value_at(plan, journal, object);
-            Some(says(Kind::Read, place, by, object, value))
+            due_held(plan, journal, place, object, says(Kind::Read, place, by, object, value))
+        }
+        Some(Step::Put(object, value)) => {
+            due_held(plan, journal, place, object, says(Kind::Write, place, by, object, value))
+        }
+        Some(Step::Add(object, number)) => {
+            let value = clamped(register, number);
+            due_held(plan, journal, place, object, says(Kind::Write, place, by, object, value))
         }
         Some(Step::Work(rounds)) => {
-            let work = WorkDone::make(register(plan, journal, place, by), rounds);
-            Some(says(Kind::Work, place, by, rounds, work.result()))
+            let result = WorkDone::make(register, rounds).result();
+            Some(says(Kind::Work, place, by, rounds, result))
         }
-        Some(_) => None,
+        Some(Step::Check { .. }) => Some(plainly(Kind::Check, place, by)),
+        Some(Step::Raise(_)) | Some(Step::Enter(_)) => None,
+    }
+}
+
+/// What a participant does in its body at a step that doesn't raise.
+fn due_forward(plan: &Plan, journal: &[Entry], place: Place, by: Participant) -> Option<Entry>
+    requires legal { LegalPast plan.now (reverse journal.now) }
+    ensures { result ≡ due_forward plan.now (reverse journal.now) place by (next_step plan.now (reverse journal.now) place by) }
+{
+    match next_step(plan, journal, place, by) {
+        Some(Step::Enter(nest)) => {
+            let inner = place_entered(plan, journal, place, by, nest)?;
+            Some(plainly(Kind::Arrive, inner, by))
+        }
+        _ => due_step(plan, journal, place, by),
     }
 }
 
 /// What a participant does in a calm place.
 fn due_calm(plan: &Plan, journal: &[Entry], place: Place, by: Participant) -> Option<Entry>
-    requires quiet { StaysQuiet plan.now (reverse journal.now) }
-    requires known { has_given plan.now (reverse journal.now) place by ≡ false → (o : ℕ) → next_step plan.now (reverse journal.now) place by ≡ Some (step.Read o) → o < length plan.now.objects }
+    requires legal { LegalPast plan.now (reverse journal.now) }
     ensures { result ≡ due_calm plan.now (reverse journal.now) place by }
 {
-    if !given(plan, journal, place, by) {
+    if has_given(plan, journal, place, by) {
+        return due_agreed(plan, journal, place, by);
+    }
+    match next_raise(plan, journal, place, by) {
+        Some(exception) => Some(marked(Kind::Raise, place, by, 0, exception)),
+        None => due_forward(plan, journal, place, by),
+    }
+}
+
+// ---- recovery
+
+/// Whether the handler of a participant is broken off.
+fn breaks_off(plan: &Plan, journal: &[Entry], place: Place, by: Participant) -> bool
+    ensures { result ≡ breaks_off plan.now (reverse journal.now) place by }
+{
+    was_refused_in_handler(journal, place, by) || next_raise(plan, journal, place, by).is_some()
+}
+
+/// What a participant does in its handler.
+fn due_handler(plan: &Plan, journal: &[Entry], place: Place, by: Participant) -> Option<Entry>
+    requires legal { LegalPast plan.now (reverse journal.now) }
+    ensures { result ≡ due_handler plan.now (reverse journal.now) place by }
+{
+    if breaks_off(plan, journal, place, by) {
+        Some(verdict_entry(place, by, Verdict::Undo))
+    } else {
         due_step(plan, journal, place, by)
-    } else if all_given(plan, journal, place) {
-        Some(plainly(Kind::End, place, by))
+    }
+}
+
+/// Whether a participant has a handler for an exception.
+fn has_handler(plan: &Plan, place: Place, by: Participant, exception: Exception) -> bool
+    ensures { result ≡ not (is_none (handler_of plan.now place by exception)) }
+{
+    match plan.role_of(place, by) {
+        Some(role) => plan.handler(place, role, exception).is_some(),
+        None => false,
+    }
+}
+
+/// What a participant does once the place is resolved to this exception.
+fn due_resolved(plan: &Plan, journal: &[Entry], place: Place, by: Participant, exception: Exception) -> Option<Entry>
+    requires legal { LegalPast plan.now (reverse journal.now) }
+    ensures { result ≡ due_resolved plan.now (reverse journal.now) place by exception }
+{
+    if has_given(plan, journal, place, by) {
+        due_agreed(plan, journal, place, by)
+    } else if has_handled(journal, place, by) {
+        due_handler(plan, journal, place, by)
+    } else if has_handler(plan, place, by, exception) {
+        Some(marked(Kind::Handle, place, by, 0, exception))
+    } else {
+        Some(verdict_entry(place, by, Verdict::Undo))
+    }
+}
+
+/// What a participant does that is halted.
+fn due_halted(plan: &Plan, journal: &[Entry], place: Place, by: Participant) -> Option<Entry>
+    requires legal { LegalPast plan.now (reverse journal.now) }
+    ensures { result ≡ due_halted plan.now (reverse journal.now) place by (exception_resolved (reverse journal.now) place) }
+{
+    if let Some(exception) = exception_resolved(journal, place) {
+        return due_resolved(plan, journal, place, by, exception);
+    }
+    if !all_are_halted(plan, journal, place) {
+        return None;
+    }
+    let exception = least_raised(plan, journal, place)?;
+    Some(marked(Kind::Resolve, place, by, 0, exception))
+}
+
+/// What a participant does in a hot place.
+fn due_hot(plan: &Plan, journal: &[Entry], place: Place, by: Participant) -> Option<Entry>
+    requires legal { LegalPast plan.now (reverse journal.now) }
+    ensures { result ≡ due_hot plan.now (reverse journal.now) place by }
+{
+    if is_halted(plan, journal, place, by) {
+        return due_halted(plan, journal, place, by);
+    }
+    match next_raise(plan, journal, place, by) {
+        Some(exception) => Some(marked(Kind::Raise, place, by, 0, exception)),
+        None => Some(plainly(Kind::Inform, place, by)),
+    }
+}
+
+// ---- the decision
+
+/// What a participant does in a place that has started and not ended.
+fn due_live(plan: &Plan, journal: &[Entry], place: Place, by: Participant) -> Option<Entry>
+    requires legal { LegalPast plan.now (reverse journal.now) }
+    ensures { result ≡ due_live plan.now (reverse journal.now) place by }
+{
+    if is_undoing(journal, place) {
+        Some(due_restore(plan, journal, place, by))
+    } else if is_doomed(plan, journal, place) {
+        due_doomed(plan, journal, place, by)
+    } else if is_raised(plan, journal, place) {
+        due_hot(plan, journal, place, by)
+    } else {
+        due_calm(plan, journal, place, by)
+    }
+}
+
+/// The exception that a participant carries out of a place.
+fn exception_carried(plan: &Plan, journal: &[Entry], place: Place, by: Participant) -> Option<Exception>
+    ensures { result ≡ exception_carried plan.now (reverse journal.now) place by }
+{
+    let outer = plan.parent(place)?;
+    if is_doomed(plan, journal, outer) || is_left_in_silence(plan, journal, place) {
+        return None;
+    }
+    let end = newest_in(journal, Kind::End, place)?;
+    match end.mark {
+        0 => None,
+        1 => Some(plan.map_signal(place, end.arg)),
+        2 => Some(plan.map_undo(place)),
+        3 => abort_mapped(plan, journal, place, by),
+        _ => Some(plan.map_failure(place)),
+    }
+}
+
+/// What the abort of a participant is in the place round this one.
+fn abort_mapped(plan: &Plan, journal: &[Entry], place: Place, by: Participant) -> Option<Exception>
+    ensures { result ≡ abort_mapped plan.now place (newest (is_by kind.Abort place by) (reverse journal.now)) }
+{
+    let abort = newest_by(journal, Kind::Abort, place, by)?;
+    if abort.mark == 1 {
+        Some(plan.map_signal(place, abort.arg))
     } else {
         None
     }
@@ -123,23 +420,19 @@ fn due_calm(plan: &Plan, journal: &[Entry], place: Place, by: Participant) -> Op
 /// What a participant does in the place that it is in.
 fn due_inside(plan: &Plan, journal: &[Entry], place: Place, by: Participant) -> Option<Entry>
     requires legal { LegalPast plan.now (reverse journal.now) }
-    requires here { inside plan.now (reverse journal.now) by ≡ Some place }
     ensures { result ≡ due_inside plan.now (reverse journal.now) place by }
 {
-    plan.due_is_right();
-    plan.is_well_formed();
-    plan.stays_quiet();
-    if has(journal, Kind::End, place) {
-        Some(plainly(Kind::Leave, place, by))
-    } else if has(journal, Kind::Start, place) {
-        due_calm(plan, journal, place, by)
+    if has_ended(journal, place) {
+        Some(naming(Kind::Leave, place, by, exception_carried(plan, journal, place, by)))
+    } else if has_started(journal, place) {
+        due_live(plan, journal, place, by)
     } else {
         due_waiting(plan, journal, place, by)
     }
 }
 
-/// The entry that the rules give a participant.
-fn entry_due(plan: &Plan, journal: &[Entry], by: Participant) -> Option<Entry>
+/// The entry that the rules give a participant, as if the device took each put.
+pub(crate) fn entry_due(plan: &Plan, journal: &[Entry], by: Participant) -> Option<Entry>
     requires legal { LegalPast plan.now (reverse journal.now) }
     ensures { result ≡ due_of plan.now (reverse journal.now) by }
 {
@@ -152,19 +445,44 @@ fn entry_due(plan: &Plan, journal: &[Entry], by: Participant) -> Option<Entry>
     }
 }
 
+/// Whether the device decides between this entry and its refusal.
+pub(crate) fn asks_device(entry: &Entry) -> bool
+    ensures { result ≡ is_put entry.now }
+{
+    entry.kind == Kind::Write || (entry.kind == Kind::Restore && entry.mark == 0)
+}
+
+/// The entry, where the device refuses what it asks.
+pub(crate) fn refused(entry: Entry) -> Entry
+    ensures { result ≡ as_refused entry.kind entry }
+{
+    match entry.kind {
+        Kind::Write => Entry {
+            kind: Kind::PutFault,
+            ..entry
+        },
+        Kind::Restore => Entry { mark: 1, ..entry },
+        _ => entry,
+    }
+}
+
 /// What the rules let a participant do after a legal journal. It takes no memory.
-///
-/// As long as roles only read and work the device decides nothing, so `Due::Put` doesn't come yet.
 pub fn due(plan: &Plan, journal: &Journal, by: Participant) -> Due
     requires legal { IsLegal plan.now journal.now.entries }
     requires known { by < length plan.now.participants }
-    ensures due { IsDue plan.now (reverse journal.now.entries) by result }
-    ensures undecided { (well fault : JournalEntry) → result ≡ Due.Put well fault → ⊥ }
+    ensures { IsDue plan.now (reverse journal.now.entries) by result }
 {
-    plan.due_is_right();
+    due_is_right(plan);
     let entries = journal.as_slice();
     match entry_due(plan, entries, by) {
-        Some(entry) => Due::Now(entry),
+        Some(entry) => if asks_device(&entry) {
+            Due::Put {
+                well: entry,
+                fault: refused(entry),
+            }
+        } else {
+            Due::Now(entry)
+        },
         None => if is_over(plan, entries, by) {
             Due::Over
         } else {

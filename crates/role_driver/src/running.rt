@@ -7,7 +7,7 @@ ghost use Rattle.action_manager.specs.Managers.{IsSeatIn};
 ghost use Rattle.action_manager.specs.Seats.{participant_of};
 
 use crate::crew::{Member, drive_handed_back, join_all, start_all};
-use crate::finishing::{close_done, drive_each};
+use crate::closing::{close_done, drive_each};
 use action_manager::{Manager, ManagerError, Opened, Seat};
 use caa_base::gate::Gate;
 use place_plan::machine::Machine;

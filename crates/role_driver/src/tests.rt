@@ -2,7 +2,7 @@ ghost use Rattle.std.specs.Prelude.{◌≡◌, ◌<◌, true, [], length, IfOk};
 ghost use Rattle.place_plan.specs.Built.{is_built_step, is_built_role, is_built_action, IsBuilt};
 ghost use Rattle.journal_replay.specs.Hall.{plan_in, journal_in};
 
-use super::*;
+use crate::running::{Finished, RunError, run};
 use action_manager::{Closed, Manager, ManagerError, NoNote, Opened, StillOut};
 use caa_base::entry::Verdict;
 use caa_base::gate::EmptyGate;

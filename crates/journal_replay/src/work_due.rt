@@ -1,0 +1,91 @@
+ghost use Rattle.std.specs.Prelude.{◌≡◌, ◌&&◌, not, reverse};
+ghost use Rattle.place_plan.specs.Whereabouts.{is_going};
+ghost use Rattle.place_plan.specs.Raising.{is_doomed};
+ghost use Rattle.place_plan.specs.Machine.{work_entry};
+ghost use Rattle.place_plan.specs.Roles.{is_in_handler, is_able};
+ghost use Rattle.journal_replay.specs.WorkDue.{IsWorkDue};
+
+use crate::look_back::places::{has_ended, has_started, inside, is_undoing};
+use crate::look_back::raising::{is_doomed, is_raised};
+use crate::look_back::roles::{next_step, register};
+use crate::look_back::verdicts::{has_given, is_handling, was_refused_in_handler};
+use caa_base::entry::{Entry, Kind, Participant, Place};
+use caa_base::work::WorkDone;
+use place_plan::plan::Plan;
+use place_plan::rows::Step;
+
+/// A piece of mixing work that a participant is to do next.
+#[derive(Clone, Copy, Debug, PartialEq, Eq)]
+pub struct Work {
+    pub place: Place,
+    pub rounds: u32,
+    /// The register that the mixing starts from.
+    pub from: i64,
+}
+
+impl Work {
+    /// The entry of this work, done by this participant; `done` brings its result.
+    pub(crate) fn entry(&self, by: Participant, done: &WorkDone) -> Entry
+        requires rounds { done.now.rounds ≡ self.now.rounds }
+        requires from { done.now.from ≡ self.now.from }
+        ensures { result ≡ work_entry self.now.place by self.now.rounds self.now.from }
+    {
+        Entry {
+            kind: Kind::Work,
+            place: self.place,
+            by,
+            arg: self.rounds,
+            mark: 0,
+            value: done.result(),
+        }
+    }
+}
+
+/// Whether a place goes on, and nothing is raised round it.
+fn is_spared(plan: &Plan, journal: &[Entry], place: Place) -> bool
+    ensures { result ≡ (is_going (reverse journal.now) place && not (is_doomed plan.now (reverse journal.now) place)) }
+{
+    has_started(journal, place)
+        && !has_ended(journal, place)
+        && !is_undoing(journal, place)
+        && !is_doomed(plan, journal, place)
+}
+
+/// Whether a participant is in its handler, and it goes on.
+fn is_in_handler(journal: &[Entry], place: Place, by: Participant) -> bool
+    ensures { result ≡ is_in_handler (reverse journal.now) place by }
+{
+    is_handling(journal, place, by) && !was_refused_in_handler(journal, place, by)
+}
+
+/// Whether a participant may make a step in a place.
+fn is_able(plan: &Plan, journal: &[Entry], place: Place, by: Participant) -> bool
+    ensures { result ≡ is_able plan.now (reverse journal.now) place by }
+{
+    if !is_spared(plan, journal, place) {
+        false
+    } else if is_raised(plan, journal, place) {
+        is_in_handler(journal, place, by)
+    } else {
+        !has_given(plan, journal, place, by)
+    }
+}
+
+/// The mixing work that is next for a participant, if its next entry is one. It takes no memory, and mixes nothing.
+pub fn work_due(plan: &Plan, journal: &[Entry], by: Participant) -> Option<Work>
+    ensures { IsWorkDue plan.now (reverse journal.now) by result }
+{
+    let place = inside(plan, journal, by)?;
+    if !is_able(plan, journal, place, by) {
+        return None;
+    }
+    let Some(Step::Work(rounds)) = next_step(plan, journal, place, by) else {
+        return None;
+    };
+    let from = register(plan, journal, place, by);
+    Some(Work {
+        place,
+        rounds,
+        from,
+    })
+}
