@@ -17,7 +17,8 @@ use Rattle.place_plan.specs.PlanValue.{Plan}
 use Rattle.place_plan.specs.Places.{action_at, parent, graph_at, exception_name, internal_of, interface_of}
 use Rattle.place_plan.specs.Roles.{verdict_at}
 use Rattle.place_plan.specs.Rules.{IsPlain}
-use Rattle.place_plan.specs.WellFormed.{IsValue, FieldsFit, IsWellFormed, ShowsException, MayShowException, MayCarry}
+use Rattle.place_plan.specs.WellFormed.{FieldsFit, IsWellFormed, ShowsException, MayShowException, MayCarry}
+use Rattle.caa_base.specs.Limits.{IsValue}
 use Rattle.journal_text.specs.declared.entry_line.Fields.{Fields}
 use Rattle.journal_text.specs.Naming.{is_well_named}
 use Rattle.journal_text.specs.Text.{participant_name, object_name, watched_object, seen_line, internal_name, interface_name, kind_word, object_words, restore_word, verdict_words, outcome_at, outcome_words, abort_words, leave_words, field_words, entry_line}

@@ -13,7 +13,7 @@ use Rattle.journal_text.specs.Naming.{are_different, are_names, is_named, are_di
 use Rattle.journal_text.specs.Text.{participant_name, object_name, watched_object}
 use Rattle.journal_text.specs.Words.{is_gap}
 use Rattle.journal_text.proofs.WordLemmas.{is_whole, AreDifferent}
-use Rattle.place_plan.specs.Words.{member}
+use Rattle.caa_base.specs.Lists.{member}
 
 -- ---- a name has no gap
 

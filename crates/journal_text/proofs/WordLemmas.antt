@@ -11,7 +11,7 @@ use Rattle.std.proofs.lemmas.Int.{ints}
 use Rattle.std.proofs.lemmas.Slice.Eq.{bytes_eq-Decides}
 use Rattle.caa_base.specs.Lines.{spaced}
 use Rattle.caa_base.specs.Names.{is_name, is_name_byte}
-use Rattle.place_plan.specs.WellFormed.{IsValue}
+use Rattle.caa_base.specs.Limits.{IsValue}
 use Rattle.journal_text.specs.Words.{is_gap, word_in, after_word, next_word, after_next, digits_after, number_in, value_in, index_among}
 
 -- ---- words

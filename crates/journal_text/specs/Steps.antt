@@ -4,7 +4,8 @@ use Rattle.std.specs.List.{flat_map}
 use Rattle.caa_base.specs.declared.entry.Entry.{Entry}
 use Rattle.caa_base.specs.declared.entry.OutOfMemory.{OutOfMemory}
 use Rattle.place_plan.specs.PlanValue.{Plan}
-use Rattle.place_plan.specs.WellFormed.{IsValue, IsWellFormed, AllWellFormed}
+use Rattle.place_plan.specs.WellFormed.{IsWellFormed, AllWellFormed}
+use Rattle.caa_base.specs.Limits.{IsValue}
 use Rattle.journal_text.specs.declared.seens.Seen.{Seen}
 use Rattle.journal_text.specs.declared.reading.TextError.{TextError}
 use Rattle.journal_text.specs.declared.reading.TextError.TheVariants as error

@@ -1,6 +1,6 @@
 ghost use Rattle.std.specs.Prelude.{◌≡◌, ◌<◌, ◌+◌, ◌&&◌, ◌==◌, true, length, reverse, take, drop, filter, option_copied, Some, None, IfOk, is_none};
 ghost use Rattle.caa_base.specs.declared.entry.Kind.TheVariants as kind;
-ghost use Rattle.place_plan.specs.Words.{member};
+ghost use Rattle.caa_base.specs.Lists.{member};
 ghost use Rattle.place_plan.specs.Places.{top_of, parent};
 ghost use Rattle.place_plan.specs.Entries.{is_of};
 ghost use Rattle.place_plan.specs.Objects.{value_of};

@@ -1,5 +1,5 @@
 ghost use Rattle.std.specs.Prelude.{◌≡◌, ◌<◌, ◌↔◌, IsTrue, length};
-ghost use Rattle.place_plan.specs.WellFormed.{IsValue};
+ghost use Rattle.caa_base.specs.Limits.{IsValue};
 ghost use Rattle.journal_text.specs.Text.{object_name, watched_object};
 ghost use Rattle.journal_text.specs.Words.{watch_in, seen_in};
 ghost use Rattle.journal_text.specs.Steps.{MayStand};

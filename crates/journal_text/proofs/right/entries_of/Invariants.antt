@@ -1,5 +1,5 @@
 use Rattle.std.proofs.Common.{◌≡◌, take, filter}
-use Rattle.place_plan.specs.Words.{member}
+use Rattle.caa_base.specs.Lists.{member}
 use Rattle.place_plan.specs.Places.{top_of}
 use Rattle.journal_text.proofs.right.entries_of.Given as goal
 
