@@ -4,4 +4,5 @@ pub mod Devices
 pub mod Last
 pub mod Plays
 pub mod Prefixes
+pub mod StepsFit
 pub mod WorkAgain
