@@ -1,8 +1,9 @@
 pub mod CoverSoFar
 pub mod Covers
 pub mod Devices
+pub mod DueEntries
 pub mod Last
 pub mod Plays
 pub mod Prefixes
 pub mod StepsFit
-pub mod WorkAgain
+pub mod WorkNext
