@@ -10,61 +10,24 @@ use Rattle.place_plan.specs.Journals.{is_put, is_fault}
 use Rattle.place_plan.proofs.Entries.{of_kind}
 use Rattle.journal_laws.specs.Laws.{as_taken}
 use Rattle.journal_laws.specs.Due.{due_of, as_refused, DueIsRight}
-use Rattle.journal_replay.specs.IsDue.{IsTheEntry, DeviceDecides}
+use Rattle.journal_replay.specs.IsDue.{IsTheEntry, DeviceDecides, IsRefusalOf}
 
 -- ---- what was taken, and what was refused
-
--- the entry with this mark
-marked_as : Entry → ℕ → Entry
-marked_as e m = record e { mark = m }
-
-unmarked : (e : Entry) → e.mark ≡ 0 → e ≡ record e { mark = 0 }
-unmarked e h = ap (λ (m : ℕ). let x : Entry = record e { mark = m } in x) h
 
 -- an entry that isn't a put as the device took it is itself
 taken_same : (k : Kind) (x : Entry) → is_put (as_taken k (of_kind k x)) ≡ false → as_taken k (of_kind k x) ≡ of_kind k x
 taken_same kind.PutFault x h = absurd (false≢true (sym h))
 taken_same kind.Restore x h = absurd (false≢true (sym h))
-taken_same kind.Arrive x h = refl
-taken_same kind.Withdraw x h = refl
-taken_same kind.Start x h = refl
-taken_same kind.Read x h = refl
-taken_same kind.Work x h = refl
-taken_same kind.Write x h = refl
-taken_same kind.Check x h = refl
-taken_same kind.Raise x h = refl
-taken_same kind.Inform x h = refl
-taken_same kind.Resolve x h = refl
-taken_same kind.Handle x h = refl
-taken_same kind.Verdict x h = refl
-taken_same kind.Abort x h = refl
-taken_same kind.Undo x h = refl
-taken_same kind.End x h = refl
-taken_same kind.Leave x h = refl
+taken_same _ x h = refl
 
 -- an entry that may follow is the one that the device took, or the one that it refused
-taken_or_refused : (plan : Plan) (past : List Entry) (k : Kind) (x : Entry) → Row k plan past (of_kind k x) → (of_kind k x ≡ as_taken k (of_kind k x)) ⊎ (of_kind k x ≡ as_refused (as_taken k (of_kind k x)).kind (as_taken k (of_kind k x)))
-taken_or_refused plan past kind.PutFault x h = inr refl
+taken_or_refused : (plan : Plan) (past : List Entry) (k : Kind) (x : Entry) → Row k plan past (of_kind k x) → (of_kind k x ≡ as_taken k (of_kind k x)) ⊎ ((is_put (as_taken k (of_kind k x)) ≡ true) × (of_kind k x ≡ as_refused (as_taken k (of_kind k x)).kind (as_taken k (of_kind k x))))
+taken_or_refused plan past kind.PutFault x h = inr (refl, refl)
 taken_or_refused plan past kind.Restore x h = elim (or_cases (x.mark == 0) (x.mark == 1) h.mark) [
   | inl w ↦ inl (ap (λ (m : ℕ). let y : Entry = record x { kind = kind.Restore; mark = m } in y) (eqb-true x.mark 0 w))
-  | inr w ↦ inr (ap (λ (m : ℕ). let y : Entry = record x { kind = kind.Restore; mark = m } in y) (eqb-true x.mark 1 w))
+  | inr w ↦ inr (refl, ap (λ (m : ℕ). let y : Entry = record x { kind = kind.Restore; mark = m } in y) (eqb-true x.mark 1 w))
 ]
-taken_or_refused plan past kind.Arrive x h = inl refl
-taken_or_refused plan past kind.Withdraw x h = inl refl
-taken_or_refused plan past kind.Start x h = inl refl
-taken_or_refused plan past kind.Read x h = inl refl
-taken_or_refused plan past kind.Work x h = inl refl
-taken_or_refused plan past kind.Write x h = inl refl
-taken_or_refused plan past kind.Check x h = inl refl
-taken_or_refused plan past kind.Raise x h = inl refl
-taken_or_refused plan past kind.Inform x h = inl refl
-taken_or_refused plan past kind.Resolve x h = inl refl
-taken_or_refused plan past kind.Handle x h = inl refl
-taken_or_refused plan past kind.Verdict x h = inl refl
-taken_or_refused plan past kind.Abort x h = inl refl
-taken_or_refused plan past kind.Undo x h = inl refl
-taken_or_refused plan past kind.End x h = inl refl
-taken_or_refused plan past kind.Leave x h = inl refl
+taken_or_refused plan past _ x h = inl refl
 
 -- what is known of a put that the device refused
 record Refusal (e fault : Entry) : Type 0 where
@@ -75,22 +38,29 @@ record Refusal (e fault : Entry) : Type 0 where
 refusal : (k : Kind) (e : Entry) → is_put (of_kind k e) ≡ true → Refusal (of_kind k e) (as_refused k (of_kind k e))
 refusal kind.Write e h = record { by = refl; refused = refl; same = refl }
 refusal kind.Restore e h = record { by = refl; refused = refl; same = ap (λ (m : ℕ). let y : Entry = record e { kind = kind.Restore; mark = m } in y) (sym (eqb-true e.mark 0 h)) }
-refusal kind.Arrive e h = absurd (false≢true h)
-refusal kind.Withdraw e h = absurd (false≢true h)
-refusal kind.Start e h = absurd (false≢true h)
-refusal kind.Read e h = absurd (false≢true h)
-refusal kind.Work e h = absurd (false≢true h)
-refusal kind.Check e h = absurd (false≢true h)
-refusal kind.PutFault e h = absurd (false≢true h)
-refusal kind.Raise e h = absurd (false≢true h)
-refusal kind.Inform e h = absurd (false≢true h)
-refusal kind.Resolve e h = absurd (false≢true h)
-refusal kind.Handle e h = absurd (false≢true h)
-refusal kind.Verdict e h = absurd (false≢true h)
-refusal kind.Abort e h = absurd (false≢true h)
-refusal kind.Undo e h = absurd (false≢true h)
-refusal kind.End e h = absurd (false≢true h)
-refusal kind.Leave e h = absurd (false≢true h)
+refusal _ e h = absurd (false≢true h)
+
+-- a put that was taken wasn't refused, and the other way round
+pub put_no_fault : (k : Kind) (e : Entry) → is_put (of_kind k e) ≡ true → is_fault (of_kind k e) ≡ false
+put_no_fault kind.Write e h = refl
+put_no_fault kind.Restore e h = rw (eqb-true e.mark 0 h) refl
+put_no_fault _ e h = absurd (false≢true h)
+
+pub fault_no_put : (k : Kind) (e : Entry) → is_fault (of_kind k e) ≡ true → is_put (of_kind k e) ≡ false
+fault_no_put kind.PutFault e h = refl
+fault_no_put kind.Restore e h = rw (eqb-true e.mark 1 h) refl
+fault_no_put _ e h = absurd (false≢true h)
+
+-- the device answers for the object and the value that it was asked to put
+pub taken_arg : (k : Kind) (x : Entry) → (as_taken k x).arg ≡ x.arg
+taken_arg kind.PutFault x = refl
+taken_arg kind.Restore x = refl
+taken_arg _ x = refl
+
+pub taken_value : (k : Kind) (x : Entry) → (as_taken k x).value ≡ x.value
+taken_value kind.PutFault x = refl
+taken_value kind.Restore x = refl
+taken_value _ x = refl
 
 -- ---- what is due
 
@@ -127,7 +97,7 @@ module _ (plan : Plan) (past : List Entry) (law : DueIsRight plan past) where
             let taken = taken_due t e x h own k in
             elim (taken_or_refused plan past x.kind x k) [
               | inl w ↦ inl (w ∙ taken)
-              | inr w ↦ inr (w ∙ ap (λ (y : Entry). as_refused y.kind y) taken)
+              | inr w ↦ inr (w.1 ∙ ap (λ (y : Entry). as_refused y.kind y) taken)
             ];
         taken = put;
         refused = other.refused;
@@ -135,6 +105,17 @@ module _ (plan : Plan) (past : List Entry) (law : DueIsRight plan past) where
       }
 
   -- an entry may follow just where it is due, or is the refusal of what is due
-  pub due_follows : (e d : Entry) → Some d ≡ due_of plan past e.by → (e ≡ d) ⊎ ((is_put d ≡ true) × (e ≡ as_refused d.kind d)) → MayFollow plan past e
+  pub due_follows : (e d : Entry) → Some d ≡ due_of plan past e.by → (e ≡ d) ⊎ IsRefusalOf e d → MayFollow plan past e
   due_follows e d h (inl same) = subst (MayFollow plan past) (sym same) (law.may e.by d (sym h)).0
   due_follows e d h (inr w) = subst (MayFollow plan past) (sym w.1) (law.refused e.by d (sym h) w.0)
+
+  pub follows_due : (e d : Entry) → Some d ≡ due_of plan past e.by → MayFollow plan past e → (e ≡ d) ⊎ IsRefusalOf e d
+  follows_due e d h may =
+      let taken = taken_due e.by d e h refl may in
+      elim (taken_or_refused plan past e.kind e may) [
+        | inl w ↦ inl (w ∙ taken)
+        | inr w ↦ inr (sym (ap is_put taken) ∙ w.0, w.1 ∙ ap (λ (y : Entry). as_refused y.kind y) taken)
+      ]
+
+  pub none_follows : (e : Entry) → None ≡ due_of plan past e.by → MayFollow plan past e → ⊥
+  none_follows e h may = let found = law.only e may in cc

@@ -1,3 +1,4 @@
+pub mod Additions
 pub mod CoverSoFar
 pub mod Covers
 pub mod Devices

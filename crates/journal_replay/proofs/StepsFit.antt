@@ -23,21 +23,7 @@ given_value : (plan : Plan) (k : Kind) (e : Entry) → gives_value k ≡ true �
 given_value plan kind.Read e g h = h.0.value
 given_value plan kind.Work e g h = h.2
 given_value plan kind.Write e g h = h.0.value
-given_value plan kind.Arrive e g h = absurd (false≢true g)
-given_value plan kind.Withdraw e g h = absurd (false≢true g)
-given_value plan kind.Start e g h = absurd (false≢true g)
-given_value plan kind.Check e g h = absurd (false≢true g)
-given_value plan kind.PutFault e g h = absurd (false≢true g)
-given_value plan kind.Raise e g h = absurd (false≢true g)
-given_value plan kind.Inform e g h = absurd (false≢true g)
-given_value plan kind.Resolve e g h = absurd (false≢true g)
-given_value plan kind.Handle e g h = absurd (false≢true g)
-given_value plan kind.Verdict e g h = absurd (false≢true g)
-given_value plan kind.Abort e g h = absurd (false≢true g)
-given_value plan kind.Undo e g h = absurd (false≢true g)
-given_value plan kind.Restore e g h = absurd (false≢true g)
-given_value plan kind.End e g h = absurd (false≢true g)
-given_value plan kind.Leave e g h = absurd (false≢true g)
+given_value plan _ e g h = absurd (false≢true g)
 
 zero_is_value : IsValue (pos 0)
 zero_is_value = (omega (arith, ints), omega (arith, ints))
