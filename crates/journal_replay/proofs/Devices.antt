@@ -77,13 +77,13 @@ fault_unasked false true c m h = absurd (false≢true (sym h))
 fault_unasked false false true m h = absurd (false≢true (sym h))
 fault_unasked false false false m h = refl
 
-put_asked : (a b c m : Bool) → a || (c && m) ≡ true → a || (b || c) ≡ true
+pub put_asked : (a b c m : Bool) → a || (c && m) ≡ true → a || (b || c) ≡ true
 put_asked true b c m h = refl
 put_asked false true c m h = refl
 put_asked false false true m h = refl
 put_asked false false false m h = h
 
-fault_asked : (a b c m : Bool) → b || (c && m) ≡ true → a || (b || c) ≡ true
+pub fault_asked : (a b c m : Bool) → b || (c && m) ≡ true → a || (b || c) ≡ true
 fault_asked true b c m h = refl
 fault_asked false true c m h = refl
 fault_asked false false true m h = refl
