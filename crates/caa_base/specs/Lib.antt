@@ -5,6 +5,7 @@ pub mod Lines
 pub mod Lists
 pub mod Memory
 pub mod Mixing
+pub mod Names
 pub mod PlantState
 pub mod Reading
 pub mod Writing

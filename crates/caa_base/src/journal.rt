@@ -39,6 +39,13 @@ impl Journal {
         Ok(Journal { items })
     }
 
+    /// The journal of these entries. It takes no memory.
+    pub fn from_vec(items: Vec<Entry>) -> Self
+        ensures { result.entries ≡ items.items }
+    {
+        Journal { items }
+    }
+
     /// Adds an entry at the end, where there is room for it. It takes no memory.
     pub fn push(&mut self, entry: Entry)
         requires { length self.old.entries < self.old.room }

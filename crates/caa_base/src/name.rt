@@ -1,4 +1,6 @@
 ghost use Rattle.std.specs.Prelude.{◌≡◌, IfOk};
+ghost use Rattle.std.specs.List.{list_all};
+ghost use Rattle.caa_base.specs.Names.{is_letter, is_digit, is_name_byte, begins_with_letter, is_name};
 
 use crate::entry::OutOfMemory;
 use std::alloc::Global;
@@ -33,6 +35,49 @@ impl Name {
     {
         self.text.as_slice()
     }
+}
+
+/// The greatest length of a name.
+const MOST_NAME: usize = 32;
+
+fn is_letter(byte: u8) -> bool
+    ensures { result ≡ is_letter byte }
+{
+    (byte >= b'A' && byte <= b'Z') || (byte >= b'a' && byte <= b'z')
+}
+
+fn is_digit(byte: u8) -> bool
+    ensures { result ≡ is_digit byte }
+{
+    byte >= b'0' && byte <= b'9'
+}
+
+fn is_name_byte(byte: u8) -> bool
+    ensures { result ≡ is_name_byte byte }
+{
+    is_letter(byte) || is_digit(byte) || byte == b'_' || byte == b'-'
+}
+
+fn begins_with_letter(word: &[u8]) -> bool
+    ensures { result ≡ begins_with_letter word.now }
+{
+    match word.first() {
+        Some(byte) => is_letter(*byte),
+        None => false,
+    }
+}
+
+fn are_name_bytes(word: &[u8]) -> bool
+    ensures { result ≡ list_all is_name_byte word.now }
+{
+    word.iter().all(|byte| is_name_byte(*byte))
+}
+
+/// Whether a word is a name: 1 to 32 letters, digits, `_` and `-`, the first of them a letter.
+pub fn is_name(word: &[u8]) -> bool
+    ensures { result ≡ is_name word.now }
+{
+    begins_with_letter(word) && word.len() <= MOST_NAME && are_name_bytes(word)
 }
 
 #[cfg(test)]

@@ -6,7 +6,7 @@ use Rattle.std.proofs.lemmas.List.{append-nil}
 use Rattle.caa_base.specs.Counts.{Rose}
 use Rattle.caa_base.specs.Reading.{emptied, TookOff, TookAtMost}
 use Rattle.caa_base.specs.declared.entry.Entry.{Entry}
-use Rattle.place_plan.proofs.Words.{chosen}
+use Rattle.caa_base.proofs.ListLemmas.{chosen}
 use Rattle.caa_main.specs.declared.command.Command.{Command}
 use Rattle.caa_main.specs.declared.script.parts.Script.{Script}
 use Rattle.caa_main.specs.declared.status.Status.{Status}

@@ -10,7 +10,7 @@ use Rattle.place_plan.specs.declared.rows.RoleRow.{RoleRow}
 use Rattle.place_plan.specs.declared.rows.PlayRow.{PlayRow}
 use Rattle.place_plan.specs.declared.rows.Step.{Step}
 use Rattle.place_plan.specs.declared.rows.Step.TheVariants as step
-use Rattle.place_plan.specs.Words.{is_empty}
+use Rattle.caa_base.specs.Lists.{is_empty}
 use Rattle.place_plan.specs.Places.{no_action}
 use Rattle.place_plan.specs.DraftRules.{role_fits, is_rising, all_below, all_differ, step_in_range, role_in_range, step_held, role_held}
 use Rattle.place_plan.specs.Built.{is_built_step, is_built_role}

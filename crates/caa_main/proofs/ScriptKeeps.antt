@@ -9,9 +9,9 @@ use Rattle.place_plan.specs.declared.rows.ObjectRow.{ObjectRow}
 use Rattle.place_plan.specs.declared.rows.ActionRow.{ActionRow}
 use Rattle.place_plan.specs.declared.rows.PlayRow.{PlayRow}
 use Rattle.place_plan.specs.declared.rows.Step.TheVariants as step
-use Rattle.place_plan.specs.Words.{is_empty}
-use Rattle.place_plan.specs.DraftRules.{is_value}
-use Rattle.place_plan.proofs.BuiltDrafts.{empty_is}
+use Rattle.caa_base.specs.Lists.{is_empty}
+use Rattle.caa_base.specs.Limits.{is_value}
+use Rattle.caa_base.proofs.ListLemmas.{empty_is}
 use Rattle.caa_main.specs.declared.script.form.Form.TheVariants as form
 use Rattle.caa_main.specs.declared.script.form.Section.{Section}
 use Rattle.caa_main.specs.declared.script.form.Section.TheVariants as section

@@ -6,7 +6,7 @@ use Rattle.std.proofs.lemmas.List.Sums.{passes_at_first}
 use Rattle.std.proofs.lemmas.Slice.Eq.{bytes_eq-Decides}
 use Rattle.place_plan.specs.declared.rows.ObjectRow.{ObjectRow}
 use Rattle.place_plan.specs.declared.rows.ActionRow.{ActionRow}
-use Rattle.place_plan.specs.Words.{member}
+use Rattle.caa_base.specs.Lists.{member}
 use Rattle.place_plan.specs.DraftRules.{is_rising_above, is_rising, all_below, all_differ}
 use Rattle.caa_main.specs.ScriptChecks.{is_among, number_of, has_twice, is_object, object_number, is_action, action_number}
 use Rattle.caa_main.specs.ScriptSaid.{named_from}

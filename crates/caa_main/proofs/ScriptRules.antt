@@ -10,7 +10,7 @@ use Rattle.place_plan.specs.declared.rows.RoleRow.{RoleRow}
 use Rattle.place_plan.specs.declared.rows.NestRow.{NestRow}
 use Rattle.place_plan.specs.declared.rows.PlayRow.{PlayRow}
 use Rattle.place_plan.specs.declared.rows.PlaceRow.{PlaceRow}
-use Rattle.place_plan.specs.Words.{is_empty}
+use Rattle.caa_base.specs.Lists.{is_empty}
 use Rattle.place_plan.specs.Places.{no_action, no_graph}
 use Rattle.place_plan.specs.Unfolding.{place_of}
 use Rattle.place_plan.specs.Sizes.{HasSizes, row_fits}

@@ -4,8 +4,8 @@ use Rattle.std.specs.Bool.{⊤}
 use Rattle.std.specs.List.{list_all}
 use Rattle.std.proofs.lemmas.Int.{ints}
 use Rattle.std.proofs.lemmas.Bool.{leb-true}
-use Rattle.place_plan.specs.Words.{is_empty}
-use Rattle.place_plan.specs.DraftRules.{is_value}
+use Rattle.caa_base.specs.Lists.{is_empty}
+use Rattle.caa_base.specs.Limits.{is_value}
 use Rattle.caa_main.specs.declared.script.keyword.Keyword.{Keyword}
 use Rattle.caa_main.specs.declared.script.keyword.Keyword.TheVariants as keyword
 use Rattle.caa_main.specs.declared.script.form.Form.{Form}

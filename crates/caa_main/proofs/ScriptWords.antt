@@ -3,7 +3,7 @@ use Rattle.std.proofs.Common.{◌≡◌, ℕ, ◌==◌, Bool, true, not, ◌||�
 use Rattle.std.specs.List.{list_all, slice_split}
 use Rattle.std.proofs.Math.Bool.{or-false}
 use Rattle.std.proofs.lemmas.Bool.{and_parts, not-true}
-use Rattle.place_plan.specs.Words.{is_empty}
+use Rattle.caa_base.specs.Lists.{is_empty}
 use Rattle.caa_main.specs.ScriptLines.{is_blank, words_of}
 
 -- without tabs and carriage returns the blanks are the spaces

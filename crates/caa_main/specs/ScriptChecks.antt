@@ -2,7 +2,7 @@
 use Rattle.std.specs.Prelude.{ℕ, ◌==◌, nat_lt, nat_le, Bool, true, false, not, ◌&&◌, ◌||◌, List, [], ◌∷◌, length, count_by, position, Option, is_some, is_none, unwrap_or, bytes_eq, slice_index_or}
 use Rattle.std.specs.List.{list_all, list_any}
 use Rattle.cover_table.specs.Cover.{most_exceptions}
-use Rattle.place_plan.specs.Words.{member, is_empty}
+use Rattle.caa_base.specs.Lists.{member, is_empty}
 use Rattle.place_plan.specs.Places.{no_action}
 use Rattle.place_plan.specs.declared.rows.ObjectRow.{ObjectRow}
 use Rattle.place_plan.specs.declared.rows.ActionRow.{ActionRow}

@@ -1,7 +1,7 @@
 -- How the bytes of a script are cut into lines, and a line into words.
 use Rattle.std.specs.Prelude.{ℕ, ◌==◌, if◌then◌else◌, Bool, true, not, ◌&&◌, ◌||◌, List, [], ◌∷◌, filter}
 use Rattle.std.specs.List.{list_all, slice_split}
-use Rattle.place_plan.specs.Words.{is_empty}
+use Rattle.caa_base.specs.Lists.{is_empty}
 
 -- a script has at most so many bytes
 abbrev pub most_bytes : ℕ

@@ -1,7 +1,7 @@
 -- The words of a script: names, numbers, and the words that begin lines.
 use Rattle.std.specs.Prelude.{ℕ, ℤ, pos, negsuc, zero, suc, ◌+◌, ◌-◌, ◌*◌, ◌==◌, nat_le, if◌then◌else◌, Bool, false, not, ◌&&◌, ◌||◌, List, [], ◌∷◌, length, Option, Some, None, option_map, bytes_eq, codes}
 use Rattle.std.specs.List.{list_all}
-use Rattle.place_plan.specs.Words.{is_empty}
+use Rattle.caa_base.specs.Lists.{is_empty}
 use Rattle.caa_main.specs.declared.script.keyword.Keyword.{Keyword}
 use Rattle.caa_main.specs.declared.script.keyword.Keyword.TheVariants as keyword
 

@@ -1,11 +1,11 @@
 -- What every legal past of a plan keeps, besides where its participants are: all laws are drawn from these four records.
-use Rattle.std.proofs.Common.{◌≡◌, ℕ, ◌<◌, ◌+◌, ◌⊎◌, Bool, true, false, not, ◌||◌, List, Option, Some, None, count_by, slice_get, is_none}
+use Rattle.std.proofs.Common.{◌≡◌, ℕ, ◌<◌, ◌+◌, ◌⊎◌, true, false, not, ◌||◌, List, Some, None, count_by, slice_get, is_none}
 use Rattle.cover_table.specs.Cover.{IsLeastCover}
 use Rattle.caa_base.specs.declared.entry.Entry.{Entry}
 use Rattle.caa_base.specs.declared.entry.Kind.TheVariants as kind
 use Rattle.place_plan.specs.declared.rows.Step.TheVariants as step
 use Rattle.place_plan.specs.PlanValue.{Plan}
-use Rattle.place_plan.specs.Words.{member}
+use Rattle.caa_base.specs.Lists.{member}
 use Rattle.place_plan.specs.Places.{around, parent, roles_of, alternates_of, nest_number, body_of, internal_of, handler_of}
 use Rattle.place_plan.specs.Entries.{has, has_by}
 use Rattle.place_plan.specs.Whereabouts.{inside, stays, has_started, has_ended, is_undoing, is_left_in_silence}

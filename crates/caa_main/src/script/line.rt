@@ -1,5 +1,5 @@
 ghost use Rattle.std.specs.Prelude.{◌≡◌, map, Some, None, IfOk, IfErr, OnOk, true, false, option_map, ◌==◌, ◌||◌, not};
-ghost use Rattle.place_plan.specs.Words.{is_empty};
+ghost use Rattle.caa_base.specs.Lists.{is_empty};
 ghost use Rattle.std.specs.List.{slice_split, list_all};
 ghost use Rattle.caa_main.specs.ScriptLines.{is_tidy, words_of};
 ghost use Rattle.caa_main.specs.ScriptText.{is_name};

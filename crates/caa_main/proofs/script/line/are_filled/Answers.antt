@@ -2,7 +2,7 @@ use Rattle.std.proofs.Common.{not, ◌∙◌, sym, rules}
 use borrow.Author.Tests.{tests}
 use Rattle.std.proofs.lemmas.Iterator.{YieldsList-from_slice}
 use Rattle.std.proofs.lemmas.Iterator.Search.{all_from_yields_List}
-use Rattle.place_plan.specs.Words.{is_empty}
+use Rattle.caa_base.specs.Lists.{is_empty}
 use Rattle.std.proofs.lemmas.List.Folds.{list_all-map}
 use Rattle.caa_main.proofs.script.line.are_filled.Goals as goal
 

@@ -1,6 +1,6 @@
 use Rattle.std.proofs.Common.{not, map, ◌∙◌, sym, ap}
 use Rattle.std.specs.List.{list_all}
-use Rattle.place_plan.specs.Words.{is_empty}
+use Rattle.caa_base.specs.Lists.{is_empty}
 use Rattle.caa_main.proofs.ScriptWords.{words_of-tidy}
 use Rattle.caa_main.proofs.script.line.tidy_words.Goals as goal
 

@@ -1,0 +1,21 @@
+-- Which words are names.
+use Rattle.std.specs.Prelude.{ℕ, ◌==◌, nat_le, Bool, false, ◌&&◌, ◌||◌, List, [], ◌∷◌, length}
+use Rattle.std.specs.List.{list_all}
+
+abbrev pub is_letter : ℕ → Bool
+is_letter b = (nat_le 65 b && nat_le b 90) || (nat_le 97 b && nat_le b 122)
+
+abbrev pub is_digit : ℕ → Bool
+is_digit b = nat_le 48 b && nat_le b 57
+
+-- letters, digits, `_` and `-`
+abbrev pub is_name_byte : ℕ → Bool
+is_name_byte b = is_letter b || (is_digit b || ((b == 95) || (b == 45)))
+
+abbrev pub begins_with_letter : List ℕ → Bool
+begins_with_letter [] = false
+begins_with_letter (b ∷ rest) = is_letter b
+
+-- a name has 1 to 32 such characters, the first a letter
+abbrev pub is_name : List ℕ → Bool
+is_name word = begins_with_letter word && (nat_le (length word) 32 && list_all is_name_byte word)

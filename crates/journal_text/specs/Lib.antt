@@ -1,0 +1,4 @@
+pub mod Looks
+pub mod Naming
+pub mod Text
+pub mod Values

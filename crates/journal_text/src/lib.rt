@@ -1,0 +1,6 @@
+//! The text of a journal, both ways, and what watchers saw while it was made.
+#![tactic(auto)]
+
+pub mod seens;
+mod values;
+pub mod writing;

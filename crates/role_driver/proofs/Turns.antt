@@ -1,0 +1,30 @@
+-- Going round from any participant, each one is asked.
+use Rattle.std.proofs.Common.{◌≡◌, ℕ, ◌+◌, ◌-◌, ◌*◌, ◌%◌, ◌/◌, ◌<◌, List, length, arith, inl, inr, sym, ap, ◌∙◌}
+use Rattle.std.proofs.lemmas.Bool.{cases_lt}
+use Rattle.std.proofs.lemmas.Nat.{mod-mul-add}
+use Rattle.std.proofs.Math.Nat.{mod-lt, mod-add-div'}
+use Rattle.caa_base.specs.declared.entry.Entry.{Entry}
+use Rattle.place_plan.specs.PlanValue.{Plan}
+use Rattle.journal_laws.specs.Laws.{HasEntry}
+use Rattle.place_plan.specs.Journals.{Silent}
+use Rattle.role_driver.specs.Schedule.{asked}
+
+-- from any number, going round n, one comes to each number below n
+each_comes : (s n t : ℕ) → t < n → (i : ℕ) × (i < n) × ((s + i) % n ≡ t)
+each_comes s n t l =
+    let whole = mod-add-div' s n in
+    let small : s % n < n = mod-lt s (omega arith) in
+    elim (cases_lt t (s % n)) [
+      | inl h ↦
+          let round : s + (t + n - s % n) ≡ (s / n + 1) * n + t = omega (arith, whole) in
+          (t + n - s % n, omega arith, ap (λ x. x % n) round ∙ mod-mul-add (s / n + 1) n t l)
+      | inr h ↦
+          let round : s + (t - s % n) ≡ s / n * n + t = omega (arith, whole) in
+          (t - s % n, omega arith, ap (λ x. x % n) round ∙ mod-mul-add (s / n) n t l)
+    ]
+
+-- where each participant that is asked in a round is silent, none has an entry
+pub round_silent : (plan : Plan) (past : List Entry) (first : ℕ) → ((i : ℕ) → i < length plan.participants → Silent plan past (asked plan first i)) → HasEntry plan past → ⊥
+round_silent plan past first h has =
+    let i = each_comes first (length plan.participants) has.entry.by has.known in
+    h i.0 i.1 has.entry (sym i.2) has.may

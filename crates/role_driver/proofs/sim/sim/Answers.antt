@@ -1,0 +1,37 @@
+use Rattle.std.proofs.Common.{◌≡◌, ◌∙◌, ◌/◌, suc, arith, ap, refl, sym, subst, length}
+use Rattle.caa_base.specs.Mixing.{next_state, state_after}
+use Rattle.role_driver.specs.Schedule.{TakesTurn, first_of_seed}
+use Rattle.role_driver.proofs.Grown.{none_yet, one_more}
+use Rattle.role_driver.proofs.sim.sim.Goals as goal
+
+pub loop-state-init : goal.loop-state-init
+unfolding state_after
+loop-state-init g c =
+    let none = none_yet (first_of_seed c.args.seed) (g.M.Machine.plan_of c.args.machine) (g.M.Machine.journal_of c.args.machine) in
+    record {
+      plan = refl;
+      base = refl;
+      count = omega arith;
+      small = c.requires;
+      scheduled = (none.0, sym (ap (λ n. state_after c.args.seed n) none.1));
+    }
+
+pub loop-state-preserved : goal.loop-state-preserved
+unfolding state_after
+loop-state-preserved g c =
+    let kept = c.loop-state.invariant in
+    let plan = g.M.Machine.plan_of c.args.machine in
+    let first = g.M.Machine.journal_of c.args.machine in
+    let old = g.M.Machine.journal_of c.loop-state.machine in
+    let new = g.M.Machine.journal_of c.take_turn.new.machine in
+    let state = c.next_state-state.result in
+    let mixed : state ≡ state_after c.args.seed (suc (length kept.scheduled.0.added)) = c.next_state-state.ensures.value ∙ ap next_state kept.scheduled.1 in
+    let turn = subst (λ p. TakesTurn p old new (state / 65536)) kept.plan c.take_turn.ensures.turn in
+    let more = one_more (first_of_seed c.args.seed) plan first old new kept.scheduled.0 (state / 65536) (ap (λ s. s / 65536) mixed) turn in
+    record {
+      plan = c.take_turn.ensures.plan ∙ kept.plan;
+      base = c.take_turn.ensures.base ∙ kept.base;
+      count = omega (arith, kept.count, c.take_turn.ensures.count);
+      small = c.next_state-state.ensures.small;
+      scheduled = (more.0, mixed ∙ ap (λ n. state_after c.args.seed n) (sym more.1));
+    }

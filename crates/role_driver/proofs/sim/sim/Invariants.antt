@@ -1,0 +1,17 @@
+use Rattle.std.proofs.Common.{◌≡◌, ◌<◌, ◌≤◌, ◌-◌, ◌^◌, length}
+use Rattle.caa_base.specs.Mixing.{state_after}
+use Rattle.place_plan.specs.Bound.{bound}
+use Rattle.role_driver.specs.Schedule.{GrewBy, first_of_seed}
+use Rattle.role_driver.proofs.sim.sim.Given as goal
+
+abbrev pub invariant-loop-state : goal.invariant-loop-state
+invariant-loop-state g l = record {
+  plan : g.M.Machine.plan_of l.machine ≡ g.M.Machine.plan_of l.fn.machine;
+  base : g.M.Machine.base_of l.machine ≡ g.M.Machine.base_of l.fn.machine;
+  count : g.M.Machine.count_of l.fn.machine ≤ g.M.Machine.count_of l.machine;
+  small : l.state < 2 ^ 31;
+  scheduled : (s : GrewBy (first_of_seed l.seed) (g.M.Machine.plan_of l.fn.machine) (g.M.Machine.journal_of l.fn.machine) (g.M.Machine.journal_of l.machine)) × (l.state ≡ state_after l.seed (length s.added));
+}
+
+abbrev pub decreases-loop-state : goal.decreases-loop-state
+decreases-loop-state g l = bound (g.M.Machine.plan_of l.machine) - length (g.M.Machine.journal_of l.machine)

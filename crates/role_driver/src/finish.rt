@@ -1,0 +1,27 @@
+ghost use Rattle.std.specs.Prelude.{◌≡◌, ◌≤◌};
+ghost use Rattle.place_plan.specs.Journals.{IsLegal, IsComplete};
+ghost use Rattle.role_driver.specs.Schedule.{GrewBy, always_least};
+
+use crate::turn::take_turn;
+use caa_base::gate::Gate;
+use journal_laws::is_bounded;
+use place_plan::machine::Machine;
+
+/// Plays a machine to its end, at each turn the least participant that has an entry. It takes no memory.
+///
+/// The gate is called before each piece of mixing work, with who does it and where. What the machine did before is kept, and its
+/// journal is what it had with the new entries after it.
+pub fn finish<M: Machine, G: Gate>(mut machine: M, gate: &G) -> M
+    ensures plan { M.plan_of result ≡ M.plan_of machine }
+    ensures base { M.base_of result ≡ M.base_of machine }
+    ensures count { M.count_of machine ≤ M.count_of result }
+    ensures legal { IsLegal (M.plan_of machine) (M.journal_of result) }
+    ensures complete { IsComplete (M.plan_of machine) (M.journal_of result) }
+    ensures least_first { GrewBy always_least (M.plan_of machine) (M.journal_of machine) (M.journal_of result) }
+{
+    while !machine.complete() {
+        take_turn(&mut machine, 0, gate);
+        is_bounded(machine.plan());
+    }
+    machine
+}
