@@ -1,10 +1,10 @@
 -- The least cover of a list, by joining its numbers one after another.
-use Rattle.std.proofs.Common.{◌≡◌, ℕ, ◌<◌, Bool, true, ◌&&◌, List, [], ◌∷◌, Option, Some, None, MatchOption, refl, subst, ap, sym}
+use Rattle.std.proofs.Common.{◌≡◌, ℕ, ◌<◌, Bool, true, ◌&&◌, List, [], ◌∷◌, Option, Some, None, refl, subst, sym}
 use Rattle.std.specs.List.{list_all, All}
 use Rattle.std.proofs.lemmas.Bool.{and_parts, and_from}
 use Rattle.std.proofs.lemmas.List.Elements.{All-head, All-tail}
 use Rattle.cover_table.specs.Cover.{CoverOrder, covers, covers_each, IsLeastCover, IsSound}
-use Rattle.journal_replay.specs.Options.{listed}
+use Rattle.journal_replay.specs.Joining.{listed, IsCoverOf}
 
 module _ (order : CoverOrder) (sound : IsSound order) where
   -- what covers a number covers all that it covers
@@ -30,6 +30,6 @@ module _ (order : CoverOrder) (sound : IsSound order) where
       }
 
   -- the cover so far, joined with one more number
-  pub joined_more : (x m : ℕ) (cover : Option ℕ) (xs : List ℕ) → All (λ x. x < order.count) xs → MatchOption cover (xs ≡ []) (IsLeastCover order xs) → IsLeastCover order (x ∷ listed cover) m → IsLeastCover order (x ∷ xs) m
+  pub joined_more : (x m : ℕ) (cover : Option ℕ) (xs : List ℕ) → All (λ x. x < order.count) xs → IsCoverOf order xs cover → IsLeastCover order (x ∷ listed cover) m → IsLeastCover order (x ∷ xs) m
   joined_more x m None xs fit none least = subst (λ (l : List ℕ). IsLeastCover order (x ∷ l) m) (sym none) least
-  joined_more x m (Some c) xs fit former least = least_more x c m xs fit former least
+  joined_more x m (Some c) xs fit former least = least_more x c m xs fit former.1 least

@@ -1,7 +1,10 @@
+pub mod Additions
 pub mod CoverSoFar
 pub mod Covers
 pub mod Devices
+pub mod DueEntries
 pub mod Last
 pub mod Plays
 pub mod Prefixes
-pub mod WorkAgain
+pub mod StepsFit
+pub mod WorkNext

@@ -1,10 +1,10 @@
-ghost use Rattle.std.specs.Prelude.{◌≡◌, ◌<◌, ◌==◌, ◌∷◌, [], reverse, Option, MatchOption, IfSome};
+ghost use Rattle.std.specs.Prelude.{◌≡◌, ◌<◌, ◌∷◌, [], reverse, IfSome};
 ghost use Rattle.cover_table.specs.Cover.{IsLeastCover};
 ghost use Rattle.place_plan.specs.Places.{around, internal_of};
 ghost use Rattle.place_plan.specs.Journals.{LegalPast};
 ghost use Rattle.place_plan.specs.Entries.{is_in, is_by};
 ghost use Rattle.place_plan.specs.Raising.{has_handled, carries_into, raises_in, exceptions_raised, is_raised, is_doomed, halts_in, is_halted, all_are_halted, exception_resolved, exception_handled};
-ghost use Rattle.journal_replay.specs.Options.{listed};
+ghost use Rattle.journal_replay.specs.Joining.{listed, IsCoverOf};
 
 use crate::look_back::entries::{has_by, is_by, is_in};
 use caa_base::entry::{Entry, Exception, Kind, Participant, Place};
@@ -74,7 +74,7 @@ pub fn joined(graph: &Graph, cover: Option<Exception>, exception: Exception) -> 
 /// The least cover of all that was raised in a place, if anything was.
 pub fn least_raised(plan: &Plan, journal: &[Entry], place: Place) -> Option<Exception>
     requires { LegalPast plan.now (reverse journal.now) }
-    ensures { MatchOption result (exceptions_raised plan.now (reverse journal.now) place ≡ []) (IsLeastCover (internal_of plan.now place) (exceptions_raised plan.now (reverse journal.now) place)) }
+    ensures { IsCoverOf (internal_of plan.now place) (exceptions_raised plan.now (reverse journal.now) place) result }
 {
     plan.is_closed();
     let mut cover = None;
