@@ -179,7 +179,7 @@ fn leave_fields(plan: &Plan, outer: Option<Place>, rest: &[u8]) -> Fields
 }
 
 /// The participant of this name, or a number past the last one.
-fn participant_in(plan: &Plan, word: &[u8]) -> Participant
+pub fn participant_in(plan: &Plan, word: &[u8]) -> Participant
     ensures { result ≡ participant_in plan.now word.now }
 {
     for by in 0..plan.participants() {
@@ -191,7 +191,7 @@ fn participant_in(plan: &Plan, word: &[u8]) -> Participant
 }
 
 /// The object of this name, or a number past the last one.
-fn object_in(plan: &Plan, word: &[u8]) -> Object
+pub fn object_in(plan: &Plan, word: &[u8]) -> Object
     ensures { result ≡ object_in plan.now word.now }
 {
     for object in 0..plan.objects() {
@@ -203,7 +203,7 @@ fn object_in(plan: &Plan, word: &[u8]) -> Object
 }
 
 /// The exception of this name in a graph, or a number past the last one.
-fn exception_in(plan: &Plan, graph: u32, word: &[u8]) -> Exception
+pub fn exception_in(plan: &Plan, graph: u32, word: &[u8]) -> Exception
     ensures { result ≡ exception_in plan.now graph word.now }
 {
     for exception in 0..plan.exceptions_of(graph) {

@@ -2,7 +2,7 @@
 #![tactic(auto)]
 
 mod entry_line;
-
+pub mod naming;
 pub mod reading;
 pub mod right;
 mod seen_line;
