@@ -23,3 +23,4 @@ pub mod UndoAsked
 pub mod Withdrawn
 pub mod Drafts
 pub mod Spoiled
+pub mod Texts
