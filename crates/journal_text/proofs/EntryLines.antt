@@ -78,8 +78,8 @@ object-read plan o v mark ws more h l fit =
     let one = first-word (object_name plan o) (signed_decimal v ∷ ws) more (names.whole o l) in
     let two = second-word (object_name plan o) (signed_decimal v) ws more (names.whole o l) (whole-signed v fit) in
     fields-same _ o mark mark _ v
-      (ap (object_in plan) one ∙ names.own o l) refl
-      (ap value_in two ∙ value_in-signed v fit)
+    (ap (object_in plan) one ∙ names.own o l) refl
+    (ap value_in two ∙ value_in-signed v fit)
 
 exception-read : (plan : Plan) (g x : ℕ) (more : List ℕ) → is_well_named plan ≡ true → x < (graph_at plan g).count → exception_in plan g (next_word (rest_of (exception_name plan g x ∷ []) more)) ≡ x
 exception-read plan g x more h l =
@@ -105,8 +105,8 @@ work-read e more arg mark fit =
     let one = first-word (decimal e.arg) (signed_decimal e.value ∷ []) more (whole-decimal e.arg (omega arith)) in
     let two = second-word (decimal e.arg) (signed_decimal e.value) [] more (whole-decimal e.arg (omega arith)) (whole-signed e.value fit) in
     fields-same _ e.arg 0 e.mark _ e.value
-      (ap (number_in 1000000) one ∙ number_in-decimal 1000000 e.arg arg (omega arith)) (sym mark)
-      (ap value_in two ∙ value_in-signed e.value fit)
+    (ap (number_in 1000000) one ∙ number_in-decimal 1000000 e.arg arg (omega arith)) (sym mark)
+    (ap value_in two ∙ value_in-signed e.value fit)
 
 -- an exception that may be named, at mark 1
 named-read : (plan : Plan) (g : ℕ) (e : Entry) (m : ℕ) (more : List ℕ) → is_well_named plan ≡ true → MayShowException (graph_at plan g) 1 2 e → e.mark ≡ m
@@ -363,9 +363,9 @@ line-is first words h k = record { body = first ++ spaced words; unbroken = unbr
 pub entry_line-is : (plan : Plan) (e : Entry) → is_well_named plan ≡ true → length plan.places < 2 ^ 32 → IsWellFormed plan e → IsLine (entry_line plan e)
 entry_line-is plan e h small fit =
     line-is (kind_word e.kind) (decimal e.place ∷ participant_name plan e.by ∷ field_words e.kind plan e) (kind-whole e.kind)
-      (and_from _ _ (whole-decimal e.place (omega (arith, fit.place))) (and_from _ _ ((participants-named plan h).whole e.by fit.by) (fields-whole e.kind plan e h fit.fields)))
+    (and_from _ _ (whole-decimal e.place (omega (arith, fit.place))) (and_from _ _ ((participants-named plan h).whole e.by fit.by) (fields-whole e.kind plan e h fit.fields)))
 
 pub seen_line-is : (plan : Plan) (s : Seen) → is_well_named plan ≡ true → IsOfPlan plan s → IsLine (seen_line plan s)
 seen_line-is plan s h fit =
     line-is (codes "seen") (object_name plan (watched_object plan s.watch) ∷ decimal s.ends ∷ signed_decimal s.value ∷ []) refl
-      (all-three (object_name plan (watched_object plan s.watch)) (decimal s.ends) (signed_decimal s.value) ((watches-named plan h).whole s.watch fit.watch) (whole-decimal s.ends fit.ends) (whole-signed s.value fit.value))
+    (all-three (object_name plan (watched_object plan s.watch)) (decimal s.ends) (signed_decimal s.value) ((watches-named plan h).whole s.watch fit.watch) (whole-decimal s.ends fit.ends) (whole-signed s.value fit.value))

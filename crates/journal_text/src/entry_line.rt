@@ -50,7 +50,10 @@ fn fields_in(kind: Kind, plan: &Plan, place: Place, rest: &[u8]) -> Fields
         Kind::Read | Kind::Write | Kind::PutFault => object_fields(plan, rest, 0),
         Kind::Work => work_fields(rest),
         Kind::Raise | Kind::Resolve | Kind::Handle => {
-            naming(0, exception_in(plan, plan.internal_number(place), next_word(rest).0))
+            naming(
+                0,
+                exception_in(plan, plan.internal_number(place), next_word(rest).0),
+            )
         },
         Kind::Verdict => verdict_fields(plan, plan.interface_number(place), rest),
         Kind::Abort => named_fields(plan, plan.interface_number(place), rest),

@@ -15,7 +15,10 @@ use place_plan::plan::Plan;
 pub fn is_well_named(plan: &Plan) -> bool
     ensures { result ≡ is_well_named plan.now }
 {
-    has_named_participants(plan) && has_named_objects(plan) && has_named_graphs(plan) && has_own_watches(plan)
+    has_named_participants(plan)
+        && has_named_objects(plan)
+        && has_named_graphs(plan)
+        && has_own_watches(plan)
 }
 
 /// Whether the participants have names that differ.

@@ -254,7 +254,10 @@ fn names_the_changed_line(rt: HostRuntime) -> Result<(), Fail> {
     for (number, line) in changes {
         let text = with_line(alloc, number, line)?;
         let line = number as u64;
-        assert_eq!(rt; refusal(alloc, &plan, &text, 10), Some(TextError::BadLine { line }));
+        assert_eq!(rt;
+            refusal(alloc, &plan, &text, 10),
+            Some(TextError::BadLine { line })
+        );
     }
     let text = with_line(alloc, 7, "read 0 ann x 7")?;
     assert_eq!(rt; refusal(alloc, &plan, &text, 10), None);
@@ -267,11 +270,26 @@ fn names_the_line_that_is_cut_or_past_the_limit(rt: HostRuntime) -> Result<(), F
     let plan = plan(&rt, alloc)?;
     let text = FIRST_PATH.as_bytes();
     let cut = &text[..text.len() - 1];
-    assert_eq!(rt; refusal(alloc, &plan, cut, 10), Some(TextError::BadLine { line: 14 }));
-    assert_eq!(rt; refusal(alloc, &plan, b"", 10), Some(TextError::BadLine { line: 1 }));
-    assert_eq!(rt; refusal(alloc, &plan, b"journal\n", 10), Some(TextError::BadLine { line: 2 }));
-    assert_eq!(rt; refusal(alloc, &plan, text, 9), Some(TextError::TooMany { line: 11 }));
-    assert_eq!(rt; refusal(alloc, &plan, text, 0), Some(TextError::TooMany { line: 2 }));
+    assert_eq!(rt;
+        refusal(alloc, &plan, cut, 10),
+        Some(TextError::BadLine { line: 14 })
+    );
+    assert_eq!(rt;
+        refusal(alloc, &plan, b"", 10),
+        Some(TextError::BadLine { line: 1 })
+    );
+    assert_eq!(rt;
+        refusal(alloc, &plan, b"journal\n", 10),
+        Some(TextError::BadLine { line: 2 })
+    );
+    assert_eq!(rt;
+        refusal(alloc, &plan, text, 9),
+        Some(TextError::TooMany { line: 11 })
+    );
+    assert_eq!(rt;
+        refusal(alloc, &plan, text, 0),
+        Some(TextError::TooMany { line: 2 })
+    );
     Ok(())
 }
 
