@@ -19,7 +19,7 @@ use std::alloc::Global;
 use std::process::Abort;
 use std::test::Fail;
 
-fn hall_of<P: Plant>(alloc: Global, plan: Plan, plant: P) -> Result<PlainHall<P>, Fail> {
+fn hall_of<P: Plant + Drop>(alloc: Global, plan: Plan, plant: P) -> Result<PlainHall<P>, Fail> {
     match PlainHall::open(alloc, plan, plant) {
         Ok(hall) => Ok(hall),
         Err(error) => Err(Fail::from(error.cause)),
@@ -48,9 +48,9 @@ fn makes<M: Machine>(rt: &impl Abort, machine: &mut M, entries: &[Entry]) {
 }
 
 /// A hall over this plan makes the entries, and the audit finds them legal and complete.
-fn is_played(rt: HostRuntime, plan: Plan, entries: &[Entry]) -> Result<(), Fail> {
-    let mut hall = hall_of(rt.alloc(), plan, SurePlant::new())?;
-    makes(&rt, &mut hall, entries);
+fn is_played(rt: &impl Abort, alloc: Global, plan: Plan, entries: &[Entry]) -> Result<(), Fail> {
+    let mut hall = hall_of(alloc, plan, SurePlant::new())?;
+    makes(rt, &mut hall, entries);
     let (plan, plant, journal) = hall.into_parts();
     assert_eq!(rt; plant.faults(), 0);
     assert_eq!(rt; audit(&plan, &journal), Ok(()));
@@ -59,32 +59,32 @@ fn is_played(rt: HostRuntime, plan: Plan, entries: &[Entry]) -> Result<(), Fail>
 
 #[test]
 fn plays_the_first_path(rt: HostRuntime) -> Result<(), Fail> {
-    is_played(rt, plans::look(rt.alloc())?, &journals::look())
+    is_played(&rt, rt.alloc(), plans::look(rt.alloc())?, &journals::look())
 }
 
 #[test]
 fn informs_who_had_given_its_verdict(rt: HostRuntime) -> Result<(), Fail> {
-    is_played(rt, plans::informed_at_exit(rt.alloc())?, &journals::informed_at_exit())
+    is_played(&rt, rt.alloc(), plans::informed_at_exit(rt.alloc())?, &journals::informed_at_exit())
 }
 
 #[test]
 fn lets_who_is_still_inside_leave(rt: HostRuntime) -> Result<(), Fail> {
-    is_played(rt, plans::ended_not_all_left(rt.alloc())?, &journals::ended_not_all_left())
+    is_played(&rt, rt.alloc(), plans::ended_not_all_left(rt.alloc())?, &journals::ended_not_all_left())
 }
 
 #[test]
 fn withdraws_from_a_doomed_place(rt: HostRuntime) -> Result<(), Fail> {
-    is_played(rt, plans::withdrawn(rt.alloc())?, &journals::withdrawn())
+    is_played(&rt, rt.alloc(), plans::withdrawn(rt.alloc())?, &journals::withdrawn())
 }
 
 #[test]
 fn goes_on_with_an_undo(rt: HostRuntime) -> Result<(), Fail> {
-    is_played(rt, plans::raised_while_undoing(rt.alloc())?, &journals::raised_while_undoing())
+    is_played(&rt, rt.alloc(), plans::raised_while_undoing(rt.alloc())?, &journals::raised_while_undoing())
 }
 
 #[test]
 fn aborts_the_innermost_first(rt: HostRuntime) -> Result<(), Fail> {
-    is_played(rt, plans::three_levels(rt.alloc())?, &journals::three_levels())
+    is_played(&rt, rt.alloc(), plans::three_levels(rt.alloc())?, &journals::three_levels())
 }
 
 // ---- spoiled journals
@@ -199,9 +199,9 @@ fn mark_of(journal: &Journal, kind: Kind, place: Place) -> Option<u32> {
 }
 
 /// Plays the action whose inner action commits and whose outer one is undone.
-fn play_drilled(rt: HostRuntime, drills: &[Drill]) -> Result<Outcome, Fail> {
-    let plan = plans::inner_committed_outer_undone(rt.alloc(), drills)?;
-    let mut hall = hall_of(rt.alloc(), plan, MemPlant::new(false))?;
+fn play_drilled(rt: &impl Abort, alloc: Global, drills: &[Drill]) -> Result<Outcome, Fail> {
+    let plan = plans::inner_committed_outer_undone(alloc, drills)?;
+    let mut hall = hall_of(alloc, plan, MemPlant::new(false))?;
     for _ in 0..64 {
         assert!(rt; hall.plan().participants() == 1);
         if let Answer::Over = hall.next(0, None) {
@@ -223,7 +223,7 @@ fn play_drilled(rt: HostRuntime, drills: &[Drill]) -> Result<Outcome, Fail> {
 }
 
 /// The outcome of so many entries.
-fn outcome(entries: u64, restores: [Option<u32>; 2], ends: [u32; 2], value: i64) -> Outcome {
+fn comes_to(entries: u64, restores: [Option<u32>; 2], ends: [u32; 2], value: i64) -> Outcome {
     Outcome {
         entries,
         restores,
@@ -234,17 +234,18 @@ fn outcome(entries: u64, restores: [Option<u32>; 2], ends: [u32; 2], value: i64)
 
 #[test]
 fn each_failing_call_has_its_place(rt: HostRuntime) -> Result<(), Fail> {
+    let alloc = rt.alloc();
     let first = Drill { object: X, nth: 1 };
     let second = Drill { object: X, nth: 2 };
     let third = Drill { object: X, nth: 3 };
     let well = Some(0);
     let failed = Some(1);
-    assert_eq!(rt; play_drilled(rt, &[])?, outcome(13, [None, well], [2, 0], 1));
-    assert_eq!(rt; play_drilled(rt, &[first])?, outcome(17, [well, well], [2, 2], 1));
-    assert_eq!(rt; play_drilled(rt, &[second])?, outcome(13, [None, failed], [4, 0], 5));
-    assert_eq!(rt; play_drilled(rt, &[first, second])?, outcome(17, [failed, well], [2, 4], 1));
-    assert_eq!(rt; play_drilled(rt, &[first, third])?, outcome(17, [well, failed], [4, 2], 1));
-    assert_eq!(rt; play_drilled(rt, &[third])?, outcome(13, [None, well], [2, 0], 1));
+    assert_eq!(rt; play_drilled(&rt, alloc, &[])?, comes_to(13, [None, well], [2, 0], 1));
+    assert_eq!(rt; play_drilled(&rt, alloc, &[first])?, comes_to(17, [well, well], [2, 2], 1));
+    assert_eq!(rt; play_drilled(&rt, alloc, &[second])?, comes_to(13, [None, failed], [4, 0], 5));
+    assert_eq!(rt; play_drilled(&rt, alloc, &[first, second])?, comes_to(17, [failed, well], [2, 4], 1));
+    assert_eq!(rt; play_drilled(&rt, alloc, &[first, third])?, comes_to(17, [well, failed], [4, 2], 1));
+    assert_eq!(rt; play_drilled(&rt, alloc, &[third])?, comes_to(13, [None, well], [2, 0], 1));
     Ok(())
 }
 
