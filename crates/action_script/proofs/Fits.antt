@@ -37,7 +37,7 @@ past_the_end (name ∷ names) zero h = absurd (omega arith)
 past_the_end (name ∷ names) (suc n) h = past_the_end names n (omega arith)
 
 -- what is a name isn't past the end
-named_within : (names : List (List ℕ)) (n : ℕ) → is_name (get_or names n []) ≡ true → n < length names
+pub named_within : (names : List (List ℕ)) (n : ℕ) → is_name (get_or names n []) ≡ true → n < length names
 named_within names n h = by (nat_le (length names) n) refl
   where
     by : (b : Bool) → nat_le (length names) n ≡ b → n < length names

@@ -70,6 +70,11 @@ all_fit names (p ∷ parts) (f ∷ fields) = fits_part names p f && all_fit name
 abbrev pub is_sound : List (List ℕ) → Form → Bool
 is_sound names form = takes (kind_of form) (length (fields_of form)) && all_fit names (parts_of (kind_of form)) (fields_of form)
 
+-- each of these numbers is below the count
+abbrev pub AreBelow : ℕ → List ℕ → Type 0
+AreBelow count [] = Unit {0}
+AreBelow count (n ∷ numbers) = (n < count) × AreBelow count numbers
+
 -- the line is no longer than a line may be
 abbrev pub is_short : List (List ℕ) → Form → Bool
 is_short names form = nat_le (length (form_line names form)) most_line
@@ -96,6 +101,7 @@ pub record AreScript (names : List (List ℕ)) (forms : List Form) : Type 0 wher
   pub short : list_all (is_short names) forms ≡ true
   pub order : with_names [] (flat_map (form_names names) forms) ≡ names
 
+-- the forms of some lines
 abbrev pub forms_of : List Line → List Form
 forms_of lines = map (λ l. l.form) lines
 

@@ -1,7 +1,6 @@
 pub mod Hints
 pub mod Turns
 pub mod Grown
-pub mod TextLemmas
 pub mod ScriptChoices
 pub mod ScriptNumbers
 pub mod ScriptWords

@@ -22,7 +22,7 @@ use Rattle.caa_main.specs.ScriptLines.{most_bytes}
 use Rattle.caa_main.specs.ScriptSaid.{early_script}
 use Rattle.caa_main.specs.ScriptGraphs.{HasSoundOrder, IsDraftOf, IsFirstUnsound}
 use Rattle.caa_main.specs.Schedule.{IsScheduled}
-use Rattle.caa_main.specs.Text.{text_of}
+use Rattle.journal_text.specs.Text.{text_of}
 use Rattle.caa_main.specs.Texts.{usage_text, source_fault_text, too_long_text, not_built_text, ok_text, unsound_text}
 
 -- ---- what is handed in, and what is left
@@ -76,7 +76,7 @@ pub record PlayedPlan (plan : Plan) (seed : ℕ) (journal : List Entry) (text : 
   -- schedule clause
   pub schedule : IsScheduled plan seed [] journal
   -- printed clause
-  pub printed : text ≡ text_of plan journal
+  pub printed : text ≡ text_of plan journal []
 
 -- the plan was checked and not played, and this tells its numbers
 pub record CheckedPlan (plan : Plan) (journal : List Entry) (text : List ℕ) : Type 0 where

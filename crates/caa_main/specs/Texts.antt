@@ -7,7 +7,7 @@ use Rattle.caa_main.specs.declared.answer.Text.TheVariants as text
 use Rattle.caa_main.specs.declared.script.graphs.GraphFault.{GraphFault}
 use Rattle.caa_main.specs.declared.script.graphs.GraphFault.TheVariants.{Cycle, NoLeast}
 use Rattle.caa_main.specs.declared.script.graphs.UnsoundGraph.{UnsoundGraph}
-use Rattle.caa_main.specs.Text.{line}
+use Rattle.caa_base.specs.Lines.{line}
 
 -- the bytes of a text
 abbrev pub text_bytes : Text → List ℕ

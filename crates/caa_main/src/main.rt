@@ -7,7 +7,6 @@ mod report;
 mod schedule;
 mod script;
 mod status;
-mod text;
 mod top;
 
 use crate::status::Status;

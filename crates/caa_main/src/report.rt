@@ -1,11 +1,10 @@
 //! The lines that tell what was found in a script.
 
-ghost use Rattle.std.specs.Prelude.{◌≡◌, ◌++◌, OnOk, IfOk};
-ghost use Rattle.caa_main.specs.Text.{spaced};
+ghost use Rattle.std.specs.Prelude.{◌≡◌, ◌∷◌, ◌++◌, [], OnOk, IfOk};
+ghost use Rattle.caa_base.specs.Lines.{spaced};
 ghost use Rattle.caa_main.specs.Texts.{ok_text, fault_words, unsound_text};
 
 use crate::script::graphs::{GraphFault, UnsoundGraph};
-use crate::text::{push_end, push_word};
 use caa_base::entry::OutOfMemory;
 use place_plan::plan::Plan;
 use std::alloc::Global;
@@ -70,4 +69,21 @@ fn push_fault(text: &mut Vec<u8>, fault: &GraphFault) -> io::Result<()>
             push_word(text, second.bytes())
         }
     }
+}
+
+/// Adds a space and a word.
+fn push_word(text: &mut Vec<u8>, word: &[u8]) -> io::Result<()>
+    ensures { OnOk result (text.new.items ≡ text.old.items ++ 32 ∷ word.now) }
+{
+    text.push(b' ')?;
+    text.extend_from_slice(word)?;
+    Ok(())
+}
+
+/// Adds the end of a line.
+fn push_end(text: &mut Vec<u8>) -> io::Result<()>
+    ensures { OnOk result (text.new.items ≡ text.old.items ++ 10 ∷ []) }
+{
+    text.push(b'\n')?;
+    Ok(())
 }

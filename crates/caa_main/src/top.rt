@@ -10,7 +10,8 @@ use crate::schedule::sim;
 use crate::script::early::{EarlyError, read_early};
 use crate::script::graphs::{DraftError, UnsoundGraph, make_draft};
 use crate::status::{Ended, Status};
-use crate::text::write;
+use journal_text::seens::Seens;
+use journal_text::writing::write;
 use caa_base::journal::Journal;
 use caa_base::plant::Plant;
 use caa_base::reading::{ReadError, read_all, write_all};
@@ -47,7 +48,7 @@ fn play<P: Plant>(alloc: Global, plan: Plan, seed: u32, plant: P) -> Coming<P>
         Err(error) => return Coming::wanting(alloc, error.plant),
     };
     let (plan, plant, journal) = sim(hall, seed).into_parts();
-    match write(alloc, &plan, &journal) {
+    match write(alloc, &plan, &journal, &Seens::empty(alloc)) {
         Ok(bytes) => Coming {
             status: Status::Done,
             text: Text::Written(bytes),

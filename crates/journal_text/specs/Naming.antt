@@ -1,5 +1,5 @@
 -- Plans whose names tell their parts apart.
-use Rattle.std.specs.Prelude.{ℕ, ◌==◌, Bool, true, not, ◌&&◌, List, [], ◌∷◌, length, map, bytes_eq}
+use Rattle.std.specs.Prelude.{ℕ, ◌==◌, Bool, true, not, ◌&&◌, List, [], ◌∷◌, length, map, bytes_eq, nat_lt}
 use Rattle.std.specs.List.{list_all, list_any}
 use Rattle.caa_base.specs.Names.{is_name}
 use Rattle.place_plan.specs.declared.rows.GraphRow.{GraphRow}
@@ -24,10 +24,14 @@ abbrev pub are_distinct : List ℕ → Bool
 are_distinct [] = true
 are_distinct (n ∷ ns) = not (member n ns) && are_distinct ns
 
--- the names of each kind of part are names by the grammar and differ, and no object is watched twice
+-- each watch is of an object, and no object is watched twice
+abbrev pub are_watches : ℕ → List ℕ → Bool
+are_watches objects watches = list_all (λ o. nat_lt o objects) watches && are_distinct watches
+
+-- the names of each kind of part are names by the grammar and differ, and so do the watched objects
 abbrev pub is_well_named : Plan → Bool
 is_well_named plan =
     are_names plan.participants
     && (are_names (map (λ o. o.name) plan.objects)
     && (are_names (map (λ a. a.name) plan.actions)
-    && (list_all is_named plan.graphs && are_distinct plan.watches)))
+    && (list_all is_named plan.graphs && are_watches (length plan.objects) plan.watches)))

@@ -19,9 +19,6 @@ use std::alloc::{AllocError, Global};
 use std::io;
 use std::io::Write;
 
-/// The first line of each text.
-pub(crate) const FIRST_LINE: &[u8] = b"journal\n";
-
 /// The text of a journal: one line for each entry, with the names of the plan, then the value of each object and the outcome of
 /// each place, and then what was seen.
 pub fn write(
@@ -256,7 +253,7 @@ fn push_word(text: &mut Vec<u8>, word: &[u8]) -> io::Result<()>
 }
 
 /// Adds the line of a look.
-fn push_seen(text: &mut Vec<u8>, plan: &Plan, seen: &Seen) -> io::Result<()>
+pub(crate) fn push_seen(text: &mut Vec<u8>, plan: &Plan, seen: &Seen) -> io::Result<()>
     requires { seen.now.watch < length plan.now.watches }
     ensures { OnOk result (text.new.items ≡ text.old.items ++ seen_line plan.now seen.now) }
 {
@@ -267,7 +264,7 @@ fn push_seen(text: &mut Vec<u8>, plan: &Plan, seen: &Seen) -> io::Result<()>
 }
 
 /// The name of an object, which is empty past the last one.
-fn object_name(plan: &Plan, object: Object) -> &[u8]
+pub(crate) fn object_name(plan: &Plan, object: Object) -> &[u8]
     ensures { result.now ≡ object_name plan.now object }
 {
     if object < plan.objects() {

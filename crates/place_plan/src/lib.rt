@@ -2,11 +2,12 @@
 #![tactic(auto)]
 
 mod bound;
-mod close;
+pub mod close;
 mod depth;
 pub mod draft;
 mod limits;
 pub mod machine;
+mod member;
 pub mod plan;
 mod ranges;
 pub mod rows;
@@ -16,4 +17,3 @@ mod unfolding;
 mod uses;
 pub mod value;
 pub mod well_formed;
-mod member;

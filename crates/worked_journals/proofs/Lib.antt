@@ -25,3 +25,5 @@ pub mod UndoAsked
 pub mod Withdrawn
 pub mod Drafts
 pub mod Spoiled
+pub mod SpoiledRules
+pub mod SpoiledEnds

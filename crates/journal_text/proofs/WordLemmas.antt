@@ -1,0 +1,119 @@
+-- Words, numbers and names that were written are taken out of a line again.
+use Rattle.std.proofs.Common.{◌≡◌, ◌≢◌, ℕ, ℤ, pos, negsuc, neg_ℤ, ◌<◌, ◌≤◌, ◌+◌, ◌-◌, ◌*◌, ◌/◌, ◌%◌, ◌^◌, ◌==◌, Bool, true, false, cond, not, ◌&&◌, ◌||◌, List, [], ◌∷◌, ◌++◌, length, drop, nat_le, bytes_eq, slice_index_or, decimal, refl, sym, ap, ◌∙◌, subst, inl, inr, ◌⊎◌, arith, rules, suc, zero, add-one, append_assoc}
+use Rattle.std.specs.List.{list_all}
+use Rattle.std.specs.Fmt.{signed_decimal}
+use Rattle.std.specs.Str.Parse.{AllDigits, digits_value}
+use Rattle.std.proofs.lemmas.Bool.{cond-true, cond-false, cases_eq, cases_lt, and_parts, and_from, eq-eqb, ne_eqb, eqb-true, le-leb, lt-leb, not-true, not_from_false, false≢true, cases_Bool}
+use Rattle.std.proofs.lemmas.Bool.Decides.{nat_tests}
+use Rattle.std.proofs.lemmas.Fmt.{decimal_by_steps, digits_value-decimal}
+use Rattle.std.proofs.lemmas.Str.Parse.{IsNumeralModel, numerals_by_fold, tells_digits}
+use Rattle.std.proofs.lemmas.Int.{ints}
+use Rattle.std.proofs.lemmas.Slice.Eq.{bytes_eq-Decides}
+use Rattle.caa_base.specs.Lines.{spaced}
+use Rattle.caa_base.specs.Names.{is_name, is_name_byte}
+use Rattle.caa_base.specs.Limits.{IsValue}
+use Rattle.journal_text.specs.Words.{is_gap, word_in, after_word, next_word, after_next, digits_after, number_in, value_in, index_among}
+
+-- ---- words
+
+-- no gap stands in the word
+abbrev pub is_whole : List ℕ → Bool
+is_whole word = list_all (λ b. not (is_gap b)) word
+
+-- a gap stands first
+abbrev pub Begins : List ℕ → Type 0
+Begins [] = ⊥
+Begins (b ∷ text) = is_gap b ≡ true
+
+pub word_in-whole : (word text : List ℕ) → is_whole word ≡ true → Begins text → word_in (word ++ text) ≡ word
+word_in-whole [] [] w g = absurd g
+word_in-whole [] (b ∷ text) w g = cond-true (is_gap b) _ _ g
+word_in-whole (c ∷ word) text w g =
+    let p = and_parts (not (is_gap c)) (is_whole word) w in
+    cond-false (is_gap c) [] (c ∷ word_in (word ++ text)) (not-true (is_gap c) p.0) ∙ ap (λ rest. c ∷ rest) (word_in-whole word text p.1 g)
+
+pub after_word-whole : (word text : List ℕ) → is_whole word ≡ true → Begins text → after_word (word ++ text) ≡ text
+after_word-whole [] [] w g = absurd g
+after_word-whole [] (b ∷ text) w g = cond-true (is_gap b) _ _ g
+after_word-whole (c ∷ word) text w g =
+    let p = and_parts (not (is_gap c)) (is_whole word) w in
+    cond-false (is_gap c) (c ∷ (word ++ text)) (after_word (word ++ text)) (not-true (is_gap c) p.0) ∙ after_word-whole word text p.1 g
+
+-- the rest of a line of words begins with a gap
+pub begins-line : (words : List (List ℕ)) (text : List ℕ) → Begins (spaced words ++ 10 ∷ text)
+begins-line [] text = refl
+begins-line (word ∷ words) text = refl
+
+pub next_word-line : (word : List ℕ) (words : List (List ℕ)) (text : List ℕ) → is_whole word ≡ true → next_word (spaced (word ∷ words) ++ 10 ∷ text) ≡ word
+next_word-line word words text w =
+    ap word_in (append_assoc word (spaced words) (10 ∷ text)) ∙ word_in-whole word (spaced words ++ 10 ∷ text) w (begins-line words text)
+
+pub after_next-line : (word : List ℕ) (words : List (List ℕ)) (text : List ℕ) → is_whole word ≡ true → after_next (spaced (word ∷ words) ++ 10 ∷ text) ≡ spaced words ++ 10 ∷ text
+after_next-line word words text w =
+    ap after_word (append_assoc word (spaced words) (10 ∷ text)) ∙ after_word-whole word (spaced words ++ 10 ∷ text) w (begins-line words text)
+
+-- ---- numbers
+
+whole-append : (a b : List ℕ) → is_whole a ≡ true → is_whole b ≡ true → is_whole (a ++ b) ≡ true
+whole-append [] b h k = k
+whole-append (x ∷ a) b h k = let p = and_parts (not (is_gap x)) (is_whole a) h in and_from _ _ p.0 (whole-append a b p.1 k)
+
+whole-digit : (n : ℕ) → n < 10 → is_whole ((48 + n) ∷ []) ≡ true
+whole-digit n h = grind (arith, nat_tests)
+
+pub whole-decimal : (n : ℕ) → n < 2 ^ 64 → is_whole (decimal n) ≡ true
+whole-decimal n h =
+    decimal_by_steps (λ m ds. is_whole ds ≡ true) whole-digit (λ m ds l k. whole-append ds ((48 + m % 10) ∷ []) k (whole-digit (m % 10) (omega arith))) n h
+
+pub whole-signed : (z : ℤ) → IsValue z → is_whole (signed_decimal z) ≡ true
+whole-signed (pos n) h = whole-decimal n (omega (arith, ints, h.1))
+whole-signed (negsuc n) h = whole-decimal (suc n) (omega (arith, ints, h.0))
+
+own : IsNumeralModel (AllDigits 10) (digits_after 0)
+own = numerals_by_fold (AllDigits 10) tells_digits digits_after (search rules)
+
+pub number_in-decimal : (most n : ℕ) → n ≤ most → n < 2 ^ 64 → number_in most (decimal n) ≡ n
+number_in-decimal most n fits small =
+    let is : digits_after 0 (decimal n) ≡ n = digits_value-decimal own n small in
+    rw is (cond-true (nat_le n most) n 0 (le-leb n most fits))
+
+-- more digits never make a number less
+digits_after-ge : (n : ℕ) (digits : List ℕ) → n ≤ digits_after n digits
+digits_after-ge n [] = omega arith
+digits_after-ge n (b ∷ rest) = omega (arith, digits_after-ge (10 * n + (b - 48)) rest)
+
+-- a number past the most is none, whatever digits follow
+pub number_in-past : (most n : ℕ) (word rest : List ℕ) → most < n → digits_after n rest ≡ digits_after 0 word → 0 ≡ number_in most word
+number_in-past most n word rest past same =
+    sym (cond-false (nat_le (digits_after 0 word) most) (digits_after 0 word) 0 (lt-leb (digits_after 0 word) most (omega (arith, digits_after-ge n rest))))
+
+-- ---- names
+
+-- the search passes a name that differs
+pub index-passed : (name_of : ℕ → List ℕ) (word : List ℕ) (from n : ℕ) → from < n → bytes_eq (name_of from) word ≡ false → index_among name_of word (from + 1) (n - (from + 1)) ≡ index_among name_of word from (n - from)
+index-passed name_of word from n within other =
+    let left : n - from ≡ suc (n - (from + 1)) = omega arith in
+    rw (left, add-one) (sym (cond-false (bytes_eq (name_of from) word) from (index_among name_of word (suc from) (n - suc from)) other))
+
+-- the search finds a name that stands only there
+index-found : (name_of : ℕ → List ℕ) (i from left : ℕ) → ((j : ℕ) → j < i → name_of j ≡ name_of i → ⊥) → from ≤ i → i < from + left → index_among name_of (name_of i) from left ≡ i
+index-found name_of i from zero differ low high = absurd (omega arith)
+index-found name_of i from (suc left) differ low high = by (cases_eq from i) (λ below. index-found name_of i (suc from) left differ (omega arith) (omega arith))
+  where
+    by : (from ≡ i) ⊎ (from ≡ i → ⊥) → (from < i → index_among name_of (name_of i) (suc from) left ≡ i) → index_among name_of (name_of i) from (suc left) ≡ i
+    by (inl here) later = cond-true (bytes_eq (name_of from) (name_of i)) _ _ ((bytes_eq-Decides (name_of from) (name_of i)).1 (ap name_of here)) ∙ here
+    by (inr there) later =
+        cond-false (bytes_eq (name_of from) (name_of i)) from (index_among name_of (name_of i) (suc from) left)
+          (different (cases_Bool (bytes_eq (name_of from) (name_of i))))
+        ∙ later (omega arith)
+      where
+        different : (bytes_eq (name_of from) (name_of i) ≡ true) ⊎ (bytes_eq (name_of from) (name_of i) ≡ false) → bytes_eq (name_of from) (name_of i) ≡ false
+        different (inl same) = absurd (differ from (omega arith) ((bytes_eq-Decides (name_of from) (name_of i)).0 same))
+        different (inr other) = other
+
+-- the names below n differ
+abbrev pub AreDifferent : (ℕ → List ℕ) → ℕ → Type 0
+AreDifferent name_of n = (j i : ℕ) → j < i → i < n → name_of j ≡ name_of i → ⊥
+
+pub index-own : (name_of : ℕ → List ℕ) (n i : ℕ) → AreDifferent name_of n → i < n → index_among name_of (name_of i) 0 n ≡ i
+index-own name_of n i differ within = index-found name_of i 0 n (λ j below. differ j i below within) (omega arith) (omega arith)
