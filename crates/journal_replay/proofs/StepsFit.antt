@@ -17,7 +17,8 @@ use Rattle.caa_base.specs.Limits.{is_value, IsValue}
 use Rattle.place_plan.specs.WellFormed.{FieldsFit, IsWellFormed, AllWellFormed}
 use Rattle.caa_base.proofs.ListLemmas.{first_not_fails}
 use Rattle.journal_laws.proofs.Playable.{IsPlayable}
-use Rattle.journal_laws.proofs.Ranges.{step_fits, value_from}
+use Rattle.caa_base.proofs.Values.{value_from}
+use Rattle.journal_laws.proofs.Ranges.{step_fits}
 
 given_value : (plan : Plan) (k : Kind) (e : Entry) → gives_value k ≡ true → FieldsFit k plan e → IsValue e.value
 given_value plan kind.Read e g h = h.0.value

@@ -15,7 +15,7 @@ pub invariant_of-self : goal.invariant_of-self
 invariant_of-self g c =
     let hall = c.args.self.now in
     let past = reverse hall.journal.entries in
-    let law = c.puts_make_values.ensures in
+    let law = c.last_put_is_value.ensures in
     let device : Device = record { faults = g.P.Plant.faults hall.plant; calls = g.P.Plant.calls hall.plant; room = g.P.Plant.room hall.plant; objects = g.P.Plant.objects hall.plant; state = g.P.Plant.state hall.plant; drilling = g.P.Plant.drilling hall.plant } in
     record {
       legal = subst (λ (es : List Entry). LegalPast hall.plan (reverse es)) (sym c.push.ensures.entries) (legal_last hall.plan hall.journal.entries c.args.entry hall.legal c.requires.may);

@@ -31,7 +31,7 @@ invariant_of-self g c =
     let es = hall.journal.entries in
     let past = reverse es in
     let e = c.answer_of-entry.result in
-    let law = c.puts_make_values.ensures in
+    let law = c.last_put_is_value.ensures in
     let facts : Answered hall.plan past c.args.well e = answered hall.plan past c.args.well.by c.args.well c.args.fault e c.requires.may c.answer_of-entry.ensures.either in
     let formed = All-head (IsWellFormed hall.plan) c.args.well past (c.is_well_formed.ensures (c.args.well ∷ past) (hall.legal, c.requires.may.may.0)) in
     let before : Device = record { faults = g.P.Plant.faults hall.plant; calls = g.P.Plant.calls hall.plant; room = g.P.Plant.room hall.plant; objects = g.P.Plant.objects hall.plant; state = g.P.Plant.state hall.plant; drilling = g.P.Plant.drilling hall.plant } in
