@@ -1,0 +1,141 @@
+-- A name keeps its number as further names come.
+use Rattle.std.proofs.Common.{rules, ◌≡◌, ℕ, ◌+◌, Bool, true, false, ◌||◌, ◌&&◌, cond, if◌then◌else◌, List, [], ◌∷◌, ◌++◌, map, filter, bytes_eq, refl, sym, ap, ◌∙◌, subst, arith, append_assoc, true≢false}
+use Rattle.std.specs.List.{list_any, list_all, flat_map}
+use Rattle.std.proofs.lemmas.Bool.{and_parts}
+use Rattle.std.proofs.lemmas.List.Folds.{list_all-append}
+use Rattle.std.proofs.lemmas.Slice.Eq.{bytes_eq-Decides}
+use Rattle.action_script.specs.declared.field.Part.{Part}
+use Rattle.action_script.specs.declared.field.Part.TheVariants as part
+use Rattle.action_script.specs.declared.field.Field.{Field}
+use Rattle.action_script.specs.declared.field.Field.TheVariants as field
+use Rattle.action_script.specs.declared.script.Line.{Line}
+use Rattle.action_script.specs.Asked.{Asked, Said}
+use Rattle.action_script.specs.Forms.{form_by}
+use Rattle.action_script.specs.Names.{is_among, with_name, with_names, number_in}
+use Rattle.action_script.specs.Reading.{is_name_part, names_of, field_by, field_of, Numbered, line_by, script_names}
+
+and : (a b : Bool) → a ≡ true → b ≡ true → (a && b) ≡ true
+and true b p q = q
+and false b p q = cc
+
+-- ---- one name more
+
+pub bytes_eq-same : (word : List ℕ) → bytes_eq word word ≡ true
+bytes_eq-same [] = refl
+bytes_eq-same (b ∷ word) = search (rules, bytes_eq-same word)
+
+is_among-push : (names : List (List ℕ)) (new word : List ℕ) → is_among names word ≡ true → is_among (names ++ new ∷ []) word ≡ true
+is_among-push [] new word h = cc
+is_among-push (name ∷ names) new word h = by (bytes_eq word name) (is_among-push names new word) h
+  where
+    by : (b : Bool) → (is_among names word ≡ true → is_among (names ++ new ∷ []) word ≡ true) → (b || is_among names word) ≡ true → (b || is_among (names ++ new ∷ []) word) ≡ true
+    by true rest g = refl
+    by false rest g = rest g
+
+is_among-new : (names : List (List ℕ)) (word : List ℕ) → is_among (names ++ word ∷ []) word ≡ true
+is_among-new [] word = ap (λ b. b || false) (bytes_eq-same word)
+is_among-new (name ∷ names) word = by (bytes_eq word name) (is_among-new names word)
+  where
+    by : (b : Bool) → is_among (names ++ word ∷ []) word ≡ true → (b || is_among (names ++ word ∷ []) word) ≡ true
+    by true h = refl
+    by false h = h
+
+pub number_in-push : (names : List (List ℕ)) (new word : List ℕ) → is_among names word ≡ true → number_in (names ++ new ∷ []) word ≡ number_in names word
+number_in-push [] new word h = cc
+number_in-push (name ∷ names) new word h = by (bytes_eq word name) (number_in-push names new word) h
+  where
+    by : (b : Bool) → (is_among names word ≡ true → number_in (names ++ new ∷ []) word ≡ number_in names word) → (b || is_among names word) ≡ true → (if b then 0 else 1 + number_in (names ++ new ∷ []) word) ≡ (if b then 0 else 1 + number_in names word)
+    by true rest g = refl
+    by false rest g = ap (λ n. 1 + n) (rest g)
+
+-- ---- some names more
+
+is_among-with_name : (names : List (List ℕ)) (new word : List ℕ) → is_among names word ≡ true → is_among (with_name names new) word ≡ true
+is_among-with_name names new word h = by (is_among names new)
+  where
+    by : (b : Bool) → is_among (if b then names else names ++ new ∷ []) word ≡ true
+    by true = h
+    by false = is_among-push names new word h
+
+is_among-with_own_name : (names : List (List ℕ)) (word : List ℕ) → is_among (with_name names word) word ≡ true
+is_among-with_own_name names word = by (is_among names word) refl
+  where
+    by : (b : Bool) → is_among names word ≡ b → is_among (if b then names else names ++ word ∷ []) word ≡ true
+    by true h = h
+    by false h = is_among-new names word
+
+number_in-with_name : (names : List (List ℕ)) (new word : List ℕ) → is_among names word ≡ true → number_in (with_name names new) word ≡ number_in names word
+number_in-with_name names new word h = by (is_among names new)
+  where
+    by : (b : Bool) → number_in (if b then names else names ++ new ∷ []) word ≡ number_in names word
+    by true = refl
+    by false = number_in-push names new word h
+
+pub is_among-with_names : (names words : List (List ℕ)) (word : List ℕ) → is_among names word ≡ true → is_among (with_names names words) word ≡ true
+is_among-with_names names [] word h = h
+is_among-with_names names (new ∷ words) word h = is_among-with_names (with_name names new) words word (is_among-with_name names new word h)
+
+pub number_in-with_names : (names words : List (List ℕ)) (word : List ℕ) → is_among names word ≡ true → number_in (with_names names words) word ≡ number_in names word
+number_in-with_names names [] word h = refl
+number_in-with_names names (new ∷ words) word h = number_in-with_names (with_name names new) words word (is_among-with_name names new word h) ∙ number_in-with_name names new word h
+
+-- each of some words is among the names with them
+pub all_among-with_names : (names words : List (List ℕ)) → list_all (is_among (with_names names words)) words ≡ true
+all_among-with_names names [] = refl
+all_among-with_names names (word ∷ words) =
+    and (is_among (with_names (with_name names word) words) word) (list_all (is_among (with_names (with_name names word) words)) words)
+    (is_among-with_names (with_name names word) words word (is_among-with_own_name names word))
+    (all_among-with_names (with_name names word) words)
+
+pub with_names-append : (names words more : List (List ℕ)) → with_names names (words ++ more) ≡ with_names (with_names names words) more
+with_names-append names [] more = refl
+with_names-append names (word ∷ words) more = with_names-append (with_name names word) words more
+
+-- ---- lines
+
+-- the names of each of these lines are among these
+abbrev pub are_named : List (List ℕ) → List Numbered → Bool
+are_named names lines = list_all (λ l. list_all (is_among names) (names_of l.said.asked)) lines
+
+all_in_parts : (test : List ℕ → Bool) (lines : List Numbered) → list_all test (flat_map (λ l. names_of l.said.asked) lines) ≡ true → list_all (λ l. list_all test (names_of l.said.asked)) lines ≡ true
+all_in_parts test [] h = refl
+all_in_parts test (line ∷ lines) h =
+    let own = names_of line.said.asked in
+    let p = and_parts (list_all test own) _ (sym (list_all-append test own (flat_map (λ l. names_of l.said.asked) lines)) ∙ h) in
+    and (list_all test own) _ p.0 (all_in_parts test lines p.1)
+
+pub are_named-script_names : (lines : List Numbered) → are_named (script_names lines) lines ≡ true
+are_named-script_names lines = all_in_parts (is_among (script_names lines)) lines (all_among-with_names [] (flat_map (λ l. names_of l.said.asked) lines))
+
+-- what a word says stays, where its name is among the names
+field_by-with_names : (names words : List (List ℕ)) (p : Part) (word : List ℕ) → (is_name_part p ≡ true → is_among names word ≡ true) → field_by (with_names names words) p word ≡ field_by names p word
+field_by-with_names names words part.Name word h = ap field.Name (number_in-with_names names words word (h refl))
+field_by-with_names names words part.Value word h = refl
+field_by-with_names names words part.Count word h = refl
+field_by-with_names names words part.Rounds word h = refl
+field_by-with_names names words part.Test word h = refl
+
+fields-with_names : (names words : List (List ℕ)) (asked : List Asked) → list_all (is_among names) (names_of asked) ≡ true → map (field_of (with_names names words)) asked ≡ map (field_of names) asked
+fields-with_names names words [] h = refl
+fields-with_names names words (a ∷ asked) h = by (fields-with_names names words asked) (is_name_part a.part) refl h
+  where
+    by : (list_all (is_among names) (names_of asked) ≡ true → map (field_of (with_names names words)) asked ≡ map (field_of names) asked) → (b : Bool) → is_name_part a.part ≡ b → list_all (is_among names) (map (λ a. a.word) (cond b (a ∷ filter (λ a. is_name_part a.part) asked) (filter (λ a. is_name_part a.part) asked))) ≡ true → map (field_of (with_names names words)) (a ∷ asked) ≡ map (field_of names) (a ∷ asked)
+    by later true e g =
+        let p = and_parts (is_among names a.word) _ g in
+        let one = field_by-with_names names words a.part a.word (λ _. p.0) in
+        let rest = later p.1 in
+        cc
+    by later false e g =
+        let one = field_by-with_names names words a.part a.word (λ yes. absurd (true≢false (sym yes ∙ e))) in
+        let rest = later g in
+        cc
+
+pub lines-with_names : (names words : List (List ℕ)) (lines : List Numbered) → are_named names lines ≡ true → map (line_by (with_names names words)) lines ≡ map (line_by names) lines
+lines-with_names names words [] h = refl
+lines-with_names names words (line ∷ lines) h =
+    let p = and_parts (list_all (is_among names) (names_of line.said.asked)) _ h in
+    let fields = fields-with_names names words line.said.asked p.0 in
+    let make : List Field → Line = λ f. record { number = line.number; form = form_by line.said.kind f } in
+    let one : line_by (with_names names words) line ≡ line_by names line = ap make fields in
+    let rest = lines-with_names names words lines p.1 in
+    cc

@@ -1,0 +1,22 @@
+use Rattle.std.proofs.Common.{◌≡◌, length, refl, sym, ap, ◌∙◌, arith}
+use Rattle.action_script.specs.ScriptValue.{Script}
+use Rattle.action_script.specs.SoFar.{so_far}
+use Rattle.action_script.proofs.WellRead.{well_read}
+use Rattle.action_script.proofs.Steps.{reading_of-refused, reading_of-open, reading_of-read}
+use Rattle.action_script.proofs.reader.read.Goals as goal
+
+pub returns-then-not-at_top-clause-refused : goal.returns-then-not-at_top-clause-refused
+returns-then-not-at_top-clause-refused c = λ known. reading_of-open c.args.bytes.now (so_far c.in-Ok.reader) (omega arith) c.in-Ok.ensures.read (sym c.at_top.ensures ∙ c.if-not-at_top.true)
+
+pub returns-in-Ok-to_names-clause-read : goal.returns-in-Ok-to_names-clause-read
+returns-in-Ok-to_names-clause-read c =
+    reading_of-read c.args.bytes.now (so_far c.in-Ok.reader) c.from_parts.result (omega arith) c.in-Ok.ensures.read (sym c.at_top.ensures ∙ c.if-not-at_top.false) c.from_parts.ensures.lines (c.from_parts.ensures.names ∙ c.in-Ok-to_names.ensures.names)
+
+pub returns-in-Err-clause-refused : goal.returns-in-Err-clause-refused
+returns-in-Err-clause-refused c = λ known. reading_of-refused c.args.bytes.now c.in-Err.error (omega arith) (c.in-Err.ensures.refused known)
+
+pub from_parts-requires : goal.from_parts-requires
+from_parts-requires c =
+    let script : Script = record { lines = c.in-Ok.reader.lines.items; names = c.in-Ok-to_names.names.items } in
+    let spelled = reading_of-read c.args.bytes.now (so_far c.in-Ok.reader) script (omega arith) c.in-Ok.ensures.read (sym c.at_top.ensures ∙ c.if-not-at_top.false) refl c.in-Ok-to_names.ensures.names in
+    well_read c.args.bytes.now script spelled (omega (arith, c.in-Ok.ensures.few_names, ap length c.in-Ok-to_names.ensures.names)) c.in-Ok.ensures.few_lines

@@ -1,0 +1,10 @@
+pub mod Words
+pub mod Names
+pub mod Kinds
+pub mod Forms
+pub mod Lines
+pub mod Asked
+pub mod ScriptValue
+pub mod Reading
+pub mod SoFar
+pub mod Printing

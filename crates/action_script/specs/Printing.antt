@@ -1,0 +1,111 @@
+-- The text of a script.
+use Rattle.std.specs.Prelude.{◌≡◌, ℕ, ℤ, pos, negsuc, ◌+◌, ◌<◌, ◌^◌, nat_le, Bool, true, false, ◌&&◌, List, [], ◌∷◌, ◌++◌, length, map, slice_index_or, decimal}
+use Rattle.std.specs.List.{list_all, flat_map}
+use Rattle.std.specs.Fmt.{signed_decimal}
+use Rattle.action_script.specs.declared.field.Part.{Part}
+use Rattle.action_script.specs.declared.field.Part.TheVariants as part
+use Rattle.action_script.specs.declared.field.Field.{Field}
+use Rattle.action_script.specs.declared.field.Field.TheVariants as field
+use Rattle.action_script.specs.declared.form.Form.{Form}
+use Rattle.action_script.specs.declared.kind.Section.{Section}
+use Rattle.action_script.specs.declared.kind.Section.TheVariants as section
+use Rattle.action_script.specs.declared.script.Line.{Line}
+use Rattle.action_script.specs.Words.{is_name, test_word}
+use Rattle.action_script.specs.Lines.{most_line, spaced}
+use Rattle.action_script.specs.Asked.{Said}
+use Rattle.action_script.specs.Kinds.{word_of, parts_of, takes, stands_in, goes_to, at_top}
+use Rattle.action_script.specs.Forms.{kind_of, fields_of}
+use Rattle.action_script.specs.Names.{with_names}
+use Rattle.action_script.specs.Reading.{asked_of, names_of}
+use Rattle.action_script.specs.ScriptValue.{Script}
+
+-- ---- the text
+
+-- the word that says a field
+abbrev pub field_word : List (List ℕ) → Field → List ℕ
+field_word names (field.Name n) = slice_index_or names n []
+field_word names (field.Value v) = signed_decimal v
+field_word names (field.Count k) = decimal k
+field_word names (field.Test t) = test_word t
+
+-- the words of a form after the first
+abbrev pub words_after : List (List ℕ) → Form → List (List ℕ)
+words_after names form = map (field_word names) (fields_of form)
+
+-- the line of a form: its words, parted by one space each
+abbrev pub form_line : List (List ℕ) → Form → List ℕ
+form_line names form = word_of (kind_of form) ++ spaced (words_after names form)
+
+-- the same with its line feed
+abbrev pub line_text : List (List ℕ) → Line → List ℕ
+line_text names line = form_line names line.form ++ 10 ∷ []
+
+-- the text of a script: one line for each form
+abbrev pub text_of : Script → List ℕ
+text_of script = flat_map (line_text script.names) script.lines
+
+-- ---- what makes lines and names a script
+
+-- a value is from -1000000000000 to 1000000000000
+abbrev pub is_value : ℤ → Bool
+is_value (pos n) = nat_le n 1000000000000
+is_value (negsuc n) = nat_le (n + 1) 1000000000000
+
+-- a field is what this part asks for: a name by the grammar, or a number in its range
+abbrev pub fits_part : List (List ℕ) → Part → Field → Bool
+fits_part names part.Name (field.Name n) = is_name (slice_index_or names n [])
+fits_part names part.Value (field.Value v) = is_value v
+fits_part names part.Count (field.Count k) = nat_le 1 k && nat_le k 1000000
+fits_part names part.Rounds (field.Count k) = nat_le k 1000000
+fits_part names part.Test (field.Test t) = true
+fits_part names _ _ = false
+
+-- fields are what these parts ask for, one after the other; where the parts end, names go on
+abbrev pub fit : List (List ℕ) → List Part → List Field → Bool
+fit names parts [] = true
+fit names [] (f ∷ fields) = fits_part names part.Name f && fit names [] fields
+fit names (p ∷ parts) (f ∷ fields) = fits_part names p f && fit names parts fields
+
+-- a form has as many fields as its kind takes, so its list isn't empty, and they are what is asked for
+abbrev pub is_sound : List (List ℕ) → Form → Bool
+is_sound names form = takes (kind_of form) (length (fields_of form)) && fit names (parts_of (kind_of form)) (fields_of form)
+
+-- the line is no longer than a line may be
+abbrev pub is_short : List (List ℕ) → Form → Bool
+is_short names form = nat_le (length (form_line names form)) most_line
+
+-- these forms may follow one another where the reader is here, and lead it to the top
+abbrev pub lead_to_top : Section → List Form → Bool
+lead_to_top s [] = at_top s
+lead_to_top s (form ∷ forms) = stands_in (kind_of form) s && lead_to_top (goes_to (kind_of form) s) forms
+
+-- what the line of a form says
+abbrev pub said_by : List (List ℕ) → Form → Said
+said_by names form = record { kind = kind_of form; asked = asked_of (parts_of (kind_of form)) (words_after names form) }
+
+-- the names of a form, in the order in which its line has them
+abbrev pub form_names : List (List ℕ) → Form → List (List ℕ)
+form_names names form = names_of (said_by names form).asked
+
+-- these names and forms make a script
+pub record AreScript (names : List (List ℕ)) (forms : List Form) : Type 0 where
+  pub few_names : length names < 2 ^ 32
+  pub few_forms : length forms < 2 ^ 32
+  pub lead : lead_to_top section.Top forms ≡ true
+  pub sound : list_all (is_sound names) forms ≡ true
+  pub short : list_all (is_short names) forms ≡ true
+  pub order : with_names [] (flat_map (form_names names) forms) ≡ names
+
+abbrev pub forms_of : List Line → List Form
+forms_of lines = map (λ l. l.form) lines
+
+-- ---- line numbers
+
+-- these forms on lines of their own, the first of which has this number
+abbrev pub numbered_from : ℕ → List Form → List Line
+numbered_from number [] = []
+numbered_from number (form ∷ forms) = record { number = number; form = form } ∷ numbered_from (number + 1) forms
+
+-- the script with the line numbers 1, 2, 3 and so on
+abbrev pub renumbered : Script → Script
+renumbered script = record { lines = numbered_from 1 (forms_of script.lines); names = script.names }

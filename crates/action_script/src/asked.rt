@@ -1,0 +1,170 @@
+ghost use Rattle.std.specs.Prelude.{◌≡◌, ◌≢◌, ◌<◌, ◌^◌, ◌∷◌, [], not, find, option_copied, map, length, Ok, Err, Some, IfOk, IfErr, OnOk};
+ghost use Rattle.std.specs.List.{list_all};
+ghost use Rattle.action_script.specs.Names.{with_names};
+ghost use Rattle.action_script.specs.Reading.{asked_of, is_part, is_test, is_wrong_test, is_right, cause_of, names_of, field_by, field_of, checked};
+ghost use Rattle.action_script.specs.declared.error.ScriptCause.TheVariants as cause;
+
+use crate::error::ScriptCause;
+use crate::field::{Field, Part};
+use crate::names::NameTable;
+use crate::word::{count_of, is_name, rounds_of, test_of, value_of};
+use caa_base::entry::Test;
+use std::alloc::{AllocError, Global};
+use std::marker::Model;
+
+/// A word of a line, and what it is asked to be at its place.
+#[derive(Drop)]
+pub struct Asked<'a> {
+    part: Part,
+    word: &'a [u8],
+}
+
+impl<'a> Model for Asked<'a> {
+    ghost use Rattle.action_script.specs.Asked.{Asked as AskedWord};
+
+    ghost Value = { AskedWord };
+
+    ghost view = { λ a. record { part = a.part; word = a.word.now } };
+}
+
+/// Whether a word is what a part asks for.
+fn is_part(part: Part, word: &[u8]) -> bool
+    ensures { result ≡ is_part part word.now }
+{
+    match part {
+        Part::Name => is_name(word),
+        Part::Value => value_of(word).is_some(),
+        Part::Count => count_of(word).is_some(),
+        Part::Rounds => rounds_of(word).is_some(),
+        Part::Test => test_of(word).is_some(),
+    }
+}
+
+/// What a word says that is what a part asks for.
+fn field_by(names: &NameTable, part: Part, word: &[u8]) -> Field
+    requires { length names.now < 2 ^ 32 }
+    ensures { result ≡ field_by names.now part word.now }
+{
+    match part {
+        Part::Name => Field::Name(names.number(word)),
+        Part::Value => Field::Value(value_of(word).unwrap_or(0)),
+        Part::Count => Field::Count(count_of(word).unwrap_or(0)),
+        Part::Rounds => Field::Count(rounds_of(word).unwrap_or(0)),
+        Part::Test => Field::Test(test_of(word).unwrap_or(Test::Below)),
+    }
+}
+
+fn is_test(part: Part) -> bool
+    ensures { result ≡ is_test part }
+{
+    matches!(part, Part::Test)
+}
+
+/// The fault of a word that isn't what a part asks for.
+fn cause_of(part: Part) -> ScriptCause
+    ensures { result ≡ cause_of part }
+{
+    match part {
+        Part::Name => ScriptCause::BadName,
+        Part::Value | Part::Count | Part::Rounds => ScriptCause::BadNumber,
+        Part::Test => ScriptCause::BadLine,
+    }
+}
+
+impl<'a> Asked<'a> {
+    /// Whether the word is what it is asked to be.
+    fn is_right(&self) -> bool
+        ensures { result ≡ is_right self.now }
+    {
+        is_part(self.part, self.word)
+    }
+
+    /// Whether it is asked to be a test, and is none.
+    fn is_wrong_test(&self) -> bool
+        ensures { result ≡ is_wrong_test self.now }
+    {
+        is_test(self.part) && !is_part(self.part, self.word)
+    }
+
+    fn part(&self) -> Part
+        ensures { result ≡ self.now.part }
+    {
+        self.part
+    }
+
+    /// What the word says, by the names of the script.
+    fn field(&self, names: &NameTable) -> Field
+        requires { length names.now < 2 ^ 32 }
+        ensures { result ≡ field_of names.now self.now }
+    {
+        field_by(names, self.part, self.word)
+    }
+}
+
+/// What each of these words is asked to be; where the parts end, names go on.
+pub fn asked_of<'a>(
+    alloc: Global,
+    parts: &[Part],
+    words: &[&'a [u8]],
+) -> Result<Vec<Asked<'a>>, AllocError>
+    ensures { IfOk result (λ asked. asked.items ≡ asked_of parts.now (map (λ w. w.now) words.now)) }
+{
+    let mut asked = Vec::new(alloc);
+    for (index, word) in words.iter().enumerate() {
+        let part = parts.get(index).copied().unwrap_or(Part::Name);
+        asked.push(Asked { part, word })?;
+    }
+    Ok(asked)
+}
+
+/// Whether each word that is asked to be a test is one.
+fn are_tests_right(asked: &[Asked]) -> bool
+    ensures { result ≡ list_all (λ a. not (is_wrong_test a)) asked.now }
+{
+    asked.iter().all(|word| !word.is_wrong_test())
+}
+
+/// The first word that isn't what it is asked to be.
+fn first_wrong<'b, 'a>(asked: &'b [Asked<'a>]) -> Option<&'b Asked<'a>>
+    ensures { option_copied result ≡ find (λ a. not (is_right a)) asked.now }
+{
+    asked.iter().find(|word| !word.is_right())
+}
+
+/// Whether each word is what it is asked to be: the tests are tried first, and then all words from left to right.
+pub fn check_words(asked: &[Asked]) -> Result<(), ScriptCause>
+    ensures { result ≡ checked asked.now }
+{
+    if !are_tests_right(asked) {
+        return Err(ScriptCause::BadLine);
+    }
+    match first_wrong(asked) {
+        None => Ok(()),
+        Some(wrong) => Err(cause_of(wrong.part())),
+    }
+}
+
+/// Adds the words that are asked to be names to the names of the script.
+pub fn add_names<'a>(names: &mut NameTable<'a>, asked: &[Asked<'a>]) -> Result<(), ScriptCause>
+    ensures added { OnOk result (names.new ≡ with_names names.old (names_of asked.now)) }
+    ensures refused { IfErr result (λ e. e ≡ cause.OutOfMemory) }
+{
+    for word in asked {
+        if matches!(word.part, Part::Name) {
+            names.add(word.word)?;
+        }
+    }
+    Ok(())
+}
+
+/// What these words say, by the names of the script.
+pub fn fields_of(
+    alloc: Global,
+    names: &NameTable,
+    asked: &[Asked],
+) -> Result<Vec<Field>, AllocError>
+    requires { length names.now < 2 ^ 32 }
+    ensures { IfOk result (λ fields. fields.items ≡ map (field_of names.now) asked.now) }
+{
+    asked.iter().map(|word| word.field(names)).collect(alloc)
+}

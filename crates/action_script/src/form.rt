@@ -1,0 +1,309 @@
+ghost use Rattle.std.specs.Prelude.{◌≡◌, ◌≤◌, ◌++◌, length, map, IfOk, OnOk, IsTrue};
+ghost use Rattle.action_script.specs.Kinds.{takes};
+ghost use Rattle.action_script.specs.Forms.{kind_of, fields_of, form_by, name_in, name_at, value_at, count_at, test_at, names_from};
+
+use crate::field::Field;
+use crate::kind::LineKind;
+use crate::numbers::Numbers;
+use caa_base::entry::Test;
+use std::alloc::{AllocError, Global};
+
+/// What one line of a script says. Each name is given by its number among the names of the script.
+#[derive(Drop)]
+pub enum Form {
+    /// A participant of this name.
+    Participant(u32),
+    /// An object of this name, and its initial value, from -1000000000000 to 1000000000000.
+    Object(u32, i64),
+    /// The device refuses that put of this object which is the so-many-th, counted from 1; the count is at most 1000000.
+    Drill(u32, u32),
+    /// This object is watched.
+    Watch(u32),
+    /// A graph of this name begins.
+    Graph(u32),
+    /// An action of this name begins.
+    Action(u32),
+    /// The action is played by these participants.
+    Play(u32, Numbers),
+    /// The graph has an exception of this name.
+    Exception(u32),
+    /// In the graph the first exception covers the second.
+    Cover(u32, u32),
+    /// The graph or the action ends.
+    End,
+    /// Exceptions that are raised in the action are those of this graph.
+    Internal(u32),
+    /// Exceptions that the action signals are those of this graph.
+    Interface(u32),
+    /// A refused put raises this exception.
+    Fault(u32),
+    /// The action uses these objects.
+    Uses(Numbers),
+    /// The action has these roles.
+    Roles(Numbers),
+    /// A nested use of this name, of this action, filled by these roles.
+    Nest(u32, u32, Numbers),
+    /// The nested use carries the first exception out as the second.
+    Map(u32, u32, u32),
+    /// The nested use carries this exception out where it was undone.
+    MapUndo(u32, u32),
+    /// The nested use carries this exception out where it failed.
+    MapFailure(u32, u32),
+    /// The nested use has this further action, which is tried where those before it were undone.
+    Alternate(u32, u32),
+    /// The role names this exception where its action is aborted.
+    Abort(u32, u32),
+    /// The role names this exception where its action is aborted and its register meets the test.
+    AbortTest(u32, Test, i64, u32),
+    /// The body of this role begins.
+    Body(u32),
+    /// The handler of this role for this exception begins.
+    Handler(u32, u32),
+    /// The role reads this object.
+    ReadStep(u32),
+    /// The role puts this value into this object.
+    PutStep(u32, i64),
+    /// The role puts its register plus this value into this object.
+    AddStep(u32, i64),
+    /// The role mixes its register for so many rounds, at most 1000000.
+    WorkStep(u32),
+    /// The role raises this exception where its register meets the test.
+    CheckStep(Test, i64, u32),
+    /// The role raises this exception.
+    RaiseStep(u32),
+    /// The role enters this nested use.
+    EnterStep(u32),
+    /// The body or handler ends well.
+    DoneLine,
+    /// The body or handler ends well, and signals this exception.
+    SignalLine(u32),
+    /// The body or handler asks for undo.
+    UndoLine,
+}
+
+/// The name that a field says.
+fn name_in(field: Option<Field>) -> u32
+    ensures { result ≡ name_in field }
+{
+    match field {
+        Some(Field::Name(number)) => number,
+        _ => 0,
+    }
+}
+
+fn name_at(fields: &[Field], index: usize) -> u32
+    ensures { result ≡ name_at fields.now index }
+{
+    name_in(fields.get(index).copied())
+}
+
+fn value_at(fields: &[Field], index: usize) -> i64
+    ensures { result ≡ value_at fields.now index }
+{
+    match fields.get(index) {
+        Some(Field::Value(value)) => *value,
+        _ => 0,
+    }
+}
+
+fn count_at(fields: &[Field], index: usize) -> u32
+    ensures { result ≡ count_at fields.now index }
+{
+    match fields.get(index) {
+        Some(Field::Count(count)) => *count,
+        _ => 0,
+    }
+}
+
+fn test_at(fields: &[Field], index: usize) -> Test
+    ensures { result ≡ test_at fields.now index }
+{
+    match fields.get(index) {
+        Some(Field::Test(test)) => *test,
+        _ => Test::Below,
+    }
+}
+
+/// The names that the fields from an index on say.
+fn names_from(alloc: Global, fields: &[Field], index: usize) -> Result<Numbers, AllocError>
+    requires { index ≤ length fields.now }
+    ensures { IfOk result (λ names. names ≡ names_from fields.now index) }
+{
+    let names = fields[index..]
+        .iter()
+        .map(|field| name_in(Some(*field)))
+        .collect(alloc)?;
+    Ok(Numbers::from_vec(names))
+}
+
+/// Adds the fields that these names say.
+fn push_names(fields: &mut Vec<Field>, numbers: &[u32]) -> Result<(), AllocError>
+    ensures { OnOk result (fields.new.items ≡ fields.old.items ++ map Field.Name numbers.now) }
+{
+    for number in numbers {
+        fields.push(Field::Name(*number))?;
+    }
+    Ok(())
+}
+
+/// The fields that these names say, and then those.
+fn name_fields(alloc: Global, first: &[u32], list: &[u32]) -> Result<Vec<Field>, AllocError>
+    ensures { IfOk result (λ fields. fields.items ≡ map Field.Name first.now ++ map Field.Name list.now) }
+{
+    let mut fields = Vec::new(alloc);
+    push_names(&mut fields, first)?;
+    push_names(&mut fields, list)?;
+    Ok(fields)
+}
+
+impl Form {
+    /// Which kind of line says it.
+    pub fn kind(&self) -> LineKind
+        ensures { result ≡ kind_of self.now }
+    {
+        match self {
+            Form::Participant(..) => LineKind::Participant,
+            Form::Object(..) => LineKind::Object,
+            Form::Drill(..) => LineKind::Drill,
+            Form::Watch(..) => LineKind::Watch,
+            Form::Graph(..) => LineKind::Graph,
+            Form::Action(..) => LineKind::Action,
+            Form::Play(..) => LineKind::Play,
+            Form::Exception(..) => LineKind::Exception,
+            Form::Cover(..) => LineKind::Cover,
+            Form::End => LineKind::End,
+            Form::Internal(..) => LineKind::Internal,
+            Form::Interface(..) => LineKind::Interface,
+            Form::Fault(..) => LineKind::Fault,
+            Form::Uses(..) => LineKind::Use,
+            Form::Roles(..) => LineKind::Roles,
+            Form::Nest(..) => LineKind::Nest,
+            Form::Map(..) => LineKind::Map,
+            Form::MapUndo(..) => LineKind::MapUndo,
+            Form::MapFailure(..) => LineKind::MapFailure,
+            Form::Alternate(..) => LineKind::Alternate,
+            Form::Abort(..) => LineKind::Abort,
+            Form::AbortTest(..) => LineKind::AbortTest,
+            Form::Body(..) => LineKind::Body,
+            Form::Handler(..) => LineKind::Handler,
+            Form::ReadStep(..) => LineKind::Read,
+            Form::PutStep(..) => LineKind::Put,
+            Form::AddStep(..) => LineKind::Add,
+            Form::WorkStep(..) => LineKind::Work,
+            Form::CheckStep(..) => LineKind::Check,
+            Form::RaiseStep(..) => LineKind::Raise,
+            Form::EnterStep(..) => LineKind::Enter,
+            Form::DoneLine => LineKind::Done,
+            Form::SignalLine(..) => LineKind::Signal,
+            Form::UndoLine => LineKind::Undo,
+        }
+    }
+
+    /// What the words of its line after the first say.
+    pub fn fields(&self, alloc: Global) -> Result<Vec<Field>, AllocError>
+        ensures { IfOk result (λ fields. fields.items ≡ fields_of self.now) }
+    {
+        match self {
+            Form::Participant(first)
+            | Form::Watch(first)
+            | Form::Graph(first)
+            | Form::Action(first)
+            | Form::Exception(first)
+            | Form::Internal(first)
+            | Form::Interface(first)
+            | Form::Fault(first)
+            | Form::Body(first)
+            | Form::ReadStep(first)
+            | Form::RaiseStep(first)
+            | Form::EnterStep(first)
+            | Form::SignalLine(first) => name_fields(alloc, &[*first], &[]),
+            Form::Object(first, value)
+            | Form::PutStep(first, value)
+            | Form::AddStep(first, value) => [Field::Name(*first), Field::Value(*value)].to_vec(
+                alloc,
+            ),
+            Form::Drill(first, count) => [Field::Name(*first), Field::Count(*count)].to_vec(alloc),
+            Form::Play(first, list) => name_fields(alloc, &[*first], list.items()),
+            Form::Cover(first, second)
+            | Form::MapUndo(first, second)
+            | Form::MapFailure(first, second)
+            | Form::Alternate(first, second)
+            | Form::Abort(first, second)
+            | Form::Handler(first, second) => name_fields(alloc, &[*first, *second], &[]),
+            Form::End | Form::DoneLine | Form::UndoLine => Ok(Vec::new(alloc)),
+            Form::Uses(list) | Form::Roles(list) => name_fields(alloc, &[], list.items()),
+            Form::Nest(first, second, list) => name_fields(alloc, &[*first, *second], list.items()),
+            Form::Map(first, second, third) => name_fields(alloc, &[*first, *second, *third], &[]),
+            Form::AbortTest(first, test, value, second) => [
+                Field::Name(*first),
+                Field::Test(*test),
+                Field::Value(*value),
+                Field::Name(*second),
+            ]
+            .to_vec(alloc),
+            Form::WorkStep(count) => [Field::Count(*count)].to_vec(alloc),
+            Form::CheckStep(test, value, first) => [
+                Field::Test(*test),
+                Field::Value(*value),
+                Field::Name(*first),
+            ]
+            .to_vec(alloc),
+        }
+    }
+
+    /// The form of a kind and its fields.
+    pub fn by(alloc: Global, kind: LineKind, fields: &[Field]) -> Result<Form, AllocError>
+        requires { IsTrue (takes kind (length fields.now)) }
+        ensures { IfOk result (λ form. form ≡ form_by kind fields.now) }
+    {
+        Ok(match kind {
+            LineKind::Participant => Form::Participant(name_at(fields, 0)),
+            LineKind::Object => Form::Object(name_at(fields, 0), value_at(fields, 1)),
+            LineKind::Drill => Form::Drill(name_at(fields, 0), count_at(fields, 1)),
+            LineKind::Watch => Form::Watch(name_at(fields, 0)),
+            LineKind::Graph => Form::Graph(name_at(fields, 0)),
+            LineKind::Action => Form::Action(name_at(fields, 0)),
+            LineKind::Play => Form::Play(name_at(fields, 0), names_from(alloc, fields, 1)?),
+            LineKind::Exception => Form::Exception(name_at(fields, 0)),
+            LineKind::Cover => Form::Cover(name_at(fields, 0), name_at(fields, 1)),
+            LineKind::End => Form::End,
+            LineKind::Internal => Form::Internal(name_at(fields, 0)),
+            LineKind::Interface => Form::Interface(name_at(fields, 0)),
+            LineKind::Fault => Form::Fault(name_at(fields, 0)),
+            LineKind::Use => Form::Uses(names_from(alloc, fields, 0)?),
+            LineKind::Roles => Form::Roles(names_from(alloc, fields, 0)?),
+            LineKind::Nest => Form::Nest(
+                name_at(fields, 0),
+                name_at(fields, 1),
+                names_from(alloc, fields, 2)?,
+            ),
+            LineKind::Map => Form::Map(name_at(fields, 0), name_at(fields, 1), name_at(fields, 2)),
+            LineKind::MapUndo => Form::MapUndo(name_at(fields, 0), name_at(fields, 1)),
+            LineKind::MapFailure => Form::MapFailure(name_at(fields, 0), name_at(fields, 1)),
+            LineKind::Alternate => Form::Alternate(name_at(fields, 0), name_at(fields, 1)),
+            LineKind::Abort => Form::Abort(name_at(fields, 0), name_at(fields, 1)),
+            LineKind::AbortTest => Form::AbortTest(
+                name_at(fields, 0),
+                test_at(fields, 1),
+                value_at(fields, 2),
+                name_at(fields, 3),
+            ),
+            LineKind::Body => Form::Body(name_at(fields, 0)),
+            LineKind::Handler => Form::Handler(name_at(fields, 0), name_at(fields, 1)),
+            LineKind::Read => Form::ReadStep(name_at(fields, 0)),
+            LineKind::Put => Form::PutStep(name_at(fields, 0), value_at(fields, 1)),
+            LineKind::Add => Form::AddStep(name_at(fields, 0), value_at(fields, 1)),
+            LineKind::Work => Form::WorkStep(count_at(fields, 0)),
+            LineKind::Check => Form::CheckStep(
+                test_at(fields, 0),
+                value_at(fields, 1),
+                name_at(fields, 2),
+            ),
+            LineKind::Raise => Form::RaiseStep(name_at(fields, 0)),
+            LineKind::Enter => Form::EnterStep(name_at(fields, 0)),
+            LineKind::Done => Form::DoneLine,
+            LineKind::Signal => Form::SignalLine(name_at(fields, 0)),
+            LineKind::Undo => Form::UndoLine,
+        })
+    }
+}

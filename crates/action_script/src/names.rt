@@ -1,0 +1,66 @@
+ghost use Rattle.std.specs.Prelude.{◌≡◌, ◌+◌, ◌<◌, ◌≤◌, ◌^◌, length, [], IfOk, IfErr, OnOk};
+ghost use Rattle.action_script.specs.Names.{with_name, number_in};
+ghost use Rattle.action_script.specs.declared.error.ScriptCause.TheVariants as cause;
+
+use crate::error::ScriptCause;
+use caa_base::name::Name;
+use indexmap::IndexSet;
+use std::alloc::Global;
+use std::marker::Model;
+
+/// The names of a script, each once, in the order in which they first appear; seen as their list.
+#[derive(Drop)]
+pub struct NameTable<'a> {
+    names: IndexSet<&'a [u8]>,
+}
+
+impl<'a> Model for NameTable<'a> {
+    ghost use Rattle.std.specs.Prelude.{List, ℕ, map};
+
+    ghost Value = { List (List ℕ) };
+
+    ghost view = { λ t. map (λ k. k.now) t.names.keys };
+}
+
+impl<'a> NameTable<'a> {
+    /// No names.
+    pub fn new(alloc: Global) -> Self
+        ensures { result ≡ [] }
+    {
+        NameTable {
+            names: IndexSet::new(alloc),
+        }
+    }
+
+    /// Adds a name at the end, where it isn't there already.
+    pub fn add(&mut self, name: &'a [u8]) -> Result<(), ScriptCause>
+        ensures added { OnOk result (self.new ≡ with_name self.old name.now) }
+        ensures refused { IfErr result (λ e. e ≡ cause.OutOfMemory) }
+    {
+        self.names.insert(name)?;
+        Ok(())
+    }
+
+    /// The number of a name; where it isn't there, the count of names.
+    pub fn number(&self, name: &[u8]) -> u32
+        requires { length self.now < 2 ^ 32 }
+        ensures value { result ≡ number_in self.now name.now }
+    {
+        match self.names.get_index_of(&name) {
+            Some(number) => number as u32,
+            None => self.names.len() as u32,
+        }
+    }
+
+    /// The names, in order.
+    pub fn to_names(&self, alloc: Global) -> Result<Vec<Name>, ScriptCause>
+        ensures names { IfOk result (λ names. names.items ≡ self.now) }
+        ensures refused { IfErr result (λ e. e ≡ cause.OutOfMemory) }
+    {
+        let mut names = Vec::new(alloc);
+        for name in self.names.as_slice() {
+            names.push(Name::from_bytes(alloc, name)?)?;
+        }
+        Ok(names)
+    }
+}

@@ -1,0 +1,84 @@
+ghost use Rattle.std.specs.Prelude.{◌≡◌, ◌≤◌, ◌∷◌, ◌++◌, [], length, map, Ok, OnOk, IfOk, slice_index_or};
+ghost use Rattle.std.specs.List.{flat_map};
+ghost use Rattle.action_script.specs.Lines.{most_bytes, spaced};
+ghost use Rattle.action_script.specs.Reading.{reading_of};
+ghost use Rattle.action_script.specs.Printing.{renumbered, field_word, words_after, form_line, line_text, text_of};
+
+use crate::field::Field;
+use crate::form::Form;
+use crate::script::{Line, Script};
+use crate::word::test_word;
+use caa_base::entry::OutOfMemory;
+use caa_base::name::Name;
+use std::alloc::Global;
+use std::io;
+use std::io::Write;
+
+/// The name of this number, or nothing where there is none.
+fn name_of(names: &[Name], number: u32) -> &[u8]
+    ensures { result.now ≡ slice_index_or names.now number [] }
+{
+    match names.get(number as usize) {
+        Some(name) => name.bytes(),
+        None => &[],
+    }
+}
+
+/// Adds a space and the word that says a field.
+fn push_field(text: &mut Vec<u8>, names: &[Name], field: Field) -> io::Result<()>
+    ensures { OnOk result (text.new.items ≡ text.old.items ++ 32 ∷ field_word names.now field) }
+{
+    text.push(b' ')?;
+    match field {
+        Field::Name(number) => text.extend_from_slice(name_of(names, number))?,
+        Field::Value(value) => write!(text, "{value}")?,
+        Field::Count(count) => write!(text, "{count}")?,
+        Field::Test(test) => text.extend_from_slice(test_word(test))?,
+    }
+    Ok(())
+}
+
+/// Adds each of these fields.
+fn push_fields(text: &mut Vec<u8>, names: &[Name], fields: &[Field]) -> io::Result<()>
+    ensures { OnOk result (text.new.items ≡ text.old.items ++ spaced (map (field_word names.now) fields.now)) }
+{
+    for field in fields {
+        push_field(text, names, *field)?;
+    }
+    Ok(())
+}
+
+/// Adds the line of a form.
+fn push_line(alloc: Global, text: &mut Vec<u8>, names: &[Name], line: &Line) -> io::Result<()>
+    ensures { OnOk result (text.new.items ≡ text.old.items ++ line_text names.now line.now) }
+{
+    let fields = line.form.fields(alloc)?;
+    text.extend_from_slice(line.form.kind().word())?;
+    push_fields(text, names, &fields)?;
+    text.push(b'\n')?;
+    Ok(())
+}
+
+/// Adds all lines.
+fn push_lines(alloc: Global, text: &mut Vec<u8>, names: &[Name], lines: &[Line]) -> io::Result<()>
+    ensures { OnOk result (text.new.items ≡ text.old.items ++ flat_map (line_text names.now) lines.now) }
+{
+    for line in lines {
+        push_line(alloc, text, names, line)?;
+    }
+    Ok(())
+}
+
+/// The text of a script: one line for each form, words parted by one space, each line ended by a line feed.
+pub fn print(alloc: Global, script: &Script) -> Result<Vec<u8>, OutOfMemory>
+    ensures text { IfOk result (λ text. text.items ≡ text_of script.now) }
+    // Where it isn't longer than a script may be, it reads back, on the lines 1, 2, 3 and so on.
+    ensures reads_back { IfOk result (λ text. length text.items ≤ most_bytes → reading_of text.items ≡ Ok (renumbered script.now)) }
+{
+    script.are_script();
+    let mut text = Vec::new(alloc);
+    match push_lines(alloc, &mut text, script.names(), script.lines()) {
+        Ok(()) => Ok(text),
+        Err(_) => Err(OutOfMemory),
+    }
+}

@@ -1,0 +1,162 @@
+ghost use Rattle.std.specs.Prelude.{◌≡◌, ◌≢◌, ◌+◌, ◌-◌, ◌<◌, ◌≤◌, ◌^◌, ◌==◌, ◌∷◌, [], length, position, Ok, Err, IfOk, IfErr, IfSome, OnOk, IsTrue};
+ghost use Rattle.action_script.specs.Lines.{most_bytes, lines_of};
+ghost use Rattle.action_script.specs.Kinds.{takes};
+ghost use Rattle.action_script.specs.Reading.{line_of, reading_of, spelled, said_from};
+ghost use Rattle.action_script.specs.SoFar.{so_far, TookSaid, TookLine, Took, HasRead};
+ghost use Rattle.action_script.specs.declared.error.ScriptCause.TheVariants as cause;
+ghost use Rattle.action_script.specs.declared.kind.Section.TheVariants as section;
+
+use crate::asked::{add_names, fields_of};
+use crate::error::{ScriptCause, ScriptError};
+use crate::form::Form;
+use crate::kind::Section;
+use crate::line::{Said, read_line};
+use crate::names::NameTable;
+use crate::script::{Line, Script};
+use std::alloc::Global;
+
+/// The greatest length of a script.
+const MOST_BYTES: usize = 1_048_576;
+
+/// What was read of a script so far.
+#[derive(Drop)]
+struct Reader<'a> {
+    /// The number of the next line.
+    line: u32,
+    section: Section,
+    names: NameTable<'a>,
+    lines: Vec<Line>,
+}
+
+/// Where the first line feed of a text stands.
+fn find_line_feed(text: &[u8]) -> Option<usize>
+    ensures place { result ≡ position (λ b. b == 10) text.now }
+    ensures within { IfSome result (λ place. place < length text.now) }
+{
+    text.iter().position(|byte| *byte == b'\n')
+}
+
+/// The first line of a text, and what stands after its line feed, if anything.
+fn cut_line(text: &[u8]) -> (&[u8], &[u8])
+    requires { 0 < length text.now }
+    ensures cut { lines_of text.now ≡ result.0.now ∷ lines_of result.1.now }
+    ensures shorter { length result.1.now < length text.now }
+    ensures parts { length result.0.now + length result.1.now ≤ length text.now }
+{
+    match find_line_feed(text) {
+        Some(place) => (&text[..place], &text[place + 1..]),
+        None => (text, &[]),
+    }
+}
+
+impl<'a> Reader<'a> {
+    /// Takes what the next line says.
+    fn take_said(&mut self, alloc: Global, said: &Said<'a>) -> Result<(), ScriptCause>
+        requires room { length self.old.names + length said.now.asked < 2 ^ 32 }
+        requires whole { IsTrue (takes said.now.kind (length said.now.asked)) }
+        ensures taken { OnOk result (TookSaid (so_far self.old) said.now (so_far self.new)) }
+        ensures refused { IfErr result (λ e. e ≡ cause.OutOfMemory) }
+    {
+        add_names(&mut self.names, said.asked())?;
+        let fields = fields_of(alloc, &self.names, said.asked())?;
+        let form = Form::by(alloc, said.kind(), &fields)?;
+        self.lines.push(Line {
+            number: self.line,
+            form,
+        })?;
+        self.section = said.kind().goes_to(self.section);
+        Ok(())
+    }
+
+    /// Takes the next line.
+    fn take_text(&mut self, alloc: Global, line: &'a [u8]) -> Result<(), ScriptCause>
+        requires few { self.old.line < 2 ^ 32 - 1 }
+        requires room { length self.old.names + length line.now < 2 ^ 32 }
+        ensures taken { OnOk result (Took (so_far self.old) line.now (so_far self.new)) }
+        ensures refused { IfErr result (λ e. e ≢ cause.OutOfMemory → line_of self.old.section line.now ≡ Err e) }
+    {
+        if let Some(said) = read_line(alloc, self.section, line)? {
+            self.take_said(alloc, &said)?;
+        }
+        self.line += 1;
+        Ok(())
+    }
+
+    /// Takes the next line, or names its number and its fault.
+    fn take_line(&mut self, alloc: Global, line: &'a [u8]) -> Result<(), ScriptError>
+        requires few { self.old.line < 2 ^ 32 - 1 }
+        requires room { length self.old.names + length line.now < 2 ^ 32 }
+        ensures taken { OnOk result (Took (so_far self.old) line.now (so_far self.new)) }
+        ensures refused { IfErr result (λ e. e.cause ≢ cause.OutOfMemory → line_of self.old.section line.now ≡ Err e.cause) }
+        ensures place { IfErr result (λ e. e.line ≡ self.old.line) }
+    {
+        let number = self.line;
+        match self.take_text(alloc, line) {
+            Ok(()) => Ok(()),
+            Err(cause) => Err(ScriptError {
+                line: number,
+                cause,
+            }),
+        }
+    }
+}
+
+/// Reads all lines of a script.
+fn read_lines(alloc: Global, bytes: &[u8]) -> Result<Reader<'_>, ScriptError>
+    requires { length bytes.now ≤ most_bytes }
+    ensures read { IfOk result (λ reader. HasRead bytes.now [] (so_far reader)) }
+    ensures few_lines { IfOk result (λ reader. length reader.lines.items < 2 ^ 32) }
+    ensures few_names { IfOk result (λ reader. length reader.names < 2 ^ 32) }
+    ensures refused { IfErr result (λ e. e.cause ≢ cause.OutOfMemory → said_from 1 section.Top (lines_of bytes.now) ≡ Err e) }
+{
+    let mut reader = Reader {
+        line: 1,
+        section: Section::Top,
+        names: NameTable::new(alloc),
+        lines: Vec::new(alloc),
+    };
+    let mut rest = bytes;
+    while !rest.is_empty() {
+        let (line, more) = cut_line(rest);
+        match reader.take_line(alloc, line) {
+            Ok(()) => rest = more,
+            Err(error) => return Err(error),
+        }
+    }
+    Ok(reader)
+}
+
+/// Reads a script: its lines that say something, each with its number, and its names in the order in which they first appear.
+///
+/// The error is the first fault of the text. A script past its limit of bytes is `TooLong` at line 0. Else the first line with a
+/// fault is named, and on one line the faults come in this order: the line is too long; it has a byte that no line may have, or
+/// is of no kind that may stand there, or a word isn't the test that is asked for; the first word that isn't the name or number
+/// that is asked for. A script that ends inside a graph or an action is at fault at the number after its last line.
+pub fn read(alloc: Global, bytes: &[u8]) -> Result<Script, ScriptError>
+    ensures read { IfOk result (λ script. reading_of bytes.now ≡ Ok script) }
+    ensures refused { IfErr result (λ e. e.cause ≢ cause.OutOfMemory → reading_of bytes.now ≡ Err e) }
+{
+    if bytes.len() > MOST_BYTES {
+        return Err(ScriptError {
+            line: 0,
+            cause: ScriptCause::TooLong,
+        });
+    }
+    let reader = match read_lines(alloc, bytes) {
+        Ok(reader) => reader,
+        Err(error) => return Err(error),
+    };
+    if !reader.section.at_top() {
+        return Err(ScriptError {
+            line: reader.line,
+            cause: ScriptCause::BadLine,
+        });
+    }
+    match reader.names.to_names(alloc) {
+        Ok(names) => Ok(Script::from_parts(reader.lines, names)),
+        Err(cause) => Err(ScriptError {
+            line: reader.line,
+            cause,
+        }),
+    }
+}

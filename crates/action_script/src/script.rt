@@ -1,0 +1,140 @@
+ghost use Rattle.std.specs.Prelude.{◌≡◌, ◌↔◌, ◌<◌, ◌^◌, [], length, slice_get, Some, IfOk, IsTrue};
+ghost use Rattle.std.specs.Option.{option_map};
+ghost use Rattle.action_script.specs.Printing.{AreScript, forms_of, numbered_from};
+
+use crate::form::Form;
+use caa_base::entry::OutOfMemory;
+use caa_base::name::Name;
+use std::alloc::{AllocError, Global};
+use std::marker::Model;
+
+/// A line of a script that says something.
+#[derive(Drop)]
+pub struct Line {
+    /// Which line of the text it is, counted from 1.
+    pub number: u32,
+    pub form: Form,
+}
+
+/// A script, seen as the list of its lines, each with its number and its form, and the list of its names, each once, in the
+/// order in which they first appear.
+#[derive(Drop)]
+pub struct Script {
+    lines: Vec<Line>,
+    names: Vec<Name>,
+}
+
+impl Model for Script {
+    ghost use Rattle.action_script.specs.ScriptValue.{Script as ScriptLines};
+    ghost use Rattle.action_script.specs.Printing.{AreScript, forms_of};
+
+    ghost Value = { ScriptLines };
+
+    ghost view = { λ s. record { lines = s.lines.items; names = s.names.items } };
+
+    ghost invariant = { λ s. AreScript s.names.items (forms_of s.lines.items) };
+}
+
+impl Script {
+    /// The script of these lines and names.
+    pub(crate) fn from_parts(lines: Vec<Line>, names: Vec<Name>) -> Script
+        requires { AreScript names.items (forms_of lines.items) }
+        ensures lines { result.lines ≡ lines.items }
+        ensures names { result.names ≡ names.items }
+    {
+        Script { lines, names }
+    }
+
+    /// The script of these names and forms, with the line numbers 1, 2, 3 and so on.
+    ///
+    /// There are fewer than 2^32 of both. The forms may follow one another from the top back to the top; their lists aren't
+    /// empty, their values are in their ranges, and the line of each has at most 16,384 bytes. The names are names by the
+    /// grammar, and stand in the order in which the lines of the forms first have them, each once.
+    pub fn of_forms(
+        alloc: Global,
+        names: Vec<Name>,
+        forms: Vec<Form>,
+    ) -> Result<Script, OutOfMemory>
+        requires { AreScript names.items forms.items }
+        ensures lines { IfOk result (λ script. script.lines ≡ numbered_from 1 forms.items) }
+        ensures names { IfOk result (λ script. script.names ≡ names.items) }
+    {
+        match numbered(alloc, forms) {
+            Ok(lines) => Ok(Script::from_parts(lines, names)),
+            Err(_) => Err(OutOfMemory),
+        }
+    }
+
+    /// How many lines say something.
+    pub fn len(&self) -> u32
+        ensures { result ≡ length self.now.lines }
+    {
+        self.lines.len() as u32
+    }
+
+    /// Whether no line says anything.
+    pub fn is_empty(&self) -> bool
+        ensures { IsTrue result ↔ (self.now.lines ≡ []) }
+    {
+        self.lines.is_empty()
+    }
+
+    /// The number in the text of a line that says something; these lines are counted from 0.
+    pub fn number(&self, index: u32) -> u32
+        requires { index < length self.now.lines }
+        ensures { option_map (λ l. l.number) (slice_get self.now.lines index) ≡ Some result }
+    {
+        self.lines[index as usize].number
+    }
+
+    /// What such a line says.
+    pub fn form(&self, index: u32) -> &Form
+        requires { index < length self.now.lines }
+        ensures { option_map (λ l. l.form) (slice_get self.now.lines index) ≡ Some result.now }
+    {
+        &self.lines[index as usize].form
+    }
+
+    /// The name of this number.
+    pub fn name(&self, number: u32) -> &[u8]
+        requires { number < length self.now.names }
+        ensures { slice_get self.now.names number ≡ Some result.now }
+    {
+        self.names[number as usize].bytes()
+    }
+
+    /// All lines, in order.
+    pub fn lines(&self) -> &[Line]
+        ensures { result.now ≡ self.now.lines }
+    {
+        self.lines.as_slice()
+    }
+
+    /// All names, in order.
+    pub fn names(&self) -> &[Name]
+        ensures { result.now ≡ self.now.names }
+    {
+        self.names.as_slice()
+    }
+
+    /// The law that each script could be printed: its forms lead from the top to the top and are whole, their lines aren't too
+    /// long, and its names first appear in their order.
+    pub fn are_script(&self)
+        ensures { AreScript self.now.names (forms_of self.now.lines) }
+    {
+        let _ = &self.lines;
+    }
+}
+
+/// The forms on lines of their own, numbered from 1.
+fn numbered(alloc: Global, forms: Vec<Form>) -> Result<Vec<Line>, AllocError>
+    requires { length forms.items < 2 ^ 32 }
+    ensures { IfOk result (λ lines. lines.items ≡ numbered_from 1 forms.items) }
+{
+    let mut lines = Vec::new(alloc);
+    for form in forms {
+        let number = lines.len() as u32 + 1;
+        lines.push(Line { number, form })?;
+    }
+    Ok(lines)
+}

@@ -1,0 +1,178 @@
+ghost use Rattle.std.specs.Prelude.{◌≡◌, ◌≤◌, ◌&&◌, ◌<◌, ◌^◌, Some, IfSome, option_map, pos};
+ghost use Rattle.std.specs.Option.{ForSome};
+ghost use Rattle.std.specs.List.{list_all};
+ghost use Rattle.action_script.specs.Words.{is_letter, is_digit, is_name_byte, begins_with_letter, is_name, leads_well, digits_after, natural_of, at_most, at_least_one, negative_of, value_of, count_of, rounds_of, test_of, test_word};
+
+use caa_base::entry::Test;
+
+/// The greatest value; the least is its negative.
+const MOST_VALUE: u64 = 1_000_000_000_000;
+
+/// The greatest length of a name.
+const MOST_NAME: usize = 32;
+
+/// The greatest count, and the greatest number of rounds.
+const MOST_COUNT: u64 = 1_000_000;
+
+fn is_letter(byte: u8) -> bool
+    ensures { result ≡ is_letter byte }
+{
+    (byte >= b'A' && byte <= b'Z') || (byte >= b'a' && byte <= b'z')
+}
+
+fn is_digit(byte: u8) -> bool
+    ensures { result ≡ is_digit byte }
+{
+    byte >= b'0' && byte <= b'9'
+}
+
+fn is_name_byte(byte: u8) -> bool
+    ensures { result ≡ is_name_byte byte }
+{
+    is_letter(byte) || is_digit(byte) || byte == b'_' || byte == b'-'
+}
+
+fn begins_with_letter(word: &[u8]) -> bool
+    ensures { result ≡ begins_with_letter word.now }
+{
+    match word.first() {
+        Some(byte) => is_letter(*byte),
+        None => false,
+    }
+}
+
+fn are_name_bytes(word: &[u8]) -> bool
+    ensures { result ≡ list_all is_name_byte word.now }
+{
+    word.iter().all(|byte| is_name_byte(*byte))
+}
+
+/// Whether a word is a name.
+pub fn is_name(word: &[u8]) -> bool
+    ensures { result ≡ is_name word.now }
+{
+    begins_with_letter(word) && word.len() <= MOST_NAME && are_name_bytes(word)
+}
+
+fn leads_well(word: &[u8]) -> bool
+    ensures { result ≡ leads_well word.now }
+{
+    match word.split_first() {
+        Some((byte, rest)) => *byte != b'0' || rest.is_empty(),
+        None => false,
+    }
+}
+
+fn are_digits(word: &[u8]) -> bool
+    ensures { result ≡ list_all is_digit word.now }
+{
+    word.iter().all(|byte| is_digit(*byte))
+}
+
+/// The number of these digits, where it is at most `most`.
+fn digits_within(digits: &[u8], most: u64) -> Option<u64>
+    requires { most ≤ 1000000000000 }
+    ensures value { result ≡ at_most most (Some (digits_after 0 digits.now)) }
+    ensures small { IfSome result (λ number. number ≤ most) }
+{
+    let mut number = 0u64;
+    for digit in digits {
+        if number > most {
+            return None;
+        }
+        number = 10 * number + u64::from(digit.saturating_sub(b'0'));
+    }
+    if number > most {
+        return None;
+    }
+    Some(number)
+}
+
+/// The number that a word writes without a sign, where there is one and it is at most `most`.
+fn natural_of(word: &[u8], most: u64) -> Option<u64>
+    requires { most ≤ 1000000000000 }
+    ensures value { result ≡ at_most most (natural_of word.now) }
+    ensures small { IfSome result (λ number. number ≤ most) }
+{
+    if leads_well(word) && are_digits(word) {
+        digits_within(word, most)
+    } else {
+        None
+    }
+}
+
+fn negative_of(number: Option<u64>) -> Option<i64>
+    requires { ForSome number (λ n. n ≤ 1000000000000) }
+    ensures { result ≡ negative_of number }
+{
+    match number {
+        None | Some(0) => None,
+        Some(number) => Some(-(number as i64)),
+    }
+}
+
+fn positive_of(number: Option<u64>) -> Option<i64>
+    requires { ForSome number (λ n. n ≤ 1000000000000) }
+    ensures { result ≡ option_map pos number }
+{
+    match number {
+        None => None,
+        Some(number) => Some(number as i64),
+    }
+}
+
+/// The value that a word writes.
+pub fn value_of(word: &[u8]) -> Option<i64>
+    ensures { result ≡ value_of word.now }
+{
+    let (byte, rest) = word.split_first()?;
+    if *byte == b'-' {
+        negative_of(natural_of(rest, MOST_VALUE))
+    } else {
+        positive_of(natural_of(word, MOST_VALUE))
+    }
+}
+
+/// The number of rounds that a word writes.
+pub fn rounds_of(word: &[u8]) -> Option<u32>
+    ensures { result ≡ rounds_of word.now }
+{
+    let number = natural_of(word, MOST_COUNT)?;
+    Some(number as u32)
+}
+
+/// The count that a word writes.
+pub fn count_of(word: &[u8]) -> Option<u32>
+    ensures { result ≡ count_of word.now }
+{
+    match rounds_of(word) {
+        None | Some(0) => None,
+        Some(number) => Some(number),
+    }
+}
+
+/// The test that a word writes.
+pub fn test_of(word: &[u8]) -> Option<Test>
+    ensures { result ≡ test_of word.now }
+{
+    if word == b"below".as_slice() {
+        Some(Test::Below)
+    } else if word == b"above".as_slice() {
+        Some(Test::Above)
+    } else if word == b"equal".as_slice() {
+        Some(Test::Equal)
+    } else {
+        None
+    }
+}
+
+/// The word of a test.
+pub fn test_word(test: Test) -> &'static [u8]
+    ensures { result.now ≡ test_word test }
+{
+    match test {
+        Test::Below => b"below",
+        Test::Above => b"above",
+        Test::Equal => b"equal",
+    }
+}
