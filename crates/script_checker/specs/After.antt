@@ -1,5 +1,5 @@
 -- What a line adds to what the lines before it declare.
-use Rattle.std.specs.Prelude.{ℕ, ◌+◌, Bool, true, false, List, [], ◌∷◌, ◌++◌, map, length, slice_index_or, slice_set, replicate, Option, Some, None, unwrap_or}
+use Rattle.std.specs.Prelude.{ℕ, ◌+◌, Bool, true, false, not, ◌&&◌, List, [], ◌∷◌, ◌++◌, map, length, slice_index_or, slice_set, replicate, Option, Some, None, unwrap_or}
 use Rattle.caa_base.specs.declared.entry.Verdict.{Verdict}
 use Rattle.caa_base.specs.declared.entry.Verdict.TheVariants as verdict
 use Rattle.place_plan.specs.declared.rows.ActionRow.{ActionRow}
@@ -18,15 +18,75 @@ use Rattle.action_script.specs.declared.form.Form.{Form}
 use Rattle.action_script.specs.declared.form.Form.TheVariants as form
 use Rattle.script_checker.specs.declared.parts.Block.{Block}
 use Rattle.script_checker.specs.declared.parts.Block.TheVariants as block
-use Rattle.script_checker.specs.declared.parts.DeclaredNest.{DeclaredNest}
+use Rattle.script_checker.specs.declared.parts.NestSaid.{NestSaid}
 use Rattle.script_checker.specs.declared.parts.Opening.{Opening}
-use Rattle.script_checker.specs.Numbers.{chosen_from, counted, at, nested_weight}
-use Rattle.script_checker.specs.SoFar.{SoFar, graph_number, exceptions_at, internal_graph, interface_graph, inner, outer, face, action_of, nest_of, role_of, no_declared_nest}
+use Rattle.place_plan.specs.Weights.{counted, at, nested_weight}
+use Rattle.script_checker.specs.Numbers.{chosen_from}
+use Rattle.script_checker.specs.SoFar.{SoFar, graph_number, exceptions_at, internal_graph, interface_graph, inner, outer, face, action_of, nest_of, said_of, role_of, nothing_said}
 use Rattle.script_checker.specs.Causes.{places_with, bound_with}
 
 -- the name of this number
 abbrev pub name_at : List (List ℕ) → ℕ → List ℕ
 name_at names n = slice_index_or names n []
+
+-- the step that a line says
+abbrev pub step_of : SoFar → Form → Option Step
+step_of s (form.ReadStep object) = Some (step.Read (index_of object s.objects))
+step_of s (form.PutStep object value) = Some (step.Put (index_of object s.objects) value)
+step_of s (form.AddStep object value) = Some (step.Add (index_of object s.objects) value)
+step_of s (form.WorkStep rounds) = Some (step.Work rounds)
+step_of s (form.CheckStep test value exception) = Some (step.Check test value (index_of exception (inner s)))
+step_of s (form.RaiseStep exception) = Some (step.Raise (index_of exception (inner s)))
+step_of s (form.EnterStep nest) = Some (step.Enter (index_of nest s.nests))
+step_of s _ = None
+
+-- the verdict that a line says
+abbrev pub verdict_of : SoFar → Form → Verdict
+verdict_of s (form.SignalLine exception) = verdict.Signal (index_of exception (outer s))
+verdict_of s form.UndoLine = verdict.Undo
+verdict_of s _ = verdict.Done
+
+-- ---- the kinds of lines
+
+-- a step, or the line of a verdict
+abbrev pub goes_on : Form → Bool
+goes_on (form.ReadStep object) = true
+goes_on (form.PutStep object value) = true
+goes_on (form.AddStep object value) = true
+goes_on (form.WorkStep rounds) = true
+goes_on (form.CheckStep test value exception) = true
+goes_on (form.RaiseStep exception) = true
+goes_on (form.EnterStep nest) = true
+goes_on form.DoneLine = true
+goes_on (form.SignalLine exception) = true
+goes_on form.UndoLine = true
+goes_on _ = false
+
+-- of the roles or the nested uses of an action
+abbrev pub is_of_parts : Form → Bool
+is_of_parts (form.Nest nest action roles) = true
+is_of_parts (form.Map nest lower upper) = true
+is_of_parts (form.MapUndo nest exception) = true
+is_of_parts (form.MapFailure nest exception) = true
+is_of_parts (form.Alternate nest action) = true
+is_of_parts (form.Abort role exception) = true
+is_of_parts (form.AbortTest role test value exception) = true
+is_of_parts (form.Body role) = true
+is_of_parts (form.Handler role exception) = true
+is_of_parts _ = false
+
+-- of an action as a whole
+abbrev pub is_of_action : Form → Bool
+is_of_action (form.Internal graph) = true
+is_of_action (form.Interface graph) = true
+is_of_action (form.Fault exception) = true
+is_of_action (form.Uses objects) = true
+is_of_action (form.Roles roles) = true
+is_of_action _ = false
+
+-- outside actions, or at the beginning or the end of one
+abbrev pub is_outside : Form → Bool
+is_outside f = not (goes_on f) && (not (is_of_parts f) && not (is_of_action f))
 
 -- ---- bodies and handlers
 
@@ -46,20 +106,6 @@ closed_if s (Some o) verdict = record s {
 -- the body or handler that is being declared, if any, has ended with this verdict
 abbrev pub closed : SoFar → Verdict → SoFar
 closed s verdict = closed_if s s.opening verdict
-
--- a step, or the line of a verdict
-abbrev pub goes_on : Form → Bool
-goes_on (form.ReadStep object) = true
-goes_on (form.PutStep object value) = true
-goes_on (form.AddStep object value) = true
-goes_on (form.WorkStep rounds) = true
-goes_on (form.CheckStep test value exception) = true
-goes_on (form.RaiseStep exception) = true
-goes_on (form.EnterStep nest) = true
-goes_on form.DoneLine = true
-goes_on (form.SignalLine exception) = true
-goes_on form.UndoLine = true
-goes_on _ = false
 
 abbrev pub settled_if : Bool → SoFar → SoFar
 settled_if true s = s
@@ -85,28 +131,16 @@ abbrev pub with_abort : SoFar → ℕ → AbortRow → SoFar
 with_abort s role row = record s { role_rows = slice_set s.role_rows (index_of role s.roles) (record (role_of s role) { abort = row }) }
 
 -- a nested use that carries `universal` out whatever happens
-abbrev pub plain_nest : List ℕ → ℕ → List ℕ → ℕ → DeclaredNest
-plain_nest name action roles exceptions = record {
-  row = record { name = name; actions = action ∷ []; roles = roles; maps = replicate exceptions 0; undo = 0; failure = 0 };
-  mapped = [];
-  has_undo = false;
-  has_failure = false;
-}
+abbrev pub plain_nest : List ℕ → ℕ → List ℕ → ℕ → NestRow
+plain_nest name action roles exceptions = record { name = name; actions = action ∷ []; roles = roles; maps = replicate exceptions 0; undo = 0; failure = 0 }
 
-abbrev pub with_nest : SoFar → ℕ → DeclaredNest → SoFar
+-- the row of a nested use is another
+abbrev pub with_nest : SoFar → ℕ → NestRow → SoFar
 with_nest s nest row = record s { nest_rows = slice_set s.nest_rows (index_of nest s.nests) row }
 
-abbrev pub mapping : DeclaredNest → ℕ → ℕ → DeclaredNest
-mapping nest lower upper = record nest { row = record nest.row { maps = slice_set nest.row.maps lower upper }; mapped = nest.mapped ++ lower ∷ [] }
-
-abbrev pub mapping_undo : DeclaredNest → ℕ → DeclaredNest
-mapping_undo nest exception = record nest { row = record nest.row { undo = exception }; has_undo = true }
-
-abbrev pub mapping_failure : DeclaredNest → ℕ → DeclaredNest
-mapping_failure nest exception = record nest { row = record nest.row { failure = exception }; has_failure = true }
-
-abbrev pub with_alternate : DeclaredNest → ℕ → DeclaredNest
-with_alternate nest action = record nest { row = record nest.row { actions = nest.row.actions ++ action ∷ [] } }
+-- so is what was said of it
+abbrev pub with_nest_said : SoFar → ℕ → NestRow → NestSaid → SoFar
+with_nest_said s nest row said = record (with_nest s nest row) { nests_said = slice_set s.nests_said (index_of nest s.nests) said }
 
 -- ---- graphs and actions
 
@@ -128,6 +162,7 @@ begun s name = record s {
   bodies = [];
   nests = [];
   nest_rows = [];
+  nests_said = [];
   opening = None;
   steps = [];
 }
@@ -141,23 +176,34 @@ action_row names s = record {
   fault = unwrap_or s.fault 0;
   objects = s.uses;
   roles = s.role_rows;
-  nests = map (λ (n : DeclaredNest). n.row) s.nest_rows;
+  nests = s.nest_rows;
 }
 
--- the actions and their sizes with one more
+-- the sizes of one more action, by those of the actions before it
+abbrev pub with_depth : SoFar → ActionRow → SoFar
+with_depth s row = record s { depths = s.depths ++ counted (1 + deepest (at s.depths) row.nests) ∷ [] }
+
+abbrev pub with_places : SoFar → ActionRow → SoFar
+with_places s row = record s { places = s.places ++ counted (1 + nested_weight (at s.places) row.nests) ∷ [] }
+
+abbrev pub with_bound : SoFar → ActionRow → SoFar
+with_bound s row = record s { bounds = s.bounds ++ counted (action_bound row (length row.roles) + nested_weight (at s.bounds) row.nests) ∷ [] }
+
+abbrev pub with_action_row : SoFar → ActionRow → SoFar
+with_action_row s row = record s { block = block.Top; actions = s.actions ++ row ∷ [] }
+
+-- one more action, with its sizes
 abbrev pub with_action : SoFar → ActionRow → SoFar
-with_action s row = record s {
-  block = block.Top;
-  actions = s.actions ++ row ∷ [];
-  depths = s.depths ++ counted (1 + deepest (at s.depths) row.nests) ∷ [];
-  places = s.places ++ counted (1 + nested_weight (at s.places) row.nests) ∷ [];
-  bounds = s.bounds ++ counted (action_bound row (length row.roles) + nested_weight (at s.bounds) row.nests) ∷ [];
-}
+with_action s row = with_action_row (with_bound (with_places (with_depth s row) row) row) row
+
+-- what was said of it goes with it
+abbrev pub without_parts : SoFar → SoFar
+without_parts s = record s { uses = []; role_rows = []; nest_rows = [] }
 
 abbrev pub ended : List (List ℕ) → SoFar → Block → SoFar
 ended names s block.Top = s
 ended names s block.Graph = with_graph s
-ended names s block.Action = with_action s (action_row names s)
+ended names s block.Action = with_action (without_parts s) (action_row names s)
 
 -- ---- all lines
 
@@ -184,12 +230,18 @@ with_said names s (form.Roles roles) = record s { roles = roles; role_rows = map
 with_said names s (form.Nest nest action roles) = record s {
   nests = s.nests ++ nest ∷ [];
   nest_rows = s.nest_rows
-    ++ plain_nest (name_at names nest) (index_of action s.action_names) (map (λ r. index_of r s.roles) roles) (length (exceptions_at s.graphs (action_of s action).interface)) ∷ [];
+      ++ plain_nest (name_at names nest) (index_of action s.action_names) (map (λ r. index_of r s.roles) roles) (length (exceptions_at s.graphs (action_of s action).interface)) ∷ [];
+  nests_said = s.nests_said ++ nothing_said ∷ [];
 }
-with_said names s (form.Map nest lower upper) = with_nest s nest (mapping (nest_of s nest) (index_of lower (face s nest)) (index_of upper (inner s)))
-with_said names s (form.MapUndo nest exception) = with_nest s nest (mapping_undo (nest_of s nest) (index_of exception (inner s)))
-with_said names s (form.MapFailure nest exception) = with_nest s nest (mapping_failure (nest_of s nest) (index_of exception (inner s)))
-with_said names s (form.Alternate nest action) = with_nest s nest (with_alternate (nest_of s nest) (index_of action s.action_names))
+with_said names s (form.Map nest lower upper) =
+    let number = index_of lower (face s nest) in
+    with_nest_said s nest (record (nest_of s nest) { maps = slice_set (nest_of s nest).maps number (index_of upper (inner s)) }) (record (said_of s nest) { mapped = (said_of s nest).mapped ++ number ∷ [] })
+with_said names s (form.MapUndo nest exception) =
+    with_nest_said s nest (record (nest_of s nest) { undo = index_of exception (inner s) }) (record (said_of s nest) { has_undo = true })
+with_said names s (form.MapFailure nest exception) =
+    with_nest_said s nest (record (nest_of s nest) { failure = index_of exception (inner s) }) (record (said_of s nest) { has_failure = true })
+with_said names s (form.Alternate nest action) =
+    with_nest s nest (record (nest_of s nest) { actions = (nest_of s nest).actions ++ index_of action s.action_names ∷ [] })
 with_said names s (form.Abort role exception) = with_abort s role (abort.Always (index_of exception (outer s)))
 with_said names s (form.AbortTest role test value exception) = with_abort s role (abort.Where test value (index_of exception (outer s)))
 with_said names s (form.Body role) = record (with_opening s (index_of role s.roles) None) { bodies = s.bodies ++ index_of role s.roles ∷ [] }

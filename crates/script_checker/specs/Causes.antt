@@ -13,21 +13,10 @@ use Rattle.action_script.specs.declared.form.Form.{Form}
 use Rattle.action_script.specs.declared.form.Form.TheVariants as form
 use Rattle.script_checker.specs.declared.error.CheckCause.{CheckCause}
 use Rattle.script_checker.specs.declared.error.CheckCause.TheVariants as cause
-use Rattle.script_checker.specs.declared.parts.Block.{Block}
-use Rattle.script_checker.specs.declared.parts.Block.TheVariants as block
-use Rattle.script_checker.specs.declared.parts.DeclaredNest.{DeclaredNest}
-use Rattle.script_checker.specs.Numbers.{is_among, has_twice, counted, at}
-use Rattle.script_checker.specs.SoFar.{SoFar, exceptions_at, inner, outer, face, face_of, action_of, nest_of, role_of}
-
--- ---- where a line stands
-
-abbrev pub is_in_graph : Block → Bool
-is_in_graph block.Graph = true
-is_in_graph _ = false
-
-abbrev pub is_in_action : Block → Bool
-is_in_action block.Action = true
-is_in_action _ = false
+use Rattle.script_checker.specs.Blocks.{is_in_graph, is_in_action}
+use Rattle.place_plan.specs.Weights.{counted, at}
+use Rattle.script_checker.specs.Numbers.{is_among, has_twice}
+use Rattle.script_checker.specs.SoFar.{SoFar, exceptions_at, inner, outer, face, face_of, action_of, nest_of, said_of, role_of}
 
 -- ---- a name that the line uses isn't declared
 
@@ -88,9 +77,9 @@ is_twice s (form.Fault exception) = is_some s.fault
 is_twice s (form.Uses objects) = not (is_empty s.uses) || has_twice objects
 is_twice s (form.Roles roles) = not (is_empty s.roles) || has_twice roles
 is_twice s (form.Nest nest action roles) = is_among s.nests nest
-is_twice s (form.Map nest lower upper) = member (index_of lower (face s nest)) (nest_of s nest).mapped
-is_twice s (form.MapUndo nest exception) = (nest_of s nest).has_undo
-is_twice s (form.MapFailure nest exception) = (nest_of s nest).has_failure
+is_twice s (form.Map nest lower upper) = member (index_of lower (face s nest)) (said_of s nest).mapped
+is_twice s (form.MapUndo nest exception) = (said_of s nest).has_undo
+is_twice s (form.MapFailure nest exception) = (said_of s nest).has_failure
 is_twice s (form.Abort role exception) = is_said (role_of s role).abort
 is_twice s (form.AbortTest role test value exception) = is_said (role_of s role).abort
 is_twice s (form.Body role) = member (index_of role s.roles) s.bodies
@@ -106,21 +95,21 @@ is_filled_by s action count = length (action_of s action).roles == count
 abbrev pub is_unfilled : SoFar → Form → Bool
 is_unfilled s (form.Play action who) = not (is_filled_by s action (length who))
 is_unfilled s (form.Nest nest action roles) = not (is_filled_by s action (length roles))
-is_unfilled s (form.Alternate nest action) = not (is_filled_by s action (length (nest_of s nest).row.roles))
+is_unfilled s (form.Alternate nest action) = not (is_filled_by s action (length (nest_of s nest).roles))
 is_unfilled s form.End = is_in_action s.block && is_empty s.roles
 is_unfilled s _ = false
 
 -- ---- the line fills two roles by one
 
-abbrev pub fills_twice : SoFar → Form → Bool
-fills_twice s (form.Play action who) = has_twice who
-fills_twice s (form.Nest nest action roles) = has_twice roles
-fills_twice s _ = false
+abbrev pub fills_twice : Form → Bool
+fills_twice (form.Play action who) = has_twice who
+fills_twice (form.Nest nest action roles) = has_twice roles
+fills_twice _ = false
 
 -- ---- the line ends an action in which a role doesn't enter just the uses that it fills, each once, in their order
 
 abbrev pub enters_otherwise : SoFar → Form → Bool
-enters_otherwise s form.End = is_in_action s.block && not (roles_enter (map (λ (n : DeclaredNest). n.row) s.nest_rows) 0 s.role_rows)
+enters_otherwise s form.End = is_in_action s.block && not (roles_enter s.nest_rows 0 s.role_rows)
 enters_otherwise s _ = false
 
 -- ---- the line touches an object that the action doesn't use, as far as its objects were said
@@ -167,7 +156,7 @@ is_past_limit s (form.Play action who) = nat_lt 65536 (places_with s action)
 is_past_limit s (form.Exception name) = nat_le most_exceptions (length s.exceptions)
 is_past_limit s (form.Roles roles) = nat_lt 16 (length roles)
 is_past_limit s (form.Nest nest action roles) = nat_le 256 (length s.nests)
-is_past_limit s (form.Alternate nest action) = nat_le 4 (length (nest_of s nest).row.actions)
+is_past_limit s (form.Alternate nest action) = nat_le 4 (length (nest_of s nest).actions)
 is_past_limit s (form.ReadStep object) = nat_le 256 (length s.steps)
 is_past_limit s (form.PutStep object value) = nat_le 256 (length s.steps)
 is_past_limit s (form.AddStep object value) = nat_le 256 (length s.steps)
@@ -207,7 +196,7 @@ HasCause s f cause.Twice = is_twice s f ≡ true
 HasCause s f (cause.Cycle at) = (ends_graph s f ≡ true) × IsFirstInCycle (length s.exceptions) s.pairs at
 HasCause s f (cause.NoLeast a b) = (ends_graph s f ≡ true) × IsFirstUnjoined (length s.exceptions) s.pairs a b
 HasCause s f cause.RoleUnfilled = is_unfilled s f ≡ true
-HasCause s f cause.RoleTwice = fills_twice s f ≡ true
+HasCause s f cause.RoleTwice = fills_twice f ≡ true
 HasCause s f cause.NestOrder = enters_otherwise s f ≡ true
 HasCause s f cause.ObjectNotHeld = is_not_held s f ≡ true
 HasCause s f cause.TooDeep = is_too_deep s f ≡ true

@@ -1,5 +1,5 @@
 -- What a script comes to: its plan, or the first line that is refused.
-use Rattle.std.specs.Prelude.{◌≡◌, ℕ, ◌<◌, List, [], ◌∷◌, ◌++◌, map, length, codes, Result, Ok, Err}
+use Rattle.std.specs.Prelude.{◌≡◌, ℕ, ◌<◌, List, [], ◌∷◌, ◌++◌, map, length, slice_index_or, codes, Result, Ok, Err}
 use Rattle.cover_table.specs.Cover.{IsSound}
 use Rattle.exception_graph.specs.Chains.{IsOrderOf}
 use Rattle.place_plan.specs.declared.draft.Draft.{Draft}
@@ -15,7 +15,7 @@ use Rattle.script_checker.specs.declared.error.CheckError.{CheckError}
 use Rattle.script_checker.specs.declared.parts.DeclaredGraph.{DeclaredGraph}
 use Rattle.script_checker.specs.SoFar.{SoFar, nothing_yet}
 use Rattle.script_checker.specs.Causes.{HasCause}
-use Rattle.script_checker.specs.After.{name_at, settled, after}
+use Rattle.script_checker.specs.After.{settled, after}
 
 -- ---- one line
 
@@ -35,14 +35,22 @@ number_of cause.JournalBound = 20
 number_of cause.OutOfMemory = 21
 number_of cause.AlternateFace = 22
 
--- the line has this cause, and none of a lesser number
-pub record IsLeastCause (s : SoFar) (form : Form) (least : CheckCause) : Type 0 where
-  pub has : HasCause (settled s form) form least
-  pub lesser : (other : CheckCause) → number_of other < number_of least → ¬ (HasCause (settled s form) form other)
+-- by what is declared when the line comes, it has this cause, and none of a lesser number
+pub record IsLeast (s : SoFar) (form : Form) (least : CheckCause) : Type 0 where
+  pub has : HasCause s form least
+  pub lesser : (other : CheckCause) → number_of other < number_of least → ¬ (HasCause s form other)
 
--- the line has no cause
+-- it has none
+abbrev pub HasNone : SoFar → Form → Type 0
+HasNone s form = (some : CheckCause) → ¬ (HasCause s form some)
+
+-- after lines that declare this, the line has this least cause
+abbrev pub IsLeastCause : SoFar → Form → CheckCause → Type 0
+IsLeastCause s form least = IsLeast (settled s form) form least
+
+-- after lines that declare this, the line has no cause
 abbrev pub IsAccepted : SoFar → Form → Type 0
-IsAccepted s form = (some : CheckCause) → ¬ (HasCause (settled s form) form some)
+IsAccepted s form = HasNone (settled s form) form
 
 -- ---- all lines
 
@@ -58,9 +66,13 @@ AreAccepted names s (line ∷ lines) = IsAccepted s line.form × AreAccepted nam
 
 -- ---- the plan
 
+-- the name of an exception; a number that is no name's stands for `universal`
+abbrev pub exception_name : List (List ℕ) → ℕ → List ℕ
+exception_name names n = slice_index_or names n (codes "universal")
+
 -- the row has the names that are declared, and the order that the declared pairs make, which is sound
 pub record IsRowOf (names : List (List ℕ)) (graph : DeclaredGraph) (row : GraphRow) : Type 0 where
-  pub named : row.names ≡ map (name_at (names ++ codes "universal" ∷ [])) graph.exceptions
+  pub named : row.names ≡ map (exception_name names) graph.exceptions
   pub order : IsOrderOf (length graph.exceptions) graph.pairs row.graph
   pub sound : IsSound row.graph
 
@@ -100,7 +112,7 @@ pub record IsFirstRefused (script : Script) (error : CheckError) : Type 0 where
   pub least : IsLeastCause (declared_after script.names (nothing_yet script.names) before) line.form error.cause
 
 -- the answer to a script; want of memory tells nothing of it
-data IsAnswer (script : Script) : Result Plan CheckError → Type 0 where
+pub data IsAnswer (script : Script) : Result Plan CheckError → Type 0 where
   planned : {plan : Plan} → IsPlanOf script plan → IsAnswer script (Ok plan)
   refused : {error : CheckError} → IsFirstRefused script error → IsAnswer script (Err error)
-  wanting : {line : ℕ} → IsAnswer script (Err (record { line = line; cause = cause.OutOfMemory }))
+  wanting : {error : CheckError} → error.cause ≡ cause.OutOfMemory → IsAnswer script (Err error)

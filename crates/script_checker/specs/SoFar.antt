@@ -13,7 +13,7 @@ use Rattle.action_script.specs.Names.{number_in}
 use Rattle.script_checker.specs.declared.parts.Block.{Block}
 use Rattle.script_checker.specs.declared.parts.Block.TheVariants as block
 use Rattle.script_checker.specs.declared.parts.DeclaredGraph.{DeclaredGraph}
-use Rattle.script_checker.specs.declared.parts.DeclaredNest.{DeclaredNest}
+use Rattle.script_checker.specs.declared.parts.NestSaid.{NestSaid}
 use Rattle.script_checker.specs.declared.parts.Opening.{Opening}
 
 -- names go by their numbers in the script
@@ -58,7 +58,9 @@ pub record SoFar : Type 0 where
   -- the roles that have a body
   pub bodies : List ℕ
   pub nests : List ℕ
-  pub nest_rows : List DeclaredNest
+  pub nest_rows : List NestRow
+  -- what was said of each of these
+  pub nests_said : List NestSaid
   -- the body or handler that is being declared, and its steps so far
   pub opening : Option Opening
   pub steps : List Step
@@ -101,6 +103,7 @@ nothing_yet names = record {
   bodies = [];
   nests = [];
   nest_rows = [];
+  nests_said = [];
   opening = None;
   steps = [];
 }
@@ -110,8 +113,8 @@ nothing_yet names = record {
 abbrev pub no_graph : DeclaredGraph
 no_graph = record { exceptions = []; pairs = [] }
 
-abbrev pub no_declared_nest : DeclaredNest
-no_declared_nest = record { row = no_nest; mapped = []; has_undo = false; has_failure = false }
+abbrev pub nothing_said : NestSaid
+nothing_said = record { mapped = []; has_undo = false; has_failure = false }
 
 -- the number of a graph: those that are declared come after the plain one
 abbrev pub graph_number : SoFar → ℕ → ℕ
@@ -140,12 +143,16 @@ abbrev pub action_of : SoFar → ℕ → ActionRow
 action_of s name = slice_index_or s.actions (index_of name s.action_names) no_action
 
 -- a nested use of this name
-abbrev pub nest_of : SoFar → ℕ → DeclaredNest
-nest_of s name = slice_index_or s.nest_rows (index_of name s.nests) no_declared_nest
+abbrev pub nest_of : SoFar → ℕ → NestRow
+nest_of s name = slice_index_or s.nest_rows (index_of name s.nests) no_nest
+
+-- what was said of it
+abbrev pub said_of : SoFar → ℕ → NestSaid
+said_of s name = slice_index_or s.nests_said (index_of name s.nests) nothing_said
 
 -- the graph of the exceptions that the actions of a nested use tell outside: that of its first action
 abbrev pub face_of : SoFar → ℕ → ℕ
-face_of s nest = (slice_index_or s.actions (slice_index_or (nest_of s nest).row.actions 0 0) no_action).interface
+face_of s nest = (slice_index_or s.actions (slice_index_or (nest_of s nest).actions 0 0) no_action).interface
 
 abbrev pub face : SoFar → ℕ → List ℕ
 face s nest = exceptions_at s.graphs (face_of s nest)

@@ -34,6 +34,7 @@ so_far d = record {
   bodies = d.bodies.items;
   nests = d.nests;
   nest_rows = d.nest_rows.items;
+  nests_said = d.nests_said.items;
   opening = d.opening;
   steps = d.steps.items;
 }

@@ -4,25 +4,27 @@ ghost use Rattle.std.specs.Prelude.{◌≡◌, ◌≤◌, nat_le, length, map, n
 ghost use Rattle.std.specs.List.{list_any, list_all};
 ghost use Rattle.place_plan.specs.Words.{member, index_of};
 ghost use Rattle.place_plan.specs.DraftRules.{roles_enter};
-ghost use Rattle.script_checker.specs.Numbers.{is_among, counted};
-ghost use Rattle.script_checker.specs.SoFar.{SoFar, nest_of, role_of, face, inner};
-ghost use Rattle.script_checker.specs.Causes.{is_in_action, is_action, is_unknown, is_drill, is_said, handles, is_twice, is_filled_by, is_unfilled, fills_twice, enters_otherwise, holds, holds_all, is_not_held, is_deepest, is_too_deep, places_with, is_past_limit, bound_with, is_past_bound, has_other_face};
+ghost use Rattle.place_plan.specs.Weights.{counted, at};
+ghost use Rattle.script_checker.specs.Numbers.{is_among};
+ghost use Rattle.script_checker.specs.SoFar.{nest_of, said_of, role_of, face, inner};
+ghost use Rattle.script_checker.specs.Causes.{is_action, is_unknown, is_drill, is_said, handles, is_twice, is_filled_by, is_unfilled, fills_twice, enters_otherwise, holds, holds_all, is_not_held, is_deepest, is_too_deep, places_with, is_past_limit, bound_with, is_past_bound, has_other_face};
+ghost use Rattle.script_checker.specs.Blocks.{is_in_action};
 ghost use Rattle.script_checker.specs.View.{so_far};
 
 use crate::declared::Declared;
-use crate::enters::are_entered;
 use crate::lookups::{
-    are_among, are_members, at, count_roles, exception_in, face_of, has_exception, has_twice,
+    are_among, are_members, count_roles, exception_in, face_of, has_exception, has_twice,
     inner_number, interface_at, is_inner, is_member, is_outer,
 };
 use crate::parts::Block;
-use crate::sizes::counted_sum;
 use action_script::form::Form;
 use caa_base::limits::{
     MOST_ACTIONS, MOST_DEPTH, MOST_DRILLS, MOST_ENTRIES, MOST_EXCEPTIONS, MOST_GRAPHS, MOST_NESTS,
     MOST_OBJECTS, MOST_PARTICIPANTS, MOST_PLACES, MOST_ROLES, MOST_STEPS, MOST_WATCHES,
 };
 use place_plan::rows::AbortRow;
+use place_plan::tables::{counted_sum, number_at};
+use place_plan::uses::roles_enter;
 
 /// Actions of a nested use.
 const MOST_ALTERNATES: usize = 4;
@@ -107,7 +109,7 @@ fn is_mapped(declared: &Declared, nest: u32, lower: u32) -> bool
 {
     let number = exception_in(declared, face_of(declared, nest), lower);
     match declared
-        .nest_rows
+        .nests_said
         .as_slice()
         .get(declared.nests.find(nest) as usize)
     {
@@ -118,10 +120,10 @@ fn is_mapped(declared: &Declared, nest: u32, lower: u32) -> bool
 
 /// Whether the undo of a nested use is mapped.
 fn has_undo(declared: &Declared, nest: u32) -> bool
-    ensures { result ≡ (nest_of (so_far declared.now) nest).has_undo }
+    ensures { result ≡ (said_of (so_far declared.now) nest).has_undo }
 {
     match declared
-        .nest_rows
+        .nests_said
         .as_slice()
         .get(declared.nests.find(nest) as usize)
     {
@@ -132,10 +134,10 @@ fn has_undo(declared: &Declared, nest: u32) -> bool
 
 /// Whether the failure of a nested use is mapped.
 fn has_failure(declared: &Declared, nest: u32) -> bool
-    ensures { result ≡ (nest_of (so_far declared.now) nest).has_failure }
+    ensures { result ≡ (said_of (so_far declared.now) nest).has_failure }
 {
     match declared
-        .nest_rows
+        .nests_said
         .as_slice()
         .get(declared.nests.find(nest) as usize)
     {
@@ -226,14 +228,14 @@ fn is_filled_by(declared: &Declared, action: u32, count: usize) -> bool
 
 /// How many roles fill those of a nested use.
 fn count_fillings(declared: &Declared, nest: u32) -> usize
-    ensures { result ≡ length (nest_of (so_far declared.now) nest).row.roles }
+    ensures { result ≡ length (nest_of (so_far declared.now) nest).roles }
 {
     match declared
         .nest_rows
         .as_slice()
         .get(declared.nests.find(nest) as usize)
     {
-        Some(row) => row.row.roles.len(),
+        Some(row) => row.roles.len(),
         None => 0,
     }
 }
@@ -265,7 +267,7 @@ pub(crate) fn is_unfilled(declared: &Declared, form: &Form) -> bool
 
 /// Whether the line fills two roles by one.
 pub(crate) fn fills_twice(form: &Form) -> bool
-    ensures { (s : SoFar) → result ≡ fills_twice s form.now }
+    ensures { result ≡ fills_twice form.now }
 {
     match form {
         Form::Play(_, who) => has_twice(who.items()),
@@ -280,7 +282,7 @@ pub(crate) fn enters_otherwise(declared: &Declared, form: &Form) -> bool
 {
     match form {
         Form::End => {
-            is_in_action(declared.block) && !are_entered(&declared.nest_rows, &declared.role_rows)
+            is_in_action(declared.block) && !roles_enter(&declared.nest_rows, &declared.role_rows)
         }
         _ => false,
     }
@@ -328,7 +330,7 @@ pub(crate) fn is_not_held(declared: &Declared, form: &Form) -> bool
 fn is_deepest(declared: &Declared, action: u32) -> bool
     ensures { result ≡ is_deepest (so_far declared.now) action }
 {
-    at(&declared.depths, declared.action_names.find(action)) >= MOST_DEPTH as u64
+    number_at(&declared.depths, declared.action_names.find(action)) >= MOST_DEPTH as u64
 }
 
 /// Whether the line nests an action that is as deep as an action may be.
@@ -345,7 +347,7 @@ pub(crate) fn is_too_deep(declared: &Declared, form: &Form) -> bool
 pub(crate) fn places_with(declared: &Declared, action: u32) -> u64
     ensures { result ≡ places_with (so_far declared.now) action }
 {
-    let more = at(&declared.places, declared.action_names.find(action));
+    let more = number_at(&declared.places, declared.action_names.find(action));
     counted_sum(declared.all_places, more)
 }
 
@@ -353,20 +355,20 @@ pub(crate) fn places_with(declared: &Declared, action: u32) -> u64
 pub(crate) fn bound_with(declared: &Declared, action: u32) -> u64
     ensures { result ≡ bound_with (so_far declared.now) action }
 {
-    let more = at(&declared.bounds, declared.action_names.find(action));
+    let more = number_at(&declared.bounds, declared.action_names.find(action));
     counted_sum(declared.whole_bound, more)
 }
 
 /// How many actions a nested use has.
 fn count_alternates(declared: &Declared, nest: u32) -> usize
-    ensures { result ≡ length (nest_of (so_far declared.now) nest).row.actions }
+    ensures { result ≡ length (nest_of (so_far declared.now) nest).actions }
 {
     match declared
         .nest_rows
         .as_slice()
         .get(declared.nests.find(nest) as usize)
     {
-        Some(row) => row.row.actions.len(),
+        Some(row) => row.actions.len(),
         None => 0,
     }
 }

@@ -1,13 +1,14 @@
-ghost use Rattle.std.specs.Prelude.{◌≡◌, ◌≤◌, length, codes, IfOk};
+ghost use Rattle.std.specs.Prelude.{◌≡◌, ◌≤◌, ◌<◌, ◌^◌, true, length, vec_len, codes, All, IfOk};
+ghost use Rattle.script_checker.specs.Blocks.{is_in_graph};
 ghost use Rattle.action_script.specs.Names.{number_in};
 ghost use Rattle.script_checker.specs.SoFar.{plain_graph};
 
 use crate::number_list::NumberList;
-use crate::parts::{Block, DeclaredGraph, DeclaredNest, Opening};
+use crate::parts::{Block, DeclaredGraph, NestSaid, Opening};
 use caa_base::entry::Drill;
 use caa_base::name::Name;
 use caa_base::rows::Rows;
-use place_plan::rows::{ActionRow, ObjectRow, PlayRow, RoleRow, Step};
+use place_plan::rows::{ActionRow, NestRow, ObjectRow, PlayRow, RoleRow, Step};
 use std::alloc::{AllocError, Global};
 
 /// What the lines of a script have declared so far, by the numbers of names.
@@ -53,11 +54,17 @@ pub struct Declared {
     /// Those of its roles that have a body.
     pub bodies: Vec<u32>,
     pub nests: NumberList,
-    pub nest_rows: Vec<DeclaredNest>,
+    pub nest_rows: Vec<NestRow>,
+    /// What was said of each of these.
+    pub nests_said: Vec<NestSaid>,
     /// The body or handler that is being declared.
     pub opening: Option<Opening>,
     /// Its steps.
     pub steps: Vec<Step>,
+    ghost few_roles: { vec_len role_rows ≤ 16 },
+    ghost few_exceptions: { length exceptions ≤ 128 },
+    ghost some_exceptions: { is_in_graph block ≡ true → 0 < length exceptions },
+    ghost pairs_known: { All (λ p. (p.0 < length exceptions) × (p.1 < length exceptions)) pairs.items },
 }
 
 /// The number of the name `universal` among these, or how many names there are.
@@ -129,6 +136,7 @@ impl Declared {
             bodies: Vec::new(alloc),
             nests: NumberList::new(alloc),
             nest_rows: Vec::new(alloc),
+            nests_said: Vec::new(alloc),
             opening: None,
             steps: Vec::new(alloc),
         })

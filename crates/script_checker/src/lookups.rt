@@ -4,7 +4,7 @@ ghost use Rattle.std.specs.Prelude.{◌≡◌, length, map, slice_index_or, IfOk
 ghost use Rattle.std.specs.List.{list_all};
 ghost use Rattle.place_plan.specs.Words.{member, index_of};
 ghost use Rattle.place_plan.specs.Places.{no_action};
-ghost use Rattle.script_checker.specs.Numbers.{is_among, has_twice, chosen_from, at};
+ghost use Rattle.script_checker.specs.Numbers.{is_among, has_twice, chosen_from};
 ghost use Rattle.script_checker.specs.SoFar.{no_graph, exceptions_at, inner, outer, action_of, nest_of, face_of, face, role_of};
 ghost use Rattle.script_checker.specs.View.{so_far};
 
@@ -54,16 +54,6 @@ pub(crate) fn places_of(
     ensures { IfOk result (λ places. places.items ≡ map (λ n. index_of n names.now) some.now) }
 {
     some.iter().map(|name| names.find(*name)).collect(alloc)
-}
-
-/// A number in a table; 0 past its end.
-pub(crate) fn at(table: &[u64], index: u32) -> u64
-    ensures { result ≡ at table.now index }
-{
-    match table.get(index as usize) {
-        Some(number) => *number,
-        None => 0,
-    }
 }
 
 // ---- exceptions
@@ -160,14 +150,14 @@ fn first_of(actions: &[u32]) -> u32
 
 /// The first action of a nested use.
 fn first_action(declared: &Declared, nest: u32) -> u32
-    ensures { result ≡ slice_index_or (nest_of (so_far declared.now) nest).row.actions 0 0 }
+    ensures { result ≡ slice_index_or (nest_of (so_far declared.now) nest).actions 0 0 }
 {
     match declared
         .nest_rows
         .as_slice()
         .get(declared.nests.find(nest) as usize)
     {
-        Some(declared_nest) => first_of(declared_nest.row.actions.as_slice()),
+        Some(row) => first_of(row.actions.as_slice()),
         None => 0,
     }
 }

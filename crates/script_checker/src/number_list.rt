@@ -1,4 +1,4 @@
-ghost use Rattle.std.specs.Prelude.{◌≡◌, ◌<◌, ◌++◌, ◌∷◌, [], ◌^◌, length, OnOk};
+ghost use Rattle.std.specs.Prelude.{◌≡◌, ◌<◌, ◌++◌, ◌∷◌, [], ◌^◌, length, OnOk, OnErr, IfOk};
 ghost use Rattle.place_plan.specs.Words.{index_of, is_empty};
 ghost use Rattle.script_checker.specs.Numbers.{is_among};
 
@@ -31,9 +31,22 @@ impl NumberList {
         }
     }
 
+    /// The list of these names. A list that would be too long wants memory too.
+    pub fn from_slice(alloc: Global, names: &[u32]) -> Result<NumberList, AllocError>
+        ensures { IfOk result (λ list. list ≡ names.now) }
+    {
+        if names.len() >= 4_294_967_295 {
+            return Err(AllocError);
+        }
+        Ok(NumberList {
+            items: Vec::from_slice(alloc, names)?,
+        })
+    }
+
     /// Adds a name at the end. A list that can't grow any more wants memory too.
     pub fn push(&mut self, name: u32) -> Result<(), AllocError>
-        ensures { OnOk result (self.new ≡ self.old ++ name ∷ []) }
+        ensures added { OnOk result (self.new ≡ self.old ++ name ∷ []) }
+        ensures refused { OnErr result (self.new ≡ self.old) }
     {
         if self.items.len() >= 4_294_967_294 {
             return Err(AllocError);

@@ -2,7 +2,6 @@
 
 use crate::number_list::NumberList;
 use caa_base::rows::Rows;
-use place_plan::rows::NestRow;
 
 /// Where a line stands.
 #[derive(Clone, Copy, Debug, PartialEq, Eq)]
@@ -23,11 +22,9 @@ pub struct DeclaredGraph {
     pub pairs: Rows<(u32, u32)>,
 }
 
-/// A nested use of the action that is being declared, and what was said of it.
+/// What was said of a nested use of the action that is being declared.
 #[derive(Drop)]
-pub struct DeclaredNest {
-    /// What it is so far; what wasn't said is `universal`.
-    pub row: NestRow,
+pub struct NestSaid {
     /// The exceptions that have a `map` line.
     pub mapped: Rows<u32>,
     /// Whether it has a `mapundo` line.
