@@ -69,16 +69,16 @@ script_planned script names lines n s rows plan en el l h e =
       accepted = subst (λ (lines : List Line). AreAccepted script.names (nothing_yet script.names) lines) whole (subst (λ (names : List (List ℕ)). AreAccepted names (nothing_yet names) (take n lines)) en h.accepted);
       draft = parted s rows;
       declared = subst (λ (t : SoFar). IsDraftOf script.names t (parted s rows))
-        (h.declared ∙ ap (λ (names : List (List ℕ)). declared_after names (nothing_yet names) (take n lines)) en ∙ ap (λ (lines : List Line). declared_after script.names (nothing_yet script.names) lines) whole)
-        (record {
-          participants = refl;
-          objects = refl;
-          graphs = subst (λ (names : List (List ℕ)). AreRowsOf names s.graphs rows) en h.rows;
-          actions = refl;
-          plays = refl;
-          drills = refl;
-          watches = refl;
-        });
+          (h.declared ∙ ap (λ (names : List (List ℕ)). declared_after names (nothing_yet names) (take n lines)) en ∙ ap (λ (lines : List Line). declared_after script.names (nothing_yet script.names) lines) whole)
+          (record {
+            participants = refl;
+            objects = refl;
+            graphs = subst (λ (names : List (List ℕ)). AreRowsOf names s.graphs rows) en h.rows;
+            actions = refl;
+            plays = refl;
+            drills = refl;
+            watches = refl;
+          });
       unfolded = e;
     })
 

@@ -196,3 +196,6 @@ pub fn compile(alloc: Global, script: &Script) -> Result<Plan, CheckError>
         Err(_) => Err(wanting()),
     }
 }
+
+#[cfg(test)]
+mod tests;

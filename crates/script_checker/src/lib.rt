@@ -4,9 +4,9 @@
 mod adding;
 mod causes;
 pub mod compile;
-pub mod declared;
+mod declared;
 pub mod error;
 mod graphs;
 mod lookups;
-pub mod number_list;
-pub mod parts;
+mod number_list;
+mod parts;

@@ -10,7 +10,7 @@ returns c =
     let row = c.in_ok-row.row in
     c.in_ok-add_action.ensures
     ∙ ap (λ (s : SoFar). with_action_row s row)
-      (c.in_ok-add_bound.ensures ∙ ap (λ (s : SoFar). with_bound s row)
-      (c.in_ok-add_places.ensures ∙ ap (λ (s : SoFar). with_places s row)
-      (c.in_ok-add_depth.ensures ∙ ap (λ (s : SoFar). with_depth s row) c.in_ok-row.ensures.rest)))
+    (c.in_ok-add_bound.ensures ∙ ap (λ (s : SoFar). with_bound s row)
+    (c.in_ok-add_places.ensures ∙ ap (λ (s : SoFar). with_places s row)
+    (c.in_ok-add_depth.ensures ∙ ap (λ (s : SoFar). with_depth s row) c.in_ok-row.ensures.rest)))
     ∙ ap (λ (r : ActionRow). with_action (without_parts (so_far c.args.declared.now)) r) c.in_ok-row.ensures.row

@@ -25,12 +25,12 @@ returns-clause-rows c =
     let e : s.graphs ≡ c.args.declared.now.graphs.items = ap (λ (t : SoFar). t.graphs) c.in_ok-settle.ensures ∙ settled_same (so_far c.args.declared.now) f (goes_on f) in
     let h : AreRowsOf names s.graphs c.args.rows.now.items = subst (λ (graphs : List DeclaredGraph). AreRowsOf names graphs c.args.rows.now.items) (sym e) c.requires in
     elim c.match-graph.branch [
-      in-Some+in_ok-add_row-in-Some w ↦
-        let found = subst (λ (found : Option CoverOrder). Ends s f found) w.in-Some.is c.in_ok-graph.ensures.graph in
-        let g : c.add.new.declared.graphs.items ≡ (with_graph s).graphs = ap (λ (t : SoFar). t.graphs) c.in_ok-add.ensures ∙ said_graph names s f found.0 in
-        rw w.rows-is (subst (λ (graphs : List DeclaredGraph). AreRowsOf names graphs w.add_row.new.rows.items) (sym g) (rows_added names s w.in-Some.graph c.args.rows.now.items w.add_row.new.rows.items h found.1 w.in_ok-add_row-in-Some.ensures))
-    | in-None w ↦
-        let found = subst (λ (found : Option CoverOrder). Ends s f found) w.in-None.is c.in_ok-graph.ensures.graph in
-        let g : c.add.new.declared.graphs.items ≡ s.graphs = ap (λ (t : SoFar). t.graphs) c.in_ok-add.ensures ∙ said_same names s f found in
-        rw w.rows-is (subst (λ (graphs : List DeclaredGraph). AreRowsOf names graphs c.args.rows.now.items) (sym g) h)
+      | in-Some+in_ok-add_row-in-Some w ↦
+          let found = subst (λ (found : Option CoverOrder). Ends s f found) w.in-Some.is c.in_ok-graph.ensures.graph in
+          let g : c.add.new.declared.graphs.items ≡ (with_graph s).graphs = ap (λ (t : SoFar). t.graphs) c.in_ok-add.ensures ∙ said_graph names s f found.0 in
+          rw w.rows-is (subst (λ (graphs : List DeclaredGraph). AreRowsOf names graphs w.add_row.new.rows.items) (sym g) (rows_added names s w.in-Some.graph c.args.rows.now.items w.add_row.new.rows.items h found.1 w.in_ok-add_row-in-Some.ensures))
+      | in-None w ↦
+          let found = subst (λ (found : Option CoverOrder). Ends s f found) w.in-None.is c.in_ok-graph.ensures.graph in
+          let g : c.add.new.declared.graphs.items ≡ s.graphs = ap (λ (t : SoFar). t.graphs) c.in_ok-add.ensures ∙ said_same names s f found in
+          rw w.rows-is (subst (λ (graphs : List DeclaredGraph). AreRowsOf names graphs c.args.rows.now.items) (sym g) h)
     ]
