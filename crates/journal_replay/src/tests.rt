@@ -2,6 +2,7 @@ ghost use Rattle.std.specs.Prelude.{◌≡◌, length, IfOk};
 
 mod journals;
 mod plans;
+
 use crate::answer::Due;
 use crate::audit::{Illegal, audit};
 use crate::hall::{OpenCause, PlainHall};
@@ -41,7 +42,10 @@ fn makes<M: Machine>(rt: &impl Abort, machine: &mut M, entries: &[Entry]) {
     for entry in entries {
         assert!(rt; entry.by < machine.plan().participants());
         assert!(rt; !machine.complete());
-        assert_eq!(rt; machine.next(entry.by, Some(WorkDone::make(0, 2))), Answer::Did(*entry));
+        assert_eq!(rt;
+            machine.next(entry.by, Some(WorkDone::make(0, 2))),
+            Answer::Did(*entry)
+        );
     }
     assert!(rt; machine.complete());
     assert_eq!(rt; machine.journal_len(), entries.len() as u64);
@@ -64,33 +68,63 @@ fn plays_the_first_path(rt: HostRuntime) -> Result<(), Fail> {
 
 #[test]
 fn informs_who_had_given_its_verdict(rt: HostRuntime) -> Result<(), Fail> {
-    is_played(&rt, rt.alloc(), plans::informed_at_exit(rt.alloc())?, &journals::informed_at_exit())
+    is_played(
+        &rt,
+        rt.alloc(),
+        plans::informed_at_exit(rt.alloc())?,
+        &journals::informed_at_exit(),
+    )
 }
 
 #[test]
 fn lets_who_is_still_inside_leave(rt: HostRuntime) -> Result<(), Fail> {
-    is_played(&rt, rt.alloc(), plans::ended_not_all_left(rt.alloc())?, &journals::ended_not_all_left())
+    is_played(
+        &rt,
+        rt.alloc(),
+        plans::ended_not_all_left(rt.alloc())?,
+        &journals::ended_not_all_left(),
+    )
 }
 
 #[test]
 fn withdraws_from_a_doomed_place(rt: HostRuntime) -> Result<(), Fail> {
-    is_played(&rt, rt.alloc(), plans::withdrawn(rt.alloc())?, &journals::withdrawn())
+    is_played(
+        &rt,
+        rt.alloc(),
+        plans::withdrawn(rt.alloc())?,
+        &journals::withdrawn(),
+    )
 }
 
 #[test]
 fn goes_on_with_an_undo(rt: HostRuntime) -> Result<(), Fail> {
-    is_played(&rt, rt.alloc(), plans::raised_while_undoing(rt.alloc())?, &journals::raised_while_undoing())
+    is_played(
+        &rt,
+        rt.alloc(),
+        plans::raised_while_undoing(rt.alloc())?,
+        &journals::raised_while_undoing(),
+    )
 }
 
 #[test]
 fn aborts_the_innermost_first(rt: HostRuntime) -> Result<(), Fail> {
-    is_played(&rt, rt.alloc(), plans::three_levels(rt.alloc())?, &journals::three_levels())
+    is_played(
+        &rt,
+        rt.alloc(),
+        plans::three_levels(rt.alloc())?,
+        &journals::three_levels(),
+    )
 }
 
 // ---- spoiled journals
 
 /// The entries with another one, or none, in place of the one at an index.
-fn spoiled(alloc: Global, entries: &[Entry], at: usize, other: Option<Entry>) -> Result<Vec<Entry>, Fail> {
+fn spoiled(
+    alloc: Global,
+    entries: &[Entry],
+    at: usize,
+    other: Option<Entry>,
+) -> Result<Vec<Entry>, Fail> {
     let mut spoiled = Vec::new(alloc);
     for (index, entry) in entries.iter().enumerate() {
         if index != at {
@@ -103,7 +137,13 @@ fn spoiled(alloc: Global, entries: &[Entry], at: usize, other: Option<Entry>) ->
 }
 
 /// The index that the audit names, once the entry at `at` is replaced, or left out.
-fn named(alloc: Global, plan: &Plan, entries: &[Entry], at: usize, other: Option<Entry>) -> Result<Option<u64>, Fail> {
+fn named(
+    alloc: Global,
+    plan: &Plan,
+    entries: &[Entry],
+    at: usize,
+    other: Option<Entry>,
+) -> Result<Option<u64>, Fail> {
     let spoiled = spoiled(alloc, entries, at, other)?;
     match audit(plan, &journal_of(alloc, spoiled.as_slice())?) {
         Ok(()) => Ok(None),
@@ -171,7 +211,10 @@ fn audit_finds_an_empty_journal_unfinished(rt: HostRuntime) -> Result<(), Fail> 
     let journal = Journal::empty(rt.alloc());
     assert_eq!(rt; audit(&plan, &journal), Err(Illegal { index: 0 }));
     let text = Illegal { index: 0 }.to_string(rt.alloc())?;
-    assert_eq!(rt; text.as_str(), "the journal isn't legal and complete from entry 0 on");
+    assert_eq!(rt;
+        text.as_str(),
+        "the journal isn't legal and complete from entry 0 on"
+    );
     Ok(())
 }
 
@@ -216,8 +259,14 @@ fn play_drilled(rt: &impl Abort, alloc: Global, drills: &[Drill]) -> Result<Outc
     assert_eq!(rt; plant.value(0), value);
     Ok(Outcome {
         entries: journal.len(),
-        restores: [mark_of(&journal, Kind::Restore, 1), mark_of(&journal, Kind::Restore, 0)],
-        ends: [mark_of(&journal, Kind::End, 0), mark_of(&journal, Kind::End, 1)],
+        restores: [
+            mark_of(&journal, Kind::Restore, 1),
+            mark_of(&journal, Kind::Restore, 0),
+        ],
+        ends: [
+            mark_of(&journal, Kind::End, 0),
+            mark_of(&journal, Kind::End, 1),
+        ],
         value,
     })
 }
@@ -240,12 +289,30 @@ fn each_failing_call_has_its_place(rt: HostRuntime) -> Result<(), Fail> {
     let third = Drill { object: X, nth: 3 };
     let well = Some(0);
     let failed = Some(1);
-    assert_eq!(rt; play_drilled(&rt, alloc, &[])?, comes_to(13, [None, well], [2, 0], 1));
-    assert_eq!(rt; play_drilled(&rt, alloc, &[first])?, comes_to(17, [well, well], [2, 2], 1));
-    assert_eq!(rt; play_drilled(&rt, alloc, &[second])?, comes_to(13, [None, failed], [4, 0], 5));
-    assert_eq!(rt; play_drilled(&rt, alloc, &[first, second])?, comes_to(17, [failed, well], [2, 4], 1));
-    assert_eq!(rt; play_drilled(&rt, alloc, &[first, third])?, comes_to(17, [well, failed], [4, 2], 1));
-    assert_eq!(rt; play_drilled(&rt, alloc, &[third])?, comes_to(13, [None, well], [2, 0], 1));
+    assert_eq!(rt;
+        play_drilled(&rt, alloc, &[])?,
+        comes_to(13, [None, well], [2, 0], 1)
+    );
+    assert_eq!(rt;
+        play_drilled(&rt, alloc, &[first])?,
+        comes_to(17, [well, well], [2, 2], 1)
+    );
+    assert_eq!(rt;
+        play_drilled(&rt, alloc, &[second])?,
+        comes_to(13, [None, failed], [4, 0], 5)
+    );
+    assert_eq!(rt;
+        play_drilled(&rt, alloc, &[first, second])?,
+        comes_to(17, [failed, well], [2, 4], 1)
+    );
+    assert_eq!(rt;
+        play_drilled(&rt, alloc, &[first, third])?,
+        comes_to(17, [well, failed], [4, 2], 1)
+    );
+    assert_eq!(rt;
+        play_drilled(&rt, alloc, &[third])?,
+        comes_to(13, [None, well], [2, 0], 1)
+    );
     Ok(())
 }
 
@@ -272,10 +339,19 @@ fn a_plant_that_refuses_to_be_laid_out_comes_back(rt: HostRuntime) -> Result<(),
 fn asks_for_work_and_waits(rt: HostRuntime) -> Result<(), Fail> {
     let mut hall = hall_of(rt.alloc(), plans::look(rt.alloc())?, SurePlant::new())?;
     assert!(rt; hall.plan().participants() == 2);
-    assert_eq!(rt; hall.next(ANN, None), Answer::Did(bare(Kind::Arrive, 0, ANN)));
+    assert_eq!(rt;
+        hall.next(ANN, None),
+        Answer::Did(bare(Kind::Arrive, 0, ANN))
+    );
     assert_eq!(rt; hall.next(ANN, None), Answer::NotYet);
-    assert_eq!(rt; hall.next(BOB, None), Answer::Did(bare(Kind::Arrive, 0, BOB)));
-    assert_eq!(rt; hall.next(BOB, None), Answer::Did(bare(Kind::Start, 0, BOB)));
+    assert_eq!(rt;
+        hall.next(BOB, None),
+        Answer::Did(bare(Kind::Arrive, 0, BOB))
+    );
+    assert_eq!(rt;
+        hall.next(BOB, None),
+        Answer::Did(bare(Kind::Start, 0, BOB))
+    );
     let asked = Answer::Work {
         place: 0,
         rounds: 2,
