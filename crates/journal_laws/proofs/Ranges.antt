@@ -37,7 +37,7 @@ use Rattle.journal_laws.proofs.Makers.{maker_role}
 
 -- ---- values
 
-value_from : (v : ℤ) → is_value v ≡ true → IsValue v
+pub value_from : (v : ℤ) → is_value v ≡ true → IsValue v
 value_from v h =
     let a = and_parts (not (int_lt v (negsuc 999999999999))) (not (int_lt (pos 1000000000000) v)) h in
     let low : int_lt v (negsuc 999999999999) ≡ false = not-true _ a.0 in

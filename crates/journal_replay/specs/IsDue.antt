@@ -2,7 +2,7 @@
 use Rattle.std.specs.Prelude.{◌≡◌, ◌⊎◌, ℕ, true, false, List}
 use Rattle.caa_base.specs.declared.entry.Entry.{Entry}
 use Rattle.place_plan.specs.PlanValue.{Plan}
-use Rattle.place_plan.specs.Journals.{is_put, Silent}
+use Rattle.place_plan.specs.Journals.{is_put, is_fault, Silent}
 use Rattle.place_plan.specs.Roles.{is_over}
 use Rattle.place_plan.specs.Rules.{MayFollow}
 use Rattle.journal_laws.specs.Laws.{as_taken}
@@ -21,7 +21,7 @@ pub record DeviceDecides (plan : Plan) (past : List Entry) (t : ℕ) (well fault
   pub may : MayFollow plan past well × MayFollow plan past fault
   pub only : (x : Entry) → x.by ≡ t → MayFollow plan past x → (x ≡ well) ⊎ (x ≡ fault)
   pub taken : is_put well ≡ true
-  pub refused : is_put fault ≡ false
+  pub refused : is_fault fault ≡ true
   pub same : as_taken fault.kind fault ≡ well
 
 -- what the rules let t do after this past

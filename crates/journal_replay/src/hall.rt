@@ -1,41 +1,70 @@
-ghost use Rattle.std.specs.Prelude.{◌≡◌, ◌<◌, ◌≤◌, [], length, reverse, true, IfOk, IfErr, MatchBool};
-ghost use Rattle.caa_base.specs.Counts.{Rose};
+ghost use Rattle.std.specs.Prelude.{◌≡◌, ◌<◌, ◌≤◌, ◌+◌, ◌-◌, ◌^◌, ◌∷◌, ◌++◌, [], map, length, reverse, true, false, is_some, IfOk, IfErr, IfSome, OnOk, IsTrue, ◌↔◌, ◌⊎◌};
+ghost use Rattle.caa_base.specs.Counts.{CountsFault, Rose};
 ghost use Rattle.caa_base.specs.declared.entry.Entry.{Entry as JournalEntry};
 ghost use Rattle.place_plan.specs.Bound.{bound};
-ghost use Rattle.place_plan.specs.Journals.{LegalPast, IsLegal, is_fault};
-ghost use Rattle.place_plan.specs.Machine.{Answers, Fits};
+ghost use Rattle.place_plan.specs.Rules.{MayFollow};
+ghost use Rattle.place_plan.specs.Journals.{LegalPast, IsLegal, is_fault, faults_in};
+ghost use Rattle.place_plan.specs.Machine.{Answers};
 ghost use Rattle.place_plan.proofs.LegalProp.{LegalPast-prop};
+ghost use Rattle.journal_replay.specs.Device.{FitsJournal, HasValues, HasDrills, has_asked};
+ghost use Rattle.caa_base.specs.PlantState.{is_refused};
+ghost use Rattle.journal_replay.specs.Opening.{is_plant_fault};
+ghost use Rattle.std.proofs.Math.Nat.{le_of_eq};
+ghost use Rattle.std.proofs.Common.{sym};
+ghost use Rattle.journal_replay.specs.IsDue.{DeviceDecides};
+ghost use Rattle.journal_replay.specs.WorkDue.{MayWorkNow};
 
 use crate::answer::Due;
+use crate::audit::all_are_over;
 use crate::rule::due;
-use crate::scan::{is_over, register};
-use caa_base::entry::{Entry, Kind, Object, OutOfMemory, Participant};
+use crate::work_due::{Work, work_due};
+use caa_base::entry::{Drill, Entry, Failed, Object, OutOfMemory, Participant};
 use caa_base::journal::Journal;
-use caa_base::plant::Plant;
+use caa_base::plant::{Plant, PlantError};
 use caa_base::work::WorkDone;
+use crate::laws::{is_bounded, is_well_formed, puts_make_values};
 use place_plan::machine::{Answer, Machine};
 use place_plan::plan::Plan;
 use place_plan::value::value_at;
-use std::alloc::Global;
+use std::alloc::{AllocError, Global};
 use thiserror::Error;
 
 /// Why a hall couldn't be opened.
 #[derive(Clone, Copy, Debug, PartialEq, Eq, Error)]
 pub enum OpenCause {
+    /// The plant refused to be laid out.
+    #[error("the plant refused to be laid out")]
+    PlantFault,
     /// No memory was found.
     #[error("out of memory")]
     OutOfMemory,
+}
+
+impl From<PlantError> for OpenCause {
+    ghost use Rattle.caa_base.specs.declared.plant.PlantError.{PlantError};
+    ghost use Rattle.journal_replay.specs.Opening.{cause_of};
+
+    ghost from_gives = { λ error cause. cause ≡ cause_of error };
+
+    fn from(error: PlantError) -> Self {
+        match error {
+            PlantError::Failed => OpenCause::PlantFault,
+            PlantError::OutOfMemory => OpenCause::OutOfMemory,
+        }
+    }
 }
 
 /// A refused opening, with the plant that was handed in.
 #[derive(Debug, Drop)]
 pub struct OpenError<P> {
     pub cause: OpenCause,
-    /// The plant, as it was.
+    /// The plant. Where it wasn't found fit, nothing is said of its values.
     pub plant: P,
 }
 
 /// A machine that keeps nothing but its journal, and looks back over it at each question.
+///
+/// Its plant was asked just what the journal says: once for each write, for each restore and for each refused put, in order.
 #[derive(Drop)]
 pub struct PlainHall<P: Plant> {
     plan: Plan,
@@ -44,17 +73,53 @@ pub struct PlainHall<P: Plant> {
     base: u64,
     ghost legal: { LegalPast plan (reverse journal.entries) } by { LegalPast-prop plan (reverse journal.entries) },
     ghost room: { bound plan ≤ journal.room },
-    ghost counted: { base ≤ P.faults plant },
+    ghost device: { FitsJournal plan base journal.entries (record { faults = P.faults plant; calls = P.calls plant; room = P.room plant; objects = P.objects plant; state = P.state plant; drilling = P.drilling plant }) },
+}
+
+/// The values of the objects before the first entry.
+fn initial_values(alloc: Global, plan: &Plan) -> Result<Vec<i64>, AllocError>
+    ensures { IfOk result (λ values. values.items ≡ map (λ row. row.initial) plan.now.objects) }
+{
+    let mut values = Vec::new(alloc);
+    for object in 0..plan.objects() {
+        values.push(plan.initial(object))?;
+    }
+    Ok(values)
+}
+
+/// The puts that the device is to refuse.
+fn drills_of(alloc: Global, plan: &Plan) -> Result<Vec<Drill>, AllocError>
+    ensures { IfOk result (λ drills. drills.items ≡ plan.now.drills) }
+{
+    let mut drills = Vec::new(alloc);
+    for index in 0..plan.drills() {
+        drills.push(plan.drill(index))?;
+    }
+    Ok(drills)
+}
+
+/// Lays out a plant for a plan: the initial values, the drills, and room for as many puts as a journal of the plan has entries.
+fn lay_out<P: Plant>(alloc: Global, plan: &Plan, plant: &mut P) -> Result<(), PlantError>
+    ensures laid { OnOk result (FitsJournal plan.now (P.faults plant.old) [] (record { faults = P.faults plant.new; calls = P.calls plant.new; room = P.room plant.new; objects = P.objects plant.new; state = P.state plant.new; drilling = P.drilling plant.new })) }
+    ensures tells_state { is_some (P.state plant.new) ≡ is_some (P.state plant.old) }
+    ensures tells_drilling { is_some (P.drilling plant.new) ≡ is_some (P.drilling plant.old) }
+    ensures lay_faults { CountsFault (is_refused result) (P.lay_faults plant.old) (P.lay_faults plant.new) }
+    ensures faults { P.faults plant.new ≡ P.faults plant.old }
+{
+    let Ok(values) = initial_values(alloc, plan) else {
+        return Err(PlantError::OutOfMemory);
+    };
+    let Ok(drills) = drills_of(alloc, plan) else {
+        return Err(PlantError::OutOfMemory);
+    };
+    plant.lay(alloc, values.as_slice(), drills.as_slice(), plan.bound())
 }
 
 /// Whether the hint is of these rounds and this start.
-fn fits(hint: &Option<WorkDone>, rounds: u32, from: i64) -> bool
-    ensures { MatchBool result (Fits hint.now rounds from) (Fits hint.now rounds from → ⊥) }
+fn fits(hint: &WorkDone, work: &Work) -> bool
+    ensures { IsTrue result ↔ ((hint.now.rounds ≡ work.now.rounds) × (hint.now.from ≡ work.now.from)) }
 {
-    match hint {
-        Some(work) => work.rounds() == rounds && work.from() == from,
-        None => false,
-    }
+    hint.rounds() == work.rounds && hint.from() == work.from
 }
 
 impl<P: Plant> PlainHall<P> {
@@ -62,37 +127,58 @@ impl<P: Plant> PlainHall<P> {
 
     /// A machine at the beginning of a plan, over a plant.
     ///
-    /// All its memory is taken here: the journal has room for as many entries as the plan allows. The plant isn't called but for
-    /// its count of faults. `OutOfMemory` hands it back as it was.
+    /// All its memory is taken here: the journal has room for as many entries as the plan allows, and the plant is laid out with the
+    /// initial values, the plan's drills and room for as many puts. `PlantFault` comes only where the plant refused to be laid
+    /// out, and its count of that rose. Both errors hand the plant back.
     pub fn open(alloc: Global, plan: Plan, plant: P) -> Result<PlainHall<P>, OpenError<P>>
         ensures plan { IfOk result (λ hall. plan_in hall ≡ plan) }
         ensures journal { IfOk result (λ hall. journal_in hall ≡ []) }
         ensures base { IfOk result (λ hall. base_in hall ≡ P.faults plant) }
-        ensures plant { IfOk result (λ hall. plant_in hall ≡ plant) }
+        ensures count { IfOk result (λ hall. P.faults (plant_in hall) ≡ P.faults plant) }
+        ensures lay_count { IfOk result (λ hall. P.lay_faults (plant_in hall) ≡ P.lay_faults plant) }
+        ensures state { IfOk result (λ hall. is_some (P.state (plant_in hall)) ≡ is_some (P.state plant)) }
+        ensures drilling { IfOk result (λ hall. is_some (P.drilling (plant_in hall)) ≡ is_some (P.drilling plant)) }
         ensures room { IfOk result (λ hall. room_in hall ≡ bound plan) }
-        ensures refused { IfErr result (λ error. error.plant ≡ plant) }
+        ensures cause { IfErr result (λ error. CountsFault (is_plant_fault error.cause) (P.lay_faults plant) (P.lay_faults error.plant)) }
+        ensures kept { IfErr result (λ error. P.faults error.plant ≡ P.faults plant) }
     {
+        let mut plant = plant;
         let base = plant.faults();
-        match Journal::with_room(alloc, plan.bound()) {
-            Ok(journal) => Ok(PlainHall {
+        let journal = match Journal::with_room(alloc, plan.bound()) {
+            Ok(journal) => journal,
+            Err(OutOfMemory) => {
+                return Err(OpenError {
+                    cause: OpenCause::OutOfMemory,
+                    plant,
+                });
+            }
+        };
+        match lay_out(alloc, &plan, &mut plant) {
+            Ok(()) => Ok(PlainHall {
                 plan,
                 plant,
                 journal,
                 base,
             }),
-            Err(OutOfMemory) => Err(OpenError {
-                cause: OpenCause::OutOfMemory,
+            Err(error) => Err(OpenError {
+                cause: OpenCause::from(error),
                 plant,
             }),
         }
     }
 
     /// The plan, the plant and the journal, which is legal for the plan. It takes no memory.
+    ///
+    /// The plant has counted one fault more for each refused put and restore of the journal, as long as its count doesn't stand at its
+    /// end. Where it tells its values they are those by the journal, and where it tells its drills it refused just what they name.
     pub fn into_parts(self) -> (Plan, P, Journal)
         ensures plan { result.0 ≡ plan_in self }
         ensures plant { result.1 ≡ plant_in self }
         ensures journal { result.2.entries ≡ journal_in self }
         ensures legal { IsLegal result.0 result.2.entries }
+        ensures faults { P.faults result.1 < 2 ^ 64 - 1 → P.faults result.1 ≡ base_in self + faults_in result.2.entries }
+        ensures state { IfSome (P.state result.1) (HasValues result.0 result.2.entries) }
+        ensures drilling { IfSome (P.drilling result.1) (HasDrills result.0 result.2.entries) }
     {
         let PlainHall {
             plan,
@@ -101,6 +187,62 @@ impl<P: Plant> PlainHall<P> {
             base: _,
         } = self;
         (plan, plant, journal)
+    }
+
+    /// Adds an entry that doesn't ask the device.
+    fn add(&mut self, entry: Entry)
+        requires may { MayFollow (plan_in self.old) (reverse (journal_in self.old)) entry }
+        requires plain { has_asked entry ≡ false }
+        ensures plan { plan_in self.new ≡ plan_in self.old }
+        ensures base { base_in self.new ≡ base_in self.old }
+        ensures plant { plant_in self.new ≡ plant_in self.old }
+        ensures journal { journal_in self.new ≡ journal_in self.old ++ entry ∷ [] }
+    {
+        is_bounded(&self.plan);
+        puts_make_values(&self.plan);
+        self.journal.push(entry);
+    }
+
+    /// Asks the device for a put, once, and adds the entry for its answer.
+    fn ask(&mut self, well: Entry, fault: Entry) -> Entry
+        requires may { DeviceDecides (plan_in self.old) (reverse (journal_in self.old)) well.by well fault }
+        ensures plan { plan_in self.new ≡ plan_in self.old }
+        ensures base { base_in self.new ≡ base_in self.old }
+        ensures journal { journal_in self.new ≡ journal_in self.old ++ result ∷ [] }
+        ensures answer { (result ≡ well) ⊎ (result ≡ fault) }
+        ensures count { CountsFault (is_fault result) (P.faults (plant_in self.old)) (P.faults (plant_in self.new)) }
+    {
+        is_bounded(&self.plan);
+        is_well_formed(&self.plan);
+        puts_make_values(&self.plan);
+        let entry = match self.plant.put(well.arg, well.value) {
+            Ok(()) => well,
+            Err(Failed) => fault,
+        };
+        self.journal.push(entry);
+        entry
+    }
+
+    /// Adds the work entry that is next, where the hint brings it, and asks for it otherwise.
+    fn take_work(&mut self, by: Participant, work: Work, hint: Option<WorkDone>) -> Answer
+        requires may { MayWorkNow (plan_in self.old) (reverse (journal_in self.old)) by work }
+        ensures plan { plan_in self.new ≡ plan_in self.old }
+        ensures base { base_in self.new ≡ base_in self.old }
+        ensures plant { plant_in self.new ≡ plant_in self.old }
+        ensures answer { Answers (plan_in self.old) (journal_in self.old) (journal_in self.new) by hint result }
+    {
+        match hint {
+            Some(done) if fits(&done, &work) => {
+                let entry = work.entry(by, &done);
+                self.add(entry);
+                Answer::Did(entry)
+            }
+            _ => Answer::Work {
+                place: work.place,
+                rounds: work.rounds,
+                from: work.from,
+            },
+        }
     }
 }
 
@@ -117,42 +259,34 @@ impl<P: Plant> Machine for PlainHall<P> {
 
     ghost legal = { λ hall. hall.legal };
 
-    ghost counted = { λ hall. hall.counted };
+    ghost counted = { λ hall. hall.device.begun };
+
+    ghost faulted = { λ hall below. le_of_eq (sym (hall.device.counted below)) };
 
     fn plan(&self) -> &Plan {
         &self.plan
     }
 
-    /// Makes the one legal entry of a participant. No entry needs the plant yet, so it stays as it was.
+    /// Makes the one legal entry of a participant. The device is asked once where it decides, and else not at all.
     fn next(&mut self, by: Participant, hint: Option<WorkDone>) -> Answer
         requires { by < length (plan_in self.old).participants }
         ensures plan { plan_in self.new ≡ plan_in self.old }
         ensures base { base_in self.new ≡ base_in self.old }
         ensures count { P.faults (plant_in self.old) ≤ P.faults (plant_in self.new) }
         ensures fault { (e : JournalEntry) → result ≡ Answer.Did e → is_fault e ≡ true → Rose (P.faults (plant_in self.old)) (P.faults (plant_in self.new)) }
-        ensures plant { plant_in self.new ≡ plant_in self.old }
         ensures answer { Answers (plan_in self.old) (journal_in self.old) (journal_in self.new) by hint result }
     {
+        if let Some(work) = work_due(&self.plan, self.journal.as_slice(), by) {
+            return self.take_work(by, work, hint);
+        }
         match due(&self.plan, &self.journal, by) {
             Due::NotYet => Answer::NotYet,
             Due::Over => Answer::Over,
-            Due::Put { .. } => unreachable!(),
             Due::Now(entry) => {
-                if let Kind::Work = entry.kind {
-                    let from = register(&self.plan, self.journal.as_slice(), entry.place, by);
-                    if !fits(&hint, entry.arg, from) {
-                        return Answer::Work {
-                            place: entry.place,
-                            rounds: entry.arg,
-                            from,
-                        };
-                    }
-                }
-                self.plan.is_bounded();
-                self.plan.stays_quiet();
-                self.journal.push(entry);
+                self.add(entry);
                 Answer::Did(entry)
             }
+            Due::Put { well, fault } => Answer::Did(self.ask(well, fault)),
         }
     }
 
@@ -165,12 +299,7 @@ impl<P: Plant> Machine for PlainHall<P> {
     }
 
     fn complete(&self) -> bool {
-        for by in 0..self.plan.participants() {
-            if !is_over(&self.plan, self.journal.as_slice(), by) {
-                return false;
-            }
-        }
-        true
+        all_are_over(&self.plan, self.journal.as_slice())
     }
 
     fn value(&self, object: Object) -> i64 {

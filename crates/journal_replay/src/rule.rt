@@ -1,14 +1,14 @@
-ghost use Rattle.std.specs.Prelude.{◌≡◌, ◌<◌, ◌+ℤ◌, not, is_none, length, reverse, Some, None};
+ghost use Rattle.std.specs.Prelude.{◌≡◌, ◌<◌, ◌+ℤ◌, true, not, is_none, length, reverse, Some, None};
 ghost use Rattle.caa_base.specs.declared.entry.Kind.TheVariants as kind;
 ghost use Rattle.caa_base.specs.Limits.{IsValue};
 ghost use Rattle.place_plan.specs.Places.{roles_of, handler_of, abort_row};
 ghost use Rattle.place_plan.specs.Entries.{is_by, newest};
-ghost use Rattle.place_plan.specs.Raising.{exception_resolved};
+ghost use Rattle.place_plan.specs.Raising.{is_raised, exception_resolved};
 ghost use Rattle.place_plan.specs.Objects.{next_restore};
 ghost use Rattle.place_plan.specs.Roles.{register, program_of, next_step, signals};
 ghost use Rattle.place_plan.specs.Rules.{clamped, breaks_off, abort_of, undone_mark, abort_mapped, exception_carried};
 ghost use Rattle.place_plan.specs.Journals.{LegalPast, IsLegal, is_put};
-ghost use Rattle.journal_laws.specs.Due.{says, plainly, marked, naming, verdict_entry, due_waiting, due_restore, due_doomed, due_end, due_agreed, due_held, due_step, due_forward, due_handler, due_resolved, due_halted, due_hot, due_calm, due_live, due_inside, due_of, as_refused};
+ghost use Rattle.journal_laws.specs.Due.{says, plainly, marked, naming, verdict_entry, due_waiting, due_restore, due_doomed, due_end, due_agreed, due_held, due_step, due_forward, due_handler, due_resolved, due_resolve, due_halted, due_hot, due_calm, due_live, due_inside, due_of, as_refused};
 ghost use Rattle.journal_replay.specs.IsDue.{IsDue};
 
 use crate::answer::Due;
@@ -32,7 +32,7 @@ use caa_base::limits::MOST_VALUE;
 use caa_base::work::WorkDone;
 use place_plan::plan::Plan;
 use place_plan::rows::{AbortRow, Step};
-use journal_laws::due_is_right;
+use crate::laws::{due_is_right, is_well_formed};
 use place_plan::value::value_at;
 
 // ---- what an entry says
@@ -125,6 +125,7 @@ fn undone_mark(journal: &[Entry], place: Place) -> u32
 fn due_restore(plan: &Plan, journal: &[Entry], place: Place, by: Participant) -> Entry
     ensures { Some result ≡ due_restore plan.now (reverse journal.now) place by (next_restore plan.now (reverse journal.now) place) }
 {
+    plan.is_closed();
     match next_restore(plan, journal, place) {
         Some(object) => {
             let value = value_at_start(plan, journal, place, object);
@@ -185,6 +186,7 @@ fn due_end(plan: &Plan, journal: &[Entry], place: Place, by: Participant) -> Ent
     requires legal { LegalPast plan.now (reverse journal.now) }
     ensures { Some result ≡ due_end plan.now place by (signals (reverse journal.now) place (roles_of plan.now place)) }
 {
+    plan.is_closed();
     naming(Kind::End, place, by, least_signalled(plan, journal, place))
 }
 
@@ -239,6 +241,8 @@ fn due_step(plan: &Plan, journal: &[Entry], place: Place, by: Participant) -> Op
     requires legal { LegalPast plan.now (reverse journal.now) }
     ensures { result ≡ due_step plan.now (reverse journal.now) place by (next_step plan.now (reverse journal.now) place by) }
 {
+    plan.is_closed();
+    is_well_formed(plan);
     let register = register(plan, journal, place, by);
     match next_step(plan, journal, place, by) {
         None => {
@@ -340,9 +344,18 @@ fn due_resolved(plan: &Plan, journal: &[Entry], place: Place, by: Participant, e
     }
 }
 
+/// The Resolve to an exception, where there is one.
+fn due_resolve(place: Place, by: Participant, exception: Option<Exception>) -> Option<Entry>
+    ensures { result ≡ due_resolve place by exception }
+{
+    let exception = exception?;
+    Some(marked(Kind::Resolve, place, by, 0, exception))
+}
+
 /// What a participant does that is halted.
 fn due_halted(plan: &Plan, journal: &[Entry], place: Place, by: Participant) -> Option<Entry>
     requires legal { LegalPast plan.now (reverse journal.now) }
+    requires hot { is_raised plan.now (reverse journal.now) place ≡ true }
     ensures { result ≡ due_halted plan.now (reverse journal.now) place by (exception_resolved (reverse journal.now) place) }
 {
     if let Some(exception) = exception_resolved(journal, place) {
@@ -351,13 +364,14 @@ fn due_halted(plan: &Plan, journal: &[Entry], place: Place, by: Participant) -> 
     if !all_are_halted(plan, journal, place) {
         return None;
     }
-    let exception = least_raised(plan, journal, place)?;
-    Some(marked(Kind::Resolve, place, by, 0, exception))
+    plan.is_closed();
+    due_resolve(place, by, least_raised(plan, journal, place))
 }
 
 /// What a participant does in a hot place.
 fn due_hot(plan: &Plan, journal: &[Entry], place: Place, by: Participant) -> Option<Entry>
     requires legal { LegalPast plan.now (reverse journal.now) }
+    requires hot { is_raised plan.now (reverse journal.now) place ≡ true }
     ensures { result ≡ due_hot plan.now (reverse journal.now) place by }
 {
     if is_halted(plan, journal, place, by) {
@@ -432,7 +446,7 @@ fn due_inside(plan: &Plan, journal: &[Entry], place: Place, by: Participant) -> 
 }
 
 /// The entry that the rules give a participant, as if the device took each put.
-fn entry_due(plan: &Plan, journal: &[Entry], by: Participant) -> Option<Entry>
+pub(crate) fn entry_due(plan: &Plan, journal: &[Entry], by: Participant) -> Option<Entry>
     requires legal { LegalPast plan.now (reverse journal.now) }
     ensures { result ≡ due_of plan.now (reverse journal.now) by }
 {
@@ -446,14 +460,14 @@ fn entry_due(plan: &Plan, journal: &[Entry], by: Participant) -> Option<Entry>
 }
 
 /// Whether the device decides between this entry and its refusal.
-fn asks_device(entry: &Entry) -> bool
+pub(crate) fn asks_device(entry: &Entry) -> bool
     ensures { result ≡ is_put entry.now }
 {
     entry.kind == Kind::Write || (entry.kind == Kind::Restore && entry.mark == 0)
 }
 
 /// The entry, where the device refuses what it asks.
-fn refused(entry: Entry) -> Entry
+pub(crate) fn refused(entry: Entry) -> Entry
     ensures { result ≡ as_refused entry.kind entry }
 {
     match entry.kind {

@@ -1,5 +1,7 @@
-ghost use Rattle.std.specs.Prelude.{◌≡◌, reverse};
-ghost use Rattle.place_plan.specs.Raising.{is_calm, is_hot};
+ghost use Rattle.std.specs.Prelude.{◌≡◌, ◌&&◌, not, reverse};
+ghost use Rattle.place_plan.specs.Whereabouts.{is_going};
+ghost use Rattle.place_plan.specs.Raising.{is_doomed};
+ghost use Rattle.place_plan.specs.Machine.{work_entry};
 ghost use Rattle.place_plan.specs.Roles.{is_in_handler, is_able};
 ghost use Rattle.journal_replay.specs.WorkDue.{IsWorkDue};
 
@@ -7,7 +9,8 @@ use crate::look_back::places::{has_ended, has_started, inside, is_undoing};
 use crate::look_back::raising::{is_doomed, is_raised};
 use crate::look_back::roles::{next_step, register};
 use crate::look_back::verdicts::{has_given, is_handling, was_refused_in_handler};
-use caa_base::entry::{Entry, Participant, Place};
+use caa_base::entry::{Entry, Kind, Participant, Place};
+use caa_base::work::WorkDone;
 use place_plan::plan::Plan;
 use place_plan::rows::Step;
 
@@ -18,6 +21,24 @@ pub struct Work {
     pub rounds: u32,
     /// The register that the mixing starts from.
     pub from: i64,
+}
+
+impl Work {
+    /// The entry of this work, done by this participant; `done` brings its result.
+    pub(crate) fn entry(&self, by: Participant, done: &WorkDone) -> Entry
+        requires rounds { done.now.rounds ≡ self.now.rounds }
+        requires from { done.now.from ≡ self.now.from }
+        ensures { result ≡ work_entry self.now.place by self.now.rounds self.now.from }
+    {
+        Entry {
+            kind: Kind::Work,
+            place: self.place,
+            by,
+            arg: self.rounds,
+            mark: 0,
+            value: done.result(),
+        }
+    }
 }
 
 /// Whether a place goes on, and nothing is raised round it.

@@ -1,12 +1,12 @@
-ghost use Rattle.std.specs.Prelude.{◌≡◌, ◌<◌, ◌==◌, ◌∷◌, [], reverse, Option, MatchOption, IfSome};
+ghost use Rattle.std.specs.Prelude.{◌≡◌, ◌<◌, ◌∷◌, [], reverse, IfSome};
 ghost use Rattle.cover_table.specs.Cover.{IsLeastCover};
 ghost use Rattle.place_plan.specs.Places.{around, internal_of};
 ghost use Rattle.place_plan.specs.Journals.{LegalPast};
 ghost use Rattle.place_plan.specs.Entries.{is_in, is_by};
 ghost use Rattle.place_plan.specs.Raising.{has_handled, carries_into, raises_in, exceptions_raised, is_raised, is_doomed, halts_in, is_halted, all_are_halted, exception_resolved, exception_handled};
-ghost use Rattle.journal_replay.specs.Options.{listed};
+ghost use Rattle.journal_replay.specs.Joining.{listed, IsCoverOf};
 
-use crate::look_back::entries::{has_by, newest_by, newest_in};
+use crate::look_back::entries::{has_by, is_by, is_in};
 use caa_base::entry::{Entry, Exception, Kind, Participant, Place};
 use exception_graph::Graph;
 use place_plan::plan::Plan;
@@ -74,8 +74,9 @@ pub fn joined(graph: &Graph, cover: Option<Exception>, exception: Exception) -> 
 /// The least cover of all that was raised in a place, if anything was.
 pub fn least_raised(plan: &Plan, journal: &[Entry], place: Place) -> Option<Exception>
     requires { LegalPast plan.now (reverse journal.now) }
-    ensures { MatchOption result (exceptions_raised plan.now (reverse journal.now) place ≡ []) (IsLeastCover (internal_of plan.now place) (exceptions_raised plan.now (reverse journal.now) place)) }
+    ensures { IsCoverOf (internal_of plan.now place) (exceptions_raised plan.now (reverse journal.now) place) result }
 {
+    plan.is_closed();
     let mut cover = None;
     for (index, entry) in journal.iter().enumerate() {
         if let Some(raised) = raised_by(plan, &journal[..index], place, entry) {
@@ -121,14 +122,24 @@ pub fn all_are_halted(plan: &Plan, journal: &[Entry], place: Place) -> bool
 pub fn exception_resolved(journal: &[Entry], place: Place) -> Option<Exception>
     ensures { result ≡ exception_resolved (reverse journal.now) place }
 {
-    let resolve = newest_in(journal, Kind::Resolve, place)?;
-    Some(resolve.arg)
+    let mut exception = None;
+    for entry in journal {
+        if is_in(entry, Kind::Resolve, place) {
+            exception = Some(entry.arg);
+        }
+    }
+    exception
 }
 
 /// The exception that a participant handles in a place.
 pub fn exception_handled(journal: &[Entry], place: Place, by: Participant) -> Option<Exception>
     ensures { result ≡ exception_handled (reverse journal.now) place by }
 {
-    let handle = newest_by(journal, Kind::Handle, place, by)?;
-    Some(handle.arg)
+    let mut exception = None;
+    for entry in journal {
+        if is_by(entry, Kind::Handle, place, by) {
+            exception = Some(entry.arg);
+        }
+    }
+    exception
 }

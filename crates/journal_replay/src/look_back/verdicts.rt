@@ -1,8 +1,7 @@
-ghost use Rattle.std.specs.Prelude.{◌≡◌, reverse, Option, MatchOption, []};
-ghost use Rattle.cover_table.specs.Cover.{IsLeastCover};
+ghost use Rattle.std.specs.Prelude.{◌≡◌, reverse};
 ghost use Rattle.place_plan.specs.Places.{roles_of, interface_of};
 ghost use Rattle.place_plan.specs.Journals.{LegalPast};
-ghost use Rattle.journal_replay.specs.Options.{listed};
+ghost use Rattle.journal_replay.specs.Joining.{listed, IsCoverOf};
 ghost use Rattle.place_plan.specs.Roles.{has_given_after, has_given, all_have_given, is_handling, was_refused_in_handler, verdict_at, verdict_of, is_undo, wants_undo, signal_in, signals, has_aborted, all_have_aborted};
 
 use crate::look_back::entries::{has, has_by, is_by, is_in, newest_by};
@@ -128,11 +127,13 @@ fn signalled_by(journal: &[Entry], place: Place, by: Participant) -> Option<Exce
 /// The least cover of what the roles of a place signal, if one does.
 pub fn least_signalled(plan: &Plan, journal: &[Entry], place: Place) -> Option<Exception>
     requires { LegalPast plan.now (reverse journal.now) }
-    ensures { MatchOption result (signals (reverse journal.now) place (roles_of plan.now place) ≡ []) (IsLeastCover (interface_of plan.now place) (signals (reverse journal.now) place (roles_of plan.now place))) }
+    ensures { IsCoverOf (interface_of plan.now place) (signals (reverse journal.now) place (roles_of plan.now place)) result }
 {
+    plan.is_closed();
+    let roles = plan.roles_of(place);
     let mut cover = None;
-    for by in plan.roles_of(place).iter().rev() {
-        if let Some(signalled) = signalled_by(journal, place, *by) {
+    for index in (0..roles.len()).rev() {
+        if let Some(signalled) = signalled_by(journal, place, roles[index]) {
             cover = Some(joined(plan.interface(place), cover, signalled));
         }
     }

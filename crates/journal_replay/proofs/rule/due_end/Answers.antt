@@ -1,0 +1,11 @@
+use Rattle.std.proofs.Common.{◌∙◌, Some, ap, reverse}
+use Rattle.place_plan.specs.Places.{roles_of}
+use Rattle.place_plan.specs.Roles.{signals}
+use Rattle.journal_replay.proofs.Plays.{is_playable}
+use Rattle.journal_replay.proofs.CoverSoFar.{end_of_cover}
+use Rattle.journal_replay.proofs.rule.due_end.Goals as goal
+
+pub returns : goal.returns
+returns c =
+    let plan = c.args.plan.now in
+    ap Some c.naming.ensures ∙ end_of_cover plan (is_playable plan c.is_closed.ensures) c.args.place c.args.by _ (signals (reverse c.args.journal.now) c.args.place (roles_of plan c.args.place)) c.least_signalled.ensures

@@ -1,0 +1,68 @@
+ghost use Rattle.std.specs.Prelude.{◌≡◌, ◌↔◌, reverse, IsTrue};
+ghost use Rattle.place_plan.specs.Rules.{MayFollow};
+ghost use Rattle.place_plan.specs.Journals.{LegalPast, AllOver};
+ghost use Rattle.journal_replay.specs.Audited.{Audited};
+
+use crate::look_back::places::is_over;
+use crate::rule::{asks_device, entry_due, refused};
+use caa_base::entry::Entry;
+use caa_base::journal::Journal;
+use crate::laws::due_is_right;
+use place_plan::plan::Plan;
+use thiserror::Error;
+
+/// A journal isn't legal and complete.
+#[derive(Clone, Copy, Debug, PartialEq, Eq, Error)]
+#[error("the journal isn't legal and complete from entry {index} on")]
+pub struct Illegal {
+    /// The first entry that isn't legal after those before it, counted from 0; the length where all are legal and somebody isn't over.
+    pub index: u64,
+}
+
+/// Whether the entry is the one that is due from its maker, or that one where the device refuses it.
+fn may_follow(plan: &Plan, journal: &[Entry], entry: &Entry) -> bool
+    requires legal { LegalPast plan.now (reverse journal.now) }
+    ensures { IsTrue result ↔ MayFollow plan.now (reverse journal.now) entry.now }
+{
+    due_is_right(plan);
+    match entry_due(plan, journal, entry.by) {
+        Some(due) => *entry == due || (asks_device(&due) && *entry == refused(due)),
+        None => false,
+    }
+}
+
+/// Whether each participant has left its last play, or has none.
+pub(crate) fn all_are_over(plan: &Plan, journal: &[Entry]) -> bool
+    ensures { IsTrue result ↔ AllOver plan.now (reverse journal.now) }
+{
+    for by in 0..plan.participants() {
+        if !is_over(plan, journal, by) {
+            return false;
+        }
+    }
+    true
+}
+
+/// Whether a journal is legal for a plan, and complete. It takes no memory.
+///
+/// The entries may say anything, also of places and participants that the plan doesn't have. `Illegal` names the first entry that
+/// isn't legal after those before it, or the length where all are legal and somebody isn't over.
+pub fn audit(plan: &Plan, journal: &Journal) -> Result<(), Illegal>
+    ensures { Audited plan.now journal.now.entries result }
+{
+    let entries = journal.as_slice();
+    for (index, entry) in entries.iter().enumerate() {
+        if !may_follow(plan, &entries[..index], entry) {
+            return Err(Illegal {
+                index: index as u64,
+            });
+        }
+    }
+    if all_are_over(plan, entries) {
+        Ok(())
+    } else {
+        Err(Illegal {
+            index: entries.len() as u64,
+        })
+    }
+}
