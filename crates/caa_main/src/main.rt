@@ -4,6 +4,7 @@
 mod command;
 mod fault;
 mod finding;
+mod probe;
 mod status;
 
 fn main(_rt: HostRuntime) {}
