@@ -1,10 +1,9 @@
 -- How many names there can be: no more than there are words, and no more words than bytes.
-use Rattle.std.proofs.Common.{◌≡◌, ℕ, ◌+◌, ◌<◌, ◌≤◌, Bool, true, false, not, cond, if◌then◌else◌, List, [], ◌∷◌, ◌++◌, length, map, filter, refl, sym, ap, ◌∙◌, subst, arith}
+use Rattle.std.proofs.Common.{ℕ, ◌+◌, ◌≤◌, Bool, true, false, cond, if◌then◌else◌, List, [], ◌∷◌, ◌++◌, length, map, filter, arith}
 use Rattle.std.specs.List.{slice_split, onto_first}
 use Rattle.std.proofs.Math.ListN.{length-append}
-use Rattle.action_script.specs.Words.{is_empty}
 use Rattle.action_script.specs.Lines.{is_blank, words_of}
-use Rattle.action_script.specs.Asked.{Asked, Said}
+use Rattle.action_script.specs.Asked.{Asked}
 use Rattle.action_script.specs.Names.{is_among, with_name, with_names}
 use Rattle.action_script.specs.Reading.{is_name_part, names_of}
 use Rattle.action_script.proofs.Cutting.{filled}

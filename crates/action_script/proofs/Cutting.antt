@@ -1,5 +1,5 @@
 -- A line cut into words.
-use Rattle.std.proofs.Common.{◌≡◌, ℕ, ◌+◌, ◌<◌, ◌==◌, Bool, true, false, not, cond, List, [], ◌∷◌, ◌++◌, length, map, filter, drop, get_or, Bor, refl, sym, ap, ◌∙◌, append_assoc, arith, drop-cons, add-one}
+use Rattle.std.proofs.Common.{◌≡◌, ℕ, ◌+◌, ◌<◌, ◌==◌, true, false, not, cond, List, [], ◌∷◌, ◌++◌, length, map, filter, drop, get_or, Bor, refl, sym, ap, ◌∙◌, append_assoc, arith, drop-cons, add-one}
 use Rattle.std.proofs.lemmas.Bool.Decides.{nat_tests}
 use Rattle.action_script.specs.Words.{is_empty}
 

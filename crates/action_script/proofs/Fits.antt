@@ -1,7 +1,5 @@
 -- Words and fields, part by part: what a right word says is written as that word, and what is written of a field says that field.
-use Rattle.std.proofs.Common.{rules, ◌≡◌, ℕ, ℤ, pos, negsuc, zero, suc, ◌+◌, ◌<◌, ◌≤◌, ◌==◌, ◌^◌, nat_le, Bool, true, false, not, ◌&&◌, ◌||◌, cond, if◌then◌else◌, List, [], ◌∷◌, ◌++◌, length, map, get_or, Option, Some, None, is_some, unwrap_or, bytes_eq, decimal, refl, sym, ap, ◌∙◌, subst, arith}
-use Rattle.std.specs.List.{list_all}
-use Rattle.std.specs.Fmt.{signed_decimal}
+use Rattle.std.proofs.Common.{◌≡◌, ℕ, ℤ, pos, zero, suc, ◌+◌, ◌<◌, ◌≤◌, nat_le, Bool, true, false, ◌||◌, if◌then◌else◌, List, [], ◌∷◌, length, get_or, Option, Some, None, is_some, unwrap_or, bytes_eq, refl, sym, ap, subst, arith}
 use Rattle.std.proofs.lemmas.Bool.{and_parts, leb-true, le-leb}
 use Rattle.std.proofs.lemmas.Bool.Decides.{nat_tests}
 use Rattle.std.proofs.lemmas.Slice.Eq.{bytes_eq-Decides}
@@ -11,11 +9,10 @@ use Rattle.action_script.specs.declared.field.Part.{Part}
 use Rattle.action_script.specs.declared.field.Part.TheVariants as part
 use Rattle.action_script.specs.declared.field.Field.{Field}
 use Rattle.action_script.specs.declared.field.Field.TheVariants as field
-use Rattle.action_script.specs.Words.{is_name, value_of, count_of, rounds_of, test_of, test_word}
-use Rattle.action_script.specs.Asked.{Asked, Said}
-use Rattle.action_script.specs.Names.{is_among, number_in, with_name, with_names}
-use Rattle.action_script.specs.Reading.{asked_of, is_part, is_right, is_name_part, names_of, field_by, field_of}
-use Rattle.action_script.specs.Printing.{field_word, fits_part, fit, is_value}
+use Rattle.action_script.specs.Words.{is_name, value_of, count_of, rounds_of, test_of}
+use Rattle.action_script.specs.Names.{is_among, number_in}
+use Rattle.action_script.specs.Reading.{is_part, is_name_part, field_by}
+use Rattle.action_script.specs.Printing.{field_word, fits_part}
 use Rattle.action_script.proofs.Numerals.{decimal-natural, value_of-decimal, value_of-some, rounds_of-decimal, rounds_of-some, count_of-decimal, count_of-some}
 use Rattle.action_script.proofs.Inky.{test_of-some}
 

@@ -1,9 +1,8 @@
 -- The bytes of words: none is a blank, a line feed or another byte that lines may not have.
-use Rattle.std.proofs.Common.{rules, ◌≡◌, ℕ, ℤ, pos, negsuc, zero, suc, ◌+◌, ◌<◌, ◌≤◌, ◌==◌, nat_le, Bool, true, false, not, ◌&&◌, ◌||◌, cond, if◌then◌else◌, List, [], ◌∷◌, ◌++◌, length, Option, Some, None, is_some, option_map, codes, bytes_eq, refl, sym, ap, ◌∙◌, subst, arith}
+use Rattle.std.proofs.Common.{◌≡◌, ℕ, pos, ◌≤◌, ◌==◌, nat_le, Bool, true, false, ◌&&◌, if◌then◌else◌, List, [], ◌∷◌, length, Option, Some, None, is_some, option_map, codes, bytes_eq, refl, sym, subst, arith}
 use Rattle.std.specs.List.{list_all}
 use Rattle.std.proofs.lemmas.Bool.{and_parts, leb-true, le-leb}
 use Rattle.std.proofs.lemmas.Bool.Decides.{nat_tests}
-use Rattle.std.proofs.lemmas.List.Folds.{list_all-append}
 use Rattle.std.proofs.lemmas.Slice.Eq.{bytes_eq-Decides}
 use Rattle.caa_base.specs.declared.entry.Test.{Test}
 use Rattle.caa_base.specs.declared.entry.Test.TheVariants as test
@@ -11,11 +10,11 @@ use Rattle.action_script.specs.declared.field.Part.{Part}
 use Rattle.action_script.specs.declared.field.Part.TheVariants as part
 use Rattle.action_script.specs.declared.kind.LineKind.{LineKind}
 use Rattle.action_script.specs.declared.kind.LineKind.TheVariants as kind
-use Rattle.action_script.specs.Words.{is_empty, is_letter, is_digit, is_name_byte, begins_with_letter, is_name, leads_well, natural_of, at_most, negative_of, value_of, count_of, rounds_of, test_of, test_word}
-use Rattle.action_script.specs.Lines.{is_blank, is_plain, begins_comment, spaced}
+use Rattle.action_script.specs.Words.{is_empty, is_letter, is_digit, is_name_byte, is_name, leads_well, natural_of, at_most, negative_of, value_of, count_of, rounds_of, test_of, test_word}
+use Rattle.action_script.specs.Lines.{begins_comment}
 use Rattle.action_script.specs.Kinds.{word_of}
 use Rattle.action_script.specs.Reading.{is_part}
-use Rattle.action_script.proofs.Numerals.{natural_of-some, rounds_of-some, count_of-some, at_most-some}
+use Rattle.action_script.proofs.Numerals.{natural_of-some, count_of-some, at_most-some}
 
 abbrev pub is_inky : ℕ → Bool
 is_inky b = nat_le 33 b && nat_le b 126

@@ -1,13 +1,12 @@
 -- What is joined is cut again: words by spaces, lines by line feeds.
-use Rattle.std.proofs.Common.{rules, ◌≡◌, ◌≢◌, ℕ, ◌+◌, ◌<◌, ◌≤◌, ◌==◌, nat_le, Bool, true, false, not, ◌&&◌, ◌||◌, cond, if◌then◌else◌, List, [], ◌∷◌, ◌++◌, length, map, filter, get_or, refl, sym, ap, ◌∙◌, subst, arith, append_assoc}
-use Rattle.std.specs.List.{list_all, flat_map, slice_split, All}
-use Rattle.std.proofs.lemmas.Bool.{and_parts, leb-true, le-leb, not-true}
+use Rattle.std.proofs.Common.{◌≡◌, ℕ, ◌≤◌, ◌==◌, nat_le, Bool, true, false, not, cond, List, [], ◌∷◌, ◌++◌, refl, ap, ◌∙◌, arith}
+use Rattle.std.specs.List.{list_all, slice_split, All}
+use Rattle.std.proofs.lemmas.Bool.{and_parts, leb-true, not-true}
 use Rattle.std.proofs.lemmas.List.Elements.{All-cons}
 use Rattle.std.proofs.lemmas.Bool.Decides.{nat_tests}
 use Rattle.std.proofs.lemmas.List.{append-nil}
 use Rattle.std.proofs.lemmas.List.Folds.{list_all-append}
 use Rattle.std.proofs.lemmas.List.Splits.{slice_split_at, slice_split_none}
-use Rattle.action_script.specs.Words.{is_empty}
 use Rattle.action_script.specs.Lines.{is_blank, is_plain, words_of, spaced, lines_of, without_empty_last}
 use Rattle.action_script.proofs.LineCuts.{some_piece, without_empty_last-cons}
 use Rattle.action_script.proofs.Cutting.{filled}

@@ -1,7 +1,6 @@
 -- Forms on lines of their own.
-use Rattle.std.proofs.Common.{◌≡◌, ℕ, ◌+◌, List, [], ◌∷◌, ◌++◌, length, refl, sym, ap, ◌∙◌, subst, arith}
+use Rattle.std.proofs.Common.{◌≡◌, ℕ, ◌+◌, List, [], ◌∷◌, ◌++◌, length, refl, ap, arith}
 use Rattle.action_script.specs.declared.form.Form.{Form}
-use Rattle.action_script.specs.declared.script.Line.{Line}
 use Rattle.action_script.specs.Printing.{forms_of, numbered_from}
 
 pub forms_of-numbered_from : (number : ℕ) (forms : List Form) → forms_of (numbered_from number forms) ≡ forms

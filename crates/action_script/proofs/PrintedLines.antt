@@ -1,10 +1,9 @@
 -- The line of a form says that form.
-use Rattle.std.proofs.Common.{rules, ◌≡◌, ℕ, zero, suc, ◌+◌, ◌<◌, ◌≤◌, ◌==◌, nat_lt, nat_le, Bool, true, false, not, ◌&&◌, cond, if◌then◌else◌, List, [], ◌∷◌, ◌++◌, length, map, Option, Some, None, Result, Ok, Err, find, bytes_eq, refl, sym, ap, ◌∙◌, subst, arith}
+use Rattle.std.proofs.Common.{◌≡◌, ℕ, ◌==◌, nat_lt, Bool, true, false, not, ◌&&◌, cond, if◌then◌else◌, List, [], ◌∷◌, length, map, Option, Some, None, Ok, Err, find, refl, sym, ap, ◌∙◌, subst, arith}
 use Rattle.std.specs.List.{list_all}
 use Rattle.std.proofs.lemmas.Bool.{and_parts, leb-true, le-ltb}
 use Rattle.std.proofs.lemmas.Bool.Decides.{nat_tests}
 use Rattle.std.proofs.lemmas.List.{length-map}
-use Rattle.action_script.specs.declared.error.ScriptCause.{ScriptCause}
 use Rattle.action_script.specs.declared.error.ScriptCause.TheVariants as cause
 use Rattle.action_script.specs.declared.field.Part.{Part}
 use Rattle.action_script.specs.declared.field.Part.TheVariants as part
@@ -13,13 +12,13 @@ use Rattle.action_script.specs.declared.form.Form.{Form}
 use Rattle.action_script.specs.declared.kind.Section.{Section}
 use Rattle.action_script.specs.declared.kind.LineKind.{LineKind}
 use Rattle.action_script.specs.declared.kind.LineKind.TheVariants as kind
-use Rattle.action_script.specs.Lines.{most_line, words_of, is_plain, spaced}
-use Rattle.action_script.specs.Asked.{Asked, Said}
-use Rattle.action_script.specs.Kinds.{word_of, parts_of, takes, stands_in, kinds}
+use Rattle.action_script.specs.Lines.{most_line, words_of, is_plain}
+use Rattle.action_script.specs.Asked.{Asked}
+use Rattle.action_script.specs.Kinds.{word_of, parts_of, takes, stands_in}
 use Rattle.action_script.specs.Forms.{kind_of, fields_of, form_by}
-use Rattle.action_script.specs.Reading.{asked_of, is_part, is_right, is_wrong_test, is_test, field_of, is_here, kind_here, by_first_wrong, checked, by_check, by_kind, line_by_words, line_of}
-use Rattle.action_script.specs.Printing.{field_word, words_after, form_line, said_by, fits_part, fit, is_sound, is_short}
-use Rattle.action_script.proofs.Inky.{IsWord, right_word, first_word, first_speaks}
+use Rattle.action_script.specs.Reading.{asked_of, is_right, is_wrong_test, is_test, field_of, kind_here, by_first_wrong, trial_of, by_check, by_kind, line_by_words, line_of}
+use Rattle.action_script.specs.Printing.{field_word, words_after, form_line, said_by, fits_part, all_fit, is_sound, is_short}
+use Rattle.action_script.proofs.Inky.{right_word, first_word, first_speaks}
 use Rattle.action_script.proofs.Fits.{AreNumbered, field_word-part, field_by-word}
 use Rattle.action_script.proofs.Shapes.{form_by-own}
 use Rattle.action_script.proofs.Joining.{AreWords, words_of-joined, joined_plain}
@@ -38,7 +37,7 @@ say_one names p parts f fields numbered h rest =
     let right = field_word-part names p f h in
     ((λ j. one j ∷ rest.said j), rw (right, rest.right) refl, (right_word p (field_word names f) right, rest.words))
 
-pub say_fields : (names : List (List ℕ)) (parts : List Part) (fields : List Field) → AreNumbered names → fit names parts fields ≡ true → SayFields names parts fields
+pub say_fields : (names : List (List ℕ)) (parts : List Part) (fields : List Field) → AreNumbered names → all_fit names parts fields ≡ true → SayFields names parts fields
 say_fields names parts [] numbered h = record { said = refl; right = refl; words = tt }
 say_fields names [] (f ∷ fields) numbered h =
     let p = and_parts (fits_part names part.Name f) _ h in
@@ -66,8 +65,8 @@ none_wrong : (asked : List Asked) → list_all is_right asked ≡ true → find 
 none_wrong [] h = refl
 none_wrong (a ∷ asked) h = let p = and_parts (is_right a) _ h in ap (λ b. cond (not b) (Some a) (find (λ a. not (is_right a)) asked)) p.0 ∙ none_wrong asked p.1
 
-pub checked-right : (asked : List Asked) → list_all is_right asked ≡ true → checked asked ≡ Ok tt
-checked-right asked h = ap (λ b. if b then by_first_wrong (find (λ a. not (is_right a)) asked) else Err cause.BadLine) (right_tests asked h) ∙ ap by_first_wrong (none_wrong asked h)
+pub trial_of-right : (asked : List Asked) → list_all is_right asked ≡ true → trial_of asked ≡ Ok tt
+trial_of-right asked h = ap (λ b. if b then by_first_wrong (find (λ a. not (is_right a)) asked) else Err cause.BadLine) (right_tests asked h) ∙ ap by_first_wrong (none_wrong asked h)
 
 -- ---- the kind of the line
 
@@ -134,7 +133,7 @@ line_of-form s names form numbered sound short stands =
     let plain : list_all is_plain (form_line names form) ≡ true = joined_plain (word_of k) words first says.words in
     let within : nat_lt most_line (length (form_line names form)) ≡ false = le-ltb most_line (length (form_line names form)) (leb-true (length (form_line names form)) most_line short) in
     let here : kind_here s (word_of k) (length words) ≡ Some k = kind_here-own k s (length words) count stands in
-    let tried : checked said.asked ≡ Ok tt = checked-right said.asked says.right in
+    let tried : trial_of said.asked ≡ Ok tt = trial_of-right said.asked says.right in
     ap (λ b. if b then Err cause.TooLong else line_by_words s (list_all is_plain (form_line names form)) (words_of (form_line names form))) within
     ∙ ap (λ ws. line_by_words s (list_all is_plain (form_line names form)) ws) cut
     ∙ ap (λ b. if b then Ok None else (if list_all is_plain (form_line names form) then by_kind words (kind_here s (word_of k) (length words)) else Err cause.BadLine)) (first_speaks k)

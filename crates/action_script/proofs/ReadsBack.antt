@@ -1,22 +1,19 @@
 -- The text of a script reads back.
-use Rattle.std.proofs.Common.{rules, ◌≡◌, ℕ, zero, suc, ◌+◌, ◌<◌, ◌≤◌, nat_lt, nat_le, Bool, true, false, ◌&&◌, cond, if◌then◌else◌, List, [], ◌∷◌, ◌++◌, length, map, Option, Some, None, Result, Ok, Err, refl, sym, ap, ◌∙◌, subst, arith, append_assoc}
+use Rattle.std.proofs.Common.{◌≡◌, ℕ, ◌+◌, ◌≤◌, true, if◌then◌else◌, List, [], ◌∷◌, ◌++◌, length, map, Ok, Err, refl, ap, ◌∙◌, subst, append_assoc}
 use Rattle.std.specs.List.{list_all, flat_map}
 use Rattle.std.proofs.lemmas.Bool.{and_parts, le-ltb}
-use Rattle.action_script.specs.declared.error.ScriptCause.{ScriptCause}
 use Rattle.action_script.specs.declared.error.ScriptCause.TheVariants as cause
-use Rattle.action_script.specs.declared.error.ScriptError.{ScriptError}
 use Rattle.action_script.specs.declared.form.Form.{Form}
 use Rattle.action_script.specs.declared.kind.Section.{Section}
 use Rattle.action_script.specs.declared.kind.Section.TheVariants as section
 use Rattle.action_script.specs.declared.script.Line.{Line}
-use Rattle.action_script.specs.Lines.{most_bytes, lines_of, spaced}
-use Rattle.action_script.specs.Asked.{Asked, Said}
-use Rattle.action_script.specs.Kinds.{word_of, parts_of, takes, stands_in, goes_to, at_top}
+use Rattle.action_script.specs.Lines.{most_bytes, lines_of}
+use Rattle.action_script.specs.Kinds.{word_of, parts_of, takes, stands_in, goes_to}
 use Rattle.action_script.specs.Names.{with_names}
-use Rattle.action_script.specs.Forms.{kind_of, fields_of, form_by}
+use Rattle.action_script.specs.Forms.{kind_of, fields_of}
 use Rattle.action_script.specs.ScriptValue.{Script}
-use Rattle.action_script.specs.Reading.{names_of, field_of, Numbered, before, with_line, said_from, script_names, line_by, script_by, spelled, reading_of, line_of}
-use Rattle.action_script.specs.Printing.{words_after, form_line, line_text, text_of, said_by, fit, is_sound, is_short, lead_to_top, form_names, AreScript, forms_of, numbered_from, renumbered}
+use Rattle.action_script.specs.Reading.{names_of, Numbered, before, with_line, said_from, script_names, line_by, script_by, script_of, reading_of}
+use Rattle.action_script.specs.Printing.{words_after, form_line, line_text, text_of, said_by, is_sound, is_short, lead_to_top, form_names, AreScript, forms_of, numbered_from, reread_of}
 use Rattle.action_script.proofs.Inky.{first_word}
 use Rattle.action_script.proofs.Fits.{AreNumbered}
 use Rattle.action_script.proofs.Numbered.{numbered-with_names, numbered-none}
@@ -72,7 +69,7 @@ lines-saids number names (form ∷ forms) numbered sound =
 numbered-script : (names : List (List ℕ)) (forms : List Form) → AreScript names forms → AreNumbered names
 numbered-script names forms h = subst AreNumbered h.order (numbered-with_names [] (flat_map (form_names names) forms) numbered-none)
 
-pub reads_back : (script : Script) → AreScript script.names (forms_of script.lines) → length (text_of script) ≤ most_bytes → reading_of (text_of script) ≡ Ok (renumbered script)
+pub reads_back : (script : Script) → AreScript script.names (forms_of script.lines) → length (text_of script) ≤ most_bytes → reading_of (text_of script) ≡ Ok (reread_of script)
 reads_back script h small =
     let names = script.names in
     let forms = forms_of script.lines in
@@ -80,8 +77,8 @@ reads_back script h small =
     let saids = saids_from 1 names forms in
     let own_names : script_names saids ≡ names = ap (with_names []) (names-saids 1 names forms) ∙ h.order in
     let own_lines : map (line_by (script_names saids)) saids ≡ numbered_from 1 forms = ap (λ n. map (line_by n) saids) own_names ∙ lines-saids 1 names forms numbered h.sound in
-    let same : script_by saids ≡ renumbered script = (λ j. record { lines = own_lines j; names = own_names j }) in
-    ap (λ b. if b then Err (record { line = 0; cause = cause.TooLong }) else spelled (said_from 1 section.Top (lines_of (text_of script)))) (le-ltb most_bytes (length (text_of script)) small)
-    ∙ ap (λ lines. spelled (said_from 1 section.Top lines)) (lines_of-text names script.lines numbered h.sound)
-    ∙ ap spelled (said_from-forms 1 section.Top names forms numbered h.lead h.sound h.short)
+    let same : script_by saids ≡ reread_of script = (λ j. record { lines = own_lines j; names = own_names j }) in
+    ap (λ b. if b then Err (record { line = 0; cause = cause.TooLong }) else script_of (said_from 1 section.Top (lines_of (text_of script)))) (le-ltb most_bytes (length (text_of script)) small)
+    ∙ ap (λ lines. script_of (said_from 1 section.Top lines)) (lines_of-text names script.lines numbered h.sound)
+    ∙ ap script_of (said_from-forms 1 section.Top names forms numbered h.lead h.sound h.short)
     ∙ ap Ok same

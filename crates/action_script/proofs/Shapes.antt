@@ -1,8 +1,7 @@
 -- Forms, and their kinds and fields.
-use Rattle.std.proofs.Common.{rules, ◌≡◌, ℕ, ℤ, zero, suc, ◌+◌, ◌<◌, ◌≤◌, ◌==◌, nat_le, Bool, true, false, ◌&&◌, List, [], ◌∷◌, ◌++◌, length, map, drop, Option, Some, None, refl, sym, ap, ◌∙◌, subst, arith}
+use Rattle.std.proofs.Common.{◌≡◌, ℕ, ℤ, suc, ◌≤◌, ◌==◌, true, List, [], ◌∷◌, length, map, Some, refl, sym, ap, ◌∙◌, subst, arith}
 use Rattle.std.proofs.lemmas.Bool.{and_parts, leb-true}
 use Rattle.std.proofs.lemmas.Bool.Decides.{nat_tests}
-use Rattle.std.proofs.lemmas.List.{length-map}
 use Rattle.caa_base.specs.declared.entry.Test.{Test}
 use Rattle.action_script.specs.declared.field.Part.{Part}
 use Rattle.action_script.specs.declared.field.Part.TheVariants as part
@@ -12,9 +11,9 @@ use Rattle.action_script.specs.declared.form.Form.{Form}
 use Rattle.action_script.specs.declared.form.Form.TheVariants as form
 use Rattle.action_script.specs.declared.kind.LineKind.{LineKind}
 use Rattle.action_script.specs.declared.kind.LineKind.TheVariants as kind
-use Rattle.action_script.specs.Kinds.{parts_of, may_go_on, takes}
-use Rattle.action_script.specs.Forms.{kind_of, fields_of, form_by, name_in, names_from}
-use Rattle.action_script.specs.Printing.{fits_part, fit}
+use Rattle.action_script.specs.Kinds.{parts_of, takes}
+use Rattle.action_script.specs.Forms.{kind_of, fields_of, form_by, name_in}
+use Rattle.action_script.specs.Printing.{fits_part, all_fit}
 
 -- ---- a form is made again of its kind and fields
 
@@ -31,7 +30,7 @@ form_by-own _ = refl
 
 -- ---- fields that are what a kind asks for
 
-all_names : (names : List (List ℕ)) (fields : List Field) → fit names [] fields ≡ true → fields ≡ map field.Name (map (λ f. name_in (Some f)) fields)
+all_names : (names : List (List ℕ)) (fields : List Field) → all_fit names [] fields ≡ true → fields ≡ map field.Name (map (λ f. name_in (Some f)) fields)
 all_names names [] h = refl
 all_names names (field.Name n ∷ fields) h = let p = and_parts (fits_part names part.Name (field.Name n)) _ h in ap (λ l. field.Name n ∷ l) (all_names names fields p.1)
 all_names names (_ ∷ fields) h = cc
@@ -47,9 +46,9 @@ record BeginsName (names : List (List ℕ)) (parts : List Part) (n : ℕ) (field
   rest : List Field
   are : fields ≡ field.Name first ∷ rest
   count : length rest ≡ n
-  fits : fit names parts rest ≡ true
+  fits : all_fit names parts rest ≡ true
 
-begins_name : (names : List (List ℕ)) (parts : List Part) (n : ℕ) (fields : List Field) → length fields ≡ suc n → fit names (part.Name ∷ parts) fields ≡ true → BeginsName names parts n fields
+begins_name : (names : List (List ℕ)) (parts : List Part) (n : ℕ) (fields : List Field) → length fields ≡ suc n → all_fit names (part.Name ∷ parts) fields ≡ true → BeginsName names parts n fields
 begins_name names parts n [] e h = absurd (omega arith)
 begins_name names parts n (field.Name x ∷ fields) e h = let p = and_parts (fits_part names part.Name (field.Name x)) _ h in record { first = x; rest = fields; are = refl; count = omega arith; fits = p.1 }
 begins_name names parts n (_ ∷ fields) e h = cc
@@ -59,9 +58,9 @@ record BeginsValue (names : List (List ℕ)) (parts : List Part) (n : ℕ) (fiel
   rest : List Field
   are : fields ≡ field.Value first ∷ rest
   count : length rest ≡ n
-  fits : fit names parts rest ≡ true
+  fits : all_fit names parts rest ≡ true
 
-begins_value : (names : List (List ℕ)) (parts : List Part) (n : ℕ) (fields : List Field) → length fields ≡ suc n → fit names (part.Value ∷ parts) fields ≡ true → BeginsValue names parts n fields
+begins_value : (names : List (List ℕ)) (parts : List Part) (n : ℕ) (fields : List Field) → length fields ≡ suc n → all_fit names (part.Value ∷ parts) fields ≡ true → BeginsValue names parts n fields
 begins_value names parts n [] e h = absurd (omega arith)
 begins_value names parts n (field.Value x ∷ fields) e h = let p = and_parts (fits_part names part.Value (field.Value x)) _ h in record { first = x; rest = fields; are = refl; count = omega arith; fits = p.1 }
 begins_value names parts n (_ ∷ fields) e h = cc
@@ -71,9 +70,9 @@ record BeginsCount (names : List (List ℕ)) (parts : List Part) (n : ℕ) (fiel
   rest : List Field
   are : fields ≡ field.Count first ∷ rest
   count : length rest ≡ n
-  fits : fit names parts rest ≡ true
+  fits : all_fit names parts rest ≡ true
 
-begins_count : (names : List (List ℕ)) (parts : List Part) (n : ℕ) (fields : List Field) → length fields ≡ suc n → fit names (part.Count ∷ parts) fields ≡ true → BeginsCount names parts n fields
+begins_count : (names : List (List ℕ)) (parts : List Part) (n : ℕ) (fields : List Field) → length fields ≡ suc n → all_fit names (part.Count ∷ parts) fields ≡ true → BeginsCount names parts n fields
 begins_count names parts n [] e h = absurd (omega arith)
 begins_count names parts n (field.Count x ∷ fields) e h = let p = and_parts (fits_part names part.Count (field.Count x)) _ h in record { first = x; rest = fields; are = refl; count = omega arith; fits = p.1 }
 begins_count names parts n (_ ∷ fields) e h = cc
@@ -83,9 +82,9 @@ record BeginsRounds (names : List (List ℕ)) (parts : List Part) (n : ℕ) (fie
   rest : List Field
   are : fields ≡ field.Count first ∷ rest
   count : length rest ≡ n
-  fits : fit names parts rest ≡ true
+  fits : all_fit names parts rest ≡ true
 
-begins_rounds : (names : List (List ℕ)) (parts : List Part) (n : ℕ) (fields : List Field) → length fields ≡ suc n → fit names (part.Rounds ∷ parts) fields ≡ true → BeginsRounds names parts n fields
+begins_rounds : (names : List (List ℕ)) (parts : List Part) (n : ℕ) (fields : List Field) → length fields ≡ suc n → all_fit names (part.Rounds ∷ parts) fields ≡ true → BeginsRounds names parts n fields
 begins_rounds names parts n [] e h = absurd (omega arith)
 begins_rounds names parts n (field.Count x ∷ fields) e h = let p = and_parts (fits_part names part.Rounds (field.Count x)) _ h in record { first = x; rest = fields; are = refl; count = omega arith; fits = p.1 }
 begins_rounds names parts n (_ ∷ fields) e h = cc
@@ -95,9 +94,9 @@ record BeginsTest (names : List (List ℕ)) (parts : List Part) (n : ℕ) (field
   rest : List Field
   are : fields ≡ field.Test first ∷ rest
   count : length rest ≡ n
-  fits : fit names parts rest ≡ true
+  fits : all_fit names parts rest ≡ true
 
-begins_test : (names : List (List ℕ)) (parts : List Part) (n : ℕ) (fields : List Field) → length fields ≡ suc n → fit names (part.Test ∷ parts) fields ≡ true → BeginsTest names parts n fields
+begins_test : (names : List (List ℕ)) (parts : List Part) (n : ℕ) (fields : List Field) → length fields ≡ suc n → all_fit names (part.Test ∷ parts) fields ≡ true → BeginsTest names parts n fields
 begins_test names parts n [] e h = absurd (omega arith)
 begins_test names parts n (field.Test x ∷ fields) e h = let p = and_parts (fits_part names part.Test (field.Test x)) _ h in record { first = x; rest = fields; are = refl; count = omega arith; fits = p.1 }
 begins_test names parts n (_ ∷ fields) e h = cc
@@ -108,9 +107,9 @@ record BeginsMore (names : List (List ℕ)) (parts : List Part) (n : ℕ) (field
   rest : List Field
   are : fields ≡ field.Name first ∷ rest
   count : n ≤ length rest
-  fits : fit names parts rest ≡ true
+  fits : all_fit names parts rest ≡ true
 
-begins_more : (names : List (List ℕ)) (parts : List Part) (n : ℕ) (fields : List Field) → suc n ≤ length fields → fit names (part.Name ∷ parts) fields ≡ true → BeginsMore names parts n fields
+begins_more : (names : List (List ℕ)) (parts : List Part) (n : ℕ) (fields : List Field) → suc n ≤ length fields → all_fit names (part.Name ∷ parts) fields ≡ true → BeginsMore names parts n fields
 begins_more names parts n [] e h = absurd (omega arith)
 begins_more names parts n (field.Name x ∷ fields) e h = let p = and_parts (fits_part names part.Name (field.Name x)) _ h in record { first = x; rest = fields; are = refl; count = omega arith; fits = p.1 }
 begins_more names parts n (_ ∷ fields) e h = cc
@@ -120,14 +119,14 @@ pub record MakesForm (k : LineKind) (fields : List Field) : Type 0 where
   pub same_kind : kind_of (form_by k fields) ≡ k
   pub same_fields : fields_of (form_by k fields) ≡ fields
 
-name_fields : (names : List (List ℕ)) (fields : List Field) → length fields ≡ 1 → fit names (part.Name ∷ []) fields ≡ true → (x0 : ℕ) × (fields ≡ field.Name x0 ∷ [])
+name_fields : (names : List (List ℕ)) (fields : List Field) → length fields ≡ 1 → all_fit names (part.Name ∷ []) fields ≡ true → (x0 : ℕ) × (fields ≡ field.Name x0 ∷ [])
 name_fields names fields e h =
     let b0 = begins_name names [] 0 fields e h in
     let rest : b0.rest ≡ [] = none_left b0.rest b0.count in
     let eq0 : fields ≡ field.Name b0.first ∷ [] = b0.are ∙ ap (λ l. field.Name b0.first ∷ l) rest in
     (b0.first, eq0)
 
-name_value_fields : (names : List (List ℕ)) (fields : List Field) → length fields ≡ 2 → fit names (part.Name ∷ part.Value ∷ []) fields ≡ true → (x0 : ℕ) × (x1 : ℤ) × (fields ≡ field.Name x0 ∷ field.Value x1 ∷ [])
+name_value_fields : (names : List (List ℕ)) (fields : List Field) → length fields ≡ 2 → all_fit names (part.Name ∷ part.Value ∷ []) fields ≡ true → (x0 : ℕ) × (x1 : ℤ) × (fields ≡ field.Name x0 ∷ field.Value x1 ∷ [])
 name_value_fields names fields e h =
     let b0 = begins_name names (part.Value ∷ []) 1 fields e h in
     let b1 = begins_value names [] 0 b0.rest b0.count b0.fits in
@@ -136,7 +135,7 @@ name_value_fields names fields e h =
     let eq0 : fields ≡ field.Name b0.first ∷ field.Value b1.first ∷ [] = b0.are ∙ ap (λ l. field.Name b0.first ∷ l) eq1 in
     (b0.first, b1.first, eq0)
 
-name_count_fields : (names : List (List ℕ)) (fields : List Field) → length fields ≡ 2 → fit names (part.Name ∷ part.Count ∷ []) fields ≡ true → (x0 : ℕ) × (x1 : ℕ) × (fields ≡ field.Name x0 ∷ field.Count x1 ∷ [])
+name_count_fields : (names : List (List ℕ)) (fields : List Field) → length fields ≡ 2 → all_fit names (part.Name ∷ part.Count ∷ []) fields ≡ true → (x0 : ℕ) × (x1 : ℕ) × (fields ≡ field.Name x0 ∷ field.Count x1 ∷ [])
 name_count_fields names fields e h =
     let b0 = begins_name names (part.Count ∷ []) 1 fields e h in
     let b1 = begins_count names [] 0 b0.rest b0.count b0.fits in
@@ -145,7 +144,7 @@ name_count_fields names fields e h =
     let eq0 : fields ≡ field.Name b0.first ∷ field.Count b1.first ∷ [] = b0.are ∙ ap (λ l. field.Name b0.first ∷ l) eq1 in
     (b0.first, b1.first, eq0)
 
-name_names_fields : (names : List (List ℕ)) (fields : List Field) → 2 ≤ length fields → fit names (part.Name ∷ part.Name ∷ []) fields ≡ true → (x0 : ℕ) × (list : List ℕ) × (fields ≡ field.Name x0 ∷ map field.Name list)
+name_names_fields : (names : List (List ℕ)) (fields : List Field) → 2 ≤ length fields → all_fit names (part.Name ∷ part.Name ∷ []) fields ≡ true → (x0 : ℕ) × (list : List ℕ) × (fields ≡ field.Name x0 ∷ map field.Name list)
 name_names_fields names fields e h =
     let b0 = begins_more names (part.Name ∷ []) 1 fields e h in
     let last = begins_more names [] 0 b0.rest b0.count b0.fits in
@@ -154,7 +153,7 @@ name_names_fields names fields e h =
     let eq0 : fields ≡ field.Name b0.first ∷ map field.Name list = b0.are ∙ ap (λ l. field.Name b0.first ∷ l) rest in
     (b0.first, list, eq0)
 
-name_name_fields : (names : List (List ℕ)) (fields : List Field) → length fields ≡ 2 → fit names (part.Name ∷ part.Name ∷ []) fields ≡ true → (x0 : ℕ) × (x1 : ℕ) × (fields ≡ field.Name x0 ∷ field.Name x1 ∷ [])
+name_name_fields : (names : List (List ℕ)) (fields : List Field) → length fields ≡ 2 → all_fit names (part.Name ∷ part.Name ∷ []) fields ≡ true → (x0 : ℕ) × (x1 : ℕ) × (fields ≡ field.Name x0 ∷ field.Name x1 ∷ [])
 name_name_fields names fields e h =
     let b0 = begins_name names (part.Name ∷ []) 1 fields e h in
     let b1 = begins_name names [] 0 b0.rest b0.count b0.fits in
@@ -163,19 +162,19 @@ name_name_fields names fields e h =
     let eq0 : fields ≡ field.Name b0.first ∷ field.Name b1.first ∷ [] = b0.are ∙ ap (λ l. field.Name b0.first ∷ l) eq1 in
     (b0.first, b1.first, eq0)
 
-no_fields : (names : List (List ℕ)) (fields : List Field) → length fields ≡ 0 → fit names ([]) fields ≡ true → (fields ≡ [])
+no_fields : (names : List (List ℕ)) (fields : List Field) → length fields ≡ 0 → all_fit names ([]) fields ≡ true → (fields ≡ [])
 no_fields names fields e h =
     let rest : fields ≡ [] = none_left fields e in
     rest
 
-names_fields : (names : List (List ℕ)) (fields : List Field) → 1 ≤ length fields → fit names (part.Name ∷ []) fields ≡ true → (list : List ℕ) × (fields ≡ map field.Name list)
+names_fields : (names : List (List ℕ)) (fields : List Field) → 1 ≤ length fields → all_fit names (part.Name ∷ []) fields ≡ true → (list : List ℕ) × (fields ≡ map field.Name list)
 names_fields names fields e h =
     let last = begins_more names [] 0 fields e h in
     let list = last.first ∷ map (λ f. name_in (Some f)) last.rest in
     let rest : fields ≡ map field.Name list = last.are ∙ ap (λ l. field.Name last.first ∷ l) (all_names names last.rest last.fits) in
     (list, rest)
 
-name_name_names_fields : (names : List (List ℕ)) (fields : List Field) → 3 ≤ length fields → fit names (part.Name ∷ part.Name ∷ part.Name ∷ []) fields ≡ true → (x0 : ℕ) × (x1 : ℕ) × (list : List ℕ) × (fields ≡ field.Name x0 ∷ field.Name x1 ∷ map field.Name list)
+name_name_names_fields : (names : List (List ℕ)) (fields : List Field) → 3 ≤ length fields → all_fit names (part.Name ∷ part.Name ∷ part.Name ∷ []) fields ≡ true → (x0 : ℕ) × (x1 : ℕ) × (list : List ℕ) × (fields ≡ field.Name x0 ∷ field.Name x1 ∷ map field.Name list)
 name_name_names_fields names fields e h =
     let b0 = begins_more names (part.Name ∷ part.Name ∷ []) 2 fields e h in
     let b1 = begins_more names (part.Name ∷ []) 1 b0.rest b0.count b0.fits in
@@ -186,7 +185,7 @@ name_name_names_fields names fields e h =
     let eq0 : fields ≡ field.Name b0.first ∷ field.Name b1.first ∷ map field.Name list = b0.are ∙ ap (λ l. field.Name b0.first ∷ l) eq1 in
     (b0.first, b1.first, list, eq0)
 
-name_name_name_fields : (names : List (List ℕ)) (fields : List Field) → length fields ≡ 3 → fit names (part.Name ∷ part.Name ∷ part.Name ∷ []) fields ≡ true → (x0 : ℕ) × (x1 : ℕ) × (x2 : ℕ) × (fields ≡ field.Name x0 ∷ field.Name x1 ∷ field.Name x2 ∷ [])
+name_name_name_fields : (names : List (List ℕ)) (fields : List Field) → length fields ≡ 3 → all_fit names (part.Name ∷ part.Name ∷ part.Name ∷ []) fields ≡ true → (x0 : ℕ) × (x1 : ℕ) × (x2 : ℕ) × (fields ≡ field.Name x0 ∷ field.Name x1 ∷ field.Name x2 ∷ [])
 name_name_name_fields names fields e h =
     let b0 = begins_name names (part.Name ∷ part.Name ∷ []) 2 fields e h in
     let b1 = begins_name names (part.Name ∷ []) 1 b0.rest b0.count b0.fits in
@@ -197,7 +196,7 @@ name_name_name_fields names fields e h =
     let eq0 : fields ≡ field.Name b0.first ∷ field.Name b1.first ∷ field.Name b2.first ∷ [] = b0.are ∙ ap (λ l. field.Name b0.first ∷ l) eq1 in
     (b0.first, b1.first, b2.first, eq0)
 
-name_test_value_name_fields : (names : List (List ℕ)) (fields : List Field) → length fields ≡ 4 → fit names (part.Name ∷ part.Test ∷ part.Value ∷ part.Name ∷ []) fields ≡ true → (x0 : ℕ) × (x1 : Test) × (x2 : ℤ) × (x3 : ℕ) × (fields ≡ field.Name x0 ∷ field.Test x1 ∷ field.Value x2 ∷ field.Name x3 ∷ [])
+name_test_value_name_fields : (names : List (List ℕ)) (fields : List Field) → length fields ≡ 4 → all_fit names (part.Name ∷ part.Test ∷ part.Value ∷ part.Name ∷ []) fields ≡ true → (x0 : ℕ) × (x1 : Test) × (x2 : ℤ) × (x3 : ℕ) × (fields ≡ field.Name x0 ∷ field.Test x1 ∷ field.Value x2 ∷ field.Name x3 ∷ [])
 name_test_value_name_fields names fields e h =
     let b0 = begins_name names (part.Test ∷ part.Value ∷ part.Name ∷ []) 3 fields e h in
     let b1 = begins_test names (part.Value ∷ part.Name ∷ []) 2 b0.rest b0.count b0.fits in
@@ -210,14 +209,14 @@ name_test_value_name_fields names fields e h =
     let eq0 : fields ≡ field.Name b0.first ∷ field.Test b1.first ∷ field.Value b2.first ∷ field.Name b3.first ∷ [] = b0.are ∙ ap (λ l. field.Name b0.first ∷ l) eq1 in
     (b0.first, b1.first, b2.first, b3.first, eq0)
 
-rounds_fields : (names : List (List ℕ)) (fields : List Field) → length fields ≡ 1 → fit names (part.Rounds ∷ []) fields ≡ true → (x0 : ℕ) × (fields ≡ field.Count x0 ∷ [])
+rounds_fields : (names : List (List ℕ)) (fields : List Field) → length fields ≡ 1 → all_fit names (part.Rounds ∷ []) fields ≡ true → (x0 : ℕ) × (fields ≡ field.Count x0 ∷ [])
 rounds_fields names fields e h =
     let b0 = begins_rounds names [] 0 fields e h in
     let rest : b0.rest ≡ [] = none_left b0.rest b0.count in
     let eq0 : fields ≡ field.Count b0.first ∷ [] = b0.are ∙ ap (λ l. field.Count b0.first ∷ l) rest in
     (b0.first, eq0)
 
-test_value_name_fields : (names : List (List ℕ)) (fields : List Field) → length fields ≡ 3 → fit names (part.Test ∷ part.Value ∷ part.Name ∷ []) fields ≡ true → (x0 : Test) × (x1 : ℤ) × (x2 : ℕ) × (fields ≡ field.Test x0 ∷ field.Value x1 ∷ field.Name x2 ∷ [])
+test_value_name_fields : (names : List (List ℕ)) (fields : List Field) → length fields ≡ 3 → all_fit names (part.Test ∷ part.Value ∷ part.Name ∷ []) fields ≡ true → (x0 : Test) × (x1 : ℤ) × (x2 : ℕ) × (fields ≡ field.Test x0 ∷ field.Value x1 ∷ field.Name x2 ∷ [])
 test_value_name_fields names fields e h =
     let b0 = begins_test names (part.Value ∷ part.Name ∷ []) 2 fields e h in
     let b1 = begins_value names (part.Name ∷ []) 1 b0.rest b0.count b0.fits in
@@ -232,7 +231,7 @@ equal_length : (n m : ℕ) → (n == m) ≡ true → m ≡ n
 equal_length n m h = grind (arith, nat_tests)
 
 -- the fields that a kind asks for make a form of that kind with these fields
-pub makes_form : (names : List (List ℕ)) (k : LineKind) (fields : List Field) → takes k (length fields) ≡ true → fit names (parts_of k) fields ≡ true → MakesForm k fields
+pub makes_form : (names : List (List ℕ)) (k : LineKind) (fields : List Field) → takes k (length fields) ≡ true → all_fit names (parts_of k) fields ≡ true → MakesForm k fields
 makes_form names kind.Participant fields t h = let s = name_fields names fields (equal_length 1 (length fields) t) h in subst (MakesForm kind.Participant) (sym s.1) (record { same_kind = refl; same_fields = refl })
 makes_form names kind.Object fields t h = let s = name_value_fields names fields (equal_length 2 (length fields) t) h in subst (MakesForm kind.Object) (sym s.2) (record { same_kind = refl; same_fields = refl })
 makes_form names kind.Drill fields t h = let s = name_count_fields names fields (equal_length 2 (length fields) t) h in subst (MakesForm kind.Drill) (sym s.2) (record { same_kind = refl; same_fields = refl })

@@ -1,17 +1,17 @@
 -- What is known of a line that says something.
-use Rattle.std.proofs.Common.{◌≡◌, ℕ, ◌+◌, ◌<◌, ◌≤◌, ◌==◌, Bool, true, false, not, ◌&&◌, cond, if◌then◌else◌, nat_lt, nat_le, List, [], ◌∷◌, length, Option, Some, None, Result, Ok, Err, find, bytes_eq, refl, sym, ap, ◌∙◌, arith, subst}
+use Rattle.std.proofs.Common.{◌≡◌, ℕ, ◌≤◌, Bool, true, false, cond, if◌then◌else◌, nat_lt, List, [], ◌∷◌, length, Option, Some, None, Result, Ok, Err, find, bytes_eq, refl, sym, ap, ◌∙◌, arith, subst}
 use Rattle.std.specs.List.{list_all}
-use Rattle.std.proofs.lemmas.Bool.{ltb-true, ltb-false, and_parts}
+use Rattle.std.proofs.lemmas.Bool.{ltb-false, and_parts}
 use Rattle.action_script.specs.declared.error.ScriptCause.{ScriptCause}
 use Rattle.action_script.specs.declared.error.ScriptCause.TheVariants as cause
 use Rattle.action_script.specs.declared.field.Part.{Part}
 use Rattle.action_script.specs.declared.kind.Section.{Section}
 use Rattle.action_script.specs.declared.kind.LineKind.{LineKind}
-use Rattle.action_script.specs.Asked.{Asked, Said}
+use Rattle.action_script.specs.Asked.{Said}
 use Rattle.action_script.specs.Lines.{most_line, words_of, is_plain, begins_comment}
-use Rattle.action_script.specs.Kinds.{word_of, parts_of, takes, stands_in, kinds}
+use Rattle.action_script.specs.Kinds.{word_of, parts_of, takes, kinds}
 use Rattle.action_script.proofs.Counting.{length-words_of}
-use Rattle.action_script.specs.Reading.{asked_of, is_here, kind_here, checked, by_check, by_kind, line_by_words, line_of}
+use Rattle.action_script.specs.Reading.{asked_of, is_here, kind_here, trial_of, by_check, by_kind, line_by_words, line_of}
 
 pub record Speaks (s : Section) (line : List ℕ) (said : Said) : Type 0 where
   pub first : List ℕ
@@ -22,7 +22,7 @@ pub record Speaks (s : Section) (line : List ℕ) (said : Said) : Type 0 where
   pub plain : list_all is_plain line ≡ true
   pub here : is_here s first (length words) said.kind ≡ true
   pub asked : said.asked ≡ asked_of (parts_of said.kind) words
-  pub right : checked said.asked ≡ Ok tt
+  pub right : trial_of said.asked ≡ Ok tt
 
 -- what is found passes
 find-passes : {A : Type 0} (test : A → Bool) (xs : List A) (x : A) → find test xs ≡ Some x → test x ≡ true
@@ -37,7 +37,7 @@ by_words : (s : Section) (line : List ℕ) (said : Said) → length line ≤ mos
 by_words s line said short [] cut h = cc
 by_words s line said short (first ∷ words) cut h = by_comment (begins_comment first) refl h
   where
-    by_found : list_all is_plain line ≡ true → begins_comment first ≡ false → (kind : LineKind) → kind_here s first (length words) ≡ Some kind → (r : Result (Unit {0}) ScriptCause) → checked (asked_of (parts_of kind) words) ≡ r → by_check (record { kind = kind; asked = asked_of (parts_of kind) words }) r ≡ Ok (Some said) → Speaks s line said
+    by_found : list_all is_plain line ≡ true → begins_comment first ≡ false → (kind : LineKind) → kind_here s first (length words) ≡ Some kind → (r : Result (Unit {0}) ScriptCause) → trial_of (asked_of (parts_of kind) words) ≡ r → by_check (record { kind = kind; asked = asked_of (parts_of kind) words }) r ≡ Ok (Some said) → Speaks s line said
     by_found plain spoken kind found (Err c) e g = cc
     by_found plain spoken kind found (Ok u) e g =
         let same : record { kind = kind; asked = asked_of (parts_of kind) words } ≡ said = cc in
@@ -55,7 +55,7 @@ by_words s line said short (first ∷ words) cut h = by_comment (begins_comment 
 
     by_kinds : list_all is_plain line ≡ true → begins_comment first ≡ false → (k : Option LineKind) → kind_here s first (length words) ≡ k → by_kind words k ≡ Ok (Some said) → Speaks s line said
     by_kinds plain spoken None e g = cc
-    by_kinds plain spoken (Some kind) e g = by_found plain spoken kind e (checked (asked_of (parts_of kind) words)) refl g
+    by_kinds plain spoken (Some kind) e g = by_found plain spoken kind e (trial_of (asked_of (parts_of kind) words)) refl g
 
     by_plain : begins_comment first ≡ false → (b : Bool) → list_all is_plain line ≡ b → (if b then by_kind words (kind_here s first (length words)) else Err cause.BadLine) ≡ Ok (Some said) → Speaks s line said
     by_plain spoken true e g = by_kinds e spoken (kind_here s first (length words)) refl g

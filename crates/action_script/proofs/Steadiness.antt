@@ -1,15 +1,14 @@
 -- A name keeps its number as further names come.
-use Rattle.std.proofs.Common.{rules, ◌≡◌, ℕ, ◌+◌, Bool, true, false, ◌||◌, ◌&&◌, cond, if◌then◌else◌, List, [], ◌∷◌, ◌++◌, map, filter, bytes_eq, refl, sym, ap, ◌∙◌, subst, arith, append_assoc, true≢false}
-use Rattle.std.specs.List.{list_any, list_all, flat_map}
+use Rattle.std.proofs.Common.{rules, ◌≡◌, ℕ, ◌+◌, Bool, true, false, ◌||◌, ◌&&◌, cond, if◌then◌else◌, List, [], ◌∷◌, ◌++◌, map, filter, bytes_eq, refl, sym, ap, ◌∙◌, true≢false}
+use Rattle.std.specs.List.{list_all, flat_map}
 use Rattle.std.proofs.lemmas.Bool.{and_parts}
 use Rattle.std.proofs.lemmas.List.Folds.{list_all-append}
-use Rattle.std.proofs.lemmas.Slice.Eq.{bytes_eq-Decides}
 use Rattle.action_script.specs.declared.field.Part.{Part}
 use Rattle.action_script.specs.declared.field.Part.TheVariants as part
 use Rattle.action_script.specs.declared.field.Field.{Field}
 use Rattle.action_script.specs.declared.field.Field.TheVariants as field
 use Rattle.action_script.specs.declared.script.Line.{Line}
-use Rattle.action_script.specs.Asked.{Asked, Said}
+use Rattle.action_script.specs.Asked.{Asked}
 use Rattle.action_script.specs.Forms.{form_by}
 use Rattle.action_script.specs.Names.{is_among, with_name, with_names, number_in}
 use Rattle.action_script.specs.Reading.{is_name_part, names_of, field_by, field_of, Numbered, line_by, script_names}

@@ -1,21 +1,20 @@
 -- Reading a text line by line gives what it says.
-use Rattle.std.proofs.Common.{◌≡◌, ℕ, ◌+◌, ◌≤◌, Bool, true, false, cond, if◌then◌else◌, List, [], ◌∷◌, ◌++◌, length, map, Option, Some, None, Result, Ok, Err, refl, sym, ap, ◌∙◌, subst, arith, append_assoc, length-append}
+use Rattle.std.proofs.Common.{◌≡◌, ℕ, ◌+◌, ◌≤◌, true, false, if◌then◌else◌, List, [], ◌∷◌, ◌++◌, length, map, Option, Some, None, Result, Ok, Err, refl, sym, ap, ◌∙◌, subst, arith, append_assoc, length-append}
 use Rattle.std.specs.List.{flat_map}
 use Rattle.std.proofs.lemmas.List.{append-nil}
 use Rattle.std.proofs.lemmas.Bool.{le-ltb}
 use Rattle.action_script.specs.declared.error.ScriptCause.{ScriptCause}
 use Rattle.action_script.specs.declared.error.ScriptCause.TheVariants as cause
 use Rattle.action_script.specs.declared.error.ScriptError.{ScriptError}
-use Rattle.action_script.specs.declared.kind.Section.{Section}
 use Rattle.action_script.specs.declared.kind.Section.TheVariants as section
 use Rattle.action_script.specs.declared.script.Line.{Line}
-use Rattle.action_script.specs.Asked.{Asked, Said}
+use Rattle.action_script.specs.Asked.{Said}
 use Rattle.action_script.specs.Lines.{most_bytes, lines_of}
 use Rattle.action_script.specs.Kinds.{goes_to, at_top}
 use Rattle.action_script.specs.Names.{with_names}
 use Rattle.action_script.specs.ScriptValue.{Script}
-use Rattle.action_script.specs.Reading.{script_by, spelled, reading_of, names_of, Numbered, before, with_line, said_from, script_names, line_by, line_of}
-use Rattle.action_script.specs.SoFar.{SoFar, with_said, after, TookLine, Took, all_before, HasRead}
+use Rattle.action_script.specs.Reading.{script_by, script_of, reading_of, names_of, Numbered, before, with_line, said_from, script_names, line_by, line_of}
+use Rattle.action_script.specs.SoFar.{SoFar, TookLine, Took, all_before, HasRead}
 use Rattle.action_script.proofs.Counting.{length-with_names, length-names_of}
 use Rattle.action_script.proofs.Speaking.{speaks, speaks-short}
 use Rattle.action_script.proofs.Steadiness.{with_names-append, are_named, are_named-script_names, lines-with_names}
@@ -108,11 +107,11 @@ took-names s line new took = by (line_of s.section line) refl took
 
 -- ---- the whole text
 
-within : (bytes : List ℕ) → length bytes ≤ most_bytes → reading_of bytes ≡ spelled (said_from 1 section.Top (lines_of bytes))
-within bytes h = ap (λ b. if b then Err (record { line = 0; cause = cause.TooLong }) else spelled (said_from 1 section.Top (lines_of bytes))) (le-ltb most_bytes (length bytes) h)
+within : (bytes : List ℕ) → length bytes ≤ most_bytes → reading_of bytes ≡ script_of (said_from 1 section.Top (lines_of bytes))
+within bytes h = ap (λ b. if b then Err (record { line = 0; cause = cause.TooLong }) else script_of (said_from 1 section.Top (lines_of bytes))) (le-ltb most_bytes (length bytes) h)
 
 pub reading_of-refused : (bytes : List ℕ) (e : ScriptError) → length bytes ≤ most_bytes → said_from 1 section.Top (lines_of bytes) ≡ Err e → reading_of bytes ≡ Err e
-reading_of-refused bytes e h refused = within bytes h ∙ ap spelled refused
+reading_of-refused bytes e h refused = within bytes h ∙ ap script_of refused
 
 -- the reader isn't at the top
 pub reading_of-open : (bytes : List ℕ) (s : SoFar) → length bytes ≤ most_bytes → HasRead bytes [] s → at_top s.section ≡ false → reading_of bytes ≡ Err (record { line = s.line; cause = cause.BadLine })
@@ -127,7 +126,7 @@ reading_of-read bytes s script h read top lines names =
     let own_names : script.names ≡ script_names read.done = names ∙ read.names in
     let own_lines : script.lines ≡ map (line_by (script_names read.done)) read.done = lines ∙ read.lines ∙ ap (λ n. map (line_by n) read.done) read.names in
     let same : script_by read.done ≡ script = (λ j. record { lines = sym own_lines j; names = sym own_names j }) in
-    within bytes h ∙ ap spelled said ∙ ap Ok same
+    within bytes h ∙ ap script_of said ∙ ap Ok same
 
 pub took-lines : (s : SoFar) (line : List ℕ) (new : SoFar) → Took s line new → length new.lines ≤ length s.lines + 1
 took-lines s line new took = by (line_of s.section line) took

@@ -1,7 +1,7 @@
 -- What is read is a script: its forms and names could be printed, and their lines are no longer than those that were read.
-use Rattle.std.proofs.Common.{rules, ◌≡◌, ◌≢◌, ℕ, zero, suc, ◌+◌, ◌<◌, ◌≤◌, ◌^◌, nat_lt, nat_le, Bool, true, false, not, ◌&&◌, cond, if◌then◌else◌, List, [], ◌∷◌, ◌++◌, length, map, filter, Option, Some, None, Result, Ok, Err, find, bytes_eq, refl, sym, ap, ◌∙◌, subst, arith, length-append}
+use Rattle.std.proofs.Common.{◌≡◌, ◌≢◌, ℕ, ◌+◌, ◌<◌, ◌≤◌, ◌^◌, nat_lt, Bool, true, false, not, ◌&&◌, cond, if◌then◌else◌, List, [], ◌∷◌, ◌++◌, length, map, Option, Some, None, Result, Ok, Err, find, bytes_eq, refl, sym, ap, ◌∙◌, subst, arith, length-append}
 use Rattle.std.specs.List.{list_all, flat_map, slice_split, onto_first}
-use Rattle.std.proofs.lemmas.Bool.{and_parts, le-leb, not-true}
+use Rattle.std.proofs.lemmas.Bool.{and_parts, le-leb}
 use Rattle.std.proofs.lemmas.List.{length-map}
 use Rattle.std.proofs.lemmas.List.Splits.{length-slice_split}
 use Rattle.std.proofs.lemmas.Slice.Eq.{bytes_eq-Decides}
@@ -10,21 +10,18 @@ use Rattle.action_script.specs.declared.error.ScriptCause.TheVariants as cause
 use Rattle.action_script.specs.declared.error.ScriptError.{ScriptError}
 use Rattle.action_script.specs.declared.field.Part.{Part}
 use Rattle.action_script.specs.declared.field.Part.TheVariants as part
-use Rattle.action_script.specs.declared.field.Field.{Field}
 use Rattle.action_script.specs.declared.form.Form.{Form}
 use Rattle.action_script.specs.declared.kind.Section.{Section}
 use Rattle.action_script.specs.declared.kind.Section.TheVariants as section
-use Rattle.action_script.specs.declared.kind.LineKind.{LineKind}
-use Rattle.action_script.specs.declared.script.Line.{Line}
 use Rattle.action_script.specs.Words.{is_empty}
 use Rattle.action_script.specs.Lines.{most_bytes, most_line, lines_of, words_of, is_blank, spaced}
 use Rattle.action_script.specs.Asked.{Asked, Said}
 use Rattle.action_script.specs.Kinds.{word_of, parts_of, takes, stands_in, goes_to, at_top}
 use Rattle.action_script.specs.Names.{is_among, with_names}
-use Rattle.action_script.specs.Forms.{kind_of, fields_of, form_by}
+use Rattle.action_script.specs.Forms.{kind_of, form_by}
 use Rattle.action_script.specs.ScriptValue.{Script}
-use Rattle.action_script.specs.Reading.{asked_of, is_part, is_right, is_wrong_test, is_name_part, names_of, field_of, is_here, by_first_wrong, checked, Numbered, before, with_line, said_from, script_names, line_by, script_by, spelled, reading_of, line_of}
-use Rattle.action_script.specs.Printing.{field_word, words_after, form_line, said_by, fits_part, fit, is_sound, is_short, lead_to_top, form_names, AreScript, forms_of}
+use Rattle.action_script.specs.Reading.{asked_of, is_part, is_right, is_wrong_test, is_name_part, names_of, field_of, by_first_wrong, trial_of, Numbered, before, with_line, said_from, script_names, line_by, script_by, script_of, reading_of, line_of}
+use Rattle.action_script.specs.Printing.{field_word, words_after, form_line, all_fit, is_sound, is_short, lead_to_top, form_names, AreScript, forms_of}
 use Rattle.action_script.proofs.Cutting.{filled}
 use Rattle.action_script.proofs.Speaking.{Speaks, speaks, speaks-takes}
 use Rattle.action_script.proofs.Steadiness.{are_named, are_named-script_names}
@@ -82,7 +79,7 @@ right_all (a ∷ asked) h = by (is_right a) refl h (right_all asked)
     by true e g rest = rw (e, rest g) refl
     by false e g rest = cc
 
-right_checked : (asked : List Asked) → checked asked ≡ Ok tt → list_all is_right asked ≡ true
+right_checked : (asked : List Asked) → trial_of asked ≡ Ok tt → list_all is_right asked ≡ true
 right_checked asked h = by_tests (list_all (λ a. not (is_wrong_test a)) asked) h
   where
     by_found : (o : Option Asked) → find (λ a. not (is_right a)) asked ≡ o → by_first_wrong o ≡ Ok tt → list_all is_right asked ≡ true
@@ -103,7 +100,7 @@ among_first test part.Rounds word asked h = ((λ e. cc), h)
 among_first test part.Test word asked h = ((λ e. cc), h)
 
 record AreFields (names : List (List ℕ)) (parts : List Part) (words : List (List ℕ)) : Type 0 where
-  fits : fit names parts (map (field_of names) (asked_of parts words)) ≡ true
+  fits : all_fit names parts (map (field_of names) (asked_of parts words)) ≡ true
   written : map (field_word names) (map (field_of names) (asked_of parts words)) ≡ words
 
 are_fields : (names : List (List ℕ)) (parts : List Part) (words : List (List ℕ)) → list_all is_right (asked_of parts words) ≡ true → list_all (is_among names) (names_of (asked_of parts words)) ≡ true → AreFields names parts words
@@ -142,7 +139,7 @@ well_said names s line said h among =
     let right : list_all is_right (asked_of (parts_of k) h.words) ≡ true = subst (λ a. list_all is_right a ≡ true) h.asked (right_checked said.asked h.right) in
     let own : list_all (is_among names) (names_of (asked_of (parts_of k) h.words)) ≡ true = subst (λ a. list_all (is_among names) (names_of a) ≡ true) h.asked among in
     let are = are_fields names (parts_of k) h.words right own in
-    let fits : fit names (parts_of k) fields ≡ true = subst (λ a. fit names (parts_of k) (map (field_of names) a) ≡ true) (sym h.asked) are.fits in
+    let fits : all_fit names (parts_of k) fields ≡ true = subst (λ a. all_fit names (parts_of k) (map (field_of names) a) ≡ true) (sym h.asked) are.fits in
     let written : map (field_word names) fields ≡ h.words = ap (λ a. map (field_word names) (map (field_of names) a)) h.asked ∙ are.written in
     let count : takes k (length fields) ≡ true = subst (λ n. takes k n ≡ true) (sym (length-map said.asked (field_of names))) (speaks-takes s line said h) in
     let made = makes_form names k fields count fits in
@@ -152,7 +149,7 @@ well_said names s line said h among =
     record {
       kind = made.same_kind;
       stands = subst (λ x. stands_in x s ≡ true) (sym made.same_kind) stands;
-      sound = (λ j. takes (made.same_kind j) (length (made.same_fields j)) && fit names (parts_of (made.same_kind j)) (made.same_fields j)) ∙ rw (count, fits) refl;
+      sound = (λ j. takes (made.same_kind j) (length (made.same_fields j)) && all_fit names (parts_of (made.same_kind j)) (made.same_fields j)) ∙ rw (count, fits) refl;
       short = le-leb (length (form_line names form)) most_line small;
       words = (λ j. names_of (asked_of (parts_of (made.same_kind j)) (after j))) ∙ ap names_of (sym h.asked);
     }
@@ -205,7 +202,7 @@ are_well_said names s (line ∷ lines) h named =
 
 -- ---- the script
 
-by_said : (bytes : List ℕ) (r : Result (List Numbered) ScriptError) (script : Script) → said_from 1 section.Top (lines_of bytes) ≡ r → spelled r ≡ Ok script → length script.names < 2 ^ 32 → length script.lines < 2 ^ 32 → AreScript script.names (forms_of script.lines)
+by_said : (bytes : List ℕ) (r : Result (List Numbered) ScriptError) (script : Script) → said_from 1 section.Top (lines_of bytes) ≡ r → script_of r ≡ Ok script → length script.names < 2 ^ 32 → length script.lines < 2 ^ 32 → AreScript script.names (forms_of script.lines)
 by_said bytes (Err e) script said h few_names few_lines = cc
 by_said bytes (Ok lines) script said h few_names few_lines =
     let same : script_by lines ≡ script = cc in
@@ -226,6 +223,6 @@ by_said bytes (Ok lines) script said h few_names few_lines =
 pub well_read : (bytes : List ℕ) (script : Script) → reading_of bytes ≡ Ok script → length script.names < 2 ^ 32 → length script.lines < 2 ^ 32 → AreScript script.names (forms_of script.lines)
 well_read bytes script h few_names few_lines = by (nat_lt most_bytes (length bytes)) h
   where
-    by : (b : Bool) → (if b then Err (record { line = 0; cause = cause.TooLong }) else spelled (said_from 1 section.Top (lines_of bytes))) ≡ Ok script → AreScript script.names (forms_of script.lines)
+    by : (b : Bool) → (if b then Err (record { line = 0; cause = cause.TooLong }) else script_of (said_from 1 section.Top (lines_of bytes))) ≡ Ok script → AreScript script.names (forms_of script.lines)
     by true g = cc
     by false g = by_said bytes (said_from 1 section.Top (lines_of bytes)) script refl g few_names few_lines

@@ -61,14 +61,14 @@ fits_part names part.Test (field.Test t) = true
 fits_part names _ _ = false
 
 -- fields are what these parts ask for, one after the other; where the parts end, names go on
-abbrev pub fit : List (List ℕ) → List Part → List Field → Bool
-fit names parts [] = true
-fit names [] (f ∷ fields) = fits_part names part.Name f && fit names [] fields
-fit names (p ∷ parts) (f ∷ fields) = fits_part names p f && fit names parts fields
+abbrev pub all_fit : List (List ℕ) → List Part → List Field → Bool
+all_fit names parts [] = true
+all_fit names [] (f ∷ fields) = fits_part names part.Name f && all_fit names [] fields
+all_fit names (p ∷ parts) (f ∷ fields) = fits_part names p f && all_fit names parts fields
 
 -- a form has as many fields as its kind takes, so its list isn't empty, and they are what is asked for
 abbrev pub is_sound : List (List ℕ) → Form → Bool
-is_sound names form = takes (kind_of form) (length (fields_of form)) && fit names (parts_of (kind_of form)) (fields_of form)
+is_sound names form = takes (kind_of form) (length (fields_of form)) && all_fit names (parts_of (kind_of form)) (fields_of form)
 
 -- the line is no longer than a line may be
 abbrev pub is_short : List (List ℕ) → Form → Bool
@@ -107,5 +107,5 @@ numbered_from number [] = []
 numbered_from number (form ∷ forms) = record { number = number; form = form } ∷ numbered_from (number + 1) forms
 
 -- the script with the line numbers 1, 2, 3 and so on
-abbrev pub renumbered : Script → Script
-renumbered script = record { lines = numbered_from 1 (forms_of script.lines); names = script.names }
+abbrev pub reread_of : Script → Script
+reread_of script = record { lines = numbered_from 1 (forms_of script.lines); names = script.names }

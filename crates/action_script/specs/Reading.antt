@@ -1,5 +1,5 @@
 -- What the bytes of a script spell: its lines and names, or its first fault.
-use Rattle.std.specs.Prelude.{ℕ, ℤ, pos, ◌+◌, nat_lt, if◌then◌else◌, Bool, true, false, not, ◌&&◌, List, [], ◌∷◌, length, map, filter, Option, Some, None, is_some, unwrap_or, Result, Ok, Err, bytes_eq, find}
+use Rattle.std.specs.Prelude.{◌≡◌, ℕ, pos, ◌+◌, nat_lt, if◌then◌else◌, Bool, true, false, not, ◌&&◌, List, [], ◌∷◌, length, map, filter, Option, Some, None, is_some, unwrap_or, Result, Ok, Err, bytes_eq, find}
 use Rattle.std.specs.List.{list_all, flat_map}
 use Rattle.caa_base.specs.declared.entry.Test.TheVariants as test
 use Rattle.action_script.specs.declared.error.ScriptCause.{ScriptCause}
@@ -92,8 +92,8 @@ by_first_wrong None = Ok tt
 by_first_wrong (Some wrong) = Err (cause_of wrong.part)
 
 -- after the tests
-abbrev pub checked : List Asked → Result (Unit {0}) ScriptCause
-checked asked = if list_all (λ a. not (is_wrong_test a)) asked then by_first_wrong (find (λ a. not (is_right a)) asked) else Err cause.BadLine
+abbrev pub trial_of : List Asked → Result (Unit {0}) ScriptCause
+trial_of asked = if list_all (λ a. not (is_wrong_test a)) asked then by_first_wrong (find (λ a. not (is_right a)) asked) else Err cause.BadLine
 
 -- a line whose words were tried
 abbrev pub by_check : Said → Result (Unit {0}) ScriptCause → Result (Option Said) ScriptCause
@@ -102,7 +102,7 @@ by_check said (Err c) = Err c
 
 abbrev pub by_kind : List (List ℕ) → Option LineKind → Result (Option Said) ScriptCause
 by_kind words None = Err cause.BadLine
-by_kind words (Some kind) = by_check (record { kind = kind; asked = asked_of (parts_of kind) words }) (checked (asked_of (parts_of kind) words))
+by_kind words (Some kind) = by_check (record { kind = kind; asked = asked_of (parts_of kind) words }) (trial_of (asked_of (parts_of kind) words))
 
 -- a line without words, and a comment, says nothing; another one has plain bytes alone and is of some kind
 abbrev pub line_by_words : Section → Bool → List (List ℕ) → Result (Option Said) ScriptCause
@@ -150,12 +150,20 @@ line_by names l = record { number = l.number; form = form_by l.said.kind (map (f
 abbrev pub script_by : List Numbered → Script
 script_by lines = record { lines = map (line_by (script_names lines)) lines; names = script_names lines }
 
-abbrev pub spelled : Result (List Numbered) ScriptError → Result Script ScriptError
-spelled (Ok lines) = Ok (script_by lines)
-spelled (Err e) = Err e
+abbrev pub script_of : Result (List Numbered) ScriptError → Result Script ScriptError
+script_of (Ok lines) = Ok (script_by lines)
+script_of (Err e) = Err e
 
 -- the script that these bytes spell, or the first fault
 abbrev pub reading_of : List ℕ → Result Script ScriptError
 reading_of bytes =
     if nat_lt most_bytes (length bytes) then Err (record { line = 0; cause = cause.TooLong })
-    else spelled (said_from 1 section.Top (lines_of bytes))
+    else script_of (said_from 1 section.Top (lines_of bytes))
+
+-- these bytes spell this script; no bytes spell two
+abbrev pub Spells : List ℕ → Script → Type 0
+Spells bytes script = reading_of bytes ≡ Ok script
+
+-- this is the first fault of these bytes, which spell no script
+abbrev pub HasFirstFault : List ℕ → ScriptError → Type 0
+HasFirstFault bytes fault = reading_of bytes ≡ Err fault

@@ -1,7 +1,7 @@
 ghost use Rattle.std.specs.Prelude.{◌≡◌, ◌≢◌, ◌<◌, ◌^◌, ◌∷◌, [], not, find, option_copied, map, length, Ok, Err, Some, IfOk, IfErr, OnOk};
 ghost use Rattle.std.specs.List.{list_all};
 ghost use Rattle.action_script.specs.Names.{with_names};
-ghost use Rattle.action_script.specs.Reading.{asked_of, is_part, is_test, is_wrong_test, is_right, cause_of, names_of, field_by, field_of, checked};
+ghost use Rattle.action_script.specs.Reading.{asked_of, is_part, is_test, is_wrong_test, is_right, cause_of, names_of, field_by, field_of, trial_of};
 ghost use Rattle.action_script.specs.declared.error.ScriptCause.TheVariants as cause;
 
 use crate::error::ScriptCause;
@@ -133,7 +133,7 @@ fn first_wrong<'b, 'a>(asked: &'b [Asked<'a>]) -> Option<&'b Asked<'a>>
 
 /// Whether each word is what it is asked to be: the tests are tried first, and then all words from left to right.
 pub fn check_words(asked: &[Asked]) -> Result<(), ScriptCause>
-    ensures { result ≡ checked asked.now }
+    ensures { result ≡ trial_of asked.now }
 {
     if !are_tests_right(asked) {
         return Err(ScriptCause::BadLine);

@@ -11,19 +11,19 @@ pub enum ScriptCause {
     /// The line has a byte that no line may have, or is of no kind that may stand there, or has too few or too many words, or
     /// no test where one is asked for; or the script ends inside a graph or an action.
     #[error("bad line")]
-    BadLine,
+    BadLine = 1,
     /// A word isn't the number that is asked for at its place.
     #[error("bad number")]
-    BadNumber,
+    BadNumber = 2,
     /// A word isn't a name where one is asked for.
     #[error("bad name")]
-    BadName,
+    BadName = 3,
     /// The script has more bytes than a script may have, or the line more than a line.
     #[error("too long")]
-    TooLong,
+    TooLong = 4,
     /// No memory was found.
     #[error("out of memory")]
-    OutOfMemory,
+    OutOfMemory = 5,
 }
 
 /// Why a script wasn't read: its first fault, or want of memory.

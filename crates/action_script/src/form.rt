@@ -158,7 +158,7 @@ fn name_fields(alloc: Global, first: &[u32], list: &[u32]) -> Result<Vec<Field>,
 
 impl Form {
     /// Which kind of line says it.
-    pub fn kind(&self) -> LineKind
+    pub(crate) fn kind(&self) -> LineKind
         ensures { result ≡ kind_of self.now }
     {
         match self {
@@ -200,7 +200,7 @@ impl Form {
     }
 
     /// What the words of its line after the first say.
-    pub fn fields(&self, alloc: Global) -> Result<Vec<Field>, AllocError>
+    pub(crate) fn fields(&self, alloc: Global) -> Result<Vec<Field>, AllocError>
         ensures { IfOk result (λ fields. fields.items ≡ fields_of self.now) }
     {
         match self {
@@ -252,7 +252,7 @@ impl Form {
     }
 
     /// The form of a kind and its fields.
-    pub fn by(alloc: Global, kind: LineKind, fields: &[Field]) -> Result<Form, AllocError>
+    pub(crate) fn by(alloc: Global, kind: LineKind, fields: &[Field]) -> Result<Form, AllocError>
         requires { IsTrue (takes kind (length fields.now)) }
         ensures { IfOk result (λ form. form ≡ form_by kind fields.now) }
     {

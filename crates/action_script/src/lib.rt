@@ -2,17 +2,17 @@
 //! reads back.
 #![tactic(auto)]
 
-pub mod asked;
+mod asked;
 pub mod error;
-pub mod field;
+mod field;
 pub mod form;
-pub mod kind;
-pub mod line;
-pub mod names;
+mod kind;
+mod line;
+mod names;
 pub mod numbers;
 pub mod printer;
 pub mod reader;
 pub mod script;
 #[cfg(test)]
 mod tests;
-pub mod word;
+mod word;

@@ -1,7 +1,7 @@
 ghost use Rattle.std.specs.Prelude.{◌≡◌, ◌≢◌, ◌+◌, ◌-◌, ◌<◌, ◌≤◌, ◌^◌, ◌==◌, ◌∷◌, [], length, position, Ok, Err, IfOk, IfErr, IfSome, OnOk, IsTrue};
 ghost use Rattle.action_script.specs.Lines.{most_bytes, lines_of};
 ghost use Rattle.action_script.specs.Kinds.{takes};
-ghost use Rattle.action_script.specs.Reading.{line_of, reading_of, spelled, said_from};
+ghost use Rattle.action_script.specs.Reading.{line_of, said_from, Spells, HasFirstFault};
 ghost use Rattle.action_script.specs.SoFar.{so_far, TookSaid, TookLine, Took, HasRead};
 ghost use Rattle.action_script.specs.declared.error.ScriptCause.TheVariants as cause;
 ghost use Rattle.action_script.specs.declared.kind.Section.TheVariants as section;
@@ -133,8 +133,8 @@ fn read_lines(alloc: Global, bytes: &[u8]) -> Result<Reader<'_>, ScriptError>
 /// is of no kind that may stand there, or a word isn't the test that is asked for; the first word that isn't the name or number
 /// that is asked for. A script that ends inside a graph or an action is at fault at the number after its last line.
 pub fn read(alloc: Global, bytes: &[u8]) -> Result<Script, ScriptError>
-    ensures read { IfOk result (λ script. reading_of bytes.now ≡ Ok script) }
-    ensures refused { IfErr result (λ e. e.cause ≢ cause.OutOfMemory → reading_of bytes.now ≡ Err e) }
+    ensures read { IfOk result (λ script. Spells bytes.now script) }
+    ensures refused { IfErr result (λ e. e.cause ≢ cause.OutOfMemory → HasFirstFault bytes.now e) }
 {
     if bytes.len() > MOST_BYTES {
         return Err(ScriptError {

@@ -104,14 +104,14 @@ impl Script {
     }
 
     /// All lines, in order.
-    pub fn lines(&self) -> &[Line]
+    pub(crate) fn lines(&self) -> &[Line]
         ensures { result.now ≡ self.now.lines }
     {
         self.lines.as_slice()
     }
 
     /// All names, in order.
-    pub fn names(&self) -> &[Name]
+    pub(crate) fn names(&self) -> &[Name]
         ensures { result.now ≡ self.now.names }
     {
         self.names.as_slice()

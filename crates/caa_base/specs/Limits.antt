@@ -60,6 +60,10 @@ most_roles = 16
 abbrev pub most_nests : ℕ
 most_nests = 256
 
+-- actions of a nested use
+abbrev pub most_alternates : ℕ
+most_alternates = 4
+
 -- steps of a body or a handler
 abbrev pub most_steps : ℕ
 most_steps = 256

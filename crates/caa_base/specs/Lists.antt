@@ -28,6 +28,11 @@ abbrev pub first_of : List ℕ → Option ℕ
 first_of [] = None
 first_of (x ∷ xs) = Some x
 
+-- the number after the first n in the list
+abbrev pub next_after : ℕ → List ℕ → Option ℕ
+next_after n [] = None
+next_after n (x ∷ xs) = if x == n then first_of xs else next_after n xs
+
 -- the last number of the list, or this one where it is empty
 abbrev pub last_or : ℕ → List ℕ → ℕ
 last_or n [] = n

@@ -44,6 +44,9 @@ pub const MOST_ROLES: usize = 16;
 /// Nested uses of an action.
 pub const MOST_NESTS: usize = 256;
 
+/// Actions of a nested use, its alternates.
+pub const MOST_ALTERNATES: usize = 4;
+
 /// Steps of a body or a handler.
 pub const MOST_STEPS: usize = 256;
 
@@ -54,10 +57,10 @@ pub const MOST_WATCHES: usize = 16;
 pub const MOST_DRILLS: usize = 1_000;
 
 /// Places that stand round one another, the innermost counted.
-pub const MOST_DEPTH: usize = 8;
+pub const MOST_DEPTH: u32 = 8;
 
 /// Places of a plan.
-pub const MOST_PLACES: usize = 65_536;
+pub const MOST_PLACES: u64 = 65_536;
 
 /// Entries of a journal.
 pub const MOST_ENTRIES: u64 = 1_000_000;

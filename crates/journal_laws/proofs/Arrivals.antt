@@ -8,7 +8,7 @@ use Rattle.caa_base.specs.declared.entry.Kind.TheVariants as kind
 use Rattle.place_plan.specs.declared.rows.Step.{Step}
 use Rattle.place_plan.specs.declared.rows.Step.TheVariants as step
 use Rattle.place_plan.specs.PlanValue.{Plan}
-use Rattle.place_plan.specs.Words.{member, first_of, first_not}
+use Rattle.caa_base.specs.Lists.{member, first_of, first_not}
 use Rattle.place_plan.specs.Places.{around, parent, roles_of, alternates_of, plays_of}
 use Rattle.place_plan.specs.Entries.{is_in, is_by, has, has_by}
 use Rattle.place_plan.specs.Whereabouts.{inside, stays, is_inside, all_are_inside, has_started, has_ended}
@@ -17,7 +17,8 @@ use Rattle.place_plan.specs.Roles.{next_step, is_able, next_play}
 use Rattle.place_plan.specs.Rules.{Row, MayArrive, place_entered, arrival}
 use Rattle.place_plan.specs.Journals.{LegalPast}
 use Rattle.journal_laws.proofs.Playable.{IsTree}
-use Rattle.place_plan.proofs.Words.{all_at, at_same, chosen, first_not_fails, plays_in}
+use Rattle.caa_base.proofs.ListLemmas.{all_at, at_same, chosen, first_not_fails}
+use Rattle.place_plan.proofs.Plays.{plays_in}
 use Rattle.place_plan.proofs.Entries.{of_kind, both_same}
 use Rattle.journal_laws.proofs.Tree.{in_within, arrives_in}
 use Rattle.journal_laws.proofs.Phases.{calm_open}

@@ -6,7 +6,7 @@ use Rattle.caa_base.specs.declared.entry.Entry.{Entry}
 use Rattle.caa_base.specs.declared.entry.Kind.{Kind}
 use Rattle.caa_base.specs.declared.entry.Kind.TheVariants as kind
 use Rattle.place_plan.specs.PlanValue.{Plan}
-use Rattle.place_plan.specs.Words.{member, is_empty, first_of}
+use Rattle.caa_base.specs.Lists.{member, is_empty, first_of}
 use Rattle.place_plan.specs.Places.{around, parent, roles_of, plays_of}
 use Rattle.place_plan.specs.Entries.{is_in, is_by, has, has_by}
 use Rattle.place_plan.specs.Whereabouts.{inside, is_inside, has_started, has_ended, is_undoing, is_live, is_going}
@@ -15,7 +15,8 @@ use Rattle.place_plan.specs.Roles.{has_given_after, has_given, all_have_given, i
 use Rattle.place_plan.specs.Rules.{Row, MayArrive, MayAbort, AskForUndo, HaveAgreed, EndsAgreed, MayEnd, arrival}
 use Rattle.place_plan.specs.Journals.{LegalPast}
 use Rattle.journal_laws.proofs.Playable.{IsTree}
-use Rattle.place_plan.proofs.Words.{all_at, at_same, chosen, first_not_fails, plays_in}
+use Rattle.caa_base.proofs.ListLemmas.{all_at, at_same, chosen, first_not_fails}
+use Rattle.place_plan.proofs.Plays.{plays_in}
 use Rattle.place_plan.proofs.Entries.{of_kind}
 use Rattle.journal_laws.proofs.Tree.{arrives_in}
 

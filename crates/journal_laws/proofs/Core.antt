@@ -5,7 +5,7 @@ use Rattle.caa_base.specs.declared.entry.Entry.{Entry}
 use Rattle.caa_base.specs.declared.entry.Kind.TheVariants as kind
 use Rattle.place_plan.specs.declared.rows.Step.TheVariants as step
 use Rattle.place_plan.specs.PlanValue.{Plan}
-use Rattle.place_plan.specs.Words.{member}
+use Rattle.caa_base.specs.Lists.{member}
 use Rattle.place_plan.specs.Places.{around, parent, roles_of, alternates_of, nest_number, body_of, internal_of, handler_of}
 use Rattle.place_plan.specs.Entries.{has, has_by}
 use Rattle.place_plan.specs.Whereabouts.{inside, stays, has_started, has_ended, is_undoing, is_left_in_silence}

@@ -1,5 +1,5 @@
 -- What a journal spends of the bound: each role and each place has its part, and no entry takes anything back.
-use Rattle.std.proofs.Common.{◌≡◌, sum_by, ap₂, ℕ, ◌==◌, ◌<◌, ◌≤◌, ◌+◌, ◌*◌, Bool, true, false, not, cond, ◌&&◌, ◌||◌, List, [], ◌∷◌, Option, Some, None, refl, sym, ap, ◌∙◌, arith, suc, zero, length, inl, inr, slice_get, slice_index_or}
+use Rattle.std.proofs.Common.{◌≡◌, sum_by, ap₂, ℕ, ◌==◌, ◌<◌, ◌≤◌, ◌+◌, ◌*◌, Bool, true, false, not, cond, ◌&&◌, ◌||◌, List, [], ◌∷◌, Some, refl, sym, ap, ◌∙◌, arith, suc, zero, length, inl, inr, slice_get, slice_index_or}
 use Rattle.std.proofs.lemmas.List.Sums.{sum_by-cons}
 use Rattle.std.proofs.lemmas.Bool.{or_cases, eqb-true, false≢true, cases_eq}
 use Rattle.std.proofs.lemmas.Option.{get_or_from_slice_get}
@@ -9,7 +9,7 @@ use Rattle.place_plan.specs.declared.rows.RoleRow.{RoleRow}
 use Rattle.place_plan.specs.declared.rows.HandlerRow.{HandlerRow}
 use Rattle.place_plan.specs.declared.rows.PlaceRow.{PlaceRow}
 use Rattle.place_plan.specs.PlanValue.{Plan}
-use Rattle.place_plan.specs.Words.{member, index_of}
+use Rattle.caa_base.specs.Lists.{member, index_of}
 use Rattle.place_plan.specs.Places.{roles_of, objects_of, action_at, action_in, place_at, no_role, no_place, handler_in, body_of, handler_of}
 use Rattle.place_plan.specs.Entries.{is_in, is_by, has, has_by}
 use Rattle.place_plan.specs.Whereabouts.{has_started, has_ended, is_undoing}
@@ -134,7 +134,15 @@ role_cost plan past p t =
 pub role_up : (plan : Plan) (past : List Entry) (e : Entry) (p t : ℕ) → role_cost plan past p t ≤ role_cost plan (e ∷ past) p t
 unfolding role_cost
 role_up plan past e p t =
-    omega (arith, flag_or (is_by kind.Arrive p t e) (has_by kind.Arrive past p t), flag_either (is_by kind.Leave p t e) (has_by kind.Leave past p t) (is_by kind.Withdraw p t e) (has_by kind.Withdraw past p t), flag_or (halts_in plan past p e e.kind && (e.by == t)) (is_halted plan past p t), flag_or (is_by kind.Verdict p t e && not (has kind.Resolve past p)) (has_said_before past p t), flag_or (is_by kind.Verdict p t e && has kind.Resolve past p) (has_said_after past p t), flag_or (is_by kind.Handle p t e) (has_handled past p t), flag_or (is_by kind.PutFault p t e && has_by kind.Handle past p t) (was_refused_once past p t), flag_or (is_by kind.Abort p t e) (has_aborted past p t))
+    let came = flag_or (is_by kind.Arrive p t e) (has_by kind.Arrive past p t) in
+    let gone = flag_either (is_by kind.Leave p t e) (has_by kind.Leave past p t) (is_by kind.Withdraw p t e) (has_by kind.Withdraw past p t) in
+    let halted = flag_or (halts_in plan past p e e.kind && (e.by == t)) (is_halted plan past p t) in
+    let before = flag_or (is_by kind.Verdict p t e && not (has kind.Resolve past p)) (has_said_before past p t) in
+    let after = flag_or (is_by kind.Verdict p t e && has kind.Resolve past p) (has_said_after past p t) in
+    let handled = flag_or (is_by kind.Handle p t e) (has_handled past p t) in
+    let refused = flag_or (is_by kind.PutFault p t e && has_by kind.Handle past p t) (was_refused_once past p t) in
+    let aborted = flag_or (is_by kind.Abort p t e) (has_aborted past p t) in
+    omega arith
 
 -- a role spends no more than its part, where it makes no more steps than a body and a handler have
 role_within : (plan : Plan) (past : List Entry) (p t n : ℕ) → walked plan past p t ≤ n → role_cost plan past p t ≤ 8 + n

@@ -1,11 +1,9 @@
 -- The computed entry is the right one: it may follow, nothing else of its maker may, and who is over has none.
-use Rattle.std.proofs.Common.{◌≡◌, ℕ, true, List, [], Some, None, refl, ap, sym, ◌∙◌}
+use Rattle.std.proofs.Common.{◌≡◌, ℕ, List, None, refl, ap, sym, ◌∙◌}
 use Rattle.caa_base.specs.declared.entry.Entry.{Entry}
 use Rattle.place_plan.specs.PlanValue.{Plan}
-use Rattle.place_plan.specs.Whereabouts.{inside}
-use Rattle.place_plan.specs.Roles.{next_play, is_over}
 use Rattle.place_plan.specs.Journals.{LegalPast, Silent}
-use Rattle.journal_laws.specs.Laws.{Holds, AtMostOne, as_taken}
+use Rattle.journal_laws.specs.Laws.{Holds, AtMostOne}
 use Rattle.journal_laws.specs.Due.{due_of, DueIsRight}
 use Rattle.journal_laws.proofs.Playable.{IsPlayable}
 use Rattle.journal_laws.proofs.Core.{Core}

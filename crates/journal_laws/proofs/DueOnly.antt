@@ -1,6 +1,6 @@
 -- What may follow is what is due: the computed entry is the only one of its maker.
-use Rattle.std.proofs.Common.{◌≡◌, ℕ, ℤ, pos, ◌+ℤ◌, ◌==◌, Bool, true, false, not, cond, ◌&&◌, ◌||◌, ◌⊎◌, List, [], ◌∷◌, Some, None, Option, refl, sym, ap, ◌∙◌, subst, inl, inr, MatchBool, MatchOption, is_none}
-use Rattle.std.proofs.lemmas.Bool.{and_parts, or_cases, or_left, eq-eqb, false≢true, not-true, cases_Bool, cond-true, cond-false, or_from, false_from_ne_true, both_ways}
+use Rattle.std.proofs.Common.{◌≡◌, ℕ, ℤ, pos, ◌+ℤ◌, ◌==◌, Bool, true, false, not, cond, ◌&&◌, ◌⊎◌, List, [], ◌∷◌, Some, None, Option, refl, sym, ap, ◌∙◌, subst, inl, inr, MatchBool, MatchOption, is_none}
+use Rattle.std.proofs.lemmas.Bool.{and_parts, or_cases, eq-eqb, false≢true, not-true, cases_Bool, cond-true, cond-false, or_from, false_from_ne_true, both_ways}
 use Rattle.caa_base.specs.Mixing.{mix}
 use Rattle.caa_base.specs.declared.entry.Entry.{Entry}
 use Rattle.caa_base.specs.declared.entry.Kind.{Kind}
@@ -10,28 +10,28 @@ use Rattle.caa_base.specs.declared.entry.Verdict.TheVariants as verdict
 use Rattle.place_plan.specs.declared.rows.Step.{Step}
 use Rattle.place_plan.specs.declared.rows.Step.TheVariants as step
 use Rattle.place_plan.specs.PlanValue.{Plan}
-use Rattle.place_plan.specs.Words.{member}
+use Rattle.caa_base.specs.Lists.{member}
 use Rattle.place_plan.specs.Places.{roles_of, internal_of, interface_of, handler_of, abort_row}
 use Rattle.place_plan.specs.Whereabouts.{inside, has_started, has_ended, is_undoing}
-use Rattle.place_plan.specs.Raising.{has_handled, exceptions_raised, is_raised, is_doomed, is_calm, is_hot, is_halted, all_are_halted, exception_resolved}
-use Rattle.place_plan.specs.Objects.{holder_of, value_of, before_start}
-use Rattle.place_plan.specs.Roles.{register, program_of, next_step, raise_of, next_raise, has_given, is_handling, is_in_handler, is_able, signals, has_aborted, all_have_aborted, next_play}
-use Rattle.place_plan.specs.Rules.{Row, MayArrive, MayFollow, MayLeave, Names, SaysVerdict, IsPlain, put_of, is_check, clamped, place_entered, arrival, verdict_due, final_verdict, unhandled_verdict, breaks_off, handler_verdict, abort_of, undone_mark, exception_carried, AskForUndo, EndsUndone, EndsAgreed, SignalsLeast}
+use Rattle.place_plan.specs.Raising.{has_handled, exceptions_raised, is_raised, is_calm, is_hot, is_halted, exception_resolved}
+use Rattle.place_plan.specs.Objects.{holder_of, value_of}
+use Rattle.place_plan.specs.Roles.{register, program_of, next_step, next_raise, has_given, is_handling, is_in_handler, is_able, signals, has_aborted, all_have_aborted, next_play}
+use Rattle.place_plan.specs.Rules.{Row, MayArrive, MayFollow, Names, SaysVerdict, IsPlain, put_of, is_check, clamped, place_entered, arrival, verdict_due, unhandled_verdict, breaks_off, abort_of, undone_mark, exception_carried, AskForUndo, EndsUndone, EndsAgreed, SignalsLeast}
 use Rattle.place_plan.specs.Journals.{LegalPast}
 use Rattle.journal_laws.specs.Laws.{Holds, as_taken}
-use Rattle.journal_laws.specs.Due.{says, plainly, marked, naming, verdict_entry, least_of, due_of, due_at, due_inside, due_held, due_step, due_forward, due_body, due_handler, due_end, due_agreed}
+use Rattle.journal_laws.specs.Due.{says, plainly, naming, verdict_entry, due_of, due_held, due_step, due_forward, due_body, due_handler, due_end}
 use Rattle.journal_laws.proofs.Playable.{IsPlayable}
 use Rattle.journal_laws.proofs.Core.{Core}
-use Rattle.place_plan.proofs.Words.{all_at, chosen}
+use Rattle.caa_base.proofs.ListLemmas.{all_at, chosen}
 use Rattle.place_plan.proofs.Entries.{of_kind}
 use Rattle.journal_laws.proofs.Busy.{abort_doomed}
 use Rattle.journal_laws.proofs.Holding.{ended_started, undoing_started}
 use Rattle.journal_laws.proofs.Phases.{IsOpen, going_parts, open_parts, open_from, calm_open, hot_open, open_either, calm_from, hot_from, not_hot, not_calm}
 use Rattle.journal_laws.proofs.Options.{some_apart, some_same, none_is}
-use Rattle.journal_laws.proofs.Raised.{role_inside, arrives_calm, plain_calm}
+use Rattle.journal_laws.proofs.Raised.{role_inside, arrives_calm}
 use Rattle.journal_laws.proofs.Frozen.{verdict_open}
 use Rattle.journal_laws.proofs.LeastOf.{least_found}
-use Rattle.journal_laws.proofs.Recovering.{InHandler, halted_in, in_handler, handling_given, handled_resolved, able_unsaid, due_in_calm, due_in_hot, due_in_resolved, due_in_agreed}
+use Rattle.journal_laws.proofs.Recovering.{in_handler, handling_given, handled_resolved, able_unsaid, due_in_calm, due_in_hot, due_in_resolved, due_in_agreed}
 
 -- ---- entries by their fields
 
@@ -260,7 +260,7 @@ module _ (plan : Plan) (playable : IsPlayable plan) (core : Holds Core plan) (pa
           due_in_agreed plan playable core past legal e.by e.place h.here o u.agreed ∙ rw (u.agreed, u.wanted) (made_plain kind.Undo e h.plain)
   only_by kind.Restore e h =
       rw (h.here, h.lasts, undoing_started plan playable.tree past legal e.place h.when, h.when, h.least) (
-        λ i. Some (record { kind = kind.Restore; place = e.place; by = e.by; arg = e.arg; mark = 0; value = (sym h.value) i }))
+      λ i. Some (record { kind = kind.Restore; place = e.place; by = e.by; arg = e.arg; mark = 0; value = (sym h.value) i }))
   only_by kind.End e h = by_undo (is_undoing past e.place) refl h.how
     where
       by_undo : (b : Bool) → is_undoing past e.place ≡ b → MatchBool b (EndsUndone plan past (of_kind kind.End e)) (EndsAgreed plan past (of_kind kind.End e)) → due_of plan past e.by ≡ Some (of_kind kind.End e)

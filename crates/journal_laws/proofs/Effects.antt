@@ -1,34 +1,33 @@
 -- Effect law: in a complete journal an object that no restore failed for holds what the kept places alone leave.
-use Rattle.std.proofs.Common.{◌≡◌, ℕ, ◌==◌, ◌+◌, ◌<◌, ◌⊎◌, Bool, true, false, not, cond, ◌&&◌, ◌||◌, List, [], ◌∷◌, ◌++◌, Option, Some, None, refl, sym, ap, ◌∙◌, subst, arith, inl, inr, zero, suc, length, count_by, append_assoc, MatchBool}
+use Rattle.std.proofs.Common.{◌≡◌, ℕ, ◌==◌, ◌<◌, ◌⊎◌, Bool, true, false, not, cond, ◌&&◌, ◌||◌, List, [], ◌∷◌, ◌++◌, Option, Some, None, refl, sym, ap, ◌∙◌, subst, arith, inl, inr, count_by, append_assoc, MatchBool}
 use Rattle.std.specs.List.{list_any, list_all}
 use Rattle.std.proofs.lemmas.List.Folds.{list_any-append}
-use Rattle.std.proofs.lemmas.Bool.{and_parts, and_from, and_cases, not_from_true, not_from_false, or_cases, or_left, or_right, or_parts, eqb-true, eqb-false, cases_eq, eq-eqb, false≢true, cases_Bool, false_from_ne_true, true_from_ne_false, both_ways}
+use Rattle.std.proofs.lemmas.Bool.{and_parts, and_from, and_cases, not_from_true, not_from_false, or_cases, or_left, or_right, or_parts, eqb-true, cases_eq, eq-eqb, false≢true, cases_Bool, false_from_ne_true, true_from_ne_false, both_ways}
 use Rattle.caa_base.specs.declared.entry.Entry.{Entry}
 use Rattle.caa_base.specs.declared.entry.Kind.{Kind}
 use Rattle.caa_base.specs.declared.entry.Kind.TheVariants as kind
 use Rattle.place_plan.specs.PlanValue.{Plan}
-use Rattle.place_plan.specs.Words.{member}
-use Rattle.place_plan.specs.Places.{around, roles_of, uses, objects_of, is_within}
+use Rattle.caa_base.specs.Lists.{member}
+use Rattle.place_plan.specs.Places.{around, roles_of, uses, is_within}
 use Rattle.place_plan.specs.Entries.{code_of, is_of, is_in, has, newest}
-use Rattle.place_plan.specs.Whereabouts.{inside, has_started, has_ended, is_undoing, is_live}
-use Rattle.place_plan.specs.Objects.{restores, writes, holder_of, is_within_any, places_undone, value_outside, value_of, has_failed}
-use Rattle.place_plan.specs.Roles.{is_over, signals}
-use Rattle.place_plan.specs.Rules.{Row, MayPut, MayEnd, EndsUndone, EndsAgreed, undone_mark}
+use Rattle.place_plan.specs.Whereabouts.{has_started, has_ended, is_undoing, is_live}
+use Rattle.place_plan.specs.Objects.{restores, writes, holder_of, is_within_any, places_undone, value_outside}
+use Rattle.place_plan.specs.Roles.{signals}
+use Rattle.place_plan.specs.Rules.{Row, MayPut, MayEnd, EndsUndone, EndsAgreed}
 use Rattle.place_plan.specs.Journals.{LegalPast, AllOver}
-use Rattle.journal_laws.specs.Laws.{Holds, EffectLaw, OutcomeLaw, RestoresFit, Splits, is_restore, is_kept_mark, is_kept, last_write, has_failed_restore}
-use Rattle.journal_laws.proofs.Playable.{IsTree, IsPlayable}
-use Rattle.journal_laws.proofs.Core.{Tries}
-use Rattle.place_plan.proofs.Words.{chosen, all_at}
-use Rattle.place_plan.proofs.Entries.{of_kind, both_same, from_both}
+use Rattle.journal_laws.specs.Laws.{Holds, EffectLaw, RestoresFit, Splits, is_restore, is_kept_mark, is_kept, last_write, has_failed_restore}
+use Rattle.journal_laws.proofs.Playable.{IsPlayable}
+use Rattle.caa_base.proofs.ListLemmas.{chosen, all_at}
+use Rattle.place_plan.proofs.Entries.{of_kind}
 use Rattle.journal_laws.proofs.Tree.{in_within, live_within}
 use Rattle.journal_laws.proofs.Phases.{going_parts}
 use Rattle.journal_laws.proofs.Holding.{live_uses, holds_within}
 use Rattle.journal_laws.proofs.InnerFirst.{legal_rest, started_filled}
-use Rattle.journal_laws.proofs.Innermost.{within_itself}
 use Rattle.journal_laws.proofs.Tried.{count_next, tries}
 use Rattle.journal_laws.proofs.Outcome.{outcomes, counted_any, undone_marks, agreed_mark, below_two}
 use Rattle.journal_laws.proofs.Makers.{put_going}
 use Rattle.journal_laws.proofs.Over.{over_outside}
+use Rattle.journal_laws.proofs.Exit.{end_row}
 
 -- ---- lists
 
@@ -39,17 +38,17 @@ pub record Stands (test : Entry → Bool) (past : List Entry) (e : Entry) : Type
   pub split : Splits past later e before
   pub passes : test e ≡ true
 
-deeper_in : (test : Entry → Bool) (past : List Entry) (e f : Entry) → Stands test past f → Stands test (e ∷ past) f
-deeper_in test past e f s = record { later = e ∷ s.later; before = s.before; split = ap (λ es. e ∷ es) s.split; passes = s.passes }
+split_deeper : (test : Entry → Bool) (past : List Entry) (e f : Entry) → Stands test past f → Stands test (e ∷ past) f
+split_deeper test past e f s = record { later = e ∷ s.later; before = s.before; split = ap (λ es. e ∷ es) s.split; passes = s.passes }
 
-pub newest_in : (test : Entry → Bool) (past : List Entry) (f : Entry) → newest test past ≡ Some f → Stands test past f
-newest_in test [] f w = absurd cc
-newest_in test (e ∷ past) f w =
+pub newest_split : (test : Entry → Bool) (past : List Entry) (f : Entry) → newest test past ≡ Some f → Stands test past f
+newest_split test [] f w = absurd cc
+newest_split test (e ∷ past) f w =
     elim (chosen (test e) (Some e) (newest test past) (Some f) w) [
       | inl x ↦
           let same : e ≡ f = cc in
           record { later = []; before = past; split = ap (λ g. g ∷ past) same; passes = subst (λ g. test g ≡ true) same x.0 }
-      | inr x ↦ deeper_in test past e f (newest_in test past f x.1)
+      | inr x ↦ split_deeper test past e f (newest_split test past f x.1)
     ]
 
 -- one that passes is the newest of some
@@ -153,15 +152,10 @@ none_failed (e ∷ past) q o h =
 any_later : (test : Entry → Bool) (later before : List Entry) → list_any test before ≡ true → list_any test (later ++ before) ≡ true
 any_later test later before h = rw (list_any-append test later before) (or_right _ _ h)
 
--- the row of a write, and of an End
-
+-- what writes keeps the row of a write
 write_row : (plan : Plan) (past : List Entry) (k : Kind) (e : Entry) (o : ℕ) → Row k plan past (of_kind k e) → writes o (of_kind k e) ≡ true → MayPut plan past (of_kind kind.Write e) × (e.arg ≡ o)
 write_row plan past kind.Write e o h w = (h, eqb-true e.arg o w)
 write_row plan past _ e o h w = absurd (false≢true w)
-
-end_row : (plan : Plan) (past : List Entry) (k : Kind) (e : Entry) (q : ℕ) → Row k plan past (of_kind k e) → is_in kind.End q (of_kind k e) ≡ true → MayEnd plan past (of_kind kind.End e)
-end_row plan past kind.End e q h w = h
-end_row plan past _ e q h w = absurd (false≢true w)
 
 -- ---- what a write comes to
 
@@ -181,9 +175,9 @@ end_marks plan past e h = by_undo (is_undoing past e.place) h.how
 
 ended_marks : (plan : Plan) (past : List Entry) (q : ℕ) (f : Entry) → LegalPast plan past → newest (is_in kind.End q) past ≡ Some f → Marks f.mark
 ended_marks plan past q f legal w =
-    let s = newest_in (is_in kind.End q) past f w in
+    let s = newest_split (is_in kind.End q) past f w in
     let here = legal_rest plan s.later (f ∷ s.before) (subst (LegalPast plan) s.split legal) in
-    end_marks plan s.before (of_kind kind.End f) (end_row plan s.before f.kind f q here.1 s.passes)
+    end_marks plan s.before (of_kind kind.End f) (end_row plan s.before f.kind f q here.1 s.passes).0
 
 module _ (plan : Plan) (playable : IsPlayable plan) where
   -- in a complete journal, what has started has ended
@@ -194,7 +188,7 @@ module _ (plan : Plan) (playable : IsPlayable plan) where
       let deep : in_within plan None q ≡ true = subst (λ o. in_within plan o q ≡ true) out (live_within plan playable.tree past legal some.0 q some.1 s lasts) in
       false≢true deep)
 
-  -- the place of a write uses its object, and so does each place round it
+  -- each place round the holder of an object uses it, as the holder does
   uses_round : (past : List Entry) (e : Entry) (o q : ℕ) → LegalPast plan past → holder_of plan past o ≡ Some e.place → is_within plan e.place q ≡ true → uses plan q o ≡ true
   uses_round past e o q legal held w =
       let at : live_uses plan o past q ≡ is_within plan e.place q = holds_within plan playable.tree past legal o q ∙ ap (λ x. in_within plan x q) held in
@@ -231,8 +225,7 @@ module _ (plan : Plan) (playable : IsPlayable plan) where
   -- a kept place has restored nothing
   kept_whole : (past : List Entry) (q : ℕ) (f : Option Entry) → LegalPast plan past → newest (is_in kind.End q) past ≡ f → is_kept_mark f ≡ true → has kind.Restore past q ≡ false
   kept_whole past q None legal w k = absurd (false≢true k)
-  kept_whole past q (Some f) legal w k =
-      (outcomes plan past legal q f w).kept (below_two f.mark k)
+  kept_whole past q (Some f) legal w k = (outcomes plan past legal q f w).kept (below_two f.mark k)
 
   -- a write is kept as long as no later restore undoes it
   kept_or_undone : (past : List Entry) (o : ℕ) → LegalPast plan past → AllOver plan past → has_failed_restore past o ≡ false → (later before : List Entry) (e : Entry) → Splits past later e before → writes o e ≡ true → is_kept plan past e.place ≡ not (list_any (restores_round plan o e.place) later)

@@ -5,7 +5,7 @@ use Rattle.caa_base.specs.declared.entry.Entry.{Entry}
 use Rattle.caa_base.specs.declared.entry.Kind.{Kind}
 use Rattle.caa_base.specs.declared.entry.Kind.TheVariants as kind
 use Rattle.place_plan.specs.PlanValue.{Plan}
-use Rattle.place_plan.specs.Words.{member}
+use Rattle.caa_base.specs.Lists.{member}
 use Rattle.place_plan.specs.Places.{roles_of}
 use Rattle.place_plan.specs.Entries.{is_in, has, has_by}
 use Rattle.place_plan.specs.Whereabouts.{has_ended, is_undoing}
@@ -15,9 +15,9 @@ use Rattle.place_plan.specs.Journals.{LegalPast}
 use Rattle.journal_laws.specs.Laws.{Holds, Splits, ExitLaw}
 use Rattle.journal_laws.proofs.Playable.{IsPlayable}
 use Rattle.journal_laws.proofs.Core.{Core}
-use Rattle.place_plan.proofs.Words.{all_at}
+use Rattle.caa_base.proofs.ListLemmas.{all_at}
 use Rattle.place_plan.proofs.Entries.{of_kind}
-use Rattle.journal_laws.proofs.Kept.{live_parts}
+use Rattle.journal_laws.proofs.Lives.{live_parts}
 use Rattle.journal_laws.proofs.Busy.{not_given}
 use Rattle.journal_laws.proofs.InnerFirst.{legal_rest}
 use Rattle.journal_laws.proofs.Holding.{ended_started, end_live}
@@ -31,7 +31,7 @@ ended_after p [] past h = h
 ended_after p (e ∷ later) past h = or_right _ _ (ended_after p later past h)
 
 -- an End of p
-end_row : (plan : Plan) (past : List Entry) (k : Kind) (e : Entry) (p : ℕ) → Row k plan past (of_kind k e) → is_in kind.End p (of_kind k e) ≡ true → MayEnd plan past (of_kind kind.End e) × (e.place ≡ p)
+pub end_row : (plan : Plan) (past : List Entry) (k : Kind) (e : Entry) (p : ℕ) → Row k plan past (of_kind k e) → is_in kind.End p (of_kind k e) ≡ true → MayEnd plan past (of_kind kind.End e) × (e.place ≡ p)
 end_row plan past kind.End e p h w = (h, eqb-true e.place p w)
 end_row plan past _ e p h w = absurd (false≢true w)
 

@@ -1,7 +1,7 @@
--- What a place keeps: where it isn't open, no entry changes what was raised, resolved and said there; and what raises finds it open.
-use Rattle.std.proofs.Common.{◌≡◌, ℕ, ◌==◌, Bool, true, false, not, cond, ◌&&◌, ◌||◌, List, [], ◌∷◌, Some, None, Option, refl, sym, ap, ◌∙◌, subst, arith, inl, inr, MatchOption}
+-- What a place keeps: where it isn't open, no entry changes what was raised, resolved and said there.
+use Rattle.std.proofs.Common.{◌≡◌, ℕ, ◌==◌, Bool, true, false, not, cond, ◌&&◌, ◌||◌, List, ◌∷◌, Some, None, Option, refl, subst, arith, inl, inr, MatchOption}
 use Rattle.std.specs.List.{list_any, list_all}
-use Rattle.std.proofs.lemmas.Bool.{and_parts, or_cases, or_parts, eqb-true, false≢true, cases_Bool, false_from_ne_true, both_ways}
+use Rattle.std.proofs.lemmas.Bool.{and_parts, or_cases, or_parts, eqb-true, false≢true, false_from_ne_true, both_ways}
 use Rattle.caa_base.specs.declared.entry.Entry.{Entry}
 use Rattle.caa_base.specs.declared.entry.Kind.{Kind}
 use Rattle.caa_base.specs.declared.entry.Kind.TheVariants as kind
@@ -9,13 +9,13 @@ use Rattle.caa_base.specs.declared.entry.Verdict.{Verdict}
 use Rattle.place_plan.specs.PlanValue.{Plan}
 use Rattle.place_plan.specs.Places.{parent, roles_of}
 use Rattle.place_plan.specs.Entries.{has}
-use Rattle.place_plan.specs.Whereabouts.{inside, is_going, is_left_in_silence}
-use Rattle.place_plan.specs.Raising.{has_handled, raises_in, halts_in, carries_into, exceptions_raised, is_doomed, is_calm, is_hot, is_halted, exception_resolved}
-use Rattle.place_plan.specs.Roles.{has_given, all_have_given, is_able, is_in_handler, is_handling, verdict_of, is_undo, wants_undo, has_aborted, all_have_aborted}
-use Rattle.place_plan.specs.Rules.{Row, MayLeave, MayFollow, Names, SaysVerdict, verdict_due, is_deaf, exception_carried}
+use Rattle.place_plan.specs.Whereabouts.{is_going, is_left_in_silence}
+use Rattle.place_plan.specs.Raising.{has_handled, carries_into, exceptions_raised, is_doomed, is_calm, is_hot, is_halted, exception_resolved}
+use Rattle.place_plan.specs.Roles.{has_given, all_have_given, is_able, is_in_handler, verdict_of, is_undo, wants_undo, has_aborted, all_have_aborted}
+use Rattle.place_plan.specs.Rules.{Row, MayLeave, MayFollow, Names, SaysVerdict, verdict_due, is_deaf}
 use Rattle.place_plan.specs.Journals.{LegalPast}
 use Rattle.journal_laws.proofs.Playable.{IsTree}
-use Rattle.place_plan.proofs.Words.{at_same}
+use Rattle.caa_base.proofs.ListLemmas.{at_same}
 use Rattle.place_plan.proofs.Entries.{of_kind}
 use Rattle.journal_laws.proofs.Phases.{IsOpen, calm_open, hot_open, open_either, is_open, open_parts, open_from}
 use Rattle.journal_laws.proofs.Raised.{busy_inside, parent_round}
@@ -154,30 +154,3 @@ module _ (plan : Plan) (tree : IsTree plan) (past : List Entry) (legal : LegalPa
 
   pub stopped_shut : (p : ℕ) → is_going past p ≡ false → is_open plan past p ≡ false
   stopped_shut p h = rw h refl
-
-  -- ---- what raises or halts in p finds it open
-
-  raises_open_by : (k : Kind) (e : Entry) (p : ℕ) → Row k plan past (of_kind k e) → (raises_in plan past p (of_kind k e) k ≡ [] → ⊥) → IsOpen plan past p
-  raises_open_by k e p h w = elim (cases_Bool (is_open plan past p)) [
-    | inl o ↦ open_parts plan past p o
-    | inr o ↦ absurd (w (nothing k e o h))
-  ]
-    where
-      nothing : (k : Kind) (e : Entry) → is_open plan past p ≡ false → Row k plan past (of_kind k e) → raises_in plan past p (of_kind k e) k ≡ []
-      nothing kind.Raise e o h = rw (shut_apart kind.Raise e p o h refl) refl
-      nothing kind.PutFault e o h = rw (shut_apart kind.PutFault e p o h refl) refl
-      nothing kind.Leave e o h = rw (shut_apart_leave e p o h) refl
-      nothing _ e o h = refl
-
-  pub raises_open : (e : Entry) (p : ℕ) → MayFollow plan past e → (raises_in plan past p e e.kind ≡ [] → ⊥) → IsOpen plan past p
-  raises_open e p h w = raises_open_by e.kind e p h w
-
-  halts_open_by : (k : Kind) (e : Entry) (p : ℕ) → Row k plan past (of_kind k e) → halts_in plan past p (of_kind k e) k ≡ true → IsOpen plan past p
-  halts_open_by kind.Raise e p h w = subst (IsOpen plan past) (eqb-true e.place p w) (open_by plan past kind.Raise e h refl)
-  halts_open_by kind.Inform e p h w = subst (IsOpen plan past) (eqb-true e.place p w) (open_by plan past kind.Inform e h refl)
-  halts_open_by kind.PutFault e p h w = subst (IsOpen plan past) (eqb-true e.place p (and_parts (e.place == p) _ w).0) (open_by plan past kind.PutFault e h refl)
-  halts_open_by kind.Leave e p h w = carries_open (of_kind kind.Leave e) p h w
-  halts_open_by _ e p h w = absurd (false≢true w)
-
-  pub halts_open : (e : Entry) (p : ℕ) → MayFollow plan past e → halts_in plan past p e e.kind ≡ true → IsOpen plan past p
-  halts_open e p h w = halts_open_by e.kind e p h w

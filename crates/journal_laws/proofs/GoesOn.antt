@@ -8,7 +8,7 @@ use Rattle.place_plan.specs.Journals.{LegalPast, AllOver}
 use Rattle.journal_laws.specs.Laws.{Holds, GoesOn, HasEntry}
 use Rattle.journal_laws.specs.Due.{due_of, DueIsRight}
 use Rattle.journal_laws.proofs.Playable.{IsPlayable}
-use Rattle.journal_laws.proofs.Kept.{live_parts}
+use Rattle.journal_laws.proofs.Lives.{live_parts}
 use Rattle.journal_laws.proofs.InnerFirst.{started_filled}
 use Rattle.journal_laws.proofs.Phases.{Phase, at_end, at_wait, at_undo, at_doom, at_hot, at_calm, phase_of}
 use Rattle.journal_laws.proofs.Ranges.{place_known}

@@ -5,7 +5,7 @@ use Rattle.caa_base.specs.declared.entry.Entry.{Entry}
 use Rattle.caa_base.specs.declared.entry.Kind.{Kind}
 use Rattle.caa_base.specs.declared.entry.Kind.TheVariants as kind
 use Rattle.place_plan.specs.PlanValue.{Plan}
-use Rattle.place_plan.specs.Words.{member, same_option}
+use Rattle.caa_base.specs.Lists.{member, same_option}
 use Rattle.place_plan.specs.Places.{around, parent, uses, is_within, objects_of}
 use Rattle.place_plan.specs.Whereabouts.{inside, has_started, has_ended, is_undoing, is_live}
 use Rattle.place_plan.specs.Objects.{holder_of}
@@ -13,9 +13,9 @@ use Rattle.place_plan.specs.Rules.{Row, MayStart, MayEnd, EndsUndone, EndsAgreed
 use Rattle.place_plan.specs.Journals.{LegalPast}
 use Rattle.journal_laws.specs.Laws.{Holds, HolderIsInnermost}
 use Rattle.journal_laws.proofs.Playable.{IsTree}
-use Rattle.place_plan.proofs.Words.{all_at}
+use Rattle.caa_base.proofs.ListLemmas.{all_at}
 use Rattle.place_plan.proofs.Entries.{of_kind}
-use Rattle.journal_laws.proofs.Kept.{live_parts, live_from, going_live}
+use Rattle.journal_laws.proofs.Lives.{live_parts, live_from, going_live}
 use Rattle.journal_laws.proofs.Tree.{in_within, live_within}
 use Rattle.journal_laws.proofs.Busy.{IsBusy, AllBusy, all_busy, not_ending, live_of}
 use Rattle.journal_laws.proofs.InnerFirst.{started_filled, round_round}

@@ -6,7 +6,7 @@ use Rattle.caa_base.specs.declared.entry.Entry.{Entry}
 use Rattle.caa_base.specs.declared.entry.Kind.{Kind}
 use Rattle.caa_base.specs.declared.entry.Kind.TheVariants as kind
 use Rattle.place_plan.specs.PlanValue.{Plan}
-use Rattle.place_plan.specs.Words.{member}
+use Rattle.caa_base.specs.Lists.{member}
 use Rattle.place_plan.specs.Places.{around, roles_of}
 use Rattle.place_plan.specs.Entries.{is_in}
 use Rattle.place_plan.specs.Whereabouts.{inside, is_inside, has_started}
@@ -15,7 +15,7 @@ use Rattle.place_plan.specs.Rules.{Row, MayAbort}
 use Rattle.place_plan.specs.Journals.{LegalPast}
 use Rattle.journal_laws.specs.Laws.{Holds, InnerFirstLaw}
 use Rattle.journal_laws.proofs.Playable.{IsTree}
-use Rattle.place_plan.proofs.Words.{all_at, at_same}
+use Rattle.caa_base.proofs.ListLemmas.{all_at, at_same}
 use Rattle.place_plan.proofs.Entries.{of_kind}
 use Rattle.journal_laws.proofs.Tree.{live_within, in_within}
 use Rattle.journal_laws.proofs.Busy.{doom_stays, all_busy, AllBusy}

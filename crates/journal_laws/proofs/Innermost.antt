@@ -6,7 +6,7 @@ use Rattle.caa_base.specs.declared.entry.Entry.{Entry}
 use Rattle.caa_base.specs.declared.entry.Kind.{Kind}
 use Rattle.caa_base.specs.declared.entry.Kind.TheVariants as kind
 use Rattle.place_plan.specs.PlanValue.{Plan}
-use Rattle.place_plan.specs.Words.{member, first_of}
+use Rattle.caa_base.specs.Lists.{member, first_of}
 use Rattle.place_plan.specs.Places.{around, parent, is_within, plays_of}
 use Rattle.place_plan.specs.Entries.{has_by}
 use Rattle.place_plan.specs.Whereabouts.{inside, stays}
@@ -15,7 +15,8 @@ use Rattle.place_plan.specs.Rules.{Row, MayArrive, arrival}
 use Rattle.place_plan.specs.Journals.{LegalPast}
 use Rattle.journal_laws.specs.Laws.{Holds, InsideIsInnermost}
 use Rattle.journal_laws.proofs.Playable.{IsTree}
-use Rattle.place_plan.proofs.Words.{first_not_fails, plays_in}
+use Rattle.caa_base.proofs.ListLemmas.{first_not_fails}
+use Rattle.place_plan.proofs.Plays.{plays_in}
 use Rattle.place_plan.proofs.Entries.{of_kind}
 use Rattle.journal_laws.proofs.Tree.{in_within, arrives_in}
 

@@ -5,7 +5,7 @@ use Rattle.caa_base.specs.declared.entry.Entry.{Entry}
 use Rattle.caa_base.specs.declared.entry.Kind.{Kind}
 use Rattle.caa_base.specs.declared.entry.Kind.TheVariants as kind
 use Rattle.place_plan.specs.PlanValue.{Plan}
-use Rattle.place_plan.specs.Words.{member}
+use Rattle.caa_base.specs.Lists.{member}
 use Rattle.place_plan.specs.Places.{around, uses, is_within, objects_of}
 use Rattle.place_plan.specs.Whereabouts.{is_undoing, is_live}
 use Rattle.place_plan.specs.Objects.{holder_of, is_tried}
@@ -13,9 +13,9 @@ use Rattle.place_plan.specs.Rules.{Row, MayRestore}
 use Rattle.place_plan.specs.Journals.{LegalPast}
 use Rattle.journal_laws.specs.Laws.{Holds, IsolationLaw, touches_object}
 use Rattle.journal_laws.proofs.Playable.{IsTree}
-use Rattle.place_plan.proofs.Words.{first_not_fails}
+use Rattle.caa_base.proofs.ListLemmas.{first_not_fails}
 use Rattle.place_plan.proofs.Entries.{of_kind}
-use Rattle.journal_laws.proofs.Kept.{live_from}
+use Rattle.journal_laws.proofs.Lives.{live_from}
 use Rattle.journal_laws.proofs.Tree.{in_within}
 use Rattle.journal_laws.proofs.Busy.{live_of}
 use Rattle.journal_laws.proofs.InnerFirst.{legal_rest}

@@ -8,7 +8,7 @@ use Rattle.caa_base.specs.declared.entry.Kind.TheVariants as kind
 use Rattle.place_plan.specs.declared.rows.Step.{Step}
 use Rattle.place_plan.specs.declared.rows.Step.TheVariants as step
 use Rattle.place_plan.specs.PlanValue.{Plan}
-use Rattle.place_plan.specs.Words.{member, first_of, same_option}
+use Rattle.caa_base.specs.Lists.{member, first_of, same_option}
 use Rattle.place_plan.specs.Places.{parent, roles_of, objects_of, nest_number, body_of}
 use Rattle.place_plan.specs.Entries.{has_by}
 use Rattle.place_plan.specs.Whereabouts.{inside, is_inside, has_started, has_ended, is_undoing, is_live}
@@ -19,7 +19,7 @@ use Rattle.place_plan.specs.Rules.{place_entered}
 use Rattle.place_plan.specs.Journals.{LegalPast}
 use Rattle.journal_laws.specs.Due.{due_hot, due_calm, due_body, due_forward, due_arrival}
 use Rattle.journal_laws.proofs.Playable.{IsPlayable}
-use Rattle.place_plan.proofs.Words.{all_from, same_at}
+use Rattle.caa_base.proofs.ListLemmas.{all_from, same_at}
 use Rattle.journal_laws.proofs.Holding.{ended_started}
 use Rattle.journal_laws.proofs.Phases.{going_from, calm_from}
 use Rattle.journal_laws.proofs.Raised.{parent_round}

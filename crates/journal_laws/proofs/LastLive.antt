@@ -9,7 +9,7 @@ use Rattle.caa_base.specs.declared.entry.Verdict.TheVariants as verdict
 use Rattle.place_plan.specs.declared.rows.Step.{Step}
 use Rattle.place_plan.specs.declared.rows.Step.TheVariants as step
 use Rattle.place_plan.specs.PlanValue.{Plan}
-use Rattle.place_plan.specs.Words.{member, is_empty, first_of}
+use Rattle.caa_base.specs.Lists.{member, is_empty, first_of}
 use Rattle.place_plan.specs.Places.{around, parent, roles_of, uses, internal_of, interface_of, handler_of}
 use Rattle.place_plan.specs.Entries.{is_by}
 use Rattle.place_plan.specs.Whereabouts.{inside, is_inside, all_are_inside, has_started, has_ended, is_undoing, is_live}
@@ -20,12 +20,13 @@ use Rattle.place_plan.specs.Rules.{breaks_off}
 use Rattle.place_plan.specs.Journals.{LegalPast}
 use Rattle.journal_laws.specs.Due.{plainly, marked, verdict_entry, due_restore, due_doomed, due_hot, due_halted, due_running, due_answer, due_handler, due_step, due_held, due_agreed, due_end}
 use Rattle.journal_laws.proofs.Playable.{IsPlayable}
-use Rattle.place_plan.proofs.Words.{all_from, same_at}
-use Rattle.journal_laws.proofs.Kept.{live_parts, going_live}
+use Rattle.caa_base.proofs.ListLemmas.{all_from, same_at}
+use Rattle.journal_laws.proofs.Lives.{live_parts, going_live}
 use Rattle.journal_laws.proofs.Tree.{in_within, live_within}
 use Rattle.journal_laws.proofs.InnerFirst.{started_filled}
 use Rattle.journal_laws.proofs.Holding.{holds_within, holds_own}
 use Rattle.journal_laws.proofs.Newest.{stands_newest}
+use Rattle.journal_laws.proofs.Options.{none_is}
 use Rattle.journal_laws.proofs.Phases.{going_parts}
 use Rattle.journal_laws.proofs.Raised.{busy_inside, parent_round}
 use Rattle.journal_laws.proofs.LeastOf.{least_some}
@@ -49,10 +50,6 @@ pub data Stands (plan : Plan) (past : List Entry) (p t : ℕ) : Type 0 where
 some_raised : (xs : List ℕ) → not (is_empty xs) ≡ true → 0 < length xs
 some_raised [] h = absurd (false≢true h)
 some_raised (x ∷ xs) h = omega arith
-
-none_is : {A : Type 0} (o : Option A) → is_none o ≡ true → o ≡ None
-none_is None h = refl
-none_is (Some x) h = absurd cc
 
 module _ (plan : Plan) (playable : IsPlayable plan) (past : List Entry) (legal : LegalPast plan past) (still : NothingDue plan past) (p : ℕ) (live : is_live past p ≡ true) (last : (q : ℕ) → p < q → is_live past q ≡ false) where
   pub started : has_started past p ≡ true

@@ -1,11 +1,11 @@
 -- The least cover that is found by trying one number after another is the one that there is.
-use Rattle.std.proofs.Common.{◌≡◌, ℕ, ◌<◌, ◌≤◌, ◌+◌, suc, zero, Bool, true, false, not, cond, ◌&&◌, ◌||◌, List, [], ◌∷◌, length, Some, None, Option, All, refl, ap, arith, inl, inr}
-use Rattle.std.specs.List.{list_all, range_with_len}
+use Rattle.std.proofs.Common.{◌≡◌, ℕ, ◌<◌, ◌≤◌, ◌+◌, suc, zero, true, not, ◌||◌, List, length, Some, None, Option, All, refl, ap, arith, inl, inr}
+use Rattle.std.specs.List.{range_with_len}
 use Rattle.std.proofs.lemmas.Bool.{and_parts, and_from, or_cases, or_left, or_right, eqb-true, eq-eqb, false≢true, not-false, not-true, not_from_false, cases_Bool, cases_eq, both_ways}
 use Rattle.cover_table.specs.Cover.{CoverOrder, covers, covers_each, IsLeastCover, IsSound, SetsHaveLeastCovers}
-use Rattle.place_plan.specs.Words.{member, first_not}
+use Rattle.caa_base.specs.Lists.{member}
 use Rattle.journal_laws.specs.Due.{is_least, least_of}
-use Rattle.place_plan.proofs.Words.{all_at, all_from, first_not_fails, first_not_none}
+use Rattle.caa_base.proofs.ListLemmas.{all_at, all_from, first_not_fails, first_not_none}
 
 -- the numbers from a on
 in_range : (a n x : ℕ) → member x (range_with_len a n) ≡ true → (a ≤ x) × (x < a + n)
@@ -39,11 +39,11 @@ least_is order xs x l h =
 pub is_least_from : (order : CoverOrder) (xs : List ℕ) (x : ℕ) → IsLeastCover order xs x → is_least order xs x ≡ true
 is_least_from order xs x h =
     and_from (covers_each order x xs) _ h.above (all_from (λ y. not (covers_each order y xs) || covers order y x) (range_with_len 0 order.count) (λ y m.
-        let l = in_range 0 order.count y m in
-        elim (cases_Bool (covers_each order y xs)) [
-          | inl c ↦ or_right _ _ (h.least y (omega arith) c)
-          | inr c ↦ or_left _ _ (not_from_false _ c)
-        ]))
+    let l = in_range 0 order.count y m in
+    elim (cases_Bool (covers_each order y xs)) [
+      | inl c ↦ or_right _ _ (h.least y (omega arith) c)
+      | inr c ↦ or_left _ _ (not_from_false _ c)
+    ]))
 
 -- what is found is a least cover
 pub found_least : (order : CoverOrder) (xs : List ℕ) (x : ℕ) → least_of order xs ≡ Some x → IsLeastCover order xs x

@@ -1,35 +1,33 @@
 -- Length law: no legal journal has more entries than the bound says, since each entry spends something that was not spent before.
-use Rattle.std.proofs.Common.{◌≡◌, ℕ, ◌==◌, ◌<◌, ◌≤◌, ◌+◌, ◌⊎◌, Bool, true, false, not, cond, ◌&&◌, ◌||◌, List, [], ◌∷◌, Option, Some, None, refl, sym, ap, ◌∙◌, subst, subst₂, arith, suc, zero, length, inl, inr, MatchBool, MatchOption}
+use Rattle.std.proofs.Common.{◌≡◌, ℕ, ◌==◌, ◌<◌, ◌≤◌, ◌+◌, ◌⊎◌, Bool, true, false, not, cond, ◌&&◌, ◌||◌, List, [], ◌∷◌, Option, Some, None, refl, ◌∙◌, subst, subst₂, arith, length, inl, inr, MatchOption}
 use Rattle.std.proofs.lemmas.Bool.{and_parts, and_from, or_cases, or_left, or_right, eqb-true, eq-eqb, false≢true, not-true, not_from_false, cases_Bool, false_from_ne_true, both_ways}
 use Rattle.caa_base.specs.declared.entry.Entry.{Entry}
 use Rattle.caa_base.specs.declared.entry.Kind.{Kind}
 use Rattle.caa_base.specs.declared.entry.Kind.TheVariants as kind
-use Rattle.caa_base.specs.declared.entry.Verdict.{Verdict}
 use Rattle.place_plan.specs.PlanValue.{Plan}
-use Rattle.place_plan.specs.Words.{member}
-use Rattle.place_plan.specs.Places.{roles_of, objects_of}
+use Rattle.place_plan.specs.Places.{objects_of}
 use Rattle.place_plan.specs.Entries.{is_in, is_by, has, has_by}
 use Rattle.place_plan.specs.Whereabouts.{inside, has_started, has_ended, is_undoing}
-use Rattle.place_plan.specs.Raising.{has_handled, carries_into, is_raised, is_calm, is_hot, is_halted, exception_resolved}
+use Rattle.place_plan.specs.Raising.{has_handled, carries_into, is_calm, is_hot, is_halted, exception_resolved}
 use Rattle.place_plan.specs.Objects.{is_tried}
 use Rattle.place_plan.specs.Roles.{has_given_after, has_given, is_handling, was_refused_in_handler, is_in_handler, is_able, has_aborted}
-use Rattle.place_plan.specs.Rules.{Row, MayPut, MayVerdict, SaysVerdict, final_verdict, unhandled_verdict, handler_verdict, verdict_due}
+use Rattle.place_plan.specs.Rules.{Row, MayVerdict, SaysVerdict, unhandled_verdict}
 use Rattle.place_plan.specs.Journals.{LegalPast}
 use Rattle.place_plan.specs.Bound.{row_bound, bound}
 use Rattle.journal_laws.specs.Laws.{Holds, IsBounded}
 use Rattle.journal_laws.proofs.Playable.{IsPlayable}
 use Rattle.journal_laws.proofs.Core.{Core}
-use Rattle.place_plan.proofs.Words.{first_not_fails}
+use Rattle.caa_base.proofs.ListLemmas.{first_not_fails}
 use Rattle.place_plan.proofs.Entries.{of_kind, both_same}
-use Rattle.journal_laws.proofs.Newest.{newest_stands, stands_newest, handling_handled}
+use Rattle.journal_laws.proofs.Newest.{newest_stands, stands_newest}
 use Rattle.journal_laws.proofs.Phases.{calm_open, hot_open, going_parts}
 use Rattle.journal_laws.proofs.Raised.{plain_calm, unhandled_fault}
 use Rattle.journal_laws.proofs.Arrivals.{fresh, inside_stays, gone}
 use Rattle.journal_laws.proofs.Holding.{end_live}
-use Rattle.journal_laws.proofs.Kept.{live_parts}
+use Rattle.journal_laws.proofs.Lives.{live_parts}
 use Rattle.journal_laws.proofs.Makers.{maker_role}
-use Rattle.journal_laws.proofs.Ranges.{place_known}
-use Rattle.journal_laws.proofs.Costs.{flag, flag_or, flag_up, total, total_rows, total_up, total_more, walked, has_said_before, has_said_after, was_refused_once, has_gone, role_cost, stages, place_cost, place_up, stage_spent, object_spent, role_spent, place_bound, place_within, place_row}
+use Rattle.journal_laws.proofs.Ranges.{place_known, recovery_verdict}
+use Rattle.journal_laws.proofs.Costs.{flag, flag_or, flag_up, total, total_rows, total_up, total_more, walked, has_said_before, has_said_after, was_refused_once, role_cost, stages, place_cost, place_up, stage_spent, object_spent, role_spent, place_bound, place_within, place_row}
 use Rattle.journal_laws.proofs.Walked.{walked_within}
 
 -- ---- counters and what the rules ask
@@ -144,17 +142,31 @@ module _ (plan : Plan) (playable : IsPlayable plan) (core : Holds Core plan) whe
       by_resolved None w h = elim h [ ]
       by_resolved (Some x) w h = first_resolved past p t x legal w (rw (hot_open plan past p hot).1 at given)
 
+  first_in_hot : (past : List Entry) (e : Entry) → LegalPast plan past → is_hot plan past e.place ≡ true → MatchOption (recovery_verdict plan past e.place e.by) ⊥ (SaysVerdict e) → VerdictIsFirst past e.place e.by
+  first_in_hot past e legal hot s =
+      elim (cases_Bool (has_handled past e.place e.by)) [
+        | inl handled ↦ elim (cases_Bool (is_handling past e.place e.by)) [
+          | inl d ↦ first_of_handler past e.place e.by legal handled d
+          | inr d ↦ absurd (rw (handled, d) at s)
+        ]
+        | inr bare ↦ elim (cases_Bool (has_given plan past e.place e.by)) [
+          | inl g ↦ absurd (rw (bare, g) at s)
+          | inr g ↦ first_unhandled past e.place e.by e legal hot g (rw (bare, g) at s)
+        ]
+      ]
+
   verdict_is_first : (past : List Entry) (e : Entry) → LegalPast plan past → MayVerdict plan past e → VerdictIsFirst past e.place e.by
-  verdict_is_first past e legal h = by_phase (is_calm plan past e.place) (is_hot plan past e.place) (has_handled past e.place e.by) (is_handling past e.place e.by) (has_given plan past e.place e.by) refl refl refl refl refl h.due
-    where
-      by_phase : (a b c d g : Bool) → is_calm plan past e.place ≡ a → is_hot plan past e.place ≡ b → has_handled past e.place e.by ≡ c → is_handling past e.place e.by ≡ d → has_given plan past e.place e.by ≡ g → MatchOption (cond a (cond g None (final_verdict plan past e.place e.by)) (cond (not b) None (cond c (cond d (handler_verdict plan past e.place e.by) None) (cond g None (unhandled_verdict plan e.place e.by (exception_resolved past e.place)))))) ⊥ (SaysVerdict e) → VerdictIsFirst past e.place e.by
-      by_phase true b c d true calm hot handled handling given s = elim s [ ]
-      by_phase true b c d false calm hot handled handling given s = first_in_calm past e.place e.by legal calm given
-      by_phase false false c d g calm hot handled handling given s = elim s [ ]
-      by_phase false true true true g calm hot handled handling given s = first_of_handler past e.place e.by legal handled handling
-      by_phase false true true false g calm hot handled handling given s = elim s [ ]
-      by_phase false true false d true calm hot handled handling given s = elim s [ ]
-      by_phase false true false d false calm hot handled handling given s = first_unhandled past e.place e.by e legal hot given s
+  verdict_is_first past e legal h =
+      elim (cases_Bool (is_calm plan past e.place)) [
+        | inl calm ↦ elim (cases_Bool (has_given plan past e.place e.by)) [
+          | inl g ↦ absurd (rw (calm, g) at h.due)
+          | inr g ↦ first_in_calm past e.place e.by legal calm g
+        ]
+        | inr cold ↦ elim (cases_Bool (is_hot plan past e.place)) [
+          | inl hot ↦ first_in_hot past e legal hot (rw (cold, hot) at h.due)
+          | inr hot ↦ absurd (rw (cold, hot) at h.due)
+        ]
+      ]
 
   -- a put that is refused in a handler is the first one there, and otherwise its maker isn't halted yet
   fault_in_handler : (past : List Entry) (p t : ℕ) → LegalPast plan past → is_able plan past p t ≡ true → has_handled past p t ≡ true → was_refused_once past p t ≡ false

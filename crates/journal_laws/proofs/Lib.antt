@@ -1,5 +1,8 @@
 pub mod Playable
 pub mod Core
+pub mod EnterSteps
+pub mod PlayablePlan
+pub mod Lives
 pub mod Phases
 pub mod Options
 pub mod Newest
@@ -13,16 +16,9 @@ pub mod DueOnly
 pub mod DueMay
 pub mod Due
 pub mod CoreKept
-pub mod Quiet
-pub mod Kept
-pub mod FlatOver
-pub mod FlatDue
-pub mod FlatGoesOn
-pub mod FlatWellFormed
 pub mod Tree
 pub mod Busy
 pub mod InnerFirst
-pub mod TreeFlat
 pub mod Innermost
 pub mod Holding
 pub mod Isolation
@@ -37,9 +33,6 @@ pub mod Waiting
 pub mod LastLive
 pub mod LastCalm
 pub mod GoesOn
-pub mod FlatExit
-pub mod FlatLaws
-pub mod FlatLength
 pub mod LawsKept
 pub mod Tried
 pub mod Outcome

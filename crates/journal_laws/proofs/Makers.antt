@@ -1,13 +1,13 @@
 -- The maker of an entry has a role in its place, and who puts an object there finds it, and each place round it, going on.
-use Rattle.std.proofs.Common.{◌≡◌, ℕ, ◌==◌, Bool, true, false, not, ◌&&◌, ◌||◌, List, ◌∷◌, Some, refl, sym, subst, inl, inr}
-use Rattle.std.proofs.lemmas.Bool.{and_parts, or_cases, or_left, or_right, eqb-true, eq-eqb}
+use Rattle.std.proofs.Common.{◌≡◌, ℕ, ◌==◌, true, List, refl, sym, subst, inl, inr}
+use Rattle.std.proofs.lemmas.Bool.{or_cases, or_right, eqb-true}
 use Rattle.caa_base.specs.declared.entry.Entry.{Entry}
 use Rattle.caa_base.specs.declared.entry.Kind.{Kind}
 use Rattle.caa_base.specs.declared.entry.Kind.TheVariants as kind
 use Rattle.place_plan.specs.PlanValue.{Plan}
-use Rattle.place_plan.specs.Words.{member}
+use Rattle.caa_base.specs.Lists.{member}
 use Rattle.place_plan.specs.Places.{around, roles_of, is_within}
-use Rattle.place_plan.specs.Whereabouts.{inside, is_going}
+use Rattle.place_plan.specs.Whereabouts.{is_going}
 use Rattle.place_plan.specs.Rules.{Row, MayPut, MayFollow}
 use Rattle.place_plan.specs.Journals.{LegalPast}
 use Rattle.journal_laws.proofs.Playable.{IsTree}

@@ -1,10 +1,10 @@
 -- The exception of the newest entry that passes a test, and whether one passes at all.
-use Rattle.std.proofs.Common.{◌≡◌, ℕ, Bool, true, false, cond, ◌||◌, List, [], ◌∷◌, Some, None, Option, refl, inl, inr}
+use Rattle.std.proofs.Common.{◌≡◌, ℕ, Bool, true, false, cond, ◌||◌, List, [], ◌∷◌, Some, None, refl}
 use Rattle.std.specs.List.{list_any}
-use Rattle.std.proofs.lemmas.Bool.{or_right, false≢true}
+use Rattle.std.proofs.lemmas.Bool.{false≢true}
 use Rattle.caa_base.specs.declared.entry.Entry.{Entry}
 use Rattle.caa_base.specs.declared.entry.Kind.TheVariants as kind
-use Rattle.place_plan.specs.Entries.{is_by, has_by, has, is_in}
+use Rattle.place_plan.specs.Entries.{is_by, has, is_in}
 use Rattle.place_plan.specs.Raising.{newest_arg, has_handled}
 use Rattle.place_plan.specs.Roles.{is_handling, has_given_after}
 

@@ -1,7 +1,7 @@
 -- Outcome law: the restores of a place that has ended are what the mark of its End says.
-use Rattle.std.proofs.Common.{◌≡◌, ℕ, ◌==◌, ◌+◌, ◌<◌, ◌⊎◌, Bool, true, false, cond, ◌&&◌, ◌||◌, List, [], ◌∷◌, Some, None, refl, sym, ap, subst, arith, inl, inr, count_by, MatchBool}
+use Rattle.std.proofs.Common.{◌≡◌, ℕ, ◌==◌, ◌<◌, ◌⊎◌, Bool, true, false, cond, ◌||◌, List, [], ◌∷◌, Some, refl, subst, arith, inl, inr, count_by, MatchBool}
 use Rattle.std.specs.List.{list_any}
-use Rattle.std.proofs.lemmas.Bool.{or_cases, or_left, or_right, eqb-true, false≢true, cases_Bool, false_from_ne_true, both_ways}
+use Rattle.std.proofs.lemmas.Bool.{or_cases, or_left, or_right, eqb-true, false_from_ne_true, both_ways}
 use Rattle.caa_base.specs.declared.entry.Entry.{Entry}
 use Rattle.caa_base.specs.declared.entry.Kind.{Kind}
 use Rattle.caa_base.specs.declared.entry.Kind.TheVariants as kind
@@ -15,9 +15,8 @@ use Rattle.place_plan.specs.Rules.{Row, MayEnd, EndsUndone, EndsAgreed, SignalsL
 use Rattle.place_plan.specs.Journals.{LegalPast}
 use Rattle.journal_laws.specs.Laws.{Holds, OutcomeLaw, RestoresFit, is_restore}
 use Rattle.journal_laws.proofs.Core.{Tries}
-use Rattle.place_plan.proofs.Words.{chosen, first_not_none}
+use Rattle.caa_base.proofs.ListLemmas.{chosen, first_not_none}
 use Rattle.place_plan.proofs.Entries.{of_kind}
-use Rattle.journal_laws.proofs.Busy.{live_of}
 use Rattle.journal_laws.proofs.Tried.{count_next, tries}
 
 -- ---- lists

@@ -4,11 +4,11 @@ use Rattle.cover_table.specs.Cover.{IsSound, SetsHaveLeastCovers}
 use Rattle.place_plan.specs.declared.rows.Step.{Step}
 use Rattle.place_plan.specs.declared.rows.Step.TheVariants as step
 use Rattle.place_plan.specs.PlanValue.{Plan}
-use Rattle.place_plan.specs.Words.{member, is_empty, Rises}
+use Rattle.caa_base.specs.Lists.{member, is_empty, Rises}
 use Rattle.place_plan.specs.Places.{around, parent, roles_of, objects_of, uses, alternates_of, nest_number, nest_of, body_of, abort_row, internal_of, interface_of, fault_of, map_signal, initial_of}
 use Rattle.place_plan.specs.Roles.{program_in}
 use Rattle.place_plan.specs.DraftRules.{step_held, step_in_range, verdict_in_range, abort_in_range}
-use Rattle.place_plan.specs.WellFormed.{IsValue}
+use Rattle.caa_base.specs.Limits.{IsValue}
 
 -- q is right inside p, and t has a role there
 abbrev pub LeadsInside : Plan → ℕ → ℕ → ℕ → Type 0

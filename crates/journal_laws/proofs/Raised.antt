@@ -7,9 +7,9 @@ use Rattle.caa_base.specs.declared.entry.Entry.{Entry}
 use Rattle.caa_base.specs.declared.entry.Kind.{Kind}
 use Rattle.caa_base.specs.declared.entry.Kind.TheVariants as kind
 use Rattle.place_plan.specs.PlanValue.{Plan}
-use Rattle.place_plan.specs.Words.{member, is_empty, first_of}
+use Rattle.caa_base.specs.Lists.{member, is_empty, first_of}
 use Rattle.place_plan.specs.Places.{around, parent, roles_of, plays_of, internal_of, handler_of}
-use Rattle.place_plan.specs.Entries.{is_in, is_by, has_by}
+use Rattle.place_plan.specs.Entries.{is_by, has_by}
 use Rattle.place_plan.specs.Whereabouts.{inside, inside_after}
 use Rattle.place_plan.specs.Raising.{has_handled, raises_in, carries_into, exceptions_raised, is_raised, is_calm, is_hot, is_halted, all_are_halted, exception_resolved, exception_handled}
 use Rattle.place_plan.specs.Roles.{has_given, is_able, is_in_handler, is_handling, was_refused_in_handler, next_play}
@@ -18,10 +18,12 @@ use Rattle.place_plan.specs.Journals.{LegalPast}
 use Rattle.journal_laws.specs.Laws.{Holds}
 use Rattle.journal_laws.proofs.Playable.{IsTree}
 use Rattle.journal_laws.proofs.Core.{Raises}
-use Rattle.place_plan.proofs.Words.{all_at, at_same, chosen, first_not_fails, plays_in}
+use Rattle.caa_base.proofs.ListLemmas.{all_at, at_same, chosen, first_not_fails}
+use Rattle.place_plan.proofs.Plays.{plays_in}
 use Rattle.place_plan.proofs.Entries.{of_kind, both_same}
 use Rattle.journal_laws.proofs.Tree.{arrives_in}
 use Rattle.journal_laws.proofs.Busy.{IsBusy, AllBusy, all_busy, raised_stays}
+use Rattle.journal_laws.proofs.InnerFirst.{round_round}
 use Rattle.journal_laws.proofs.Options.{some_apart}
 use Rattle.journal_laws.proofs.Newest.{stands_newest, handling_handled}
 use Rattle.journal_laws.proofs.Phases.{calm_open, hot_open}
@@ -42,6 +44,7 @@ halting_raises false c d x ys ih h = ih h
 abbrev pub IsAway : Plan → List Entry → ℕ → ℕ → Type 0
 IsAway plan past p t = (is_halted plan past p t ≡ false) × (has_handled past p t ≡ false)
 
+-- t is away in each place round the one that it is inside
 abbrev AllAway : Plan → List Entry → ℕ → Option ℕ → Type 0
 AllAway plan past t None = Unit {0}
 AllAway plan past t (Some q) = (p : ℕ) → member p (around plan q) ≡ true → IsAway plan past p t
@@ -137,16 +140,11 @@ module _ (plan : Plan) (tree : IsTree plan) where
       let l = tree.above r p m in
       omega arith)
 
-  went_out : (past : List Entry) (e : Entry) (t : ℕ) → (e.by == t) ≡ true → AllAway plan past t (Some e.place) → (o : Option ℕ) → parent plan e.place ≡ o → AllAway plan past t o × ((p : ℕ) → (r : ℕ) → o ≡ Some r → member p (around plan r) ≡ true → carries_into plan p e ≡ false)
-  went_out past e t y a None w = (tt, λ p r s m. absurd (some_apart s))
-  went_out past e t y a (Some q) w = (λ p m. a p (further p m), λ p r s m. not_further e p r (w ∙ s) m)
-    where
-      further : (p : ℕ) → member p (around plan q) ≡ true → member p (around plan e.place) ≡ true
-      further p m = by_around (around plan e.place) refl w
-        where
-          by_around : (qs : List ℕ) → around plan e.place ≡ qs → first_of qs ≡ Some q → member p qs ≡ true
-          by_around [] s f = absurd (some_apart f)
-          by_around (x ∷ xs) s f = let same : x ≡ q = cc in or_right _ _ (subst (λ ys. member p ys ≡ true) (tree.chain e.place q xs (subst (λ a. around plan e.place ≡ a ∷ xs) same s)) m)
+  -- who goes out of a place is away from those round the place that it comes to
+  went_out : (past : List Entry) (e : Entry) (t : ℕ) → AllAway plan past t (Some e.place) → (o : Option ℕ) → parent plan e.place ≡ o → AllAway plan past t o × ((p r : ℕ) → o ≡ Some r → member p (around plan r) ≡ true → carries_into plan p e ≡ false)
+  went_out past e t a None w = (tt, λ p r s m. absurd (some_apart s))
+  went_out past e t a (Some q) w =
+      (λ p m. a p (round_round plan tree q p e.place (around plan e.place) refl (parent_round e.place q w) m), λ p r s m. not_further e p r (w ∙ s) m)
 
   away_by : (past : List Entry) (k : Kind) (e : Entry) (t : ℕ) → LegalPast plan past → Raises plan past → Row k plan past (of_kind k e) → (o : Option ℕ) → inside plan past t ≡ o → AllAway plan past t o → AllAway plan (of_kind k e ∷ past) t (inside_after plan k e.place (e.by == t) o)
   away_by past kind.Arrive e t legal ih h o w a =
@@ -175,7 +173,7 @@ module _ (plan : Plan) (tree : IsTree plan) where
       elim (cases_Bool (e.by == t)) [
         | inl y ↦
             let here : Some e.place ≡ o = (sym h.here) ∙ rw (eqb-true e.by t y) w in
-            let out = went_out past e t y (subst (AllAway plan past t) (sym here) a) (parent plan e.place) refl in
+            let out = went_out past e t (subst (AllAway plan past t) (sym here) a) (parent plan e.place) refl in
             rw y (still (parent plan e.place) out.0)
         | inr y ↦ rw y (still o a)
       ]
@@ -187,7 +185,7 @@ module _ (plan : Plan) (tree : IsTree plan) where
       elim (cases_Bool (e.by == t)) [
         | inl y ↦
             let here : Some e.place ≡ o = (sym h.here) ∙ rw (eqb-true e.by t y) w in
-            let out = went_out past e t y (subst (AllAway plan past t) (sym here) a) (parent plan e.place) refl in
+            let out = went_out past e t (subst (AllAway plan past t) (sym here) a) (parent plan e.place) refl in
             rw y (left (parent plan e.place) out.0 out.1)
         | inr y ↦ rw y (still y o a)
       ]

@@ -1,5 +1,5 @@
 -- The exceptions and values that a legal journal of a playable plan names are in range.
-use Rattle.std.proofs.Common.{◌≡◌, ℕ, ℤ, pos, negsuc, ◌+ℤ◌, int_lt, ◌==◌, ◌+◌, ◌*◌, ◌<◌, Bool, true, false, not, cond, ◌&&◌, ◌||◌, List, [], ◌∷◌, Option, Some, None, refl, sym, subst, arith, inl, inr, zero, suc, length, slice_index_or, is_none, MatchOption}
+use Rattle.std.proofs.Common.{◌≡◌, ℕ, ℤ, pos, negsuc, ◌+ℤ◌, int_lt, ◌==◌, ◌+◌, ◌*◌, ◌<◌, Bool, true, false, not, cond, ◌&&◌, ◌||◌, List, [], ◌∷◌, Option, Some, None, refl, subst, arith, inl, inr, zero, suc, length, slice_index_or, is_none, MatchOption}
 use Rattle.std.specs.List.{All}
 use Rattle.std.proofs.Math.Nat.{mod-lt}
 use Rattle.std.proofs.lemmas.Int.{ints}
@@ -18,7 +18,7 @@ use Rattle.place_plan.specs.declared.rows.AbortRow.TheVariants as abort
 use Rattle.place_plan.specs.declared.rows.Step.{Step}
 use Rattle.place_plan.specs.declared.rows.Step.TheVariants as step
 use Rattle.place_plan.specs.PlanValue.{Plan}
-use Rattle.place_plan.specs.Words.{member, is_at}
+use Rattle.caa_base.specs.Lists.{member, is_at}
 use Rattle.place_plan.specs.Places.{parent, roles_of, no_place, internal_of, interface_of, fault_of, handler_of, map_signal, nest_of}
 use Rattle.place_plan.specs.Entries.{is_in, is_by, newest}
 use Rattle.place_plan.specs.Whereabouts.{is_left_in_silence}
@@ -27,11 +27,12 @@ use Rattle.place_plan.specs.Objects.{is_within_any, value_outside, places_undone
 use Rattle.place_plan.specs.Roles.{position, register, program_of, next_step, next_raise, raise_of, meets, has_given, is_handling, verdict_at, verdict_of, signal_in, signals}
 use Rattle.place_plan.specs.Rules.{Row, Names, SaysVerdict, MayVerdict, clamped, put_of, final_verdict, unhandled_verdict, breaks_off, handler_verdict, verdict_due, abort_of, abort_mapped, outcome_mapped, is_deaf, exception_carried}
 use Rattle.place_plan.specs.Journals.{LegalPast}
-use Rattle.place_plan.specs.DraftRules.{is_value, step_in_range, verdict_in_range, abort_in_range}
-use Rattle.place_plan.specs.WellFormed.{IsValue, MayShowException}
+use Rattle.place_plan.specs.DraftRules.{step_in_range, verdict_in_range, abort_in_range}
+use Rattle.caa_base.specs.Limits.{is_value, IsValue}
+use Rattle.place_plan.specs.WellFormed.{MayShowException}
 use Rattle.cover_table.specs.Cover.{CoverOrder}
 use Rattle.journal_laws.proofs.Playable.{IsPlayable}
-use Rattle.place_plan.proofs.Words.{chosen, at_same}
+use Rattle.caa_base.proofs.ListLemmas.{chosen, at_same}
 use Rattle.place_plan.proofs.Entries.{of_kind}
 use Rattle.journal_laws.proofs.Makers.{maker_role}
 
@@ -100,6 +101,11 @@ place_known plan p t m = in_table plan.places p m
     in_table [] p m = absurd (false≢true m)
     in_table (row ∷ rows) zero m = omega arith
     in_table (row ∷ rows) (suc p) m = let more = in_table rows p m in omega arith
+
+-- the verdict that is due in a hot place: from a handler, or from a role without one
+abbrev pub recovery_verdict : Plan → List Entry → ℕ → ℕ → Option Verdict
+recovery_verdict plan past p t =
+    cond (has_handled past p t) (cond (is_handling past p t) (handler_verdict plan past p t) None) (cond (has_given plan past p t) None (unhandled_verdict plan p t (exception_resolved past p)))
 
 one_or_none : (P : ℕ → Type 0) (b : Bool) (x : ℕ) → (b ≡ true → P x) → All P (cond b (x ∷ []) [])
 one_or_none P true x h = All-cons P x [] (h refl) (All-nil P)
@@ -235,7 +241,7 @@ module _ (plan : Plan) (playable : IsPlayable plan) where
   handler_in_range past p t v h =
       elim (chosen (breaks_off plan past p t) (Some verdict.Undo) (final_verdict plan past p t) (Some v) h) [ inl z ↦ undo_in_range _ v z.1 | inr z ↦ final_in_range past p t v z.1 ]
 
-  hot_in_range : (past : List Entry) (p t : ℕ) (v : Verdict) → cond (has_handled past p t) (cond (is_handling past p t) (handler_verdict plan past p t) None) (cond (has_given plan past p t) None (unhandled_verdict plan p t (exception_resolved past p))) ≡ Some v → verdict_in_range (interface_of plan p).count v ≡ true
+  hot_in_range : (past : List Entry) (p t : ℕ) (v : Verdict) → recovery_verdict plan past p t ≡ Some v → verdict_in_range (interface_of plan p).count v ≡ true
   hot_in_range past p t v h =
       elim (chosen (has_handled past p t) _ _ (Some v) h) [
         | inl a ↦ elim (chosen (is_handling past p t) (handler_verdict plan past p t) None (Some v) a.1) [ inl b ↦ handler_in_range past p t v b.1 | inr b ↦ absurd cc ]

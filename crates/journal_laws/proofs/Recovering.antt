@@ -1,24 +1,24 @@
 -- What the core says of one role in a place that is calm or hot: whether it is halted, in its handler, or has given its verdict.
-use Rattle.std.proofs.Common.{◌≡◌, ℕ, Bool, true, false, not, cond, ◌&&◌, ◌||◌, List, Some, None, Option, refl, sym, ◌∙◌, subst, inl, inr, is_none}
-use Rattle.std.proofs.lemmas.Bool.{and_parts, or_cases, not-true, not-false, false≢true, false_from_ne_true, both_ways, cases_Bool, cond-true}
+use Rattle.std.proofs.Common.{◌≡◌, ℕ, true, false, not, List, Some, refl, sym, ◌∙◌, subst, inl, inr, is_none}
+use Rattle.std.proofs.lemmas.Bool.{and_parts, not-true, false_from_ne_true, both_ways, cases_Bool, cond-true}
 use Rattle.caa_base.specs.declared.entry.Entry.{Entry}
 use Rattle.caa_base.specs.declared.entry.Kind.TheVariants as kind
 use Rattle.place_plan.specs.PlanValue.{Plan}
-use Rattle.place_plan.specs.Words.{member}
+use Rattle.caa_base.specs.Lists.{member}
 use Rattle.place_plan.specs.Places.{roles_of, handler_of}
 use Rattle.place_plan.specs.Entries.{is_in, is_by}
-use Rattle.place_plan.specs.Whereabouts.{inside, has_started, has_ended, is_undoing}
-use Rattle.place_plan.specs.Raising.{has_handled, is_raised, is_doomed, is_calm, is_hot, is_halted, all_are_halted, exception_resolved}
-use Rattle.place_plan.specs.Roles.{has_given_after, has_given, all_have_given, is_handling, was_refused_in_handler, is_in_handler, is_able, has_aborted, all_have_aborted}
+use Rattle.place_plan.specs.Whereabouts.{inside}
+use Rattle.place_plan.specs.Raising.{has_handled, is_raised, is_doomed, is_halted, exception_resolved}
+use Rattle.place_plan.specs.Roles.{has_given_after, has_given, all_have_given, is_handling, was_refused_in_handler, is_in_handler, has_aborted, all_have_aborted}
 use Rattle.place_plan.specs.Journals.{LegalPast}
 use Rattle.journal_laws.specs.Laws.{Holds}
-use Rattle.journal_laws.specs.Due.{due_of, due_inside, due_calm, due_hot, due_halted, due_resolved, due_agreed}
+use Rattle.journal_laws.specs.Due.{due_of, due_calm, due_hot, due_resolved, due_agreed}
 use Rattle.journal_laws.proofs.Playable.{IsPlayable}
 use Rattle.journal_laws.proofs.Core.{Core}
-use Rattle.place_plan.proofs.Words.{all_at}
+use Rattle.caa_base.proofs.ListLemmas.{all_at}
 use Rattle.journal_laws.proofs.Busy.{abort_doomed}
-use Rattle.journal_laws.proofs.Newest.{stands_newest, newest_none, handling_handled, given_resolved}
-use Rattle.journal_laws.proofs.Phases.{IsOpen, calm_open, hot_open}
+use Rattle.journal_laws.proofs.Newest.{stands_newest, handling_handled, given_resolved}
+use Rattle.journal_laws.proofs.Phases.{IsOpen}
 use Rattle.journal_laws.proofs.Options.{some_same}
 use Rattle.journal_laws.proofs.Raised.{role_inside}
 

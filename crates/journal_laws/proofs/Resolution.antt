@@ -1,24 +1,23 @@
 -- Resolution law: what is handled is the least cover of all that is raised, and each role of a place that ended without aborts answered.
-use Rattle.std.proofs.Common.{◌≡◌, ℕ, ◌==◌, Bool, true, false, cond, ◌&&◌, ◌||◌, ◌⊎◌, List, [], ◌∷◌, ◌++◌, Some, None, Option, refl, sym, ◌∙◌, subst, inl, inr, is_none}
+use Rattle.std.proofs.Common.{◌≡◌, ℕ, ◌==◌, Bool, true, false, cond, ◌&&◌, ◌||◌, List, [], ◌∷◌, ◌++◌, Some, None, refl, sym, ◌∙◌, subst, inl, inr, is_none}
 use Rattle.std.specs.List.{list_any}
-use Rattle.std.proofs.lemmas.Bool.{and_from, or_cases, or_left, or_right, eqb-true, eq-eqb, false≢true, cases_Bool, false_from_ne_true, both_ways}
-use Rattle.cover_table.specs.Cover.{IsLeastCover}
+use Rattle.std.proofs.lemmas.Bool.{and_from, or_left, eqb-true, eq-eqb, cases_Bool, false_from_ne_true, both_ways}
 use Rattle.caa_base.specs.declared.entry.Entry.{Entry}
 use Rattle.caa_base.specs.declared.entry.Kind.{Kind}
 use Rattle.caa_base.specs.declared.entry.Kind.TheVariants as kind
 use Rattle.place_plan.specs.PlanValue.{Plan}
-use Rattle.place_plan.specs.Words.{member}
-use Rattle.place_plan.specs.Places.{roles_of, internal_of, handler_of}
-use Rattle.place_plan.specs.Entries.{is_in, is_by, has, has_by}
+use Rattle.caa_base.specs.Lists.{member}
+use Rattle.place_plan.specs.Places.{roles_of, handler_of}
+use Rattle.place_plan.specs.Entries.{is_in, is_by, has}
 use Rattle.place_plan.specs.Whereabouts.{has_ended}
-use Rattle.place_plan.specs.Raising.{exceptions_raised, is_raised, newest_arg, exception_resolved, exception_handled, has_handled}
-use Rattle.place_plan.specs.Roles.{has_given_after, has_given, all_have_given, has_aborted, all_have_aborted}
-use Rattle.place_plan.specs.Rules.{Row, MayFollow}
+use Rattle.place_plan.specs.Raising.{is_raised, newest_arg, exception_resolved, exception_handled, has_handled}
+use Rattle.place_plan.specs.Roles.{has_given_after, has_given, all_have_given, has_aborted}
+use Rattle.place_plan.specs.Rules.{Row}
 use Rattle.place_plan.specs.Journals.{LegalPast}
 use Rattle.journal_laws.specs.Laws.{Holds, Splits, HandlesLeast, Answered, IsAnswered, ResolutionLaw}
 use Rattle.journal_laws.proofs.Playable.{IsPlayable}
 use Rattle.journal_laws.proofs.Core.{Core}
-use Rattle.place_plan.proofs.Words.{all_at}
+use Rattle.caa_base.proofs.ListLemmas.{all_at}
 use Rattle.place_plan.proofs.Entries.{of_kind}
 use Rattle.journal_laws.proofs.InnerFirst.{legal_rest, started_filled}
 use Rattle.journal_laws.proofs.Holding.{ended_started}
@@ -53,8 +52,8 @@ module _ (plan : Plan) (playable : IsPlayable plan) (core : Holds Core plan) whe
   -- ---- what is handled
 
   -- who handles in p handles what p is resolved to at last
-  handled_resolved : (past later before : List Entry) (e : Entry) (p : ℕ) → LegalPast plan past → Splits past later e before → is_in kind.Handle p e ≡ true → exception_resolved past p ≡ Some e.arg
-  handled_resolved past later before e p legal split own =
+  handled_last : (past later before : List Entry) (e : Entry) (p : ℕ) → LegalPast plan past → Splits past later e before → is_in kind.Handle p e ≡ true → exception_resolved past p ≡ Some e.arg
+  handled_last past later before e p legal split own =
       let whole : LegalPast plan (later ++ e ∷ before) = subst (LegalPast plan) split legal in
       let rest = legal_rest plan later (e ∷ before) whole in
       let made : is_by kind.Handle p e.by e ≡ true = and_from (is_in kind.Handle p e) _ own (eq-eqb e.by e.by refl) in
@@ -63,8 +62,8 @@ module _ (plan : Plan) (playable : IsPlayable plan) (core : Holds Core plan) whe
 
   handles_least : (past : List Entry) (p : ℕ) → LegalPast plan past → HandlesLeast plan past p
   handles_least past p legal = record {
-    least = λ later before e split own. ((core past legal).raises.resolves p e.arg (handled_resolved past later before e p legal split own)).2;
-    one = λ later before later' before' e f split split' own own'. some_same ((sym (handled_resolved past later before e p legal split own)) ∙ handled_resolved past later' before' f p legal split' own');
+    least = λ later before e split own. ((core past legal).raises.resolves p e.arg (handled_last past later before e p legal split own)).2;
+    one = λ later before later' before' e f split split' own own'. some_same ((sym (handled_last past later before e p legal split own)) ∙ handled_last past later' before' f p legal split' own');
   }
 
   -- ---- what is answered

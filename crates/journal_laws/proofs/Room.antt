@@ -6,7 +6,7 @@ use Rattle.caa_base.specs.declared.entry.Entry.{Entry}
 use Rattle.caa_base.specs.declared.entry.Kind.TheVariants as kind
 use Rattle.place_plan.specs.declared.rows.Step.TheVariants as step
 use Rattle.place_plan.specs.PlanValue.{Plan}
-use Rattle.place_plan.specs.Words.{is_empty, first_of, next_after, last_or, last_of, Rises}
+use Rattle.caa_base.specs.Lists.{is_empty, first_of, next_after, last_or, last_of, Rises}
 use Rattle.place_plan.specs.Places.{parent, alternates_of, nest_number, next_in, next_alternate}
 use Rattle.place_plan.specs.Entries.{has_by, is_in, newest}
 use Rattle.place_plan.specs.Whereabouts.{inside, has_ended, is_undone, is_left_in_silence}
@@ -15,7 +15,7 @@ use Rattle.place_plan.specs.Roles.{position, next_step}
 use Rattle.place_plan.specs.Rules.{place_entered}
 use Rattle.place_plan.specs.Journals.{LegalPast}
 use Rattle.journal_laws.proofs.Playable.{IsPlayable}
-use Rattle.place_plan.proofs.Words.{first_not_none, last_member, member_above}
+use Rattle.caa_base.proofs.ListLemmas.{first_not_none, last_member, member_above}
 use Rattle.journal_laws.proofs.Arrivals.{left_arrived, left_ended, settled}
 use Rattle.journal_laws.proofs.Uses.{AtStep, body_step, calm_unhandled, not_passed, uses_kept}
 

@@ -1,31 +1,29 @@
 -- What the roles have said: in their handlers, without one, before an undo and before an end.
-use Rattle.std.proofs.Common.{◌≡◌, ℕ, ◌==◌, Bool, true, false, not, cond, ◌&&◌, ◌||◌, ◌⊎◌, List, [], ◌∷◌, Some, None, Option, refl, sym, ap, ◌∙◌, subst, inl, inr, MatchBool, MatchOption, is_none}
-use Rattle.std.specs.List.{list_any}
-use Rattle.std.proofs.lemmas.Bool.{and_from, and_parts, and_left, and_right, or_cases, or_left, or_right, or_parts, eqb-true, eq-eqb, false≢true, not_from_true, cases_Bool, false_from_ne_true, both_ways}
+use Rattle.std.proofs.Common.{◌≡◌, ℕ, ◌==◌, Bool, true, false, not, cond, ◌&&◌, ◌⊎◌, List, [], ◌∷◌, Some, None, refl, sym, ap, ◌∙◌, subst, inl, inr, MatchBool, MatchOption, is_none}
+use Rattle.std.proofs.lemmas.Bool.{and_from, and_left, and_right, or_cases, or_left, or_right, or_parts, eqb-true, eq-eqb, false≢true, not_from_true, cases_Bool, false_from_ne_true, both_ways}
 use Rattle.caa_base.specs.declared.entry.Entry.{Entry}
 use Rattle.caa_base.specs.declared.entry.Kind.{Kind}
 use Rattle.caa_base.specs.declared.entry.Kind.TheVariants as kind
-use Rattle.caa_base.specs.declared.entry.Verdict.{Verdict}
 use Rattle.caa_base.specs.declared.entry.Verdict.TheVariants as verdict
 use Rattle.place_plan.specs.PlanValue.{Plan}
-use Rattle.place_plan.specs.Places.{roles_of, handler_of}
+use Rattle.place_plan.specs.Places.{handler_of}
 use Rattle.place_plan.specs.Entries.{is_in, is_by, has, has_by}
 use Rattle.place_plan.specs.Whereabouts.{has_started, has_ended, is_undoing, is_live, is_going}
-use Rattle.place_plan.specs.Raising.{has_handled, is_raised, is_doomed, is_calm, is_hot, exception_resolved}
+use Rattle.place_plan.specs.Raising.{has_handled, is_raised, is_doomed, is_hot, exception_resolved}
 use Rattle.place_plan.specs.Roles.{has_given_after, has_given, all_have_given, is_handling, wants_undo, all_have_aborted}
-use Rattle.place_plan.specs.Rules.{Row, MayFollow, SaysVerdict, verdict_due, unhandled_verdict, AskForUndo, EndsUndone, EndsAgreed}
+use Rattle.place_plan.specs.Rules.{Row, MayFollow, SaysVerdict, verdict_due, AskForUndo, EndsUndone, EndsAgreed}
 use Rattle.place_plan.specs.Journals.{LegalPast}
 use Rattle.journal_laws.specs.Laws.{AskedForUndo}
 use Rattle.journal_laws.proofs.Playable.{IsTree}
 use Rattle.journal_laws.proofs.Core.{Raises}
 use Rattle.place_plan.proofs.Entries.{of_kind, both_same}
-use Rattle.place_plan.proofs.Words.{chosen}
+use Rattle.caa_base.proofs.ListLemmas.{chosen}
 use Rattle.journal_laws.proofs.Busy.{abort_doomed}
-use Rattle.journal_laws.proofs.Newest.{newest_stands, stands_newest, given_resolved}
+use Rattle.journal_laws.proofs.Newest.{newest_stands, stands_newest}
 use Rattle.journal_laws.proofs.Phases.{not_calm}
 use Rattle.journal_laws.proofs.Options.{some_apart, some_same}
 use Rattle.journal_laws.proofs.Raised.{raises}
-use Rattle.journal_laws.proofs.Frozen.{IsFrozen, frozen, frozen_given, frozen_wants, unaborted, no_abort, stopped_shut}
+use Rattle.journal_laws.proofs.Frozen.{frozen, frozen_given, frozen_wants, unaborted, no_abort, stopped_shut}
 
 -- ---- verdicts
 
@@ -98,11 +96,11 @@ module _ (plan : Plan) (tree : IsTree plan) where
             let same = both_same e.place p e.by t y in
             let fresh : has_handled past p t ≡ false = subst (λ a. has_handled past p a ≡ false) same.1 (subst (λ a. has_handled past a e.by ≡ false) same.0 h.fresh) in
             rw y (false_from_ne_true _ (λ g.
-                let n = said_other past legal p t g fresh in
-                let resolution : exception_resolved past p ≡ Some e.arg = subst (λ a. exception_resolved past a ≡ Some e.arg) same.0 h.resolution in
-                let one : n.0 ≡ e.arg = some_same ((sym n.1) ∙ resolution) in
-                let none : is_none (handler_of plan e.place e.by e.arg) ≡ true = rw (same.0, same.1, ← one) n.2 in
-                both_ways _ h.able_to none))
+            let n = said_other past legal p t g fresh in
+            let resolution : exception_resolved past p ≡ Some e.arg = subst (λ a. exception_resolved past a ≡ Some e.arg) same.0 h.resolution in
+            let one : n.0 ≡ e.arg = some_same ((sym n.1) ∙ resolution) in
+            let none : is_none (handler_of plan e.place e.by e.arg) ≡ true = rw (same.0, same.1, ← one) n.2 in
+            both_ways _ h.able_to none))
         | inr y ↦ rw y (ih (rest y w))
       ]
     where
@@ -118,8 +116,8 @@ module _ (plan : Plan) (tree : IsTree plan) where
   handler_by past kind.Resolve e p t legal core ih h w =
       let some = stands_newest (is_by kind.Handle p t) past w in
       let apart : (e.place == p) ≡ false = false_from_ne_true _ (λ y.
-          let fresh : exception_resolved past p ≡ None = subst (λ a. exception_resolved past a ≡ None) (eqb-true e.place p y) h.fresh in
-          some_apart ((sym fresh) ∙ (core.handles p t some.0 some.1).0)) in
+      let fresh : exception_resolved past p ≡ None = subst (λ a. exception_resolved past a ≡ None) (eqb-true e.place p y) h.fresh in
+      some_apart ((sym fresh) ∙ (core.handles p t some.0 some.1).0)) in
       rw apart (ih w)
   handler_by past _ e p t legal core ih h w = ih w
 

@@ -13,7 +13,7 @@ use Rattle.place_plan.specs.Rules.{Row, MayFollow}
 use Rattle.place_plan.specs.Journals.{LegalPast}
 use Rattle.journal_laws.proofs.Playable.{IsTree}
 use Rattle.place_plan.proofs.Entries.{of_kind}
-use Rattle.journal_laws.proofs.Kept.{live_parts}
+use Rattle.journal_laws.proofs.Lives.{live_parts}
 use Rattle.journal_laws.proofs.Holding.{end_live}
 
 -- where no entry passes a test, none is the newest that does

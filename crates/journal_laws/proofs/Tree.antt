@@ -7,7 +7,7 @@ use Rattle.caa_base.specs.declared.entry.Kind.TheVariants as kind
 use Rattle.place_plan.specs.declared.rows.Step.{Step}
 use Rattle.place_plan.specs.declared.rows.Step.TheVariants as step
 use Rattle.place_plan.specs.PlanValue.{Plan}
-use Rattle.place_plan.specs.Words.{member}
+use Rattle.caa_base.specs.Lists.{member}
 use Rattle.place_plan.specs.Places.{around, parent, roles_of, is_within, alternates_of}
 use Rattle.place_plan.specs.Entries.{has_by}
 use Rattle.place_plan.specs.Whereabouts.{inside, all_are_inside, is_inside, has_started, has_ended}
@@ -16,7 +16,7 @@ use Rattle.place_plan.specs.Roles.{is_able, position, program_in, next_step}
 use Rattle.place_plan.specs.Rules.{Row, MayArrive, place_entered, arrival}
 use Rattle.place_plan.specs.Journals.{LegalPast}
 use Rattle.journal_laws.proofs.Playable.{IsTree, LeadsInside}
-use Rattle.place_plan.proofs.Words.{all_at, at_same, chosen, first_not_fails}
+use Rattle.caa_base.proofs.ListLemmas.{all_at, at_same, chosen, first_not_fails}
 use Rattle.place_plan.proofs.Entries.{of_kind}
 
 -- the place that t is in is p, or inside it

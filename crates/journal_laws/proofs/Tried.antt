@@ -1,7 +1,7 @@
 -- Which restores were tried: none before the Undo of its place, and each object of a place at most once.
 use Rattle.std.proofs.Common.{◌≡◌, ℕ, ◌==◌, ◌+◌, Bool, true, false, cond, ◌&&◌, ◌||◌, List, [], ◌∷◌, refl, subst, subst₂, arith, inl, inr, count_by}
 use Rattle.std.proofs.lemmas.List.Sums.{sum_by-cons}
-use Rattle.std.proofs.lemmas.Bool.{and_right, and_parts, or_cases, or_right, or_parts, eqb-true, false≢true}
+use Rattle.std.proofs.lemmas.Bool.{or_cases, or_right, or_parts, eqb-true, false≢true}
 use Rattle.caa_base.specs.declared.entry.Entry.{Entry}
 use Rattle.caa_base.specs.declared.entry.Kind.{Kind}
 use Rattle.caa_base.specs.declared.entry.Kind.TheVariants as kind
@@ -14,7 +14,7 @@ use Rattle.place_plan.specs.Rules.{Row}
 use Rattle.place_plan.specs.Journals.{LegalPast}
 use Rattle.journal_laws.specs.Laws.{Holds, is_restore}
 use Rattle.journal_laws.proofs.Core.{Tries}
-use Rattle.place_plan.proofs.Words.{first_not_fails}
+use Rattle.caa_base.proofs.ListLemmas.{first_not_fails}
 use Rattle.place_plan.proofs.Entries.{of_kind, both_same}
 
 -- ---- counts

@@ -8,18 +8,18 @@ use Rattle.caa_base.specs.declared.entry.Kind.TheVariants as kind
 use Rattle.place_plan.specs.declared.rows.Step.{Step}
 use Rattle.place_plan.specs.declared.rows.Step.TheVariants as step
 use Rattle.place_plan.specs.PlanValue.{Plan}
-use Rattle.place_plan.specs.Words.{member, is_at}
+use Rattle.caa_base.specs.Lists.{member, is_at}
 use Rattle.place_plan.specs.Places.{parent, alternates_of, nest_number, body_of}
 use Rattle.place_plan.specs.Entries.{is_by, has_by}
 use Rattle.place_plan.specs.Whereabouts.{inside, is_left_in_silence}
 use Rattle.place_plan.specs.Raising.{has_handled, is_calm}
-use Rattle.place_plan.specs.Roles.{program_in, program_of, position, next_step}
+use Rattle.place_plan.specs.Roles.{advances, program_in, program_of, position, next_step}
 use Rattle.place_plan.specs.Rules.{Row, MayArrive, put_of, is_check}
 use Rattle.place_plan.specs.Journals.{LegalPast}
 use Rattle.journal_laws.specs.Laws.{Holds}
 use Rattle.journal_laws.proofs.Playable.{IsPlayable}
 use Rattle.journal_laws.proofs.Core.{PassedEnter}
-use Rattle.place_plan.proofs.Words.{at_same, same_at, first_not_fails, first_not_before}
+use Rattle.caa_base.proofs.ListLemmas.{at_same, same_at, first_not_fails, first_not_before}
 use Rattle.place_plan.proofs.Entries.{of_kind, both_same, from_both}
 use Rattle.journal_laws.proofs.Newest.{newest_none}
 use Rattle.journal_laws.proofs.Phases.{calm_open}
@@ -58,13 +58,13 @@ check_stays (Some (step.Raise a)) h = refl
 pub body_step : (plan : Plan) (past : List Entry) (p t : ℕ) → has_handled past p t ≡ false → next_step plan past p t ≡ slice_get (body_of plan p t).steps (position plan past p t)
 body_step plan past p t h = ap (λ o. slice_get (program_in plan p t o).steps (position plan past p t)) (newest_none (is_by kind.Handle p t) past h)
 
--- ---- what is kept of uses
+-- who leaves a place right inside p with a step goes out of it aloud
+pub steps_out : (plan : Plan) (past : List Entry) (e : Entry) (p : ℕ) → advances plan past p e kind.Leave ≡ true → (parent plan e.place ≡ Some p) × (is_left_in_silence plan past e.place ≡ false)
+steps_out plan past e p h =
+    let parts = and_parts (is_at (parent plan e.place) p) (not (is_left_in_silence plan past e.place)) h in
+    (at_same _ p parts.0, not-true _ parts.1)
 
--- the three that are proved together: see the record of visits
-pub record Uses (plan : Plan) (past : List Entry) : Type 0 where
-  pub at_step : (p c t : ℕ) → parent plan c ≡ Some p → has_by kind.Arrive past c t ≡ true → has_handled past p t ≡ false → ((has_by kind.Leave past c t ≡ true) × PassedEnter plan p t (nest_number plan c) (position plan past p t)) ⊎ ((next_step plan past p t ≡ Some (step.Enter (nest_number plan c))) × (has_by kind.Leave past c t ≡ true → is_left_in_silence plan past c ≡ true))
-  pub turn : (p c d t : ℕ) → parent plan c ≡ Some p → parent plan d ≡ Some p → nest_number plan c ≡ nest_number plan d → c < d → has_by kind.Arrive past d t ≡ true → (has_by kind.Leave past c t ≡ true) × (is_left_in_silence plan past c ≡ true)
-  pub passed : (p t n k : ℕ) → has_handled past p t ≡ false → n < position plan past p t → slice_get (body_of plan p t).steps n ≡ Some (step.Enter k) → (c : ℕ) × (member c (alternates_of plan p k) ≡ true) × (has_by kind.Leave past c t ≡ true) × (is_left_in_silence plan past c ≡ false)
+-- ---- what is kept of uses
 
 -- t has left the place and passed the enter step of its use, or is at that step; if it has left, then in silence
 abbrev pub AtStep : Plan → List Entry → ℕ → ℕ → ℕ → Type 0
@@ -73,6 +73,12 @@ AtStep plan past p c t = ((has_by kind.Leave past c t ≡ true) × PassedEnter p
 -- t has left an alternate of the use aloud
 abbrev pub LeftAloud : Plan → List Entry → ℕ → ℕ → ℕ → Type 0
 LeftAloud plan past p t k = (c : ℕ) × (member c (alternates_of plan p k) ≡ true) × (has_by kind.Leave past c t ≡ true) × (is_left_in_silence plan past c ≡ false)
+
+-- three facts of visits, which are proved together
+pub record Uses (plan : Plan) (past : List Entry) : Type 0 where
+  pub at_step : (p c t : ℕ) → parent plan c ≡ Some p → has_by kind.Arrive past c t ≡ true → has_handled past p t ≡ false → AtStep plan past p c t
+  pub turn : (p c d t : ℕ) → parent plan c ≡ Some p → parent plan d ≡ Some p → nest_number plan c ≡ nest_number plan d → c < d → has_by kind.Arrive past d t ≡ true → (has_by kind.Leave past c t ≡ true) × (is_left_in_silence plan past c ≡ true)
+  pub passed : (p t n k : ℕ) → has_handled past p t ≡ false → n < position plan past p t → slice_get (body_of plan p t).steps n ≡ Some (step.Enter k) → LeftAloud plan past p t k
 
 module _ (plan : Plan) (playable : IsPlayable plan) where
   -- ---- in the turn of its use
@@ -165,7 +171,7 @@ module _ (plan : Plan) (playable : IsPlayable plan) where
           absurd (false≢true (subst (λ s. enters_nowhere s ≡ true) next stays))
 
   -- a leave that is no step of t in p is one out of another place, or in silence
-  left_still : (past : List Entry) (e : Entry) (p c t : ℕ) → LegalPast plan past → inside plan past e.by ≡ Some e.place → parent plan c ≡ Some p → ((is_at (parent plan e.place) p && not (is_left_in_silence plan past e.place)) && (e.by == t)) ≡ false → AtStep plan past p c t → AtPosition past p c t (position plan past p t) (((e.place == c) && (e.by == t)) || has_by kind.Leave past c t) (is_left_in_silence plan past c)
+  left_still : (past : List Entry) (e : Entry) (p c t : ℕ) → LegalPast plan past → inside plan past e.by ≡ Some e.place → parent plan c ≡ Some p → (advances plan past p e kind.Leave && (e.by == t)) ≡ false → AtStep plan past p c t → AtPosition past p c t (position plan past p t) (((e.place == c) && (e.by == t)) || has_by kind.Leave past c t) (is_left_in_silence plan past c)
   left_still past e p c t legal here up still kept = elim (cases_Bool ((e.place == c) && (e.by == t))) [
     | inl x ↦ rw x (own kept (both_same e.place c e.by t x))
     | inr x ↦ rw x kept
@@ -205,16 +211,16 @@ module _ (plan : Plan) (playable : IsPlayable plan) where
             | inr (inr above) ↦ absurd (not_left (kept.turn p e.place c t up_d up_c (sym one) above came).0)
           ]
 
-  at_step_leaves : (past : List Entry) (e : Entry) (p c t : ℕ) → LegalPast plan past → Uses plan past → inside plan past e.by ≡ Some e.place → parent plan c ≡ Some p → has_by kind.Arrive past c t ≡ true → has_handled past p t ≡ false → AtPosition past p c t (cond ((is_at (parent plan e.place) p && not (is_left_in_silence plan past e.place)) && (e.by == t)) (suc (position plan past p t)) (position plan past p t)) (((e.place == c) && (e.by == t)) || has_by kind.Leave past c t) (is_left_in_silence plan past c)
-  at_step_leaves past e p c t legal kept here up came unhandled = elim (cases_Bool ((is_at (parent plan e.place) p && not (is_left_in_silence plan past e.place)) && (e.by == t))) [
+  at_step_leaves : (past : List Entry) (e : Entry) (p c t : ℕ) → LegalPast plan past → Uses plan past → inside plan past e.by ≡ Some e.place → parent plan c ≡ Some p → has_by kind.Arrive past c t ≡ true → has_handled past p t ≡ false → AtPosition past p c t (cond (advances plan past p e kind.Leave && (e.by == t)) (suc (position plan past p t)) (position plan past p t)) (((e.place == c) && (e.by == t)) || has_by kind.Leave past c t) (is_left_in_silence plan past c)
+  at_step_leaves past e p c t legal kept here up came unhandled = elim (cases_Bool (advances plan past p e kind.Leave && (e.by == t))) [
     | inl x ↦ rw x (aloud x)
     | inr x ↦ rw x (left_still past e p c t legal here up x (kept.at_step p c t up came unhandled))
   ]
     where
-      aloud : ((is_at (parent plan e.place) p && not (is_left_in_silence plan past e.place)) && (e.by == t)) ≡ true → AtPosition past p c t (suc (position plan past p t)) (((e.place == c) && (e.by == t)) || has_by kind.Leave past c t) (is_left_in_silence plan past c)
+      aloud : (advances plan past p e kind.Leave && (e.by == t)) ≡ true → AtPosition past p c t (suc (position plan past p t)) (((e.place == c) && (e.by == t)) || has_by kind.Leave past c t) (is_left_in_silence plan past c)
       aloud x =
-          let parts = and_parts (is_at (parent plan e.place) p && not (is_left_in_silence plan past e.place)) (e.by == t) x in
-          let out : parent plan e.place ≡ Some p = at_same _ p (and_parts (is_at (parent plan e.place) p) (not (is_left_in_silence plan past e.place)) parts.0).0 in
+          let parts = and_parts (advances plan past p e kind.Leave) (e.by == t) x in
+          let out = (steps_out plan past e p parts.0).0 in
           let own : e.by ≡ t = eqb-true e.by t parts.1 in
           let there : inside plan past t ≡ Some e.place = subst (λ a. inside plan past a ≡ Some e.place) own here in
           elim (cases_Bool (e.place == c)) [
@@ -267,8 +273,8 @@ module _ (plan : Plan) (playable : IsPlayable plan) where
     | inr x ↦ kept.passed p t n k w (rw x at below) entered
   ]
 
-  passed_leaves : (past : List Entry) (e : Entry) (p t n k : ℕ) → LegalPast plan past → Uses plan past → inside plan past e.by ≡ Some e.place → has_handled past p t ≡ false → n < cond ((is_at (parent plan e.place) p && not (is_left_in_silence plan past e.place)) && (e.by == t)) (suc (position plan past p t)) (position plan past p t) → slice_get (body_of plan p t).steps n ≡ Some (step.Enter k) → LeftAloud plan (of_kind kind.Leave e ∷ past) p t k
-  passed_leaves past e p t n k legal kept here w below entered = elim (cases_Bool ((is_at (parent plan e.place) p && not (is_left_in_silence plan past e.place)) && (e.by == t))) [
+  passed_leaves : (past : List Entry) (e : Entry) (p t n k : ℕ) → LegalPast plan past → Uses plan past → inside plan past e.by ≡ Some e.place → has_handled past p t ≡ false → n < cond (advances plan past p e kind.Leave && (e.by == t)) (suc (position plan past p t)) (position plan past p t) → slice_get (body_of plan p t).steps n ≡ Some (step.Enter k) → LeftAloud plan (of_kind kind.Leave e ∷ past) p t k
+  passed_leaves past e p t n k legal kept here w below entered = elim (cases_Bool (advances plan past p e kind.Leave && (e.by == t))) [
     | inl x ↦ elim (below_next n (position plan past p t) (rw x at below)) [
       | inl l ↦ older (kept.passed p t n k w l entered)
       | inr l ↦ newest_left l x
@@ -279,13 +285,13 @@ module _ (plan : Plan) (playable : IsPlayable plan) where
       older : LeftAloud plan past p t k → LeftAloud plan (of_kind kind.Leave e ∷ past) p t k
       older (c, m, l, s) = (c, m, or_right _ _ l, s)
 
-      newest_left : n ≡ position plan past p t → ((is_at (parent plan e.place) p && not (is_left_in_silence plan past e.place)) && (e.by == t)) ≡ true → LeftAloud plan (of_kind kind.Leave e ∷ past) p t k
+      newest_left : n ≡ position plan past p t → (advances plan past p e kind.Leave && (e.by == t)) ≡ true → LeftAloud plan (of_kind kind.Leave e ∷ past) p t k
       newest_left l x =
-          let parts = and_parts (is_at (parent plan e.place) p && not (is_left_in_silence plan past e.place)) (e.by == t) x in
-          let aloud = and_parts (is_at (parent plan e.place) p) (not (is_left_in_silence plan past e.place)) parts.0 in
-          let out : parent plan e.place ≡ Some p = at_same _ p aloud.0 in
+          let parts = and_parts (advances plan past p e kind.Leave) (e.by == t) x in
+          let aloud = steps_out plan past e p parts.0 in
+          let out = aloud.0 in
           let there : inside plan past t ≡ Some e.place = subst (λ a. inside plan past a ≡ Some e.place) (eqb-true e.by t parts.1) here in
-          (e.place, subst (λ a. member e.place (alternates_of plan p a) ≡ true) (its_use there (kept.at_step p e.place t out (inside_arrived plan playable.tree past legal e.place t there) w)) (playable.back p e.place out), or_left _ _ (from_both e.place e.place e.by t refl (eqb-true e.by t parts.1)), not-true _ aloud.1)
+          (e.place, subst (λ a. member e.place (alternates_of plan p a) ≡ true) (its_use there (kept.at_step p e.place t out (inside_arrived plan playable.tree past legal e.place t there) w)) (playable.back p e.place out), or_left _ _ (from_both e.place e.place e.by t refl (eqb-true e.by t parts.1)), aloud.1)
         where
           its_use : inside plan past t ≡ Some e.place → AtStep plan past p e.place t → nest_number plan e.place ≡ k
           its_use there (inl y) = absurd (both_ways _ (inside_not_left plan playable.tree past legal e.place t there) y.0)

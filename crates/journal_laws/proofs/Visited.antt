@@ -7,18 +7,19 @@ use Rattle.caa_base.specs.declared.entry.Kind.TheVariants as kind
 use Rattle.caa_base.specs.declared.entry.Verdict.{Verdict}
 use Rattle.place_plan.specs.declared.rows.Step.{Step}
 use Rattle.place_plan.specs.PlanValue.{Plan}
-use Rattle.place_plan.specs.Words.{member, is_at}
-use Rattle.place_plan.specs.Places.{around, parent, roles_of, plays_of}
+use Rattle.caa_base.specs.Lists.{member}
+use Rattle.place_plan.specs.Places.{around, roles_of, plays_of}
 use Rattle.place_plan.specs.Entries.{has_by}
-use Rattle.place_plan.specs.Whereabouts.{inside, is_left_in_silence}
+use Rattle.place_plan.specs.Whereabouts.{inside}
 use Rattle.place_plan.specs.Raising.{is_raised, is_calm, is_hot}
-use Rattle.place_plan.specs.Roles.{program_of, position, next_step, has_given, is_able, is_in_handler}
+use Rattle.place_plan.specs.Roles.{advances, program_of, position, next_step, has_given, is_able, is_in_handler}
 use Rattle.place_plan.specs.Rules.{Row, SaysVerdict, final_verdict, verdict_due}
 use Rattle.place_plan.specs.Journals.{LegalPast}
 use Rattle.journal_laws.specs.Laws.{Holds}
 use Rattle.journal_laws.proofs.Playable.{IsTree, IsPlayable}
 use Rattle.journal_laws.proofs.Core.{Visits}
-use Rattle.place_plan.proofs.Words.{at_same, first_not_before, plays_rise, in_plays}
+use Rattle.caa_base.proofs.ListLemmas.{first_not_before}
+use Rattle.place_plan.proofs.Plays.{plays_rise, in_plays}
 use Rattle.place_plan.proofs.Entries.{of_kind, both_same}
 use Rattle.journal_laws.proofs.Tree.{in_within, arrives_in}
 use Rattle.journal_laws.proofs.Busy.{raised_stays}
@@ -26,7 +27,7 @@ use Rattle.journal_laws.proofs.Phases.{not_hot}
 use Rattle.journal_laws.proofs.Raised.{busy_inside, parent_round}
 use Rattle.journal_laws.proofs.Innermost.{stays_within}
 use Rattle.journal_laws.proofs.Arrivals.{begins_play, whereabouts, came, gone, left, withdrew, whole}
-use Rattle.journal_laws.proofs.Uses.{uses_kept}
+use Rattle.journal_laws.proofs.Uses.{steps_out, uses_kept}
 
 -- ---- plays, one after another
 
@@ -117,11 +118,11 @@ module _ (plan : Plan) (tree : IsTree plan) where
   ]
 
   -- who comes back into p has given no verdict there
-  leaves_unsaid : (past : List Entry) (e : Entry) (p t : ℕ) → LegalPast plan past → IsDone plan past p t → inside plan past e.by ≡ Some e.place → is_raised plan past p ≡ false → has_by kind.Verdict past p t ≡ true → slice_get (program_of plan past p t).steps (cond ((is_at (parent plan e.place) p && not (is_left_in_silence plan past e.place)) && (e.by == t)) (suc (position plan past p t)) (position plan past p t)) ≡ None
-  leaves_unsaid past e p t legal ih here cool w = elim (cases_Bool ((is_at (parent plan e.place) p && not (is_left_in_silence plan past e.place)) && (e.by == t))) [
+  leaves_unsaid : (past : List Entry) (e : Entry) (p t : ℕ) → LegalPast plan past → IsDone plan past p t → inside plan past e.by ≡ Some e.place → is_raised plan past p ≡ false → has_by kind.Verdict past p t ≡ true → slice_get (program_of plan past p t).steps (cond (advances plan past p e kind.Leave && (e.by == t)) (suc (position plan past p t)) (position plan past p t)) ≡ None
+  leaves_unsaid past e p t legal ih here cool w = elim (cases_Bool (advances plan past p e kind.Leave && (e.by == t))) [
     | inl x ↦
-        let parts = and_parts (is_at (parent plan e.place) p && not (is_left_in_silence plan past e.place)) (e.by == t) x in
-        let out : parent plan e.place ≡ Some p = at_same _ p (and_parts (is_at (parent plan e.place) p) (not (is_left_in_silence plan past e.place)) parts.0).0 in
+        let parts = and_parts (advances plan past p e kind.Leave) (e.by == t) x in
+        let out = (steps_out plan past e p parts.0).0 in
         let there : inside plan past t ≡ Some e.place = subst (λ a. inside plan past a ≡ Some e.place) (eqb-true e.by t parts.1) here in
         absurd (both_ways _ (busy_inside plan tree past legal t p e.place there (parent_round plan tree e.place p out)).silent w)
     | inr x ↦ rw x (ih cool w)

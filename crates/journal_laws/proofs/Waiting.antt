@@ -4,7 +4,7 @@ use Rattle.std.proofs.lemmas.Bool.{and_parts, or_left, eq-eqb, cases_order, fals
 use Rattle.caa_base.specs.declared.entry.Entry.{Entry}
 use Rattle.caa_base.specs.declared.entry.Kind.TheVariants as kind
 use Rattle.place_plan.specs.PlanValue.{Plan}
-use Rattle.place_plan.specs.Words.{member, same_option, is_empty, first_of, first_not}
+use Rattle.caa_base.specs.Lists.{member, same_option, is_empty, first_of, first_not}
 use Rattle.place_plan.specs.Places.{around, parent, roles_of, objects_of, uses, plays_of}
 use Rattle.place_plan.specs.Entries.{has_by}
 use Rattle.place_plan.specs.Whereabouts.{inside, is_inside, all_are_inside, has_started, has_ended, is_live}
@@ -14,8 +14,9 @@ use Rattle.place_plan.specs.Roles.{next_play}
 use Rattle.place_plan.specs.Journals.{LegalPast, AllOver}
 use Rattle.journal_laws.specs.Due.{due_of, due_at, due_inside, due_arrival}
 use Rattle.journal_laws.proofs.Playable.{IsPlayable}
-use Rattle.place_plan.proofs.Words.{all_from, same_at, first_not_fails, first_not_none, first_not_before, in_plays}
-use Rattle.journal_laws.proofs.Kept.{live_from, going_live}
+use Rattle.caa_base.proofs.ListLemmas.{all_from, same_at, first_not_fails, first_not_none, first_not_before}
+use Rattle.place_plan.proofs.Plays.{in_plays}
+use Rattle.journal_laws.proofs.Lives.{live_from, going_live}
 use Rattle.journal_laws.proofs.Tree.{in_within}
 use Rattle.journal_laws.proofs.Innermost.{within_itself}
 use Rattle.journal_laws.proofs.Holding.{holds_within, ended_started}

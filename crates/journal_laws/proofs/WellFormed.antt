@@ -1,28 +1,27 @@
 -- Each entry of a legal journal of a playable plan is well formed.
-use Rattle.std.proofs.Common.{◌≡◌, ℕ, ℤ, pos, ◌==◌, ◌-◌, ◌<◌, ◌⊎◌, Bool, true, false, cond, ◌&&◌, ◌||◌, List, [], ◌∷◌, Option, Some, None, refl, sym, ap, ◌∙◌, subst, arith, inl, inr, length, get_or, reverse, MatchBool}
+use Rattle.std.proofs.Common.{◌≡◌, ℕ, pos, ◌-◌, ◌⊎◌, Bool, true, false, cond, List, [], ◌∷◌, Option, Some, None, refl, sym, subst, arith, inl, inr, length, get_or, reverse, MatchBool}
 use Rattle.std.specs.List.{All}
 use Rattle.std.proofs.lemmas.List.{reverse-reverse, length-reverse, get_or-reverse}
 use Rattle.std.proofs.lemmas.List.Elements.{All-nil, All-cons}
-use Rattle.std.proofs.lemmas.Bool.{and_parts, or_cases, eqb-true, ltb-true, leb-true, false≢true}
-use Rattle.cover_table.specs.Cover.{IsLeastCover}
+use Rattle.std.proofs.lemmas.Bool.{ltb-true, leb-true}
 use Rattle.caa_base.specs.declared.entry.Entry.{Entry}
 use Rattle.caa_base.specs.declared.entry.Kind.{Kind}
 use Rattle.caa_base.specs.declared.entry.Kind.TheVariants as kind
 use Rattle.place_plan.specs.declared.rows.Step.TheVariants as step
 use Rattle.place_plan.specs.PlanValue.{Plan}
-use Rattle.place_plan.specs.Words.{member}
 use Rattle.place_plan.specs.Places.{parent, roles_of, objects_of, uses, abort_row, internal_of, interface_of}
-use Rattle.place_plan.specs.Entries.{is_in, has}
-use Rattle.place_plan.specs.Whereabouts.{is_undoing, is_left_in_silence}
-use Rattle.place_plan.specs.Objects.{before_start, is_tried, has_failed}
+use Rattle.place_plan.specs.Entries.{is_in}
+use Rattle.place_plan.specs.Whereabouts.{is_undoing}
+use Rattle.place_plan.specs.Objects.{before_start, is_tried}
 use Rattle.place_plan.specs.Roles.{register, signals}
-use Rattle.place_plan.specs.Rules.{Row, MayFollow, MayEnd, MayLeave, EndsUndone, EndsAgreed, SignalsLeast, Names, abort_of, exception_carried}
+use Rattle.place_plan.specs.Rules.{Row, MayFollow, MayEnd, MayLeave, EndsUndone, EndsAgreed, SignalsLeast, abort_of, exception_carried}
 use Rattle.place_plan.specs.Journals.{LegalPast, IsLegal}
-use Rattle.place_plan.specs.WellFormed.{IsValue, FieldsFit, MayShowException, MayCarry, IsWellFormed, AllWellFormed}
+use Rattle.place_plan.specs.WellFormed.{FieldsFit, MayShowException, MayCarry, IsWellFormed, AllWellFormed}
+use Rattle.caa_base.specs.Limits.{IsValue}
 use Rattle.journal_laws.specs.Laws.{Holds}
 use Rattle.journal_laws.proofs.Playable.{IsPlayable}
 use Rattle.journal_laws.proofs.Core.{Core}
-use Rattle.place_plan.proofs.Words.{first_not_fails}
+use Rattle.caa_base.proofs.ListLemmas.{first_not_fails}
 use Rattle.place_plan.proofs.Entries.{of_kind}
 use Rattle.journal_laws.proofs.Outcome.{undone_marks, below_two}
 use Rattle.journal_laws.proofs.Makers.{maker_role}

@@ -11,7 +11,7 @@ use Rattle.caa_base.specs.declared.entry.Verdict.TheVariants as verdict
 use Rattle.place_plan.specs.declared.rows.Step.{Step}
 use Rattle.place_plan.specs.declared.rows.Step.TheVariants as step
 use Rattle.place_plan.specs.PlanValue.{Plan}
-use Rattle.place_plan.specs.Words.{first_not, same_option}
+use Rattle.caa_base.specs.Lists.{first_not, same_option}
 use Rattle.place_plan.specs.Places.{roles_of, internal_of, interface_of, handler_of, abort_row}
 use Rattle.place_plan.specs.Whereabouts.{inside, all_are_inside, has_started, has_ended, is_undoing}
 use Rattle.place_plan.specs.Raising.{has_handled, exceptions_raised, is_raised, is_doomed, is_halted, all_are_halted, exception_resolved}

@@ -2,9 +2,8 @@
 #![tactic(auto)]
 
 ghost use Rattle.journal_laws.specs.Laws.{Holds, AtMostOne, GoesOn, IsBounded, InsideIsInnermost, HolderIsInnermost, DeviceLaw, KeepsLaws};
-ghost use Rattle.journal_laws.specs.FlatDue.{DueIsRight};
+ghost use Rattle.journal_laws.specs.Due.{DueIsRight};
 ghost use Rattle.place_plan.specs.WellFormed.{AllWellFormed};
-ghost use Rattle.place_plan.specs.Flat.{StaysQuiet};
 
 use place_plan::plan::Plan;
 
@@ -68,13 +67,6 @@ pub fn last_put_is_value(plan: &Plan)
 /// The resolution, exit, outcome, effect, inner-first and isolation laws.
 pub fn keeps_laws(plan: &Plan)
     ensures { Holds KeepsLaws plan.now }
-{
-    plan.is_closed();
-}
-
-/// As long as roles only read and work, nothing is raised, undone or handled, and each object has its initial value.
-pub fn stays_quiet(plan: &Plan)
-    ensures { Holds StaysQuiet plan.now }
 {
     plan.is_closed();
 }

@@ -1,6 +1,6 @@
 -- Lemmas on looks in order.
 use Rattle.std.proofs.Common.{◌≡◌, ℕ, ◌<◌, ◌≤◌, ◌^◌, List, [], ◌∷◌, ◌++◌, arith}
-use Rattle.place_plan.specs.WellFormed.{IsValue}
+use Rattle.caa_base.specs.Limits.{IsValue}
 use Rattle.journal_text.specs.declared.seens.Seen.{Seen}
 use Rattle.journal_text.specs.Looks.{InOrderFrom, last_watch}
 

@@ -11,7 +11,7 @@ use Rattle.caa_base.specs.declared.entry.Entry.{Entry}
 use Rattle.caa_base.specs.declared.entry.Kind.{Kind}
 use Rattle.caa_base.specs.declared.entry.Kind.TheVariants as kind
 use Rattle.place_plan.specs.PlanValue.{Plan}
-use Rattle.place_plan.specs.Words.{member}
+use Rattle.caa_base.specs.Lists.{member}
 use Rattle.place_plan.specs.Places.{around, is_within}
 use Rattle.place_plan.specs.Entries.{is_of}
 use Rattle.place_plan.specs.Objects.{restores, writes, is_within_any, places_undone, value_outside, value_of}

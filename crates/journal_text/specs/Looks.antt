@@ -2,7 +2,7 @@
 use Rattle.std.specs.Prelude.{ℕ, ◌<◌, ◌≤◌, ◌^◌, List, [], ◌∷◌, length}
 use Rattle.std.specs.List.{All}
 use Rattle.place_plan.specs.PlanValue.{Plan}
-use Rattle.place_plan.specs.WellFormed.{IsValue}
+use Rattle.caa_base.specs.Limits.{IsValue}
 use Rattle.journal_text.specs.declared.seens.Seen.{Seen}
 
 -- all looks, those of the first watch first, and how many there is memory for

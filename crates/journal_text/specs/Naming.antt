@@ -4,7 +4,7 @@ use Rattle.std.specs.List.{list_all, list_any}
 use Rattle.caa_base.specs.Names.{is_name}
 use Rattle.place_plan.specs.declared.rows.GraphRow.{GraphRow}
 use Rattle.place_plan.specs.PlanValue.{Plan}
-use Rattle.place_plan.specs.Words.{member}
+use Rattle.caa_base.specs.Lists.{member}
 
 -- no two of these words are the same
 abbrev pub are_different : List (List ℕ) → Bool

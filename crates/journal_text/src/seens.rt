@@ -1,5 +1,5 @@
 ghost use Rattle.std.specs.Prelude.{◌≡◌, ◌∷◌, ◌++◌, [], ◌<◌, ◌≤◌, ◌↔◌, length, slice_index_or, IfOk, IsTrue};
-ghost use Rattle.place_plan.specs.WellFormed.{IsValue};
+ghost use Rattle.caa_base.specs.Limits.{IsValue};
 ghost use Rattle.journal_text.specs.Looks.{AreInOrder, last_watch};
 
 use caa_base::entry::OutOfMemory;

@@ -7,7 +7,6 @@ use Rattle.place_plan.specs.PlanValue.{Plan}
 use Rattle.place_plan.specs.Places.{no_graph}
 use Rattle.place_plan.specs.Unfolding.{plan_of}
 use Rattle.place_plan.specs.DraftRules.{broken_rule}
-use Rattle.place_plan.specs.Built.{IsBuilt}
 
 -- each graph is sound: so what is raised has a least cover, and one alone
 abbrev pub AreSound : List GraphRow → Type 0
@@ -16,7 +15,6 @@ AreSound rows = (g : ℕ) → g < length rows → IsSound (slice_index_or rows g
 -- the plan is the unfolding of a draft that breaks no rule, and its graphs are sound
 pub record IsClosed (plan : Plan) : Type 0 where
   pub draft : Draft
-  pub built : IsBuilt draft
   pub whole : broken_rule draft ≡ None
   pub sound : AreSound draft.graphs
   pub same : plan ≡ plan_of draft

@@ -1,6 +1,7 @@
 -- The rules that a draft has to keep, each with its number.
 use Rattle.std.specs.Prelude.{◌≡◌, ℕ, ℤ, pos, negsuc, ◌==◌, nat_lt, nat_le, max, int_lt, if◌then◌else◌, Bool, true, false, not, ◌&&◌, List, [], ◌∷◌, map, length, slice_index_or, Option, Some, None, zero, suc}
 use Rattle.std.specs.List.{list_all}
+use Rattle.caa_base.specs.Limits.{is_value, most_rounds, most_participants, most_objects, most_graphs, most_actions, most_roles, most_nests, most_alternates, most_steps, most_watches, most_drills, most_depth, most_places, most_entries}
 use Rattle.caa_base.specs.declared.entry.Drill.{Drill}
 use Rattle.caa_base.specs.declared.entry.Verdict.{Verdict}
 use Rattle.caa_base.specs.declared.entry.Verdict.TheVariants as verdict
@@ -16,32 +17,32 @@ use Rattle.place_plan.specs.declared.rows.AbortRow.TheVariants as abort
 use Rattle.place_plan.specs.declared.rows.Program.{Program}
 use Rattle.place_plan.specs.declared.rows.Step.{Step}
 use Rattle.place_plan.specs.declared.rows.Step.TheVariants as step
-use Rattle.place_plan.specs.Words.{member, is_empty}
+use Rattle.caa_base.specs.Lists.{member, is_empty}
 use Rattle.place_plan.specs.Places.{graph_at, no_action}
-use Rattle.place_plan.specs.Unfolding.{plan_of, most_depth}
+use Rattle.place_plan.specs.Unfolding.{plan_of}
 use Rattle.place_plan.specs.Bound.{bound}
 
 -- ---- 1: no more parts than the limits allow; each action has a role, and each nested use an action
 
 abbrev pub program_fits : Program → Bool
-program_fits program = nat_le (length program.steps) 256
+program_fits program = nat_le (length program.steps) most_steps
 
 abbrev pub role_fits : RoleRow → Bool
 role_fits role = program_fits role.body && list_all (λ h. program_fits h.program) role.handlers
 
 -- a nested use has from one to four actions
 abbrev pub nest_fits : NestRow → Bool
-nest_fits nest = not (is_empty nest.actions) && nat_le (length nest.actions) 4
+nest_fits nest = not (is_empty nest.actions) && nat_le (length nest.actions) most_alternates
 
 abbrev pub action_fits : ActionRow → Bool
 action_fits action =
     not (is_empty action.roles)
-    && (nat_le (length action.roles) 16 && (nat_le (length action.nests) 256 && (list_all role_fits action.roles && list_all nest_fits action.nests)))
+    && (nat_le (length action.roles) most_roles && (nat_le (length action.nests) most_nests && (list_all role_fits action.roles && list_all nest_fits action.nests)))
 
 abbrev pub size_rule : Draft → Bool
 size_rule draft =
-    nat_le (length draft.participants) 64 && (nat_le (length draft.objects) 256 && (nat_le (length draft.graphs) 257 && (nat_le (length draft.actions) 256
-    && (nat_le (length draft.watches) 16 && (nat_le (length draft.drills) 1000 && list_all action_fits draft.actions)))))
+    nat_le (length draft.participants) most_participants && (nat_le (length draft.objects) most_objects && (nat_le (length draft.graphs) (suc most_graphs) && (nat_le (length draft.actions) most_actions
+    && (nat_le (length draft.watches) most_watches && (nat_le (length draft.drills) most_drills && list_all action_fits draft.actions)))))
 
 -- ---- 2: graph 0 has one exception alone, and each graph has as many names as exceptions
 
@@ -56,10 +57,6 @@ abbrev pub graph_rule : Draft → Bool
 graph_rule draft = first_is_plain draft.graphs && list_all is_named draft.graphs
 
 -- ---- 3: all numbers are in range
-
--- the value of an object
-abbrev pub is_value : ℤ → Bool
-is_value v = not (int_lt v (negsuc 999999999999)) && not (int_lt (pos 1000000000000) v)
 
 -- the numbers rise, each above `low`, or from 0 on
 abbrev pub is_rising_above : ℕ → List ℕ → Bool
@@ -77,7 +74,7 @@ abbrev pub step_in_range : ℕ → ℕ → Step → Bool
 step_in_range objects exceptions (step.Read o) = nat_lt o objects
 step_in_range objects exceptions (step.Put o v) = nat_lt o objects && is_value v
 step_in_range objects exceptions (step.Add o v) = nat_lt o objects && is_value v
-step_in_range objects exceptions (step.Work k) = nat_le k 1000000
+step_in_range objects exceptions (step.Work k) = nat_le k most_rounds
 step_in_range objects exceptions (step.Check test v x) = is_value v && nat_lt x exceptions
 step_in_range objects exceptions (step.Raise x) = nat_lt x exceptions
 step_in_range objects exceptions (step.Enter n) = true
@@ -259,7 +256,7 @@ handler_rule draft = list_all (λ action. list_all handlers_differ action.roles 
 -- ---- 10: the places and the bound are within the limits
 
 abbrev pub bound_rule : Draft → Bool
-bound_rule draft = nat_le (length (plan_of draft).places) 65536 && nat_le (bound (plan_of draft)) 1000000
+bound_rule draft = nat_le (length (plan_of draft).places) most_places && nat_le (bound (plan_of draft)) most_entries
 
 -- ---- 11: all actions of a use tell the same exceptions outside
 

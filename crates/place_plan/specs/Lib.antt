@@ -1,4 +1,3 @@
-pub mod Words
 pub mod PlanValue
 pub mod Places
 pub mod Entries
@@ -11,11 +10,10 @@ pub mod Journals
 pub mod Attempts
 pub mod Bound
 pub mod WellFormed
-pub mod Flat
 pub mod Unfolding
 pub mod DraftRules
-pub mod Built
 pub mod Closed
 pub mod PlanView
 pub mod Machine
 pub mod Sizes
+pub mod Weights

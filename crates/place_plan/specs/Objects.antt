@@ -5,7 +5,7 @@ use Rattle.caa_base.specs.declared.entry.Entry.{Entry}
 use Rattle.caa_base.specs.declared.entry.Kind.{Kind}
 use Rattle.caa_base.specs.declared.entry.Kind.TheVariants as kind
 use Rattle.place_plan.specs.PlanValue.{Plan}
-use Rattle.place_plan.specs.Words.{first_not, same_option}
+use Rattle.caa_base.specs.Lists.{first_not, same_option}
 use Rattle.place_plan.specs.Places.{is_within, parent, objects_of, uses, initial_of}
 use Rattle.place_plan.specs.Entries.{is_of, is_in}
 

@@ -13,7 +13,7 @@ use Rattle.place_plan.specs.declared.rows.Program.{Program}
 use Rattle.place_plan.specs.declared.rows.AbortRow.{AbortRow}
 use Rattle.place_plan.specs.declared.rows.AbortRow.TheVariants as abort
 use Rattle.place_plan.specs.PlanValue.{Plan}
-use Rattle.place_plan.specs.Words.{member, index_of, first_of, last_or, next_after}
+use Rattle.caa_base.specs.Lists.{member, index_of, first_of, last_or, next_after}
 
 -- ---- past the end of a table: nobody has a role there, and nothing is done
 

@@ -5,7 +5,7 @@ use Rattle.caa_base.specs.declared.entry.Entry.{Entry}
 use Rattle.caa_base.specs.declared.entry.Kind.{Kind}
 use Rattle.caa_base.specs.declared.entry.Kind.TheVariants as kind
 use Rattle.place_plan.specs.PlanValue.{Plan}
-use Rattle.place_plan.specs.Words.{is_at, is_empty}
+use Rattle.caa_base.specs.Lists.{is_at, is_empty}
 use Rattle.place_plan.specs.Places.{around, parent, roles_of, fault_of}
 use Rattle.place_plan.specs.Entries.{is_in, is_by, has_by}
 use Rattle.place_plan.specs.Whereabouts.{is_going}

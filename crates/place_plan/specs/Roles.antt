@@ -12,7 +12,7 @@ use Rattle.place_plan.specs.declared.rows.Program.{Program}
 use Rattle.place_plan.specs.declared.rows.Step.{Step}
 use Rattle.place_plan.specs.declared.rows.Step.TheVariants as step
 use Rattle.place_plan.specs.PlanValue.{Plan}
-use Rattle.place_plan.specs.Words.{is_at, first_not, last_of}
+use Rattle.caa_base.specs.Lists.{is_at, first_not, last_of}
 use Rattle.place_plan.specs.Places.{idle, parent, roles_of, body_of, handler_of, plays_of}
 use Rattle.place_plan.specs.Entries.{is_in, is_by, has, has_by}
 use Rattle.place_plan.specs.Whereabouts.{is_left_in_silence}

@@ -12,7 +12,7 @@ use Rattle.place_plan.specs.declared.rows.AbortRow.TheVariants as abort
 use Rattle.place_plan.specs.declared.rows.Step.{Step}
 use Rattle.place_plan.specs.declared.rows.Step.TheVariants as step
 use Rattle.place_plan.specs.PlanValue.{Plan}
-use Rattle.place_plan.specs.Words.{first_not}
+use Rattle.caa_base.specs.Lists.{first_not}
 use Rattle.place_plan.specs.Places.{parent, roles_of, handler_of, abort_row, internal_of, interface_of, alternates_of, nest_of, map_signal}
 use Rattle.place_plan.specs.Entries.{has, has_by, is_in, is_by, newest}
 use Rattle.place_plan.specs.Whereabouts.{inside, all_are_inside, has_started, has_ended, is_undoing, is_going, is_left_in_silence}

@@ -1,7 +1,6 @@
--- How large an action and a place may be.
-use Rattle.std.specs.Prelude.{◌≡◌, ℕ, nat_le, nat_lt, ◌≤◌, Bool, true, ◌&&◌, List, length, slice_index_or}
+-- How large an action may be.
+use Rattle.std.specs.Prelude.{◌≡◌, ℕ, ◌<◌, ◌≤◌, true, List, length, slice_index_or}
 use Rattle.place_plan.specs.declared.rows.ActionRow.{ActionRow}
-use Rattle.place_plan.specs.declared.rows.PlaceRow.{PlaceRow}
 use Rattle.place_plan.specs.Places.{no_action}
 use Rattle.place_plan.specs.DraftRules.{action_fits}
 
@@ -11,8 +10,6 @@ pub record HasSizes (action : ActionRow) (played : ℕ) : Type 0 where
   pub roles : played ≤ 16
   pub objects : length action.objects ≤ 256
 
--- a place of such an action
-abbrev pub row_fits : List ActionRow → PlaceRow → Bool
-row_fits actions row =
-    let action = slice_index_or actions row.action no_action in
-    nat_lt row.action (length actions) && (action_fits action && (nat_le (length row.roles) 16 && nat_le (length action.objects) 256))
+-- each action is within the limits, played by its roles
+abbrev pub AllHaveSizes : List ActionRow → Type 0
+AllHaveSizes actions = (a : ℕ) → a < length actions → HasSizes (slice_index_or actions a no_action) (length (slice_index_or actions a no_action).roles)

@@ -1,5 +1,6 @@
 -- How the plays of a draft unfold into places.
-use Rattle.std.specs.Prelude.{ℕ, ◌+◌, List, [], ◌∷◌, ◌++◌, map, length, slice_index_or, zero, suc}
+use Rattle.std.specs.Prelude.{◌≡◌, ℕ, ◌+◌, List, [], ◌∷◌, ◌++◌, map, length, slice_index_or, zero, suc}
+use Rattle.caa_base.specs.Limits.{most_depth}
 use Rattle.place_plan.specs.declared.draft.Draft.{Draft}
 use Rattle.place_plan.specs.declared.rows.PlaceRow.{PlaceRow}
 use Rattle.place_plan.specs.declared.rows.PlayRow.{PlayRow}
@@ -57,10 +58,6 @@ unfold_at (suc depth) actions a who around i n =
     record { around = around; nest = i; action = a; roles = who; children = children_from (unfold_at depth actions) who (n ∷ around) 0 (n + 1) nests }
     ∷ uses_from (unfold_at depth actions) who (n ∷ around) 0 (n + 1) nests
 
--- the place of a play in which nothing is nested
-abbrev pub place_of : PlayRow → PlaceRow
-place_of play = record { around = []; nest = 0; action = play.action; roles = play.who; children = [] }
-
 -- the plays in order, each with its whole subtree
 abbrev pub plays_from : Unfolding → ℕ → List PlayRow → List PlaceRow
 plays_from unfold_one n [] = []
@@ -75,10 +72,6 @@ tops_from unfold_one n (play ∷ plays) =
     let subtree = unfold_one play.action play.who [] 0 n in
     n ∷ tops_from unfold_one (n + length subtree) plays
 
--- the depth that actions may have, nested uses and all
-abbrev pub most_depth : ℕ
-most_depth = 8
-
 -- the plan into which a draft unfolds
 abbrev pub plan_of : Draft → Plan
 plan_of draft = record {
@@ -91,3 +84,12 @@ plan_of draft = record {
   drills = draft.drills;
   watches = draft.watches;
 }
+
+-- the place of an instance, before its nested uses have their places
+abbrev pub bare_place : ℕ → List ℕ → List ℕ → ℕ → PlaceRow
+bare_place a who around i = record { around = around; nest = i; action = a; roles = who; children = [] }
+
+-- these are the places of the plan of a draft, and its plays
+pub record IsMade (draft : Draft) (places : List PlaceRow) (plays : List ℕ) : Type 0 where
+  pub places_are : places ≡ (plan_of draft).places
+  pub plays_are : plays ≡ (plan_of draft).plays

@@ -2,16 +2,13 @@
 use Rattle.std.specs.Prelude.{◌≡◌, ℕ, ℤ, pos, negsuc, ◌≤ℤ◌, ◌<◌, ◌≤◌, List, length, Option, Some, None}
 use Rattle.std.specs.List.{All}
 use Rattle.cover_table.specs.Cover.{CoverOrder}
+use Rattle.caa_base.specs.Limits.{IsValue, most_rounds}
 use Rattle.caa_base.specs.declared.entry.Entry.{Entry}
 use Rattle.caa_base.specs.declared.entry.Kind.{Kind}
 use Rattle.caa_base.specs.declared.entry.Kind.TheVariants as kind
 use Rattle.place_plan.specs.PlanValue.{Plan}
 use Rattle.place_plan.specs.Places.{parent, internal_of, interface_of}
 use Rattle.place_plan.specs.Rules.{IsPlain}
-
--- the value of an object or a register
-abbrev pub IsValue : ℤ → Type 0
-IsValue v = (negsuc 999999999999 ≤ℤ v) × (v ≤ℤ pos 1000000000000)
 
 -- an object and its value
 pub record ShowsObject (plan : Plan) (e : Entry) : Type 0 where
@@ -41,7 +38,7 @@ FieldsFit kind.Arrive plan e = IsPlain e
 FieldsFit kind.Withdraw plan e = IsPlain e
 FieldsFit kind.Start plan e = IsPlain e
 FieldsFit kind.Read plan e = ShowsObject plan e × (e.mark ≡ 0)
-FieldsFit kind.Work plan e = (e.arg ≤ 1000000) × (e.mark ≡ 0) × IsValue e.value
+FieldsFit kind.Work plan e = (e.arg ≤ most_rounds) × (e.mark ≡ 0) × IsValue e.value
 FieldsFit kind.Write plan e = ShowsObject plan e × (e.mark ≡ 0)
 FieldsFit kind.Check plan e = IsPlain e
 FieldsFit kind.PutFault plan e = ShowsObject plan e × (e.mark ≡ 0)

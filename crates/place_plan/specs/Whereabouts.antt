@@ -5,7 +5,7 @@ use Rattle.caa_base.specs.declared.entry.Entry.{Entry}
 use Rattle.caa_base.specs.declared.entry.Kind.{Kind}
 use Rattle.caa_base.specs.declared.entry.Kind.TheVariants as kind
 use Rattle.place_plan.specs.PlanValue.{Plan}
-use Rattle.place_plan.specs.Words.{is_at}
+use Rattle.caa_base.specs.Lists.{is_at}
 use Rattle.place_plan.specs.Places.{parent, roles_of, next_alternate}
 use Rattle.place_plan.specs.Entries.{has, is_in, newest}
 

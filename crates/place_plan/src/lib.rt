@@ -3,9 +3,17 @@
 
 mod bound;
 mod close;
+mod depth;
 pub mod draft;
+mod limits;
 pub mod machine;
 pub mod plan;
+mod ranges;
 pub mod rows;
+mod tables;
+pub mod unfolded;
+mod unfolding;
+mod uses;
 pub mod value;
 pub mod well_formed;
+mod member;

@@ -1,25 +1,25 @@
 ghost use Rattle.std.specs.Prelude.{◌≡◌, ◌<◌, ℕ, List, [], length, map, slice_index_or, Option, Some, None, IfOk, IfSome, unwrap_or, option_copied};
 ghost use Rattle.std.specs.List.{range_with_len};
-ghost use Rattle.place_plan.specs.Words.{member, index_of, last_or, next_after};
+ghost use Rattle.caa_base.specs.Lists.{member, index_of, last_or, next_after};
 ghost use Rattle.place_plan.specs.Places.{place_at, around, action_at, role_at, role_row, role_of, roles_of, objects_of, uses, parent, alternates_of, child, next_alternate, nest_of, map_signal, top_of, is_within, fault_of, graph_at, internal_of, interface_of, exception_name, handler_in, initial_of, no_object, no_action, no_role, no_nest};
 ghost use Rattle.place_plan.specs.Bound.{bound};
-ghost use Rattle.place_plan.specs.Unfolding.{place_of, plan_of};
-ghost use Rattle.place_plan.specs.DraftRules.{broken_rule, KeepsParts};
-ghost use Rattle.place_plan.specs.Built.{IsBuilt};
+ghost use Rattle.place_plan.specs.Unfolding.{plan_of};
+ghost use Rattle.place_plan.specs.DraftRules.{broken_rule};
 ghost use Rattle.place_plan.specs.Closed.{AreSound, IsClosed};
 
-use crate::bound::bound_of;
-use crate::close::{MOST_ENTRIES, MOST_PLACES, broken_part, is_member};
+use crate::close::broken_rule;
 use crate::draft::Draft;
 use crate::rows::{
-    AbortRow, ActionRow, GraphRow, HandlerRow, NestRow, ObjectRow, PlaceRow, PlayRow, Program,
-    RoleRow,
+    AbortRow, ActionRow, GraphRow, HandlerRow, NestRow, ObjectRow, PlaceRow, Program, RoleRow,
 };
+use crate::unfolded::unfolded;
+use crate::unfolding::unfold_plays;
+use crate::member::is_member;
 use caa_base::entry::{Drill, Exception, Object, Participant, Place};
 use caa_base::name::Name;
 use caa_base::rows::Rows;
 use exception_graph::Graph;
-use std::alloc::{AllocError, Global};
+use std::alloc::Global;
 use std::marker::Model;
 use thiserror::Error;
 
@@ -61,31 +61,6 @@ pub enum PlanError {
     OutOfMemory,
 }
 
-/// The place of a play, in which nothing is nested.
-fn place_of(alloc: Global, play: &PlayRow) -> Result<PlaceRow, AllocError>
-    ensures { IfOk result (λ row. row ≡ place_of play.now) }
-{
-    let roles = Vec::from_slice(alloc, play.who.as_slice())?;
-    Ok(PlaceRow {
-        around: Rows::from_vec(Vec::new(alloc)),
-        nest: 0,
-        action: play.action,
-        roles: Rows::from_vec(roles),
-        children: Rows::from_vec(Vec::new(alloc)),
-    })
-}
-
-/// The places of the plays, in order.
-fn places_of(alloc: Global, plays: &[PlayRow]) -> Result<Vec<PlaceRow>, AllocError>
-    ensures { IfOk result (λ places. places.items ≡ map place_of plays.now) }
-{
-    let mut places = Vec::new(alloc);
-    for play in plays {
-        places.push(place_of(alloc, play)?)?;
-    }
-    Ok(places)
-}
-
 /// The graphs of all rows are sound, as the type of a graph keeps it. A statement alone: the call does nothing else.
 fn are_sound(rows: &[GraphRow])
     ensures { AreSound rows.now }
@@ -93,17 +68,6 @@ fn are_sound(rows: &[GraphRow])
     for row in rows {
         row.graph.is_sound();
     }
-}
-
-/// The numbers below a count.
-fn numbers_below(alloc: Global, count: u32) -> Result<Vec<u32>, AllocError>
-    ensures { IfOk result (λ numbers. numbers.items ≡ range_with_len 0 count) }
-{
-    let mut numbers = Vec::new(alloc);
-    for number in 0..count {
-        numbers.push(number)?;
-    }
-    Ok(numbers)
 }
 
 /// The name of this number; empty where there is none.
@@ -179,37 +143,27 @@ impl Plan {
     /// The plan into which a draft unfolds.
     ///
     /// `BadPart` names the least rule that the draft breaks. The rules, by number: 1, there are no more parts than the limits allow,
-    /// each action has a role, and each nested use an action; 2, graph 0 has one exception alone, and each graph a name for each of its own; 3, all numbers are in
-    /// range, and the objects of an action are in ascending order; 4, a nested use names an action of a smaller number; 5, a nested
-    /// use or a play has one for each role, and nobody twice; 6, a body enters just the uses that its role fills, in order; 7, the
-    /// objects of a step or of a nested action are among the action's; 8, no action is deeper than 8; 9, the handlers of a role have
-    /// different exceptions and each exception of a nested use is mapped; 10, there are at most 65,536 places and the bound is at
-    /// most 1,000,000.
+    /// each action has a role, and each nested use an action; 2, graph 0 has one exception alone, and each graph a name for each of
+    /// its own; 3, all numbers are in range, and the objects of an action are in ascending order; 4, a nested use names actions of
+    /// smaller numbers; 5, a nested use or a play has one for each role, and nobody twice; 6, a body enters just the uses that its
+    /// role fills, in order, and a handler none; 7, the objects of a step or of a nested action are among the action's; 8, no action
+    /// is deeper than 8; 9, the handlers of a role have different exceptions and each exception of a nested use is mapped; 10, there
+    /// are at most 65,536 places and the bound is at most 1,000,000; 11, the actions of a use have one interface graph.
+    ///
+    /// The places are counted before memory is taken for them, and so it is only asked for where the draft breaks no rule.
     pub fn close(alloc: Global, draft: Draft) -> Result<Plan, PlanError>
-        requires built { IsBuilt draft }
         ensures ok { IfOk result (λ plan. plan ≡ plan_of draft) }
         ensures whole { IfOk result (λ plan. broken_rule draft ≡ None) }
         ensures bad { (rule : ℕ) → result ≡ Err (PlanError.BadPart rule) → broken_rule draft ≡ Some rule }
-
-        // Memory is taken for places alone, and so after all rules but the last one.
-        ensures memory { result ≡ Err PlanError.OutOfMemory → KeepsParts draft }
+        ensures memory { result ≡ Err PlanError.OutOfMemory → broken_rule draft ≡ None }
     {
-        if let Some(rule) = broken_part(&draft) {
+        if let Some(rule) = broken_rule(&draft) {
             return Err(PlanError::BadPart { rule });
         }
-        if draft.plays.len() > MOST_PLACES {
-            return Err(PlanError::BadPart { rule: 10 });
-        }
-        let Ok(plays) = numbers_below(alloc, draft.plays.len() as u32) else {
+        let size = unfolded(&draft);
+        let Ok((places, plays)) = unfold_plays(alloc, &draft) else {
             return Err(PlanError::OutOfMemory);
         };
-        let Ok(places) = places_of(alloc, draft.plays.as_slice()) else {
-            return Err(PlanError::OutOfMemory);
-        };
-        let bound = bound_of(draft.actions.as_slice(), places.as_slice());
-        if bound > MOST_ENTRIES {
-            return Err(PlanError::BadPart { rule: 10 });
-        }
         are_sound(draft.graphs.as_slice());
         let Draft {
             participants,
@@ -229,7 +183,7 @@ impl Plan {
             plays: Rows::from_vec(plays),
             drills,
             watches,
-            bound,
+            bound: size.bound,
         })
     }
 

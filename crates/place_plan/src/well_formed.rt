@@ -1,14 +1,12 @@
 ghost use Rattle.std.specs.Prelude.{◌↔◌, ◌≡◌, ◌<◌, ℕ, length, IsTrue};
 ghost use Rattle.place_plan.specs.Places.{graph_at};
 ghost use Rattle.place_plan.specs.Rules.{IsPlain};
-ghost use Rattle.place_plan.specs.WellFormed.{IsValue, ShowsObject, ShowsException, MayShowException, MayCarry, FieldsFit, IsWellFormed};
+ghost use Rattle.place_plan.specs.WellFormed.{ShowsObject, ShowsException, MayShowException, MayCarry, FieldsFit, IsWellFormed};
+ghost use Rattle.caa_base.specs.Limits.{IsValue};
 
 use crate::plan::Plan;
 use caa_base::entry::{Entry, Exception, Kind, Place};
-
-const MOST_VALUE: i64 = 1_000_000_000_000;
-
-const MOST_ROUNDS: u32 = 1_000_000;
+use caa_base::limits::{MOST_ROUNDS, is_value};
 
 /// Whether an entry is well formed: its place and its maker are of the plan, and its other fields fit its kind.
 pub fn is_well_formed(plan: &Plan, entry: &Entry) -> bool
@@ -43,13 +41,6 @@ fn is_plain(entry: &Entry) -> bool
     ensures { IsTrue result ↔ IsPlain entry.now }
 {
     entry.arg == 0 && entry.mark == 0 && entry.value == 0
-}
-
-/// Whether a number is a value of an object or a register.
-fn is_value(value: i64) -> bool
-    ensures { IsTrue result ↔ IsValue value }
-{
-    -MOST_VALUE <= value && value <= MOST_VALUE
 }
 
 /// Whether an entry says an object and its value.

@@ -6,7 +6,8 @@ use Rattle.place_plan.specs.declared.rows.PlaceRow.{PlaceRow}
 use Rattle.place_plan.specs.declared.rows.PlayRow.{PlayRow}
 use Rattle.place_plan.specs.PlanValue.{Plan}
 use Rattle.place_plan.specs.Bound.{action_bound}
-use Rattle.place_plan.specs.Unfolding.{plan_of, unfold_at, plays_from, tops_from, most_depth}
+use Rattle.place_plan.specs.Unfolding.{plan_of, unfold_at, plays_from, tops_from}
+use Rattle.caa_base.specs.Limits.{most_depth}
 use Rattle.place_plan.specs.DraftRules.{broken_rule, depth_within}
 use Rattle.worked_journals.proofs.Notation.{play, inner}
 use Rattle.worked_journals.proofs.ThreeLevels.{ann, bob}

@@ -1,6 +1,9 @@
-use Rattle.place_plan.proofs.ClosedPlan.{is_flat}
-use Rattle.journal_laws.proofs.FlatDue.{at_most_one}
+use Rattle.journal_laws.proofs.PlayablePlan.{is_playable}
+use Rattle.journal_laws.proofs.CoreKept.{core}
+use Rattle.journal_laws.proofs.Due.{at_most_one}
 use Rattle.journal_laws.proofs.at_most_one.Goals as goal
 
 pub returns : goal.returns
-returns c = at_most_one c.args.plan.now (is_flat c.args.plan.now c.is_closed.ensures)
+returns c =
+    let playable = is_playable c.args.plan.now c.is_closed.ensures in
+    at_most_one c.args.plan.now playable (core c.args.plan.now playable)

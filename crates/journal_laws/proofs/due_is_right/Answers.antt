@@ -1,6 +1,9 @@
-use Rattle.place_plan.proofs.ClosedPlan.{is_flat}
-use Rattle.journal_laws.proofs.FlatDue.{due_is_right}
+use Rattle.journal_laws.proofs.PlayablePlan.{is_playable}
+use Rattle.journal_laws.proofs.CoreKept.{core}
+use Rattle.journal_laws.proofs.Due.{due_is_right}
 use Rattle.journal_laws.proofs.due_is_right.Goals as goal
 
 pub returns : goal.returns
-returns c = due_is_right c.args.plan.now (is_flat c.args.plan.now c.is_closed.ensures)
+returns c =
+    let playable = is_playable c.args.plan.now c.is_closed.ensures in
+    due_is_right c.args.plan.now playable (core c.args.plan.now playable)

@@ -1,6 +1,10 @@
-use Rattle.place_plan.proofs.ClosedPlan.{is_flat}
-use Rattle.journal_laws.proofs.FlatGoesOn.{goes_on}
+use Rattle.journal_laws.proofs.PlayablePlan.{is_playable}
+use Rattle.journal_laws.proofs.CoreKept.{core}
+use Rattle.journal_laws.proofs.Due.{due_is_right}
+use Rattle.journal_laws.proofs.GoesOn.{goes_on}
 use Rattle.journal_laws.proofs.goes_on.Goals as goal
 
 pub returns : goal.returns
-returns c = goes_on c.args.plan.now (is_flat c.args.plan.now c.is_closed.ensures)
+returns c =
+    let playable = is_playable c.args.plan.now c.is_closed.ensures in
+    goes_on c.args.plan.now playable (due_is_right c.args.plan.now playable (core c.args.plan.now playable))

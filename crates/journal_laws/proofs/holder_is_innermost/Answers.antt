@@ -1,7 +1,8 @@
-use Rattle.place_plan.proofs.ClosedPlan.{is_flat}
-use Rattle.journal_laws.proofs.TreeFlat.{flat_is_tree}
+use Rattle.journal_laws.proofs.PlayablePlan.{is_playable}
 use Rattle.journal_laws.proofs.Holding.{holder_is_innermost}
 use Rattle.journal_laws.proofs.holder_is_innermost.Goals as goal
 
 pub returns : goal.returns
-returns c = holder_is_innermost c.args.plan.now (flat_is_tree c.args.plan.now (is_flat c.args.plan.now c.is_closed.ensures))
+returns c =
+    let playable = is_playable c.args.plan.now c.is_closed.ensures in
+    holder_is_innermost c.args.plan.now playable.tree

@@ -1,6 +1,9 @@
-use Rattle.place_plan.proofs.ClosedPlan.{is_flat}
-use Rattle.journal_laws.proofs.FlatLength.{bounded}
+use Rattle.journal_laws.proofs.PlayablePlan.{is_playable}
+use Rattle.journal_laws.proofs.CoreKept.{core}
+use Rattle.journal_laws.proofs.LengthLaw.{bounded}
 use Rattle.journal_laws.proofs.is_bounded.Goals as goal
 
 pub returns : goal.returns
-returns c = bounded c.args.plan.now (is_flat c.args.plan.now c.is_closed.ensures)
+returns c =
+    let playable = is_playable c.args.plan.now c.is_closed.ensures in
+    bounded c.args.plan.now playable (core c.args.plan.now playable)

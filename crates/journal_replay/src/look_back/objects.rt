@@ -1,5 +1,5 @@
 ghost use Rattle.std.specs.Prelude.{◌≡◌, ◌<◌, ◌≤◌, length, take, reverse, Some};
-ghost use Rattle.place_plan.specs.Words.{same_option, first_not};
+ghost use Rattle.caa_base.specs.Lists.{same_option, first_not};
 ghost use Rattle.place_plan.specs.Places.{parent, uses, objects_of};
 ghost use Rattle.place_plan.specs.Objects.{holder_after, holder_of, objects_are_ready, before_start, is_tried, has_failed, next_restore, value_of};
 

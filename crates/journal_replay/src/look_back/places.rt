@@ -1,12 +1,11 @@
 ghost use Rattle.std.specs.Prelude.{◌≡◌, ◌==◌, reverse, Option};
 ghost use Rattle.place_plan.specs.Whereabouts.{inside_after, inside, is_inside, all_are_inside, has_started, has_ended, is_undoing, is_live, is_going, is_undone, is_left_in_silence};
 ghost use Rattle.place_plan.specs.Rules.{place_entered};
-ghost use Rattle.place_plan.specs.Words.{member, first_not};
+ghost use Rattle.caa_base.specs.Lists.{member, first_not, last_of};
 ghost use Rattle.place_plan.specs.Places.{roles_of, alternates_of};
 ghost use Rattle.place_plan.specs.Entries.{has_by};
 ghost use Rattle.place_plan.specs.Roles.{next_play, is_over};
 ghost use Rattle.place_plan.specs.Places.{plays_of};
-ghost use Rattle.place_plan.specs.Words.{last_of};
 ghost use Rattle.caa_base.specs.declared.entry.Kind.TheVariants as kind;
 
 use crate::look_back::entries::{has, has_by, newest_in};

@@ -1,5 +1,5 @@
-use Rattle.std.proofs.Common.{◌≡◌, sym, ap, ◌∙◌, ◌++◌, [], refl}
-use Rattle.action_script.proofs.Cutting.{kept_word, left_empty, bytes_in, filled}
+use Rattle.std.proofs.Common.{sym, ◌∙◌, []}
+use Rattle.action_script.proofs.Cutting.{kept_word, left_empty}
 use Rattle.action_script.proofs.line.words_of.Goals as goal
 use Rattle.action_script.proofs.line.words_of.Goals.{then-not-is_empty+in_ok-push, else-not-is_empty}
 

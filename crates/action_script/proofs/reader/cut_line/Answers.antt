@@ -1,11 +1,7 @@
 use Rattle.std.proofs.Common.{◌≡◌, ◌∷◌, ◌+◌, ◌-◌, length, take, drop, sym, ap, ◌∙◌}
 use Rattle.std.proofs.lemmas.List.{take_rest}
 use Rattle.action_script.specs.Lines.{lines_of}
-use Rattle.action_script.proofs.Fits.{field_by-is}
-use Rattle.action_script.proofs.Numbered.{numbered-none}
-use Rattle.action_script.proofs.LineNumbers.{numbered_from-push}
 use Rattle.action_script.proofs.LineCuts.{lines_of-found, lines_of-whole}
-use Rattle.action_script.proofs.Speaking.{speaks}
 use Rattle.action_script.proofs.reader.cut_line.Goals as goal
 
 pub returns-in-Some-clause-cut : goal.returns-in-Some-clause-cut

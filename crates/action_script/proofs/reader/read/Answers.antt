@@ -1,4 +1,4 @@
-use Rattle.std.proofs.Common.{◌≡◌, length, refl, sym, ap, ◌∙◌, arith}
+use Rattle.std.proofs.Common.{length, refl, sym, ap, ◌∙◌, arith}
 use Rattle.action_script.specs.ScriptValue.{Script}
 use Rattle.action_script.specs.SoFar.{so_far}
 use Rattle.action_script.proofs.WellRead.{well_read}
@@ -18,5 +18,5 @@ returns-in-Err-clause-refused c = λ known. reading_of-refused c.args.bytes.now 
 pub from_parts-requires : goal.from_parts-requires
 from_parts-requires c =
     let script : Script = record { lines = c.in-Ok.reader.lines.items; names = c.in-Ok-to_names.names.items } in
-    let spelled = reading_of-read c.args.bytes.now (so_far c.in-Ok.reader) script (omega arith) c.in-Ok.ensures.read (sym c.at_top.ensures ∙ c.if-not-at_top.false) refl c.in-Ok-to_names.ensures.names in
-    well_read c.args.bytes.now script spelled (omega (arith, c.in-Ok.ensures.few_names, ap length c.in-Ok-to_names.ensures.names)) c.in-Ok.ensures.few_lines
+    let whole = reading_of-read c.args.bytes.now (so_far c.in-Ok.reader) script (omega arith) c.in-Ok.ensures.read (sym c.at_top.ensures ∙ c.if-not-at_top.false) refl c.in-Ok-to_names.ensures.names in
+    well_read c.args.bytes.now script whole (omega (arith, c.in-Ok.ensures.few_names, ap length c.in-Ok-to_names.ensures.names)) c.in-Ok.ensures.few_lines

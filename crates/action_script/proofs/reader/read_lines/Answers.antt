@@ -1,4 +1,4 @@
-use Rattle.std.proofs.Common.{◌≡◌, ◌+◌, ◌≤◌, sym, ap, ◌∙◌, length, arith}
+use Rattle.std.proofs.Common.{arith}
 use Rattle.action_script.specs.SoFar.{so_far}
 use Rattle.action_script.proofs.Steps.{has_read-more, has_read-refused, took-line, took-lines, took-names}
 use Rattle.action_script.proofs.reader.read_lines.Goals as goal

@@ -1,6 +1,5 @@
-use Rattle.std.proofs.Common.{◌≡◌, ◌+◌, ◌≤◌, length}
+use Rattle.std.proofs.Common.{◌+◌, ◌≤◌, length}
 use Rattle.action_script.specs.SoFar.{so_far, HasRead}
-use Rattle.action_script.proofs.Steps.{has_read-more}
 use Rattle.action_script.proofs.reader.read_lines.Given as goal
 
 abbrev pub invariant-loop-rest : goal.invariant-loop-rest

@@ -1,6 +1,6 @@
 use Rattle.std.proofs.Common.{arith, refl, ap, ◌∙◌}
 use Rattle.place_plan.specs.Bound.{action_bound, longest_body, longest_handler}
-use Rattle.place_plan.proofs.ClosedPlan.{sizes_small}
+use Rattle.place_plan.proofs.ActionSizes.{sizes_small}
 use Rattle.place_plan.proofs.bound.action_bound.Goals as goal
 
 pub overflow_add-result : goal.overflow_add-result

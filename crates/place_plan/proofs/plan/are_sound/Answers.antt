@@ -1,4 +1,4 @@
-use Rattle.std.proofs.Common.{◌≡◌, ℕ, ◌<◌, slice_index_or, ◌∙◌, subst, arith, below_more}
+use Rattle.std.proofs.Common.{slice_index_or, ◌∙◌, subst, arith, below_more}
 use Rattle.std.proofs.lemmas.List.{get_or_default}
 use Rattle.cover_table.specs.Cover.{IsSound, SetsHaveLeastCovers}
 use Rattle.place_plan.specs.declared.rows.GraphRow.{GraphRow}

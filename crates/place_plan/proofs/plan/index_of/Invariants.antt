@@ -1,5 +1,5 @@
 use Rattle.std.proofs.Common.{◌≡◌, ◌+◌, drop}
-use Rattle.place_plan.specs.Words.{index_of}
+use Rattle.caa_base.specs.Lists.{index_of}
 use Rattle.place_plan.proofs.plan.index_of.Given as goal
 
 abbrev pub invariant-loop-index : goal.invariant-loop-index

@@ -1,5 +1,5 @@
 use Rattle.std.proofs.Common.{◌≡◌, drop}
-use Rattle.place_plan.specs.Words.{last_or}
+use Rattle.caa_base.specs.Lists.{last_or}
 use Rattle.place_plan.proofs.plan.last_or.Given as goal
 
 abbrev pub invariant-loop-item : goal.invariant-loop-item

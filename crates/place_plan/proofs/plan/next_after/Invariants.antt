@@ -1,5 +1,5 @@
 use Rattle.std.proofs.Common.{◌≡◌, cond, drop}
-use Rattle.place_plan.specs.Words.{next_after, first_of}
+use Rattle.caa_base.specs.Lists.{next_after, first_of}
 use Rattle.place_plan.proofs.plan.next_after.Given as goal
 
 abbrev pub invariant-loop-item : goal.invariant-loop-item

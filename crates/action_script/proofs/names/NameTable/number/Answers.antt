@@ -1,4 +1,4 @@
-use Rattle.std.proofs.Common.{◌≡◌, sym, ap, ◌∙◌}
+use Rattle.std.proofs.Common.{sym, ap, ◌∙◌}
 use Rattle.action_script.specs.Names.{number_in}
 use Rattle.action_script.proofs.Numbering.{number_in-found, number_in-absent}
 use Rattle.action_script.proofs.names.NameTable.number.Goals as goal

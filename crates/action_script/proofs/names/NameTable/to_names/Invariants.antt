@@ -1,4 +1,4 @@
-use Rattle.std.proofs.Common.{◌≡◌, take, map, ◌++◌}
+use Rattle.std.proofs.Common.{◌≡◌, take, map}
 use Rattle.action_script.proofs.names.NameTable.to_names.Given as goal
 
 abbrev pub invariant-loop-name : goal.invariant-loop-name

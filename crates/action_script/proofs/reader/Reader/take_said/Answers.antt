@@ -1,6 +1,5 @@
-use Rattle.std.proofs.Common.{◌≡◌, ◌+◌, ◌<◌, ◌≤◌, ℕ, IsTrue, map, sym, ap, ◌∙◌, subst, length, arith}
+use Rattle.std.proofs.Common.{◌≡◌, ap, ◌∙◌, length, arith}
 use Rattle.std.proofs.lemmas.List.{length-map}
-use Rattle.action_script.specs.Kinds.{takes}
 use Rattle.action_script.specs.Names.{with_names}
 use Rattle.action_script.specs.Reading.{names_of, field_of}
 use Rattle.action_script.proofs.Counting.{length-with_names, length-names_of}

@@ -1,4 +1,4 @@
-use Rattle.std.proofs.Common.{◌≡◌, sym, subst, ap, ◌∙◌}
+use Rattle.std.proofs.Common.{sym, subst, ap, ◌∙◌}
 use Rattle.action_script.specs.Printing.{AreScript, forms_of}
 use Rattle.action_script.proofs.LineNumbers.{forms_of-numbered_from}
 use Rattle.action_script.proofs.script.Script.of_forms.Goals as goal

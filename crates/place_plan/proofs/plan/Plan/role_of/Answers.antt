@@ -2,9 +2,9 @@ use Rattle.std.proofs.Common.{arith, subst, ◌≤◌, length, true, false, sym,
 use Rattle.place_plan.specs.PlanValue.{Plan}
 use Rattle.place_plan.specs.PlanView.{plan_view}
 use Rattle.place_plan.specs.Places.{roles_of, action_at, role_row, no_role}
-use Rattle.place_plan.proofs.ClosedPlan.{few_roles, index_within}
-use Rattle.place_plan.specs.Words.{member}
-use Rattle.place_plan.proofs.Played.{all_played, member_index, no_player}
+use Rattle.caa_base.specs.Lists.{member}
+use Rattle.place_plan.proofs.ClosedPlan.{few_roles, all_played, member_index, no_player}
+use Rattle.caa_base.proofs.ListLemmas.{index_within}
 use Rattle.place_plan.proofs.plan.Plan.role_of.Goals as goal
 
 pub overflow_cast-result : goal.overflow_cast-result

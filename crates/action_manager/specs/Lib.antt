@@ -1,0 +1,4 @@
+pub mod Journals
+pub mod Turns
+pub mod Stepping
+pub mod Locks

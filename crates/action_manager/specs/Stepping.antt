@@ -1,0 +1,36 @@
+-- What a seat's turns tell its owner.
+use Rattle.std.specs.Prelude.{◌≡◌, ℕ, [], Option}
+use mathlib.Core.List.{IsPrefix}
+use Rattle.atomic_table.specs.Table.{Me}
+use Rattle.caa_base.specs.Mixing.{Worked}
+use Rattle.place_plan.specs.PlanValue.{Plan}
+use Rattle.place_plan.specs.Journals.{IsLegal}
+use Rattle.place_plan.specs.Machine.{Answers}
+use Rattle.place_plan.specs.declared.machine.Answer.{Answer}
+use Rattle.action_manager.specs.declared.view.Terms.{Terms}
+use Rattle.action_manager.specs.declared.view.View.{View}
+use Rattle.action_manager.specs.Journals.{Journal, entries_by}
+use Rattle.action_manager.specs.Turns.{rested}
+
+-- a seat at the table is at rest: it has no ticket and no book, holds no slot, and has taken in nobody
+abbrev pub IsAtRest : {S : Type 0} → Terms → Me S View → Type 0
+IsAtRest {S = S} terms m = ◌≡◌ {A = Me S View} m (rested terms m.0.who m.0.seen, [])
+
+-- the new journal begins with the old one, and no entry of t was added
+pub record GrowsWithout (t : ℕ) (old new : Journal) : Type 0 where
+  pub begins : IsPrefix old new
+  pub alone : entries_by t new ≡ entries_by t old
+
+-- what a step of t answers, with what its seat had seen and has seen: the answer is that of the machine on a journal that begins
+-- with what was seen and has no further entry of t, and what is seen now is the journal that the machine then left
+pub record Steps (plan : Plan) (t : ℕ) (old new : Journal) (hint : Option Worked) (answer : Answer) : Type 0 where
+  pub before : Journal
+  pub grown : GrowsWithout t old before
+  pub legal_before : IsLegal plan before
+  pub answers : Answers plan before new t hint answer
+  pub legal : IsLegal plan new
+
+-- a turn of t that makes no entry: a legal journal was seen, which begins with what had been seen
+pub record Looks (plan : Plan) (t : ℕ) (old new : Journal) : Type 0 where
+  pub grown : GrowsWithout t old new
+  pub legal : IsLegal plan new

@@ -1,0 +1,37 @@
+use caa_base::entry::Entry;
+use place_plan::plan::Plan;
+use std::collections::LinkedList;
+
+/// What the machine at home keeps to, in every turn. No value of it is made.
+#[derive(Drop)]
+pub struct Terms {
+    /// The plan of the machine that was handed in.
+    pub plan: Plan,
+    /// The base of that machine.
+    pub base: u64,
+    /// The names of the cells of resolved exceptions.
+    pub cells: LinkedList<u64>,
+}
+
+/// What a seat at the table knows. No value of it is made.
+pub struct View {
+    /// It is a participant's, and wasn't taken in by another.
+    pub seated: bool,
+    /// It is the maker's.
+    pub making: bool,
+    pub terms: Terms,
+    /// The participant.
+    pub who: u32,
+    /// Of the maker: how many seats it has made.
+    pub next: u64,
+    /// It has drawn a ticket, and not handed the turn on since.
+    pub holds: bool,
+    pub ticket: u64,
+    /// The turn is its own, and `book` is the journal with which that turn began.
+    pub has_book: bool,
+    pub book: LinkedList<Entry>,
+    /// The journal that it saw last.
+    pub seen: LinkedList<Entry>,
+    /// The participants of the seats that it took in, each with what that seat had seen.
+    pub taken: LinkedList<(u32, LinkedList<Entry>)>,
+}

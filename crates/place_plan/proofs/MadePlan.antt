@@ -1,0 +1,55 @@
+-- The plan that is made of the places into which a draft unfolds that breaks no rule.
+use Rattle.std.proofs.Common.{◌≡◌, ℕ, ◌≤◌, nat_le, List, length, None, sym, ap, ◌∙◌, arith}
+use Rattle.std.proofs.lemmas.Bool.{and_parts, leb-true}
+use Rattle.place_plan.specs.declared.draft.Draft.{Draft}
+use Rattle.place_plan.specs.declared.rows.PlaceRow.{PlaceRow}
+use Rattle.place_plan.specs.declared.plan.Plan.TheInside.{Inside}
+use Rattle.place_plan.specs.PlanView.{plan_view, IsKept}
+use Rattle.place_plan.specs.Bound.{bound}
+use Rattle.place_plan.specs.Unfolding.{plan_of, IsMade}
+use Rattle.place_plan.specs.DraftRules.{broken_rule}
+use Rattle.place_plan.specs.Closed.{AreSound}
+use Rattle.place_plan.specs.Weights.{counted}
+use Rattle.place_plan.proofs.DraftKeeps.{keeps_rules}
+
+module _ (draft : Draft) where
+  -- the fields of a plan, made of the draft
+  abbrev made : List PlaceRow → List ℕ → ℕ → Inside
+  made places plays most = record {
+    participants = draft.participants;
+    objects = draft.objects;
+    graphs = draft.graphs;
+    actions = draft.actions;
+    places = places;
+    plays = plays;
+    drills = draft.drills;
+    watches = draft.watches;
+    bound = most;
+  }
+
+  pub made_view : (places : List PlaceRow) (plays : List ℕ) (most : ℕ) → IsMade draft places plays → plan_view (made places plays most) ≡ plan_of draft
+  made_view places plays most h = λ i. record {
+    participants = draft.participants;
+    objects = draft.objects;
+    graphs = draft.graphs;
+    actions = draft.actions;
+    places = h.places_are i;
+    plays = h.plays_are i;
+    drills = draft.drills;
+    watches = draft.watches;
+  }
+
+  -- there are few places, and a bound that keeps the rule is counted in full
+  pub few_made : broken_rule draft ≡ None → length (plan_of draft).places ≤ 65536
+  few_made whole = leb-true _ _ (and_parts (nat_le (length (plan_of draft).places) 65536) _ (keeps_rules draft whole).1).0
+
+  pub bound_counted : broken_rule draft ≡ None → counted (bound (plan_of draft)) ≡ bound (plan_of draft)
+  bound_counted whole = omega (arith, leb-true _ _ (and_parts (nat_le (length (plan_of draft).places) 65536) _ (keeps_rules draft whole).1).1)
+
+  pub kept : broken_rule draft ≡ None → AreSound draft.graphs → (places : List PlaceRow) (plays : List ℕ) (most : ℕ) → IsMade draft places plays → most ≡ counted (bound (plan_of draft)) → IsKept (made places plays most)
+  kept whole sound places plays most h b =
+      let same = made_view places plays most h in
+      record {
+        closed = record { draft = draft; whole = whole; sound = sound; same = same };
+        bound = b ∙ bound_counted whole ∙ sym (ap bound same);
+      }

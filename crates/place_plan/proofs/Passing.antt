@@ -1,0 +1,22 @@
+-- Lists all of whose members pass a test, and their rows.
+use Rattle.std.proofs.Common.{◌≡◌, ℕ, ◌<◌, ◌≤◌, Bool, true, false, ◌&&◌, List, [], ◌∷◌, length, slice_index_or, zero, suc, refl, inl, inr, ◌⊎◌, arith}
+use Rattle.std.specs.List.{list_all}
+use Rattle.std.proofs.lemmas.Bool.{and_parts, and_from, false≢true}
+use Rattle.caa_base.specs.Lists.{is_empty}
+
+-- a list as long as one that is not empty is not empty
+pub as_filled : {A B : Type 0} (xs : List A) (ys : List B) → length xs ≡ length ys → is_empty ys ≡ false → is_empty xs ≡ false
+as_filled [] [] e h = h
+as_filled [] (y ∷ ys) e h = absurd (omega (arith, e))
+as_filled (x ∷ xs) ys e h = refl
+
+-- past the end of a list is the default
+pub past_end : {A : Type 0} (xs : List A) (i : ℕ) (d : A) → length xs ≤ i → slice_index_or xs i d ≡ d
+past_end [] i d l = refl
+past_end (x ∷ xs) zero d l = absurd (omega arith)
+past_end (x ∷ xs) (suc i) d l = past_end xs i d (omega arith)
+
+pub below_or_not : (a n : ℕ) → (a < n) ⊎ (n ≤ a)
+below_or_not a zero = inr (omega arith)
+below_or_not zero (suc n) = inl (omega arith)
+below_or_not (suc a) (suc n) = elim (below_or_not a n) [ inl x ↦ inl (omega arith) | inr x ↦ inr (omega arith) ]

@@ -1,0 +1,19 @@
+use Rattle.std.proofs.Common.{◌≡◌, ◌∙◌, ap, sym, subst, arith, add-one}
+use Rattle.place_plan.specs.DraftRules.{depth_within}
+use Rattle.place_plan.specs.Weights.{counted, Tells}
+use Rattle.place_plan.proofs.Counted.{depth_more, depth_none, zeros_tell}
+use Rattle.place_plan.proofs.depth.depths_of.Goals as goal
+
+pub loop-level-init : goal.loop-level-init
+loop-level-init c = λ a l. zeros_tell a 256 (omega (arith, l, c.requires.few)) ∙ sym (ap counted (depth_none c.args.actions.now a))
+
+pub loop-level-preserved : goal.loop-level-preserved
+loop-level-preserved c = λ a l.
+    c.one_level_more-table.ensures a l
+    ∙ depth_more c.args.actions.now c.loop-level.table c.loop-level.level c.requires.known c.loop-level.invariant a
+    ∙ ap (λ n. counted (depth_within n c.args.actions.now a)) (sym (add-one c.loop-level.level))
+
+pub returns : goal.returns
+returns c =
+    let last : c.loop-level.level ≡ 9 = omega arith in
+    subst (λ n. Tells c.args.actions.now c.loop-level.table (depth_within n c.args.actions.now)) last c.loop-level.invariant

@@ -1,0 +1,72 @@
+ghost use Rattle.std.specs.Prelude.{◌≡◌, ◌≤◌, ◌+◌, ℕ, ◌<◌, true, List, length, slice_index_or};
+ghost use Rattle.std.specs.List.{list_all};
+ghost use Rattle.place_plan.specs.Places.{no_action};
+ghost use Rattle.place_plan.specs.DraftRules.{deepest_of, deepest, depth_within, depth_rule};
+ghost use Rattle.place_plan.specs.Weights.{counted, at, Tells, nests_known};
+
+use crate::draft::Draft;
+use crate::rows::{ActionRow, NestRow};
+use crate::tables::{Table, counted_sum, number_at};
+use caa_base::limits::{MOST_ACTIONS, MOST_DEPTH};
+
+/// The greatest depth of these actions, by a table.
+fn deepest_of(actions: &[u32], depths: &[u64]) -> u64
+    ensures { result ≡ deepest_of (at depths.now) actions.now }
+{
+    let mut most = 0;
+    for action in actions {
+        most = most.max(number_at(depths, *action));
+    }
+    most
+}
+
+/// The greatest depth of nested uses, by a table.
+fn deepest(nests: &[NestRow], depths: &[u64]) -> u64
+    ensures { result ≡ deepest (at depths.now) nests.now }
+{
+    let mut most = 0;
+    for nest in nests {
+        most = most.max(deepest_of(nest.actions.as_slice(), depths));
+    }
+    most
+}
+
+/// The depths of all actions, as far as one more level tells than these do.
+fn one_level_more(actions: &[ActionRow], depths: &[u64]) -> Table
+    requires { length actions.now ≤ 256 }
+    ensures { (a : ℕ) → a < length actions.now → at result a ≡ counted (1 + deepest (at depths.now) (slice_index_or actions.now a no_action).nests) }
+{
+    let mut table = [0; MOST_ACTIONS];
+    for (number, action) in actions.iter().enumerate() {
+        table[number] = counted_sum(1, deepest(action.nests.as_slice(), depths));
+    }
+    table
+}
+
+/// The depths of all actions, as far as one level more tells than an action may have.
+fn depths_of(actions: &[ActionRow]) -> Table
+    requires few { length actions.now ≤ 256 }
+    requires known { nests_known actions.now ≡ true }
+    ensures { Tells actions.now result (depth_within 9 actions.now) }
+{
+    let mut table = [0; MOST_ACTIONS];
+    for level in 0..MOST_DEPTH + 1 {
+        table = one_level_more(actions, &table);
+    }
+    table
+}
+
+/// Whether no action is deeper than it may be.
+pub(crate) fn keeps_depth(draft: &Draft) -> bool
+    requires few { length draft.now.actions ≤ 256 }
+    requires known { nests_known draft.now.actions ≡ true }
+    ensures { result ≡ depth_rule draft.now }
+{
+    let depths = depths_of(draft.actions.as_slice());
+    for number in 0..draft.actions.len() {
+        if depths[number] > MOST_DEPTH as u64 {
+            return false;
+        }
+    }
+    true
+}

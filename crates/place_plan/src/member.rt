@@ -1,0 +1,9 @@
+ghost use Rattle.std.specs.Prelude.{◌≡◌};
+ghost use Rattle.caa_base.specs.Lists.{member};
+
+/// Whether a number is in a list.
+pub(crate) fn is_member(number: u32, list: &[u32]) -> bool
+    ensures { result ≡ member number list.now }
+{
+    list.iter().any(|item| *item == number)
+}

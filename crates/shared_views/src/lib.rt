@@ -1,0 +1,13 @@
+//! What running threads may see without taking turns: the exception to which each place was resolved, and the notes of it.
+#![tactic(auto)]
+
+mod bulletin;
+mod cells;
+mod notes;
+
+pub use bulletin::{Bulletin, Told};
+pub use cells::{Announcer, ResolutionCells};
+pub use notes::{NoteRefused, PlaceNote};
+
+#[cfg(test)]
+mod tests;
