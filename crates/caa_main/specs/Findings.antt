@@ -94,6 +94,10 @@ status_of (finding.Legal entries) = status.Done
 status_of (finding.Illegal line) = status.Illegal
 status_of finding.OutOfMemory = status.OutOfMemory
 
+abbrev pub is_played : Finding → Bool
+is_played (finding.Played failed text) = true
+is_played _ = false
+
 -- the text is put together, which takes memory
 abbrev pub needs_memory : Finding → Bool
 needs_memory (finding.Refused refusal) = true

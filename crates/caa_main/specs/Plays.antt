@@ -10,7 +10,7 @@ use Rattle.place_plan.specs.Journals.{IsLegal, IsComplete, faults_in}
 use Rattle.journal_laws.specs.Laws.{KeepsLaws}
 use Rattle.journal_replay.specs.Device.{HasValues, HasDrills}
 use Rattle.role_driver.specs.Schedule.{GrewBy, first_of_seed}
-use Rattle.caa_main.specs.Uses.{Call}
+use Rattle.caa_main.specs.Uses.{Left}
 
 -- the entry ends a play as failed
 abbrev pub is_failed_play : Plan → Entry → Bool
@@ -21,16 +21,16 @@ abbrev pub has_failed_play : Plan → List Entry → Bool
 has_failed_play plan journal = list_any (is_failed_play plan) journal
 
 -- the plan was played to its end by the schedule of the seed, and the journal that is handed back is the one of the play
-pub record IsPlayed {P : Type 0} (plan : Plan) (seed : ℕ) (call : Call P) : Type 0 where
+pub record IsPlayed {P : Type 0} (plan : Plan) (seed : ℕ) (left : Left P) : Type 0 where
   -- lawful clause
-  pub legal : IsLegal plan call.journal
-  pub complete : IsComplete plan call.journal
-  pub laws : KeepsLaws plan (reverse call.journal)
+  pub legal : IsLegal plan left.journal
+  pub complete : IsComplete plan left.journal
+  pub laws : KeepsLaws plan (reverse left.journal)
   -- fault law: the device's count rose by one for each put and restore that was refused, unless it stands at its end
-  pub faults : call.plant.faults_after < 2 ^ 64 - 1 → call.plant.faults_after ≡ call.plant.faults_before + faults_in call.journal
+  pub faults : left.plant.faults_after < 2 ^ 64 - 1 → left.plant.faults_after ≡ left.plant.faults_before + faults_in left.journal
   -- schedule clause
-  pub schedule : GrewBy (first_of_seed seed) plan [] call.journal
+  pub schedule : GrewBy (first_of_seed seed) plan [] left.journal
   -- device clause: where the device tells its values and puts, they are those of the journal
-  pub device : IfSome call.plant.state (HasValues plan call.journal)
+  pub device : IfSome left.plant.state (HasValues plan left.journal)
   -- drill clause: where it tells its drills and tries, the refused puts are just those that were drilled
-  pub drills : IfSome call.plant.drilling (HasDrills plan call.journal)
+  pub drills : IfSome left.plant.drilling (HasDrills plan left.journal)

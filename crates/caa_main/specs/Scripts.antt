@@ -11,18 +11,20 @@ use Rattle.action_script.specs.declared.error.ScriptCause.TheVariants as spellin
 use Rattle.script_checker.specs.declared.error.CheckError.{CheckError}
 use Rattle.script_checker.specs.declared.error.CheckCause.{CheckCause}
 use Rattle.script_checker.specs.declared.error.CheckCause.TheVariants as cause
-use Rattle.script_checker.specs.Compiled.{Compiles, IsRefused}
+use Rattle.script_checker.specs.Compiled.{IsPlanOf, IsFirstRefused}
 use Rattle.place_plan.specs.PlanValue.{Plan}
 use Rattle.caa_main.specs.declared.fault.Fault.{Fault}
 use Rattle.caa_main.specs.declared.fault.Fault.TheVariants as fault
 use Rattle.caa_main.specs.declared.fault.Refusal.{Refusal}
+use Rattle.caa_main.specs.declared.scripts.NoPlan.{NoPlan}
+use Rattle.caa_main.specs.declared.scripts.NoPlan.TheVariants as no_plan
 
 -- ---- a script that has a plan
 
 pub record HasPlan (bytes : List ℕ) (plan : Plan) : Type 0 where
   pub script : Script
   pub spelled : reading_of bytes ≡ Ok script
-  pub compiled : Compiles script plan
+  pub compiled : IsPlanOf script plan
 
 -- ---- the names of exceptions
 
@@ -83,9 +85,14 @@ pub record IsUnplannable (bytes : List ℕ) (refusal : Refusal) : Type 0 where
   pub script : Script
   pub spelled : reading_of bytes ≡ Ok script
   pub error : CheckError
-  pub first : IsRefused script error
+  pub first : IsFirstRefused script error
   pub line : refusal.line ≡ error.line
   pub fault : IsCause script error.line error.cause refusal.fault
 
 abbrev pub IsRefusedScript : List ℕ → Refusal → Type 0
 IsRefusedScript bytes refusal = IsMisspelled bytes refusal ⊎ IsUnplannable bytes refusal
+
+-- why there is no plan; want of memory tells nothing of the script
+abbrev pub HasNoPlan : List ℕ → NoPlan → Type 0
+HasNoPlan bytes (no_plan.Refused refusal) = IsRefusedScript bytes refusal
+HasNoPlan bytes no_plan.OutOfMemory = Unit {0}

@@ -64,19 +64,29 @@ plant_use ghosts before after = record {
   lay_faults_after = ghosts.lay_faults after;
 }
 
--- the words of a call, how it used the source and the device, and the journal that it hands back
-pub record Call (P : Type 0) : Type 0 where
-  pub words : List (List ℕ)
-  pub source : SourceUse
+-- what a call leaves: the device as it used it, and the journal that it hands back
+pub record Left (P : Type 0) : Type 0 where
   pub plant : PlantUse P
   pub journal : List Entry
 
--- nothing was played, and the device is as it was
-pub record IsIdle {P : Type 0} (call : Call P) : Type 0 where
-  pub unplayed : call.journal ≡ []
-  pub plant : call.plant.after ≡ call.plant.before
+abbrev pub left_of : {P : Type 0} → PlantUse P → List Entry → Left P
+left_of plant journal = record { plant = plant; journal = journal }
 
--- nothing was played, and the device was asked for no put
-pub record IsUnplayed {P : Type 0} (call : Call P) : Type 0 where
-  pub unplayed : call.journal ≡ []
-  pub unasked : call.plant.calls_after ≡ call.plant.calls_before
+-- the words of a call, how it used the source, and what it leaves
+pub record Call (P : Type 0) : Type 0 where
+  pub words : List (List ℕ)
+  pub source : SourceUse
+  pub left : Left P
+
+abbrev pub call_of : {P : Type 0} → List (List ℕ) → SourceUse → Left P → Call P
+call_of words source left = record { words = words; source = source; left = left }
+
+-- nothing was played, and the device is as it was
+pub record IsIdle {P : Type 0} (left : Left P) : Type 0 where
+  pub unplayed : left.journal ≡ []
+  pub plant : left.plant.after ≡ left.plant.before
+
+-- nothing was played, and the device refused no put
+pub record IsUnplayed {P : Type 0} (left : Left P) : Type 0 where
+  pub unplayed : left.journal ≡ []
+  pub unasked : left.plant.faults_after ≡ left.plant.faults_before

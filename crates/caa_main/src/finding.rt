@@ -1,5 +1,5 @@
 ghost use Rattle.std.specs.Prelude.{◌≡◌, true, IfOk, IsErr};
-ghost use Rattle.caa_main.specs.Findings.{text_bytes, status_of, needs_memory, counts_of, checked_text, numbered_text, finding_text};
+ghost use Rattle.caa_main.specs.Findings.{text_bytes, status_of, is_played, needs_memory, counts_of, checked_text, numbered_text, finding_text};
 
 use crate::fault::Refusal;
 use crate::status::Status;
@@ -123,6 +123,13 @@ impl Finding {
             Finding::Illegal { line: _ } => Status::Illegal,
             Finding::OutOfMemory => Status::OutOfMemory,
         }
+    }
+
+    /// Whether a script was played.
+    pub fn is_played(&self) -> bool
+        ensures { result ≡ is_played self.now }
+    {
+        matches!(self, Finding::Played { failed: _, text: _ })
     }
 
     /// Its text. A text that is always the same, and that of a journal, needs no memory.

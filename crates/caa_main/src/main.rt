@@ -1,10 +1,49 @@
-//! The program `caa`.
+//! The program `caa`: it checks and plays scripts of coordinated atomic actions, prints their journals and judges them.
 #![tactic(auto)]
 
 mod command;
 mod fault;
 mod finding;
-mod probe;
+mod inputs;
+mod judging;
+mod scripts;
 mod status;
+mod top;
 
-fn main(_rt: HostRuntime) {}
+use crate::status::Status;
+use crate::top::top_quiet;
+use caa_base::memory::MemPlant;
+use caa_base::standard::{StdSink, StdSource};
+use std::alloc::AllocError;
+use std::env;
+use std::io::ErrorKind;
+use std::process::ExitCode;
+use std::rt::Env;
+
+/// The exit status where no memory is found for the words.
+const OUT_OF_MEMORY: u8 = Status::OutOfMemory as u8;
+
+/// The words that follow the program's name. Words that are no text are none of ours, and so none are given.
+fn words_of(rt: &(impl Env + AllocGlobal)) -> Result<Vec<String>, AllocError> {
+    match env::args(rt) {
+        Ok(words) => words.skip(1).collect(rt.alloc()),
+        Err(error) if error.kind() == ErrorKind::OutOfMemory => Err(AllocError),
+        Err(_) => Ok(Vec::new(rt.alloc())),
+    }
+}
+
+fn main(rt: HostRuntime) -> ExitCode {
+    let Ok(words) = words_of(&rt) else {
+        return ExitCode::from(OUT_OF_MEMORY);
+    };
+    let mut source = StdSource::new(rt.stdin());
+    let mut sink = StdSink::new(rt.stdout());
+    let ended = top_quiet(
+        rt.alloc(),
+        words.as_slice(),
+        &mut source,
+        &mut sink,
+        MemPlant::new(false),
+    );
+    ExitCode::from(ended.status as u8)
+}
