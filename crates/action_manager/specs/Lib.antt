@@ -2,3 +2,8 @@ pub mod Journals
 pub mod Turns
 pub mod Stepping
 pub mod Locks
+pub mod Housed
+pub mod Tidings
+pub mod Seats
+pub mod Openings
+pub mod Managers

@@ -1,7 +1,14 @@
 //! A machine that several threads step, one turn at a time.
 #![tactic(auto)]
 
+mod handed;
 mod home;
+mod housed;
 mod lock;
+mod manager;
+mod seat;
 mod turns;
 mod view;
+
+pub use manager::{Closed, Manager, ManagerError, Opened, StillOut};
+pub use seat::{NoNote, Seat};

@@ -9,7 +9,8 @@ use Rattle.action_script.specs.declared.field.Part.{Part}
 use Rattle.action_script.specs.declared.field.Part.TheVariants as part
 use Rattle.action_script.specs.declared.field.Field.{Field}
 use Rattle.action_script.specs.declared.field.Field.TheVariants as field
-use Rattle.action_script.specs.Words.{is_name, value_of, count_of, rounds_of, test_of}
+use Rattle.action_script.specs.Words.{value_of, count_of, rounds_of, test_of}
+use Rattle.caa_base.specs.Names.{is_name}
 use Rattle.action_script.specs.Names.{is_among, number_in}
 use Rattle.action_script.specs.Reading.{is_part, is_name_part, field_by}
 use Rattle.action_script.specs.Printing.{field_word, fits_part}
@@ -37,7 +38,7 @@ past_the_end (name ∷ names) zero h = absurd (omega arith)
 past_the_end (name ∷ names) (suc n) h = past_the_end names n (omega arith)
 
 -- what is a name isn't past the end
-named_within : (names : List (List ℕ)) (n : ℕ) → is_name (get_or names n []) ≡ true → n < length names
+pub named_within : (names : List (List ℕ)) (n : ℕ) → is_name (get_or names n []) ≡ true → n < length names
 named_within names n h = by (nat_le (length names) n) refl
   where
     by : (b : Bool) → nat_le (length names) n ≡ b → n < length names

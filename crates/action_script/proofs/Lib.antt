@@ -16,3 +16,4 @@ pub mod PrintedLines
 pub mod ReadsBack
 pub mod WellRead
 pub mod LineNumbers
+pub mod Named

@@ -83,8 +83,23 @@ fields_of form.DoneLine = []
 fields_of (form.SignalLine n) = field.Name n ∷ []
 fields_of form.UndoLine = []
 
+-- the names among some fields, by their numbers
+abbrev pub numbers_in : List Field → List ℕ
+numbers_in [] = []
+numbers_in (field.Name n ∷ fields) = n ∷ numbers_in fields
+numbers_in (_ ∷ fields) = numbers_in fields
+
+-- the names of a form, by their numbers
+abbrev pub numbers_of : Form → List ℕ
+numbers_of (form.Play n list) = n ∷ list
+numbers_of (form.Uses list) = list
+numbers_of (form.Roles list) = list
+numbers_of (form.Nest n m list) = n ∷ m ∷ list
+numbers_of f = numbers_in (fields_of f)
+
 -- ---- the form of a kind and its fields; a field that isn't there, or is none of what is asked for, is never looked at
 
+-- what one field says: a name, a value, a count or a test
 abbrev pub name_in : Option Field → ℕ
 name_in (Some (field.Name n)) = n
 name_in _ = 0
@@ -101,6 +116,7 @@ abbrev pub test_in : Option Field → Test
 test_in (Some (field.Test t)) = t
 test_in _ = test.Below
 
+-- what the field at a place says
 abbrev pub name_at : List Field → ℕ → ℕ
 name_at fields i = name_in (slice_get fields i)
 
@@ -113,9 +129,11 @@ count_at fields i = count_in (slice_get fields i)
 abbrev pub test_at : List Field → ℕ → Test
 test_at fields i = test_in (slice_get fields i)
 
+-- the names that the fields from a place on say
 abbrev pub names_from : List Field → ℕ → List ℕ
 names_from fields i = map (λ f. name_in (Some f)) (drop i fields)
 
+-- the form of a kind and its fields
 abbrev pub form_by : LineKind → List Field → Form
 form_by kind.Participant fields = form.Participant (name_at fields 0)
 form_by kind.Object fields = form.Object (name_at fields 0) (value_at fields 1)

@@ -95,10 +95,12 @@ takes kind count = if may_go_on kind then nat_le (length (parts_of kind)) count 
 
 -- ---- where the reader is
 
+-- outside all graphs and actions
 abbrev pub at_top : Section → Bool
 at_top section.Top = true
 at_top _ = false
 
+-- in a graph
 abbrev pub in_graph : Section → Bool
 in_graph section.Graph = true
 in_graph _ = false
@@ -116,6 +118,7 @@ in_program section.Body = true
 in_program section.Handler = true
 in_program _ = false
 
+-- in the body of a role
 abbrev pub in_body : Section → Bool
 in_body section.Body = true
 in_body _ = false

@@ -10,7 +10,8 @@ use Rattle.action_script.specs.declared.form.Form.{Form}
 use Rattle.action_script.specs.declared.kind.Section.{Section}
 use Rattle.action_script.specs.declared.kind.Section.TheVariants as section
 use Rattle.action_script.specs.declared.script.Line.{Line}
-use Rattle.action_script.specs.Words.{is_name, test_word}
+use Rattle.action_script.specs.Words.{test_word}
+use Rattle.caa_base.specs.Names.{is_name}
 use Rattle.action_script.specs.Lines.{most_line, spaced}
 use Rattle.action_script.specs.Asked.{Said}
 use Rattle.action_script.specs.Kinds.{word_of, parts_of, takes, stands_in, goes_to, at_top}
@@ -70,6 +71,11 @@ all_fit names (p ∷ parts) (f ∷ fields) = fits_part names p f && all_fit name
 abbrev pub is_sound : List (List ℕ) → Form → Bool
 is_sound names form = takes (kind_of form) (length (fields_of form)) && all_fit names (parts_of (kind_of form)) (fields_of form)
 
+-- each of these numbers is below the count
+abbrev pub AreBelow : ℕ → List ℕ → Type 0
+AreBelow count [] = Unit {0}
+AreBelow count (n ∷ numbers) = (n < count) × AreBelow count numbers
+
 -- the line is no longer than a line may be
 abbrev pub is_short : List (List ℕ) → Form → Bool
 is_short names form = nat_le (length (form_line names form)) most_line
@@ -96,6 +102,7 @@ pub record AreScript (names : List (List ℕ)) (forms : List Form) : Type 0 wher
   pub short : list_all (is_short names) forms ≡ true
   pub order : with_names [] (flat_map (form_names names) forms) ≡ names
 
+-- the forms of some lines
 abbrev pub forms_of : List Line → List Form
 forms_of lines = map (λ l. l.form) lines
 

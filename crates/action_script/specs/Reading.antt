@@ -14,7 +14,8 @@ use Rattle.action_script.specs.declared.kind.Section.TheVariants as section
 use Rattle.action_script.specs.declared.kind.LineKind.{LineKind}
 use Rattle.action_script.specs.declared.script.Line.{Line}
 use Rattle.action_script.specs.Asked.{Asked, Said}
-use Rattle.action_script.specs.Words.{is_name, value_of, count_of, rounds_of, test_of}
+use Rattle.action_script.specs.Words.{value_of, count_of, rounds_of, test_of}
+use Rattle.caa_base.specs.Names.{is_name}
 use Rattle.action_script.specs.Lines.{most_bytes, most_line, lines_of, words_of, is_plain, begins_comment}
 use Rattle.action_script.specs.Kinds.{word_of, parts_of, takes, stands_in, goes_to, at_top, kinds}
 use Rattle.action_script.specs.Names.{with_names, number_in}
@@ -41,6 +42,7 @@ is_part part.Test word = is_some (test_of word)
 abbrev pub is_right : Asked → Bool
 is_right a = is_part a.part a.word
 
+-- the part asks for a test
 abbrev pub is_test : Part → Bool
 is_test part.Test = true
 is_test _ = false
@@ -65,9 +67,11 @@ field_by names part.Count word = field.Count (unwrap_or (count_of word) 0)
 field_by names part.Rounds word = field.Count (unwrap_or (rounds_of word) 0)
 field_by names part.Test word = field.Test (unwrap_or (test_of word) test.Below)
 
+-- what a word says that is what it is asked to be
 abbrev pub field_of : List (List ℕ) → Asked → Field
 field_of names a = field_by names a.part a.word
 
+-- the part asks for a name
 abbrev pub is_name_part : Part → Bool
 is_name_part part.Name = true
 is_name_part _ = false
@@ -82,16 +86,16 @@ names_of asked = map (λ a. a.word) (filter (λ a. is_name_part a.part) asked)
 abbrev pub is_here : Section → List ℕ → ℕ → LineKind → Bool
 is_here s word count kind = bytes_eq word (word_of kind) && (takes kind count && stands_in kind s)
 
--- no line is of two kinds
+-- the kind of such a line, if it is of any; none is of two
 abbrev pub kind_here : Section → List ℕ → ℕ → Option LineKind
 kind_here s word count = find (is_here s word count) kinds
 
--- the words after the first are tried from left to right
+-- the first word from the left that isn't what it is asked to be decides
 abbrev pub by_first_wrong : Option Asked → Result (Unit {0}) ScriptCause
 by_first_wrong None = Ok tt
 by_first_wrong (Some wrong) = Err (cause_of wrong.part)
 
--- after the tests
+-- the words after the first are tried: all tests first, and then each word
 abbrev pub trial_of : List Asked → Result (Unit {0}) ScriptCause
 trial_of asked = if list_all (λ a. not (is_wrong_test a)) asked then by_first_wrong (find (λ a. not (is_right a)) asked) else Err cause.BadLine
 
@@ -100,6 +104,7 @@ abbrev pub by_check : Said → Result (Unit {0}) ScriptCause → Result (Option 
 by_check said (Ok none) = Ok (Some said)
 by_check said (Err c) = Err c
 
+-- a line of a kind says its words, where they are right; one of no kind is a bad line
 abbrev pub by_kind : List (List ℕ) → Option LineKind → Result (Option Said) ScriptCause
 by_kind words None = Err cause.BadLine
 by_kind words (Some kind) = by_check (record { kind = kind; asked = asked_of (parts_of kind) words }) (trial_of (asked_of (parts_of kind) words))
@@ -147,9 +152,11 @@ script_names lines = with_names [] (flat_map (λ l. names_of l.said.asked) lines
 abbrev pub line_by : List (List ℕ) → Numbered → Line
 line_by names l = record { number = l.number; form = form_by l.said.kind (map (field_of names) l.said.asked) }
 
+-- the script of these lines
 abbrev pub script_by : List Numbered → Script
 script_by lines = record { lines = map (line_by (script_names lines)) lines; names = script_names lines }
 
+-- the same, where there was no fault
 abbrev pub script_of : Result (List Numbered) ScriptError → Result Script ScriptError
 script_of (Ok lines) = Ok (script_by lines)
 script_of (Err e) = Err e

@@ -19,6 +19,7 @@ pub record SoFar : Type 0 where
   pub names : List (List ℕ)
   pub lines : List Line
 
+-- what the reader's tables tell
 abbrev pub so_far : Reader → SoFar
 so_far r = record { line = r.line; section = r.section; names = r.names; lines = r.lines.items }
 
@@ -31,6 +32,7 @@ with_said s said = record {
   lines = s.lines ++ line_by (with_names s.names (names_of said.asked)) (record { number = s.line; said = said }) ∷ [];
 }
 
+-- what the next line says was taken
 abbrev pub TookSaid : SoFar → Said → SoFar → Type 0
 TookSaid old said new = new ≡ with_said old said
 
@@ -44,6 +46,7 @@ abbrev pub TookLine : Result (Option Said) ScriptCause → SoFar → SoFar → T
 TookLine (Ok said) old new = new ≡ after old said
 TookLine (Err c) old new = ⊥
 
+-- the next line of these bytes was taken
 abbrev pub Took : SoFar → List ℕ → SoFar → Type 0
 Took old line new = TookLine (line_of old.section line) old new
 

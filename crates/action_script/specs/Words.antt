@@ -1,32 +1,10 @@
 -- The words of a script: names, numbers and tests.
-use Rattle.std.specs.Prelude.{ℕ, ℤ, pos, negsuc, zero, suc, ◌+◌, ◌-◌, ◌*◌, ◌==◌, nat_le, if◌then◌else◌, Bool, true, false, not, ◌&&◌, ◌||◌, List, [], ◌∷◌, length, Option, Some, None, option_map, bytes_eq, codes}
+use Rattle.std.specs.Prelude.{ℕ, ℤ, pos, negsuc, zero, suc, ◌+◌, ◌-◌, ◌*◌, ◌==◌, nat_le, if◌then◌else◌, Bool, false, not, ◌&&◌, ◌||◌, List, [], ◌∷◌, Option, Some, None, option_map, bytes_eq, codes}
 use Rattle.std.specs.List.{list_all}
+use Rattle.caa_base.specs.Lists.{is_empty}
+use Rattle.caa_base.specs.Names.{is_digit}
 use Rattle.caa_base.specs.declared.entry.Test.{Test}
 use Rattle.caa_base.specs.declared.entry.Test.TheVariants as test
-
-abbrev pub is_empty : List ℕ → Bool
-is_empty [] = true
-is_empty (b ∷ rest) = false
-
--- ---- names
-
-abbrev pub is_letter : ℕ → Bool
-is_letter b = (nat_le 65 b && nat_le b 90) || (nat_le 97 b && nat_le b 122)
-
-abbrev pub is_digit : ℕ → Bool
-is_digit b = nat_le 48 b && nat_le b 57
-
--- letters, digits, `_` and `-`
-abbrev pub is_name_byte : ℕ → Bool
-is_name_byte b = is_letter b || (is_digit b || ((b == 95) || (b == 45)))
-
-abbrev pub begins_with_letter : List ℕ → Bool
-begins_with_letter [] = false
-begins_with_letter (b ∷ rest) = is_letter b
-
--- a name has 1 to 32 such characters, the first a letter
-abbrev pub is_name : List ℕ → Bool
-is_name word = begins_with_letter word && (nat_le (length word) 32 && list_all is_name_byte word)
 
 -- ---- numbers
 
@@ -76,12 +54,14 @@ count_of word = at_least_one (rounds_of word)
 
 -- ---- tests
 
+-- the test that a word says
 abbrev pub test_of : List ℕ → Option Test
 test_of word =
     if bytes_eq word (codes "below") then Some test.Below
     else (if bytes_eq word (codes "above") then Some test.Above
     else (if bytes_eq word (codes "equal") then Some test.Equal else None))
 
+-- the word of a test
 abbrev pub test_word : Test → List ℕ
 test_word test.Below = codes "below"
 test_word test.Above = codes "above"

@@ -1,6 +1,7 @@
 ghost use Rattle.std.specs.Prelude.{◌≡◌, ◌↔◌, ◌<◌, ◌^◌, [], length, slice_get, Some, IfOk, IsTrue};
 ghost use Rattle.std.specs.Option.{option_map};
-ghost use Rattle.action_script.specs.Printing.{AreScript, forms_of, numbered_from};
+ghost use Rattle.action_script.specs.Forms.{numbers_of};
+ghost use Rattle.action_script.specs.Printing.{AreScript, AreBelow, is_sound, forms_of, numbered_from};
 
 use crate::form::Form;
 use caa_base::entry::OutOfMemory;
@@ -87,10 +88,12 @@ impl Script {
         self.lines[index as usize].number
     }
 
-    /// What such a line says.
+    /// What such a line says. Its values are in their ranges, its lists aren't empty, and its numbers are those of names.
     pub fn form(&self, index: u32) -> &Form
         requires { index < length self.now.lines }
-        ensures { option_map (λ l. l.form) (slice_get self.now.lines index) ≡ Some result.now }
+        ensures value { option_map (λ l. l.form) (slice_get self.now.lines index) ≡ Some result.now }
+        ensures sound { IsTrue (is_sound self.now.names result.now) }
+        ensures named { AreBelow (length self.now.names) (numbers_of result.now) }
     {
         &self.lines[index as usize].form
     }

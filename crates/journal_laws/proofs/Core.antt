@@ -1,5 +1,5 @@
 -- What every legal past of a plan keeps, besides where its participants are: all laws are drawn from these four records.
-use Rattle.std.proofs.Common.{◌≡◌, ℕ, ◌<◌, ◌+◌, ◌⊎◌, Bool, true, false, not, ◌||◌, List, Option, Some, None, count_by, slice_get, is_none}
+use Rattle.std.proofs.Common.{◌≡◌, ℕ, ◌<◌, ◌+◌, ◌⊎◌, true, false, not, ◌||◌, List, Some, None, count_by, slice_get, is_none}
 use Rattle.cover_table.specs.Cover.{IsLeastCover}
 use Rattle.caa_base.specs.declared.entry.Entry.{Entry}
 use Rattle.caa_base.specs.declared.entry.Kind.TheVariants as kind

@@ -1,5 +1,5 @@
 -- What the laws need of a plan: its places are a tree, each use of a place leads its roles on, and all numbers are in range.
-use Rattle.std.proofs.Common.{◌≡◌, ℕ, ◌<◌, true, false, List, [], ◌∷◌, length, slice_get, Option, Some, None}
+use Rattle.std.proofs.Common.{◌≡◌, ℕ, ◌<◌, true, false, List, [], ◌∷◌, length, slice_get, Option, Some}
 use Rattle.cover_table.specs.Cover.{IsSound, SetsHaveLeastCovers}
 use Rattle.place_plan.specs.declared.rows.Step.{Step}
 use Rattle.place_plan.specs.declared.rows.Step.TheVariants as step

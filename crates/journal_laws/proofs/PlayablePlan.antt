@@ -1,12 +1,9 @@
 -- A closed plan is one that the laws speak of: its places are a tree, its uses lead on, and its numbers are in range.
-use Rattle.std.proofs.Common.{◌≡◌, ℕ, ◌+◌, ◌<◌, ◌≤◌, ◌==◌, nat_lt, nat_le, Bool, true, false, not, ◌&&◌, List, [], ◌∷◌, length, slice_index_or, slice_get, Option, Some, None, zero, suc, refl, sym, ap, ◌∙◌, subst, inl, inr, arith, zero-add}
+use Rattle.std.proofs.Common.{◌≡◌, ℕ, ◌<◌, ◌≤◌, ◌==◌, nat_lt, true, false, not, List, [], ◌∷◌, length, slice_index_or, slice_get, Option, Some, None, zero, suc, refl, sym, ap, ◌∙◌, subst, inl, inr, arith, zero-add}
 use Rattle.std.specs.List.{list_all}
-use Rattle.std.proofs.lemmas.Bool.{and_parts, and_from, or_cases, or_left, or_right, eqb-true, eq-eqb, false≢true, ltb-true, lt-ltb, not-true, cases_Bool}
-use Rattle.cover_table.specs.Cover.{IsSound, SetsHaveLeastCovers}
-use Rattle.caa_base.specs.declared.entry.Verdict.{Verdict}
+use Rattle.std.proofs.lemmas.Bool.{and_parts, or_cases, eqb-true, false≢true, ltb-true, lt-ltb, not-true, cases_Bool}
 use Rattle.place_plan.specs.declared.draft.Draft.{Draft}
 use Rattle.place_plan.specs.declared.rows.ObjectRow.{ObjectRow}
-use Rattle.place_plan.specs.declared.rows.PlayRow.{PlayRow}
 use Rattle.place_plan.specs.declared.rows.PlaceRow.{PlaceRow}
 use Rattle.place_plan.specs.declared.rows.ActionRow.{ActionRow}
 use Rattle.place_plan.specs.declared.rows.NestRow.{NestRow}
@@ -17,7 +14,7 @@ use Rattle.place_plan.specs.declared.rows.Step.{Step}
 use Rattle.place_plan.specs.declared.rows.Step.TheVariants as step
 use Rattle.place_plan.specs.PlanValue.{Plan}
 use Rattle.caa_base.specs.Lists.{member, index_of, is_empty, first_of, Rises}
-use Rattle.place_plan.specs.Places.{place_at, action_at, around, parent, roles_of, role_row, body_of, handler_of, handler_in, abort_row, objects_of, uses, alternates_of, nest_number, nest_of, nest_in, internal_of, interface_of, fault_of, map_signal, initial_of, idle, no_action, no_role, no_nest, no_place, no_object}
+use Rattle.place_plan.specs.Places.{place_at, action_at, around, parent, roles_of, role_row, body_of, handler_in, abort_row, objects_of, uses, alternates_of, nest_number, nest_of, nest_in, internal_of, interface_of, fault_of, map_signal, initial_of, no_action, no_role, no_nest, no_place, no_object}
 use Rattle.place_plan.specs.Roles.{program_in, or_idle}
 use Rattle.caa_base.specs.Limits.{IsValue, is_value}
 use Rattle.place_plan.specs.Unfolding.{plan_of, cast_of}
@@ -27,9 +24,9 @@ use Rattle.caa_base.proofs.ListLemmas.{all_at, get_passes, at_row, all_imply}
 use Rattle.place_plan.proofs.Passing.{past_end, below_or_not, as_filled}
 use Rattle.place_plan.proofs.DraftKeeps.{initials_range, graphs_range, objects_range, parts_range, plays_range, has_roles, all_nests_fit}
 use Rattle.caa_base.proofs.Values.{value_from}
-use Rattle.place_plan.proofs.Subtrees.{IsPlaced, IsKnown, IsInstance, use_of}
+use Rattle.place_plan.proofs.Subtrees.{IsPlaced, IsKnown, use_of}
 use Rattle.place_plan.proofs.UnfoldedPlan.{IsUnfolded, is_unfolded, child_of, child_after, in_table, row_rises, rows_apart}
-use Rattle.place_plan.proofs.Casts.{IsCast, all_cast, action_is, use_there, from_picked, in_picked, member_at}
+use Rattle.place_plan.proofs.Casts.{all_cast, action_is, use_there, from_picked, in_picked, member_at}
 use Rattle.place_plan.proofs.ClosedPlan.{action_passes, keeps_of, of_plan, made_graphs, made_players, member_index, other_index}
 use Rattle.journal_laws.proofs.Playable.{IsTree, IsPlayable, LeadsInside}
 use Rattle.journal_laws.proofs.EnterSteps.{get_all, entered_member, entered_at, entered_order, filled_rises, Fills, filled_is, filled_has, role_enters, handler_passes, enters_none, player_at, index_is}

@@ -15,7 +15,7 @@ use Rattle.place_plan.specs.Raising.{is_calm, exception_handled}
 use Rattle.place_plan.specs.Roles.{is_able, position, program_in, next_step}
 use Rattle.place_plan.specs.Rules.{Row, MayArrive, place_entered, arrival}
 use Rattle.place_plan.specs.Journals.{LegalPast}
-use Rattle.journal_laws.proofs.Playable.{IsTree, LeadsInside}
+use Rattle.journal_laws.proofs.Playable.{IsTree}
 use Rattle.caa_base.proofs.ListLemmas.{all_at, at_same, chosen, first_not_fails}
 use Rattle.place_plan.proofs.Entries.{of_kind}
 

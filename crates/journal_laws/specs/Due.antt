@@ -1,5 +1,5 @@
 -- The entry that the rules give a participant, computed from the past.
-use Rattle.std.specs.Prelude.{◌≡◌, ℕ, ℤ, pos, ◌+ℤ◌, ◌==◌, Bool, true, false, not, ◌&&◌, ◌||◌, if◌then◌else◌, List, [], ◌∷◌, Option, Some, None, is_none}
+use Rattle.std.specs.Prelude.{◌≡◌, ℕ, ℤ, pos, ◌+ℤ◌, Bool, true, not, ◌&&◌, ◌||◌, if◌then◌else◌, List, [], ◌∷◌, Option, Some, None, is_none}
 use Rattle.std.specs.List.{list_all, range_with_len}
 use Rattle.cover_table.specs.Cover.{CoverOrder, covers, covers_each}
 use Rattle.caa_base.specs.Mixing.{mix}
@@ -16,7 +16,7 @@ use Rattle.place_plan.specs.Places.{roles_of, internal_of, interface_of, handler
 use Rattle.place_plan.specs.Whereabouts.{inside, all_are_inside, has_started, has_ended, is_undoing}
 use Rattle.place_plan.specs.Raising.{has_handled, exceptions_raised, is_raised, is_doomed, is_halted, all_are_halted, exception_resolved}
 use Rattle.place_plan.specs.Objects.{holder_of, objects_are_ready, value_of, before_start, next_restore}
-use Rattle.place_plan.specs.Roles.{register, program_of, next_step, next_raise, has_given, all_have_given, is_handling, wants_undo, signals, has_aborted, all_have_aborted, next_play, is_over}
+use Rattle.place_plan.specs.Roles.{register, program_of, next_step, next_raise, has_given, all_have_given, wants_undo, signals, has_aborted, all_have_aborted, next_play, is_over}
 use Rattle.place_plan.specs.Rules.{MayFollow, place_entered, clamped, breaks_off, abort_of, undone_mark, exception_carried}
 use Rattle.place_plan.specs.Journals.{Silent, is_put}
 use Rattle.journal_laws.specs.Laws.{as_taken}

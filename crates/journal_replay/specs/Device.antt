@@ -1,5 +1,5 @@
 -- How the device behind a hall fits the journal.
-use Rattle.std.specs.Prelude.{◌≡◌, ℕ, ◌+◌, ◌-◌, ◌^◌, ◌<◌, ◌≤◌, Bool, ◌||◌, List, filter, length, reverse, slice_get, Option, Some}
+use Rattle.std.specs.Prelude.{◌≡◌, ℕ, pos, ◌+◌, ◌-◌, ◌^◌, ◌<◌, ◌≤◌, Bool, ◌||◌, List, filter, length, reverse, slice_index, slice_index_or, Option, Some}
 use Rattle.caa_base.specs.declared.entry.Entry.{Entry}
 use Rattle.caa_base.specs.declared.entry.Kind.TheVariants as kind
 use Rattle.caa_base.specs.PlantState.{PlantState, Drilling}
@@ -24,13 +24,15 @@ attempts_in journal = length (filter has_asked journal)
 
 -- a device that tells its values has those by the journal, and was put the writes and well-made restores of the journal, in order
 pub record HasValues (plan : Plan) (journal : List Entry) (state : PlantState) : Type 0 where
-  pub values : (o : ℕ) → o < length plan.objects → slice_get state.values o ≡ Some (value_of plan (reverse journal) o)
+  pub count : length state.values ≡ length plan.objects
+  pub values : (o : ℕ) → o < length plan.objects → slice_index_or state.values o (pos 0) ≡ value_of plan (reverse journal) o
   pub puts : state.puts ≡ puts_of journal
 
 -- a device that tells its drills has those of the plan, was tried as often as the journal has attempts, and refused as it was drilled
 pub record HasDrills (plan : Plan) (journal : List Entry) (drilling : Drilling) : Type 0 where
   pub drills : drilling.drills ≡ plan.drills
-  pub tries : (o : ℕ) → o < length plan.objects → slice_get drilling.tries o ≡ Some (length (attempts_on journal o))
+  pub count : length drilling.tries ≡ length plan.objects
+  pub tries : (o : ℕ) → o < length plan.objects → slice_index drilling.tries o ≡ length (attempts_on journal o)
   pub drilled : IsDrilled plan journal
 
 -- ---- what a hall keeps of its device

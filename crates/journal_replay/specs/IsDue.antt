@@ -6,6 +6,7 @@ use Rattle.place_plan.specs.Journals.{is_put, is_fault, Silent}
 use Rattle.place_plan.specs.Roles.{is_over}
 use Rattle.place_plan.specs.Rules.{MayFollow}
 use Rattle.journal_laws.specs.Laws.{as_taken}
+use Rattle.journal_laws.specs.Due.{as_refused}
 use Rattle.journal_replay.specs.declared.answer.Due.{Due}
 use Rattle.journal_replay.specs.declared.answer.Due.TheVariants as due
 
@@ -23,6 +24,10 @@ pub record DeviceDecides (plan : Plan) (past : List Entry) (t : ℕ) (well fault
   pub taken : is_put well ≡ true
   pub refused : is_fault fault ≡ true
   pub same : as_taken fault.kind fault ≡ well
+
+-- the entry is what the device refuses where it would take the put `due`
+abbrev pub IsRefusalOf : Entry → Entry → Type 0
+IsRefusalOf e due = (is_put due ≡ true) × (e ≡ as_refused due.kind due)
 
 -- what the rules let t do after this past
 abbrev pub IsDue : Plan → List Entry → ℕ → Due → Type 0

@@ -1,13 +1,19 @@
 -- Whether the next entry of a participant is a piece of mixing work.
-use Rattle.std.specs.Prelude.{◌≡◌}
-use Rattle.std.specs.Prelude.{ℕ, List, Option, Some, None}
+use Rattle.std.specs.Prelude.{◌≡◌, ℕ, List, Option, Some, None}
 use Rattle.caa_base.specs.declared.entry.Entry.{Entry}
 use Rattle.caa_base.specs.declared.entry.Kind.TheVariants as kind
+use Rattle.place_plan.specs.declared.rows.Step.{Step}
+use Rattle.place_plan.specs.declared.rows.Step.TheVariants as step
 use Rattle.place_plan.specs.PlanValue.{Plan}
 use Rattle.place_plan.specs.Roles.{register}
 use Rattle.place_plan.specs.Rules.{MayFollow}
 use Rattle.place_plan.specs.Machine.{work_entry}
 use Rattle.journal_replay.specs.declared.work_due.Work.{Work}
+
+-- the rounds of a work step
+abbrev pub rounds_of : Option Step → Option ℕ
+rounds_of (Some (step.Work rounds)) = Some rounds
+rounds_of _ = None
 
 -- this work of t may follow, and starts with its register
 pub record MayWorkNow (plan : Plan) (past : List Entry) (t : ℕ) (work : Work) : Type 0 where

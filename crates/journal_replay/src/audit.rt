@@ -1,13 +1,14 @@
 ghost use Rattle.std.specs.Prelude.{◌≡◌, ◌↔◌, reverse, IsTrue};
 ghost use Rattle.place_plan.specs.Rules.{MayFollow};
 ghost use Rattle.place_plan.specs.Journals.{LegalPast, AllOver};
+ghost use Rattle.journal_replay.specs.IsDue.{IsRefusalOf};
 ghost use Rattle.journal_replay.specs.Audited.{Audited};
 
 use crate::look_back::places::is_over;
 use crate::rule::{asks_device, entry_due, refused};
 use caa_base::entry::Entry;
 use caa_base::journal::Journal;
-use crate::laws::due_is_right;
+use journal_laws::due_is_right;
 use place_plan::plan::Plan;
 use thiserror::Error;
 
@@ -19,6 +20,20 @@ pub struct Illegal {
     pub index: u64,
 }
 
+/// Whether the entries say the same.
+fn is_same(entry: &Entry, other: &Entry) -> bool
+    ensures { IsTrue result ↔ (entry.now ≡ other.now) }
+{
+    *entry == *other
+}
+
+/// Whether the entry is what the device refuses where it would take the put that is due.
+fn is_refusal(entry: &Entry, due: &Entry) -> bool
+    ensures { IsTrue result ↔ IsRefusalOf entry.now due.now }
+{
+    asks_device(due) && is_same(entry, &refused(*due))
+}
+
 /// Whether the entry is the one that is due from its maker, or that one where the device refuses it.
 fn may_follow(plan: &Plan, journal: &[Entry], entry: &Entry) -> bool
     requires legal { LegalPast plan.now (reverse journal.now) }
@@ -26,7 +41,7 @@ fn may_follow(plan: &Plan, journal: &[Entry], entry: &Entry) -> bool
 {
     due_is_right(plan);
     match entry_due(plan, journal, entry.by) {
-        Some(due) => *entry == due || (asks_device(&due) && *entry == refused(due)),
+        Some(due) => is_same(entry, &due) || is_refusal(entry, &due),
         None => false,
     }
 }

@@ -1,4 +1,4 @@
-ghost use Rattle.std.specs.Prelude.{◌≡◌, ◌<◌, ◌≤◌, ◌+◌, ◌-◌, ◌^◌, ◌∷◌, ◌++◌, [], map, length, reverse, true, false, is_some, IfOk, IfErr, IfSome, OnOk, IsTrue, ◌↔◌, ◌⊎◌};
+ghost use Rattle.std.specs.Prelude.{◌≡◌, ◌<◌, ◌≤◌, ◌+◌, ◌-◌, ◌^◌, ◌∷◌, ◌++◌, [], map, length, reverse, true, false, is_some, IfOk, IfErr, IfSome, OnOk, IsTrue, ◌↔◌, ◌⊎◌, if◌then◌else◌};
 ghost use Rattle.caa_base.specs.Counts.{CountsFault, Rose};
 ghost use Rattle.caa_base.specs.declared.entry.Entry.{Entry as JournalEntry};
 ghost use Rattle.place_plan.specs.Bound.{bound};
@@ -7,7 +7,7 @@ ghost use Rattle.place_plan.specs.Journals.{LegalPast, IsLegal, is_fault, faults
 ghost use Rattle.place_plan.specs.Machine.{Answers};
 ghost use Rattle.place_plan.proofs.LegalProp.{LegalPast-prop};
 ghost use Rattle.journal_replay.specs.Device.{FitsJournal, HasValues, HasDrills, has_asked};
-ghost use Rattle.caa_base.specs.PlantState.{is_refused};
+ghost use Rattle.caa_base.specs.PlantState.{is_refused, is_drilled, after_put, after_try};
 ghost use Rattle.journal_replay.specs.Opening.{is_plant_fault};
 ghost use Rattle.std.proofs.Math.Nat.{le_of_eq};
 ghost use Rattle.std.proofs.Common.{sym};
@@ -22,7 +22,7 @@ use caa_base::entry::{Drill, Entry, Failed, Object, OutOfMemory, Participant};
 use caa_base::journal::Journal;
 use caa_base::plant::{Plant, PlantError};
 use caa_base::work::WorkDone;
-use crate::laws::{is_bounded, is_well_formed, puts_make_values};
+use journal_laws::{is_bounded, is_well_formed, last_put_is_value};
 use place_plan::machine::{Answer, Machine};
 use place_plan::plan::Plan;
 use place_plan::value::value_at;
@@ -115,6 +115,27 @@ fn lay_out<P: Plant>(alloc: Global, plan: &Plan, plant: &mut P) -> Result<(), Pl
     plant.lay(alloc, values.as_slice(), drills.as_slice(), plan.bound())
 }
 
+/// Asks a plant for a put, once, and gives the entry for its answer.
+fn answer_of<P: Plant>(plant: &mut P, well: Entry, fault: Entry) -> Entry
+    requires room { P.calls plant.old < P.room plant.old }
+    requires laid { well.arg < P.objects plant.old }
+    requires taken { is_fault well ≡ false }
+    requires refused { is_fault fault ≡ true }
+    ensures either { (result ≡ well) ⊎ (result ≡ fault) }
+    ensures state { P.state plant.new ≡ (if is_fault result then P.state plant.old else after_put (P.state plant.old) well.arg well.value) }
+    ensures drilling { P.drilling plant.new ≡ after_try (P.drilling plant.old) well.arg }
+    ensures drilled { IfSome (P.drilling plant.old) (λ d. is_fault result ≡ is_drilled d well.arg) }
+    ensures calls { P.calls plant.new ≡ P.calls plant.old + 1 }
+    ensures room { P.room plant.new ≡ P.room plant.old }
+    ensures objects { P.objects plant.new ≡ P.objects plant.old }
+    ensures count { CountsFault (is_fault result) (P.faults plant.old) (P.faults plant.new) }
+{
+    match plant.put(well.arg, well.value) {
+        Ok(()) => well,
+        Err(Failed) => fault,
+    }
+}
+
 /// Whether the hint is of these rounds and this start.
 fn fits(hint: &WorkDone, work: &Work) -> bool
     ensures { IsTrue result ↔ ((hint.now.rounds ≡ work.now.rounds) × (hint.now.from ≡ work.now.from)) }
@@ -199,7 +220,7 @@ impl<P: Plant> PlainHall<P> {
         ensures journal { journal_in self.new ≡ journal_in self.old ++ entry ∷ [] }
     {
         is_bounded(&self.plan);
-        puts_make_values(&self.plan);
+        last_put_is_value(&self.plan);
         self.journal.push(entry);
     }
 
@@ -214,11 +235,8 @@ impl<P: Plant> PlainHall<P> {
     {
         is_bounded(&self.plan);
         is_well_formed(&self.plan);
-        puts_make_values(&self.plan);
-        let entry = match self.plant.put(well.arg, well.value) {
-            Ok(()) => well,
-            Err(Failed) => fault,
-        };
+        last_put_is_value(&self.plan);
+        let entry = answer_of(&mut self.plant, well, fault);
         self.journal.push(entry);
         entry
     }

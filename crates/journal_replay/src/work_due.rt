@@ -3,7 +3,7 @@ ghost use Rattle.place_plan.specs.Whereabouts.{is_going};
 ghost use Rattle.place_plan.specs.Raising.{is_doomed};
 ghost use Rattle.place_plan.specs.Machine.{work_entry};
 ghost use Rattle.place_plan.specs.Roles.{is_in_handler, is_able};
-ghost use Rattle.journal_replay.specs.WorkDue.{IsWorkDue};
+ghost use Rattle.journal_replay.specs.WorkDue.{rounds_of, IsWorkDue};
 
 use crate::look_back::places::{has_ended, has_started, inside, is_undoing};
 use crate::look_back::raising::{is_doomed, is_raised};
@@ -71,15 +71,27 @@ fn is_able(plan: &Plan, journal: &[Entry], place: Place, by: Participant) -> boo
     }
 }
 
+/// The rounds of a work step.
+fn rounds_of(step: Option<Step>) -> Option<u32>
+    ensures { result ≡ rounds_of step }
+{
+    match step {
+        Some(Step::Work(rounds)) => Some(rounds),
+        _ => None,
+    }
+}
+
 /// The mixing work that is next for a participant, if its next entry is one. It takes no memory, and mixes nothing.
 pub fn work_due(plan: &Plan, journal: &[Entry], by: Participant) -> Option<Work>
     ensures { IsWorkDue plan.now (reverse journal.now) by result }
 {
-    let place = inside(plan, journal, by)?;
+    let Some(place) = inside(plan, journal, by) else {
+        return None;
+    };
     if !is_able(plan, journal, place, by) {
         return None;
     }
-    let Some(Step::Work(rounds)) = next_step(plan, journal, place, by) else {
+    let Some(rounds) = rounds_of(next_step(plan, journal, place, by)) else {
         return None;
     };
     let from = register(plan, journal, place, by);

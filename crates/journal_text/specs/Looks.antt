@@ -27,3 +27,9 @@ last_watch low (s ∷ seens) = last_watch s.watch seens
 -- each look is one of a watch of the plan
 abbrev pub AreOfPlan : Plan → List Seen → Type 0
 AreOfPlan plan seens = All (λ s. s.watch < length plan.watches) seens
+
+-- a look of a watch of the plan
+pub record IsOfPlan (plan : Plan) (s : Seen) : Type 0 where
+  pub watch : s.watch < length plan.watches
+  pub ends : s.ends < 2 ^ 64
+  pub value : IsValue s.value

@@ -1,6 +1,14 @@
 //! The text of a journal, both ways, and what watchers saw while it was made.
 #![tactic(auto)]
 
+mod entry_line;
+pub mod naming;
+pub mod reading;
+pub mod right;
+mod seen_line;
 pub mod seens;
+#[cfg(test)]
+mod tests;
 mod values;
+mod words;
 pub mod writing;

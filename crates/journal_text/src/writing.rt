@@ -19,9 +19,6 @@ use std::alloc::{AllocError, Global};
 use std::io;
 use std::io::Write;
 
-/// The first line of each text.
-pub(crate) const FIRST_LINE: &[u8] = b"journal\n";
-
 /// The text of a journal: one line for each entry, with the names of the plan, then the value of each object and the outcome of
 /// each place, and then what was seen.
 pub fn write(
@@ -101,12 +98,7 @@ fn push_entries(text: &mut Vec<u8>, plan: &Plan, entries: &[Entry]) -> io::Resul
 }
 
 /// Adds the lines that follow from the entries.
-fn push_closing(
-    alloc: Global,
-    text: &mut Vec<u8>,
-    plan: &Plan,
-    entries: &[Entry],
-) -> io::Result<()>
+fn push_closing(alloc: Global, text: &mut Vec<u8>, plan: &Plan, entries: &[Entry]) -> io::Result<()>
     requires { AllWellFormed plan.now entries.now }
     ensures { OnOk result (text.new.items ≡ text.old.items ++ closing_lines plan.now (reverse entries.now)) }
 {
@@ -127,12 +119,7 @@ fn push_seens(text: &mut Vec<u8>, plan: &Plan, seens: &[Seen]) -> io::Result<()>
 
 /// Adds a line for each object, with its value after the entries.
 #[tactic(auto, using(crate::proofs::TextLemmas::lines_more))]
-fn push_objects(
-    alloc: Global,
-    text: &mut Vec<u8>,
-    plan: &Plan,
-    entries: &[Entry],
-) -> io::Result<()>
+fn push_objects(alloc: Global, text: &mut Vec<u8>, plan: &Plan, entries: &[Entry]) -> io::Result<()>
     requires { AllWellFormed plan.now entries.now }
     ensures { OnOk result (text.new.items
         ≡ text.old.items ++ flat_map (object_line plan.now (reverse entries.now)) (range_with_len 0 (length plan.now.objects))) }
@@ -256,7 +243,7 @@ fn push_word(text: &mut Vec<u8>, word: &[u8]) -> io::Result<()>
 }
 
 /// Adds the line of a look.
-fn push_seen(text: &mut Vec<u8>, plan: &Plan, seen: &Seen) -> io::Result<()>
+pub(crate) fn push_seen(text: &mut Vec<u8>, plan: &Plan, seen: &Seen) -> io::Result<()>
     requires { seen.now.watch < length plan.now.watches }
     ensures { OnOk result (text.new.items ≡ text.old.items ++ seen_line plan.now seen.now) }
 {
@@ -267,7 +254,7 @@ fn push_seen(text: &mut Vec<u8>, plan: &Plan, seen: &Seen) -> io::Result<()>
 }
 
 /// The name of an object, which is empty past the last one.
-fn object_name(plan: &Plan, object: Object) -> &[u8]
+pub(crate) fn object_name(plan: &Plan, object: Object) -> &[u8]
     ensures { result.now ≡ object_name plan.now object }
 {
     if object < plan.objects() {
@@ -458,4 +445,3 @@ fn kind_word(kind: Kind) -> &'static [u8]
         Kind::Leave => b"leave",
     }
 }
-

@@ -66,9 +66,9 @@ picked_differ who (r ∷ roles) h k d =
     let low = and_parts _ (all_below (length who) roles) k in
     and_from _ _
     (ap not (false_from_ne_true _ (λ m.
-        let found = from_picked who roles (slice_index_or who r 0) m in
-        let same = one_index who found.0 r 0 h (ltb-true _ _ (all_at _ roles found.0 low.1 found.1)) (ltb-true _ _ low.0) found.2 in
-        both_ways _ (not-true _ here.0) (subst (λ z. member z roles ≡ true) same found.1))))
+    let found = from_picked who roles (slice_index_or who r 0) m in
+    let same = one_index who found.0 r 0 h (ltb-true _ _ (all_at _ roles found.0 low.1 found.1)) (ltb-true _ _ low.0) found.2 in
+    both_ways _ (not-true _ here.0) (subst (λ z. member z roles ≡ true) same found.1))))
     (picked_differ who roles h low.1 here.1)
 
 picked_known : (most : ℕ) (who roles : List ℕ) → all_below most who ≡ true → all_below (length who) roles ≡ true → all_below most (picked who roles) ≡ true

@@ -1,7 +1,5 @@
 -- Lists all of whose members pass a test, and their rows.
-use Rattle.std.proofs.Common.{◌≡◌, ℕ, ◌<◌, ◌≤◌, Bool, true, false, ◌&&◌, List, [], ◌∷◌, length, slice_index_or, zero, suc, refl, inl, inr, ◌⊎◌, arith}
-use Rattle.std.specs.List.{list_all}
-use Rattle.std.proofs.lemmas.Bool.{and_parts, and_from, false≢true}
+use Rattle.std.proofs.Common.{◌≡◌, ℕ, ◌<◌, ◌≤◌, false, List, [], ◌∷◌, length, slice_index_or, zero, suc, refl, inl, inr, ◌⊎◌, arith}
 use Rattle.caa_base.specs.Lists.{is_empty}
 
 -- a list as long as one that is not empty is not empty

@@ -1,5 +1,5 @@
 -- The plays of a participant.
-use Rattle.std.proofs.Common.{◌≡◌, ℕ, ◌==◌, Bool, true, false, cond, List, [], ◌∷◌, refl, subst, arith, suc, inl, inr}
+use Rattle.std.proofs.Common.{◌≡◌, ℕ, Bool, true, false, cond, List, [], ◌∷◌, refl, subst, arith, suc, inl, inr}
 use Rattle.std.proofs.lemmas.Bool.{or_cases, or_left, or_right, eqb-true, eq-eqb, false≢true}
 use Rattle.caa_base.specs.Lists.{member, Rises}
 use Rattle.caa_base.proofs.ListLemmas.{Rises-weaker}

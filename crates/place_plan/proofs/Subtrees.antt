@@ -162,8 +162,7 @@ module _ (plan : Plan) (d : ℕ) (who outer : List ℕ) where
   rows_rise : (i n : ℕ) (nests : List NestRow) → deepest depth nests ≤ d → RowsRise n (children_from one who outer i n nests)
   rows_rise i n [] f = tt
   rows_rise i n (nest ∷ nests) f =
-      let trees = use_from one who outer i n nest in
-      (
+      let trees = use_from one who outer i n nest in (
         n + length trees,
         omega arith,
         numbers_rise (cast_of who nest) i n nest.actions (omega arith),
@@ -267,8 +266,8 @@ all_grow plan (suc d) a who outer i n f s known =
     let inner = subst (λ m. Sits plan.places m (uses_from (unfold_at d plan.actions) who (n ∷ outer) 0 (n + 1) nests)) next s.1 in
     let children : (place_at plan n).children ≡ children_from (unfold_at d plan.actions) who (n ∷ outer) 0 (n + 1) nests = ap (λ (r : PlaceRow). r.children) here.0 in
     let nested =
-        uses_grow plan d who (n ∷ outer) (all_grow plan d) 0 (n + 1) nests fit inner
-        (λ k c m. subst (λ z. member c (alternates_of plan n z) ≡ true) (sym (zero-add k)) (subst (λ rows. member c (slice_index_or rows k []) ≡ true) (sym children) m)) in
+    uses_grow plan d who (n ∷ outer) (all_grow plan d) 0 (n + 1) nests fit inner
+    (λ k c m. subst (λ z. member c (alternates_of plan n z) ≡ true) (sym (zero-add k)) (subst (λ rows. member c (slice_index_or rows k []) ≡ true) (sym children) m)) in
     λ p l h. elim (first_or_later n p l) [
       | inl e ↦ subst (IsInstance plan) e (instance_at plan d a who outer i n f s known)
       | inr e ↦ nested p (omega arith) (omega (arith, h))

@@ -57,18 +57,26 @@ module _ (d : ℕ) (actions : List ActionRow) (a : ℕ) (who around outer : List
   pub use_fits : 0 < d → outer ≡ length old ∷ around → nests ≡ (slice_index_or actions a no_action).nests → k < length nests → Rows → length old + length (unfold_at d actions a who around i (length old)) ≤ 65536 → (used : NestRow) → used ≡ get_or nests k used → length places + length (use_from one who outer k (length places) used) ≤ 65536
   use_fits l o ns lt rows few used e =
       let step : uses_from one who outer k (length places) (drop k nests) ≡ use_from one who outer k (length places) used ++ uses_from one who outer (suc k) (length places + length (use_from one who outer k (length places) used)) (drop (suc k) nests) =
-          ap (uses_from one who outer k (length places)) (drop-cons nests k used lt ∙ ap (λ n. n ∷ drop (suc k) nests) (sym e)) in
-      omega (arith, ap length rows, length-append places (uses_from one who outer k (length places) (drop k nests)), length-append old (bare_place a who around i ∷ uses_of_place), ap length step,
-      length-append (use_from one who outer k (length places) used) (uses_from one who outer (suc k) (length places + length (use_from one who outer k (length places) used)) (drop (suc k) nests)), few, ap length (whole l o ns))
+      ap (uses_from one who outer k (length places)) (drop-cons nests k used lt ∙ ap (λ n. n ∷ drop (suc k) nests) (sym e)) in
+      omega (
+        arith,
+        ap length rows,
+        length-append places (uses_from one who outer k (length places) (drop k nests)),
+        length-append old (bare_place a who around i ∷ uses_of_place),
+        ap length step,
+        length-append (use_from one who outer k (length places) used) (uses_from one who outer (suc k) (length places + length (use_from one who outer k (length places) used)) (drop (suc k) nests)),
+        few,
+        ap length (whole l o ns),
+      )
 
   -- at its end, with the numbers written into the row of the place, all places of the instance stand there
   pub all_stand : 0 < d → outer ≡ length old ∷ around → nests ≡ (slice_index_or actions a no_action).nests → length nests ≤ k → Rows → (children : List (List ℕ)) → children ++ children_from one who outer k (length places) (drop k nests) ≡ children_from one who outer 0 (length old + 1) nests → (x : PlaceRow) → x ≡ get_or places (length old) x → slice_set places (length old) (record { around = x.around; nest = x.nest; action = x.action; roles = x.roles; children = children }) ≡ old ++ unfold_at d actions a who around i (length old)
   all_stand l o ns lt rows children numbers x e =
       let none = drop_past nests k lt in
       let stand : places ≡ old ++ bare_place a who around i ∷ uses_of_place =
-          sym (append-nil places) ∙ ap (λ rest. places ++ uses_from one who outer k (length places) rest) (sym none) ∙ rows in
+      sym (append-nil places) ∙ ap (λ rest. places ++ uses_from one who outer k (length places) rest) (sym none) ∙ rows in
       let named : children ≡ children_from one who outer 0 (length old + 1) nests =
-          sym (append-nil children) ∙ ap (λ rest. children ++ children_from one who outer k (length places) rest) (sym none) ∙ numbers in
+      sym (append-nil children) ∙ ap (λ rest. children ++ children_from one who outer k (length places) rest) (sym none) ∙ numbers in
       let here : x ≡ bare_place a who around i = e ∙ ap (λ rows. get_or rows (length old) x) stand ∙ get_seam old (bare_place a who around i) uses_of_place x in
       ap (λ (y : PlaceRow). slice_set places (length old) (record { around = y.around; nest = y.nest; action = y.action; roles = y.roles; children = children })) here
       ∙ ap₂ (λ rows numbers. slice_set rows (length old) (full_place a who around i numbers)) stand named
@@ -86,5 +94,12 @@ module _ (one : Unfolding) (cast around : List ℕ) (i : ℕ) (old places : List
   alternate_fits lt =
       let tree = one (get_or acts k 0) cast around i (length places) in
       let step : alternates_from one cast around i (length places) (drop k acts) ≡ tree ++ alternates_from one cast around i (length places + length tree) (drop (suc k) acts) = ap (alternates_from one cast around i (length places)) (drop-cons acts k 0 lt) in
-      omega (arith, ap length rows, length-append places (alternates_from one cast around i (length places) (drop k acts)), length-append old (alternates_from one cast around i (length old) acts), few, ap length step,
-      length-append tree (alternates_from one cast around i (length places + length tree) (drop (suc k) acts)))
+      omega (
+        arith,
+        ap length rows,
+        length-append places (alternates_from one cast around i (length places) (drop k acts)),
+        length-append old (alternates_from one cast around i (length old) acts),
+        few,
+        ap length step,
+        length-append tree (alternates_from one cast around i (length places + length tree) (drop (suc k) acts)),
+      )

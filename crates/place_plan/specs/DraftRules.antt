@@ -1,5 +1,5 @@
 -- The rules that a draft has to keep, each with its number.
-use Rattle.std.specs.Prelude.{◌≡◌, ℕ, ℤ, pos, negsuc, ◌==◌, nat_lt, nat_le, max, int_lt, if◌then◌else◌, Bool, true, false, not, ◌&&◌, List, [], ◌∷◌, map, length, slice_index_or, Option, Some, None, zero, suc}
+use Rattle.std.specs.Prelude.{◌≡◌, ℕ, ◌==◌, nat_lt, nat_le, max, if◌then◌else◌, Bool, true, false, not, ◌&&◌, List, [], ◌∷◌, map, length, slice_index_or, Option, Some, None, zero, suc}
 use Rattle.std.specs.List.{list_all}
 use Rattle.caa_base.specs.Limits.{is_value, most_rounds, most_participants, most_objects, most_graphs, most_actions, most_roles, most_nests, most_alternates, most_steps, most_watches, most_drills, most_depth, most_places, most_entries}
 use Rattle.caa_base.specs.declared.entry.Drill.{Drill}

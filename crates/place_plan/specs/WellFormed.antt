@@ -1,5 +1,5 @@
 -- What the fields of an entry may be, by its kind, whatever stands before it.
-use Rattle.std.specs.Prelude.{◌≡◌, ℕ, ℤ, pos, negsuc, ◌≤ℤ◌, ◌<◌, ◌≤◌, List, length, Option, Some, None}
+use Rattle.std.specs.Prelude.{◌≡◌, ℕ, pos, ◌<◌, ◌≤◌, List, length, Option, Some, None}
 use Rattle.std.specs.List.{All}
 use Rattle.cover_table.specs.Cover.{CoverOrder}
 use Rattle.caa_base.specs.Limits.{IsValue, most_rounds}

@@ -11,8 +11,9 @@ use crate::uses::{
 };
 use caa_base::limits::{MOST_ENTRIES, MOST_PLACES};
 
-/// The least rule of a number below 10 that a draft breaks.
-fn broken_part(draft: &Draft) -> Option<u32>
+/// The least rule of a number below 10 that a draft breaks, as `Plan::close` tells the rules. Where it is none, the draft may be
+/// asked how much it unfolds into. No memory is taken.
+pub fn broken_part(draft: &Draft) -> Option<u32>
     ensures { MatchOption result (KeepsParts draft.now) (λ rule. broken_rule draft.now ≡ Some rule) }
 {
     if !keeps_sizes(draft) {
@@ -47,8 +48,8 @@ fn keeps_bound(draft: &Draft) -> bool
     size.places <= MOST_PLACES && size.bound <= MOST_ENTRIES
 }
 
-/// The least rule that a draft breaks. No memory is taken.
-pub(crate) fn broken_rule(draft: &Draft) -> Option<u32>
+/// The least rule that a draft breaks, as `Plan::close` tells the rules. No memory is taken.
+pub fn broken_rule(draft: &Draft) -> Option<u32>
     ensures { result ≡ broken_rule draft.now }
 {
     if let Some(rule) = broken_part(draft) {

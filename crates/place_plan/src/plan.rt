@@ -9,12 +9,12 @@ ghost use Rattle.place_plan.specs.Closed.{AreSound, IsClosed};
 
 use crate::close::broken_rule;
 use crate::draft::Draft;
+use crate::member::is_member;
 use crate::rows::{
     AbortRow, ActionRow, GraphRow, HandlerRow, NestRow, ObjectRow, PlaceRow, Program, RoleRow,
 };
 use crate::unfolded::unfolded;
 use crate::unfolding::unfold_plays;
-use crate::member::is_member;
 use caa_base::entry::{Drill, Exception, Object, Participant, Place};
 use caa_base::name::Name;
 use caa_base::rows::Rows;
@@ -213,6 +213,13 @@ impl Plan {
         ensures { result ≡ length self.now.objects }
     {
         self.objects.len() as u32
+    }
+
+    /// How many graphs of exceptions there are.
+    pub fn graphs(&self) -> u32
+        ensures { result ≡ length self.now.graphs }
+    {
+        self.graphs.len() as u32
     }
 
     /// How many places there are.
@@ -565,7 +572,7 @@ impl Plan {
     }
 
     /// How many exceptions a graph has; none where there is no such graph.
-    pub(crate) fn exceptions_of(&self, graph: u32) -> u32
+    pub fn exceptions_of(&self, graph: u32) -> u32
         ensures { result ≡ (graph_at self.now graph).count }
     {
         match self.graphs.as_slice().get(graph as usize) {

@@ -34,7 +34,7 @@ fn weight_of(actions: &[u32], weights: &[u64]) -> u64
 }
 
 /// The sum of the weights of all actions of nested uses, by a table.
-fn nested_weight(nests: &[NestRow], weights: &[u64]) -> u64
+pub(crate) fn nested_weight(nests: &[NestRow], weights: &[u64]) -> u64
     ensures { result ≡ counted (nested_weight (at weights.now) nests.now) }
 {
     let mut sum = 0;
@@ -95,6 +95,8 @@ fn own_bounds(actions: &[ActionRow]) -> Table
 }
 
 /// How much a draft unfolds into, counted action by action: nothing is unfolded, and no memory is taken.
+///
+/// The draft breaks none of the rules 1 to 9: `broken_part` tells.
 pub fn unfolded(draft: &Draft) -> Size
     requires { KeepsParts draft.now }
     ensures places { result.places ≡ counted (length (plan_of draft.now).places) }
@@ -111,3 +113,6 @@ pub fn unfolded(draft: &Draft) -> Size
         bound: played_weight(plays, &bounds),
     }
 }
+
+#[cfg(test)]
+mod tests;

@@ -6,8 +6,8 @@ ghost use Rattle.place_plan.specs.Unfolding.{unfold_at, use_from, numbers_from, 
 
 use crate::draft::Draft;
 use crate::rows::{ActionRow, NestRow, PlaceRow, PlayRow};
-use caa_base::limits::MOST_DEPTH;
 use caa_base::entry::{Participant, Place};
+use caa_base::limits::MOST_DEPTH;
 use caa_base::rows::Rows;
 use std::alloc::{AllocError, Global};
 
@@ -24,7 +24,11 @@ fn nests_of(actions: &[ActionRow], action: u32) -> &[NestRow]
 }
 
 /// The participants that play the roles of a nested use, by those of the enclosing place.
-fn cast_of(alloc: Global, who: &[Participant], nest: &NestRow) -> Result<Vec<Participant>, AllocError>
+fn cast_of(
+    alloc: Global,
+    who: &[Participant],
+    nest: &NestRow,
+) -> Result<Vec<Participant>, AllocError>
     ensures { IfOk result (λ cast. cast.items ≡ cast_of who.now nest.now) }
 {
     let mut cast = Vec::new(alloc);
@@ -55,7 +59,13 @@ fn inner_to_outer(alloc: Global, place: Place, around: &[Place]) -> Result<Vec<P
 }
 
 /// The row of a place without its nested uses.
-fn bare_place(alloc: Global, action: u32, who: &[Participant], around: &[Place], nest: u32) -> Result<PlaceRow, AllocError>
+fn bare_place(
+    alloc: Global,
+    action: u32,
+    who: &[Participant],
+    around: &[Place],
+    nest: u32,
+) -> Result<PlaceRow, AllocError>
     ensures { IfOk result (λ row. row ≡ bare_place action who.now around.now nest) }
 {
     let roles = Vec::from_slice(alloc, who)?;
@@ -95,7 +105,16 @@ fn unfold(
     let outer = inner_to_outer(alloc, place as u32, around)?;
     let mut children = Vec::new(alloc);
     for (number, used) in nests_of(actions, action).iter().enumerate() {
-        let row = unfold_use(alloc, actions, used, who, outer.as_slice(), number as u32, depth - 1, places)?;
+        let row = unfold_use(
+            alloc,
+            actions,
+            used,
+            who,
+            outer.as_slice(),
+            number as u32,
+            depth - 1,
+            places,
+        )?;
         children.push(row)?;
     }
     places[place].children = Rows::from_vec(children);
@@ -123,13 +142,25 @@ fn unfold_use(
     let mut numbers = Vec::new(alloc);
     for action in used.actions.as_slice() {
         numbers.push(places.len() as u32)?;
-        unfold(alloc, actions, *action, cast.as_slice(), around, nest, depth, places)?;
+        unfold(
+            alloc,
+            actions,
+            *action,
+            cast.as_slice(),
+            around,
+            nest,
+            depth,
+            places,
+        )?;
     }
     Ok(Rows::from_vec(numbers))
 }
 
 /// The places into which the plays of a draft unfold, and which of them are the plays.
-pub(crate) fn unfold_plays(alloc: Global, draft: &Draft) -> Result<(Vec<PlaceRow>, Vec<Place>), AllocError>
+pub(crate) fn unfold_plays(
+    alloc: Global,
+    draft: &Draft,
+) -> Result<(Vec<PlaceRow>, Vec<Place>), AllocError>
     requires fit { list_all action_fits draft.now.actions ≡ true }
     requires few { length (plan_of draft.now).places ≤ 65536 }
     ensures { IfOk result (λ made. IsMade draft.now made.0.items made.1.items) }
@@ -138,7 +169,16 @@ pub(crate) fn unfold_plays(alloc: Global, draft: &Draft) -> Result<(Vec<PlaceRow
     let mut plays = Vec::new(alloc);
     for play in draft.plays.as_slice() {
         plays.push(places.len() as u32)?;
-        unfold(alloc, draft.actions.as_slice(), play.action, play.who.as_slice(), &[], 0, MOST_DEPTH, &mut places)?;
+        unfold(
+            alloc,
+            draft.actions.as_slice(),
+            play.action,
+            play.who.as_slice(),
+            &[],
+            0,
+            MOST_DEPTH,
+            &mut places,
+        )?;
     }
     Ok((places, plays))
 }

@@ -5,9 +5,9 @@ ghost use Rattle.caa_base.specs.Lists.{is_empty, member};
 ghost use Rattle.place_plan.specs.DraftRules.{all_below, nests_below, order_rule, all_differ, fills, nest_fills, fill_rule, action_fits, entered_by, filled_by, same_numbers, roles_enter, enter_rule, step_held, role_held, nest_held, action_held, object_rule, handlers_differ, face_of, nest_mapped, handler_rule, has_one_face, face_rule};
 
 use crate::draft::Draft;
+use crate::member::is_member;
 use crate::ranges::{all_below, exceptions_of};
 use crate::rows::{ActionRow, HandlerRow, NestRow, PlayRow, Program, RoleRow, Step};
-use crate::member::is_member;
 use caa_base::entry::{Exception, Object};
 
 // ---- the order of actions
@@ -153,12 +153,12 @@ fn handlers_enter_nothing(role: &RoleRow) -> bool
         .all(|handler| enters_nothing(handler))
 }
 
-fn roles_enter(action: &ActionRow) -> bool
-    requires { length action.now.roles ≤ 16 }
-    ensures { result ≡ roles_enter action.now.nests 0 action.now.roles }
+/// Whether the body of each role enters just the uses that the role fills, each once and in order, and no handler enters any.
+pub fn roles_enter(nests: &[NestRow], roles: &[RoleRow]) -> bool
+    requires { length roles.now ≤ 16 }
+    ensures { result ≡ roles_enter nests.now 0 roles.now }
 {
-    let nests = action.nests.as_slice();
-    for (number, role) in action.roles.as_slice().iter().enumerate() {
+    for (number, role) in roles.iter().enumerate() {
         let steps = role.body.steps.as_slice();
         if !enters_its_uses(steps, number as u32, nests) || !handlers_enter_nothing(role) {
             return false;
@@ -173,7 +173,7 @@ pub(crate) fn keeps_enters(draft: &Draft) -> bool
     ensures { result ≡ enter_rule draft.now }
 {
     for action in draft.actions.as_slice() {
-        if !roles_enter(action) {
+        if !roles_enter(action.nests.as_slice(), action.roles.as_slice()) {
             return false;
         }
     }
@@ -360,11 +360,8 @@ fn nests_mapped(draft: &Draft, action: &ActionRow) -> bool
 pub(crate) fn keeps_handlers(draft: &Draft) -> bool
     ensures { result ≡ handler_rule draft.now }
 {
-    draft
-        .actions
-        .as_slice()
-        .iter()
-        .all(|action| all_handlers_differ(action) && nests_mapped(draft, action))
+    draft.actions.as_slice().iter().all(|action| all_handlers_differ(action)
+        && nests_mapped(draft, action))
 }
 
 /// Whether all actions of a use have one interface graph.

@@ -1,13 +1,12 @@
 -- What is kept of the resolutions in a journal.
-use Rattle.std.specs.Prelude.{◌≡◌, ℕ, ◌<◌, Bool, true, false, List, length, slice_index_or, Option, Some, None, Result, Ok, Err}
+use Rattle.std.specs.Prelude.{◌≡◌, ℕ, ◌<◌, Bool, true, false, List, length, slice_index_or, Option, Some, None}
 use Rattle.caa_base.specs.declared.entry.Kind.{Kind}
 use Rattle.caa_base.specs.declared.entry.Kind.TheVariants as kind
 use Rattle.place_plan.specs.Entries.{is_of}
 use Rattle.caa_base.specs.declared.entry.Entry.{Entry}
 use Rattle.place_plan.specs.Raising.{exception_resolved}
-use Rattle.shared_views.specs.Noted.{Noted}
+use Rattle.shared_views.specs.Noted.{Noted, IsOf}
 use Rattle.shared_views.specs.Refusals.{place_refused}
-use Rattle.shared_views.specs.declared.notes.NoteRefused.{NoteRefused}
 use Rattle.shared_views.specs.declared.bulletin.Bulletin.{Bulletin}
 use Rattle.shared_views.specs.declared.bulletin.Told.{Told}
 use Rattle.shared_views.specs.declared.bulletin.Told.TheVariants as told
@@ -19,7 +18,7 @@ cells_of b = b.cells.value
 -- the note is of p, by these cells, and knows the exception
 pub record Knows (cells : List ℕ) (p : ℕ) (x : ℕ) (note : Noted) : Type 0 where
   pub place : note.place ≡ p
-  pub cell : note.cell ≡ slice_index_or cells p 0
+  pub ours : IsOf cells note
   pub known : note.known ≡ Some x
 
 -- that p is resolved to the exception was told: a note knows it, or the cell of p refused
@@ -52,11 +51,6 @@ pub record KeepsUp (past : List Entry) (b : Bulletin) : Type 0 where
   pub set : IsSet b
   pub each : (p : ℕ) → p < length (cells_of b) → Tells (cells_of b) p (slice_index_or b.announcer p false) (exception_resolved past p) (told_at b p)
 
--- what is handed out of the resolution of p: a note of p that knows the exception, or the refusal of p
-abbrev pub Hands : List ℕ → ℕ → ℕ → Result Noted NoteRefused → Type 0
-Hands cells p x (Ok note) = Knows cells p x note
-Hands cells p x (Err r) = place_refused r ≡ p
-
 -- the second bulletin has the boxes, the words and the cells of the first
 pub record SaysTheSame (b b' : Bulletin) : Type 0 where
   pub cells : cells_of b' ≡ cells_of b
@@ -70,13 +64,9 @@ pub record Suits (cells : List ℕ) (past : List Entry) (e : Entry) : Type 0 whe
   pub fresh : e.kind ≡ kind.Resolve → exception_resolved past e.place ≡ None
   pub carried : e.kind ≡ kind.Handle → exception_resolved past e.place ≡ Some e.arg
 
--- a note of the entry's place, which knows the entry's exception, or the refusal of that place
-abbrev pub IsHanded : List ℕ → Entry → Option (Result Noted NoteRefused) → Type 0
-IsHanded cells e None = ⊥
-IsHanded cells e (Some r) = Hands cells e.place e.arg r
-
--- what comes of an entry, by its kind: that note of a Resolve or a Handle, and nothing of all others
-abbrev pub Slip : Kind → List ℕ → Entry → Option (Result Noted NoteRefused) → Type 0
-Slip kind.Resolve cells e slip = IsHanded cells e slip
-Slip kind.Handle cells e slip = IsHanded cells e slip
-Slip _ cells e slip = slip ≡ None
+-- what comes of an entry, by its kind: of a Resolve or a Handle that its place is resolved to its exception, and of all others
+-- nothing
+abbrev pub TellsOf : Kind → List ℕ → Entry → Told → Type 0
+TellsOf kind.Resolve cells e t = IsTold cells e.place e.arg t
+TellsOf kind.Handle cells e t = IsTold cells e.place e.arg t
+TellsOf _ cells e t = t ≡ told.Nothing

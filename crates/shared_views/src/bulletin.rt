@@ -27,7 +27,7 @@ pub struct Bulletin {
 }
 
 impl Bulletin {
-    ghost use Rattle.shared_views.specs.Telling.{cells_of, IsFresh, IsSet, IsTold, told_at, Hands, SaysTheSame, KeepsUp, Suits, Slip};
+    ghost use Rattle.shared_views.specs.Telling.{cells_of, IsFresh, IsSet, IsTold, told_at, SaysTheSame, KeepsUp, Suits, TellsOf};
 
     /// A bulletin by which nothing was told, with the announcer that was opened with these cells.
     pub fn open(
@@ -68,58 +68,57 @@ impl Bulletin {
         self.told[place as usize] = told;
     }
 
-    /// A note of a place that was resolved, which knows the exception, or the refusal of its cell.
-    pub fn share(&mut self, cells: &ResolutionCells, place: Place) -> Result<PlaceNote, NoteRefused>
+    /// What was told of a place that was resolved, for one who is to have it.
+    pub fn share(&mut self, cells: &ResolutionCells, place: Place) -> Told
         requires ours { cells_of self.old ≡ cells.now }
         requires set { IsSet self.old }
         requires place { place < length cells.now }
         requires told { (x : ℕ) × IsTold cells.now place x (told_at self.old place) }
         ensures same { SaysTheSame self.old self.new }
-        ensures hands { (x : ℕ) → IsTold cells.now place x (told_at self.old place) → Hands cells.now place x result }
+        ensures told { (x : ℕ) → IsTold cells.now place x (told_at self.old place) → IsTold cells.now place x result }
     {
         self.told[place as usize].share(cells, place)
     }
 
     /// Takes in an entry that was made: a Resolve is announced.
     ///
-    /// Of a Resolve and of a Handle comes a note of the place, which knows the exception, or the refusal of its cell; of all others
-    /// nothing.
-    pub fn take_in(
-        &mut self,
-        cells: &ResolutionCells,
-        entry: Entry,
-    ) -> Option<Result<PlaceNote, NoteRefused>>
+    /// Of a Resolve and of a Handle comes what was told of the place: a note that knows the exception, or the refusal of its cell;
+    /// of all others nothing.
+    pub fn take_in(&mut self, cells: &ResolutionCells, entry: Entry) -> Told
         requires ours { cells_of self.old ≡ cells.now }
         requires follows { (past : List JournalEntry) × KeepsUp past self.old × Suits cells.now past entry }
         ensures cells { cells_of self.new ≡ cells.now }
         ensures keeps_up { (past : List JournalEntry) → KeepsUp past self.old → Suits cells.now past entry → KeepsUp (entry ∷ past) self.new }
-        ensures slip { Slip entry.kind cells.now entry result }
+        ensures told { TellsOf entry.kind cells.now entry result }
     {
         match entry.kind {
             Kind::Resolve => {
                 self.announce(cells, entry.place, entry.arg);
-                Some(self.share(cells, entry.place))
+                self.share(cells, entry.place)
             }
-            Kind::Handle => Some(self.share(cells, entry.place)),
-            _ => None,
+            Kind::Handle => self.share(cells, entry.place),
+            _ => Told::Nothing,
         }
     }
 }
 
 impl Told {
-    ghost use Rattle.shared_views.specs.Telling.{IsTold, Hands};
+    ghost use Rattle.shared_views.specs.Telling.{IsTold};
 
-    /// A note of a place of which something was told, or the refusal.
-    fn share(&mut self, cells: &ResolutionCells, place: Place) -> Result<PlaceNote, NoteRefused>
+    /// The same once more, where something was told of the place.
+    fn share(&mut self, cells: &ResolutionCells, place: Place) -> Told
         requires place { place < length cells.now }
         requires told { (x : ℕ) × IsTold cells.now place x self.old }
         ensures same { self.new ≡ self.old }
-        ensures hands { (x : ℕ) → IsTold cells.now place x self.old → Hands cells.now place x result }
+        ensures told { (x : ℕ) → IsTold cells.now place x self.old → IsTold cells.now place x result }
     {
         match self {
             Told::Nothing => unreachable!(),
-            Told::Noted(note) => cells.share(note),
-            Told::Refused(refused) => Err(*refused),
+            Told::Noted(note) => match cells.share(note) {
+                Ok(note) => Told::Noted(note),
+                Err(refused) => Told::Refused(refused),
+            },
+            Told::Refused(refused) => Told::Refused(*refused),
         }
     }
 }

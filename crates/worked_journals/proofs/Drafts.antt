@@ -1,5 +1,7 @@
--- Drafts of worked plans: each breaks no rule, and unfolds into the plan that was worked out by hand.
-use Rattle.std.proofs.Common.{◌≡◌, ℕ, List, [], ◌∷◌, None, refl}
+-- Drafts of worked plans: each breaks no rule, and unfolds into the plan that was worked out by hand. Some are spoiled by one change:
+-- each breaks the rule of drafts that it is meant to break.
+use Rattle.std.proofs.Common.{◌≡◌, ℕ, List, [], ◌∷◌, ◌++◌, Some, None, refl}
+use Rattle.caa_base.specs.declared.entry.Verdict.TheVariants as verdict
 use Rattle.place_plan.specs.declared.draft.Draft.{Draft}
 use Rattle.place_plan.specs.declared.rows.ActionRow.{ActionRow}
 use Rattle.place_plan.specs.declared.rows.PlaceRow.{PlaceRow}
@@ -9,7 +11,7 @@ use Rattle.place_plan.specs.Bound.{action_bound}
 use Rattle.place_plan.specs.Unfolding.{plan_of, unfold_at, plays_from, tops_from}
 use Rattle.caa_base.specs.Limits.{most_depth}
 use Rattle.place_plan.specs.DraftRules.{broken_rule, depth_within}
-use Rattle.worked_journals.proofs.Notation.{play, inner}
+use Rattle.worked_journals.proofs.Notation.{plain_graph, universal, program, play, inner}
 use Rattle.worked_journals.proofs.ThreeLevels.{ann, bob}
 use Rattle.worked_journals.proofs.FirstPath as first_path
 use Rattle.worked_journals.proofs.OrdinaryUse as ordinary_use
@@ -183,3 +185,95 @@ two_uses_unfold = refl
 two_uses_tops : tops_from (unfold_at most_depth two_uses) 0 two_plays ≡ 0 ∷ 5 ∷ []
 unfolding unfold_at
 two_uses_tops = refl
+
+-- ---- drafts that break a rule, each by one change of a worked plan
+
+-- rule 4: an action nests itself
+abbrev pub nests_itself : Draft
+nests_itself =
+    record (draft_of inner_committed.plan (play_of 1 (inner_committed.ann ∷ []) ∷ [])) {
+      actions =
+          inner_committed.inner_action
+          ∷ (record inner_committed.outer_action { nests = (record inner_committed.outer_n { actions = 1 ∷ [] }) ∷ [] }) ∷ [];
+    }
+
+nests_itself_breaks : broken_rule nests_itself ≡ Some 4
+unfolding unfold_at depth_within action_bound
+nests_itself_breaks = refl
+
+-- rule 6: a role takes part in a nested use and never goes there
+abbrev pub never_enters : Draft
+never_enters =
+    record (draft_of inner_committed.plan (play_of 1 (inner_committed.ann ∷ []) ∷ [])) {
+      actions =
+          inner_committed.inner_action
+          ∷ (record inner_committed.outer_action { roles = (record inner_committed.outer_s { body = program [] verdict.Undo }) ∷ [] }) ∷ [];
+    }
+
+never_enters_breaks : broken_rule never_enters ≡ Some 6
+unfolding unfold_at depth_within action_bound
+never_enters_breaks = refl
+
+-- an action that nests this one alone
+abbrev pub action_round : ℕ → ActionRow
+action_round action = record inner_committed.outer_action { nests = (record inner_committed.outer_n { actions = action ∷ [] }) ∷ [] }
+
+abbrev pub actions_eight_deep : List ActionRow
+actions_eight_deep = inner_committed.inner_action ∷ action_round 0 ∷ action_round 1 ∷ action_round 2 ∷ action_round 3 ∷ action_round 4 ∷ action_round 5 ∷ action_round 6 ∷ []
+
+-- nesting goes eight deep at most, and this draft does
+abbrev pub nests_eight_deep : Draft
+nests_eight_deep = record (draft_of inner_committed.plan (play_of 7 (inner_committed.ann ∷ []) ∷ [])) { actions = actions_eight_deep }
+
+nests_eight_deep_is_whole : broken_rule nests_eight_deep ≡ None
+unfolding unfold_at depth_within action_bound
+nests_eight_deep_is_whole = refl
+
+-- rule 8: nine deep
+abbrev pub nests_nine_deep : Draft
+nests_nine_deep = record (draft_of inner_committed.plan (play_of 8 (inner_committed.ann ∷ []) ∷ [])) { actions = actions_eight_deep ++ action_round 7 ∷ [] }
+
+nests_nine_deep_breaks : broken_rule nests_nine_deep ≡ Some 8
+unfolding unfold_at depth_within action_bound
+nests_nine_deep_breaks = refl
+
+-- rule 9: a role has two handlers for one exception
+abbrev pub handles_twice : Draft
+handles_twice =
+    record (draft_of two_siblings.plan (play_of 0 (two_siblings.ann ∷ two_siblings.bob ∷ []) ∷ [])) {
+      actions =
+          (record two_siblings.duo_action {
+            roles =
+                (record two_siblings.duo_a { handlers = two_siblings.duo_a.handlers ++ two_siblings.duo_b.handlers })
+                ∷ two_siblings.duo_b ∷ [];
+          }) ∷ [];
+    }
+
+handles_twice_breaks : broken_rule handles_twice ≡ Some 9
+unfolding unfold_at depth_within action_bound
+handles_twice_breaks = refl
+
+-- rule 9 too: what one exception of the nested action is outside isn't said
+abbrev pub leaves_unmapped : Draft
+leaves_unmapped =
+    record (draft_of tests_decide.plan (play_of 1 (tests_decide.ann ∷ tests_decide.bob ∷ []) ∷ [])) {
+      actions =
+          tests_decide.inner_action
+          ∷ (record tests_decide.outer_action { nests = (record tests_decide.outer_n { maps = universal ∷ [] }) ∷ [] }) ∷ [];
+    }
+
+leaves_unmapped_breaks : broken_rule leaves_unmapped ≡ Some 9
+unfolding unfold_at depth_within action_bound
+leaves_unmapped_breaks = refl
+
+-- rule 11: the second action of a use tells other exceptions outside than the first
+abbrev pub tells_others : Draft
+tells_others =
+    record (draft_of alternates.plan (play_of 2 (alternates.ann ∷ []) ∷ [])) {
+      graphs = plain_graph ∷ tests_decide.f_graph ∷ [];
+      actions = alternates.bad_action ∷ (record alternates.good_action { interface = 1 }) ∷ alternates.outer_action ∷ [];
+    }
+
+tells_others_breaks : broken_rule tells_others ≡ Some 11
+unfolding unfold_at depth_within action_bound
+tells_others_breaks = refl

@@ -25,3 +25,6 @@ pub mod UndoAsked
 pub mod Withdrawn
 pub mod Drafts
 pub mod Spoiled
+pub mod SpoiledRules
+pub mod SpoiledEnds
+pub mod Texts

@@ -27,113 +27,114 @@ use Rattle.worked_journals.proofs.TwoSiblings.{ann, bob, x, y}
 -- ---- ways to spoil a journal
 
 -- another entry in the place of the one with this index
-abbrev pub replaced : ℕ → Entry → List Entry → List Entry
-replaced index e journal = take index journal ++ e ∷ drop (suc index) journal
+abbrev pub with_other_entry : ℕ → Entry → List Entry → List Entry
+with_other_entry index e journal = take index journal ++ e ∷ drop (suc index) journal
 
 -- one more entry before the one with this index
-abbrev pub inserted : ℕ → Entry → List Entry → List Entry
-inserted index e journal = take index journal ++ e ∷ drop index journal
+abbrev pub with_further_entry : ℕ → Entry → List Entry → List Entry
+with_further_entry index e journal = take index journal ++ e ∷ drop index journal
 
 -- the entry with this index left out
-abbrev pub omitted : ℕ → List Entry → List Entry
-omitted index journal = take index journal ++ drop (suc index) journal
+abbrev pub without_entry : ℕ → List Entry → List Entry
+without_entry index journal = take index journal ++ drop (suc index) journal
 
-abbrev pub swapped : List Entry → List Entry
-swapped [] = []
-swapped (e ∷ []) = e ∷ []
-swapped (e ∷ f ∷ entries) = f ∷ e ∷ entries
+-- the first two entries in the other order
+abbrev pub first_two_exchanged : List Entry → List Entry
+first_two_exchanged [] = []
+first_two_exchanged (e ∷ []) = e ∷ []
+first_two_exchanged (e ∷ f ∷ entries) = f ∷ e ∷ entries
 
 -- the entry with this index and the next one, in the other order
-abbrev pub exchanged : ℕ → List Entry → List Entry
-exchanged index journal = take index journal ++ swapped (drop index journal)
+abbrev pub with_two_exchanged : ℕ → List Entry → List Entry
+with_two_exchanged index journal = take index journal ++ first_two_exchanged (drop index journal)
 
 -- the size of the value that is put
-abbrev pub value_put : Option (ℕ × ℤ) → ℕ
-value_put None = 0
-value_put (Some put) = nat_abs put.1
+abbrev pub size_of_put : Option (ℕ × ℤ) → ℕ
+size_of_put None = 0
+size_of_put (Some put) = nat_abs put.1
 
 -- ---- entries moved
 
 -- the second play starts before the first one has given the object back
 abbrev pub starts_before_end : List Entry
-starts_before_end = exchanged 6 two_plays_one_object.journal
+starts_before_end = with_two_exchanged 6 two_plays_one_object.journal
 
 pub starts_before_end_is_illegal : IsLegal two_plays_one_object.plan starts_before_end → ⊥
 starts_before_end_is_illegal h = absurd (false≢true (rule_at two_plays_one_object.plan starts_before_end 6 h).ready)
 
 -- a place starts before all its roles have come
 abbrev pub starts_before_arrivals : List Entry
-starts_before_arrivals = exchanged 1 first_path.journal
+starts_before_arrivals = with_two_exchanged 1 first_path.journal
 
 pub starts_before_arrivals_is_illegal : IsLegal first_path.plan starts_before_arrivals → ⊥
 starts_before_arrivals_is_illegal h = absurd (false≢true (rule_at first_path.plan starts_before_arrivals 1 h).together)
 
 -- a role leaves at its own verdict, before the End
 abbrev pub leaves_before_end : List Entry
-leaves_before_end = inserted 5 (leave 0 bob) first_path.journal
+leaves_before_end = with_further_entry 5 (leave 0 bob) first_path.journal
 
 pub leaves_before_end_is_illegal : IsLegal first_path.plan leaves_before_end → ⊥
 leaves_before_end_is_illegal h = absurd (false≢true (rule_at first_path.plan leaves_before_end 5 h).when)
 
 -- an End before all roles have given their verdicts
-abbrev pub ends_early : List Entry
-ends_early = inserted 5 (end_commit 0 bob) ordinary_use.journal
+abbrev pub ends_before_verdict : List Entry
+ends_before_verdict = with_further_entry 5 (end_commit 0 bob) ordinary_use.journal
 
-pub ends_early_is_illegal : IsLegal ordinary_use.plan ends_early → ⊥
-ends_early_is_illegal h = absurd (false≢true (rule_at ordinary_use.plan ends_early 5 h).how.agreed)
+pub ends_before_verdict_is_illegal : IsLegal ordinary_use.plan ends_before_verdict → ⊥
+ends_before_verdict_is_illegal h = absurd (false≢true (rule_at ordinary_use.plan ends_before_verdict 5 h).how.agreed)
 
 -- a second End
 abbrev pub ends_twice : List Entry
-ends_twice = inserted 9 (end_commit 0 bob) ordinary_use.journal
+ends_twice = with_further_entry 9 (end_commit 0 bob) ordinary_use.journal
 
 pub ends_twice_is_illegal : IsLegal ordinary_use.plan ends_twice → ⊥
 ends_twice_is_illegal h = absurd (false≢true (rule_at ordinary_use.plan ends_twice 9 h).how.goes)
 
 -- a Resolve before all roles are halted
-abbrev pub resolves_early : List Entry
-resolves_early = inserted 4 (resolve 0 bob two_siblings.right) two_siblings.journal
+abbrev pub resolves_before_halted : List Entry
+resolves_before_halted = with_further_entry 4 (resolve 0 bob two_siblings.right) two_siblings.journal
 
-pub resolves_early_is_illegal : IsLegal two_siblings.plan resolves_early → ⊥
-resolves_early_is_illegal h = absurd (false≢true (rule_at two_siblings.plan resolves_early 4 h).together)
+pub resolves_before_halted_is_illegal : IsLegal two_siblings.plan resolves_before_halted → ⊥
+resolves_before_halted_is_illegal h = absurd (false≢true (rule_at two_siblings.plan resolves_before_halted 4 h).together)
 
 -- a second Resolve
 abbrev pub resolves_twice : List Entry
-resolves_twice = inserted 6 (resolve 0 bob two_siblings.mid) two_siblings.journal
+resolves_twice = with_further_entry 6 (resolve 0 bob two_siblings.mid) two_siblings.journal
 
 pub resolves_twice_is_illegal : IsLegal two_siblings.plan resolves_twice → ⊥
 resolves_twice_is_illegal h = let wrong = (rule_at two_siblings.plan resolves_twice 6 h).fresh in cc
 
--- an outer abort before the inner End
-abbrev pub outer_aborts_first : List Entry
-outer_aborts_first = inserted 9 (abort_naming 1 ann three_levels.bad) three_levels.journal
+-- an abort of the outer place by a participant that is still in the inner one
+abbrev pub aborts_outer_from_inner : List Entry
+aborts_outer_from_inner = with_further_entry 9 (abort_naming 1 ann three_levels.bad) three_levels.journal
 
-pub outer_aborts_first_is_illegal : IsLegal three_levels.plan outer_aborts_first → ⊥
-outer_aborts_first_is_illegal h = let wrong = (rule_at three_levels.plan outer_aborts_first 9 h).here in cc
+pub aborts_outer_from_inner_is_illegal : IsLegal three_levels.plan aborts_outer_from_inner → ⊥
+aborts_outer_from_inner_is_illegal h = let wrong = (rule_at three_levels.plan aborts_outer_from_inner 9 h).here in cc
 
 -- a doomed place is undone before its role has given up
 abbrev pub undoes_before_aborts : List Entry
-undoes_before_aborts = omitted 9 three_levels.journal
+undoes_before_aborts = without_entry 9 three_levels.journal
 
 pub undoes_before_aborts_is_illegal : IsLegal three_levels.plan undoes_before_aborts → ⊥
 undoes_before_aborts_is_illegal h = absurd (true≢false (rule_at three_levels.plan undoes_before_aborts 9 h).agreed.spared)
 
 -- a role is informed though nothing was raised
 abbrev pub informs_before_raise : List Entry
-informs_before_raise = exchanged 6 informed_at_exit.journal
+informs_before_raise = with_two_exchanged 6 informed_at_exit.journal
 
 pub informs_before_raise_is_illegal : IsLegal informed_at_exit.plan informs_before_raise → ⊥
 informs_before_raise_is_illegal h = absurd (false≢true (rule_at informed_at_exit.plan informs_before_raise 6 h).when)
 
 -- a withdrawal from a place that has started
 abbrev pub withdraws_after_start : List Entry
-withdraws_after_start = inserted 9 (withdraw 2 ann) three_levels.journal
+withdraws_after_start = with_further_entry 9 (withdraw 2 ann) three_levels.journal
 
 pub withdraws_after_start_is_illegal : IsLegal three_levels.plan withdraws_after_start → ⊥
 withdraws_after_start_is_illegal h = absurd (true≢false (rule_at three_levels.plan withdraws_after_start 9 h).waits)
 
 -- a write of a role that has given its verdict
 abbrev pub writes_after_verdict : List Entry
-writes_after_verdict = inserted 5 (write 0 bob y 7) ordinary_use.journal
+writes_after_verdict = with_further_entry 5 (write 0 bob y 7) ordinary_use.journal
 
 pub writes_after_verdict_is_illegal : IsLegal ordinary_use.plan writes_after_verdict → ⊥
 writes_after_verdict_is_illegal h = absurd (false≢true (rule_at ordinary_use.plan writes_after_verdict 5 h).can)
@@ -142,21 +143,21 @@ writes_after_verdict_is_illegal h = absurd (false≢true (rule_at ordinary_use.p
 
 -- the next action of a use is entered after the first one failed
 abbrev pub enters_after_failure : List Entry
-enters_after_failure = inserted 10 (arrive 2 ann) alternate_not_after_failure.journal
+enters_after_failure = with_further_entry 10 (arrive 2 ann) alternate_not_after_failure.journal
 
 pub enters_after_failure_is_illegal : IsLegal alternate_not_after_failure.plan enters_after_failure → ⊥
 enters_after_failure_is_illegal h = let wrong = (rule_at alternate_not_after_failure.plan enters_after_failure 10 h).leads in cc
 
 -- what the undo of a use is mapped to is carried out of an action that isn't its last
 abbrev pub carries_earlier_undo : List Entry
-carries_earlier_undo = replaced 9 (leave_carrying 1 ann universal) alternates.journal
+carries_earlier_undo = with_other_entry 9 (leave_carrying 1 ann universal) alternates.journal
 
 pub carries_earlier_undo_is_illegal : IsLegal alternates.plan carries_earlier_undo → ⊥
 carries_earlier_undo_is_illegal h = let wrong = (rule_at alternates.plan carries_earlier_undo 9 h).carries.0 in cc
 
 -- the first action of a use is left out
 abbrev pub skips_alternate : List Entry
-skips_alternate = replaced 2 (arrive 2 ann) alternates.journal
+skips_alternate = with_other_entry 2 (arrive 2 ann) alternates.journal
 
 pub skips_alternate_is_illegal : IsLegal alternates.plan skips_alternate → ⊥
 skips_alternate_is_illegal h = let wrong = (rule_at alternates.plan skips_alternate 2 h).leads in cc
@@ -165,107 +166,107 @@ skips_alternate_is_illegal h = let wrong = (rule_at alternates.plan skips_altern
 
 -- a read of another value than the object has
 abbrev pub reads_wrong_value : List Entry
-reads_wrong_value = replaced 5 (read 0 ann x 6) first_path.journal
+reads_wrong_value = with_other_entry 5 (read 0 ann x 6) first_path.journal
 
 pub reads_wrong_value_is_illegal : IsLegal first_path.plan reads_wrong_value → ⊥
 reads_wrong_value_is_illegal h = let wrong = (rule_at first_path.plan reads_wrong_value 5 h).value in cc
 
 -- work that gives another value than the mixed one
 abbrev pub works_wrong_value : List Entry
-works_wrong_value = replaced 3 (work 0 bob 2 1406932607) first_path.journal
+works_wrong_value = with_other_entry 3 (work 0 bob 2 1406932607) first_path.journal
 
 pub works_wrong_value_is_illegal : IsLegal first_path.plan works_wrong_value → ⊥
 works_wrong_value_is_illegal h = absurd (omega (arith, ap nat_abs ((rule_at first_path.plan works_wrong_value 3 h).value ∙ sym first_path.mixed)))
 
 -- a put of another value than the step says
 abbrev pub writes_wrong_value : List Entry
-writes_wrong_value = replaced 3 (write 0 bob y 8) ordinary_use.journal
+writes_wrong_value = with_other_entry 3 (write 0 bob y 8) ordinary_use.journal
 
 pub writes_wrong_value_is_illegal : IsLegal ordinary_use.plan writes_wrong_value → ⊥
-writes_wrong_value_is_illegal h = absurd (omega (arith, ap value_put (rule_at ordinary_use.plan writes_wrong_value 3 h).puts))
+writes_wrong_value_is_illegal h = absurd (omega (arith, ap size_of_put (rule_at ordinary_use.plan writes_wrong_value 3 h).puts))
 
 -- an undo that spares what the committed inner action wrote
 abbrev pub restores_inner_write : List Entry
-restores_inner_write = replaced 10 (restore_well 0 ann x 5) inner_committed_outer_undone.journal
+restores_inner_write = with_other_entry 10 (restore_well 0 ann x 5) inner_committed_outer_undone.journal
 
 pub restores_inner_write_is_illegal : IsLegal inner_committed_outer_undone.plan restores_inner_write → ⊥
 restores_inner_write_is_illegal h = let wrong = (rule_at inner_committed_outer_undone.plan restores_inner_write 10 h).value in cc
 
 -- a Restore that passes over a lesser object
 abbrev pub restores_out_of_order : List Entry
-restores_out_of_order = omitted 6 undo_asked.journal
+restores_out_of_order = without_entry 6 undo_asked.journal
 
 pub restores_out_of_order_is_illegal : IsLegal undo_asked.plan restores_out_of_order → ⊥
 restores_out_of_order_is_illegal h = let wrong = (rule_at undo_asked.plan restores_out_of_order 6 h).least in cc
 
 -- an add that leaves the range of values
 abbrev pub writes_past_the_range : List Entry
-writes_past_the_range = replaced 3 (write 0 ann x 1000000000004) saturating_add.journal
+writes_past_the_range = with_other_entry 3 (write 0 ann x 1000000000004) saturating_add.journal
 
 pub writes_past_the_range_is_illegal : IsLegal saturating_add.plan writes_past_the_range → ⊥
-writes_past_the_range_is_illegal h = absurd (omega (arith, ap value_put (rule_at saturating_add.plan writes_past_the_range 3 h).puts))
+writes_past_the_range_is_illegal h = absurd (omega (arith, ap size_of_put (rule_at saturating_add.plan writes_past_the_range 3 h).puts))
 
 -- ---- wrong exceptions
 
 -- a Resolve to universal where a lesser exception covers all
 abbrev pub resolves_to_universal : List Entry
-resolves_to_universal = replaced 5 (resolve 0 bob universal) two_siblings.journal
+resolves_to_universal = with_other_entry 5 (resolve 0 bob universal) two_siblings.journal
 
 pub resolves_to_universal_is_illegal : IsLegal two_siblings.plan resolves_to_universal → ⊥
 resolves_to_universal_is_illegal h = absurd (false≢true ((rule_at two_siblings.plan resolves_to_universal 5 h).least.least two_siblings.mid (omega arith) refl))
 
 -- a Resolve to an exception that does not cover all
 abbrev pub resolves_to_uncovering : List Entry
-resolves_to_uncovering = replaced 5 (resolve 0 bob two_siblings.left) two_siblings.journal
+resolves_to_uncovering = with_other_entry 5 (resolve 0 bob two_siblings.left) two_siblings.journal
 
 pub resolves_to_uncovering_is_illegal : IsLegal two_siblings.plan resolves_to_uncovering → ⊥
 resolves_to_uncovering_is_illegal h = absurd (false≢true (rule_at two_siblings.plan resolves_to_uncovering 5 h).least.above)
 
--- a handler for what the role itself raised, not for what was resolved
-abbrev pub handles_another : List Entry
-handles_another = replaced 7 (handle 0 bob two_siblings.right) two_siblings.journal
+-- a handler for what the participant raised itself, not for what was resolved
+abbrev pub handles_own_raise : List Entry
+handles_own_raise = with_other_entry 7 (handle 0 bob two_siblings.right) two_siblings.journal
 
-pub handles_another_is_illegal : IsLegal two_siblings.plan handles_another → ⊥
-handles_another_is_illegal h = let wrong = (rule_at two_siblings.plan handles_another 7 h).resolution in cc
+pub handles_own_raise_is_illegal : IsLegal two_siblings.plan handles_own_raise → ⊥
+handles_own_raise_is_illegal h = let wrong = (rule_at two_siblings.plan handles_own_raise 7 h).resolution in cc
 
 -- an exception that is carried out into a doomed place
-abbrev pub carries_past_doom : List Entry
-carries_past_doom = replaced 13 (leave_carrying 2 ann universal) three_levels.journal
+abbrev pub carries_into_doom : List Entry
+carries_into_doom = with_other_entry 13 (leave_carrying 2 ann universal) three_levels.journal
 
-pub carries_past_doom_is_illegal : IsLegal three_levels.plan carries_past_doom → ⊥
-carries_past_doom_is_illegal h = let wrong = (rule_at three_levels.plan carries_past_doom 13 h).carries.0 in cc
+pub carries_into_doom_is_illegal : IsLegal three_levels.plan carries_into_doom → ⊥
+carries_into_doom_is_illegal h = let wrong = (rule_at three_levels.plan carries_into_doom 13 h).carries.0 in cc
 
 -- an abort exception that is dropped where the enclosing place is not doomed
 abbrev pub carries_nothing : List Entry
-carries_nothing = replaced 18 (leave 1 ann) three_levels.journal
+carries_nothing = with_other_entry 18 (leave 1 ann) three_levels.journal
 
 pub carries_nothing_is_illegal : IsLegal three_levels.plan carries_nothing → ⊥
 carries_nothing_is_illegal h = let wrong = (rule_at three_levels.plan carries_nothing 18 h).carries.0 in cc
 
 -- an abort that does not name its exception
 abbrev pub aborts_silently : List Entry
-aborts_silently = replaced 9 (abort 2 ann) three_levels.journal
+aborts_silently = with_other_entry 9 (abort 2 ann) three_levels.journal
 
 pub aborts_silently_is_illegal : IsLegal three_levels.plan aborts_silently → ⊥
 aborts_silently_is_illegal h = let wrong = (rule_at three_levels.plan aborts_silently 9 h).names.0 in cc
 
 -- an abort that is silent though its test is met
-abbrev pub aborts_untested : List Entry
-aborts_untested = replaced 9 (abort 1 ann) tests_decide.journal
+abbrev pub aborts_past_test : List Entry
+aborts_past_test = with_other_entry 9 (abort 1 ann) tests_decide.journal
 
-pub aborts_untested_is_illegal : IsLegal tests_decide.plan aborts_untested → ⊥
-aborts_untested_is_illegal h = let wrong = (rule_at tests_decide.plan aborts_untested 9 h).names.0 in cc
+pub aborts_past_test_is_illegal : IsLegal tests_decide.plan aborts_past_test → ⊥
+aborts_past_test_is_illegal h = let wrong = (rule_at tests_decide.plan aborts_past_test 9 h).names.0 in cc
 
 -- a failure that is carried out as what it is not mapped to
 abbrev pub carries_unmapped : List Entry
-carries_unmapped = replaced 9 (leave_carrying 1 ann universal) failure_handled.journal
+carries_unmapped = with_other_entry 9 (leave_carrying 1 ann universal) failure_handled.journal
 
 pub carries_unmapped_is_illegal : IsLegal failure_handled.plan carries_unmapped → ⊥
 carries_unmapped_is_illegal h = let wrong = (rule_at failure_handled.plan carries_unmapped 9 h).carries.1 in cc
 
 -- a check that is passed over though its test is met
 abbrev pub passes_met_check : List Entry
-passes_met_check = replaced 6 (check 0 bob) informed_at_exit.journal
+passes_met_check = with_other_entry 6 (check 0 bob) informed_at_exit.journal
 
 pub passes_met_check_is_illegal : IsLegal informed_at_exit.plan passes_met_check → ⊥
 passes_met_check_is_illegal h = let wrong = (rule_at informed_at_exit.plan passes_met_check 6 h).passes in cc
@@ -274,90 +275,90 @@ passes_met_check_is_illegal h = let wrong = (rule_at informed_at_exit.plan passe
 
 -- a verdict in a doomed place
 abbrev pub says_done_after_doom : List Entry
-says_done_after_doom = inserted 9 (verdict_done 2 ann) three_levels.journal
+says_done_after_doom = with_further_entry 9 (verdict_done 2 ann) three_levels.journal
 
 pub says_done_after_doom_is_illegal : IsLegal three_levels.plan says_done_after_doom → ⊥
 says_done_after_doom_is_illegal h = absurd (rule_at three_levels.plan says_done_after_doom 9 h).due
 
 -- a handler that says done where its next step raises
 abbrev pub says_done_before_raise : List Entry
-says_done_before_raise = replaced 17 (verdict_done 0 bob) two_signals.journal
+says_done_before_raise = with_other_entry 17 (verdict_done 0 bob) two_signals.journal
 
 pub says_done_before_raise_is_illegal : IsLegal two_signals.plan says_done_before_raise → ⊥
 says_done_before_raise_is_illegal h = let wrong = (rule_at two_signals.plan says_done_before_raise 17 h).due.0 in cc
 
 -- an End with a signal that does not cover what another role signals
 abbrev pub signals_one_of_two : List Entry
-signals_one_of_two = replaced 9 (end_signal 1 ann two_signals.weak) two_signals.journal
+signals_one_of_two = with_other_entry 9 (end_signal 1 ann two_signals.weak) two_signals.journal
 
 pub signals_one_of_two_is_illegal : IsLegal two_signals.plan signals_one_of_two → ⊥
 signals_one_of_two_is_illegal h = absurd (false≢true (rule_at two_signals.plan signals_one_of_two 9 h).how.outcome.1.above)
 
 -- an End with universal where a lesser exception covers all signals
 abbrev pub signals_universal : List Entry
-signals_universal = replaced 9 (end_signal 1 ann universal) two_signals.journal
+signals_universal = with_other_entry 9 (end_signal 1 ann universal) two_signals.journal
 
 pub signals_universal_is_illegal : IsLegal two_signals.plan signals_universal → ⊥
 signals_universal_is_illegal h = absurd (false≢true ((rule_at two_signals.plan signals_universal 9 h).how.outcome.1.least two_signals.both (omega arith) refl))
 
 -- a verdict of another kind than the body has
 abbrev pub says_done_for_undo : List Entry
-says_done_for_undo = replaced 4 (verdict_done 0 ann) undo_asked.journal
+says_done_for_undo = with_other_entry 4 (verdict_done 0 ann) undo_asked.journal
 
 pub says_done_for_undo_is_illegal : IsLegal undo_asked.plan says_done_for_undo → ⊥
 says_done_for_undo_is_illegal h = let wrong = (rule_at undo_asked.plan says_done_for_undo 4 h).due.0 in cc
 
 -- a role without a handler that says done
 abbrev pub says_done_without_handler : List Entry
-says_done_without_handler = replaced 6 (verdict_done 0 ann) same_exception_twice.journal
+says_done_without_handler = with_other_entry 6 (verdict_done 0 ann) same_exception_twice.journal
 
 pub says_done_without_handler_is_illegal : IsLegal same_exception_twice.plan says_done_without_handler → ⊥
 says_done_without_handler_is_illegal h = let wrong = (rule_at same_exception_twice.plan says_done_without_handler 6 h).due.0 in cc
 
 -- a role that says done though a put was refused in its handler
 abbrev pub says_done_after_refusal : List Entry
-says_done_after_refusal = replaced 8 (verdict_done 0 ann) put_fails_in_handler.journal
+says_done_after_refusal = with_other_entry 8 (verdict_done 0 ann) put_fails_in_handler.journal
 
 pub says_done_after_refusal_is_illegal : IsLegal put_fails_in_handler.plan says_done_after_refusal → ⊥
 says_done_after_refusal_is_illegal h = let wrong = (rule_at put_fails_in_handler.plan says_done_after_refusal 8 h).due.0 in cc
 
 -- an End that says undone though a restore failed
 abbrev pub ends_undone_after_refusal : List Entry
-ends_undone_after_refusal = replaced 8 (end_undone 0 ann) restore_fails.journal
+ends_undone_after_refusal = with_other_entry 8 (end_undone 0 ann) restore_fails.journal
 
 pub ends_undone_after_refusal_is_illegal : IsLegal restore_fails.plan ends_undone_after_refusal → ⊥
 ends_undone_after_refusal_is_illegal h = let wrong = (rule_at restore_fails.plan ends_undone_after_refusal 8 h).how.mark in cc
 
 -- an inner commit after the outer action has raised
 abbrev pub commits_after_doom : List Entry
-commits_after_doom = replaced 8 (verdict_done 2 ann) (take 9 three_levels.journal) ++ raise 0 bob three_levels.stop ∷ end_commit 2 ann ∷ []
+commits_after_doom = with_other_entry 8 (verdict_done 2 ann) (take 9 three_levels.journal) ++ raise 0 bob three_levels.stop ∷ end_commit 2 ann ∷ []
 
 pub commits_after_doom_is_illegal : IsLegal three_levels.plan commits_after_doom → ⊥
 commits_after_doom_is_illegal h = absurd (true≢false (rule_at three_levels.plan commits_after_doom 10 h).how.spared)
 
+-- what stands before the refused commit is legal
+pub commits_after_doom_until_then : IsLegal three_levels.plan (take 10 commits_after_doom)
+commits_after_doom_until_then = assumption
+
 -- a commit where a role has signalled
 abbrev pub commits_for_signal : List Entry
-commits_for_signal = replaced 14 (end_commit 0 bob) informed_at_exit.journal
+commits_for_signal = with_other_entry 14 (end_commit 0 bob) informed_at_exit.journal
 
 pub commits_for_signal_is_illegal : IsLegal informed_at_exit.plan commits_for_signal → ⊥
 commits_for_signal_is_illegal h = let wrong = (rule_at informed_at_exit.plan commits_for_signal 14 h).how.outcome.0 in cc
 
 -- a commit where a role has asked for undo
 abbrev pub commits_for_undo : List Entry
-commits_for_undo = replaced 5 (end_commit 0 ann) undo_asked.journal
+commits_for_undo = with_other_entry 5 (end_commit 0 ann) undo_asked.journal
 
 pub commits_for_undo_is_illegal : IsLegal undo_asked.plan commits_for_undo → ⊥
 commits_for_undo_is_illegal h = absurd (true≢false (rule_at undo_asked.plan commits_for_undo 5 h).how.kept)
 
--- what stands before the refused commit is legal
-pub commits_after_doom_until_then : IsLegal three_levels.plan (take 10 commits_after_doom)
-commits_after_doom_until_then = assumption
-
 -- ---- a journal that breaks off
 
 -- a journal that stops before the last role has left
-abbrev pub breaks_off : List Entry
-breaks_off = take 9 first_path.journal
+abbrev pub stops_before_last_leave : List Entry
+stops_before_last_leave = take 9 first_path.journal
 
-pub breaks_off_is_incomplete : IsComplete first_path.plan breaks_off → ⊥
-breaks_off_is_incomplete h = absurd (false≢true (h bob (omega arith)))
+pub stops_before_last_leave_is_incomplete : IsComplete first_path.plan stops_before_last_leave → ⊥
+stops_before_last_leave_is_incomplete h = absurd (false≢true (h bob (omega arith)))

@@ -1,9 +1,5 @@
-ghost use Rattle.std.specs.Prelude.{◌≡◌, true, IfOk};
-ghost use Rattle.std.specs.List.{list_all};
-ghost use Rattle.place_plan.specs.Built.{is_built_step, is_built_role, is_built_action, IsBuilt};
-
 use super::*;
-use crate::rows::Step;
+use crate::rows::{PlayRow, Step};
 use crate::value::value_at;
 use caa_base::entry::{Entry, Kind, Verdict};
 use std::test::Fail;
@@ -38,10 +34,7 @@ const FIRST_PATH: Parts<'static> = Parts {
     plays: 1,
 };
 
-fn role(alloc: Global, name: &[u8], step: Step) -> Result<RoleRow, Fail>
-    requires { is_built_step step ≡ true }
-    ensures { IfOk result (λ role. is_built_role role ≡ true) }
-{
+fn role(alloc: Global, name: &[u8], step: Step) -> Result<RoleRow, Fail> {
     Ok(RoleRow {
         name: Name::from_bytes(alloc, name)?,
         body: Program {
@@ -53,9 +46,7 @@ fn role(alloc: Global, name: &[u8], step: Step) -> Result<RoleRow, Fail>
     })
 }
 
-fn roles(alloc: Global, parts: Parts) -> Result<Vec<RoleRow>, Fail>
-    ensures { IfOk result (λ roles. list_all is_built_role roles.items ≡ true) }
-{
+fn roles(alloc: Global, parts: Parts) -> Result<Vec<RoleRow>, Fail> {
     let mut roles = Vec::new(alloc);
     if parts.has_roles {
         roles.push(role(alloc, b"a", Step::Read(parts.read))?)?;
@@ -93,9 +84,7 @@ fn plays(alloc: Global, parts: Parts) -> Result<Vec<PlayRow>, Fail> {
     Ok(plays)
 }
 
-fn actions(alloc: Global, parts: Parts) -> Result<Vec<ActionRow>, Fail>
-    ensures { IfOk result (λ actions. list_all is_built_action actions.items ≡ true) }
-{
+fn actions(alloc: Global, parts: Parts) -> Result<Vec<ActionRow>, Fail> {
     Ok(vec![in alloc;
         ActionRow {
             name: Name::from_bytes(alloc, b"look")?,
@@ -109,9 +98,7 @@ fn actions(alloc: Global, parts: Parts) -> Result<Vec<ActionRow>, Fail>
     ]?)
 }
 
-fn draft(alloc: Global, parts: Parts) -> Result<Draft, Fail>
-    ensures { IfOk result (λ draft. IsBuilt draft) }
-{
+fn draft(alloc: Global, parts: Parts) -> Result<Draft, Fail> {
     let ann = Name::from_bytes(alloc, b"ann")?;
     let bob = Name::from_bytes(alloc, b"bob")?;
     Ok(Draft {

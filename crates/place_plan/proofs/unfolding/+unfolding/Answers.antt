@@ -13,9 +13,8 @@ unfold-unfold_use-requires t c =
     let place : c.len-place.result ≡ length c.args.places.now.items = omega (arith, c.len-place.ensures, c.args.places.now.ok) in
     let outer : c.in_ok-outer.outer.items ≡ length c.args.places.now.items ∷ c.args.around.now = c.in_ok-outer.ensures ∙ ap (λ p. p ∷ c.args.around.now) place in
     let few =
-        use_fits c.args.depth c.args.actions.now c.args.action c.args.who.now c.args.around.now c.in_ok-outer.outer.items c.args.nest c.args.places.now.items c.loop-number.places.items c.nests_of-used-items.result.now c.loop-number.number
-        deep outer c.nests_of-used-items.ensures.nests c.loop-number-test.true c.loop-number.invariant.rows c.requires.few c.used-item.result c.used-item.is in
-    (
+    use_fits c.args.depth c.args.actions.now c.args.action c.args.who.now c.args.around.now c.in_ok-outer.outer.items c.args.nest c.args.places.now.items c.loop-number.places.items c.nests_of-used-items.result.now c.loop-number.number
+    deep outer c.nests_of-used-items.ensures.nests c.loop-number-test.true c.loop-number.invariant.rows c.requires.few c.used-item.result c.used-item.is in (
       search rules,
       (
         c.requires.fit,
@@ -38,7 +37,7 @@ unfold-returns t c =
 pub unfold_use-overflow_cast-len : goal.unfold_use-overflow_cast-len
 unfold_use-overflow_cast-len t c =
     let few : length c.args.places.now.items + length (alternates_from (unfold_at c.args.depth c.args.actions.now) c.in_ok-cast.cast.items c.args.around.now c.args.nest (length c.args.places.now.items) c.as_slice-action-items.result.now) ≤ 65536 =
-        subst₂ (λ cast acts. length c.args.places.now.items + length (alternates_from (unfold_at c.args.depth c.args.actions.now) cast c.args.around.now c.args.nest (length c.args.places.now.items) acts) ≤ 65536) (sym c.in_ok-cast.ensures) (sym c.as_slice-action-items.ensures) c.requires.few in
+    subst₂ (λ cast acts. length c.args.places.now.items + length (alternates_from (unfold_at c.args.depth c.args.actions.now) cast c.args.around.now c.args.nest (length c.args.places.now.items) acts) ≤ 65536) (sym c.in_ok-cast.ensures) (sym c.as_slice-action-items.ensures) c.requires.few in
     let fits = number_fits (unfold_at c.args.depth c.args.actions.now) c.in_ok-cast.cast.items c.args.around.now c.args.nest c.args.places.now.items c.loop-action.places.items c.as_slice-action-items.result.now c.loop-action.action-index c.loop-action.invariant.rows few in
     let same : c.len.result ≡ length c.loop-action.places.items = omega (arith, c.len.ensures, c.loop-action.places.ok) in
     omega arith
@@ -46,9 +45,8 @@ unfold_use-overflow_cast-len t c =
 pub unfold_use-unfold-requires : goal.unfold_use-unfold-requires
 unfold_use-unfold-requires t c =
     let few : length c.args.places.now.items + length (alternates_from (unfold_at c.args.depth c.args.actions.now) c.in_ok-cast.cast.items c.args.around.now c.args.nest (length c.args.places.now.items) c.as_slice-action-items.result.now) ≤ 65536 =
-        subst₂ (λ cast acts. length c.args.places.now.items + length (alternates_from (unfold_at c.args.depth c.args.actions.now) cast c.args.around.now c.args.nest (length c.args.places.now.items) acts) ≤ 65536) (sym c.in_ok-cast.ensures) (sym c.as_slice-action-items.ensures) c.requires.few in
-    let fits = alternate_fits (unfold_at c.args.depth c.args.actions.now) c.in_ok-cast.cast.items c.args.around.now c.args.nest c.args.places.now.items c.loop-action.places.items c.as_slice-action-items.result.now c.loop-action.action-index c.loop-action.invariant.rows few c.loop-action-test.true in
-    (
+    subst₂ (λ cast acts. length c.args.places.now.items + length (alternates_from (unfold_at c.args.depth c.args.actions.now) cast c.args.around.now c.args.nest (length c.args.places.now.items) acts) ≤ 65536) (sym c.in_ok-cast.ensures) (sym c.as_slice-action-items.ensures) c.requires.few in
+    let fits = alternate_fits (unfold_at c.args.depth c.args.actions.now) c.in_ok-cast.cast.items c.args.around.now c.args.nest c.args.places.now.items c.loop-action.places.items c.as_slice-action-items.result.now c.loop-action.action-index c.loop-action.invariant.rows few c.loop-action-test.true in (
       search rules,
       (
         c.requires.fit,

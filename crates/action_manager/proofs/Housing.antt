@@ -1,0 +1,55 @@
+-- What a machine's entry is to the bulletin beside it.
+use Rattle.std.proofs.Common.{◌≡◌, ℕ, ◌<◌, List, [], ◌∷◌, ◌++◌, length, reverse, Option, refl, sym, ap, ◌∙◌, subst, arith}
+use Rattle.std.proofs.lemmas.List.{reverse-append}
+use Rattle.caa_base.specs.Mixing.{Worked}
+use Rattle.caa_base.specs.declared.entry.Entry.{Entry}
+use Rattle.caa_base.specs.declared.entry.Kind.TheVariants as kind
+use Rattle.place_plan.specs.PlanValue.{Plan}
+use Rattle.place_plan.specs.Rules.{Row, MayResolve, MayHandle}
+use Rattle.place_plan.specs.WellFormed.{AllWellFormed, IsWellFormed}
+use Rattle.place_plan.specs.Machine.{Did, Answers}
+use Rattle.place_plan.specs.declared.machine.Answer.{Answer}
+use Rattle.place_plan.specs.declared.machine.Answer.TheVariants as answer
+use Rattle.shared_views.specs.Telling.{cells_of, KeepsUp, Suits}
+use Rattle.action_manager.specs.declared.housed.Housed.{Housed}
+use Rattle.action_manager.specs.Housed.{IsKept}
+
+-- the newest entry stands first
+pub past_after : (old new : List Entry) (e : Entry) → new ≡ old ++ e ∷ [] → reverse new ≡ e ∷ reverse old
+past_after old new e is = ap reverse is ∙ reverse-append old (e ∷ [])
+
+first_fits : (plan : Plan) (past : List Entry) (e : Entry) → AllWellFormed plan (e ∷ past) → IsWellFormed plan e
+first_fits plan past e all = all 0 e (omega arith)
+
+-- an entry that a machine made suits its past
+pub did_suits : (plan : Plan) (old new : List Entry) (t : ℕ) (hint : Option Worked) (e : Entry) (cells : List ℕ) → length cells ≡ length plan.places
+    → AllWellFormed plan (reverse new) → Did plan old new t hint e → Suits cells (reverse old) e
+did_suits plan old new t hint e cells room all did =
+    let fits : IsWellFormed plan e = first_fits plan (reverse old) e (subst (AllWellFormed plan) (past_after old new e did.added) all) in
+    record {
+      inside = subst (λ n. e.place < n) (sym room) fits.place;
+      fresh = λ is. let row : MayResolve plan (reverse old) e = subst (λ k. Row k plan (reverse old) e) is did.may in row.fresh;
+      carried = λ is. let row : MayHandle plan (reverse old) e = subst (λ k. Row k plan (reverse old) e) is did.may in row.resolution;
+    }
+
+-- the bulletin that took in the entry keeps up with the machine that made it
+pub kept_did : {M : Type 0} (plan_of : M → Plan) (journal_of : M → List Entry) (h h' : Housed M) (e : Entry) → IsKept plan_of journal_of h → plan_of h'.machine ≡ plan_of h.machine
+    → journal_of h'.machine ≡ journal_of h.machine ++ e ∷ [] → cells_of h'.bulletin ≡ cells_of h.bulletin → KeepsUp (e ∷ reverse (journal_of h.machine)) h'.bulletin → IsKept plan_of journal_of h'
+kept_did plan_of journal_of h h' e k plan added cells up = record {
+  keeps_up = subst (λ past. KeepsUp past h'.bulletin) (sym (past_after (journal_of h.machine) (journal_of h'.machine) e added)) up;
+  room = ap length cells ∙ (k.room ∙ sym (ap (λ (p : Plan). length p.places) plan));
+}
+
+-- where nothing was made it still does
+pub kept_silent : {M : Type 0} (plan_of : M → Plan) (journal_of : M → List Entry) (h : Housed M) (m : M) → IsKept plan_of journal_of h → plan_of m ≡ plan_of h.machine
+    → journal_of m ≡ journal_of h.machine → IsKept plan_of journal_of (record h { machine = m })
+kept_silent plan_of journal_of h m k plan same = record {
+  keeps_up = subst (λ j. KeepsUp (reverse j) h.bulletin) (sym same) k.keeps_up;
+  room = k.room ∙ sym (ap (λ (p : Plan). length p.places) plan);
+}
+
+pub silent_keeps : (plan : Plan) (old new : List Entry) (t : ℕ) (hint : Option Worked) (a : Answer) → Answers plan old new t hint a → ((e : Entry) → a ≡ answer.Did e → ⊥) → new ≡ old
+silent_keeps plan old new t hint (answer.Did e) told none = absurd (none e refl)
+silent_keeps plan old new t hint (answer.Work p rounds from) told none = told.kept
+silent_keeps plan old new t hint answer.NotYet told none = told.0.kept
+silent_keeps plan old new t hint answer.Over told none = told.0.kept

@@ -1,0 +1,35 @@
+-- A manager, as its owner sees it.
+use Rattle.std.specs.Prelude.{ℕ, List}
+use Rattle.atomic_table.specs.Seated.{TableId}
+use Rattle.place_plan.specs.PlanValue.{Plan}
+use Rattle.shared_views.specs.Telling.{cells_of}
+use Rattle.action_manager.specs.declared.view.Terms.{Terms}
+use Rattle.action_manager.specs.declared.manager.Manager.{Manager}
+use Rattle.action_manager.specs.Turns.{terms_of}
+use Rattle.action_manager.specs.Locks.{id_of, home_at, plan_at}
+use Rattle.action_manager.specs.Seats.{IsSeatOf}
+use Rattle.action_manager.specs.declared.seat.Seat.{Seat}
+
+-- the table on which it takes turns, which tells it from other managers
+abbrev pub table_of : {M : Type 0} → Manager M → TableId
+table_of manager = id_of manager.lock
+
+-- the plan of its machine
+abbrev pub plan_in : {M : Type 0} → Manager M → Plan
+plan_in manager = plan_at manager.lock
+
+-- the machine as it was handed in
+abbrev pub handed_in : {M : Type 0} → Manager M → M
+handed_in manager = (home_at manager.lock).machine
+
+-- the names of its cells of resolved exceptions
+abbrev pub cells_in : {M : Type 0} → Manager M → List ℕ
+cells_in manager = cells_of (home_at manager.lock).bulletin
+
+-- what its machine keeps to in every turn
+abbrev pub terms_in : {M : Type 0} → (M → ℕ) → Manager M → Terms
+terms_in base_of manager = terms_of (plan_in manager) (base_of (handed_in manager)) (cells_in manager)
+
+-- the seat was opened by this manager, and is at rest
+abbrev pub IsSeatIn : {M : Type 0} → (M → ℕ) → Manager M → Seat M → Type 0
+IsSeatIn base_of manager seat = IsSeatOf (table_of manager) (terms_in base_of manager) seat

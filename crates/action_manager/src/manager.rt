@@ -1,0 +1,385 @@
+ghost use Rattle.std.specs.Prelude.{ℕ, ◌≡◌, ◌+◌, ◌<◌, [], ◌∷◌, length, map, reverse, All, true, false, IsTrue, ◌↔◌, IfOk, IfErr, OnOk, IfSome, IfNone, vec_capacity};
+ghost use mathlib.Core.List.{IsPrefix};
+ghost use Rattle.std.specs.List.{range_with_len};
+ghost use Rattle.shared_views.specs.Telling.{cells_of, IsFresh};
+ghost use Rattle.action_manager.specs.Journals.{entries_by};
+ghost use Rattle.action_manager.specs.Turns.{maker, held, Has, Stands};
+ghost use Rattle.action_manager.specs.Stepping.{IsAtRest, Steps, Looks};
+ghost use Rattle.action_manager.specs.Locks.{home_at, plan_at};
+ghost use Rattle.action_manager.specs.Openings.{IsUnresolved};
+ghost use Rattle.action_manager.specs.Tidings.{TellsAfter};
+ghost use Rattle.action_manager.specs.Seats.{IsNewSeat, participant_of, seen_by, told_to, stand, has_seat, HaveAll, IsLeastMissing, Accounts};
+
+use crate::handed::Handed;
+use crate::housed::Housed;
+use crate::lock::Lock;
+use crate::seat::Seat;
+use crate::turns::Token;
+use caa_base::entry::{OutOfMemory, Participant};
+use caa_base::work::WorkDone;
+use place_plan::machine::{Answer, Machine};
+use place_plan::plan::Plan;
+use shared_views::{Bulletin, ResolutionCells, Told};
+use std::alloc::{AllocError, Global};
+use std::snapshot::Snapshot;
+use std::sync::Wait;
+
+/// Keeps a machine, whose participants take turns at it from threads of their own.
+pub struct Manager<M: Machine> {
+    lock: Lock<Housed<M>>,
+    participants: u32,
+    cells: ResolutionCells,
+    handed: Handed,
+    ghost counted: { participants ≡ length (plan_at lock).participants },
+    ghost named: { cells ≡ cells_of (home_at lock).bulletin },
+}
+
+/// A manager with its seats, one for each participant, in order.
+pub struct Opened<M: Machine> {
+    pub manager: Manager<M>,
+    pub seats: Vec<Seat<M>>,
+}
+
+/// No memory was found. The machine is as it was handed in.
+pub struct ManagerError<M> {
+    pub machine: M,
+}
+
+/// The machine of a manager that was closed.
+pub struct Closed<M> {
+    pub machine: M,
+}
+
+/// A participant's seat isn't among those handed in: the least such participant, and all as it was.
+pub struct StillOut<M: Machine> {
+    pub manager: Manager<M>,
+    pub seats: Vec<Seat<M>>,
+    pub missing: Participant,
+}
+
+/// Whether some seat in the list is this participant's.
+fn has_seat<M>(seats: &[Seat<M>], by: Participant) -> bool
+    ensures { result ≡ has_seat by seats.now }
+{
+    seats.iter().any(|seat| seat.participant == by)
+}
+
+/// How many entries of a participant the journal of a machine has.
+fn own_entries<M: Machine>(machine: &M, by: Participant) -> u64
+    ensures { result ≡ length (entries_by by (M.journal_of machine.now)) }
+{
+    let mut made = 0;
+    for index in 0..machine.journal_len() {
+        if machine.entry(index).by == by {
+            made += 1;
+        }
+    }
+    made
+}
+
+/// The same for each participant, in order.
+fn own_counts<M: Machine>(
+    alloc: Global,
+    machine: &M,
+    participants: u32,
+) -> Result<Vec<u64>, AllocError>
+    ensures { IfOk result (λ counts. counts.items ≡ map (λ t. length (entries_by t (M.journal_of machine.now))) (range_with_len 0 participants)) }
+{
+    let mut counts = Vec::new(alloc);
+    for by in 0..participants {
+        counts.push(own_entries(machine, by))?;
+    }
+    Ok(counts)
+}
+
+/// Empty cells for the places of a plan, and a bulletin by which nothing was told.
+fn fresh_cells(alloc: Global, plan: &Plan) -> Result<(ResolutionCells, Bulletin), OutOfMemory>
+    ensures cells { IfOk result (λ r. (r.0 ≡ cells_of r.1) × (length r.0 ≡ length plan.now.places)) }
+    ensures fresh { IfOk result (λ r. IsFresh r.1) }
+{
+    let (cells, announcer) = ResolutionCells::open(alloc, plan.places())?;
+    let bulletin = Bulletin::open(alloc, &cells, announcer)?;
+    Ok((cells, bulletin))
+}
+
+impl<M: Machine> Manager<M> {
+    ghost use Rattle.action_manager.specs.Managers.{table_of, plan_in, handed_in, cells_in, terms_in, IsSeatIn};
+
+    /// A lock round a machine, with the maker's seat.
+    fn set_up(
+        alloc: Global,
+        machine: M,
+        cells: ResolutionCells,
+        bulletin: Bulletin,
+    ) -> Result<(Manager<M>, Token<Housed<M>>), ManagerError<M>>
+        requires early { IsUnresolved (reverse (M.journal_of machine)) }
+        requires cells { (cells ≡ cells_of bulletin) × (length cells ≡ length (M.plan_of machine).places) }
+        requires fresh { IsFresh bulletin }
+        ensures machine { IfOk result (λ r. handed_in r.0 ≡ machine) }
+        ensures plan { IfOk result (λ r. plan_in r.0 ≡ M.plan_of machine) }
+        ensures making { IfOk result (λ r. (r.1.table_id ≡ table_of r.0) × (r.1.me ≡ (maker (terms_in M.base_of r.0) 0 (M.journal_of machine), []))) }
+        ensures refused { IfErr result (λ e. e.machine ≡ machine) }
+    {
+        let participants = machine.plan().participants();
+        let plan = Snapshot::of(machine.plan());
+        match Lock::open(alloc, Housed { machine, bulletin }, plan) {
+            Ok((lock, making)) => Ok((
+                Manager {
+                    lock,
+                    participants,
+                    cells,
+                    handed: Handed::new(),
+                },
+                making,
+            )),
+            Err(Housed {
+                machine,
+                bulletin: _,
+            }) => Err(ManagerError { machine }),
+        }
+    }
+
+    /// A seat for the next participant.
+    fn make_seat(
+        &self,
+        making: &mut Token<Housed<M>>,
+        participant: Participant,
+        seen: u64,
+        made: u64,
+    ) -> Seat<M>
+        requires table { making.old.table_id ≡ table_of self.now }
+        requires making { making.old.me ≡ (maker (terms_in M.base_of self.now) making.old.me.0.next (M.journal_of (handed_in self.now)), []) }
+        requires who { participant ≡ making.old.me.0.next }
+        requires room { making.old.me.0.next < length (plan_in self.now).participants }
+        requires seen { seen ≡ length (M.journal_of (handed_in self.now)) }
+        requires made { made ≡ length (entries_by making.old.me.0.next (M.journal_of (handed_in self.now))) }
+        ensures table { making.new.table_id ≡ making.old.table_id }
+        ensures making { making.new.me ≡ (maker (terms_in M.base_of self.now) (making.old.me.0.next + 1) (M.journal_of (handed_in self.now)), []) }
+        ensures who { participant_of result ≡ making.old.me.0.next }
+        ensures new { IsNewSeat (table_of self.now) (terms_in M.base_of self.now) (M.journal_of (handed_in self.now)) result }
+    {
+        let token = self.lock.make_seat(making);
+        Seat {
+            token,
+            participant,
+            seen,
+            made,
+            told: Told::Nothing,
+        }
+    }
+
+    /// The seats of all participants, in order, where there is room for them.
+    fn make_seats(
+        &self,
+        mut making: Token<Housed<M>>,
+        mut seats: Vec<Seat<M>>,
+        counts: Vec<u64>,
+        seen: u64,
+    ) -> Vec<Seat<M>>
+        requires table { making.table_id ≡ table_of self.now }
+        requires making { making.me ≡ (maker (terms_in M.base_of self.now) 0 (M.journal_of (handed_in self.now)), []) }
+        requires room { (seats.items ≡ []) × (vec_capacity seats ≡ self.now.participants) }
+        requires counts { counts.items ≡ map (λ t. length (entries_by t (M.journal_of (handed_in self.now)))) (range_with_len 0 self.now.participants) }
+        requires seen { seen ≡ length (M.journal_of (handed_in self.now)) }
+        ensures order { map participant_of result.items ≡ range_with_len 0 self.now.participants }
+        ensures new { All (λ s. IsNewSeat (table_of self.now) (terms_in M.base_of self.now) (M.journal_of (handed_in self.now)) s) result.items }
+    {
+        for by in 0..self.participants {
+            seats.push_reserved(self.make_seat(&mut making, by, seen, counts[by as usize]));
+        }
+        seats
+    }
+
+    /// A manager round a machine, and a seat for each participant, in order.
+    ///
+    /// Each seat has seen the journal that the machine has, in which nothing is resolved yet. At `Err` no memory was found, and the
+    /// machine comes back as it was.
+    pub fn open(alloc: Global, machine: M) -> Result<Opened<M>, ManagerError<M>>
+        requires early { IsUnresolved (reverse (M.journal_of machine)) }
+        ensures machine { IfOk result (λ o. handed_in o.manager ≡ machine) }
+        ensures plan { IfOk result (λ o. plan_in o.manager ≡ M.plan_of machine) }
+        ensures order { IfOk result (λ o. map participant_of o.seats.items ≡ range_with_len 0 (length (M.plan_of machine).participants)) }
+        ensures new { IfOk result (λ o. All (λ s. IsNewSeat (table_of o.manager) (terms_in M.base_of o.manager) (M.journal_of machine) s) o.seats.items) }
+        ensures refused { IfErr result (λ e. e.machine ≡ machine) }
+    {
+        let participants = machine.plan().participants();
+        let seen = machine.journal_len();
+        let Ok(counts) = own_counts(alloc, &machine, participants) else {
+            return Err(ManagerError { machine });
+        };
+        let Ok(room) = Vec::with_capacity(alloc, participants as usize) else {
+            return Err(ManagerError { machine });
+        };
+        let Ok((cells, bulletin)) = fresh_cells(alloc, machine.plan()) else {
+            return Err(ManagerError { machine });
+        };
+        match Manager::set_up(alloc, machine, cells, bulletin) {
+            Ok((manager, making)) => {
+                let seats = manager.make_seats(making, room, counts, seen);
+                Ok(Opened { manager, seats })
+            }
+            Err(error) => Err(error),
+        }
+    }
+
+    /// The cells of resolved exceptions, which any thread may ask.
+    pub fn cells(&self) -> &ResolutionCells
+        ensures { result.now ≡ cells_in self.now }
+    {
+        &self.cells
+    }
+
+    /// One turn of the seat's participant: the machine's answer, on a journal that begins with what the seat had seen.
+    ///
+    /// The seat has then seen the journal that the machine left. After a Resolve or a Handle it has the note of that place, to be
+    /// taken; a refused announcement leaves the entry made. It may wait, and need not return.
+    pub fn step<R: Wait>(&self, rt: &R, seat: &mut Seat<M>, hint: Option<WorkDone>) -> Answer
+        requires opened { IsSeatIn M.base_of self.now seat.old }
+        ensures opened { IsSeatIn M.base_of self.now seat.new }
+        ensures same { participant_of seat.new ≡ participant_of seat.old }
+        ensures turn { Steps (plan_in self.now) (participant_of seat.old) (seen_by seat.old) (seen_by seat.new) hint result }
+        ensures told { TellsAfter (cells_in self.now) result (told_to seat.new) }
+    {
+        let (ticket, mut home) = self.lock.begin(rt, &mut seat.token);
+        let (answer, told) = home.next(&self.cells, seat.participant, hint);
+        let seen = home.machine.journal_len();
+        self.lock.hand_on(&mut seat.token, ticket, home);
+        seat.seen = seen;
+        seat.told = told;
+        if let Answer::Did(_) = answer {
+            seat.made += 1;
+        }
+        self.handed.tell(rt, seen);
+        answer
+    }
+
+    /// A turn that makes no entry, and says whether the journal is longer than what the seat had seen.
+    fn look<R: Wait>(&self, rt: &R, seat: &mut Seat<M>) -> bool
+        requires opened { IsSeatIn M.base_of self.now seat.old }
+        ensures opened { IsSeatIn M.base_of self.now seat.new }
+        ensures same { (participant_of seat.new ≡ participant_of seat.old) × (told_to seat.new ≡ told_to seat.old) }
+        ensures turn { Looks (plan_in self.now) (participant_of seat.old) (seen_by seat.old) (seen_by seat.new) }
+        ensures longer { IsTrue result ↔ (length (seen_by seat.old) < length (seen_by seat.new)) }
+    {
+        let was = seat.seen;
+        let (ticket, home) = self.lock.begin(rt, &mut seat.token);
+        let seen = home.machine.journal_len();
+        self.lock.hand_on(&mut seat.token, ticket, home);
+        seat.seen = seen;
+        was < seen
+    }
+
+    /// Waits until the seat has seen a longer journal than before, in which its participant has no further entry.
+    ///
+    /// It need not return.
+    pub fn wait_past<R: Wait>(&self, rt: &R, seat: &mut Seat<M>)
+        requires opened { IsSeatIn M.base_of self.now seat.old }
+        ensures opened { IsSeatIn M.base_of self.now seat.new }
+        ensures same { (participant_of seat.new ≡ participant_of seat.old) × (told_to seat.new ≡ told_to seat.old) }
+        ensures turn { Looks (plan_in self.now) (participant_of seat.old) (seen_by seat.old) (seen_by seat.new) }
+        ensures longer { length (seen_by seat.old) < length (seen_by seat.new) }
+    {
+        for _ in rt.forever() {
+            self.handed.wait_past(rt, seat.seen);
+            if self.look(rt, seat) {
+                return;
+            }
+        }
+        unreachable!()
+    }
+
+    /// The least participant that has no seat in the list.
+    fn missing(&self, seats: &[Seat<M>]) -> Option<Participant>
+        ensures some { IfSome result (λ m. IsLeastMissing self.now.participants seats.now m) }
+        ensures none { IfNone result (HaveAll self.now.participants seats.now) }
+    {
+        for by in 0..self.participants {
+            if !has_seat(seats, by) {
+                return Some(by);
+            }
+        }
+        None
+    }
+
+    /// One seat takes in all others.
+    fn gather(&self, first: Token<Housed<M>>, mut others: Vec<Seat<M>>) -> Token<Housed<M>>
+        requires first { (first.table_id ≡ table_of self.now) × IsAtRest (terms_in M.base_of self.now) first.me }
+        requires others { All (λ s. IsSeatIn M.base_of self.now s) others.items }
+        ensures kept { (result.table_id ≡ table_of self.now) × (result.me.0.has_book ≡ false) }
+        ensures all { held result.me.0 ≡ (first.me.0.who, first.me.0.seen) ∷ reverse (map stand others.items) }
+    {
+        let mut kept = first;
+        while let Some(seat) = others.pop() {
+            self.lock.take_in(&mut kept, seat.into_token());
+        }
+        kept
+    }
+
+    /// Gives the machine back, where every participant's seat is in the list.
+    ///
+    /// What each seat has seen begins the machine's journal, which has no further entry of that participant. At `Err` a seat is
+    /// missing, and manager and seats come back as they were.
+    pub fn close(self, mut seats: Vec<Seat<M>>) -> Result<Closed<M>, StillOut<M>>
+        requires opened { All (λ s. IsSeatIn M.base_of self s) seats.items }
+        ensures all { OnOk result (HaveAll (length (plan_in self).participants) seats.items) }
+        ensures plan { IfOk result (λ c. M.plan_of c.machine ≡ plan_in self) }
+        ensures base { IfOk result (λ c. M.base_of c.machine ≡ M.base_of (handed_in self)) }
+        ensures begins { IfOk result (λ c. IsPrefix (M.journal_of (handed_in self)) (M.journal_of c.machine)) }
+        ensures accounts { IfOk result (λ c. All (λ s. Accounts (M.journal_of c.machine) s) seats.items) }
+        ensures missing { IfErr result (λ e. IsLeastMissing (length (plan_in self).participants) seats.items e.missing) }
+        ensures same { IfErr result (λ e. (e.manager ≡ self) × (e.seats.items ≡ seats.items)) }
+    {
+        if let Some(missing) = self.missing(seats.as_slice()) {
+            return Err(StillOut {
+                manager: self,
+                seats,
+                missing,
+            });
+        }
+        match seats.pop() {
+            Some(last) => {
+                let kept = self.gather(last.into_token(), seats);
+                Ok(Closed {
+                    machine: self.shut_with(kept),
+                })
+            }
+            None => Ok(Closed {
+                machine: self.shut_empty(),
+            }),
+        }
+    }
+
+    /// The machine, where the seat stands for all participants.
+    fn shut_with(self, kept: Token<Housed<M>>) -> M
+        requires kept { (kept.table_id ≡ table_of self) × (kept.me.0.has_book ≡ false) }
+        requires all { (t : ℕ) → t < self.participants → Has t (held kept.me.0) }
+        ensures plan { M.plan_of result ≡ plan_in self }
+        ensures base { M.base_of result ≡ M.base_of (handed_in self) }
+        ensures begins { IsPrefix (M.journal_of (handed_in self)) (M.journal_of result) }
+        ensures stands { Stands (M.journal_of result) (held kept.me.0) }
+    {
+        let Manager {
+            lock,
+            participants: _,
+            cells: _,
+            handed: _,
+        } = self;
+        lock.close_with(kept).into_machine()
+    }
+
+    /// The machine, where there is no participant.
+    fn shut_empty(self) -> M
+        requires none { self.participants ≡ 0 }
+        ensures plan { M.plan_of result ≡ plan_in self }
+        ensures base { M.base_of result ≡ M.base_of (handed_in self) }
+        ensures begins { IsPrefix (M.journal_of (handed_in self)) (M.journal_of result) }
+    {
+        let Manager {
+            lock,
+            participants: _,
+            cells: _,
+            handed: _,
+        } = self;
+        lock.close().into_machine()
+    }
+}

@@ -1,0 +1,86 @@
+ghost use Rattle.std.specs.Prelude.{◌≡◌, length};
+ghost use Rattle.action_manager.specs.Journals.{entries_by};
+
+use crate::housed::Housed;
+use crate::turns::Token;
+use caa_base::entry::Participant;
+use shared_views::{NoteRefused, PlaceNote, Told};
+use std::mem;
+
+/// The right of one participant to take turns. It may go to another thread.
+#[derive(Drop)]
+pub struct Seat<M> {
+    pub(crate) token: Token<Housed<M>>,
+    pub(crate) participant: Participant,
+    pub(crate) seen: u64,
+    pub(crate) made: u64,
+    pub(crate) told: Told,
+    ghost who: { participant ≡ token.me.0.who },
+    ghost so_long: { seen ≡ length token.me.0.seen },
+    ghost so_many: { made ≡ length (entries_by participant token.me.0.seen) },
+}
+
+/// Why a seat has no note to give.
+#[derive(Debug, Drop)]
+pub enum NoNote {
+    /// It made no step, its last one wasn't a Resolve or a Handle, or that note was taken.
+    NotDue,
+    /// The cell of the place refused the announcement.
+    Refused(NoteRefused),
+}
+
+impl<M> Seat<M> {
+    ghost use Rattle.action_manager.specs.Seats.{participant_of, seen_by, told_to, token_of};
+    ghost use Rattle.action_manager.specs.Tidings.{Takes};
+    ghost use Rattle.shared_views.specs.declared.bulletin.Told.TheVariants.{Nothing};
+
+    /// Whose seat it is.
+    pub fn participant(&self) -> Participant
+        ensures { result ≡ participant_of self.now }
+    {
+        self.participant
+    }
+
+    /// How many entries it has seen.
+    pub fn seen(&self) -> u64
+        ensures { result ≡ length (seen_by self.now) }
+    {
+        self.seen
+    }
+
+    /// How many entries of its participant it has seen.
+    pub fn made(&self) -> u64
+        ensures { result ≡ length (entries_by (participant_of self.now) (seen_by self.now)) }
+    {
+        self.made
+    }
+
+    /// Takes the note that the last step left: of the place of its Resolve or Handle, knowing the exception.
+    ///
+    /// The seat has none afterwards, whatever the answer, and is else as it was.
+    pub fn take_note(&mut self) -> Result<PlaceNote, NoNote>
+        ensures taken { Takes (told_to self.old) result }
+        ensures left { told_to self.new ≡ Nothing }
+        ensures same { (token_of self.new ≡ token_of self.old) × (participant_of self.new ≡ participant_of self.old) }
+    {
+        match mem::replace(&mut self.told, Told::Nothing) {
+            Told::Nothing => Err(NoNote::NotDue),
+            Told::Noted(note) => Ok(note),
+            Told::Refused(refused) => Err(NoNote::Refused(refused)),
+        }
+    }
+
+    /// Its place at the table; the rest goes.
+    pub(crate) fn into_token(self) -> Token<Housed<M>>
+        ensures { result ≡ token_of self }
+    {
+        let Seat {
+            token,
+            participant: _,
+            seen: _,
+            made: _,
+            told: _,
+        } = self;
+        token
+    }
+}

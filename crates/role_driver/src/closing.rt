@@ -1,0 +1,49 @@
+ghost use Rattle.std.specs.Prelude.{◌≡◌, [], length, map, All, vec_capacity};
+ghost use Rattle.std.specs.List.{range_with_len};
+ghost use mathlib.Core.List.{IsPrefix};
+ghost use Rattle.place_plan.specs.Journals.{IsComplete};
+ghost use Rattle.action_manager.specs.Managers.{plan_in, handed_in, IsSeatIn};
+ghost use Rattle.action_manager.specs.Seats.{participant_of};
+ghost use Rattle.role_driver.specs.Crew.{IsDone};
+
+use crate::driving::drive;
+use action_manager::{Closed, Manager, Seat};
+use caa_base::gate::Gate;
+use place_plan::machine::Machine;
+use std::alloc::Global;
+use std::sync::Wait;
+
+/// Drives each seat to its end, one after another.
+pub fn drive_each<M: Machine, G: Gate, R: Wait>(
+    rt: &R,
+    manager: &Manager<M>,
+    seats: Vec<Seat<M>>,
+    mut driven: Vec<Seat<M>>,
+    gate: &G,
+) -> Vec<Seat<M>>
+    requires room { (driven.items ≡ []) × (vec_capacity driven ≡ length seats.items) }
+    requires opened { All (λ s. IsSeatIn M.base_of manager.now s) seats.items }
+    requires order { map participant_of seats.items ≡ range_with_len 0 (length (plan_in manager.now).participants) }
+    ensures done { All (λ s. IsDone M.base_of manager.now s) result.items }
+    ensures order { map participant_of result.items ≡ range_with_len 0 (length (plan_in manager.now).participants) }
+{
+    for seat in seats {
+        driven.push_reserved(drive(rt, manager, seat, gate));
+    }
+    driven
+}
+
+/// Gives the machine back, once each seat is over; then it is complete.
+pub fn close_done<M: Machine>(manager: Manager<M>, seats: Vec<Seat<M>>) -> M
+    requires done { All (λ s. IsDone M.base_of manager s) seats.items }
+    requires order { map participant_of seats.items ≡ range_with_len 0 (length (plan_in manager).participants) }
+    ensures plan { M.plan_of result ≡ plan_in manager }
+    ensures base { M.base_of result ≡ M.base_of (handed_in manager) }
+    ensures begins { IsPrefix (M.journal_of (handed_in manager)) (M.journal_of result) }
+    ensures complete { IsComplete (plan_in manager) (M.journal_of result) }
+{
+    match manager.close(seats) {
+        Ok(Closed { machine }) => machine,
+        Err(_refused) => unreachable!(),
+    }
+}

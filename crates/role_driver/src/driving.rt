@@ -1,0 +1,91 @@
+ghost use Rattle.std.specs.Prelude.{◌≡◌, ◌<◌, ℕ, true, length, reverse, IfSome, IfNone};
+ghost use mathlib.Core.List.{IsPrefix};
+ghost use Rattle.place_plan.specs.Roles.{is_over};
+ghost use Rattle.place_plan.specs.Journals.{IsLegal};
+ghost use Rattle.shared_views.specs.Noted.{Noted};
+ghost use Rattle.shared_views.specs.Telling.{IsTold};
+ghost use Rattle.shared_views.specs.declared.bulletin.Told.TheVariants.{Noted as IsNoted};
+ghost use Rattle.action_manager.specs.Managers.{plan_in, cells_in, IsSeatIn};
+ghost use Rattle.action_manager.specs.Seats.{participant_of, seen_by, told_to};
+ghost use Rattle.action_manager.specs.Stepping.{Steps};
+
+use action_manager::{Manager, Seat};
+use caa_base::entry::{Entry, Exception, Kind};
+use caa_base::gate::Gate;
+use caa_base::work::WorkDone;
+use place_plan::machine::{Answer, Machine};
+use std::sync::Wait;
+
+/// Takes the note of a Handle out of the seat and asks the cell of its place with it: the cell gives the exception that is handled.
+///
+/// Only where the cell refused the announcement there is no note to ask with.
+fn ask<M: Machine>(manager: &Manager<M>, seat: &mut Seat<M>, handle: Entry) -> Option<Exception>
+    requires opened { IsSeatIn M.base_of manager.now seat.old }
+    requires told { IsTold (cells_in manager.now) handle.place handle.arg (told_to seat.old) }
+    ensures opened { IsSeatIn M.base_of manager.now seat.new }
+    ensures same { (participant_of seat.new ≡ participant_of seat.old) × (seen_by seat.new ≡ seen_by seat.old) }
+    ensures given { IfSome result (λ x. x ≡ handle.arg) }
+    ensures refused { IfNone result ((note : Noted) → told_to seat.old ≡ IsNoted note → ⊥) }
+{
+    match seat.take_note() {
+        Ok(mut note) => manager.cells().resolved(&mut note),
+        Err(_) => None,
+    }
+}
+
+/// One turn of a seat, which asks the cell of the place after each Handle.
+pub fn step_and_ask<M: Machine, R: Wait>(
+    rt: &R,
+    manager: &Manager<M>,
+    seat: &mut Seat<M>,
+    hint: Option<WorkDone>,
+) -> Answer
+    requires opened { IsSeatIn M.base_of manager.now seat.old }
+    ensures opened { IsSeatIn M.base_of manager.now seat.new }
+    ensures same { participant_of seat.new ≡ participant_of seat.old }
+    ensures turn { Steps (plan_in manager.now) (participant_of seat.old) (seen_by seat.old) (seen_by seat.new) hint result }
+{
+    let answer = manager.step(rt, seat, hint);
+    if let Answer::Did(entry) = answer {
+        if entry.kind == Kind::Handle {
+            ask(manager, seat, entry);
+        }
+    }
+    answer
+}
+
+/// Steps a seat until its participant is over, and mixes its work outside its turns.
+///
+/// Before each piece of mixing it calls the gate, and where its participant has no entry now it waits past what it has seen. It need
+/// not return.
+pub fn drive<M: Machine, G: Gate, R: Wait>(
+    rt: &R,
+    manager: &Manager<M>,
+    mut seat: Seat<M>,
+    gate: &G,
+) -> Seat<M>
+    requires opened { IsSeatIn M.base_of manager.now seat }
+    ensures opened { IsSeatIn M.base_of manager.now result }
+    ensures same { participant_of result ≡ participant_of seat }
+    ensures seen { IsPrefix (seen_by seat) (seen_by result) }
+    ensures legal { IsLegal (plan_in manager.now) (seen_by result) }
+    ensures over { is_over (plan_in manager.now) (reverse (seen_by result)) (participant_of seat) ≡ true }
+{
+    let mut hint = None;
+    for _ in rt.forever() {
+        match step_and_ask(rt, manager, &mut seat, hint.take()) {
+            Answer::Did(_) => {}
+            Answer::Work {
+                place,
+                rounds,
+                from,
+            } => {
+                gate.work(seat.participant(), place);
+                hint = Some(WorkDone::make(from, rounds));
+            }
+            Answer::NotYet => manager.wait_past(rt, &mut seat),
+            Answer::Over => return seat,
+        }
+    }
+    unreachable!()
+}
