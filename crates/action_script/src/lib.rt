@@ -15,4 +15,4 @@ pub mod reader;
 pub mod script;
 #[cfg(test)]
 mod tests;
-mod word;
+pub mod word;

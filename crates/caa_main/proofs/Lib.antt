@@ -1,19 +1,2 @@
-pub mod Hints
-pub mod Turns
-pub mod Grown
-pub mod ScriptChoices
-pub mod ScriptNumbers
-pub mod ScriptWords
-pub mod ScriptSoFar
-pub mod ScriptWellSaid
-pub mod ScriptInduction
-pub mod ScriptNames
-pub mod ScriptActions
-pub mod ScriptKeeps
-pub mod ScriptRules
-pub mod ScriptPlans
-pub mod SoundGraphs
-pub mod Comings
-pub mod ScriptRead
-pub mod ScriptRange
-pub mod ScriptRows
+mod Answers
+mod LineStarts

@@ -1,221 +1,161 @@
--- What a call of the program is handed, what it leaves, and what it answers.
-use Rattle.std.specs.Prelude.{◌≡◌, ℕ, ◌+◌, ◌≤◌, ◌⊎◌, List, [], length, reverse, Option, Some, None, IsSome, IfSome, All}
+-- What a call of the program comes to, and what it answers.
+use Rattle.std.specs.Prelude.{◌≡◌, ◌⊎◌, ℕ, ◌≤◌, if◌then◌else◌, true, List, [], length, Some, None, IfSome}
 use Rattle.std.specs.Io.KnownBytes.{append_known}
 use Rattle.caa_base.specs.Counts.{Rose}
-use Rattle.caa_base.specs.Reading.{emptied, TookOff, TookAtMost}
+use Rattle.caa_base.specs.Reading.{emptied, TookUntil}
 use Rattle.caa_base.specs.Writing.{WrotePart}
 use Rattle.caa_base.specs.declared.entry.Entry.{Entry}
-use Rattle.place_plan.specs.declared.draft.Draft.{Draft}
+use Rattle.caa_base.specs.declared.reading.ReadError.{ReadError}
+use Rattle.caa_base.specs.declared.reading.ReadError.TheVariants as error
 use Rattle.place_plan.specs.PlanValue.{Plan}
-use Rattle.place_plan.specs.Unfolding.{plan_of}
-use Rattle.place_plan.specs.DraftRules.{broken_rule}
-use Rattle.place_plan.specs.Journals.{IsLegal, IsComplete}
-use Rattle.journal_laws.specs.Laws.{KeepsLaws}
+use Rattle.journal_text.specs.Text.{text_of}
 use Rattle.caa_main.specs.declared.command.Command.{Command}
 use Rattle.caa_main.specs.declared.command.Command.TheVariants as command
-use Rattle.caa_main.specs.declared.script.parts.Script.{Script}
-use Rattle.caa_main.specs.declared.script.graphs.UnsoundGraph.{UnsoundGraph}
+use Rattle.caa_main.specs.declared.fault.Fault.TheVariants as fault
+use Rattle.caa_main.specs.declared.finding.Finding.{Finding}
+use Rattle.caa_main.specs.declared.finding.Finding.TheVariants as finding
 use Rattle.caa_main.specs.declared.status.Status.{Status}
 use Rattle.caa_main.specs.declared.status.Status.TheVariants as status
 use Rattle.caa_main.specs.Commands.{command_of}
-use Rattle.caa_main.specs.ScriptLines.{most_bytes}
-use Rattle.caa_main.specs.ScriptSaid.{early_script}
-use Rattle.caa_main.specs.ScriptGraphs.{HasSoundOrder, IsDraftOf, IsFirstUnsound}
-use Rattle.caa_main.specs.Schedule.{IsScheduled}
-use Rattle.journal_text.specs.Text.{text_of}
-use Rattle.caa_main.specs.Texts.{usage_text, source_fault_text, too_long_text, not_built_text, ok_text, unsound_text}
+use Rattle.caa_main.specs.Findings.{counts_of, status_of, finding_text, is_played, needs_memory}
+use Rattle.caa_main.specs.Inputs.{most_bytes, script_in, journal_part}
+use Rattle.caa_main.specs.Judging.{IsLawful, IsIllegal, HasTooManyEntries}
+use Rattle.caa_main.specs.Plays.{IsPlayed, has_failed_play}
+use Rattle.caa_main.specs.Scripts.{HasPlan, IsRefusedScript}
+use Rattle.caa_main.specs.Uses.{SourceUse, SinkUse, Left, Call, IsIdle, IsUnplayed}
 
--- ---- what is handed in, and what is left
+-- ---- what each command comes to over a plan
 
--- the words; what the source had left, and has left now; its counts of faults before and now
-pub record Input : Type 0 where
-  pub words : List (List ℕ)
-  pub left_before : Option (List ℕ)
-  pub left_after : Option (List ℕ)
-  pub faults_before : ℕ
-  pub faults_after : ℕ
+-- `check` tells how large the plan is, and does nothing else
+abbrev pub CheckComesTo : {P : Type 0} → Plan → Finding → Left P → Type 0
+CheckComesTo plan (finding.Checked counts) left = (counts ≡ counts_of plan) × IsIdle left
+CheckComesTo plan _ left = ⊥
 
-abbrev pub input_of : List (List ℕ) → Option (List ℕ) → Option (List ℕ) → ℕ → ℕ → Input
-input_of words left_before left_after faults_before faults_after =
-    record { words = words; left_before = left_before; left_after = left_after; faults_before = faults_before; faults_after = faults_after }
+-- `sim` plays the plan: status clause and printed clause. Or the device refused to be laid out, or no memory was found, before the
+-- play or after it
+abbrev pub SimComesTo : {P : Type 0} → Plan → ℕ → Finding → Left P → Type 0
+SimComesTo plan seed (finding.Played failed text) left =
+    IsPlayed plan seed left × (failed ≡ has_failed_play plan left.journal) × (text.items ≡ text_of plan left.journal [])
+SimComesTo plan seed finding.PlantFault left = Rose left.plant.lay_faults_before left.plant.lay_faults_after × IsUnplayed left
+SimComesTo plan seed finding.OutOfMemory left = IsUnplayed left ⊎ IsPlayed plan seed left
+SimComesTo plan seed _ left = ⊥
 
--- what the sink held, and holds now; its counts of faults before and now
-pub record Output : Type 0 where
-  pub held_before : Option (List ℕ)
-  pub held_after : Option (List ℕ)
-  pub faults_before : ℕ
-  pub faults_after : ℕ
+-- the journal that was read is legal and complete, has so many entries, and is handed back
+pub record IsLegalInput {P : Type 0} (plan : Plan) (bytes : List ℕ) (entries : ℕ) (left : Left P) : Type 0 where
+  pub lawful : IsLawful plan (journal_part bytes) left.journal
+  pub number : entries ≡ length left.journal
+  pub plant : left.plant.after ≡ left.plant.before
 
-abbrev pub output_of : Option (List ℕ) → Option (List ℕ) → ℕ → ℕ → Output
-output_of held_before held_after faults_before faults_after =
-    record { held_before = held_before; held_after = held_after; faults_before = faults_before; faults_after = faults_after }
+-- `audit` judges the journal that stands after the script
+abbrev pub AuditComesTo : {P : Type 0} → Plan → List ℕ → Finding → Left P → Type 0
+AuditComesTo plan bytes (finding.Legal entries) left = IsLegalInput plan bytes entries left
+AuditComesTo plan bytes (finding.Illegal line) left = IsIllegal plan bytes line × IsIdle left
+AuditComesTo plan bytes (finding.Refused refusal) left = HasTooManyEntries plan bytes refusal × IsIdle left
+AuditComesTo plan bytes finding.OutOfMemory left = IsIdle left
+AuditComesTo plan bytes _ left = ⊥
 
--- ---- a script
+abbrev pub PlanComesTo : {P : Type 0} → Command → Plan → List ℕ → Finding → Left P → Type 0
+PlanComesTo command.Check plan bytes found left = CheckComesTo plan found left
+PlanComesTo (command.Sim seed) plan bytes found left = SimComesTo plan seed found left
+PlanComesTo command.Audit plan bytes found left = AuditComesTo plan bytes found left
 
--- the bytes spell a script of early form whose graphs are sound; it makes this draft, which breaks no rule
-pub record HasPlan (bytes : List ℕ) (draft : Draft) : Type 0 where
-  pub script : Script
-  pub spelled : early_script bytes ≡ Some script
-  pub made : IsDraftOf script draft
-  pub whole : broken_rule draft ≡ None
+-- ---- what each command comes to over the bytes that were read
 
--- the bytes spell a script of early form, and this is its first graph that isn't sound
-pub record IsUnsoundScript (bytes : List ℕ) (unsound : UnsoundGraph) : Type 0 where
-  pub script : Script
-  pub spelled : early_script bytes ≡ Some script
-  pub first : IsFirstUnsound script.graphs unsound
+-- input clause: the script among them has this plan
+pub record IsServed {P : Type 0} (command : Command) (bytes : List ℕ) (found : Finding) (left : Left P) : Type 0 where
+  pub plan : Plan
+  pub script : HasPlan (script_in command bytes) plan
+  pub comes : PlanComesTo command plan bytes found left
 
--- ---- a command
+-- the script among them is refused, or no memory was found for its plan
+abbrev pub IsNotServed : {P : Type 0} → Command → List ℕ → Finding → Left P → Type 0
+IsNotServed command bytes (finding.Refused refusal) left = IsRefusedScript (script_in command bytes) refusal × IsIdle left
+IsNotServed command bytes finding.OutOfMemory left = IsIdle left
+IsNotServed command bytes _ left = ⊥
 
--- the plan was played to its end by the schedule of the seed, and this is the text of the journal
-pub record PlayedPlan (plan : Plan) (seed : ℕ) (journal : List Entry) (text : List ℕ) : Type 0 where
-  -- lawful clause
-  pub legal : IsLegal plan journal
-  pub complete : IsComplete plan journal
-  pub laws : KeepsLaws plan (reverse journal)
-  -- schedule clause
-  pub schedule : IsScheduled plan seed [] journal
-  -- printed clause
-  pub printed : text ≡ text_of plan journal []
+abbrev pub InputComesTo : {P : Type 0} → Command → List ℕ → Finding → Left P → Type 0
+InputComesTo command bytes found left = IsServed command bytes found left ⊎ IsNotServed command bytes found left
 
--- the plan was checked and not played, and this tells its numbers
-pub record CheckedPlan (plan : Plan) (journal : List Entry) (text : List ℕ) : Type 0 where
-  pub unplayed : journal ≡ []
-  pub printed : text ≡ ok_text plan
-
--- the command was served over the plan
-abbrev pub ServedPlan : Command → Plan → List Entry → List ℕ → Type 0
-ServedPlan command.Check plan journal text = CheckedPlan plan journal text
-ServedPlan (command.Sim seed) plan journal text = PlayedPlan plan seed journal text
-
--- it was served over the plan of the script of these bytes
-pub record ServedScript (command : Command) (bytes : List ℕ) (journal : List Entry) (text : List ℕ) : Type 0 where
-  pub draft : Draft
-  pub script : HasPlan bytes draft
-  pub served : ServedPlan command (plan_of draft) journal text
-
--- the script is refused: the bytes spell none of early form, or one with a graph that isn't sound
-abbrev pub RefusedScript : List ℕ → List ℕ → Type 0
-RefusedScript bytes text =
-    ((early_script bytes ≡ None) × (text ≡ not_built_text)) ⊎ ((unsound : UnsoundGraph) × (IsUnsoundScript bytes unsound × (text ≡ unsound_text unsound)))
-
--- what a command comes to over a plan: it is served, or no memory was found, before its play or after it
-abbrev pub PlanComesTo : Status → Command → Plan → List Entry → List ℕ → Type 0
-PlanComesTo status.Done command plan journal text = ServedPlan command plan journal text
-PlanComesTo status.OutOfMemory command plan journal text = (text ≡ []) × ((journal ≡ []) ⊎ ((written : List ℕ) × ServedPlan command plan journal written))
-PlanComesTo _ command plan journal text = ⊥
-
--- what a command comes to over a script: it is served, the script is refused, or no memory was found, before a play or after it
-abbrev pub ScriptComesTo : Status → Command → List ℕ → List Entry → List ℕ → Type 0
-ScriptComesTo status.Done command bytes journal text = ServedScript command bytes journal text
-ScriptComesTo status.Refused command bytes journal text = RefusedScript bytes text × (journal ≡ [])
-ScriptComesTo status.OutOfMemory command bytes journal text = (text ≡ []) × ((journal ≡ []) ⊎ ((written : List ℕ) × ServedScript command bytes journal written))
-ScriptComesTo _ command bytes journal text = ⊥
-
--- ---- what a call comes to, before its text is written
-
--- the source was read to its end, and these were its bytes, no more than a script may have
-pub record WasRead (input : Input) (bytes : List ℕ) : Type 0 where
-  pub told : IfSome input.left_before (λ rest. bytes ≡ rest)
-  pub fits : length bytes ≤ most_bytes
-  pub ended : input.left_after ≡ emptied input.left_before
+-- ---- what a call comes to, in the order in which things are tried
 
 -- the words are of no command that is built, and nothing was read
-pub record IsUsage (input : Input) (journal : List Entry) (text : List ℕ) : Type 0 where
-  pub cause : command_of input.words ≡ None
-  pub unread : input.left_after ≡ input.left_before
-  pub unplayed : journal ≡ []
-  pub printed : text ≡ usage_text
+pub record IsUsage {P : Type 0} (call : Call P) (found : Finding) : Type 0 where
+  pub finding : found ≡ finding.Usage
+  pub cause : command_of call.words ≡ None
+  pub unread : call.source.left_after ≡ call.source.left_before
+  pub idle : IsIdle call.left
 
--- a read failed, before more was read than a script may have
-pub record IsSourceFault (input : Input) (journal : List Entry) (text : List ℕ) : Type 0 where
-  pub command : IsSome (command_of input.words)
-  pub cause : Rose input.faults_before input.faults_after
-  pub taken : TookAtMost input.left_before input.left_after most_bytes
-  pub unplayed : journal ≡ []
-  pub printed : text ≡ source_fault_text
+-- a reading came to no end: a read failed, or the input has more bytes than that of the command may have, or no memory was found
+abbrev pub HasStopped : SourceUse → ReadError → Type 0
+HasStopped source error.Fault = Rose source.faults_before source.faults_after
+HasStopped source _ = Unit {0}
 
--- the source had more bytes than a script may have
-pub record IsTooLong (input : Input) (text : List ℕ) : Type 0 where
-  pub cause : TookOff input.left_before input.left_after (most_bytes + 1)
-  pub printed : text ≡ too_long_text
+abbrev pub unread_finding : ReadError → Finding
+unread_finding error.Fault = finding.SourceFault
+unread_finding error.TooLong = finding.Refused (record { line = 0; fault = fault.TooLong })
+unread_finding error.OutOfMemory = finding.OutOfMemory
 
--- the script that was read is refused
-pub record IsRefusedScript (input : Input) (text : List ℕ) : Type 0 where
-  pub bytes : List ℕ
-  pub read : WasRead input bytes
-  pub cause : RefusedScript bytes text
-
-pub record IsRefused (input : Input) (journal : List Entry) (text : List ℕ) : Type 0 where
-  pub command : IsSome (command_of input.words)
-  pub cause : IsTooLong input text ⊎ IsRefusedScript input text
-  pub unplayed : journal ≡ []
-
--- the command was served: the input clause, and what it leaves
-pub record IsDone (input : Input) (journal : List Entry) (text : List ℕ) : Type 0 where
+pub record IsUnread {P : Type 0} (call : Call P) (found : Finding) : Type 0 where
   pub command : Command
-  pub given : command_of input.words ≡ Some command
+  pub given : command_of call.words ≡ Some command
+  pub error : ReadError
+  pub finding : found ≡ unread_finding error
+  pub taken : TookUntil call.source.left_before call.source.left_after (most_bytes command) error
+  pub cause : HasStopped call.source error
+  pub idle : IsIdle call.left
+
+-- the source was read to its end, and these were its bytes, no more than the input of the command may have
+pub record WasRead (source : SourceUse) (most : ℕ) (bytes : List ℕ) : Type 0 where
+  pub all : IfSome source.left_before (λ rest. bytes ≡ rest)
+  pub fits : length bytes ≤ most
+  pub ended : source.left_after ≡ emptied source.left_before
+
+pub record IsRead {P : Type 0} (call : Call P) (found : Finding) : Type 0 where
+  pub command : Command
+  pub given : command_of call.words ≡ Some command
   pub bytes : List ℕ
-  pub read : WasRead input bytes
-  pub served : ServedScript command bytes journal text
+  pub read : WasRead call.source (most_bytes command) bytes
+  pub comes : InputComesTo command bytes found call.left
 
--- no memory was found: no more was read than a script may have, nothing is to be written, and a play was made to its end or not begun
-pub record IsWanting (input : Input) (journal : List Entry) (text : List ℕ) : Type 0 where
-  pub command : IsSome (command_of input.words)
-  pub taken : TookAtMost input.left_before input.left_after most_bytes
-  pub unplayed : (journal ≡ []) ⊎ ((written : List ℕ) × IsDone input journal written)
-  pub printed : text ≡ []
-
--- what a call comes to that has this status; a sink fault comes only with the writing, and three statuses don't come yet
-abbrev pub ComesTo : Status → Input → List Entry → List ℕ → Type 0
-ComesTo status.Done = IsDone
-ComesTo status.Usage = IsUsage
-ComesTo status.SourceFault = IsSourceFault
-ComesTo status.Refused = IsRefused
-ComesTo status.OutOfMemory = IsWanting
-ComesTo status.SomeFailed = λ input journal text. ⊥
-ComesTo status.SinkFault = λ input journal text. ⊥
-ComesTo status.PlantFault = λ input journal text. ⊥
-ComesTo status.Illegal = λ input journal text. ⊥
+abbrev pub CameTo : {P : Type 0} → Call P → Finding → Type 0
+CameTo call found = IsUsage call found ⊎ (IsUnread call found ⊎ IsRead call found)
 
 -- ---- what a call answers
 
--- the call came to this status, and its whole text was written
-pub record WroteAll (status : Status) (input : Input) (output : Output) (journal : List Entry) : Type 0 where
-  pub text : List ℕ
-  pub comes : ComesTo status input journal text
-  pub written : output.held_after ≡ append_known output.held_before text
+-- the whole text of what was found was written, and its status is answered
+pub record WroteAll {P : Type 0} (call : Call P) (sink : SinkUse) (answer : Status) : Type 0 where
+  pub finding : Finding
+  pub came : CameTo call finding
+  pub answered : answer ≡ status_of finding
+  pub written : sink.held_after ≡ append_known sink.held_before (finding_text finding)
 
--- the call came to some status, and the sink didn't take its whole text
-pub record WasCutOff (input : Input) (output : Output) (journal : List Entry) : Type 0 where
-  pub status : Status
-  pub text : List ℕ
-  pub comes : ComesTo status input journal text
-  pub part : WrotePart output.held_before output.held_after text
-  pub cause : Rose output.faults_before output.faults_after
+-- the call, where it hands back this journal
+abbrev pub with_journal : {P : Type 0} → Call P → List Entry → Call P
+with_journal call journal = record { words = call.words; source = call.source; left = record { plant = call.left.plant; journal = journal } }
 
--- the status and the journal that a call answers
-abbrev pub Answers : Input → Output → Status → List Entry → Type 0
-Answers input output status.SinkFault journal = WasCutOff input output journal
-Answers input output status.Done journal = WroteAll status.Done input output journal
-Answers input output status.Usage journal = WroteAll status.Usage input output journal
-Answers input output status.SourceFault journal = WroteAll status.SourceFault input output journal
-Answers input output status.Refused journal = WroteAll status.Refused input output journal
-Answers input output status.OutOfMemory journal = WroteAll status.OutOfMemory input output journal
-Answers input output status.SomeFailed journal = WroteAll status.SomeFailed input output journal
-Answers input output status.PlantFault journal = WroteAll status.PlantFault input output journal
-Answers input output status.Illegal journal = WroteAll status.Illegal input output journal
+-- the journal that is handed back where the text of a finding wasn't written: a played one
+abbrev pub journal_kept : Finding → List Entry → List Entry
+journal_kept found journal = if is_played found then journal else []
 
--- ---- completeness
+-- a write failed: the sink took a part of the text of what was found
+pub record WasCutOff {P : Type 0} (call : Call P) (sink : SinkUse) (answer : Status) : Type 0 where
+  pub finding : Finding
+  pub journal : List Entry
+  pub came : CameTo (with_journal call journal) finding
+  pub kept : call.left.journal ≡ journal_kept finding journal
+  pub answered : answer ≡ status.SinkFault
+  pub part : WrotePart sink.held_before sink.held_after (finding_text finding)
+  pub cause : Rose sink.faults_before sink.faults_after
 
--- the words are a command's, the source tells the bytes of a script of early form whose graphs are sound, and neither count rose
-pub record IsServable (input : Input) (output : Output) : Type 0 where
-  pub command : Command
-  pub given : command_of input.words ≡ Some command
-  pub bytes : List ℕ
-  pub told : input.left_before ≡ Some bytes
-  pub script : Script
-  pub spelled : early_script bytes ≡ Some script
-  pub sound : All HasSoundOrder script.graphs
-  pub read : Rose input.faults_before input.faults_after → ⊥
-  pub written : Rose output.faults_before output.faults_after → ⊥
+-- no memory was found for the text of what was found, and nothing was written
+pub record WasLost {P : Type 0} (call : Call P) (sink : SinkUse) (answer : Status) : Type 0 where
+  pub finding : Finding
+  pub journal : List Entry
+  pub came : CameTo (with_journal call journal) finding
+  pub large : needs_memory finding ≡ true
+  pub kept : call.left.journal ≡ []
+  pub answered : answer ≡ status.OutOfMemory
+  pub unwritten : sink.held_after ≡ sink.held_before
+
+abbrev pub Answers : {P : Type 0} → Call P → SinkUse → Status → Type 0
+Answers call sink answer = WroteAll call sink answer ⊎ (WasCutOff call sink answer ⊎ WasLost call sink answer)

@@ -1,10 +1,10 @@
 ghost use Rattle.std.specs.Prelude.{◌≡◌, map, string_bytes, IfSome};
-ghost use Rattle.caa_main.specs.Commands.{command_of, sim_of, seed_of, HasSeed};
+ghost use Rattle.caa_main.specs.Commands.{command_of, sim_of, seed_of, alone, HasSeed};
 
-use crate::script::word::natural_of;
+use action_script::word::value_of;
 
 /// The greatest seed.
-const MOST_SEED: u64 = 2_147_483_647;
+const MOST_SEED: i64 = 2_147_483_647;
 
 /// A command line that is served.
 #[derive(Clone, Copy, Debug, PartialEq, Eq)]
@@ -13,14 +13,18 @@ pub enum Command {
     Check,
     /// Plays a script by the schedule of this seed, which is below 2^31.
     Sim(u32),
+    /// Judges a journal by the script before it.
+    Audit,
 }
 
 /// A seed: a number from 0 to 2147483647, in decimal digits without a sign and without leading zeros.
 fn seed_of(word: &[u8]) -> Option<u32>
     ensures { result ≡ seed_of word.now }
 {
-    let seed = natural_of(word, MOST_SEED)?;
-    Some(seed as u32)
+    match value_of(word) {
+        Some(seed) if 0 <= seed && seed <= MOST_SEED => Some(seed as u32),
+        _ => None,
+    }
 }
 
 /// The command `sim` with these words after it.
@@ -33,6 +37,13 @@ fn sim_of(words: &[String]) -> Option<Command>
     Some(Command::Sim(seed_of(seed.as_bytes())?))
 }
 
+/// A command that has no words after it.
+fn alone(command: Command, words: &[String]) -> Option<Command>
+    ensures { result ≡ alone command (map string_bytes words.now) }
+{
+    if words.is_empty() { Some(command) } else { None }
+}
+
 /// The command of these words, where they are those of a command that is built.
 pub fn command_of(words: &[String]) -> Option<Command>
     ensures command { result ≡ command_of (map string_bytes words.now) }
@@ -40,13 +51,11 @@ pub fn command_of(words: &[String]) -> Option<Command>
 {
     let (word, more) = words.split_first()?;
     if word.as_str() == "check" {
-        if more.is_empty() {
-            Some(Command::Check)
-        } else {
-            None
-        }
+        alone(Command::Check, more)
     } else if word.as_str() == "sim" {
         sim_of(more)
+    } else if word.as_str() == "audit" {
+        alone(Command::Audit, more)
     } else {
         None
     }

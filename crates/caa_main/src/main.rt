@@ -1,17 +1,18 @@
-//! The program `caa`: it checks and plays scripts of coordinated atomic actions, and prints their journals.
+//! The program `caa`: it checks and plays scripts of coordinated atomic actions, prints their journals and judges them.
 #![tactic(auto)]
 
-mod answer;
 mod command;
-mod report;
-mod schedule;
-mod script;
+mod fault;
+mod finding;
+mod inputs;
+mod judging;
+mod scripts;
 mod status;
 mod top;
 
 use crate::status::Status;
 use crate::top::top_quiet;
-use caa_base::memory::SurePlant;
+use caa_base::memory::MemPlant;
 use caa_base::standard::{StdSink, StdSource};
 use std::alloc::AllocError;
 use std::env;
@@ -42,7 +43,7 @@ fn main(rt: HostRuntime) -> ExitCode {
         words.as_slice(),
         &mut source,
         &mut sink,
-        SurePlant::new(),
+        MemPlant::new(false),
     );
     ExitCode::from(ended.status as u8)
 }

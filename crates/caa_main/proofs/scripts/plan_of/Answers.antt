@@ -1,0 +1,21 @@
+use Rattle.std.proofs.Common.{◌≡◌, subst, inr, refl, Err}
+use Rattle.script_checker.specs.declared.error.CheckCause.TheVariants as cause
+use Rattle.caa_main.specs.Scripts.{IsCause}
+use Rattle.caa_main.proofs.Answers.{refusal_answered}
+use Rattle.caa_main.proofs.scripts.plan_of.Goals as goal
+
+pub returns-clause-refused : goal.returns-clause-refused
+returns-clause-refused c =
+    let script = c.in-Ok.script in
+    let error = c.in-Err-compile.error in
+    let fault = c.in_ok-fault-in-Err-compile.fault in
+    let told : IsCause script error.line error.cause fault = c.in_ok-fault-in-Err-compile.ensures in
+    let sure : error.cause ≡ cause.OutOfMemory → ⊥ = λ e. subst (λ k. IsCause script error.line k fault) e told in
+    inr (record {
+      script = script;
+      spelled = c.in-Ok.ensures.read;
+      error = error;
+      first = refusal_answered script (Err error) error c.in-Err-compile.ensures refl sure;
+      line = c.from-in-Err-compile.ensures;
+      fault = told;
+    })

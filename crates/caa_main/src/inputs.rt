@@ -1,0 +1,106 @@
+//! The input of an audit: a script, and the text of a journal after it.
+
+ghost use Rattle.std.specs.Prelude.{◌≡◌, ◌≤◌, ◌<◌, ◌+◌, ◌-◌, ◌∷◌, ◌==◌, ℕ, suc, length, drop, position, IfSome};
+ghost use Rattle.std.specs.List.{list_all};
+ghost use Rattle.action_script.specs.Lines.{is_blank, lines_of};
+ghost use Rattle.caa_main.specs.Inputs.{without_blanks, begins_journal, is_journal_line, after_lines, script_lines, journal_part};
+
+/// Where the text of the journal begins in an input.
+#[derive(Clone, Copy, Debug, PartialEq, Eq)]
+pub struct JournalStart {
+    /// The number of bytes before it.
+    pub place: usize,
+    /// The number of lines before it.
+    pub lines: u64,
+}
+
+fn is_blank(byte: u8) -> bool
+    ensures { result ≡ is_blank byte }
+{
+    byte == b' ' || byte == b'\t' || byte == b'\r'
+}
+
+/// The line without the blanks that it begins with.
+fn without_blanks(line: &[u8]) -> &[u8]
+    ensures { result.now ≡ without_blanks line.now }
+{
+    let mut rest = line;
+    while let Some((byte, more)) = rest.split_first() {
+        if !is_blank(*byte) {
+            return rest;
+        }
+        rest = more;
+    }
+    rest
+}
+
+fn are_blank(bytes: &[u8]) -> bool
+    ensures { result ≡ list_all is_blank bytes.now }
+{
+    bytes.iter().all(|byte| is_blank(*byte))
+}
+
+/// Whether a text is the word `journal`, and blanks.
+fn begins_journal(text: &[u8]) -> bool
+    ensures { result ≡ begins_journal text.now }
+{
+    if text.len() < 7 {
+        return false;
+    }
+    &text[..7] == b"journal".as_slice() && are_blank(&text[7..])
+}
+
+/// Where the first line feed of a text stands.
+fn find_line_feed(text: &[u8]) -> Option<usize>
+    ensures place { result ≡ position (λ b. b == 10) text.now }
+    ensures within { IfSome result (λ place. place < length text.now) }
+{
+    text.iter().position(|byte| *byte == b'\n')
+}
+
+/// The first line of a text, and what stands after its line feed, if anything.
+fn cut_line(text: &[u8]) -> (&[u8], &[u8])
+    requires { 0 < length text.now }
+    ensures cut { lines_of text.now ≡ result.0.now ∷ lines_of result.1.now }
+    ensures after { (n : ℕ) → after_lines (suc n) text.now ≡ after_lines n result.1.now }
+    ensures shorter { length result.1.now < length text.now }
+{
+    match find_line_feed(text) {
+        Some(place) => (&text[..place], &text[place + 1..]),
+        None => (text, &[]),
+    }
+}
+
+/// What stands after the lines before the first whose only word is `journal`, and how many these are.
+fn skip_script(bytes: &[u8]) -> (&[u8], u64)
+    ensures lines { result.1 ≡ script_lines bytes.now }
+    ensures after { (n : ℕ) → after_lines (result.1 + n) bytes.now ≡ after_lines n result.0.now }
+    ensures few { result.1 + length result.0.now ≤ length bytes.now }
+{
+    let mut rest = bytes;
+    let mut lines = 0;
+    while !rest.is_empty() {
+        let (line, more) = cut_line(rest);
+        if begins_journal(without_blanks(line)) {
+            break;
+        }
+        rest = more;
+        lines += 1;
+    }
+    (rest, lines)
+}
+
+/// Where the first line stands whose only word is `journal`, or the end of the input.
+pub fn find_journal(bytes: &[u8]) -> JournalStart
+    ensures before { result.place ≡ length bytes.now - length (journal_part bytes.now) }
+    ensures journal { drop result.place bytes.now ≡ journal_part bytes.now }
+    ensures within { result.place ≤ length bytes.now }
+    ensures lines { result.lines ≡ script_lines bytes.now }
+    ensures few { result.lines ≤ length bytes.now }
+{
+    let (rest, lines) = skip_script(bytes);
+    JournalStart {
+        place: bytes.len() - rest.len(),
+        lines,
+    }
+}

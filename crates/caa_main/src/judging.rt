@@ -1,0 +1,110 @@
+//! The judge of a journal.
+
+ghost use Rattle.std.specs.Prelude.{◌≡◌, ◌≤◌, ◌+◌, ℕ, List, true, length, IfOk, IfSome};
+ghost use Rattle.place_plan.specs.Journals.{IsLegal, IsComplete};
+ghost use Rattle.journal_text.specs.Text.{text_of};
+ghost use Rattle.journal_text.specs.Reading.{HasText};
+ghost use Rattle.journal_text.specs.Looks.{AreOfPlan};
+ghost use Rattle.journal_text.specs.Naming.{is_well_named};
+ghost use Rattle.caa_main.specs.Judging.{wrong_look, Judges};
+
+use caa_base::entry::OutOfMemory;
+use caa_base::journal::Journal;
+use journal_replay::audit::audit;
+use journal_text::naming::is_well_named;
+use journal_text::reading::{TextError, read};
+use journal_text::right::first_wrong;
+use journal_text::seens::Seens;
+use place_plan::plan::Plan;
+use std::alloc::Global;
+
+/// How many entries a journal may have that is audited.
+const MOST_AUDITED: u64 = 5_000;
+
+/// What was found in the text of a journal.
+#[derive(Drop)]
+pub enum Judgement {
+    /// The text is one of this journal, which is legal and complete, and what was seen is right.
+    Lawful(Journal),
+    /// This line of the text, counted from 1, is the first at fault.
+    Illegal { number: u64 },
+    /// The journal has more entries than are audited.
+    TooMany,
+    /// No memory was found.
+    OutOfMemory,
+}
+
+/// The number of the first wrong look; a text without looks has none.
+fn wrong_look(
+    alloc: Global,
+    plan: &Plan,
+    journal: &Journal,
+    seens: &Seens,
+) -> Result<Option<u64>, OutOfMemory>
+    requires named { is_well_named plan.now ≡ true }
+    requires watches { AreOfPlan plan.now seens.now.seens }
+    ensures { IfOk result (λ found. found ≡ wrong_look plan.now journal.now.entries seens.now.seens) }
+{
+    if seens.is_empty() {
+        return Ok(None);
+    }
+    first_wrong(alloc, plan, journal, seens)
+}
+
+/// The line of a look, where it is no more than can be shown.
+fn line_of_look(plan: &Plan, journal: &Journal, look: u64) -> Option<u64>
+    requires { length journal.now.entries ≤ 5000 }
+    ensures { IfSome result (λ line. line ≡ 2 + length journal.now.entries + length plan.now.objects + length plan.now.places + look) }
+{
+    let before = 2 + journal.len() + u64::from(plan.objects()) + u64::from(plan.places());
+    before.checked_add(look)
+}
+
+/// Judges what was seen beside a legal and complete journal.
+fn judge_seens(alloc: Global, plan: &Plan, journal: Journal, seens: &Seens) -> Judgement
+    requires named { is_well_named plan.now ≡ true }
+    requires fit { HasText plan.now 5000 journal.entries seens.now.seens }
+    requires legal { IsLegal plan.now journal.entries }
+    requires complete { IsComplete plan.now journal.entries }
+    ensures { (text : List ℕ) → text ≡ text_of plan.now journal.entries seens.now.seens → Judges plan.now text result }
+{
+    match wrong_look(alloc, plan, &journal, seens) {
+        Ok(None) => Judgement::Lawful(journal),
+        Ok(Some(look)) => match line_of_look(plan, &journal, look) {
+            Some(number) => Judgement::Illegal { number },
+            None => Judgement::OutOfMemory,
+        },
+        Err(_) => Judgement::OutOfMemory,
+    }
+}
+
+/// Judges a journal, and what was seen beside it.
+fn judge_journal(alloc: Global, plan: &Plan, journal: Journal, seens: &Seens) -> Judgement
+    requires named { is_well_named plan.now ≡ true }
+    requires fit { HasText plan.now 5000 journal.entries seens.now.seens }
+    ensures { (text : List ℕ) → text ≡ text_of plan.now journal.entries seens.now.seens → Judges plan.now text result }
+{
+    match audit(plan, &journal) {
+        Ok(()) => judge_seens(alloc, plan, journal, seens),
+        Err(illegal) => Judgement::Illegal {
+            number: illegal.index + 2,
+        },
+    }
+}
+
+/// Judges the text of a journal of a plan: it is none, or the journal isn't legal or isn't complete, or shows a wrong value, or none
+/// of this.
+pub fn judge(alloc: Global, plan: &Plan, text: &[u8]) -> Judgement
+    ensures { Judges plan.now text.now result }
+{
+    if !is_well_named(plan) {
+        return Judgement::OutOfMemory;
+    }
+    let (journal, seens) = match read(alloc, plan, text, MOST_AUDITED) {
+        Ok(read) => read,
+        Err(TextError::TooMany { line: _ }) => return Judgement::TooMany,
+        Err(TextError::BadLine { line }) => return Judgement::Illegal { number: line },
+        Err(TextError::OutOfMemory) => return Judgement::OutOfMemory,
+    };
+    judge_journal(alloc, plan, journal, &seens)
+}
