@@ -14,7 +14,10 @@ use Rattle.action_manager.specs.Seats.{stand, seen_by, has_seat, Accounts}
 use Rattle.action_manager.proofs.Steps.{held_both}
 use Rattle.std.proofs.lemmas.List.Elements.{All-append}
 use Rattle.std.specs.List.{range_with_len}
-use Rattle.place_plan.proofs.ClosedPlan.{range_more}
+
+range_more : (a n : ℕ) → range_with_len a (n + 1) ≡ range_with_len a n ++ (a + n) ∷ []
+range_more a zero = grind arith
+range_more a (suc n) = let more = range_more (a + 1) n in grind arith
 
 pub all_one : {X : Type 0} (P : X → Type 0) (x : X) → P x → All P (x ∷ [])
 all_one P x p zero d low = p

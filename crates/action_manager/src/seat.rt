@@ -21,6 +21,7 @@ pub struct Seat<M> {
 }
 
 /// Why a seat has no note to give.
+#[derive(Debug, Drop)]
 pub enum NoNote {
     /// It made no step, its last one wasn't a Resolve or a Handle, or that note was taken.
     NotDue,

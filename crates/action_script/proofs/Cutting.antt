@@ -1,7 +1,7 @@
 -- A line cut into words.
 use Rattle.std.proofs.Common.{◌≡◌, ℕ, ◌+◌, ◌<◌, ◌==◌, true, false, not, cond, List, [], ◌∷◌, ◌++◌, length, map, filter, drop, get_or, Bor, refl, sym, ap, ◌∙◌, append_assoc, arith, drop-cons, add-one}
 use Rattle.std.proofs.lemmas.Bool.Decides.{nat_tests}
-use Rattle.action_script.specs.Words.{is_empty}
+use Rattle.caa_base.specs.Lists.{is_empty}
 
 abbrev pub filled : List (List ℕ) → List (List ℕ)
 filled pieces = filter (λ word. not (is_empty word)) pieces

@@ -9,7 +9,8 @@ use Rattle.action_script.specs.declared.field.Part.{Part}
 use Rattle.action_script.specs.declared.field.Part.TheVariants as part
 use Rattle.action_script.specs.declared.field.Field.{Field}
 use Rattle.action_script.specs.declared.field.Field.TheVariants as field
-use Rattle.action_script.specs.Words.{is_name, value_of, count_of, rounds_of, test_of}
+use Rattle.action_script.specs.Words.{value_of, count_of, rounds_of, test_of}
+use Rattle.caa_base.specs.Names.{is_name}
 use Rattle.action_script.specs.Names.{is_among, number_in}
 use Rattle.action_script.specs.Reading.{is_part, is_name_part, field_by}
 use Rattle.action_script.specs.Printing.{field_word, fits_part}

@@ -1,7 +1,7 @@
 -- How the bytes of a script are cut into lines, and a line into words.
 use Rattle.std.specs.Prelude.{ℕ, ◌==◌, nat_le, if◌then◌else◌, Bool, false, not, ◌&&◌, ◌||◌, List, [], ◌∷◌, ◌++◌, filter}
 use Rattle.std.specs.List.{slice_split}
-use Rattle.action_script.specs.Words.{is_empty}
+use Rattle.caa_base.specs.Lists.{is_empty}
 
 -- a script has at most so many bytes
 abbrev pub most_bytes : ℕ

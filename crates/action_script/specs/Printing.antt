@@ -10,7 +10,8 @@ use Rattle.action_script.specs.declared.form.Form.{Form}
 use Rattle.action_script.specs.declared.kind.Section.{Section}
 use Rattle.action_script.specs.declared.kind.Section.TheVariants as section
 use Rattle.action_script.specs.declared.script.Line.{Line}
-use Rattle.action_script.specs.Words.{is_name, test_word}
+use Rattle.action_script.specs.Words.{test_word}
+use Rattle.caa_base.specs.Names.{is_name}
 use Rattle.action_script.specs.Lines.{most_line, spaced}
 use Rattle.action_script.specs.Asked.{Said}
 use Rattle.action_script.specs.Kinds.{word_of, parts_of, takes, stands_in, goes_to, at_top}

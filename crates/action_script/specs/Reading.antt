@@ -14,7 +14,8 @@ use Rattle.action_script.specs.declared.kind.Section.TheVariants as section
 use Rattle.action_script.specs.declared.kind.LineKind.{LineKind}
 use Rattle.action_script.specs.declared.script.Line.{Line}
 use Rattle.action_script.specs.Asked.{Asked, Said}
-use Rattle.action_script.specs.Words.{is_name, value_of, count_of, rounds_of, test_of}
+use Rattle.action_script.specs.Words.{value_of, count_of, rounds_of, test_of}
+use Rattle.caa_base.specs.Names.{is_name}
 use Rattle.action_script.specs.Lines.{most_bytes, most_line, lines_of, words_of, is_plain, begins_comment}
 use Rattle.action_script.specs.Kinds.{word_of, parts_of, takes, stands_in, goes_to, at_top, kinds}
 use Rattle.action_script.specs.Names.{with_names, number_in}

@@ -1,36 +1,10 @@
 -- The words of a script: names, numbers and tests.
-use Rattle.std.specs.Prelude.{ℕ, ℤ, pos, negsuc, zero, suc, ◌+◌, ◌-◌, ◌*◌, ◌==◌, nat_le, if◌then◌else◌, Bool, true, false, not, ◌&&◌, ◌||◌, List, [], ◌∷◌, length, Option, Some, None, option_map, bytes_eq, codes}
+use Rattle.std.specs.Prelude.{ℕ, ℤ, pos, negsuc, zero, suc, ◌+◌, ◌-◌, ◌*◌, ◌==◌, nat_le, if◌then◌else◌, Bool, false, not, ◌&&◌, ◌||◌, List, [], ◌∷◌, Option, Some, None, option_map, bytes_eq, codes}
 use Rattle.std.specs.List.{list_all}
+use Rattle.caa_base.specs.Lists.{is_empty}
+use Rattle.caa_base.specs.Names.{is_digit}
 use Rattle.caa_base.specs.declared.entry.Test.{Test}
 use Rattle.caa_base.specs.declared.entry.Test.TheVariants as test
-
--- no bytes
-abbrev pub is_empty : List ℕ → Bool
-is_empty [] = true
-is_empty (b ∷ rest) = false
-
--- ---- names
-
--- a letter of ASCII
-abbrev pub is_letter : ℕ → Bool
-is_letter b = (nat_le 65 b && nat_le b 90) || (nat_le 97 b && nat_le b 122)
-
--- a digit
-abbrev pub is_digit : ℕ → Bool
-is_digit b = nat_le 48 b && nat_le b 57
-
--- letters, digits, `_` and `-`
-abbrev pub is_name_byte : ℕ → Bool
-is_name_byte b = is_letter b || (is_digit b || ((b == 95) || (b == 45)))
-
--- the first byte is a letter
-abbrev pub begins_with_letter : List ℕ → Bool
-begins_with_letter [] = false
-begins_with_letter (b ∷ rest) = is_letter b
-
--- a name has 1 to 32 such characters, the first a letter
-abbrev pub is_name : List ℕ → Bool
-is_name word = begins_with_letter word && (nat_le (length word) 32 && list_all is_name_byte word)
 
 -- ---- numbers
 

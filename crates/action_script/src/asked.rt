@@ -7,8 +7,9 @@ ghost use Rattle.action_script.specs.declared.error.ScriptCause.TheVariants as c
 use crate::error::ScriptCause;
 use crate::field::{Field, Part};
 use crate::names::NameTable;
-use crate::word::{count_of, is_name, rounds_of, test_of, value_of};
+use crate::word::{count_of, rounds_of, test_of, value_of};
 use caa_base::entry::Test;
+use caa_base::name::is_name;
 use std::alloc::{AllocError, Global};
 use std::marker::Model;
 

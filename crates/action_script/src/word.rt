@@ -1,58 +1,17 @@
 ghost use Rattle.std.specs.Prelude.{◌≡◌, ◌≤◌, ◌&&◌, ◌<◌, ◌^◌, Some, IfSome, option_map, pos};
 ghost use Rattle.std.specs.Option.{ForSome};
 ghost use Rattle.std.specs.List.{list_all};
-ghost use Rattle.action_script.specs.Words.{is_letter, is_digit, is_name_byte, begins_with_letter, is_name, leads_well, digits_after, natural_of, at_most, at_least_one, negative_of, value_of, count_of, rounds_of, test_of, test_word};
+ghost use Rattle.action_script.specs.Words.{leads_well, digits_after, natural_of, at_most, at_least_one, negative_of, value_of, count_of, rounds_of, test_of, test_word};
+ghost use Rattle.caa_base.specs.Names.{is_letter, is_digit, is_name_byte, begins_with_letter, is_name};
 
 use caa_base::entry::Test;
+use caa_base::name::is_digit;
 
 /// The greatest value; the least is its negative.
 const MOST_VALUE: u64 = 1_000_000_000_000;
 
-/// The greatest length of a name.
-const MOST_NAME: usize = 32;
-
 /// The greatest count, and the greatest number of rounds.
 const MOST_COUNT: u64 = 1_000_000;
-
-fn is_letter(byte: u8) -> bool
-    ensures { result ≡ is_letter byte }
-{
-    (byte >= b'A' && byte <= b'Z') || (byte >= b'a' && byte <= b'z')
-}
-
-fn is_digit(byte: u8) -> bool
-    ensures { result ≡ is_digit byte }
-{
-    byte >= b'0' && byte <= b'9'
-}
-
-fn is_name_byte(byte: u8) -> bool
-    ensures { result ≡ is_name_byte byte }
-{
-    is_letter(byte) || is_digit(byte) || byte == b'_' || byte == b'-'
-}
-
-fn begins_with_letter(word: &[u8]) -> bool
-    ensures { result ≡ begins_with_letter word.now }
-{
-    match word.first() {
-        Some(byte) => is_letter(*byte),
-        None => false,
-    }
-}
-
-fn are_name_bytes(word: &[u8]) -> bool
-    ensures { result ≡ list_all is_name_byte word.now }
-{
-    word.iter().all(|byte| is_name_byte(*byte))
-}
-
-/// Whether a word is a name.
-pub fn is_name(word: &[u8]) -> bool
-    ensures { result ≡ is_name word.now }
-{
-    begins_with_letter(word) && word.len() <= MOST_NAME && are_name_bytes(word)
-}
 
 fn leads_well(word: &[u8]) -> bool
     ensures { result ≡ leads_well word.now }

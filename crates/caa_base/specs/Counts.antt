@@ -1,5 +1,5 @@
 -- How the faults of the outside are counted.
-use Rattle.std.specs.Prelude.{◌≡◌, ℕ, ◌+◌, ◌<◌, ◌≤◌, ◌-◌, ◌^◌, nat_lt, if◌then◌else◌, Bool, true, false, Result, Ok, Err}
+use Rattle.std.specs.Prelude.{◌≡◌, ℕ, ◌+◌, ◌<◌, ◌-◌, ◌^◌, nat_lt, if◌then◌else◌, Bool, true, false, Result, Ok, Err}
 
 -- a count rose in a call: it is greater after than before, unless it stands at the last number that it can show
 abbrev pub Rose : ℕ → ℕ → Type 0

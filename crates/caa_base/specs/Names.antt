@@ -1,6 +1,7 @@
 -- Which words are names.
 use Rattle.std.specs.Prelude.{ℕ, ◌==◌, nat_le, Bool, false, ◌&&◌, ◌||◌, List, [], ◌∷◌, length}
 use Rattle.std.specs.List.{list_all}
+use Rattle.caa_base.specs.Limits.{most_name_bytes}
 
 abbrev pub is_letter : ℕ → Bool
 is_letter b = (nat_le 65 b && nat_le b 90) || (nat_le 97 b && nat_le b 122)
@@ -18,4 +19,4 @@ begins_with_letter (b ∷ rest) = is_letter b
 
 -- a name has 1 to 32 such characters, the first a letter
 abbrev pub is_name : List ℕ → Bool
-is_name word = begins_with_letter word && (nat_le (length word) 32 && list_all is_name_byte word)
+is_name word = begins_with_letter word && (nat_le (length word) most_name_bytes && list_all is_name_byte word)

@@ -3,6 +3,7 @@ ghost use Rattle.std.specs.List.{list_all};
 ghost use Rattle.caa_base.specs.Names.{is_letter, is_digit, is_name_byte, begins_with_letter, is_name};
 
 use crate::entry::OutOfMemory;
+use crate::limits::MOST_NAME_BYTES;
 use std::alloc::Global;
 use std::marker::Model;
 
@@ -37,16 +38,14 @@ impl Name {
     }
 }
 
-/// The greatest length of a name.
-const MOST_NAME: usize = 32;
-
 fn is_letter(byte: u8) -> bool
     ensures { result ≡ is_letter byte }
 {
     (byte >= b'A' && byte <= b'Z') || (byte >= b'a' && byte <= b'z')
 }
 
-fn is_digit(byte: u8) -> bool
+/// Whether a byte is a digit.
+pub fn is_digit(byte: u8) -> bool
     ensures { result ≡ is_digit byte }
 {
     byte >= b'0' && byte <= b'9'
@@ -77,7 +76,7 @@ fn are_name_bytes(word: &[u8]) -> bool
 pub fn is_name(word: &[u8]) -> bool
     ensures { result ≡ is_name word.now }
 {
-    begins_with_letter(word) && word.len() <= MOST_NAME && are_name_bytes(word)
+    begins_with_letter(word) && word.len() <= MOST_NAME_BYTES && are_name_bytes(word)
 }
 
 #[cfg(test)]

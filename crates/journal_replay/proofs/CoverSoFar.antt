@@ -10,7 +10,7 @@ use Rattle.place_plan.specs.Raising.{raises_in, exceptions_raised, exception_res
 use Rattle.place_plan.specs.Roles.{signals, signal_in, verdict_of}
 use Rattle.place_plan.specs.Journals.{LegalPast}
 use Rattle.caa_base.specs.declared.entry.Kind.TheVariants as kind
-use Rattle.place_plan.specs.Words.{is_empty}
+use Rattle.caa_base.specs.Lists.{is_empty}
 use Rattle.journal_laws.specs.Due.{naming, due_end, due_signal, due_halted, due_resolve, least_of}
 use Rattle.journal_laws.proofs.LeastOf.{least_found}
 use Rattle.journal_laws.proofs.Playable.{IsPlayable}

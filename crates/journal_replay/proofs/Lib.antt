@@ -3,8 +3,9 @@ pub mod CoverSoFar
 pub mod Covers
 pub mod Devices
 pub mod DueEntries
+pub mod Laying
 pub mod Last
-pub mod Plays
 pub mod Prefixes
 pub mod StepsFit
+pub mod Unasked
 pub mod WorkNext

@@ -13,11 +13,12 @@ use Rattle.place_plan.specs.Places.{objects_of, uses}
 use Rattle.place_plan.specs.Entries.{is_by}
 use Rattle.place_plan.specs.Objects.{next_restore, is_tried}
 use Rattle.place_plan.specs.Roles.{register, gives_value, next_step}
-use Rattle.place_plan.specs.DraftRules.{is_value}
-use Rattle.place_plan.specs.WellFormed.{IsValue, FieldsFit, IsWellFormed, AllWellFormed}
-use Rattle.place_plan.proofs.Words.{first_not_fails}
+use Rattle.caa_base.specs.Limits.{is_value, IsValue}
+use Rattle.place_plan.specs.WellFormed.{FieldsFit, IsWellFormed, AllWellFormed}
+use Rattle.caa_base.proofs.ListLemmas.{first_not_fails}
 use Rattle.journal_laws.proofs.Playable.{IsPlayable}
-use Rattle.journal_laws.proofs.Ranges.{step_fits, value_from}
+use Rattle.caa_base.proofs.Values.{value_from}
+use Rattle.journal_laws.proofs.Ranges.{step_fits}
 
 given_value : (plan : Plan) (k : Kind) (e : Entry) → gives_value k ≡ true → FieldsFit k plan e → IsValue e.value
 given_value plan kind.Read e g h = h.0.value

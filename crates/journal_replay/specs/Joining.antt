@@ -1,7 +1,7 @@
 -- The least cover of several exceptions, where there are some.
 use Rattle.std.specs.Prelude.{◌≡◌, ℕ, false, List, [], ◌∷◌, Option, Some, None}
 use Rattle.cover_table.specs.Cover.{CoverOrder, IsLeastCover}
-use Rattle.place_plan.specs.Words.{is_empty}
+use Rattle.caa_base.specs.Lists.{is_empty}
 
 -- the number, where there is one
 abbrev pub listed : Option ℕ → List ℕ

@@ -8,7 +8,7 @@ use crate::look_back::places::is_over;
 use crate::rule::{asks_device, entry_due, refused};
 use caa_base::entry::Entry;
 use caa_base::journal::Journal;
-use crate::laws::due_is_right;
+use journal_laws::due_is_right;
 use place_plan::plan::Plan;
 use thiserror::Error;
 

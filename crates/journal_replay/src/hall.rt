@@ -22,7 +22,7 @@ use caa_base::entry::{Drill, Entry, Failed, Object, OutOfMemory, Participant};
 use caa_base::journal::Journal;
 use caa_base::plant::{Plant, PlantError};
 use caa_base::work::WorkDone;
-use crate::laws::{is_bounded, is_well_formed, puts_make_values};
+use journal_laws::{is_bounded, is_well_formed, last_put_is_value};
 use place_plan::machine::{Answer, Machine};
 use place_plan::plan::Plan;
 use place_plan::value::value_at;
@@ -220,7 +220,7 @@ impl<P: Plant> PlainHall<P> {
         ensures journal { journal_in self.new ≡ journal_in self.old ++ entry ∷ [] }
     {
         is_bounded(&self.plan);
-        puts_make_values(&self.plan);
+        last_put_is_value(&self.plan);
         self.journal.push(entry);
     }
 
@@ -235,7 +235,7 @@ impl<P: Plant> PlainHall<P> {
     {
         is_bounded(&self.plan);
         is_well_formed(&self.plan);
-        puts_make_values(&self.plan);
+        last_put_is_value(&self.plan);
         let entry = answer_of(&mut self.plant, well, fault);
         self.journal.push(entry);
         entry

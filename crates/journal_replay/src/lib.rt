@@ -5,6 +5,7 @@ pub mod answer;
 pub mod audit;
 pub mod hall;
 pub mod rule;
-mod laws;
 mod look_back;
+#[cfg(test)]
+mod tests;
 mod work_due;

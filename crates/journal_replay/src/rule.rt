@@ -32,7 +32,7 @@ use caa_base::limits::MOST_VALUE;
 use caa_base::work::WorkDone;
 use place_plan::plan::Plan;
 use place_plan::rows::{AbortRow, Step};
-use crate::laws::{due_is_right, is_well_formed};
+use journal_laws::{due_is_right, is_well_formed};
 use place_plan::value::value_at;
 
 // ---- what an entry says

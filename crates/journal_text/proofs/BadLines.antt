@@ -68,12 +68,14 @@ seens-shared plan low [] (m ∷ ms) r t fs fm nr =
     omega (arith, shared-none (seen_line plan m) r (seen_lines plan ms) (seen_line-is plan m t.named fm.0.1) (λ z e. nr m z fm.0 e))
 seens-shared plan low (s ∷ ss) (m ∷ ms) r t fs fm nr =
     by (cases_Bool (bytes_eq (seen_line plan s) (seen_line plan m)))
-      (λ one. seens-shared plan s.watch ss ms r t fs.1 (subst (λ k. SeensFit plan k.watch ms) (sym one) fm.1) nr)
+    (λ one. seens-shared plan s.watch ss ms r t fs.1 (subst (λ k. SeensFit plan k.watch ms) (sym one) fm.1) nr)
   where
     rest : List ℕ
     rest = seen_lines plan ss ++ r
+
     cut : lines_shared (seen_lines plan (s ∷ ss) ++ r) (seen_lines plan (m ∷ ms)) ≡ lines_shared (seen_line plan s ++ rest) (seen_line plan m ++ seen_lines plan ms)
     cut = ap (λ z. lines_shared z (seen_lines plan (m ∷ ms))) (append_assoc (seen_line plan s) (seen_lines plan ss) r)
+
     by : (bytes_eq (seen_line plan s) (seen_line plan m) ≡ true) ⊎ (bytes_eq (seen_line plan s) (seen_line plan m) ≡ false)
         → (s ≡ m → lines_shared rest (seen_lines plan ms) ≤ length ss)
         → lines_shared (seen_lines plan (s ∷ ss) ++ r) (seen_lines plan (m ∷ ms)) ≤ suc (length ss)
@@ -138,19 +140,23 @@ first-bad plan limit bytes es r ss number t far fit best other is = record {
     shared js ms =
         ap (lines_shared bytes) (text-split plan js ms) ∙ ap (λ b. lines_shared b (first_line ++ (entry_lines plan js ++ tail_of plan js ms))) far.front
         ∙ shared-line first_line (entry_lines plan es ++ r) (entry_lines plan js ++ tail_of plan js ms) first-is
+
     own : (ms : List Seen) → lines_shared bytes (text_of plan es ms) ≡ suc (length es + lines_shared r (tail_of plan es ms))
     own ms = shared es ms ∙ ap suc (entries-front plan es r (tail_of plan es ms) t (each plan es far.fit))
+
     within : (js : List Entry) (ms : List Seen) → HasText plan limit js ms → (es ≡ js) ⊎ (lines_shared (entry_lines plan es ++ r) (entry_lines plan js ++ tail_of plan js ms) ≤ length es) → lines_shared bytes (text_of plan js ms) < number
     within js ms h (inl same) =
         let moved = ap (λ ks. lines_shared bytes (text_of plan ks ms)) (sym same) in
         omega (arith, moved, own ms, own ss, best ms h.order h.watches, is)
     within js ms h (inr less) = omega (arith, shared js ms, own ss, less, is)
+
     no_text : (js : List Entry) (ms : List Seen) → IsText plan limit bytes js ms → ⊥
     no_text js ms h =
         let cut : first_line ++ (entry_lines plan es ++ r) ≡ first_line ++ (entry_lines plan js ++ tail_of plan js ms) = sym far.front ∙ h.same ∙ text-split plan js ms in
         let rest = append_cancel_left first_line (entry_lines plan es ++ r) (entry_lines plan js ++ tail_of plan js ms) cut in
         let two = entries-same plan es js r (tail_of plan js ms) t (each plan es far.fit) (each plan js h.fit.entries) far.all (tail-no-entry plan js ms t.named t.small) rest in
         other ms h.fit.order h.fit.watches (two.1 ∙ ap (λ ks. tail_of plan ks ms) (sym two.0))
+
     no_more : HasTooMany plan limit bytes → ⊥
     no_more h =
         let cut : first_line ++ (entry_lines plan es ++ r) ≡ first_line ++ (entry_lines plan h.journal ++ h.rest) = sym far.front ∙ h.begins ∙ append_assoc first_line (entry_lines plan h.journal) h.rest in
@@ -174,6 +180,7 @@ bad-first plan limit bytes (error.BadLine line) n h = record {
   where
     nothing : HasText plan limit [] []
     nothing = record { entries = λ k d l. absurd (omega arith); few = omega arith; order = tt; watches = λ k d l. absurd (omega arith) }
+
     nothing_shared : (js : List Entry) (ms : List Seen) → lines_shared bytes (text_of plan js ms) ≡ 0
     nothing_shared js ms = ap (lines_shared bytes) (text-split plan js ms) ∙ shared-none first_line bytes (entry_lines plan js ++ tail_of plan js ms) first-is n
 
@@ -187,10 +194,10 @@ bad-closing plan limit bytes text es r (error.TooMany line) t begins h n k = abs
 bad-closing plan limit bytes text es r error.OutOfMemory t begins h n k = tt
 bad-closing plan limit bytes text es r (error.BadLine line) t begins h n k =
     first-bad plan limit bytes es r [] line t (so-far plan limit bytes text es r begins h)
-      (record { entries = h.fit; few = h.few; order = tt; watches = λ i d l. absurd (omega arith) })
-      (λ ms order watches. omega (arith, shared-no_front r (closing_lines plan (reverse es)) (seen_lines plan ms) [] n))
-      (λ ms order watches same. n (seen_lines plan ms) same)
-      k
+    (record { entries = h.fit; few = h.few; order = tt; watches = λ i d l. absurd (omega arith) })
+    (λ ms order watches. omega (arith, shared-no_front r (closing_lines plan (reverse es)) (seen_lines plan ms) [] n))
+    (λ ms order watches same. n (seen_lines plan ms) same)
+    k
 
 -- bytes that don't end after the looks
 pub bad-rest : (plan : Plan) (limit : ℕ) (bytes text : List ℕ) (es : List Entry) (r looks : List ℕ) (ss : List Seen) (rest : List ℕ) (e : TextError) → Tells plan → bytes ≡ first_line ++ text
@@ -200,19 +207,23 @@ bad-rest plan limit bytes text es r looks ss rest (error.TooMany line) t begins 
 bad-rest plan limit bytes text es r looks ss rest error.OutOfMemory t begins h q s n k = tt
 bad-rest plan limit bytes text es r looks ss rest (error.BadLine line) t begins h q s n k =
     first-bad plan limit bytes es r ss line t (so-far plan limit bytes text es r begins h)
-      (record { entries = h.fit; few = h.few; order = s.order; watches = s.fit })
-      (λ ms order watches. omega (arith, shared ms, shared ss, most ms order watches, seens-front plan 0 ss rest t (seens-fit plan ss s.order s.fit)))
-      (λ ms order watches same. n (ends ms order watches same))
-      k
+    (record { entries = h.fit; few = h.few; order = s.order; watches = s.fit })
+    (λ ms order watches. omega (arith, shared ms, shared ss, most ms order watches, seens-front plan 0 ss rest t (seens-fit plan ss s.order s.fit)))
+    (λ ms order watches same. n (ends ms order watches same))
+    k
   where
     closing : List ℕ
     closing = closing_lines plan (reverse es)
+
     whole : r ≡ closing ++ (seen_lines plan ss ++ rest)
     whole = q ∙ ap (λ z. closing ++ z) s.front
+
     shared : (ms : List Seen) → lines_shared r (tail_of plan es ms) ≡ lines_shared closing closing + lines_shared (seen_lines plan ss ++ rest) (seen_lines plan ms)
     shared ms = ap (λ z. lines_shared z (tail_of plan es ms)) whole ∙ shared-front closing (seen_lines plan ss ++ rest) (seen_lines plan ms)
+
     most : (ms : List Seen) → AreInOrder ms → AreOfPlan plan ms → lines_shared (seen_lines plan ss ++ rest) (seen_lines plan ms) ≤ length ss
     most ms order watches = seens-shared plan 0 ss ms rest t (seens-fit plan ss s.order s.fit) (seens-fit plan ms order watches) s.all
+
     ends : (ms : List Seen) → AreInOrder ms → AreOfPlan plan ms → r ≡ tail_of plan es ms → rest ≡ []
     ends ms order watches same =
         let cut = append_cancel_left closing (seen_lines plan ss ++ rest) (seen_lines plan ms) (sym whole ∙ same) in
@@ -224,19 +235,22 @@ pub good : (plan : Plan) (limit : ℕ) (bytes text : List ℕ) (es : List Entry)
 good plan limit bytes text es r looks ss rest begins h q s end = record {
   fit = record { entries = h.fit; few = h.few; order = s.order; watches = s.fit };
   same =
-    begins ∙ ap (λ z. first_line ++ z) (h.front ∙ ap (λ z. entry_lines plan es ++ z) (q ∙ ap (λ z. closing_lines plan (reverse es) ++ z)
+      begins ∙ ap (λ z. first_line ++ z) (h.front ∙ ap (λ z. entry_lines plan es ++ z) (q ∙ ap (λ z. closing_lines plan (reverse es) ++ z)
       (s.front ∙ ap (λ z. seen_lines plan ss ++ z) end ∙ append-nil (seen_lines plan ss)))) ∙ sym (text-split plan es ss);
 }
 
 -- bytes with entries past the limit, or no memory
 pub stopped : (plan : Plan) (limit : ℕ) (bytes text : List ℕ) (e : TextError) → bytes ≡ first_line ++ text → StopsEntries plan limit text e → Refuses plan limit bytes e
-stopped plan limit bytes text (error.TooMany line) begins h = (h.0, record {
-  journal = h.1.entries;
-  rest = h.1.rest;
-  entries = h.1.fit;
-  many = h.1.many;
-  begins = begins ∙ ap (λ z. first_line ++ z) h.1.front ∙ sym (append_assoc first_line (entry_lines plan h.1.entries) h.1.rest);
-})
+stopped plan limit bytes text (error.TooMany line) begins h = (
+  h.0,
+  record {
+    journal = h.1.entries;
+    rest = h.1.rest;
+    entries = h.1.fit;
+    many = h.1.many;
+    begins = begins ∙ ap (λ z. first_line ++ z) h.1.front ∙ sym (append_assoc first_line (entry_lines plan h.1.entries) h.1.rest);
+  },
+)
 stopped plan limit bytes text (error.BadLine line) begins h = absurd h
 stopped plan limit bytes text error.OutOfMemory begins h = tt
 

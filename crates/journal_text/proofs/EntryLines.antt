@@ -23,7 +23,7 @@ use Rattle.journal_text.specs.declared.entry_line.Fields.{Fields}
 use Rattle.journal_text.specs.Naming.{is_well_named}
 use Rattle.journal_text.specs.Text.{participant_name, object_name, watched_object, seen_line, internal_name, interface_name, kind_word, object_words, restore_word, verdict_words, outcome_at, outcome_words, abort_words, leave_words, field_words, entry_line}
 use Rattle.journal_text.specs.Words.{word_in, after_word, next_word, after_next, number_in, value_in, participant_in, object_in, exception_in, kind_in, nothing_more, marked, naming, object_fields, work_fields, restore_mark, verdict_fields, end_fields, named_fields, leave_fields, fields_in, entry_with, entry_after, entry_in, watch_in, seen_in, is_gap}
-use Rattle.journal_text.proofs.WordLemmas.{is_whole, word_in-whole, after_word-whole, begins-line, next_word-line, after_next-line, whole-decimal, whole-signed, number_in-decimal, index-own}
+use Rattle.journal_text.proofs.WordLemmas.{is_whole, word_in-whole, after_word-whole, begins-line, next_word-line, after_next-line, whole-decimal, whole-signed, number_in-decimal}
 use Rattle.journal_text.proofs.NamingLemmas.{Named, participants-named, objects-named, exceptions-named, watches-named, watched-within}
 use Rattle.journal_text.specs.declared.seens.Seen.{Seen}
 use Rattle.journal_text.specs.Looks.{IsOfPlan}
@@ -79,20 +79,20 @@ object-read plan o v mark ws more h l fit =
     let one = first-word (object_name plan o) (signed_decimal v ∷ ws) more (names.whole o l) in
     let two = second-word (object_name plan o) (signed_decimal v) ws more (names.whole o l) (whole-signed v fit) in
     fields-same _ o mark mark _ v
-      (ap (object_in plan) one ∙ index-own (object_name plan) (length plan.objects) o names.differ l) refl
-      (ap value_in two ∙ value_in-signed v fit)
+    (ap (object_in plan) one ∙ names.own o l) refl
+    (ap value_in two ∙ value_in-signed v fit)
 
 exception-read : (plan : Plan) (g x : ℕ) (more : List ℕ) → is_well_named plan ≡ true → x < (graph_at plan g).count → exception_in plan g (next_word (rest_of (exception_name plan g x ∷ []) more)) ≡ x
 exception-read plan g x more h l =
     let names = exceptions-named plan g h in
-    ap (exception_in plan g) (first-word (exception_name plan g x) [] more (names.whole x l)) ∙ index-own (exception_name plan g) (graph_at plan g).count x names.differ l
+    ap (exception_in plan g) (first-word (exception_name plan g x) [] more (names.whole x l)) ∙ names.own x l
 
 signal-read : (plan : Plan) (g x : ℕ) (more : List ℕ) → is_well_named plan ≡ true → x < (graph_at plan g).count
     → exception_in plan g (next_word (after_next (rest_of (codes "signal" ∷ exception_name plan g x ∷ []) more))) ≡ x
 signal-read plan g x more h l =
     let names = exceptions-named plan g h in
     ap (exception_in plan g) (second-word (codes "signal") (exception_name plan g x) [] more refl (names.whole x l))
-    ∙ index-own (exception_name plan g) (graph_at plan g).count x names.differ l
+    ∙ names.own x l
 
 plain-read : (e : Entry) → IsPlain e → nothing_more ≡ fields e.arg e.mark e.value
 plain-read e h = fields-same 0 e.arg 0 e.mark (pos 0) e.value (sym h.arg) (sym h.mark) (sym h.value)
@@ -106,8 +106,8 @@ work-read e more arg mark fit =
     let one = first-word (decimal e.arg) (signed_decimal e.value ∷ []) more (whole-decimal e.arg (omega arith)) in
     let two = second-word (decimal e.arg) (signed_decimal e.value) [] more (whole-decimal e.arg (omega arith)) (whole-signed e.value fit) in
     fields-same _ e.arg 0 e.mark _ e.value
-      (ap (number_in 1000000) one ∙ number_in-decimal 1000000 e.arg arg (omega arith)) (sym mark)
-      (ap value_in two ∙ value_in-signed e.value fit)
+    (ap (number_in 1000000) one ∙ number_in-decimal 1000000 e.arg arg (omega arith)) (sym mark)
+    (ap value_in two ∙ value_in-signed e.value fit)
 
 -- an exception that may be named, at mark 1
 named-read : (plan : Plan) (g : ℕ) (e : Entry) (m : ℕ) (more : List ℕ) → is_well_named plan ≡ true → MayShowException (graph_at plan g) 1 2 e → e.mark ≡ m
@@ -245,7 +245,7 @@ entry_in-line plan e more h small fit =
     let kind : kind_in (word_in (kind_word e.kind ++ rest_of words more)) ≡ Some e.kind = ap kind_in (word_in-whole (kind_word e.kind) (rest_of words more) (kind-whole e.kind) (begins-line words more)) ∙ kind-read e.kind in
     let rest : after_word (kind_word e.kind ++ rest_of words more) ≡ rest_of words more = after_word-whole (kind_word e.kind) (rest_of words more) (kind-whole e.kind) (begins-line words more) in
     let one : number_in 4294967295 (next_word (rest_of words more)) ≡ e.place = ap (number_in 4294967295) (first-word (decimal e.place) (participant_name plan e.by ∷ field_words e.kind plan e) more place) ∙ number_in-decimal 4294967295 e.place (omega (arith, fit.place)) (omega (arith, fit.place)) in
-    let two : participant_in plan (next_word (after_next (rest_of words more))) ≡ e.by = ap (participant_in plan) (second-word (decimal e.place) (participant_name plan e.by) (field_words e.kind plan e) more place by) ∙ index-own (participant_name plan) (length plan.participants) e.by names.differ fit.by in
+    let two : participant_in plan (next_word (after_next (rest_of words more))) ≡ e.by = ap (participant_in plan) (second-word (decimal e.place) (participant_name plan e.by) (field_words e.kind plan e) more place by) ∙ names.own e.by fit.by in
     let tail : after_next (after_next (rest_of words more)) ≡ rest_of (field_words e.kind plan e) more = ap after_next (after_next-line (decimal e.place) (participant_name plan e.by ∷ field_words e.kind plan e) more place) ∙ after_next-line (participant_name plan e.by) (field_words e.kind plan e) more by in
     let entry : entry_after plan (rest_of words more) e.kind ≡ e =
     rw (one, two, tail, fields-read e.kind plan e more h fit.fields) (with-same e.kind e refl) in
@@ -261,7 +261,7 @@ seen_in-line plan s more h fit =
     let whole = names.whole s.watch fit.watch in
     let ends = whole-decimal s.ends fit.ends in
     let rest : after_word (codes "seen" ++ rest_of words more) ≡ rest_of words more = after_word-whole (codes "seen") (rest_of words more) refl (begins-line words more) in
-    let one : watch_in plan (next_word (rest_of words more)) ≡ s.watch = ap (watch_in plan) (first-word name (decimal s.ends ∷ signed_decimal s.value ∷ []) more whole) ∙ index-own (λ w. object_name plan (watched_object plan w)) (length plan.watches) s.watch names.differ fit.watch in
+    let one : watch_in plan (next_word (rest_of words more)) ≡ s.watch = ap (watch_in plan) (first-word name (decimal s.ends ∷ signed_decimal s.value ∷ []) more whole) ∙ names.own s.watch fit.watch in
     let two : number_in 18446744073709551615 (next_word (after_next (rest_of words more))) ≡ s.ends = ap (number_in 18446744073709551615) (second-word name (decimal s.ends) (signed_decimal s.value ∷ []) more whole ends) ∙ number_in-decimal 18446744073709551615 s.ends (omega (arith, fit.ends)) fit.ends in
     let three : value_in (next_word (after_next (after_next (rest_of words more)))) ≡ s.value = ap value_in (third-word name (decimal s.ends) (signed_decimal s.value) [] more whole ends (whole-signed s.value fit.value)) ∙ value_in-signed s.value fit.value in
     ap (seen_in plan) (line-words (codes "seen") words more) ∙ rw (rest, one, two, three) refl
@@ -364,9 +364,9 @@ line-is first words h k = record { body = first ++ spaced words; unbroken = unbr
 pub entry_line-is : (plan : Plan) (e : Entry) → is_well_named plan ≡ true → length plan.places < 2 ^ 32 → IsWellFormed plan e → IsLine (entry_line plan e)
 entry_line-is plan e h small fit =
     line-is (kind_word e.kind) (decimal e.place ∷ participant_name plan e.by ∷ field_words e.kind plan e) (kind-whole e.kind)
-      (and_from _ _ (whole-decimal e.place (omega (arith, fit.place))) (and_from _ _ ((participants-named plan h).whole e.by fit.by) (fields-whole e.kind plan e h fit.fields)))
+    (and_from _ _ (whole-decimal e.place (omega (arith, fit.place))) (and_from _ _ ((participants-named plan h).whole e.by fit.by) (fields-whole e.kind plan e h fit.fields)))
 
 pub seen_line-is : (plan : Plan) (s : Seen) → is_well_named plan ≡ true → IsOfPlan plan s → IsLine (seen_line plan s)
 seen_line-is plan s h fit =
     line-is (codes "seen") (object_name plan (watched_object plan s.watch) ∷ decimal s.ends ∷ signed_decimal s.value ∷ []) refl
-      (all-three (object_name plan (watched_object plan s.watch)) (decimal s.ends) (signed_decimal s.value) ((watches-named plan h).whole s.watch fit.watch) (whole-decimal s.ends fit.ends) (whole-signed s.value fit.value))
+    (all-three (object_name plan (watched_object plan s.watch)) (decimal s.ends) (signed_decimal s.value) ((watches-named plan h).whole s.watch fit.watch) (whole-decimal s.ends fit.ends) (whole-signed s.value fit.value))

@@ -38,7 +38,7 @@ shared-turned (a ∷ x) (b ∷ y) = by (cases_eq a b) (shared-turned x y)
   where
     by : (a ≡ b) ⊎ (a ≡ b → ⊥) → lines_shared x y ≡ lines_shared y x → lines_shared (a ∷ x) (b ∷ y) ≡ lines_shared (b ∷ y) (a ∷ x)
     by (inl same) rest = subst (λ c. lines_shared (a ∷ x) (c ∷ y) ≡ lines_shared (c ∷ y) (a ∷ x)) same
-      (step-same a x y ∙ ap (λ n. cond (a == 10) (suc n) n) rest ∙ sym (step-same a y x))
+        (step-same a x y ∙ ap (λ n. cond (a == 10) (suc n) n) rest ∙ sym (step-same a y x))
     by (inr other) rest = step-other a b x y other ∙ sym (step-other b a y x (λ e. other (sym e)))
 
 pub shared-nothing : (x : List ℕ) → lines_shared x [] ≡ 0
@@ -100,7 +100,7 @@ shared-no_front (a ∷ r) (b ∷ c) x y n = by (cases_eq a b) (λ m. shared-no_f
     by (inl same) rest =
         let tail : lines_shared r (c ++ x) ≡ lines_shared r (c ++ y) = rest (λ z e. n z (ap (λ d. d ∷ r) same ∙ ap (λ t. b ∷ t) e)) in
         subst (λ d. lines_shared (a ∷ r) (d ∷ (c ++ x)) ≡ lines_shared (a ∷ r) (d ∷ (c ++ y))) same
-          (step-same a r (c ++ x) ∙ ap (λ n. cond (a == 10) (suc n) n) tail ∙ sym (step-same a r (c ++ y)))
+        (step-same a r (c ++ x) ∙ ap (λ n. cond (a == 10) (suc n) n) tail ∙ sym (step-same a r (c ++ y)))
     by (inr other) rest = step-other a b r (c ++ x) other ∙ sym (step-other a b r (c ++ y) other)
 
 -- the same at an index
@@ -116,9 +116,9 @@ pub shared-like : (text other : List ℕ) (i : ℕ) → i < length text → i < 
     → lines_shared (drop i text) (drop i other) ≡ cond (get_or text i 0 == 10) (suc (lines_shared (drop (i + 1) text) (drop (i + 1) other))) (lines_shared (drop (i + 1) text) (drop (i + 1) other))
 shared-like text other i h k same =
     rw add-one
-      (ap (lines_shared (drop i text)) (drop-cons other i 0 k) ∙ ap (λ t. lines_shared t (get_or other i 0 ∷ drop (suc i) other)) (drop-cons text i 0 h)
-      ∙ ap (λ b. lines_shared (get_or text i 0 ∷ drop (suc i) text) (b ∷ drop (suc i) other)) (sym same)
-      ∙ step-same (get_or text i 0) (drop (suc i) text) (drop (suc i) other))
+    (ap (lines_shared (drop i text)) (drop-cons other i 0 k) ∙ ap (λ t. lines_shared t (get_or other i 0 ∷ drop (suc i) other)) (drop-cons text i 0 h)
+    ∙ ap (λ b. lines_shared (get_or text i 0 ∷ drop (suc i) text) (b ∷ drop (suc i) other)) (sym same)
+    ∙ step-same (get_or text i 0) (drop (suc i) text) (drop (suc i) other))
 
 -- ---- what is no entry line
 
@@ -159,10 +159,10 @@ tail-none plan journal seens =
     let rest = flat_map (seen_line plan) seens in
     ap (λ t. kind_in (word_in t)) (append_assoc objects outcomes rest)
     ∙ lines-none (object_line plan past) (range_with_len 0 (length plan.objects)) (outcomes ++ rest)
-      (λ o more. line-none (codes "object") (object_words plan o (value_of plan past o)) more refl refl)
-      (lines-none (outcome_line plan past) (range_with_len 0 (length plan.places)) rest
-        (λ p more. line-none (codes "outcome") (decimal p ∷ action_name plan p ∷ ending_words plan p (last_outcome past p)) more refl refl)
-        (seens-none plan seens))
+    (λ o more. line-none (codes "object") (object_words plan o (value_of plan past o)) more refl refl)
+    (lines-none (outcome_line plan past) (range_with_len 0 (length plan.places)) rest
+    (λ p more. line-none (codes "outcome") (decimal p ∷ action_name plan p ∷ ending_words plan p (last_outcome past p)) more refl refl)
+    (seens-none plan seens))
 
 pub tail-no-entry : (plan : Plan) (journal : List Entry) (seens : List Seen) → is_well_named plan ≡ true → length plan.places < 2 ^ 32 → BeginsNoEntry plan (tail_of plan journal seens)
 tail-no-entry plan journal seens h small = no-kind plan (tail_of plan journal seens) h small (tail-none plan journal seens)
@@ -237,10 +237,13 @@ entries-shared plan (e ∷ es) (j ∷ js) r x t fe fj nr nx = by (cases_Bool (by
   where
     ex : List ℕ
     ex = entry_lines plan es ++ r
+
     jx : List ℕ
     jx = entry_lines plan js ++ x
+
     cut : lines_shared (entry_lines plan (e ∷ es) ++ r) (entry_lines plan (j ∷ js) ++ x) ≡ lines_shared (entry_line plan e ++ ex) (entry_line plan j ++ jx)
     cut = ap (λ z. lines_shared z (entry_lines plan (j ∷ js) ++ x)) (append_assoc (entry_line plan e) (entry_lines plan es) r) ∙ ap (lines_shared (entry_line plan e ++ ex)) (append_assoc (entry_line plan j) (entry_lines plan js) x)
+
     by : (bytes_eq (entry_line plan e) (entry_line plan j) ≡ true) ⊎ (bytes_eq (entry_line plan e) (entry_line plan j) ≡ false)
         → (es ≡ js) ⊎ (lines_shared ex jx ≤ length es)
         → ((e ∷ es) ≡ (j ∷ js)) ⊎ (lines_shared (entry_lines plan (e ∷ es) ++ r) (entry_lines plan (j ∷ js) ++ x) ≤ suc (length es))

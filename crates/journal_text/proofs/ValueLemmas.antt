@@ -48,7 +48,7 @@ pub within_any : (plan : Plan) (p : ℕ) (qs : List ℕ) → is_within_any plan 
 within_any plan p [] = sym (none_at (around plan p))
 within_any plan p (q ∷ qs) =
     rw (within_any plan p qs, any-or (λ a. q == a) (λ a. member a qs) (around plan p), any-same (λ a. q == a) (λ a. a == q) (around plan p) (eq-turned q), eq-turned p q)
-      (shuffle (q == p) (member q (around plan p)) (member p qs) (list_any (λ a. member a qs) (around plan p)))
+    (shuffle (q == p) (member q (around plan p)) (member p qs) (list_any (λ a. member a qs) (around plan p)))
   where
     shuffle : (a b c d : Bool) → ((a || b) || (c || d)) ≡ ((a || c) || (b || d))
     shuffle true b c d = refl
@@ -99,6 +99,7 @@ written plan found restored past later e o w same b undone = by_found (slice_ind
   where
     is : (r : Bool) → is_none (slice_index_or found o None) && not (was_undone plan restored o e.place) ≡ r → found_after_write plan found restored e ≡ cond r (slice_set found o (Some e.value)) found
     is r h = rw (same, h) refl
+
     by_undone : (t : Bool) → is_within_any plan e.place (places_restoring o later) ≡ t → slice_index_or found o None ≡ None → value_left plan found (e ∷ past) later o ≡ value_left plan (found_after_write plan found restored e) past (e ∷ later) o
     by_undone true t f =
         ap (unwrap_or (slice_index_or found o None)) (cond-false _ _ _ (and_right (writes o e) _ (not_from_true _ t)))
@@ -109,6 +110,7 @@ written plan found restored past later e o w same b undone = by_found (slice_ind
         let after : value_left plan (found_after_write plan found restored e) past (e ∷ later) o ≡ e.value =
         rw (is true (and_from _ _ none (not_from_false _ (undone ∙ t))), get_or-set_same found o (Some e.value) None b) refl in
         before ∙ sym after
+
     by_found : (f : Option ℤ) → slice_index_or found o None ≡ f → value_left plan found (e ∷ past) later o ≡ value_left plan (found_after_write plan found restored e) past (e ∷ later) o
     by_found (Some v) f =
         let some : is_none (slice_index_or found o None) ≡ false = rw f refl in
@@ -119,12 +121,12 @@ written plan found restored past later e o w same b undone = by_found (slice_ind
 unfound : (plan : Plan) (found : List (Option ℤ)) (restored : List Bool) (e : Entry) (o : ℕ) → (e.arg ≡ o → ⊥) → slice_index_or (found_after_write plan found restored e) o None ≡ slice_index_or found o None
 unfound plan found restored e o other =
     cond_both (is_none (slice_index_or found e.arg None) && not (was_undone plan restored e.arg e.place)) (slice_set found e.arg (Some e.value)) found
-      (λ fs. slice_index_or fs o None ≡ slice_index_or found o None) (λ h. get_or-set_other found e.arg o (Some e.value) None (λ same. other (sym same))) (λ h. refl)
+    (λ fs. slice_index_or fs o None ≡ slice_index_or found o None) (λ h. get_or-set_other found e.arg o (Some e.value) None (λ same. other (sym same))) (λ h. refl)
 
 length_found : (plan : Plan) (found : List (Option ℤ)) (restored : List Bool) (e : Entry) → length (found_after_write plan found restored e) ≡ length found
 length_found plan found restored e =
     cond_both (is_none (slice_index_or found e.arg None) && not (was_undone plan restored e.arg e.place)) (slice_set found e.arg (Some e.value)) found
-      (λ fs. length fs ≡ length found) (λ h. length-set found e.arg (Some e.value)) (λ h. refl)
+    (λ fs. length fs ≡ length found) (λ h. length-set found e.arg (Some e.value)) (λ h. refl)
 
 write_back : (plan : Plan) (found : List (Option ℤ)) (restored : List Bool) (all past later : List Entry) (e : Entry)
     → ((o : ℕ) → restores o e ≡ false) → ((o : ℕ) → writes o e ≡ (e.arg == o))
@@ -153,19 +155,26 @@ restore_back plan found restored all past later e object place r w h = record {
   where
     at : ℕ
     at = e.arg * length plan.places + e.place
+
     within : at < length restored
     within = rw h.places (subst (λ n. at < n) (mul_comm (length plan.places) (length plan.objects)) (mul-add-lt e.arg (length plan.places) e.place (length plan.objects) object place))
+
     more : (o : ℕ) → e.arg ≡ o → places_restoring o (e ∷ later) ≡ e.place ∷ places_restoring o later
     more o same = cond-true _ _ _ (r o ∙ eq-eqb e.arg o same)
+
     apart : (o p : ℕ) → p < length plan.places → ((e.arg ≡ o) → (e.place ≡ p) → ⊥) → was_restored plan (slice_set restored at true) o p ≡ was_restored plan restored o p
     apart o p l other = ap (λ v. nat_lt p (length plan.places) && v) (get_or-set_other restored at (o * length plan.places + p) true false
-      (λ one. let two = same_from_place o p e.arg e.place (length plan.places) l place one in other (sym two.0) (sym two.1)))
+        (λ one. let two = same_from_place o p e.arg e.place (length plan.places) l place one in other (sym two.0) (sym two.1)))
+
     past_end : (rs : List Bool) (o p : ℕ) → length plan.places ≤ p → was_restored plan rs o p ≡ false
     past_end rs o p l = and_left _ _ (le-ltb p (length plan.places) l)
+
     inside : (p : ℕ) → e.place ≡ p → nat_lt p (length plan.places) ≡ true
     inside p here = lt-ltb p (length plan.places) (omega arith)
+
     set_at : (o p : ℕ) → e.arg ≡ o → e.place ≡ p → slice_index_or (slice_set restored at true) (o * length plan.places + p) false ≡ true
     set_at o p same here = rw (← same, ← here) (get_or-set_same restored at true false within)
+
     marked : (o p : ℕ) → o < length plan.objects → (e.arg ≡ o) ⊎ (e.arg ≡ o → ⊥) → (e.place ≡ p) ⊎ (e.place ≡ p → ⊥) → (p < length plan.places) ⊎ (length plan.places ≤ p) → was_restored plan (slice_set restored at true) o p ≡ member p (places_restoring o (e ∷ later))
     marked o p b (inl same) (inl here) l =
         and_from _ _ (inside p here) (set_at o p same here)
@@ -206,6 +215,7 @@ look-start plan past = record {
   where
     at : (o p : ℕ) → o < length plan.objects → p < length plan.places → o * length plan.places + p < length plan.objects * length plan.places
     at o p b l = subst (λ n. o * length plan.places + p < n) (mul_comm (length plan.places) (length plan.objects)) (mul-add-lt o (length plan.places) p (length plan.objects) b l)
+
     unmarked : (o p : ℕ) → o < length plan.objects → (p < length plan.places) ⊎ (length plan.places ≤ p) → was_restored plan (replicate (length plan.objects * length plan.places) false) o p ≡ false
     unmarked o p b (inl l) = and_right (nat_lt p (length plan.places)) _ (get_or-replicate (length plan.objects * length plan.places) (o * length plan.places + p) false false (at o p b l))
     unmarked o p b (inr l) = and_left _ _ (le-ltb p (length plan.places) l)

@@ -94,26 +94,3 @@ pub index-passed : (name_of : ℕ → List ℕ) (word : List ℕ) (from n : ℕ)
 index-passed name_of word from n within other =
     let left : n - from ≡ suc (n - (from + 1)) = omega arith in
     rw (left, add-one) (sym (cond-false (bytes_eq (name_of from) word) from (index_among name_of word (suc from) (n - suc from)) other))
-
--- the search finds a name that stands only there
-index-found : (name_of : ℕ → List ℕ) (i from left : ℕ) → ((j : ℕ) → j < i → name_of j ≡ name_of i → ⊥) → from ≤ i → i < from + left → index_among name_of (name_of i) from left ≡ i
-index-found name_of i from zero differ low high = absurd (omega arith)
-index-found name_of i from (suc left) differ low high = by (cases_eq from i) (λ below. index-found name_of i (suc from) left differ (omega arith) (omega arith))
-  where
-    by : (from ≡ i) ⊎ (from ≡ i → ⊥) → (from < i → index_among name_of (name_of i) (suc from) left ≡ i) → index_among name_of (name_of i) from (suc left) ≡ i
-    by (inl here) later = cond-true (bytes_eq (name_of from) (name_of i)) _ _ ((bytes_eq-Decides (name_of from) (name_of i)).1 (ap name_of here)) ∙ here
-    by (inr there) later =
-        cond-false (bytes_eq (name_of from) (name_of i)) from (index_among name_of (name_of i) (suc from) left)
-          (different (cases_Bool (bytes_eq (name_of from) (name_of i))))
-        ∙ later (omega arith)
-      where
-        different : (bytes_eq (name_of from) (name_of i) ≡ true) ⊎ (bytes_eq (name_of from) (name_of i) ≡ false) → bytes_eq (name_of from) (name_of i) ≡ false
-        different (inl same) = absurd (differ from (omega arith) ((bytes_eq-Decides (name_of from) (name_of i)).0 same))
-        different (inr other) = other
-
--- the names below n differ
-abbrev pub AreDifferent : (ℕ → List ℕ) → ℕ → Type 0
-AreDifferent name_of n = (j i : ℕ) → j < i → i < n → name_of j ≡ name_of i → ⊥
-
-pub index-own : (name_of : ℕ → List ℕ) (n i : ℕ) → AreDifferent name_of n → i < n → index_among name_of (name_of i) 0 n ≡ i
-index-own name_of n i differ within = index-found name_of i 0 n (λ j below. differ j i below within) (omega arith) (omega arith)

@@ -1,37 +1,32 @@
 -- Plans whose names tell their parts apart.
-use Rattle.std.specs.Prelude.{ℕ, ◌==◌, Bool, true, not, ◌&&◌, List, [], ◌∷◌, length, map, bytes_eq, nat_lt}
-use Rattle.std.specs.List.{list_all, list_any}
+use Rattle.std.specs.Prelude.{ℕ, ◌==◌, nat_lt, Bool, ◌&&◌, List, length}
+use Rattle.std.specs.List.{list_all, range_with_len}
 use Rattle.caa_base.specs.Names.{is_name}
-use Rattle.place_plan.specs.declared.rows.GraphRow.{GraphRow}
 use Rattle.place_plan.specs.PlanValue.{Plan}
-use Rattle.caa_base.specs.Lists.{member}
+use Rattle.place_plan.specs.Places.{graph_at, exception_name}
+use Rattle.journal_text.specs.Text.{participant_name, object_name, watched_object}
+use Rattle.journal_text.specs.Words.{index_among, watch_in}
 
--- no two of these words are the same
-abbrev pub are_different : List (List ℕ) → Bool
-are_different [] = true
-are_different (word ∷ words) = not (list_any (bytes_eq word) words) && are_different words
+-- the name of this number is a name by the grammar, and none before it is the same
+abbrev pub is_own_name : (ℕ → List ℕ) → ℕ → ℕ → Bool
+is_own_name name_of n i = is_name (name_of i) && (index_among name_of (name_of i) 0 n == i)
 
--- they are names by the grammar, and no two are the same
-abbrev pub are_names : List (List ℕ) → Bool
-are_names words = list_all is_name words && are_different words
+-- the names of the numbers below n are names by the grammar and differ
+abbrev pub are_names : (ℕ → List ℕ) → ℕ → Bool
+are_names name_of n = list_all (is_own_name name_of n) (range_with_len 0 n)
 
--- each exception of the graph has a name
-abbrev pub is_named : GraphRow → Bool
-is_named graph = (length graph.names == graph.graph.count) && are_names graph.names
+-- the exceptions of a graph have such names
+abbrev pub is_named_graph : Plan → ℕ → Bool
+is_named_graph plan g = are_names (exception_name plan g) (graph_at plan g).count
 
--- no two of these numbers are the same
-abbrev pub are_distinct : List ℕ → Bool
-are_distinct [] = true
-are_distinct (n ∷ ns) = not (member n ns) && are_distinct ns
+-- the watch is of an object of the plan, and none before it is of the same
+abbrev pub is_own_watch : Plan → ℕ → Bool
+is_own_watch plan w = nat_lt (watched_object plan w) (length plan.objects) && (watch_in plan (object_name plan (watched_object plan w)) == w)
 
--- each watch is of an object, and no object is watched twice
-abbrev pub are_watches : ℕ → List ℕ → Bool
-are_watches objects watches = list_all (λ o. nat_lt o objects) watches && are_distinct watches
-
--- the names of each kind of part are names by the grammar and differ, and so do the watched objects
+-- participants, objects and the exceptions of each graph have names by the grammar that differ, and no object is watched twice
 abbrev pub is_well_named : Plan → Bool
 is_well_named plan =
-    are_names plan.participants
-    && (are_names (map (λ o. o.name) plan.objects)
-    && (are_names (map (λ a. a.name) plan.actions)
-    && (list_all is_named plan.graphs && are_watches (length plan.objects) plan.watches)))
+    are_names (participant_name plan) (length plan.participants)
+    && (are_names (object_name plan) (length plan.objects)
+    && (list_all (is_named_graph plan) (range_with_len 0 (length plan.graphs))
+    && list_all (is_own_watch plan) (range_with_len 0 (length plan.watches))))

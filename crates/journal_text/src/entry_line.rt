@@ -50,7 +50,10 @@ fn fields_in(kind: Kind, plan: &Plan, place: Place, rest: &[u8]) -> Fields
         Kind::Read | Kind::Write | Kind::PutFault => object_fields(plan, rest, 0),
         Kind::Work => work_fields(rest),
         Kind::Raise | Kind::Resolve | Kind::Handle => {
-            naming(0, exception_in(plan, plan.internal_number(place), next_word(rest).0))
+            naming(
+                0,
+                exception_in(plan, plan.internal_number(place), next_word(rest).0),
+            )
         },
         Kind::Verdict => verdict_fields(plan, plan.interface_number(place), rest),
         Kind::Abort => named_fields(plan, plan.interface_number(place), rest),
@@ -179,7 +182,7 @@ fn leave_fields(plan: &Plan, outer: Option<Place>, rest: &[u8]) -> Fields
 }
 
 /// The participant of this name, or a number past the last one.
-fn participant_in(plan: &Plan, word: &[u8]) -> Participant
+pub fn participant_in(plan: &Plan, word: &[u8]) -> Participant
     ensures { result ≡ participant_in plan.now word.now }
 {
     for by in 0..plan.participants() {
@@ -191,7 +194,7 @@ fn participant_in(plan: &Plan, word: &[u8]) -> Participant
 }
 
 /// The object of this name, or a number past the last one.
-fn object_in(plan: &Plan, word: &[u8]) -> Object
+pub fn object_in(plan: &Plan, word: &[u8]) -> Object
     ensures { result ≡ object_in plan.now word.now }
 {
     for object in 0..plan.objects() {
@@ -203,7 +206,7 @@ fn object_in(plan: &Plan, word: &[u8]) -> Object
 }
 
 /// The exception of this name in a graph, or a number past the last one.
-fn exception_in(plan: &Plan, graph: u32, word: &[u8]) -> Exception
+pub fn exception_in(plan: &Plan, graph: u32, word: &[u8]) -> Exception
     ensures { result ≡ exception_in plan.now graph word.now }
 {
     for exception in 0..plan.exceptions_of(graph) {

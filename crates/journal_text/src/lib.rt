@@ -2,11 +2,13 @@
 #![tactic(auto)]
 
 mod entry_line;
-
+pub mod naming;
 pub mod reading;
 pub mod right;
 mod seen_line;
 pub mod seens;
+#[cfg(test)]
+mod tests;
 mod values;
 mod words;
 pub mod writing;

@@ -52,7 +52,8 @@ fn wrong_in(
     let ended = plays_ended(alloc, plan, entries)?;
     let mut before = None;
     for (index, seen) in seens.iter().enumerate() {
-        let stands = follows(before, *seen) && is_followed(plan, *seen, seens.get(index + 1).copied());
+        let stands = follows(before, *seen)
+            && is_followed(plan, *seen, seens.get(index + 1).copied());
         if !stands || !is_committed(alloc, plan, entries, &ended, seen)? {
             return Ok(Some(index as u64));
         }

@@ -41,7 +41,7 @@ fn is_value(value: i64) -> bool
 }
 
 /// The watch whose object has this name, or a number past the last one.
-fn watch_in(plan: &Plan, word: &[u8]) -> u32
+pub fn watch_in(plan: &Plan, word: &[u8]) -> u32
     ensures { result ≡ watch_in plan.now word.now }
 {
     for watch in 0..plan.watches() {
@@ -53,7 +53,7 @@ fn watch_in(plan: &Plan, word: &[u8]) -> u32
 }
 
 /// The name of the object of a watch.
-fn watched_name(plan: &Plan, watch: u32) -> &[u8]
+pub fn watched_name(plan: &Plan, watch: u32) -> &[u8]
     requires { watch < length plan.now.watches }
     ensures { result.now ≡ object_name plan.now (watched_object plan.now watch) }
 {

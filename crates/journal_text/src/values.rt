@@ -108,7 +108,9 @@ fn is_undone_around(plan: &Plan, restored: &[bool], entry: &Entry) -> bool
     requires places { length restored.now ≡ length plan.now.objects * length plan.now.places }
     ensures { result ≡ list_any (was_restored plan.now restored.now entry.now.arg) (around plan.now entry.now.place) }
 {
-    plan.around(entry.place).iter().any(|outer| was_restored(plan, restored, entry.arg, *outer))
+    plan.around(entry.place)
+        .iter()
+        .any(|outer| was_restored(plan, restored, entry.arg, *outer))
 }
 
 /// Whether an object was restored later in a place.

@@ -98,12 +98,7 @@ fn push_entries(text: &mut Vec<u8>, plan: &Plan, entries: &[Entry]) -> io::Resul
 }
 
 /// Adds the lines that follow from the entries.
-fn push_closing(
-    alloc: Global,
-    text: &mut Vec<u8>,
-    plan: &Plan,
-    entries: &[Entry],
-) -> io::Result<()>
+fn push_closing(alloc: Global, text: &mut Vec<u8>, plan: &Plan, entries: &[Entry]) -> io::Result<()>
     requires { AllWellFormed plan.now entries.now }
     ensures { OnOk result (text.new.items ≡ text.old.items ++ closing_lines plan.now (reverse entries.now)) }
 {
@@ -124,12 +119,7 @@ fn push_seens(text: &mut Vec<u8>, plan: &Plan, seens: &[Seen]) -> io::Result<()>
 
 /// Adds a line for each object, with its value after the entries.
 #[tactic(auto, using(crate::proofs::TextLemmas::lines_more))]
-fn push_objects(
-    alloc: Global,
-    text: &mut Vec<u8>,
-    plan: &Plan,
-    entries: &[Entry],
-) -> io::Result<()>
+fn push_objects(alloc: Global, text: &mut Vec<u8>, plan: &Plan, entries: &[Entry]) -> io::Result<()>
     requires { AllWellFormed plan.now entries.now }
     ensures { OnOk result (text.new.items
         ≡ text.old.items ++ flat_map (object_line plan.now (reverse entries.now)) (range_with_len 0 (length plan.now.objects))) }
@@ -455,4 +445,3 @@ fn kind_word(kind: Kind) -> &'static [u8]
         Kind::Leave => b"leave",
     }
 }
-

@@ -4,7 +4,8 @@ ghost use Rattle.place_plan.specs.Sizes.{HasSizes};
 
 use crate::rows::{ActionRow, HandlerRow, RoleRow};
 
-fn longest_body(roles: &[RoleRow]) -> usize
+/// How many steps the longest body has.
+pub(crate) fn longest_body(roles: &[RoleRow]) -> usize
     ensures { result ≡ longest_body roles.now }
 {
     let mut longest = 0;
@@ -24,7 +25,8 @@ fn longest_of(handlers: &[HandlerRow]) -> usize
     longest
 }
 
-fn longest_handler(roles: &[RoleRow]) -> usize
+/// How many steps the longest handler has.
+pub(crate) fn longest_handler(roles: &[RoleRow]) -> usize
     ensures { result ≡ longest_handler roles.now }
 {
     let mut longest = 0;

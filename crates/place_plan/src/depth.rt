@@ -21,7 +21,7 @@ fn deepest_of(actions: &[u32], depths: &[u64]) -> u64
 }
 
 /// The greatest depth of nested uses, by a table.
-fn deepest(nests: &[NestRow], depths: &[u64]) -> u64
+pub(crate) fn deepest(nests: &[NestRow], depths: &[u64]) -> u64
     ensures { result ≡ deepest (at depths.now) nests.now }
 {
     let mut most = 0;

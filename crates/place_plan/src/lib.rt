@@ -1,6 +1,7 @@
 //! Plans of coordinated atomic actions, the rules that a journal of a plan keeps, and the trait of a machine that plays one.
 #![tactic(auto)]
 
+pub mod action_size;
 mod bound;
 pub mod close;
 mod depth;
@@ -11,9 +12,9 @@ mod member;
 pub mod plan;
 mod ranges;
 pub mod rows;
-mod tables;
+pub mod tables;
 pub mod unfolded;
 mod unfolding;
-mod uses;
+pub mod uses;
 pub mod value;
 pub mod well_formed;

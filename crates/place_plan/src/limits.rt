@@ -5,8 +5,8 @@ ghost use Rattle.place_plan.specs.DraftRules.{program_fits, role_fits, nest_fits
 use crate::draft::Draft;
 use crate::rows::{ActionRow, GraphRow, NestRow, Program, RoleRow};
 use caa_base::limits::{
-    MOST_ACTIONS, MOST_ALTERNATES, MOST_DRILLS, MOST_GRAPHS, MOST_NESTS, MOST_OBJECTS, MOST_PARTICIPANTS,
-    MOST_ROLES, MOST_STEPS, MOST_WATCHES,
+    MOST_ACTIONS, MOST_ALTERNATES, MOST_DRILLS, MOST_GRAPHS, MOST_NESTS, MOST_OBJECTS,
+    MOST_PARTICIPANTS, MOST_ROLES, MOST_STEPS, MOST_WATCHES,
 };
 
 fn program_fits(program: &Program) -> bool

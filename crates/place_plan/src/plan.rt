@@ -215,6 +215,13 @@ impl Plan {
         self.objects.len() as u32
     }
 
+    /// How many graphs of exceptions there are.
+    pub fn graphs(&self) -> u32
+        ensures { result ≡ length self.now.graphs }
+    {
+        self.graphs.len() as u32
+    }
+
     /// How many places there are.
     pub fn places(&self) -> u32
         ensures { result ≡ length self.now.places }

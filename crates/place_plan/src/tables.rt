@@ -10,7 +10,7 @@ pub(crate) type Table = [u64; MOST_ACTIONS];
 pub(crate) const MOST_COUNTED: u64 = 4_000_000_000;
 
 /// The number at an index, or 0 past the end.
-pub(crate) fn number_at(table: &[u64], index: u32) -> u64
+pub fn number_at(table: &[u64], index: u32) -> u64
     ensures { result ≡ at table.now index }
 {
     match table.get(index as usize) {
@@ -20,7 +20,7 @@ pub(crate) fn number_at(table: &[u64], index: u32) -> u64
 }
 
 /// The sum, as far as it is counted.
-pub(crate) fn counted_sum(left: u64, right: u64) -> u64
+pub fn counted_sum(left: u64, right: u64) -> u64
     ensures { result ≡ counted (left + right) }
 {
     left.saturating_add(right).min(MOST_COUNTED)

@@ -34,7 +34,7 @@ fn weight_of(actions: &[u32], weights: &[u64]) -> u64
 }
 
 /// The sum of the weights of all actions of nested uses, by a table.
-fn nested_weight(nests: &[NestRow], weights: &[u64]) -> u64
+pub(crate) fn nested_weight(nests: &[NestRow], weights: &[u64]) -> u64
     ensures { result ≡ counted (nested_weight (at weights.now) nests.now) }
 {
     let mut sum = 0;

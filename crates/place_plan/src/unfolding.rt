@@ -6,8 +6,8 @@ ghost use Rattle.place_plan.specs.Unfolding.{unfold_at, use_from, numbers_from, 
 
 use crate::draft::Draft;
 use crate::rows::{ActionRow, NestRow, PlaceRow, PlayRow};
-use caa_base::limits::MOST_DEPTH;
 use caa_base::entry::{Participant, Place};
+use caa_base::limits::MOST_DEPTH;
 use caa_base::rows::Rows;
 use std::alloc::{AllocError, Global};
 

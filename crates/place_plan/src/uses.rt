@@ -153,12 +153,12 @@ fn handlers_enter_nothing(role: &RoleRow) -> bool
         .all(|handler| enters_nothing(handler))
 }
 
-fn roles_enter(action: &ActionRow) -> bool
-    requires { length action.now.roles ≤ 16 }
-    ensures { result ≡ roles_enter action.now.nests 0 action.now.roles }
+/// Whether the body of each role enters just the uses that the role fills, each once and in order, and no handler enters any.
+pub fn roles_enter(nests: &[NestRow], roles: &[RoleRow]) -> bool
+    requires { length roles.now ≤ 16 }
+    ensures { result ≡ roles_enter nests.now 0 roles.now }
 {
-    let nests = action.nests.as_slice();
-    for (number, role) in action.roles.as_slice().iter().enumerate() {
+    for (number, role) in roles.iter().enumerate() {
         let steps = role.body.steps.as_slice();
         if !enters_its_uses(steps, number as u32, nests) || !handlers_enter_nothing(role) {
             return false;
@@ -173,7 +173,7 @@ pub(crate) fn keeps_enters(draft: &Draft) -> bool
     ensures { result ≡ enter_rule draft.now }
 {
     for action in draft.actions.as_slice() {
-        if !roles_enter(action) {
+        if !roles_enter(action.nests.as_slice(), action.roles.as_slice()) {
             return false;
         }
     }

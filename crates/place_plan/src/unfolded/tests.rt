@@ -150,11 +150,10 @@ fn plays(alloc: Global, last: u32, everybody: &[u32]) -> Result<Vec<PlayRow>, Fa
 /// The draft of these actions; the last one is played by everybody.
 fn draft(alloc: Global, parts: &[ActionParts], everybody: &[u32]) -> Result<Draft, Fail> {
     let mut actions = Vec::new(alloc);
-    let mut last = 0;
-    for (number, part) in parts.iter().enumerate() {
+    for part in parts {
         actions.push(action(alloc, *part)?)?;
-        last = number as u32 % 256;
     }
+    let last = (parts.len().max(1) - 1).min(255) as u32;
     let ann = Name::from_bytes(alloc, b"ann")?;
     let bob = Name::from_bytes(alloc, b"bob")?;
     Ok(Draft {

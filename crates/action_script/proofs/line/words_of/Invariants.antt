@@ -1,5 +1,5 @@
 use Rattle.std.proofs.Common.{◌≡◌, ◌++◌, map, drop, filter, not}
-use Rattle.action_script.specs.Words.{is_empty}
+use Rattle.caa_base.specs.Lists.{is_empty}
 use Rattle.action_script.proofs.line.words_of.Given as goal
 
 abbrev pub invariant-loop-piece : goal.invariant-loop-piece

@@ -1,7 +1,7 @@
 use Rattle.std.proofs.Common.{◌∙◌, Some, ap, reverse}
 use Rattle.place_plan.specs.Places.{roles_of}
 use Rattle.place_plan.specs.Roles.{signals}
-use Rattle.journal_replay.proofs.Plays.{is_playable}
+use Rattle.journal_laws.proofs.PlayablePlan.{is_playable}
 use Rattle.journal_replay.proofs.CoverSoFar.{end_of_cover}
 use Rattle.journal_replay.proofs.rule.due_end.Goals as goal
 

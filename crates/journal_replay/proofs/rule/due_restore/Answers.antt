@@ -1,5 +1,5 @@
 use Rattle.std.proofs.Common.{reverse}
-use Rattle.journal_replay.proofs.Plays.{is_playable}
+use Rattle.journal_laws.proofs.PlayablePlan.{is_playable}
 use Rattle.journal_replay.proofs.StepsFit.{restore_fits}
 use Rattle.journal_replay.proofs.rule.due_restore.Goals as goal
 

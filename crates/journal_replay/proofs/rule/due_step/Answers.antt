@@ -1,7 +1,7 @@
 use Rattle.std.proofs.Common.{◌≡◌, ◌∙◌, ap, arith, reverse, subst, sym, Some, to_z, of_z, w64}
 use Rattle.std.proofs.lemmas.Int.{ints}
-use Rattle.place_plan.specs.WellFormed.{IsValue}
-use Rattle.journal_replay.proofs.Plays.{is_playable}
+use Rattle.caa_base.specs.Limits.{IsValue}
+use Rattle.journal_laws.proofs.PlayablePlan.{is_playable}
 use Rattle.journal_replay.proofs.StepsFit.{register_fits, read_fits, added_fits}
 use Rattle.journal_replay.proofs.rule.due_step.Goals as goal
 

@@ -11,9 +11,9 @@ pub returns-then-not-may_stand : goal.returns-then-not-may_stand
 returns-then-not-may_stand c =
     let seen = c.seen_in-seen.result in
     no-seen c.args.plan.now c.args.least c.args.text.now seen c.requires c.seen_in-seen.ensures
-      (λ s rest found fit same.
-        let own : MayCome c.args.plan.now c.args.least seen = subst (MayCome c.args.plan.now c.args.least) (sym found) fit in
-        both_ways c.may_stand.result c.if-not-may_stand.true (c.may_stand.ensures.1 (own.0, own.1.watch, own.1.value)))
+    (λ s rest found fit same.
+    let own : MayCome c.args.plan.now c.args.least seen = subst (MayCome c.args.plan.now c.args.least) (sym found) fit in
+    both_ways c.may_stand.result c.if-not-may_stand.true (c.may_stand.ensures.1 (own.0, own.1.watch, own.1.value)))
 
 pub returns-in-Ok-None : goal.returns-in-Ok-None
 returns-in-Ok-None c =
@@ -22,4 +22,4 @@ returns-in-Ok-None c =
     let none : (rest : List ℕ) → text ≡ seen_line c.args.plan.now seen ++ rest → ⊥ =
     subst (λ o. MatchOption o ((rest : List ℕ) → text ≡ seen_line c.args.plan.now seen ++ rest → ⊥) (λ rest. text ≡ seen_line c.args.plan.now seen ++ rest.now)) c.in-Ok-None.field-0-is c.in-Ok-None.ensures in
     no-seen c.args.plan.now c.args.least text seen c.requires c.seen_in-seen.ensures
-      (λ s rest found fit same. none rest (same ∙ ap (λ k. seen_line c.args.plan.now k ++ rest) (sym found)))
+    (λ s rest found fit same. none rest (same ∙ ap (λ k. seen_line c.args.plan.now k ++ rest) (sym found)))

@@ -43,7 +43,7 @@ returns-then-not-is_empty c =
     let left : c.in_ok-seens.text.now ≡ [] → ⊥ = λ e. both_ways c.is_empty.result c.if-not-is_empty.true (c.is_empty.ensures ∙ eq-eqb (length c.in_ok-seens.text.now) 0 (ap length e)) in
     let refused : RefusesAfter bytes (text_of plan entries seens) c.refused_after-then-not-is_empty.result =
     subst (λ es. RefusesAfter bytes (text_of plan es seens) c.refused_after-then-not-is_empty.result) c.deref-then-not-is_empty.ensures.value
-      (subst (λ ss. RefusesAfter bytes (text_of plan c.deref-then-not-is_empty.result.now ss) c.refused_after-then-not-is_empty.result) c.deref-then-not-is_empty-2.ensures.value c.refused_after-then-not-is_empty.ensures) in
+    (subst (λ ss. RefusesAfter bytes (text_of plan c.deref-then-not-is_empty.result.now ss) c.refused_after-then-not-is_empty.result) c.deref-then-not-is_empty-2.ensures.value c.refused_after-then-not-is_empty.ensures) in
     bad-rest plan c.args.limit bytes c.in-Some.text.now entries rest c.in-Some-after_front.text.now seens c.in_ok-seens.text.now c.refused_after-then-not-is_empty.result known begins read after looks left refused
 
 pub returns : goal.returns
@@ -61,4 +61,4 @@ returns c =
     let looks : SeensRead plan c.in-Some-after_front.text.now seens c.in_ok-seens.text.now = c.in_ok-seens.ensures in
     let end : c.in_ok-seens.text.now ≡ [] = nothing-left c.in_ok-seens.text.now (eqb-true (length c.in_ok-seens.text.now) 0 (sym c.is_empty.ensures ∙ c.if-not-is_empty.false)) in
     rw (c.from_vec.ensures, c.from_vec-2.ensures)
-      (good plan c.args.limit bytes c.in-Some.text.now entries rest c.in-Some-after_front.text.now seens c.in_ok-seens.text.now begins read after looks end)
+    (good plan c.args.limit bytes c.in-Some.text.now entries rest c.in-Some-after_front.text.now seens c.in_ok-seens.text.now begins read after looks end)

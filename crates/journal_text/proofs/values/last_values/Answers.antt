@@ -22,4 +22,4 @@ returns c =
     let size : length items ≡ length c.args.plan.now.objects = rw (c.in_ok-found.ensures, c.objects.ensures) (length-replicate (length c.args.plan.now.objects) None) in
     let all : c.in_ok-found.found.len ≡ length found = omega (arith, c.in_ok-found.found.ok.0, c.look_back.ensures.objects, size) in
     rw (all, take-append_seam found (drop (length found) items))
-      (look-end c.args.plan.now found c.look_back.new.restored (reverse c.args.entries.now) c.args.entries.now c.look_back.ensures)
+    (look-end c.args.plan.now found c.look_back.new.restored (reverse c.args.entries.now) c.args.entries.now c.look_back.ensures)

@@ -3,4 +3,4 @@ use Rattle.place_plan.specs.DraftRules.{roles_enter}
 use Rattle.place_plan.proofs.uses.roles_enter.Given as goal
 
 abbrev pub invariant-loop-number : goal.invariant-loop-number
-invariant-loop-number l = roles_enter l.action.nests l.number (drop l.number l.action.roles) ≡ roles_enter l.action.nests 0 l.action.roles
+invariant-loop-number l = roles_enter l.nests l.number (drop l.number l.roles) ≡ roles_enter l.nests 0 l.roles

@@ -3,7 +3,7 @@ use Rattle.cover_table.specs.Cover.{CoverOrder, IsLeastCover}
 use Rattle.place_plan.specs.Places.{internal_of}
 use Rattle.place_plan.specs.Raising.{exceptions_raised}
 use Rattle.journal_replay.specs.Joining.{listed, IsCoverOf}
-use Rattle.journal_replay.proofs.Plays.{is_playable}
+use Rattle.journal_laws.proofs.PlayablePlan.{is_playable}
 use Rattle.journal_replay.proofs.CoverSoFar.{raise_known, cover_with, cover_without}
 use Rattle.journal_replay.proofs.look_back.raising.least_raised.Goals as goal
 use Rattle.journal_replay.proofs.look_back.raising.least_raised.Goals.{in-Some, in_default}

@@ -4,7 +4,7 @@ use Rattle.cover_table.specs.Cover.{CoverOrder, IsLeastCover}
 use Rattle.place_plan.specs.Places.{roles_of, interface_of}
 use Rattle.place_plan.specs.Roles.{signals}
 use Rattle.journal_replay.specs.Joining.{listed, IsCoverOf}
-use Rattle.journal_replay.proofs.Plays.{is_playable}
+use Rattle.journal_laws.proofs.PlayablePlan.{is_playable}
 use Rattle.journal_replay.proofs.CoverSoFar.{signal_known, signal_with}
 use Rattle.journal_replay.proofs.look_back.verdicts.least_signalled.Goals as goal
 
