@@ -1,5 +1,5 @@
 -- The first line that no text has, and that a text tells its journal and looks.
-use Rattle.std.proofs.Common.{◌≡◌, ℕ, ◌<◌, ◌≤◌, ◌+◌, ◌^◌, Bool, true, false, List, [], ◌∷◌, ◌++◌, length, bytes_eq, codes, reverse, All, Result, Ok, Err, refl, sym, ap, ◌∙◌, subst, inl, inr, ◌⊎◌, arith, suc, zero, append_assoc}
+use Rattle.std.proofs.Common.{◌≡◌, ℕ, ◌<◌, ◌≤◌, ◌+◌, true, false, List, [], ◌∷◌, ◌++◌, length, bytes_eq, codes, reverse, Result, Ok, Err, refl, sym, ap, ◌∙◌, subst, inl, inr, ◌⊎◌, arith, suc, append_assoc}
 use Rattle.std.specs.List.{AllByRecursion, flat_map}
 use Rattle.std.proofs.lemmas.Bool.{cases_Bool, false≢true}
 use Rattle.std.proofs.lemmas.List.{append_cancel_left, append-nil}
@@ -14,10 +14,10 @@ use Rattle.journal_text.specs.declared.seens.Seen.{Seen}
 use Rattle.journal_text.specs.declared.reading.TextError.{TextError}
 use Rattle.journal_text.specs.declared.reading.TextError.TheVariants as error
 use Rattle.journal_text.specs.Looks.{Looks, AreInOrder, InOrderFrom, AreOfPlan, IsOfPlan, last_watch}
-use Rattle.journal_text.specs.Text.{entry_line, seen_line, closing_lines, first_line, text_of}
+use Rattle.journal_text.specs.Text.{seen_line, closing_lines, first_line, text_of}
 use Rattle.journal_text.specs.Words.{seen_in}
-use Rattle.journal_text.specs.Reading.{lines_shared, HasText, IsText, HasTooMany, IsFirstBad, Refuses, Reads, GivesBack, ReadsBack, TextsDiffer}
-use Rattle.journal_text.specs.Steps.{BeginsNoEntry, BeginsNoSeen, MayCome, EntriesRead, EntriesPast, SeensRead, StopsEntries, RefusesAfter}
+use Rattle.journal_text.specs.Reading.{lines_shared, HasText, IsText, HasTooMany, IsFirstBad, Refuses, Reads, ReadsBack, TextsDiffer}
+use Rattle.journal_text.specs.Steps.{BeginsNoEntry, BeginsNoSeen, MayCome, EntriesRead, SeensRead, StopsEntries, RefusesAfter}
 use Rattle.journal_text.proofs.EntryLines.{seen_in-line, IsLine, seen_line-is}
 use Rattle.journal_text.proofs.ReadingLemmas.{Tells, entry_lines, EachFits, tail_of, tail-no-entry, entries-same, entries-front, entries-shared, front-longest, shared-line, shared-none, shared-nothing, shared-front, shared-no_front}
 

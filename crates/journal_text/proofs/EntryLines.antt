@@ -1,8 +1,8 @@
 -- The entry whose line a text begins with is taken out of it again.
-use Rattle.std.proofs.Common.{◌≡◌, ℕ, ℤ, pos, negsuc, neg_ℤ, ◌<◌, ◌≤◌, ◌+◌, ◌%◌, ◌^◌, ◌==◌, Bool, true, false, cond, not, List, [], ◌∷◌, ◌++◌, length, drop, codes, decimal, Option, Some, None, option_map, refl, sym, ap, ◌∙◌, arith, suc, zero, append_assoc}
+use Rattle.std.proofs.Common.{◌≡◌, ℕ, ℤ, pos, negsuc, neg_ℤ, ◌<◌, ◌≤◌, ◌+◌, ◌%◌, ◌^◌, ◌==◌, Bool, true, cond, not, List, [], ◌∷◌, ◌++◌, length, codes, decimal, Option, Some, None, refl, sym, ap, ◌∙◌, arith, suc, zero, append_assoc}
 use Rattle.std.specs.List.{list_all}
 use Rattle.std.specs.Fmt.{signed_decimal}
-use Rattle.std.proofs.lemmas.Bool.{cond-false, cond-true, ne_eqb, cases_eq, and_from, and_parts, or_parts, not-true, not_from_false}
+use Rattle.std.proofs.lemmas.Bool.{cond-false, ne_eqb, and_from, and_parts, or_parts, not-true, not_from_false}
 use Rattle.std.proofs.lemmas.Fmt.{decimal_by_steps}
 use Rattle.std.proofs.lemmas.Int.{ints}
 use Rattle.caa_base.specs.Lines.{spaced, line}
@@ -14,17 +14,16 @@ use Rattle.caa_base.specs.declared.entry.Verdict.TheVariants as verdict
 use Rattle.caa_base.specs.declared.entry.Outcome.{Outcome}
 use Rattle.caa_base.specs.declared.entry.Outcome.TheVariants as outcome
 use Rattle.place_plan.specs.PlanValue.{Plan}
-use Rattle.place_plan.specs.Places.{action_at, parent, graph_at, exception_name, internal_of, interface_of}
-use Rattle.place_plan.specs.Roles.{verdict_at}
+use Rattle.place_plan.specs.Places.{action_at, parent, graph_at, exception_name, interface_of}
 use Rattle.place_plan.specs.Rules.{IsPlain}
 use Rattle.place_plan.specs.WellFormed.{FieldsFit, IsWellFormed, ShowsException, MayShowException, MayCarry}
 use Rattle.caa_base.specs.Limits.{IsValue}
 use Rattle.journal_text.specs.declared.entry_line.Fields.{Fields}
 use Rattle.journal_text.specs.Naming.{is_well_named}
-use Rattle.journal_text.specs.Text.{participant_name, object_name, watched_object, seen_line, internal_name, interface_name, kind_word, object_words, restore_word, verdict_words, outcome_at, outcome_words, abort_words, leave_words, field_words, entry_line}
-use Rattle.journal_text.specs.Words.{word_in, after_word, next_word, after_next, number_in, value_in, participant_in, object_in, exception_in, kind_in, nothing_more, marked, naming, object_fields, work_fields, restore_mark, verdict_fields, end_fields, named_fields, leave_fields, fields_in, entry_with, entry_after, entry_in, watch_in, seen_in, is_gap}
+use Rattle.journal_text.specs.Text.{participant_name, object_name, watched_object, seen_line, kind_word, object_words, restore_word, verdict_words, outcome_words, leave_words, field_words, entry_line}
+use Rattle.journal_text.specs.Words.{word_in, after_word, next_word, after_next, number_in, value_in, participant_in, object_in, exception_in, kind_in, nothing_more, naming, object_fields, work_fields, restore_mark, verdict_fields, end_fields, named_fields, leave_fields, fields_in, entry_with, entry_after, entry_in, watch_in, seen_in, is_gap}
 use Rattle.journal_text.proofs.WordLemmas.{is_whole, word_in-whole, after_word-whole, begins-line, next_word-line, after_next-line, whole-decimal, whole-signed, number_in-decimal}
-use Rattle.journal_text.proofs.NamingLemmas.{Named, participants-named, objects-named, exceptions-named, watches-named, watched-within}
+use Rattle.journal_text.proofs.NamingLemmas.{participants-named, objects-named, exceptions-named, watches-named}
 use Rattle.journal_text.specs.declared.seens.Seen.{Seen}
 use Rattle.journal_text.specs.Looks.{IsOfPlan}
 

@@ -1,12 +1,12 @@
 -- What a well-named plan says of its names.
-use Rattle.std.proofs.Common.{◌≡◌, ℕ, ◌+◌, ◌-◌, ◌<◌, ◌≤◌, ◌==◌, Bool, true, false, not, ◌&&◌, ◌||◌, List, [], ◌∷◌, length, map, slice_index_or, nat_le, nat_lt, bytes_eq, refl, sym, ap, subst, zero-add, ◌∙◌, inl, inr, ◌⊎◌, arith, suc, zero}
+use Rattle.std.proofs.Common.{◌≡◌, ℕ, ◌+◌, ◌-◌, ◌<◌, ◌≤◌, ◌==◌, Bool, true, false, not, ◌&&◌, List, [], ◌∷◌, length, slice_index_or, nat_le, nat_lt, refl, sym, ap, subst, zero-add, ◌∙◌, inl, inr, ◌⊎◌, arith, suc, zero}
 use Rattle.std.specs.List.{list_all, range_with_len}
 use Rattle.std.proofs.lemmas.List.FromFn.{get_or-range_with_len, length-range_with_len}
 use Rattle.std.proofs.lemmas.List.{get_or_past}
-use Rattle.std.proofs.lemmas.Bool.{and_left, and_parts, and_from, or_from, ne_eqb, cases_lt, cases_order, ltb-true, cases_Bool, cases_eq, eqb-true, eq-eqb, or_left, or_right, not-true, not_from_false, false≢true, true≢false}
-use Rattle.caa_base.specs.Names.{is_letter, is_digit, is_name_byte, begins_with_letter, is_name}
+use Rattle.std.proofs.lemmas.Bool.{and_left, and_parts, and_from, or_from, ne_eqb, cases_lt, ltb-true, cases_eq, eqb-true, false≢true}
+use Rattle.caa_base.specs.Names.{is_name_byte, begins_with_letter, is_name}
 use Rattle.place_plan.specs.PlanValue.{Plan}
-use Rattle.place_plan.specs.Places.{no_object, no_graph, graph_at, exception_name}
+use Rattle.place_plan.specs.Places.{no_graph, graph_at, exception_name}
 use Rattle.journal_text.specs.Naming.{is_own_name, are_names, is_named_graph, is_own_watch, is_well_named}
 use Rattle.journal_text.specs.Text.{participant_name, object_name, watched_object}
 use Rattle.journal_text.specs.Words.{is_gap, index_among, watch_in}

@@ -1,26 +1,24 @@
 -- What bytes share with texts, and that a text tells its journal.
-use Rattle.std.proofs.Common.{◌≡◌, ℕ, ◌<◌, ◌≤◌, ◌+◌, ◌^◌, ◌==◌, Bool, true, false, cond, not, ◌&&◌, List, [], ◌∷◌, ◌++◌, length, reverse, codes, bytes_eq, All, Option, Some, None, option_map, refl, sym, ap, ◌∙◌, subst, inl, inr, ◌⊎◌, arith, suc, zero, append_assoc, drop, get_or, add-one, decimal}
+use Rattle.std.proofs.Common.{◌≡◌, ℕ, ◌<◌, ◌≤◌, ◌+◌, ◌^◌, ◌==◌, true, false, cond, not, List, [], ◌∷◌, ◌++◌, length, reverse, codes, bytes_eq, Option, Some, None, option_map, refl, sym, ap, ◌∙◌, subst, inl, inr, ◌⊎◌, arith, suc, append_assoc, drop, get_or, add-one, decimal}
 use Rattle.std.specs.List.{AllByRecursion, flat_map, range_with_len}
-use Rattle.std.proofs.lemmas.Bool.{cond-true, cond-false, cases_eq, cases_Bool, and_parts, eq-eqb, ne_eqb, eqb-true, eqb-false, not-true, false≢true}
-use Rattle.std.proofs.lemmas.List.Elements.{recursion_from_All, All-from_recursion}
+use Rattle.std.proofs.lemmas.Bool.{cond-true, cond-false, cases_eq, cases_Bool, and_parts, eq-eqb, ne_eqb, not-true, false≢true}
 use Rattle.std.proofs.lemmas.Slice.Eq.{bytes_eq-Decides}
 use Rattle.std.specs.Fmt.{signed_decimal}
-use Rattle.std.proofs.lemmas.List.{append_cancel_left, append-nil, drop_all}
+use Rattle.std.proofs.lemmas.List.{append_cancel_left, drop_all}
 use Rattle.std.proofs.Math.Seq.{drop-cons}
 use Rattle.place_plan.specs.Objects.{value_of}
 use Rattle.caa_base.specs.Lines.{spaced, line}
 use Rattle.caa_base.specs.declared.entry.Entry.{Entry}
 use Rattle.place_plan.specs.PlanValue.{Plan}
-use Rattle.place_plan.specs.WellFormed.{IsWellFormed, AllWellFormed}
+use Rattle.place_plan.specs.WellFormed.{IsWellFormed}
 use Rattle.journal_text.specs.declared.seens.Seen.{Seen}
-use Rattle.journal_text.specs.Looks.{AreInOrder, InOrderFrom, AreOfPlan, IsOfPlan, last_watch}
 use Rattle.journal_text.specs.Naming.{is_well_named}
-use Rattle.journal_text.specs.Text.{entry_line, seen_line, object_line, object_words, object_name, watched_object, action_name, ending_words, last_outcome, outcome_line, closing_lines, first_line, text_of}
+use Rattle.journal_text.specs.Text.{entry_line, seen_line, object_line, object_words, object_name, watched_object, action_name, ending_words, last_outcome, outcome_line, closing_lines}
 use Rattle.journal_text.specs.Words.{word_in, after_word, kind_in, entry_after, entry_in, seen_in}
-use Rattle.journal_text.specs.Reading.{lines_shared, HasText, IsText, HasTooMany, IsFirstBad, TextsDiffer}
-use Rattle.journal_text.specs.Steps.{BeginsNoEntry, BeginsNoSeen, MayCome, EntriesRead, EntriesPast, SeensRead}
+use Rattle.journal_text.specs.Reading.{lines_shared}
+use Rattle.journal_text.specs.Steps.{BeginsNoEntry, BeginsNoSeen, MayCome}
 use Rattle.journal_text.proofs.WordLemmas.{word_in-whole, begins-line, is_whole}
-use Rattle.journal_text.proofs.EntryLines.{entry_in-line, seen_in-line, line-words, IsLine, is_unbroken, entry_line-is, seen_line-is}
+use Rattle.journal_text.proofs.EntryLines.{entry_in-line, seen_in-line, line-words, IsLine, is_unbroken, entry_line-is}
 
 -- ---- lines that two texts share
 

@@ -1,7 +1,7 @@
 -- Lemmas on the way back over a journal that finds the values of all objects.
-use Rattle.std.proofs.Common.{◌≡◌, ℕ, ℤ, ◌<◌, ◌≤◌, ◌*◌, ◌+◌, ◌==◌, Bool, true, false, cond, not, ◌&&◌, ◌||◌, List, [], ◌∷◌, length, Option, None, Some, is_none, unwrap_or, slice_index_or, slice_set, nat_lt, replicate, pos, map, ◌++◌, zero-add, add-one, reverse, take, drop, get_or, refl, sym, ap, ◌∙◌, subst, inl, inr, ◌⊎◌, arith, suc}
+use Rattle.std.proofs.Common.{◌≡◌, ℕ, ℤ, ◌<◌, ◌≤◌, ◌*◌, ◌+◌, ◌==◌, Bool, true, false, cond, not, ◌&&◌, ◌||◌, List, [], ◌∷◌, length, Option, None, Some, is_none, unwrap_or, slice_index_or, slice_set, nat_lt, replicate, add-one, reverse, take, drop, get_or, refl, sym, ap, ◌∙◌, subst, inl, inr, ◌⊎◌, arith}
 use Rattle.std.specs.List.{list_any}
-use Rattle.std.proofs.lemmas.Bool.{cond-false, cond-true, cond_both, or_left, and_left, and_right, and_from, not_from_false, not_from_true, cases_Bool, eqb-true, eqb-false, eq-eqb, ne_eqb, cases_eq, cases_lt, and_parts, lt-ltb, le-ltb, or_cases, false≢true, and_cases, not-true}
+use Rattle.std.proofs.lemmas.Bool.{cond-false, cond-true, cond_both, or_left, and_left, and_right, and_from, not_from_false, not_from_true, cases_Bool, eq-eqb, ne_eqb, cases_eq, cases_lt, lt-ltb, le-ltb}
 use Rattle.std.proofs.lemmas.List.{get_or-set_same, get_or-set_other, length-set, get_or-replicate, length-replicate, take_more, reverse-append}
 use Rattle.std.proofs.Math.Seq.{drop-cons}
 use Rattle.std.proofs.lemmas.Nat.{mul-add-lt, same_from_place}
@@ -12,9 +12,8 @@ use Rattle.caa_base.specs.declared.entry.Kind.{Kind}
 use Rattle.caa_base.specs.declared.entry.Kind.TheVariants as kind
 use Rattle.place_plan.specs.PlanValue.{Plan}
 use Rattle.caa_base.specs.Lists.{member}
-use Rattle.place_plan.specs.Places.{around, is_within}
-use Rattle.place_plan.specs.Entries.{is_of}
-use Rattle.place_plan.specs.Objects.{restores, writes, is_within_any, places_undone, value_outside, value_of}
+use Rattle.place_plan.specs.Places.{around}
+use Rattle.place_plan.specs.Objects.{restores, writes, is_within_any, places_undone, value_outside}
 use Rattle.place_plan.specs.WellFormed.{IsWellFormed, AllWellFormed, FieldsFit}
 use Rattle.journal_text.specs.Values.{places_restoring, was_restored, was_undone, value_left, found_after, found_after_write, restored_after, restored_after_restore, LooksBack, HasValues}
 

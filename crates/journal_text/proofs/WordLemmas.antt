@@ -1,18 +1,16 @@
 -- Words, numbers and names that were written are taken out of a line again.
-use Rattle.std.proofs.Common.{◌≡◌, ◌≢◌, ℕ, ℤ, pos, negsuc, neg_ℤ, ◌<◌, ◌≤◌, ◌+◌, ◌-◌, ◌*◌, ◌/◌, ◌%◌, ◌^◌, ◌==◌, Bool, true, false, cond, not, ◌&&◌, ◌||◌, List, [], ◌∷◌, ◌++◌, length, drop, nat_le, bytes_eq, slice_index_or, decimal, refl, sym, ap, ◌∙◌, subst, inl, inr, ◌⊎◌, arith, rules, suc, zero, add-one, append_assoc}
+use Rattle.std.proofs.Common.{◌≡◌, ℕ, ℤ, pos, negsuc, ◌<◌, ◌≤◌, ◌+◌, ◌-◌, ◌*◌, ◌%◌, ◌^◌, Bool, true, false, not, List, [], ◌∷◌, ◌++◌, nat_le, bytes_eq, decimal, refl, sym, ap, ◌∙◌, arith, rules, suc, add-one, append_assoc}
 use Rattle.std.specs.List.{list_all}
 use Rattle.std.specs.Fmt.{signed_decimal}
-use Rattle.std.specs.Str.Parse.{AllDigits, digits_value}
-use Rattle.std.proofs.lemmas.Bool.{cond-true, cond-false, cases_eq, cases_lt, and_parts, and_from, eq-eqb, ne_eqb, eqb-true, le-leb, lt-leb, not-true, not_from_false, false≢true, cases_Bool}
+use Rattle.std.specs.Str.Parse.{AllDigits}
+use Rattle.std.proofs.lemmas.Bool.{cond-true, cond-false, and_parts, and_from, le-leb, lt-leb, not-true}
 use Rattle.std.proofs.lemmas.Bool.Decides.{nat_tests}
 use Rattle.std.proofs.lemmas.Fmt.{decimal_by_steps, digits_value-decimal}
 use Rattle.std.proofs.lemmas.Str.Parse.{IsNumeralModel, numerals_by_fold, tells_digits}
 use Rattle.std.proofs.lemmas.Int.{ints}
-use Rattle.std.proofs.lemmas.Slice.Eq.{bytes_eq-Decides}
 use Rattle.caa_base.specs.Lines.{spaced}
-use Rattle.caa_base.specs.Names.{is_name, is_name_byte}
 use Rattle.caa_base.specs.Limits.{IsValue}
-use Rattle.journal_text.specs.Words.{is_gap, word_in, after_word, next_word, after_next, digits_after, number_in, value_in, index_among}
+use Rattle.journal_text.specs.Words.{is_gap, word_in, after_word, next_word, after_next, digits_after, number_in, index_among}
 
 -- ---- words
 

@@ -1,6 +1,6 @@
 -- Which bytes are a text of a journal, and which line of others is the first that no text has there.
 use Rattle.std.specs.Prelude.{◌≡◌, ◌<◌, ◌≤◌, ◌+◌, ◌==◌, ℕ, suc, if◌then◌else◌, List, [], ◌∷◌, ◌++◌, length, Result, Ok, Err}
-use Rattle.std.specs.List.{All, flat_map}
+use Rattle.std.specs.List.{flat_map}
 use Rattle.caa_base.specs.declared.entry.Entry.{Entry}
 use Rattle.caa_base.specs.Journal.{Entries}
 use Rattle.place_plan.specs.PlanValue.{Plan}

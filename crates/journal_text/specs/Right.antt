@@ -1,5 +1,5 @@
 -- Whether what was seen is right, and which look is the first that isn't.
-use Rattle.std.specs.Prelude.{ℕ, ℤ, suc, ◌==◌, nat_le, Bool, ◌&&◌, ◌||◌, if◌then◌else◌, List, [], ◌∷◌, length, reverse, filter, Option, Some, None}
+use Rattle.std.specs.Prelude.{ℕ, suc, ◌==◌, nat_le, Bool, ◌&&◌, ◌||◌, if◌then◌else◌, List, [], ◌∷◌, length, reverse, Option, Some, None}
 use Rattle.std.specs.Ordering.{int_eq}
 use Rattle.caa_base.specs.declared.entry.Entry.{Entry}
 use Rattle.place_plan.specs.PlanValue.{Plan}

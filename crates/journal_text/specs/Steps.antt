@@ -1,16 +1,15 @@
 -- What each step of reading a text finds.
-use Rattle.std.specs.Prelude.{◌≡◌, ◌≤◌, ◌<◌, ◌+◌, ◌∷◌, ℕ, suc, List, [], ◌++◌, length, Result, Ok, Err, Option, Some, None}
+use Rattle.std.specs.Prelude.{◌≡◌, ◌≤◌, ◌<◌, ◌+◌, ℕ, suc, List, ◌++◌, length, Option, Some, None}
 use Rattle.std.specs.List.{flat_map}
 use Rattle.caa_base.specs.declared.entry.Entry.{Entry}
-use Rattle.caa_base.specs.declared.entry.OutOfMemory.{OutOfMemory}
 use Rattle.place_plan.specs.PlanValue.{Plan}
 use Rattle.place_plan.specs.WellFormed.{IsWellFormed, AllWellFormed}
 use Rattle.caa_base.specs.Limits.{IsValue}
 use Rattle.journal_text.specs.declared.seens.Seen.{Seen}
 use Rattle.journal_text.specs.declared.reading.TextError.{TextError}
 use Rattle.journal_text.specs.declared.reading.TextError.TheVariants as error
-use Rattle.journal_text.specs.Looks.{IsOfPlan, AreOfPlan, AreInOrder, InOrderFrom, last_watch}
-use Rattle.journal_text.specs.Text.{entry_line, seen_line, text_of}
+use Rattle.journal_text.specs.Looks.{IsOfPlan, AreOfPlan, AreInOrder, last_watch}
+use Rattle.journal_text.specs.Text.{entry_line, seen_line}
 use Rattle.journal_text.specs.Reading.{lines_shared}
 
 -- the text doesn't begin with the line of a well-formed entry

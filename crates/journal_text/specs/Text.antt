@@ -10,7 +10,7 @@ use Rattle.caa_base.specs.declared.entry.Verdict.{Verdict}
 use Rattle.caa_base.specs.declared.entry.Verdict.TheVariants as verdict
 use Rattle.caa_base.specs.declared.entry.Outcome.{Outcome}
 use Rattle.caa_base.specs.declared.entry.Outcome.TheVariants as outcome
-use Rattle.caa_base.specs.Lines.{spaced, line}
+use Rattle.caa_base.specs.Lines.{line}
 use Rattle.place_plan.specs.PlanValue.{Plan}
 use Rattle.place_plan.specs.Places.{no_object, action_at, parent, exception_name}
 use Rattle.place_plan.specs.Entries.{is_in, newest}

@@ -1,4 +1,4 @@
-use Rattle.std.proofs.Common.{◌≡◌, ◌<◌, ◌+◌, ℕ, All, List, [], ◌∷◌, take, get_or, sym, subst, arith}
+use Rattle.std.proofs.Common.{◌<◌, ℕ, All, [], ◌∷◌, take, get_or, sym, subst, arith}
 use Rattle.std.proofs.lemmas.List.{take_more, take_all}
 use Rattle.std.proofs.lemmas.List.Elements.{All-nil, All-cons, All-append}
 use Rattle.trial_drafts.proofs.are_below.Goals as goal

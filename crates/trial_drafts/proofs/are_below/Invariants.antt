@@ -1,4 +1,4 @@
-use Rattle.std.proofs.Common.{◌<◌, ℕ, All, take}
+use Rattle.std.proofs.Common.{◌<◌, All, take}
 use Rattle.trial_drafts.proofs.are_below.Given as goal
 
 abbrev pub invariant-loop-pair : goal.invariant-loop-pair

@@ -1,4 +1,4 @@
-use Rattle.std.proofs.Common.{◌≡◌, length, bytes_eq, false, arith, sym, ap, ◌∙◌}
+use Rattle.std.proofs.Common.{◌≡◌, bytes_eq, false, arith, sym, ap, ◌∙◌}
 use Rattle.place_plan.specs.Places.{graph_at, exception_name}
 use Rattle.journal_text.proofs.WordLemmas.{index-passed}
 use Rattle.journal_text.proofs.entry_line.exception_in.Goals as goal

@@ -1,4 +1,4 @@
-use Rattle.std.proofs.Common.{◌≡◌, ◌-◌, length}
+use Rattle.std.proofs.Common.{◌≡◌, ◌-◌}
 use Rattle.place_plan.specs.Places.{graph_at, exception_name}
 use Rattle.journal_text.specs.Words.{index_among}
 use Rattle.journal_text.proofs.entry_line.exception_in.Given as goal

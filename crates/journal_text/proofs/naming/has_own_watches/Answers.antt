@@ -1,7 +1,5 @@
 use Rattle.std.proofs.Common.{length, sym, ◌∙◌, arith}
-use Rattle.place_plan.specs.Places.{graph_at, exception_name}
-use Rattle.journal_text.specs.Text.{participant_name, object_name}
-use Rattle.journal_text.specs.Naming.{is_own_name, is_named_graph, is_own_watch}
+use Rattle.journal_text.specs.Naming.{is_own_watch}
 use Rattle.journal_text.proofs.NamingLemmas.{range_pass, range_fail}
 use Rattle.journal_text.proofs.naming.has_own_watches.Goals as goal
 

@@ -1,8 +1,7 @@
-use Rattle.std.proofs.Common.{◌≡◌, ◌-◌, length}
+use Rattle.std.proofs.Common.{◌≡◌, ◌-◌}
 use Rattle.std.specs.List.{list_all, range_with_len}
 use Rattle.place_plan.specs.Places.{graph_at, exception_name}
-use Rattle.journal_text.specs.Text.{participant_name, object_name}
-use Rattle.journal_text.specs.Naming.{is_own_name, is_named_graph, is_own_watch}
+use Rattle.journal_text.specs.Naming.{is_own_name}
 use Rattle.journal_text.proofs.naming.is_named_graph.Given as goal
 
 abbrev pub invariant-loop-exception : goal.invariant-loop-exception

@@ -1,5 +1,5 @@
-use Rattle.std.proofs.Common.{◌≡◌, ◌+◌, drop, arith, sym}
-use Rattle.journal_text.proofs.ReadingLemmas.{shared-end, shared-unlike, shared-like}
+use Rattle.std.proofs.Common.{arith}
+use Rattle.journal_text.proofs.ReadingLemmas.{shared-end}
 use Rattle.journal_text.proofs.reading.lines_shared.Goals as goal
 
 pub returns-then-index-other-clause-value : goal.returns-then-index-other-clause-value

@@ -1,8 +1,7 @@
-use Rattle.std.proofs.Common.{◌≡◌, ◌++◌, ℕ, List, Some, ap, arith, sym, ◌∙◌, subst}
+use Rattle.std.proofs.Common.{◌≡◌, ◌++◌, ℕ, List, ap, arith, ◌∙◌, subst}
 use Rattle.std.specs.Option.{MatchOption}
 use Rattle.journal_text.specs.Text.{entry_line}
 use Rattle.std.proofs.lemmas.Bool.{both_ways}
-use Rattle.caa_base.specs.declared.entry.Entry.{Entry}
 use Rattle.place_plan.specs.WellFormed.{IsWellFormed}
 use Rattle.journal_text.proofs.ReadingLemmas.{no-entry}
 use Rattle.journal_text.proofs.reading.next_entry.Goals as goal

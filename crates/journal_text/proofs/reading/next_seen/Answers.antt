@@ -1,9 +1,8 @@
-use Rattle.std.proofs.Common.{◌≡◌, ◌++◌, ℕ, List, ap, None, arith, sym, ◌∙◌, subst, IsTrue}
+use Rattle.std.proofs.Common.{◌≡◌, ◌++◌, ℕ, List, ap, sym, ◌∙◌, subst}
 use Rattle.std.specs.Option.{MatchOption}
 use Rattle.std.proofs.lemmas.Bool.{both_ways}
-use Rattle.journal_text.specs.declared.seens.Seen.{Seen}
 use Rattle.journal_text.specs.Text.{seen_line}
-use Rattle.journal_text.specs.Steps.{MayCome, MayStand}
+use Rattle.journal_text.specs.Steps.{MayCome}
 use Rattle.journal_text.proofs.ReadingLemmas.{no-seen}
 use Rattle.journal_text.proofs.reading.next_seen.Goals as goal
 

@@ -1,8 +1,7 @@
-use Rattle.std.proofs.Common.{◌≡◌, ◌≤◌, ◌++◌, length}
+use Rattle.std.proofs.Common.{◌≡◌, ◌++◌, length}
 use Rattle.std.specs.List.{flat_map}
-use Rattle.place_plan.specs.WellFormed.{AllWellFormed}
 use Rattle.journal_text.specs.Looks.{AreInOrder, AreOfPlan, last_watch}
-use Rattle.journal_text.specs.Text.{entry_line, seen_line}
+use Rattle.journal_text.specs.Text.{seen_line}
 use Rattle.journal_text.proofs.reading.read_seens.Given as goal
 
 abbrev pub decreases-loop-seens : goal.decreases-loop-seens

@@ -1,7 +1,6 @@
-use Rattle.std.proofs.Common.{◌≡◌, ◌*◌, ◌++◌, List, [], length, replicate, take, drop, reverse, None, false, arith, ap, ◌∙◌, refl}
+use Rattle.std.proofs.Common.{◌≡◌, ◌*◌, length, replicate, drop, reverse, None, false, arith, ap, ◌∙◌, refl}
 use Rattle.std.proofs.lemmas.List.{length-replicate}
 use Rattle.std.proofs.Math.Seq.{take-append_seam}
-use Rattle.journal_text.specs.Values.{LooksBack, HasValues}
 use Rattle.journal_text.proofs.ValueLemmas.{look-start, look-end}
 use Rattle.journal_text.proofs.values.last_values.Goals as goal
 

@@ -1,8 +1,4 @@
-use Rattle.std.proofs.Common.{◌≡◌, ◌<◌, ◌≤◌, ◌-◌, ◌+◌, List, [], ◌∷◌, ◌++◌, reverse, length, take, drop, get_or, slice_index, arith, ap, ◌∙◌, sym, add-one}
-use Rattle.std.proofs.lemmas.List.{take_more, reverse-append}
-use Rattle.std.proofs.Math.Seq.{drop-cons}
-use Rattle.caa_base.specs.declared.entry.Entry.{Entry}
-use Rattle.journal_text.specs.Values.{LooksBack}
+use Rattle.std.proofs.Common.{◌-◌, arith}
 use Rattle.journal_text.proofs.ValueLemmas.{look-next}
 use Rattle.journal_text.proofs.values.look_back.Goals as goal
 

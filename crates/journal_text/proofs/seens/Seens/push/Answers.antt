@@ -1,5 +1,5 @@
-use Rattle.std.proofs.Common.{◌≡◌, ◌≤◌, ◌<◌, ◌^◌, arith, rules}
-use Rattle.journal_text.specs.Looks.{AreInOrder, last_watch}
+use Rattle.std.proofs.Common.{◌≤◌, arith}
+use Rattle.journal_text.specs.Looks.{last_watch}
 use Rattle.journal_text.proofs.LooksLemmas.{InOrderFrom-push}
 use Rattle.journal_text.proofs.seens.Seens.push.Goals as goal
 

@@ -1,0 +1,88 @@
+-- The rows of graphs stand for the graphs that are declared.
+use Rattle.std.proofs.Common.{◌≡◌, ℕ, ◌+◌, suc, Bool, true, false, cond, List, [], ◌∷◌, ◌++◌, map, length, slice_index_or, bytes_eq, codes, Option, Some, None, refl, sym, ap, ◌∙◌, subst, arith}
+use Rattle.std.proofs.lemmas.Bool.{false≢true}
+use Rattle.std.proofs.lemmas.Slice.Eq.{bytes_eq-Decides}
+use Rattle.cover_table.specs.Cover.{CoverOrder, IsSound}
+use Rattle.exception_graph.specs.Chains.{IsOrderOf}
+use Rattle.caa_base.specs.declared.entry.Verdict.{Verdict}
+use Rattle.caa_base.specs.declared.entry.Verdict.TheVariants as verdict
+use Rattle.place_plan.specs.declared.rows.GraphRow.{GraphRow}
+use Rattle.action_script.specs.Names.{number_in}
+use Rattle.action_script.specs.declared.form.Form.{Form}
+use Rattle.action_script.specs.declared.form.Form.TheVariants as form
+use Rattle.script_checker.specs.declared.parts.Block.{Block}
+use Rattle.script_checker.specs.declared.parts.Block.TheVariants as block
+use Rattle.script_checker.specs.declared.parts.DeclaredGraph.{DeclaredGraph}
+use Rattle.script_checker.specs.declared.parts.Opening.{Opening}
+use Rattle.script_checker.specs.Blocks.{is_in_graph}
+use Rattle.script_checker.specs.SoFar.{SoFar, plain_graph}
+use Rattle.script_checker.specs.Causes.{ends_graph}
+use Rattle.script_checker.specs.After.{with_said, with_graph, with_action, action_row, without_parts, closed, closed_if, settled, settled_if, goes_on, after, ended}
+use Rattle.script_checker.specs.Graphs.{IsOrdered}
+use Rattle.script_checker.specs.Rows.{AddsRow}
+use Rattle.script_checker.specs.Compiled.{exception_name, IsRowOf, AreRowsOf}
+
+-- ---- the plain graph
+
+-- a word that is found among names, or isn't there and stands for itself
+found_by : (word name : List ℕ) (names : List (List ℕ)) → slice_index_or names (number_in names word) word ≡ word → (b : Bool) → (b ≡ true → word ≡ name) → slice_index_or (name ∷ names) (cond b 0 (1 + number_in names word)) word ≡ word
+found_by word name names more true same = sym (same refl)
+found_by word name names more false same = let e : suc (number_in names word) ≡ 1 + number_in names word = omega arith in subst (λ (k : ℕ). slice_index_or (name ∷ names) k word ≡ word) e more
+
+pub found : (names : List (List ℕ)) (word : List ℕ) → slice_index_or names (number_in names word) word ≡ word
+found [] word = refl
+found (name ∷ names) word = found_by word name names (found names word) (bytes_eq word name) (λ e. (bytes_eq-Decides word name).0 e)
+
+-- the row of the plain graph
+pub plain_rows : (names : List (List ℕ)) (row : GraphRow) → row.names ≡ codes "universal" ∷ [] → IsOrderOf 1 [] row.graph → IsSound row.graph → AreRowsOf names (plain_graph (number_in names (codes "universal")) ∷ []) (row ∷ [])
+plain_rows names row named order sound = (record { named = named ∙ ap (λ (name : List ℕ). name ∷ []) (sym (found names (codes "universal"))); order = order; sound = sound }, tt)
+
+-- ---- one more graph
+
+pub rows_push : (names : List (List ℕ)) (graphs : List DeclaredGraph) (rows : List GraphRow) (graph : DeclaredGraph) (row : GraphRow) → AreRowsOf names graphs rows → IsRowOf names graph row → AreRowsOf names (graphs ++ graph ∷ []) (rows ++ row ∷ [])
+rows_push names [] [] graph row h g = (g, tt)
+rows_push names [] (r ∷ rows) graph row h g = absurd h
+rows_push names (d ∷ graphs) [] graph row h g = absurd h
+rows_push names (d ∷ graphs) (r ∷ rows) graph row h g = (h.0, rows_push names graphs rows graph row h.1 g)
+
+-- the row that is added is that of the graph
+pub rows_added : (names : List (List ℕ)) (s : SoFar) (order : CoverOrder) (old new : List GraphRow) → AreRowsOf names s.graphs old → IsOrdered (length s.exceptions) s.pairs order → AddsRow names s.exceptions order old new → AreRowsOf names (with_graph s).graphs new
+rows_added names s order old new h g a =
+    subst (λ (rows : List GraphRow). AreRowsOf names (with_graph s).graphs rows) (sym a.rows)
+    (rows_push names s.graphs old (record { exceptions = s.exceptions; pairs = s.pairs }) a.row h (record {
+      named = a.named;
+      order = subst (λ o. IsOrderOf (length s.exceptions) s.pairs o) (sym a.order) g.order;
+      sound = subst (λ o. IsSound o) (sym a.order) g.sound;
+    }))
+
+-- ---- lines that end none
+
+closed_same : (s : SoFar) (v : Verdict) (o : Option Opening) → (closed_if s o v).graphs ≡ s.graphs
+closed_same s v None = refl
+closed_same s v (Some o) = refl
+
+pub settled_same : (s : SoFar) (f : Form) (b : Bool) → (settled_if b s).graphs ≡ s.graphs
+settled_same s f true = refl
+settled_same s f false = closed_same s verdict.Done s.opening
+
+ended_same : (names : List (List ℕ)) (s : SoFar) (b : Block) → is_in_graph b ≡ false → (ended names s b).graphs ≡ s.graphs
+ended_same names s block.Top e = refl
+ended_same names s block.Graph e = absurd (false≢true (sym e))
+ended_same names s block.Action e = refl
+
+pub said_same : (names : List (List ℕ)) (s : SoFar) (f : Form) → ends_graph s f ≡ false → (with_said names s f).graphs ≡ s.graphs
+said_same names s form.End e = ended_same names s s.block e
+said_same names s form.DoneLine e = closed_same s _ s.opening
+said_same names s (form.SignalLine x) e = closed_same s _ s.opening
+said_same names s form.UndoLine e = closed_same s _ s.opening
+said_same names s f e = refl
+
+ended_graph : (names : List (List ℕ)) (s : SoFar) (b : Block) → is_in_graph b ≡ true → (ended names s b).graphs ≡ (with_graph s).graphs
+ended_graph names s block.Top e = absurd (false≢true e)
+ended_graph names s block.Graph e = refl
+ended_graph names s block.Action e = absurd (false≢true e)
+
+-- a line that ends a graph adds it
+pub said_graph : (names : List (List ℕ)) (s : SoFar) (f : Form) → ends_graph s f ≡ true → (with_said names s f).graphs ≡ (with_graph s).graphs
+said_graph names s form.End e = ended_graph names s s.block e
+said_graph names s f e = absurd (false≢true e)

@@ -1,0 +1,91 @@
+-- Lines that are taken one by one.
+use Rattle.std.proofs.Common.{◌≡◌, ◌≢◌, ℕ, suc, ◌+◌, ◌<◌, ◌≤◌, List, [], ◌∷◌, ◌++◌, length, take, drop, get_or, Result, Ok, Err, refl, sym, ap, ◌∙◌, subst, arith, add-one, append_assoc}
+use Rattle.std.proofs.Math.Seq.{drop-cons, take-suc, take-length}
+use Rattle.std.proofs.lemmas.List.{take-append-drop, take_all}
+use Rattle.place_plan.specs.declared.rows.GraphRow.{GraphRow}
+use Rattle.place_plan.specs.PlanValue.{Plan}
+use Rattle.place_plan.specs.Unfolding.{plan_of}
+use Rattle.action_script.specs.declared.form.Form.{Form}
+use Rattle.action_script.specs.declared.script.Line.{Line}
+use Rattle.action_script.specs.ScriptValue.{Script}
+use Rattle.script_checker.specs.declared.error.CheckCause.{CheckCause}
+use Rattle.script_checker.specs.declared.error.CheckCause.TheVariants as cause
+use Rattle.script_checker.specs.SoFar.{SoFar, nothing_yet}
+use Rattle.script_checker.specs.After.{after}
+use Rattle.script_checker.specs.Rows.{parted}
+use Rattle.script_checker.specs.Compiled.{number_of, IsAccepted, AreAccepted, IsLeastCause, declared_after, AreRowsOf, IsDraftOf, IsPlanOf, IsFirstRefused, IsAnswer}
+use Rattle.script_checker.specs.Compiled.IsAnswer.{planned, refused, wanting}
+
+-- the first n lines were taken
+pub record Taken (names : List (List ℕ)) (lines : List Line) (n : ℕ) (s : SoFar) (made : List GraphRow) : Type 0 where
+  pub accepted : AreAccepted names (nothing_yet names) (take n lines)
+  pub declared : s ≡ declared_after names (nothing_yet names) (take n lines)
+  pub rows : AreRowsOf names s.graphs made
+
+accepted_push : (names : List (List ℕ)) (s : SoFar) (lines : List Line) (line : Line) → AreAccepted names s lines → IsAccepted (declared_after names s lines) line.form → AreAccepted names s (lines ++ line ∷ [])
+accepted_push names s [] line h a = (a, tt)
+accepted_push names s (l ∷ lines) line h a = (h.0, accepted_push names (after names s l.form) lines line h.1 a)
+
+declared_push : (names : List (List ℕ)) (s : SoFar) (lines : List Line) (line : Line) → declared_after names s (lines ++ line ∷ []) ≡ after names (declared_after names s lines) line.form
+declared_push names s [] line = refl
+declared_push names s (l ∷ lines) line = declared_push names (after names s l.form) lines line
+
+-- one line more
+pub taken_more : (names : List (List ℕ)) (lines : List Line) (n : ℕ) (s t : SoFar) (rows more : List GraphRow) (line : Line) → n < length lines → line ≡ get_or lines n line → Taken names lines n s rows → IsAccepted s line.form → t ≡ after names s line.form → AreRowsOf names t.graphs more → Taken names lines (n + 1) t more
+taken_more names lines n s t rows more line l is h a e r =
+    let whole : take (n + 1) lines ≡ take n lines ++ line ∷ [] = rw add-one (take-suc lines n line l ∙ ap (λ (x : Line). take n lines ++ x ∷ []) (sym is)) in
+    record {
+      accepted = subst (λ (some : List Line). AreAccepted names (nothing_yet names) some) (sym whole) (accepted_push names (nothing_yet names) (take n lines) line h.accepted (subst (λ (s : SoFar). IsAccepted s line.form) h.declared a));
+      declared = e ∙ ap (λ (s : SoFar). after names s line.form) h.declared ∙ sym (declared_push names (nothing_yet names) (take n lines) line) ∙ ap (λ (some : List Line). declared_after names (nothing_yet names) some) (sym whole);
+      rows = r;
+    }
+
+cut : (lines : List Line) (n : ℕ) (line : Line) → n < length lines → line ≡ get_or lines n line → lines ≡ take n lines ++ line ∷ drop (n + 1) lines
+cut lines n line l is =
+    sym (take-append-drop n lines) ∙ ap (λ (some : List Line). take n lines ++ some) (drop-cons lines n line l ∙ ap (λ (x : Line). x ∷ drop (suc n) lines) (sym is) ∙ sym (ap (λ (k : ℕ). line ∷ drop k lines) (add-one n)))
+
+-- the line after these is refused
+pub line_refused : (script : Script) (names : List (List ℕ)) (lines : List Line) (n : ℕ) (s : SoFar) (rows : List GraphRow) (line : Line) (c : CheckCause) → names ≡ script.names → lines ≡ script.lines → n < length lines → line ≡ get_or lines n line → Taken names lines n s rows → (c ≢ cause.OutOfMemory → IsLeastCause s line.form c) → IsAnswer script (Err (record { line = line.number; cause = c }))
+line_refused script names lines n s rows line c en el l is h least =
+    by_cause c (λ ne. record {
+      before = take n lines;
+      line = line;
+      rest = drop (n + 1) lines;
+      place = sym el ∙ cut lines n line l is;
+      accepted = subst (λ (names : List (List ℕ)). AreAccepted names (nothing_yet names) (take n lines)) en h.accepted;
+      number = refl;
+      least = subst (λ (s : SoFar). IsLeastCause s line.form c) (h.declared ∙ ap (λ (names : List (List ℕ)). declared_after names (nothing_yet names) (take n lines)) en) (least ne);
+    })
+  where
+    by_cause : (c : CheckCause) → (c ≢ cause.OutOfMemory → IsFirstRefused script (record { line = line.number; cause = c })) → IsAnswer script (Err (record { line = line.number; cause = c }))
+    by_cause cause.OutOfMemory h = wanting refl
+    by_cause c h = refused (h (λ e. let n : number_of c ≡ 21 = ap number_of e in omega arith))
+
+-- all lines were taken, and their draft was closed
+pub script_planned : (script : Script) (names : List (List ℕ)) (lines : List Line) (n : ℕ) (s : SoFar) (rows : List GraphRow) (plan : Plan) → names ≡ script.names → lines ≡ script.lines → length lines ≤ n → Taken names lines n s rows → plan ≡ plan_of (parted s rows) → IsAnswer script (Ok plan)
+script_planned script names lines n s rows plan en el l h e =
+    let whole : take n lines ≡ script.lines = take_all n lines l ∙ el in
+    planned (record {
+      accepted = subst (λ (lines : List Line). AreAccepted script.names (nothing_yet script.names) lines) whole (subst (λ (names : List (List ℕ)). AreAccepted names (nothing_yet names) (take n lines)) en h.accepted);
+      draft = parted s rows;
+      declared = subst (λ (t : SoFar). IsDraftOf script.names t (parted s rows))
+          (h.declared ∙ ap (λ (names : List (List ℕ)). declared_after names (nothing_yet names) (take n lines)) en ∙ ap (λ (lines : List Line). declared_after script.names (nothing_yet script.names) lines) whole)
+          (record {
+            participants = refl;
+            objects = refl;
+            graphs = subst (λ (names : List (List ℕ)). AreRowsOf names s.graphs rows) en h.rows;
+            actions = refl;
+            plays = refl;
+            drills = refl;
+            watches = refl;
+          });
+      unfolded = e;
+    })
+
+-- no line was taken yet
+pub none_taken : (names : List (List ℕ)) (lines : List Line) (s : SoFar) (rows : List GraphRow) → s ≡ nothing_yet names → AreRowsOf names (nothing_yet names).graphs rows → Taken names lines 0 s rows
+none_taken names lines s rows e r = record {
+  accepted = tt;
+  declared = e;
+  rows = subst (λ (s : SoFar). AreRowsOf names s.graphs rows) (sym e) r;
+}

@@ -1,0 +1,6 @@
+use Rattle.script_checker.specs.View.{so_far}
+use Rattle.script_checker.proofs.Taking.{Taken}
+use Rattle.script_checker.proofs.compile.compile.Given as goal
+
+abbrev pub invariant-loop-line : goal.invariant-loop-line
+invariant-loop-line l = Taken l.names l.line-items l.line-index (so_far l.declared) l.rows.items

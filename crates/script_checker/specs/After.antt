@@ -1,0 +1,262 @@
+-- What a line adds to what the lines before it declare.
+use Rattle.std.specs.Prelude.{ℕ, ◌+◌, Bool, true, false, not, ◌&&◌, List, [], ◌∷◌, ◌++◌, map, length, slice_index_or, slice_set, replicate, Option, Some, None, unwrap_or}
+use Rattle.caa_base.specs.declared.entry.Verdict.{Verdict}
+use Rattle.caa_base.specs.declared.entry.Verdict.TheVariants as verdict
+use Rattle.place_plan.specs.declared.rows.ActionRow.{ActionRow}
+use Rattle.place_plan.specs.declared.rows.RoleRow.{RoleRow}
+use Rattle.place_plan.specs.declared.rows.AbortRow.{AbortRow}
+use Rattle.place_plan.specs.declared.rows.AbortRow.TheVariants as abort
+use Rattle.place_plan.specs.declared.rows.NestRow.{NestRow}
+use Rattle.place_plan.specs.declared.rows.Program.{Program}
+use Rattle.place_plan.specs.declared.rows.Step.{Step}
+use Rattle.place_plan.specs.declared.rows.Step.TheVariants as step
+use Rattle.caa_base.specs.Lists.{index_of}
+use Rattle.place_plan.specs.Places.{no_role}
+use Rattle.place_plan.specs.Bound.{action_bound}
+use Rattle.place_plan.specs.DraftRules.{deepest}
+use Rattle.action_script.specs.declared.form.Form.{Form}
+use Rattle.action_script.specs.declared.form.Form.TheVariants as form
+use Rattle.script_checker.specs.declared.parts.Block.{Block}
+use Rattle.script_checker.specs.declared.parts.Block.TheVariants as block
+use Rattle.script_checker.specs.declared.parts.NestSaid.{NestSaid}
+use Rattle.script_checker.specs.declared.parts.Opening.{Opening}
+use Rattle.place_plan.specs.Weights.{counted, at, nested_weight}
+use Rattle.script_checker.specs.Numbers.{chosen_from}
+use Rattle.script_checker.specs.SoFar.{SoFar, graph_number, exceptions_at, internal_graph, interface_graph, inner, outer, face, action_of, nest_of, said_of, role_of, nothing_said}
+use Rattle.script_checker.specs.Causes.{places_with, bound_with}
+
+-- the name of this number
+abbrev pub name_at : List (List ℕ) → ℕ → List ℕ
+name_at names n = slice_index_or names n []
+
+-- the step that a line says
+abbrev pub step_of : SoFar → Form → Option Step
+step_of s (form.ReadStep object) = Some (step.Read (index_of object s.objects))
+step_of s (form.PutStep object value) = Some (step.Put (index_of object s.objects) value)
+step_of s (form.AddStep object value) = Some (step.Add (index_of object s.objects) value)
+step_of s (form.WorkStep rounds) = Some (step.Work rounds)
+step_of s (form.CheckStep test value exception) = Some (step.Check test value (index_of exception (inner s)))
+step_of s (form.RaiseStep exception) = Some (step.Raise (index_of exception (inner s)))
+step_of s (form.EnterStep nest) = Some (step.Enter (index_of nest s.nests))
+step_of s _ = None
+
+-- the verdict that a line says
+abbrev pub verdict_of : SoFar → Form → Verdict
+verdict_of s (form.SignalLine exception) = verdict.Signal (index_of exception (outer s))
+verdict_of s form.UndoLine = verdict.Undo
+verdict_of s _ = verdict.Done
+
+-- ---- the kinds of lines
+
+-- a step, or the line of a verdict
+abbrev pub goes_on : Form → Bool
+goes_on (form.ReadStep object) = true
+goes_on (form.PutStep object value) = true
+goes_on (form.AddStep object value) = true
+goes_on (form.WorkStep rounds) = true
+goes_on (form.CheckStep test value exception) = true
+goes_on (form.RaiseStep exception) = true
+goes_on (form.EnterStep nest) = true
+goes_on form.DoneLine = true
+goes_on (form.SignalLine exception) = true
+goes_on form.UndoLine = true
+goes_on _ = false
+
+-- of the roles or the nested uses of an action
+abbrev pub is_of_parts : Form → Bool
+is_of_parts (form.Nest nest action roles) = true
+is_of_parts (form.Map nest lower upper) = true
+is_of_parts (form.MapUndo nest exception) = true
+is_of_parts (form.MapFailure nest exception) = true
+is_of_parts (form.Alternate nest action) = true
+is_of_parts (form.Abort role exception) = true
+is_of_parts (form.AbortTest role test value exception) = true
+is_of_parts (form.Body role) = true
+is_of_parts (form.Handler role exception) = true
+is_of_parts _ = false
+
+-- of an action as a whole
+abbrev pub is_of_action : Form → Bool
+is_of_action (form.Internal graph) = true
+is_of_action (form.Interface graph) = true
+is_of_action (form.Fault exception) = true
+is_of_action (form.Uses objects) = true
+is_of_action (form.Roles roles) = true
+is_of_action _ = false
+
+-- outside actions, or at the beginning or the end of one
+abbrev pub is_outside : Form → Bool
+is_outside f = not (goes_on f) && (not (is_of_parts f) && not (is_of_action f))
+
+-- ---- bodies and handlers
+
+-- the role with this body, or with one more handler
+abbrev pub with_program : RoleRow → Option ℕ → Program → RoleRow
+with_program role None program = record role { body = program }
+with_program role (Some exception) program = record role { handlers = role.handlers ++ record { exception = exception; program = program } ∷ [] }
+
+abbrev pub closed_if : SoFar → Option Opening → Verdict → SoFar
+closed_if s None verdict = s
+closed_if s (Some o) verdict = record s {
+  role_rows = slice_set s.role_rows o.role (with_program (slice_index_or s.role_rows o.role no_role) o.exception (record { steps = s.steps; verdict = verdict }));
+  opening = None;
+  steps = [];
+}
+
+-- the body or handler that is being declared, if any, has ended with this verdict
+abbrev pub closed : SoFar → Verdict → SoFar
+closed s verdict = closed_if s s.opening verdict
+
+abbrev pub settled_if : Bool → SoFar → SoFar
+settled_if true s = s
+settled_if false s = closed s verdict.Done
+
+-- what is declared when a line comes: one that is neither a step nor a verdict line ends a body or a handler without verdict line
+abbrev pub settled : SoFar → Form → SoFar
+settled s f = settled_if (goes_on f) s
+
+abbrev pub with_step : SoFar → Step → SoFar
+with_step s step = record s { steps = s.steps ++ step ∷ [] }
+
+abbrev pub with_opening : SoFar → ℕ → Option ℕ → SoFar
+with_opening s role exception = record s { opening = Some (record { role = role; exception = exception }); steps = [] }
+
+-- ---- roles and nested uses
+
+-- a role that does nothing
+abbrev pub idle_role : List (List ℕ) → ℕ → RoleRow
+idle_role names name = record { name = name_at names name; body = record { steps = []; verdict = verdict.Done }; handlers = []; abort = abort.Never }
+
+abbrev pub with_abort : SoFar → ℕ → AbortRow → SoFar
+with_abort s role row = record s { role_rows = slice_set s.role_rows (index_of role s.roles) (record (role_of s role) { abort = row }) }
+
+-- a nested use that carries `universal` out whatever happens
+abbrev pub plain_nest : List ℕ → ℕ → List ℕ → ℕ → NestRow
+plain_nest name action roles exceptions = record { name = name; actions = action ∷ []; roles = roles; maps = replicate exceptions 0; undo = 0; failure = 0 }
+
+-- the row of a nested use is another
+abbrev pub with_nest : SoFar → ℕ → NestRow → SoFar
+with_nest s nest row = record s { nest_rows = slice_set s.nest_rows (index_of nest s.nests) row }
+
+-- so is what was said of it
+abbrev pub with_nest_said : SoFar → ℕ → NestRow → NestSaid → SoFar
+with_nest_said s nest row said = record (with_nest s nest row) { nests_said = slice_set s.nests_said (index_of nest s.nests) said }
+
+-- ---- graphs and actions
+
+abbrev pub with_graph : SoFar → SoFar
+with_graph s = record s { block = block.Top; graphs = s.graphs ++ record { exceptions = s.exceptions; pairs = s.pairs } ∷ []; exceptions = []; pairs = [] }
+
+-- an action of which nothing is said yet but its name
+abbrev pub begun : SoFar → ℕ → SoFar
+begun s name = record s {
+  action_names = s.action_names ++ name ∷ [];
+  block = block.Action;
+  action_name = name;
+  internal = None;
+  interface = None;
+  fault = None;
+  uses = [];
+  roles = [];
+  role_rows = [];
+  bodies = [];
+  nests = [];
+  nest_rows = [];
+  nests_said = [];
+  opening = None;
+  steps = [];
+}
+
+-- the action that is being declared
+abbrev pub action_row : List (List ℕ) → SoFar → ActionRow
+action_row names s = record {
+  name = name_at names s.action_name;
+  internal = internal_graph s;
+  interface = interface_graph s;
+  fault = unwrap_or s.fault 0;
+  objects = s.uses;
+  roles = s.role_rows;
+  nests = s.nest_rows;
+}
+
+-- the sizes of one more action, by those of the actions before it
+abbrev pub with_depth : SoFar → ActionRow → SoFar
+with_depth s row = record s { depths = s.depths ++ counted (1 + deepest (at s.depths) row.nests) ∷ [] }
+
+abbrev pub with_places : SoFar → ActionRow → SoFar
+with_places s row = record s { places = s.places ++ counted (1 + nested_weight (at s.places) row.nests) ∷ [] }
+
+abbrev pub with_bound : SoFar → ActionRow → SoFar
+with_bound s row = record s { bounds = s.bounds ++ counted (action_bound row (length row.roles) + nested_weight (at s.bounds) row.nests) ∷ [] }
+
+abbrev pub with_action_row : SoFar → ActionRow → SoFar
+with_action_row s row = record s { block = block.Top; actions = s.actions ++ row ∷ [] }
+
+-- one more action, with its sizes
+abbrev pub with_action : SoFar → ActionRow → SoFar
+with_action s row = with_action_row (with_bound (with_places (with_depth s row) row) row) row
+
+-- what was said of it goes with it
+abbrev pub without_parts : SoFar → SoFar
+without_parts s = record s { uses = []; role_rows = []; nest_rows = [] }
+
+abbrev pub ended : List (List ℕ) → SoFar → Block → SoFar
+ended names s block.Top = s
+ended names s block.Graph = with_graph s
+ended names s block.Action = with_action (without_parts s) (action_row names s)
+
+-- ---- all lines
+
+abbrev pub with_said : List (List ℕ) → SoFar → Form → SoFar
+with_said names s (form.Participant name) = record s { participants = s.participants ++ name ∷ []; participant_rows = s.participant_rows ++ name_at names name ∷ [] }
+with_said names s (form.Object name value) = record s { objects = s.objects ++ name ∷ []; object_rows = s.object_rows ++ record { name = name_at names name; initial = value } ∷ [] }
+with_said names s (form.Drill object nth) = record s { drills = s.drills ++ record { object = index_of object s.objects; nth = nth } ∷ [] }
+with_said names s (form.Watch object) = record s { watches = s.watches ++ index_of object s.objects ∷ [] }
+with_said names s (form.Graph name) = record s { graph_names = s.graph_names ++ name ∷ []; block = block.Graph; exceptions = s.universal ∷ []; pairs = [] }
+with_said names s (form.Action name) = begun s name
+with_said names s (form.Play action who) = record s {
+  plays = s.plays ++ record { action = index_of action s.action_names; who = map (λ p. index_of p s.participants) who } ∷ [];
+  all_places = places_with s action;
+  whole_bound = bound_with s action;
+}
+with_said names s (form.Exception name) = record s { exceptions = s.exceptions ++ name ∷ [] }
+with_said names s (form.Cover upper lower) = record s { pairs = s.pairs ++ (index_of upper s.exceptions, index_of lower s.exceptions) ∷ [] }
+with_said names s form.End = ended names s s.block
+with_said names s (form.Internal graph) = record s { internal = Some (graph_number s graph) }
+with_said names s (form.Interface graph) = record s { interface = Some (graph_number s graph) }
+with_said names s (form.Fault exception) = record s { fault = Some (index_of exception (inner s)) }
+with_said names s (form.Uses objects) = record s { uses = chosen_from 0 objects s.objects }
+with_said names s (form.Roles roles) = record s { roles = roles; role_rows = map (idle_role names) roles }
+with_said names s (form.Nest nest action roles) = record s {
+  nests = s.nests ++ nest ∷ [];
+  nest_rows = s.nest_rows
+      ++ plain_nest (name_at names nest) (index_of action s.action_names) (map (λ r. index_of r s.roles) roles) (length (exceptions_at s.graphs (action_of s action).interface)) ∷ [];
+  nests_said = s.nests_said ++ nothing_said ∷ [];
+}
+with_said names s (form.Map nest lower upper) =
+    let number = index_of lower (face s nest) in
+    with_nest_said s nest (record (nest_of s nest) { maps = slice_set (nest_of s nest).maps number (index_of upper (inner s)) }) (record (said_of s nest) { mapped = (said_of s nest).mapped ++ number ∷ [] })
+with_said names s (form.MapUndo nest exception) =
+    with_nest_said s nest (record (nest_of s nest) { undo = index_of exception (inner s) }) (record (said_of s nest) { has_undo = true })
+with_said names s (form.MapFailure nest exception) =
+    with_nest_said s nest (record (nest_of s nest) { failure = index_of exception (inner s) }) (record (said_of s nest) { has_failure = true })
+with_said names s (form.Alternate nest action) =
+    with_nest s nest (record (nest_of s nest) { actions = (nest_of s nest).actions ++ index_of action s.action_names ∷ [] })
+with_said names s (form.Abort role exception) = with_abort s role (abort.Always (index_of exception (outer s)))
+with_said names s (form.AbortTest role test value exception) = with_abort s role (abort.Where test value (index_of exception (outer s)))
+with_said names s (form.Body role) = record (with_opening s (index_of role s.roles) None) { bodies = s.bodies ++ index_of role s.roles ∷ [] }
+with_said names s (form.Handler role exception) = with_opening s (index_of role s.roles) (Some (index_of exception (inner s)))
+with_said names s (form.ReadStep object) = with_step s (step.Read (index_of object s.objects))
+with_said names s (form.PutStep object value) = with_step s (step.Put (index_of object s.objects) value)
+with_said names s (form.AddStep object value) = with_step s (step.Add (index_of object s.objects) value)
+with_said names s (form.WorkStep rounds) = with_step s (step.Work rounds)
+with_said names s (form.CheckStep test value exception) = with_step s (step.Check test value (index_of exception (inner s)))
+with_said names s (form.RaiseStep exception) = with_step s (step.Raise (index_of exception (inner s)))
+with_said names s (form.EnterStep nest) = with_step s (step.Enter (index_of nest s.nests))
+with_said names s form.DoneLine = closed s verdict.Done
+with_said names s (form.SignalLine exception) = closed s (verdict.Signal (index_of exception (outer s)))
+with_said names s form.UndoLine = closed s verdict.Undo
+
+-- what is declared after the line
+abbrev pub after : List (List ℕ) → SoFar → Form → SoFar
+after names s f = with_said names (settled s f) f

@@ -1,0 +1,118 @@
+-- What a script comes to: its plan, or the first line that is refused.
+use Rattle.std.specs.Prelude.{◌≡◌, ℕ, ◌<◌, List, [], ◌∷◌, ◌++◌, map, length, slice_index_or, codes, Result, Ok, Err}
+use Rattle.cover_table.specs.Cover.{IsSound}
+use Rattle.exception_graph.specs.Chains.{IsOrderOf}
+use Rattle.place_plan.specs.declared.draft.Draft.{Draft}
+use Rattle.place_plan.specs.declared.rows.GraphRow.{GraphRow}
+use Rattle.place_plan.specs.PlanValue.{Plan}
+use Rattle.place_plan.specs.Unfolding.{plan_of}
+use Rattle.action_script.specs.declared.form.Form.{Form}
+use Rattle.action_script.specs.declared.script.Line.{Line}
+use Rattle.action_script.specs.ScriptValue.{Script}
+use Rattle.script_checker.specs.declared.error.CheckCause.{CheckCause}
+use Rattle.script_checker.specs.declared.error.CheckCause.TheVariants as cause
+use Rattle.script_checker.specs.declared.error.CheckError.{CheckError}
+use Rattle.script_checker.specs.declared.parts.DeclaredGraph.{DeclaredGraph}
+use Rattle.script_checker.specs.SoFar.{SoFar, nothing_yet}
+use Rattle.script_checker.specs.Causes.{HasCause}
+use Rattle.script_checker.specs.After.{settled, after}
+
+-- ---- one line
+
+-- the number of a cause
+abbrev pub number_of : CheckCause → ℕ
+number_of cause.Unknown = 10
+number_of cause.Twice = 11
+number_of (cause.Cycle at) = 12
+number_of (cause.NoLeast a b) = 13
+number_of cause.RoleUnfilled = 14
+number_of cause.RoleTwice = 15
+number_of cause.NestOrder = 16
+number_of cause.ObjectNotHeld = 17
+number_of cause.TooDeep = 18
+number_of cause.Limit = 19
+number_of cause.JournalBound = 20
+number_of cause.OutOfMemory = 21
+number_of cause.AlternateFace = 22
+
+-- by what is declared when the line comes, it has this cause, and none of a lesser number
+pub record IsLeast (s : SoFar) (form : Form) (least : CheckCause) : Type 0 where
+  pub has : HasCause s form least
+  pub lesser : (other : CheckCause) → number_of other < number_of least → ¬ (HasCause s form other)
+
+-- it has none
+abbrev pub HasNone : SoFar → Form → Type 0
+HasNone s form = (some : CheckCause) → ¬ (HasCause s form some)
+
+-- after lines that declare this, the line has this least cause
+abbrev pub IsLeastCause : SoFar → Form → CheckCause → Type 0
+IsLeastCause s form least = IsLeast (settled s form) form least
+
+-- after lines that declare this, the line has no cause
+abbrev pub IsAccepted : SoFar → Form → Type 0
+IsAccepted s form = HasNone (settled s form) form
+
+-- ---- all lines
+
+-- what some lines declare, after those that declare this
+abbrev pub declared_after : List (List ℕ) → SoFar → List Line → SoFar
+declared_after names s [] = s
+declared_after names s (line ∷ lines) = declared_after names (after names s line.form) lines
+
+-- none of some lines has a cause
+abbrev pub AreAccepted : List (List ℕ) → SoFar → List Line → Type 0
+AreAccepted names s [] = Unit {0}
+AreAccepted names s (line ∷ lines) = IsAccepted s line.form × AreAccepted names (after names s line.form) lines
+
+-- ---- the plan
+
+-- the name of an exception; a number that is no name's stands for `universal`
+abbrev pub exception_name : List (List ℕ) → ℕ → List ℕ
+exception_name names n = slice_index_or names n (codes "universal")
+
+-- the row has the names that are declared, and the order that the declared pairs make, which is sound
+pub record IsRowOf (names : List (List ℕ)) (graph : DeclaredGraph) (row : GraphRow) : Type 0 where
+  pub named : row.names ≡ map (exception_name names) graph.exceptions
+  pub order : IsOrderOf (length graph.exceptions) graph.pairs row.graph
+  pub sound : IsSound row.graph
+
+abbrev pub AreRowsOf : List (List ℕ) → List DeclaredGraph → List GraphRow → Type 0
+AreRowsOf names [] [] = Unit {0}
+AreRowsOf names [] (row ∷ rows) = ⊥
+AreRowsOf names (graph ∷ graphs) [] = ⊥
+AreRowsOf names (graph ∷ graphs) (row ∷ rows) = IsRowOf names graph row × AreRowsOf names graphs rows
+
+-- the draft has the parts that are declared
+pub record IsDraftOf (names : List (List ℕ)) (s : SoFar) (draft : Draft) : Type 0 where
+  pub participants : draft.participants ≡ s.participant_rows
+  pub objects : draft.objects ≡ s.object_rows
+  pub graphs : AreRowsOf names s.graphs draft.graphs
+  pub actions : draft.actions ≡ s.actions
+  pub plays : draft.plays ≡ s.plays
+  pub drills : draft.drills ≡ s.drills
+  pub watches : draft.watches ≡ s.watches
+
+-- no line of the script has a cause, and the plan is the unfolding of its draft
+pub record IsPlanOf (script : Script) (plan : Plan) : Type 0 where
+  pub accepted : AreAccepted script.names (nothing_yet script.names) script.lines
+  pub draft : Draft
+  pub declared : IsDraftOf script.names (declared_after script.names (nothing_yet script.names) script.lines) draft
+  pub unfolded : plan ≡ plan_of draft
+
+-- ---- the first line that is refused
+
+-- these lines before it have no cause, and this is its least one
+pub record IsFirstRefused (script : Script) (error : CheckError) : Type 0 where
+  pub before : List Line
+  pub line : Line
+  pub rest : List Line
+  pub place : script.lines ≡ before ++ line ∷ rest
+  pub accepted : AreAccepted script.names (nothing_yet script.names) before
+  pub number : error.line ≡ line.number
+  pub least : IsLeastCause (declared_after script.names (nothing_yet script.names) before) line.form error.cause
+
+-- the answer to a script; want of memory tells nothing of it
+pub data IsAnswer (script : Script) : Result Plan CheckError → Type 0 where
+  planned : {plan : Plan} → IsPlanOf script plan → IsAnswer script (Ok plan)
+  refused : {error : CheckError} → IsFirstRefused script error → IsAnswer script (Err error)
+  wanting : {error : CheckError} → error.cause ≡ cause.OutOfMemory → IsAnswer script (Err error)

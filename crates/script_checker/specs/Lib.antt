@@ -1,0 +1,10 @@
+pub mod After
+pub mod Blocks
+pub mod Causes
+pub mod Chosen
+pub mod Compiled
+pub mod Graphs
+pub mod Numbers
+pub mod Rows
+pub mod SoFar
+pub mod View

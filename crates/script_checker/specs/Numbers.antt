@@ -1,0 +1,17 @@
+-- Words on lists of numbers.
+use Rattle.std.specs.Prelude.{ℕ, ◌+◌, nat_lt, if◌then◌else◌, Bool, false, ◌||◌, List, [], ◌∷◌, length}
+use Rattle.caa_base.specs.Lists.{member, index_of}
+
+-- the name is among these
+abbrev pub is_among : List ℕ → ℕ → Bool
+is_among names name = nat_lt (index_of name names) (length names)
+
+-- a number stands twice in the list
+abbrev pub has_twice : List ℕ → Bool
+has_twice [] = false
+has_twice (x ∷ xs) = member x xs || has_twice xs
+
+-- the numbers of those names that are among some others, in the order of the former; `n` is the number of the first
+abbrev pub chosen_from : ℕ → List ℕ → List ℕ → List ℕ
+chosen_from n names [] = []
+chosen_from n names (x ∷ xs) = if member x names then n ∷ chosen_from (n + 1) names xs else chosen_from (n + 1) names xs

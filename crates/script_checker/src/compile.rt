@@ -1,0 +1,201 @@
+ghost use Rattle.std.specs.Prelude.{◌≡◌, ◌≢◌, ◌<◌, ◌^◌, length, OnOk, IfOk, IfErr, MatchOption};
+ghost use Rattle.place_plan.specs.Unfolding.{plan_of};
+ghost use Rattle.script_checker.specs.SoFar.{nothing_yet};
+ghost use Rattle.script_checker.specs.Causes.{HasCause, ends_graph};
+ghost use Rattle.script_checker.specs.After.{after};
+ghost use Rattle.script_checker.specs.Chosen.{name_cause, size_cause, part_cause};
+ghost use Rattle.script_checker.specs.Graphs.{Ends};
+ghost use Rattle.script_checker.specs.Compiled.{IsLeast, HasNone, IsLeastCause, IsAccepted, AreRowsOf, IsDraftOf, IsAnswer};
+ghost use Rattle.script_checker.specs.Rows.{AddsRow, parted};
+ghost use Rattle.script_checker.specs.View.{so_far};
+ghost use Rattle.script_checker.specs.declared.error.CheckCause.TheVariants as cause;
+
+use crate::adding::{add, settle};
+use crate::causes::{
+    enters_otherwise, fills_twice, has_other_face, is_not_held, is_past_bound, is_past_limit,
+    is_too_deep, is_twice, is_unfilled, is_unknown,
+};
+use crate::declared::Declared;
+use crate::error::{CheckCause, CheckError};
+use crate::graphs::{graph_of, row_of};
+use action_script::form::Form;
+use action_script::script::Script;
+use caa_base::entry::OutOfMemory;
+use caa_base::name::Name;
+use caa_base::rows::Rows;
+use exception_graph::Graph;
+use place_plan::draft::Draft;
+use place_plan::plan::Plan;
+use place_plan::rows::GraphRow;
+use std::alloc::Global;
+
+/// The first cause of a line that its names alone tell.
+fn name_cause(declared: &Declared, form: &Form) -> Option<CheckCause>
+    ensures { result ≡ name_cause (so_far declared.now) form.now }
+{
+    if is_unknown(declared, form) {
+        Some(CheckCause::Unknown)
+    } else if is_twice(declared, form) {
+        Some(CheckCause::Twice)
+    } else {
+        None
+    }
+}
+
+/// The first cause of a line that depths, limits and faces tell.
+fn size_cause(declared: &Declared, form: &Form) -> Option<CheckCause>
+    ensures { result ≡ size_cause (so_far declared.now) form.now }
+{
+    if is_too_deep(declared, form) {
+        Some(CheckCause::TooDeep)
+    } else if is_past_limit(declared, form) {
+        Some(CheckCause::Limit)
+    } else if is_past_bound(declared, form) {
+        Some(CheckCause::JournalBound)
+    } else if has_other_face(declared, form) {
+        Some(CheckCause::AlternateFace)
+    } else {
+        None
+    }
+}
+
+/// The first cause of a line that roles and objects tell, or those.
+fn part_cause(declared: &Declared, form: &Form) -> Option<CheckCause>
+    ensures { result ≡ part_cause (so_far declared.now) form.now }
+{
+    if is_unfilled(declared, form) {
+        Some(CheckCause::RoleUnfilled)
+    } else if fills_twice(form) {
+        Some(CheckCause::RoleTwice)
+    } else if enters_otherwise(declared, form) {
+        Some(CheckCause::NestOrder)
+    } else if is_not_held(declared, form) {
+        Some(CheckCause::ObjectNotHeld)
+    } else {
+        size_cause(declared, form)
+    }
+}
+
+/// The graph that a line without cause ends, if it ends one; or the least cause of the line.
+fn check(declared: &Declared, form: &Form) -> Result<Option<Graph>, CheckCause>
+    ensures graph { IfOk result (Ends (so_far declared.now) form.now) }
+    ensures accepted { OnOk result (HasNone (so_far declared.now) form.now) }
+    ensures refused { IfErr result (λ c. c ≢ cause.OutOfMemory → IsLeast (so_far declared.now) form.now c) }
+{
+    match name_cause(declared, form) {
+        Some(cause) => Err(cause),
+        None => match graph_of(declared, form) {
+            Ok(graph) => match part_cause(declared, form) {
+                Some(cause) => Err(cause),
+                None => Ok(graph),
+            },
+            Err(cause) => Err(cause),
+        },
+    }
+}
+
+/// Adds the row of the graph that has just been declared.
+fn add_row(
+    rows: &mut Vec<GraphRow>,
+    names: &[Name],
+    declared: &Declared,
+    graph: Graph,
+) -> Result<(), OutOfMemory>
+    ensures { OnOk result (AddsRow names.now declared.now.exceptions graph rows.old.items rows.new.items) }
+{
+    let row = row_of(declared.alloc, names, declared.exceptions.items(), graph)?;
+    rows.push(row)?;
+    Ok(())
+}
+
+/// Takes a line into what is declared, where it has no cause to be refused. After an error both are of no more use.
+fn take(
+    declared: &mut Declared,
+    rows: &mut Vec<GraphRow>,
+    names: &[Name],
+    form: &Form,
+) -> Result<(), CheckCause>
+    requires { AreRowsOf names.now (so_far declared.old).graphs rows.old.items }
+    ensures accepted { OnOk result (IsAccepted (so_far declared.old) form.now) }
+    ensures taken { OnOk result (so_far declared.new ≡ after names.now (so_far declared.old) form.now) }
+    ensures rows { OnOk result (AreRowsOf names.now (so_far declared.new).graphs rows.new.items) }
+    ensures refused { IfErr result (λ c. c ≢ cause.OutOfMemory → IsLeastCause (so_far declared.old) form.now c) }
+{
+    settle(declared, form)?;
+    let graph = check(declared, form)?;
+    match graph {
+        Some(graph) => add_row(rows, names, declared, graph)?,
+        None => {}
+    }
+    add(declared, names, form)?;
+    Ok(())
+}
+
+/// The draft of what a script declares.
+fn draft_of(declared: Declared, rows: Vec<GraphRow>) -> Draft
+    ensures { result ≡ parted (so_far declared) rows.items }
+{
+    Draft {
+        participants: Rows::from_vec(declared.participant_rows),
+        objects: Rows::from_vec(declared.object_rows),
+        graphs: Rows::from_vec(rows),
+        actions: Rows::from_vec(declared.actions),
+        plays: Rows::from_vec(declared.plays),
+        drills: Rows::from_vec(declared.drills),
+        watches: Rows::from_vec(declared.watches),
+    }
+}
+
+/// Want of memory, where no line is at fault.
+fn wanting() -> CheckError
+    ensures { result.cause ≡ cause.OutOfMemory }
+{
+    CheckError {
+        line: 0,
+        cause: CheckCause::OutOfMemory,
+    }
+}
+
+/// The row of the plain graph, which stands before all others.
+fn plain_rows(alloc: Global, names: &[Name]) -> Result<Vec<GraphRow>, OutOfMemory>
+    ensures { IfOk result (λ rows. AreRowsOf names.now (nothing_yet names.now).graphs rows.items) }
+{
+    let row = GraphRow::plain(alloc)?;
+    let mut rows = Vec::new(alloc);
+    rows.push(row)?;
+    Ok(rows)
+}
+
+/// The plan of a script, or the first line of it that is refused, with its least cause.
+///
+/// `OutOfMemory` comes where no memory is found, and tells nothing of the script. The script stays as it was.
+pub fn compile(alloc: Global, script: &Script) -> Result<Plan, CheckError>
+    ensures { IsAnswer script.now result }
+{
+    script.are_script();
+    let names = script.names();
+    let Ok(mut declared) = Declared::new(alloc, names) else {
+        return Err(wanting());
+    };
+    let Ok(mut rows) = plain_rows(alloc, names) else {
+        return Err(wanting());
+    };
+    for line in script.lines() {
+        match take(&mut declared, &mut rows, names, &line.form) {
+            Ok(()) => {}
+            Err(cause) => {
+                return Err(CheckError {
+                    line: line.number,
+                    cause,
+                });
+            }
+        }
+    }
+    match Plan::close(alloc, draft_of(declared, rows)) {
+        Ok(plan) => Ok(plan),
+        Err(_) => Err(wanting()),
+    }
+}
+
+#[cfg(test)]
+mod tests;

@@ -1,0 +1,144 @@
+ghost use Rattle.std.specs.Prelude.{◌≡◌, ◌≤◌, ◌<◌, ◌^◌, true, length, vec_len, codes, All, IfOk};
+ghost use Rattle.script_checker.specs.Blocks.{is_in_graph};
+ghost use Rattle.action_script.specs.Names.{number_in};
+ghost use Rattle.script_checker.specs.SoFar.{plain_graph};
+
+use crate::number_list::NumberList;
+use crate::parts::{Block, DeclaredGraph, NestSaid, Opening};
+use caa_base::entry::Drill;
+use caa_base::name::Name;
+use caa_base::rows::Rows;
+use place_plan::rows::{ActionRow, NestRow, ObjectRow, PlayRow, RoleRow, Step};
+use std::alloc::{AllocError, Global};
+
+/// What the lines of a script have declared so far, by the numbers of names.
+#[derive(Drop)]
+pub struct Declared {
+    pub alloc: Global,
+    /// The number of the name `universal`, or of no name.
+    pub universal: u32,
+    pub participants: NumberList,
+    pub objects: NumberList,
+    pub graph_names: NumberList,
+    pub action_names: NumberList,
+    pub participant_rows: Vec<Name>,
+    pub object_rows: Vec<ObjectRow>,
+    /// The plain graph, and the graphs that have ended.
+    pub graphs: Vec<DeclaredGraph>,
+    /// The actions that have ended.
+    pub actions: Vec<ActionRow>,
+    /// How deep each of them is.
+    pub depths: Vec<u64>,
+    /// How many places an instance of each comes to.
+    pub places: Vec<u64>,
+    /// How many entries these may have.
+    pub bounds: Vec<u64>,
+    pub plays: Vec<PlayRow>,
+    pub all_places: u64,
+    pub whole_bound: u64,
+    pub drills: Vec<Drill>,
+    pub watches: Vec<u32>,
+    pub block: Block,
+    /// The exceptions of the graph that is being declared.
+    pub exceptions: NumberList,
+    /// The pairs that it declares.
+    pub pairs: Vec<(u32, u32)>,
+    /// The name of the action that is being declared.
+    pub action_name: u32,
+    pub internal: Option<u32>,
+    pub interface: Option<u32>,
+    pub fault: Option<u32>,
+    pub uses: Vec<u32>,
+    pub roles: NumberList,
+    pub role_rows: Vec<RoleRow>,
+    /// Those of its roles that have a body.
+    pub bodies: Vec<u32>,
+    pub nests: NumberList,
+    pub nest_rows: Vec<NestRow>,
+    /// What was said of each of these.
+    pub nests_said: Vec<NestSaid>,
+    /// The body or handler that is being declared.
+    pub opening: Option<Opening>,
+    /// Its steps.
+    pub steps: Vec<Step>,
+    ghost few_roles: { vec_len role_rows ≤ 16 },
+    ghost few_exceptions: { length exceptions ≤ 128 },
+    ghost some_exceptions: { is_in_graph block ≡ true → 0 < length exceptions },
+    ghost pairs_known: { All (λ p. (p.0 < length exceptions) × (p.1 < length exceptions)) pairs.items },
+}
+
+/// The number of the name `universal` among these, or how many names there are.
+fn universal_in(names: &[Name]) -> usize
+    ensures number { result ≡ number_in names.now (codes "universal") }
+    ensures within { result ≤ length names.now }
+{
+    for (number, name) in names.iter().enumerate() {
+        if b"universal".as_slice() == name.bytes() {
+            return number;
+        }
+    }
+    names.len()
+}
+
+/// The plain graph, which has `universal` alone.
+fn plain_graph(alloc: Global, universal: u32) -> Result<DeclaredGraph, AllocError>
+    ensures { IfOk result (λ graph. graph ≡ plain_graph universal) }
+{
+    let mut exceptions = NumberList::new(alloc);
+    exceptions.push(universal)?;
+    Ok(DeclaredGraph {
+        exceptions,
+        pairs: Rows::from_vec(Vec::new(alloc)),
+    })
+}
+
+impl Declared {
+    ghost use Rattle.std.specs.Prelude.{◌≡◌, ◌<◌, ◌^◌, length, IfOk};
+    ghost use Rattle.script_checker.specs.SoFar.{nothing_yet};
+    ghost use Rattle.script_checker.specs.View.{so_far};
+
+    /// What is declared before the first line of a script of these names.
+    pub fn new(alloc: Global, names: &[Name]) -> Result<Declared, AllocError>
+        requires { length names.now < 2 ^ 32 }
+        ensures { IfOk result (λ declared. so_far declared ≡ nothing_yet names.now) }
+    {
+        let universal = universal_in(names) as u32;
+        let graphs = vec![in alloc; plain_graph(alloc, universal)?]?;
+        Ok(Declared {
+            alloc,
+            universal,
+            participants: NumberList::new(alloc),
+            objects: NumberList::new(alloc),
+            graph_names: NumberList::new(alloc),
+            action_names: NumberList::new(alloc),
+            participant_rows: Vec::new(alloc),
+            object_rows: Vec::new(alloc),
+            graphs,
+            actions: Vec::new(alloc),
+            depths: Vec::new(alloc),
+            places: Vec::new(alloc),
+            bounds: Vec::new(alloc),
+            plays: Vec::new(alloc),
+            all_places: 0,
+            whole_bound: 0,
+            drills: Vec::new(alloc),
+            watches: Vec::new(alloc),
+            block: Block::Top,
+            exceptions: NumberList::new(alloc),
+            pairs: Vec::new(alloc),
+            action_name: 0,
+            internal: None,
+            interface: None,
+            fault: None,
+            uses: Vec::new(alloc),
+            roles: NumberList::new(alloc),
+            role_rows: Vec::new(alloc),
+            bodies: Vec::new(alloc),
+            nests: NumberList::new(alloc),
+            nest_rows: Vec::new(alloc),
+            nests_said: Vec::new(alloc),
+            opening: None,
+            steps: Vec::new(alloc),
+        })
+    }
+}

@@ -1,0 +1,12 @@
+//! The checks of a script, and the plan that it comes to.
+#![tactic(auto)]
+
+mod adding;
+mod causes;
+pub mod compile;
+mod declared;
+pub mod error;
+mod graphs;
+mod lookups;
+mod number_list;
+mod parts;

@@ -1,0 +1,189 @@
+//! What the names of a line mean where it stands.
+
+ghost use Rattle.std.specs.Prelude.{◌≡◌, length, map, slice_index_or, IfOk};
+ghost use Rattle.std.specs.List.{list_all};
+ghost use Rattle.caa_base.specs.Lists.{member, index_of};
+ghost use Rattle.place_plan.specs.Places.{no_action};
+ghost use Rattle.script_checker.specs.Numbers.{is_among, has_twice, chosen_from};
+ghost use Rattle.script_checker.specs.SoFar.{no_graph, exceptions_at, inner, outer, action_of, nest_of, face_of, face, role_of};
+ghost use Rattle.script_checker.specs.View.{so_far};
+
+use crate::declared::Declared;
+use crate::number_list::NumberList;
+use std::alloc::{AllocError, Global};
+
+/// Whether a number is in a list.
+pub(crate) fn is_member(number: u32, list: &[u32]) -> bool
+    ensures { result ≡ member number list.now }
+{
+    list.iter().any(|item| *item == number)
+}
+
+/// Whether each of some names is among those.
+pub(crate) fn are_among(names: &NumberList, some: &[u32]) -> bool
+    ensures { result ≡ list_all (is_among names.now) some.now }
+{
+    some.iter().all(|name| names.contains(*name))
+}
+
+/// Whether each of some numbers is in a list.
+pub(crate) fn are_members(numbers: &[u32], list: &[u32]) -> bool
+    ensures { result ≡ list_all (λ o. member o list.now) numbers.now }
+{
+    numbers.iter().all(|number| is_member(*number, list))
+}
+
+/// Whether a number stands twice in a list.
+pub(crate) fn has_twice(list: &[u32]) -> bool
+    ensures { result ≡ has_twice list.now }
+{
+    for (index, number) in list.iter().enumerate() {
+        if is_member(*number, &list[index + 1..]) {
+            return true;
+        }
+    }
+    false
+}
+
+/// The numbers of some names among those.
+pub(crate) fn places_of(
+    alloc: Global,
+    names: &NumberList,
+    some: &[u32],
+) -> Result<Vec<u32>, AllocError>
+    ensures { IfOk result (λ places. places.items ≡ map (λ n. index_of n names.now) some.now) }
+{
+    some.iter().map(|name| names.find(*name)).collect(alloc)
+}
+
+// ---- exceptions
+
+/// Where an exception stands in a graph.
+pub(crate) fn exception_in(declared: &Declared, graph: u32, name: u32) -> u32
+    ensures { result ≡ index_of name (exceptions_at declared.now.graphs.items graph) }
+{
+    match declared.graphs.as_slice().get(graph as usize) {
+        Some(graph) => graph.exceptions.find(name),
+        None => 0,
+    }
+}
+
+/// Whether a graph has an exception of this name.
+pub(crate) fn has_exception(declared: &Declared, graph: u32, name: u32) -> bool
+    ensures { result ≡ is_among (exceptions_at declared.now.graphs.items graph) name }
+{
+    match declared.graphs.as_slice().get(graph as usize) {
+        Some(graph) => graph.exceptions.contains(name),
+        None => false,
+    }
+}
+
+/// How many exceptions a graph has.
+pub(crate) fn count_exceptions(declared: &Declared, graph: u32) -> u32
+    ensures { result ≡ length (exceptions_at declared.now.graphs.items graph) }
+{
+    match declared.graphs.as_slice().get(graph as usize) {
+        Some(graph) => graph.exceptions.len(),
+        None => 0,
+    }
+}
+
+/// The number of an exception that may be raised in the action.
+pub(crate) fn inner_number(declared: &Declared, name: u32) -> u32
+    ensures { result ≡ index_of name (inner (so_far declared.now)) }
+{
+    exception_in(declared, declared.internal.unwrap_or(0), name)
+}
+
+/// Whether an exception may be raised in the action.
+pub(crate) fn is_inner(declared: &Declared, name: u32) -> bool
+    ensures { result ≡ is_among (inner (so_far declared.now)) name }
+{
+    has_exception(declared, declared.internal.unwrap_or(0), name)
+}
+
+/// The number of an exception that the action may tell outside.
+pub(crate) fn outer_number(declared: &Declared, name: u32) -> u32
+    ensures { result ≡ index_of name (outer (so_far declared.now)) }
+{
+    exception_in(declared, declared.interface.unwrap_or(0), name)
+}
+
+/// Whether the action may tell an exception outside.
+pub(crate) fn is_outer(declared: &Declared, name: u32) -> bool
+    ensures { result ≡ is_among (outer (so_far declared.now)) name }
+{
+    has_exception(declared, declared.interface.unwrap_or(0), name)
+}
+
+// ---- actions and nested uses
+
+/// The interface graph of an action.
+pub(crate) fn interface_at(declared: &Declared, action: u32) -> u32
+    ensures { result ≡ (slice_index_or declared.now.actions.items action no_action).interface }
+{
+    match declared.actions.as_slice().get(action as usize) {
+        Some(row) => row.interface,
+        None => 0,
+    }
+}
+
+/// How many roles an action has.
+pub(crate) fn count_roles(declared: &Declared, action: u32) -> usize
+    ensures { result ≡ length (slice_index_or declared.now.actions.items action no_action).roles }
+{
+    match declared.actions.as_slice().get(action as usize) {
+        Some(row) => row.roles.len(),
+        None => 0,
+    }
+}
+
+/// The first of these actions.
+fn first_of(actions: &[u32]) -> u32
+    ensures { result ≡ slice_index_or actions.now 0 0 }
+{
+    match actions.first() {
+        Some(action) => *action,
+        None => 0,
+    }
+}
+
+/// The first action of a nested use.
+fn first_action(declared: &Declared, nest: u32) -> u32
+    ensures { result ≡ slice_index_or (nest_of (so_far declared.now) nest).actions 0 0 }
+{
+    match declared
+        .nest_rows
+        .as_slice()
+        .get(declared.nests.find(nest) as usize)
+    {
+        Some(row) => first_of(row.actions.as_slice()),
+        None => 0,
+    }
+}
+
+/// The graph of the exceptions that the actions of a nested use tell outside.
+pub(crate) fn face_of(declared: &Declared, nest: u32) -> u32
+    ensures { result ≡ face_of (so_far declared.now) nest }
+{
+    interface_at(declared, first_action(declared, nest))
+}
+
+/// The numbers of those names that are among some others, in order.
+pub(crate) fn chosen(
+    alloc: Global,
+    some: &[u32],
+    names: &NumberList,
+) -> Result<Vec<u32>, AllocError>
+    ensures { IfOk result (λ numbers. numbers.items ≡ chosen_from 0 some.now names.now) }
+{
+    let mut numbers = Vec::new(alloc);
+    let items = names.items();
+    let count = names.len();
+    for number in 0..count {
+        if is_member(items[number as usize], some) {
+            numbers.push(number)?;
+        }
+    }
+    Ok(numbers)
+}
