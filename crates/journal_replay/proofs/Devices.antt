@@ -148,11 +148,13 @@ module _ (plan : Plan) (journal : List Entry) (e : Entry) (law : DeviceLaw plan 
     -- the count of faults
     counted_after : (base count count' : ℕ) (b : Bool) → is_fault e ≡ b → CountsFault b count count' → (base ≤ count) → IsCounted base count journal → (base ≤ count') × IsCounted base count' (journal ++ e ∷ [])
     counted_after base count count' true f c begun counted =
-        let grown = counted_up-grows count count' c in
-        (omega arith, λ below.
-          let exact = counted_up-exact count count' c below in
-          let former = counted (omega arith) in
-          omega (arith, count_passed is_fault journal e f, exact, former))
+        let grown = counted_up-grows count count' c in (
+          omega arith,
+          λ below.
+              let exact = counted_up-exact count count' c below in
+              let former = counted (omega arith) in
+              omega (arith, count_passed is_fault journal e f, exact, former),
+        )
     counted_after base count count' false f c begun counted =
         (omega arith, λ below. c ∙ counted (omega arith) ∙ ap (λ n. base + n) (sym (count_failed is_fault journal e f)))
 

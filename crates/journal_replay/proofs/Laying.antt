@@ -63,6 +63,6 @@ pub laid_fits_ok : {E : Type 0} (plan : Plan) (result : Result (Unit {0}) E) (va
 laid_fits_ok plan (Err e) values drills puts faults former drilling device v d p f calls room objects state told = tt
 laid_fits_ok plan (Ok u) values drills puts faults former drilling device v d p f calls room objects state told =
     laid_fits plan faults former drilling device f calls (room ∙ p)
-      (subst (λ (l : List ℤ). device.objects ≡ length l) v objects)
-      (subst (λ (l : List ℤ). device.state ≡ after_lay former l) v state)
-      (subst (λ (l : List Drill). device.drilling ≡ after_drills drilling l (length (initials plan))) d (subst (λ (l : List ℤ). device.drilling ≡ after_drills drilling drills (length l)) v told))
+    (subst (λ (l : List ℤ). device.objects ≡ length l) v objects)
+    (subst (λ (l : List ℤ). device.state ≡ after_lay former l) v state)
+    (subst (λ (l : List Drill). device.drilling ≡ after_drills drilling l (length (initials plan))) d (subst (λ (l : List ℤ). device.drilling ≡ after_drills drilling drills (length l)) v told))

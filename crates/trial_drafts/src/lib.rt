@@ -70,7 +70,13 @@ pub fn program(alloc: Global, steps: &[Step], verdict: Verdict) -> Result<Progra
 }
 
 /// A role with this body, these handlers and this abort.
-pub fn role(alloc: Global, name: &[u8], body: Program, handlers: Vec<HandlerRow>, abort: AbortRow) -> Result<RoleRow, TrialError>
+pub fn role(
+    alloc: Global,
+    name: &[u8],
+    body: Program,
+    handlers: Vec<HandlerRow>,
+    abort: AbortRow,
+) -> Result<RoleRow, TrialError>
     ensures { IfOk result (λ role. role ≡ record { name = name.now; body = body; handlers = handlers.items; abort = abort }) }
 {
     Ok(RoleRow {
@@ -149,8 +155,13 @@ pub struct Maps<'a> {
 }
 
 /// A nested use of these actions by these roles of the enclosing action.
-pub fn nest(alloc: Global, name: &[u8], actions: &[u32], roles: &[u32], maps: Maps) -> Result<NestRow, TrialError>
-{
+pub fn nest(
+    alloc: Global,
+    name: &[u8],
+    actions: &[u32],
+    roles: &[u32],
+    maps: Maps,
+) -> Result<NestRow, TrialError> {
     Ok(NestRow {
         name: Name::from_bytes(alloc, name)?,
         actions: numbers(alloc, actions)?,
