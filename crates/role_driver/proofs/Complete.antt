@@ -12,7 +12,7 @@ use Rattle.action_manager.specs.Managers.{plan_in, IsSeatIn}
 use Rattle.caa_base.specs.declared.entry.Entry.{Entry}
 use Rattle.caa_base.specs.declared.entry.Kind.TheVariants as kind
 use Rattle.place_plan.specs.PlanValue.{Plan}
-use Rattle.place_plan.specs.Words.{last_of}
+use Rattle.caa_base.specs.Lists.{last_of}
 use Rattle.place_plan.specs.Places.{plays_of}
 use Rattle.place_plan.specs.Entries.{is_by}
 use Rattle.place_plan.specs.Roles.{is_over, is_over_after}
