@@ -77,7 +77,7 @@ over_in base_of manager journal t (s ∷ seats) done accounts there =
 
 pub all_over : {M : Type 0} (base_of : M → ℕ) (manager : Manager M) (journal : List Entry) (seats : List (Seat M)) → All (IsDone base_of manager) seats → All (Accounts journal) seats
     → HaveAll (length (plan_in manager).participants) seats → IsComplete (plan_in manager) journal
-all_over table plan base journal seats done accounts all = λ t low. over_in base_of manager journal t seats done accounts (all t low)
+all_over base_of manager journal seats done accounts all = λ t low. over_in base_of manager journal t seats done accounts (all t low)
 
 -- an element was taken off the front of one list, and stands changed at the end of the other
 pub moved_on : {X Y : Type 0} (f : X → ℕ) (g : Y → ℕ) (xs ys : List X) (zs zs' : List Y) (s : X) (r : Y) → zs' ≡ zs ++ r ∷ [] → xs ≡ s ∷ ys → g r ≡ f s → map g zs' ++ map f ys ≡ map g zs ++ map f xs
