@@ -107,14 +107,14 @@ impl Script {
     }
 
     /// All lines, in order.
-    pub(crate) fn lines(&self) -> &[Line]
+    pub fn lines(&self) -> &[Line]
         ensures { result.now ≡ self.now.lines }
     {
         self.lines.as_slice()
     }
 
     /// All names, in order.
-    pub(crate) fn names(&self) -> &[Name]
+    pub fn names(&self) -> &[Name]
         ensures { result.now ≡ self.now.names }
     {
         self.names.as_slice()
