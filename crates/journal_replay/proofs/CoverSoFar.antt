@@ -5,7 +5,7 @@ use Rattle.std.proofs.lemmas.List.Elements.{All-head}
 use Rattle.cover_table.specs.Cover.{IsLeastCover}
 use Rattle.caa_base.specs.declared.entry.Entry.{Entry}
 use Rattle.place_plan.specs.PlanValue.{Plan}
-use Rattle.place_plan.specs.Places.{internal_of, interface_of, roles_of}
+use Rattle.place_plan.specs.Places.{internal_of, interface_of}
 use Rattle.place_plan.specs.Raising.{raises_in, exceptions_raised, exception_resolved, all_are_halted}
 use Rattle.place_plan.specs.Roles.{signals, signal_in, verdict_of}
 use Rattle.place_plan.specs.Journals.{LegalPast}
@@ -38,7 +38,7 @@ module _ (plan : Plan) (playable : IsPlayable plan) (es : List Entry) (legal : L
   pub cover_with : (x m : ℕ) (cover : Option ℕ) → x ∷ [] ≡ raises_in plan (reverse (take i es)) p (get_or es i d) (get_or es i d).kind → IsCoverOf (internal_of plan p) (exceptions_raised plan (reverse (take i es)) p) cover → IsLeastCover (internal_of plan p) (x ∷ listed cover) m → IsCoverOf (internal_of plan p) (exceptions_raised plan (reverse (take (i + 1) es)) p) (Some m)
   cover_with x m cover h former least =
       subst (λ (xs : List ℕ). IsCoverOf (internal_of plan p) xs (Some m)) (sym (with_raise x h))
-        (refl, joined_more (internal_of plan p) (playable.sound p).0 x m cover (exceptions_raised plan (reverse (take i es)) p) (raised_in_range plan playable (reverse (take i es)) (legal_front plan es i legal) p) former least)
+      (refl, joined_more (internal_of plan p) (playable.sound p).0 x m cover (exceptions_raised plan (reverse (take i es)) p) (raised_in_range plan playable (reverse (take i es)) (legal_front plan es i legal) p) former least)
 
   pub cover_without : (cover : Option ℕ) → [] ≡ raises_in plan (reverse (take i es)) p (get_or es i d) (get_or es i d).kind → IsCoverOf (internal_of plan p) (exceptions_raised plan (reverse (take i es)) p) cover → IsCoverOf (internal_of plan p) (exceptions_raised plan (reverse (take (i + 1) es)) p) cover
   cover_without cover h former =
@@ -55,7 +55,7 @@ module _ (plan : Plan) (playable : IsPlayable plan) (past : List Entry) (legal :
   pub signal_with : (t x m : ℕ) (ts : List ℕ) (cover : Option ℕ) → x ∷ [] ≡ signal_in (verdict_of past p t) → IsCoverOf (interface_of plan p) (signals past p ts) cover → IsLeastCover (interface_of plan p) (x ∷ listed cover) m → IsCoverOf (interface_of plan p) (signals past p (t ∷ ts)) (Some m)
   signal_with t x m ts cover h former least =
       subst (λ (xs : List ℕ). IsCoverOf (interface_of plan p) (xs ++ signals past p ts) (Some m)) h
-        (refl, joined_more (interface_of plan p) (playable.sound p).2 x m cover (signals past p ts) (signals_fit ts) former least)
+      (refl, joined_more (interface_of plan p) (playable.sound p).2 x m cover (signals past p ts) (signals_fit ts) former least)
 
   -- one more role, which signals nothing
   pub signal_without : (t : ℕ) (ts : List ℕ) (cover : Option ℕ) → [] ≡ signal_in (verdict_of past p t) → IsCoverOf (interface_of plan p) (signals past p ts) cover → IsCoverOf (interface_of plan p) (signals past p (t ∷ ts)) cover

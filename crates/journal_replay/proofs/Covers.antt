@@ -1,6 +1,6 @@
 -- The least cover of a list, by joining its numbers one after another.
-use Rattle.std.proofs.Common.{◌≡◌, ℕ, ◌<◌, Bool, true, ◌&&◌, List, [], ◌∷◌, Option, Some, None, refl, subst, sym}
-use Rattle.std.specs.List.{list_all, All}
+use Rattle.std.proofs.Common.{◌≡◌, ℕ, ◌<◌, true, ◌&&◌, List, [], ◌∷◌, Option, Some, None, refl, subst, sym}
+use Rattle.std.specs.List.{All}
 use Rattle.std.proofs.lemmas.Bool.{and_parts, and_from}
 use Rattle.std.proofs.lemmas.List.Elements.{All-head, All-tail}
 use Rattle.cover_table.specs.Cover.{CoverOrder, covers, covers_each, IsLeastCover, IsSound}
@@ -13,8 +13,8 @@ module _ (order : CoverOrder) (sound : IsSound order) where
   covers_on m c (x ∷ xs) m_in c_in fit over each =
       let parts = and_parts (covers order c x) (covers_each order c xs) each in
       and_from (covers order m x) (covers_each order m xs)
-        (sound.is_order.transitive m c x m_in c_in (All-head (λ x. x < order.count) x xs fit) over parts.0)
-        (covers_on m c xs m_in c_in (All-tail (λ x. x < order.count) x xs fit) over parts.1)
+      (sound.is_order.transitive m c x m_in c_in (All-head (λ x. x < order.count) x xs fit) over parts.0)
+      (covers_on m c xs m_in c_in (All-tail (λ x. x < order.count) x xs fit) over parts.1)
 
   -- the least cover of a number and of the least cover of others is that of them all
   least_more : (x c m : ℕ) (xs : List ℕ) → All (λ x. x < order.count) xs → IsLeastCover order xs c → IsLeastCover order (x ∷ c ∷ []) m → IsLeastCover order (x ∷ xs) m

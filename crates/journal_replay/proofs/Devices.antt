@@ -1,11 +1,11 @@
 -- The device behind a hall, after one more entry.
-use Rattle.std.proofs.Common.{◌≡◌, ◌≢◌, ◌∙◌, ◌⊎◌, ℕ, ℤ, pos, ◌+◌, ◌-◌, ◌^◌, ◌<◌, ◌≤◌, ◌==◌, zero, suc, Bool, true, false, cond, not, ◌||◌, ◌&&◌, List, [], ◌∷◌, ◌++◌, length, filter, reverse, slice_get, slice_index, slice_index_or, slice_set, Option, Some, None, refl, ap, sym, subst, inl, inr, arith, length-append, get_or, get_or-set_other}
+use Rattle.std.proofs.Common.{◌≡◌, ◌≢◌, ◌∙◌, ◌⊎◌, ℕ, pos, ◌+◌, ◌<◌, ◌≤◌, ◌==◌, zero, suc, Bool, true, false, cond, not, ◌||◌, ◌&&◌, List, [], ◌∷◌, ◌++◌, length, filter, reverse, slice_get, slice_set, Option, Some, None, refl, ap, sym, subst, inl, inr, arith, length-append, get_or-set_other}
 use Rattle.std.proofs.lemmas.List.{reverse-append}
 use Rattle.std.proofs.Math.ListN.{length-set}
 use Rattle.std.proofs.lemmas.Grind.{get_or-set_at}
 use Rattle.std.proofs.lemmas.List.Elements.{filter-append}
 use Rattle.std.proofs.lemmas.Bool.{false≢true, cases_Bool, eqb-true, eq-eqb}
-use Rattle.caa_base.specs.Counts.{counted_up, CountsFault}
+use Rattle.caa_base.specs.Counts.{CountsFault}
 use Rattle.caa_base.specs.PlantState.{PlantState, Drilling, after_put, after_try, is_drilled, has_drill, next_try}
 use Rattle.caa_base.specs.declared.entry.Entry.{Entry}
 use Rattle.caa_base.specs.declared.entry.Kind.TheVariants as kind
@@ -13,10 +13,10 @@ use Rattle.caa_base.proofs.Counting.{counted_up-exact, counted_up-grows}
 use Rattle.place_plan.specs.PlanValue.{Plan}
 use Rattle.place_plan.specs.Entries.{is_of}
 use Rattle.place_plan.specs.Objects.{value_of}
-use Rattle.place_plan.specs.Journals.{is_put, is_fault, faults_in, puts_of, object_and_value}
+use Rattle.place_plan.specs.Journals.{is_put, is_fault, puts_of, object_and_value}
 use Rattle.place_plan.specs.Attempts.{is_attempt, attempts_on, IsDrilled}
 use Rattle.journal_laws.specs.Laws.{DeviceLaw, last_put}
-use Rattle.journal_replay.specs.Device.{has_asked, attempts_in, HasValues, HasDrills, Device, IsCounted, FitsJournal}
+use Rattle.journal_replay.specs.Device.{has_asked, HasValues, HasDrills, Device, IsCounted, FitsJournal}
 
 -- ---- lists with one more at the end
 
@@ -148,11 +148,13 @@ module _ (plan : Plan) (journal : List Entry) (e : Entry) (law : DeviceLaw plan 
     -- the count of faults
     counted_after : (base count count' : ℕ) (b : Bool) → is_fault e ≡ b → CountsFault b count count' → (base ≤ count) → IsCounted base count journal → (base ≤ count') × IsCounted base count' (journal ++ e ∷ [])
     counted_after base count count' true f c begun counted =
-        let grown = counted_up-grows count count' c in
-        (omega arith, λ below.
-          let exact = counted_up-exact count count' c below in
-          let former = counted (omega arith) in
-          omega (arith, count_passed is_fault journal e f, exact, former))
+        let grown = counted_up-grows count count' c in (
+          omega arith,
+          λ below.
+              let exact = counted_up-exact count count' c below in
+              let former = counted (omega arith) in
+              omega (arith, count_passed is_fault journal e f, exact, former),
+        )
     counted_after base count count' false f c begun counted =
         (omega arith, λ below. c ∙ counted (omega arith) ∙ ap (λ n. base + n) (sym (count_failed is_fault journal e f)))
 

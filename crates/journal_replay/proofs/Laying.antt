@@ -1,5 +1,5 @@
 -- The device behind a hall, once it is laid out.
-use Rattle.std.proofs.Common.{◌≡◌, ◌∙◌, ℕ, ℤ, pos, ◌+◌, ◌<◌, List, [], ◌∷◌, ◌++◌, length, map, take, replicate, slice_get, slice_index, slice_index_or, Option, Some, None, Result, Ok, Err, OnOk, refl, ap, sym, subst, arith}
+use Rattle.std.proofs.Common.{◌≡◌, ◌∙◌, ℕ, ℤ, pos, ◌+◌, ◌<◌, List, [], ◌∷◌, ◌++◌, length, map, take, Option, Some, None, Result, Ok, Err, OnOk, refl, ap, sym, subst, arith}
 use Rattle.std.proofs.Math.ListN.{get_or-map}
 use Rattle.std.proofs.lemmas.List.{length-map, length-replicate, get_or-replicate, take_more}
 use Rattle.caa_base.specs.PlantState.{PlantState, Drilling, after_lay, after_drills}
@@ -63,6 +63,6 @@ pub laid_fits_ok : {E : Type 0} (plan : Plan) (result : Result (Unit {0}) E) (va
 laid_fits_ok plan (Err e) values drills puts faults former drilling device v d p f calls room objects state told = tt
 laid_fits_ok plan (Ok u) values drills puts faults former drilling device v d p f calls room objects state told =
     laid_fits plan faults former drilling device f calls (room ∙ p)
-      (subst (λ (l : List ℤ). device.objects ≡ length l) v objects)
-      (subst (λ (l : List ℤ). device.state ≡ after_lay former l) v state)
-      (subst (λ (l : List Drill). device.drilling ≡ after_drills drilling l (length (initials plan))) d (subst (λ (l : List ℤ). device.drilling ≡ after_drills drilling drills (length l)) v told))
+    (subst (λ (l : List ℤ). device.objects ≡ length l) v objects)
+    (subst (λ (l : List ℤ). device.state ≡ after_lay former l) v state)
+    (subst (λ (l : List Drill). device.drilling ≡ after_drills drilling l (length (initials plan))) d (subst (λ (l : List ℤ). device.drilling ≡ after_drills drilling drills (length l)) v told))

@@ -1,6 +1,5 @@
 -- What the next step names is in range.
-use Rattle.std.proofs.Common.{◌≡◌, ◌∙◌, ℕ, ℤ, pos, negsuc, ◌≤ℤ◌, ◌<◌, ◌==◌, ◌+ℤ◌, Bool, true, false, cond, ◌&&◌, List, [], ◌∷◌, length, Option, Some, refl, sym, subst, arith}
-use Rattle.std.specs.List.{All}
+use Rattle.std.proofs.Common.{◌≡◌, ℕ, ℤ, pos, ◌<◌, ◌==◌, Bool, true, false, cond, ◌&&◌, List, [], ◌∷◌, length, Some, refl, sym, arith}
 use Rattle.std.proofs.lemmas.Int.{ints}
 use Rattle.std.proofs.lemmas.Bool.{and_parts, ltb-true, false≢true}
 use Rattle.std.proofs.lemmas.List.Elements.{All-head, All-tail}
@@ -9,7 +8,7 @@ use Rattle.caa_base.specs.declared.entry.Kind.{Kind}
 use Rattle.caa_base.specs.declared.entry.Kind.TheVariants as kind
 use Rattle.place_plan.specs.declared.rows.Step.TheVariants as step
 use Rattle.place_plan.specs.PlanValue.{Plan}
-use Rattle.place_plan.specs.Places.{objects_of, uses}
+use Rattle.place_plan.specs.Places.{objects_of}
 use Rattle.place_plan.specs.Entries.{is_by}
 use Rattle.place_plan.specs.Objects.{next_restore, is_tried}
 use Rattle.place_plan.specs.Roles.{register, gives_value, next_step}

@@ -1,5 +1,5 @@
 -- The piece of work that is next for a participant, or that none is.
-use Rattle.std.proofs.Common.{◌≡◌, ◌∙◌, ℕ, ℤ, true, List, Option, Some, None, refl, ap, sym, subst}
+use Rattle.std.proofs.Common.{◌≡◌, ℕ, ℤ, true, List, Option, Some, None, refl, ap, sym, subst}
 use Rattle.caa_base.specs.Mixing.{mix}
 use Rattle.caa_base.specs.declared.entry.Entry.{Entry}
 use Rattle.caa_base.specs.declared.entry.Kind.TheVariants as kind
@@ -40,8 +40,8 @@ module _ (plan : Plan) (past : List Entry) (t : ℕ) where
       let there : inside plan past t ≡ Some e.place = subst (λ a. inside plan past a ≡ Some e.place) own r.here in
       let same : e.place ≡ p = cc in
       idle e.arg
-        (subst (λ a. is_able plan past a t ≡ true) same (subst (λ a. is_able plan past e.place a ≡ true) own r.can))
-        (ap rounds_of (subst (λ a. next_step plan past a t ≡ Some (step.Work e.arg)) same (subst (λ a. next_step plan past e.place a ≡ Some (step.Work e.arg)) own r.works)))
+      (subst (λ a. is_able plan past a t ≡ true) same (subst (λ a. is_able plan past e.place a ≡ true) own r.can))
+      (ap rounds_of (subst (λ a. next_step plan past a t ≡ Some (step.Work e.arg)) same (subst (λ a. next_step plan past e.place a ≡ Some (step.Work e.arg)) own r.works)))
 
   -- who is able and whose next step is work may make its entry
   pub works : (p rounds : ℕ) (from : ℤ) → Some p ≡ inside plan past t → is_able plan past p t ≡ true → Some rounds ≡ rounds_of (next_step plan past p t) → from ≡ register plan past p t → MayFollow plan past (work_entry p t rounds from)

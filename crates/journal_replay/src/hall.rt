@@ -58,7 +58,7 @@ impl From<PlantError> for OpenCause {
 #[derive(Debug, Drop)]
 pub struct OpenError<P> {
     pub cause: OpenCause,
-    /// The plant. Where it wasn't found fit, nothing is said of its values.
+    /// The plant that was handed in. Nothing is said of its values once it was asked to be laid out.
     pub plant: P,
 }
 

@@ -4,8 +4,8 @@
 pub mod answer;
 pub mod audit;
 pub mod hall;
-pub mod rule;
 mod look_back;
+pub mod rule;
 #[cfg(test)]
 mod tests;
 mod work_due;

@@ -13,10 +13,12 @@ ghost use Rattle.journal_replay.specs.IsDue.{IsDue};
 
 use crate::answer::Due;
 use crate::look_back::entries::{has, has_by, newest_by, newest_in};
-use crate::look_back::objects::{has_failed, holds, next_restore, objects_are_ready, value_at_start};
+use crate::look_back::objects::{
+    has_failed, holds, next_restore, objects_are_ready, value_at_start,
+};
 use crate::look_back::places::{
-    all_are_inside, has_ended, has_started, inside, is_left_in_silence, is_over, is_undoing, next_play,
-    place_entered,
+    all_are_inside, has_ended, has_started, inside, is_left_in_silence, is_over, is_undoing,
+    next_play, place_entered,
 };
 use crate::look_back::raising::{
     all_are_halted, exception_resolved, has_handled, is_doomed, is_halted, is_raised, least_raised,
@@ -30,9 +32,9 @@ use caa_base::entry::{Entry, Exception, Kind, Object, Participant, Place, Verdic
 use caa_base::journal::Journal;
 use caa_base::limits::MOST_VALUE;
 use caa_base::work::WorkDone;
+use journal_laws::{due_is_right, is_well_formed};
 use place_plan::plan::Plan;
 use place_plan::rows::{AbortRow, Step};
-use journal_laws::{due_is_right, is_well_formed};
 use place_plan::value::value_at;
 
 // ---- what an entry says
@@ -155,11 +157,19 @@ fn abort_of(row: &AbortRow, register: i64) -> Option<Exception>
 }
 
 /// The exception that a participant names where it gives up in a place.
-fn exception_named(plan: &Plan, journal: &[Entry], place: Place, by: Participant) -> Option<Exception>
+fn exception_named(
+    plan: &Plan,
+    journal: &[Entry],
+    place: Place,
+    by: Participant,
+) -> Option<Exception>
     ensures { result ≡ abort_of (abort_row plan.now place by) (register plan.now (reverse journal.now) place by) }
 {
     let role = plan.role_of(place, by)?;
-    abort_of(plan.abort_row(place, role), register(plan, journal, place, by))
+    abort_of(
+        plan.abort_row(place, role),
+        register(plan, journal, place, by),
+    )
 }
 
 /// What a participant does in a doomed place.
@@ -173,7 +183,12 @@ fn due_doomed(plan: &Plan, journal: &[Entry], place: Place, by: Participant) -> 
             None
         }
     } else if all_are_inside(plan, journal, place) {
-        Some(naming(Kind::Abort, place, by, exception_named(plan, journal, place, by)))
+        Some(naming(
+            Kind::Abort,
+            place,
+            by,
+            exception_named(plan, journal, place, by),
+        ))
     } else {
         None
     }
@@ -207,7 +222,13 @@ fn due_agreed(plan: &Plan, journal: &[Entry], place: Place, by: Participant) -> 
 // ---- steps
 
 /// The entry, where the place holds the object.
-fn due_held(plan: &Plan, journal: &[Entry], place: Place, object: Object, entry: Entry) -> Option<Entry>
+fn due_held(
+    plan: &Plan,
+    journal: &[Entry],
+    place: Place,
+    object: Object,
+    entry: Entry,
+) -> Option<Entry>
     ensures { result ≡ due_held plan.now (reverse journal.now) place object entry }
 {
     if holds(plan, journal, place, object) {
@@ -251,14 +272,32 @@ fn due_step(plan: &Plan, journal: &[Entry], place: Place, by: Participant) -> Op
         }
         Some(Step::Read(object)) => {
             let value = value_at(plan, journal, object);
-            due_held(plan, journal, place, object, says(Kind::Read, place, by, object, value))
+            due_held(
+                plan,
+                journal,
+                place,
+                object,
+                says(Kind::Read, place, by, object, value),
+            )
         }
         Some(Step::Put(object, value)) => {
-            due_held(plan, journal, place, object, says(Kind::Write, place, by, object, value))
+            due_held(
+                plan,
+                journal,
+                place,
+                object,
+                says(Kind::Write, place, by, object, value),
+            )
         }
         Some(Step::Add(object, number)) => {
             let value = clamped(register, number);
-            due_held(plan, journal, place, object, says(Kind::Write, place, by, object, value))
+            due_held(
+                plan,
+                journal,
+                place,
+                object,
+                says(Kind::Write, place, by, object, value),
+            )
         }
         Some(Step::Work(rounds)) => {
             let result = WorkDone::make(register, rounds).result();
@@ -329,7 +368,13 @@ fn has_handler(plan: &Plan, place: Place, by: Participant, exception: Exception)
 }
 
 /// What a participant does once the place is resolved to this exception.
-fn due_resolved(plan: &Plan, journal: &[Entry], place: Place, by: Participant, exception: Exception) -> Option<Entry>
+fn due_resolved(
+    plan: &Plan,
+    journal: &[Entry],
+    place: Place,
+    by: Participant,
+    exception: Exception,
+) -> Option<Entry>
     requires legal { LegalPast plan.now (reverse journal.now) }
     ensures { result ≡ due_resolved plan.now (reverse journal.now) place by exception }
 {
@@ -402,7 +447,12 @@ fn due_live(plan: &Plan, journal: &[Entry], place: Place, by: Participant) -> Op
 }
 
 /// The exception that a participant carries out of a place.
-fn exception_carried(plan: &Plan, journal: &[Entry], place: Place, by: Participant) -> Option<Exception>
+fn exception_carried(
+    plan: &Plan,
+    journal: &[Entry],
+    place: Place,
+    by: Participant,
+) -> Option<Exception>
     ensures { result ≡ exception_carried plan.now (reverse journal.now) place by }
 {
     let outer = plan.parent(place)?;
@@ -437,7 +487,12 @@ fn due_inside(plan: &Plan, journal: &[Entry], place: Place, by: Participant) -> 
     ensures { result ≡ due_inside plan.now (reverse journal.now) place by }
 {
     if has_ended(journal, place) {
-        Some(naming(Kind::Leave, place, by, exception_carried(plan, journal, place, by)))
+        Some(naming(
+            Kind::Leave,
+            place,
+            by,
+            exception_carried(plan, journal, place, by),
+        ))
     } else if has_started(journal, place) {
         due_live(plan, journal, place, by)
     } else {

@@ -1,8 +1,8 @@
 -- The least cause of a line is the one that is found first.
-use Rattle.std.proofs.Common.{◌≡◌, ℕ, ◌+◌, ◌<◌, Bool, true, false, Option, Some, None, unwrap_or, refl, sym, ap, ◌∙◌, subst, arith, length}
+use Rattle.std.proofs.Common.{◌≡◌, ℕ, ◌<◌, Bool, true, false, Option, Some, None, unwrap_or, refl, sym, ap, ◌∙◌, subst, arith, length}
 use Rattle.std.proofs.lemmas.Bool.{false≢true, false_from_ne_true}
 use Rattle.cover_table.specs.Cover.{CoverOrder}
-use Rattle.exception_graph.specs.Chains.{IsFirstInCycle, IsFirstUnjoined}
+use Rattle.exception_graph.specs.Chains.{IsFirstInCycle}
 use Rattle.action_script.specs.declared.form.Form.{Form}
 use Rattle.script_checker.specs.declared.error.CheckCause.{CheckCause}
 use Rattle.script_checker.specs.declared.error.CheckCause.TheVariants as cause

@@ -1,5 +1,5 @@
 -- The rows of graphs stand for the graphs that are declared.
-use Rattle.std.proofs.Common.{◌≡◌, ℕ, ◌+◌, suc, Bool, true, false, cond, List, [], ◌∷◌, ◌++◌, map, length, slice_index_or, bytes_eq, codes, Option, Some, None, refl, sym, ap, ◌∙◌, subst, arith}
+use Rattle.std.proofs.Common.{◌≡◌, ℕ, ◌+◌, suc, Bool, true, false, cond, List, [], ◌∷◌, ◌++◌, length, slice_index_or, bytes_eq, codes, Option, Some, None, refl, sym, ap, ◌∙◌, subst, arith}
 use Rattle.std.proofs.lemmas.Bool.{false≢true}
 use Rattle.std.proofs.lemmas.Slice.Eq.{bytes_eq-Decides}
 use Rattle.cover_table.specs.Cover.{CoverOrder, IsSound}
@@ -17,10 +17,10 @@ use Rattle.script_checker.specs.declared.parts.Opening.{Opening}
 use Rattle.script_checker.specs.Blocks.{is_in_graph}
 use Rattle.script_checker.specs.SoFar.{SoFar, plain_graph}
 use Rattle.script_checker.specs.Causes.{ends_graph}
-use Rattle.script_checker.specs.After.{with_said, with_graph, with_action, action_row, without_parts, closed, closed_if, settled, settled_if, goes_on, after, ended}
+use Rattle.script_checker.specs.After.{with_said, with_graph, closed_if, settled_if, ended}
 use Rattle.script_checker.specs.Graphs.{IsOrdered}
 use Rattle.script_checker.specs.Rows.{AddsRow}
-use Rattle.script_checker.specs.Compiled.{exception_name, IsRowOf, AreRowsOf}
+use Rattle.script_checker.specs.Compiled.{IsRowOf, AreRowsOf}
 
 -- ---- the plain graph
 

@@ -1,11 +1,10 @@
 -- Lines that are taken one by one.
-use Rattle.std.proofs.Common.{◌≡◌, ◌≢◌, ℕ, suc, ◌+◌, ◌<◌, ◌≤◌, List, [], ◌∷◌, ◌++◌, length, take, drop, get_or, Result, Ok, Err, refl, sym, ap, ◌∙◌, subst, arith, add-one, append_assoc}
-use Rattle.std.proofs.Math.Seq.{drop-cons, take-suc, take-length}
+use Rattle.std.proofs.Common.{◌≡◌, ◌≢◌, ℕ, suc, ◌+◌, ◌<◌, ◌≤◌, List, [], ◌∷◌, ◌++◌, length, take, drop, get_or, Ok, Err, refl, sym, ap, ◌∙◌, subst, arith, add-one}
+use Rattle.std.proofs.Math.Seq.{drop-cons, take-suc}
 use Rattle.std.proofs.lemmas.List.{take-append-drop, take_all}
 use Rattle.place_plan.specs.declared.rows.GraphRow.{GraphRow}
 use Rattle.place_plan.specs.PlanValue.{Plan}
 use Rattle.place_plan.specs.Unfolding.{plan_of}
-use Rattle.action_script.specs.declared.form.Form.{Form}
 use Rattle.action_script.specs.declared.script.Line.{Line}
 use Rattle.action_script.specs.ScriptValue.{Script}
 use Rattle.script_checker.specs.declared.error.CheckCause.{CheckCause}
@@ -13,7 +12,7 @@ use Rattle.script_checker.specs.declared.error.CheckCause.TheVariants as cause
 use Rattle.script_checker.specs.SoFar.{SoFar, nothing_yet}
 use Rattle.script_checker.specs.After.{after}
 use Rattle.script_checker.specs.Rows.{parted}
-use Rattle.script_checker.specs.Compiled.{number_of, IsAccepted, AreAccepted, IsLeastCause, declared_after, AreRowsOf, IsDraftOf, IsPlanOf, IsFirstRefused, IsAnswer}
+use Rattle.script_checker.specs.Compiled.{number_of, IsAccepted, AreAccepted, IsLeastCause, declared_after, AreRowsOf, IsDraftOf, IsFirstRefused, IsAnswer}
 use Rattle.script_checker.specs.Compiled.IsAnswer.{planned, refused, wanting}
 
 -- the first n lines were taken

@@ -1,5 +1,5 @@
 -- The causes for which a line is refused, by what the lines before it declare.
-use Rattle.std.specs.Prelude.{◌≡◌, ℕ, ◌+◌, ◌==◌, nat_lt, nat_le, Bool, true, false, not, ◌&&◌, ◌||◌, List, [], ◌∷◌, map, length, slice_index_or, is_some}
+use Rattle.std.specs.Prelude.{◌≡◌, ℕ, ◌+◌, ◌==◌, nat_lt, nat_le, Bool, true, false, not, ◌&&◌, ◌||◌, length, is_some}
 use Rattle.std.specs.List.{list_all, list_any}
 use Rattle.caa_base.specs.declared.entry.Drill.{Drill}
 use Rattle.cover_table.specs.Cover.{most_exceptions}
@@ -16,7 +16,7 @@ use Rattle.script_checker.specs.declared.error.CheckCause.TheVariants as cause
 use Rattle.script_checker.specs.Blocks.{is_in_graph, is_in_action}
 use Rattle.place_plan.specs.Weights.{counted, at}
 use Rattle.script_checker.specs.Numbers.{is_among, has_twice}
-use Rattle.script_checker.specs.SoFar.{SoFar, exceptions_at, inner, outer, face, face_of, action_of, nest_of, said_of, role_of}
+use Rattle.script_checker.specs.SoFar.{SoFar, inner, outer, face, face_of, action_of, nest_of, said_of, role_of}
 
 -- ---- a name that the line uses isn't declared
 

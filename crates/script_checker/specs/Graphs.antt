@@ -1,5 +1,5 @@
 -- Why the graph that a line ends is refused.
-use Rattle.std.specs.Prelude.{◌≡◌, ◌<◌, ◌≤◌, ℕ, List, length, Option, Some, None, false, true, MatchOption}
+use Rattle.std.specs.Prelude.{◌≡◌, ℕ, List, length, Option, false, true, MatchOption}
 use Rattle.cover_table.specs.Cover.{CoverOrder, IsSound}
 use Rattle.exception_graph.specs.Chains.{IsOrderOf, IsFirstInCycle, IsFirstUnjoined}
 use Rattle.action_script.specs.declared.form.Form.{Form}

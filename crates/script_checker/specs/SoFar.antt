@@ -1,5 +1,5 @@
 -- What the lines of a script up to some line have declared.
-use Rattle.std.specs.Prelude.{ℕ, ◌+◌, Bool, true, false, List, [], ◌∷◌, map, length, slice_index_or, Option, None, unwrap_or, codes}
+use Rattle.std.specs.Prelude.{ℕ, ◌+◌, false, List, [], ◌∷◌, slice_index_or, Option, None, unwrap_or, codes}
 use Rattle.caa_base.specs.declared.entry.Drill.{Drill}
 use Rattle.place_plan.specs.declared.rows.ObjectRow.{ObjectRow}
 use Rattle.place_plan.specs.declared.rows.ActionRow.{ActionRow}

@@ -80,27 +80,25 @@ pub fn value_at_start(plan: &Plan, journal: &[Entry], place: Place, object: Obje
     requires { object < length plan.now.objects }
     ensures { result ≡ value_of plan.now (before_start (reverse journal.now) place) object }
 {
-    value_at(plan, &journal[..entries_before_start(journal, place)], object)
+    value_at(
+        plan,
+        &journal[..entries_before_start(journal, place)],
+        object,
+    )
 }
 
 /// Whether a restore in a place has tried an object.
 fn is_tried(journal: &[Entry], place: Place, object: Object) -> bool
     ensures { result ≡ is_tried (reverse journal.now) place object }
 {
-    journal
-        .iter()
-        .rev()
-        .any(|entry| is_in(entry, Kind::Restore, place) && entry.arg == object)
+    journal.iter().rev().any(|entry| is_in(entry, Kind::Restore, place) && entry.arg == object)
 }
 
 /// Whether the device refused a restore in a place.
 pub fn has_failed(journal: &[Entry], place: Place) -> bool
     ensures { result ≡ has_failed (reverse journal.now) place }
 {
-    journal
-        .iter()
-        .rev()
-        .any(|entry| is_in(entry, Kind::Restore, place) && entry.mark == 1)
+    journal.iter().rev().any(|entry| is_in(entry, Kind::Restore, place) && entry.mark == 1)
 }
 
 /// The least object of a place that no restore there has tried.

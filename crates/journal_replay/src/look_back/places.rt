@@ -90,7 +90,13 @@ pub fn is_left_in_silence(plan: &Plan, journal: &[Entry], place: Place) -> bool
 }
 
 /// The first place of a nested use, in order, in which a participant has not arrived.
-pub fn place_entered(plan: &Plan, journal: &[Entry], place: Place, by: Participant, nest: u32) -> Option<Place>
+pub fn place_entered(
+    plan: &Plan,
+    journal: &[Entry],
+    place: Place,
+    by: Participant,
+    nest: u32,
+) -> Option<Place>
     ensures { result ≡ first_not (λ p. has_by kind.Arrive (reverse journal.now) p by) (alternates_of plan.now place nest) }
 {
     for alternate in plan.alternates_of(place, nest) {

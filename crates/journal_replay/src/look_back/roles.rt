@@ -61,7 +61,12 @@ pub fn register(plan: &Plan, journal: &[Entry], place: Place, by: Participant) -
 }
 
 /// The program that a participant goes through in a place, if it has a role there, and a handler where it handles.
-pub fn program_of<'a>(plan: &'a Plan, journal: &[Entry], place: Place, by: Participant) -> Option<&'a Program>
+pub fn program_of<'a>(
+    plan: &'a Plan,
+    journal: &[Entry],
+    place: Place,
+    by: Participant,
+) -> Option<&'a Program>
     ensures { or_idle (option_copied result) ≡ program_of plan.now (reverse journal.now) place by }
 {
     let role = plan.role_of(place, by)?;
@@ -97,18 +102,28 @@ fn raise_of(step: Option<Step>, register: i64) -> Option<Exception>
 {
     match step {
         Some(Step::Raise(exception)) => Some(exception),
-        Some(Step::Check {
-            test,
-            value,
-            exception,
-        }) if meets(test, value, register) => Some(exception),
+        Some(
+            Step::Check {
+                test,
+                value,
+                exception,
+            },
+        ) if meets(test, value, register) => Some(exception),
         _ => None,
     }
 }
 
 /// The exception that the next step of a participant raises.
-pub fn next_raise(plan: &Plan, journal: &[Entry], place: Place, by: Participant) -> Option<Exception>
+pub fn next_raise(
+    plan: &Plan,
+    journal: &[Entry],
+    place: Place,
+    by: Participant,
+) -> Option<Exception>
     ensures { result ≡ next_raise plan.now (reverse journal.now) place by }
 {
-    raise_of(next_step(plan, journal, place, by), register(plan, journal, place, by))
+    raise_of(
+        next_step(plan, journal, place, by),
+        register(plan, journal, place, by),
+    )
 }

@@ -7,9 +7,13 @@ use std::test::Fail;
 use trial_drafts::{Exceptions, Maps, action, draft, graph, nest, play, program, role};
 
 pub const ANN: Participant = 0;
+
 pub const BOB: Participant = 1;
+
 pub const X: Object = 0;
+
 pub const Y: Object = 1;
+
 pub const UNIVERSAL: Exception = 0;
 
 /// Graph 1 has `universal` and this one.
@@ -30,13 +34,23 @@ const PLAIN: Exceptions = Exceptions {
 };
 
 /// A role whose body ends with `done`, and which has no handler.
-fn plain_role(alloc: Global, name: &[u8], steps: &[Step], verdict: Verdict) -> Result<RoleRow, Fail> {
+fn plain_role(
+    alloc: Global,
+    name: &[u8],
+    steps: &[Step],
+    verdict: Verdict,
+) -> Result<RoleRow, Fail> {
     let body = program(alloc, steps, verdict)?;
     Ok(role(alloc, name, body, Vec::new(alloc), AbortRow::Never)?)
 }
 
 /// A role with an empty handler for one exception.
-fn handling(alloc: Global, name: &[u8], steps: &[Step], exception: Exception) -> Result<RoleRow, Fail> {
+fn handling(
+    alloc: Global,
+    name: &[u8],
+    steps: &[Step],
+    exception: Exception,
+) -> Result<RoleRow, Fail> {
     let body = program(alloc, steps, Verdict::Done)?;
     let handler = HandlerRow {
         exception,
@@ -46,7 +60,12 @@ fn handling(alloc: Global, name: &[u8], steps: &[Step], exception: Exception) ->
 }
 
 /// A nested use of one action by one role or two, which tells nothing outside but `universal`.
-fn nest_of(alloc: Global, action: u32, roles: &[u32], undo: Exception) -> Result<Vec<NestRow>, Fail> {
+fn nest_of(
+    alloc: Global,
+    action: u32,
+    roles: &[u32],
+    undo: Exception,
+) -> Result<Vec<NestRow>, Fail> {
     let maps = Maps {
         exceptions: &[UNIVERSAL],
         undo,
@@ -61,7 +80,12 @@ fn stop_graph(alloc: Global) -> Result<GraphRow, Fail> {
 }
 
 /// The plan in which ann and bob play this action once, over x and y, which are 0 at first.
-fn plan_of_two(alloc: Global, graphs: Vec<GraphRow>, actions: Vec<ActionRow>, played: u32) -> Result<Plan, Fail> {
+fn plan_of_two(
+    alloc: Global,
+    graphs: Vec<GraphRow>,
+    actions: Vec<ActionRow>,
+    played: u32,
+) -> Result<Plan, Fail> {
     let plays = vec![in alloc; play(alloc, played, &[ANN, BOB])?]?;
     let made = draft(
         alloc,
@@ -98,13 +122,21 @@ pub fn informed_at_exit(alloc: Global) -> Result<Plan, Fail> {
     let body = program(alloc, &[Step::Read(X), check], Verdict::Done)?;
     let mut roles = Vec::new(alloc);
     roles.push(handling(alloc, b"a", &[Step::Put(X, 1)], 1)?)?;
-    roles.push(role(alloc, b"b", body, vec![in alloc; signalling]?, AbortRow::Never)?)?;
+    roles.push(role(
+        alloc,
+        b"b",
+        body,
+        vec![in alloc; signalling]?,
+        AbortRow::Never,
+    )?)?;
     let exceptions = Exceptions {
         internal: 1,
         interface: 2,
         fault: UNIVERSAL,
     };
-    let actions = vec![in alloc; action(alloc, b"duo", exceptions, &[X, Y], roles, Vec::new(alloc))?]?;
+    let actions = vec![in alloc;
+        action(alloc, b"duo", exceptions, &[X, Y], roles, Vec::new(alloc))?,
+    ]?;
     let tree = graph(alloc, &[b"universal".as_slice(), b"left".as_slice()], &[])?;
     let faces = graph(alloc, &[b"universal".as_slice(), b"weak".as_slice()], &[])?;
     plan_of_two(alloc, vec![in alloc; tree, faces]?, actions, 0)
@@ -131,17 +163,30 @@ fn round_a_pair(alloc: Global, first: &[Step], second: &[Step]) -> Result<Plan, 
 
 /// Role a raises `stop` once it has come back from the inner action.
 pub fn ended_not_all_left(alloc: Global) -> Result<Plan, Fail> {
-    round_a_pair(alloc, &[Step::Enter(0), Step::Raise(STOP)], &[Step::Enter(0)])
+    round_a_pair(
+        alloc,
+        &[Step::Enter(0), Step::Raise(STOP)],
+        &[Step::Enter(0)],
+    )
 }
 
 /// Role b raises `stop` where it would enter the inner action.
 pub fn withdrawn(alloc: Global) -> Result<Plan, Fail> {
-    round_a_pair(alloc, &[Step::Enter(0)], &[Step::Raise(STOP), Step::Enter(0)])
+    round_a_pair(
+        alloc,
+        &[Step::Enter(0)],
+        &[Step::Raise(STOP), Step::Enter(0)],
+    )
 }
 
 /// A graph of `universal` and `big`, which covers the other two.
 fn big_graph(alloc: Global, other: &[u8]) -> Result<GraphRow, Fail> {
-    let names = [b"universal".as_slice(), b"big".as_slice(), b"stop".as_slice(), other];
+    let names = [
+        b"universal".as_slice(),
+        b"big".as_slice(),
+        b"stop".as_slice(),
+        other,
+    ];
     Ok(graph(alloc, &names, &[(1, 2), (1, 3)])?)
 }
 
@@ -156,10 +201,17 @@ fn roles_round_one(alloc: Global) -> Result<Vec<RoleRow>, Fail> {
 /// The inner action puts x and asks for undo, which is `gone` outside.
 pub fn raised_while_undoing(alloc: Global) -> Result<Plan, Fail> {
     let inner = vec![in alloc; plain_role(alloc, b"p", &[Step::Put(X, 5)], Verdict::Undo)?]?;
-    let mut actions = vec![in alloc; action(alloc, b"inner", PLAIN, &[X], inner, Vec::new(alloc))?]?;
+    let mut actions = vec![in alloc;
+        action(alloc, b"inner", PLAIN, &[X], inner, Vec::new(alloc))?,
+    ]?;
     let nests = nest_of(alloc, 0, &[0], 3)?;
     actions.push(action(alloc, b"outer", OUTER, &[X], roles_round_one(alloc)?, nests)?)?;
-    plan_of_two(alloc, vec![in alloc; big_graph(alloc, b"gone")?]?, actions, 1)
+    plan_of_two(
+        alloc,
+        vec![in alloc; big_graph(alloc, b"gone")?]?,
+        actions,
+        1,
+    )
 }
 
 /// A role that names `bad` where its place is aborted.
@@ -193,7 +245,12 @@ pub fn three_levels(alloc: Global) -> Result<Plan, Fail> {
     actions.push(action(alloc, b"mid", bad, &[X], mid, inner)?)?;
     actions.push(action(alloc, b"outer", OUTER, &[X], roles_round_one(alloc)?, outer)?)?;
     let faces = graph(alloc, &[b"universal".as_slice(), b"bad".as_slice()], &[])?;
-    plan_of_two(alloc, vec![in alloc; big_graph(alloc, b"bent")?, faces]?, actions, 2)
+    plan_of_two(
+        alloc,
+        vec![in alloc; big_graph(alloc, b"bent")?, faces]?,
+        actions,
+        2,
+    )
 }
 
 /// The inner action puts 5 into x, which is 1, and the outer one asks for undo; the device has these drills.
@@ -201,10 +258,20 @@ pub fn inner_committed_outer_undone(alloc: Global, drills: &[Drill]) -> Result<P
     let inner = vec![in alloc; plain_role(alloc, b"r", &[Step::Put(X, 5)], Verdict::Done)?]?;
     let outer = vec![in alloc; plain_role(alloc, b"s", &[Step::Enter(0)], Verdict::Undo)?]?;
     let nests = nest_of(alloc, 0, &[0], UNIVERSAL)?;
-    let mut actions = vec![in alloc; action(alloc, b"inner", PLAIN, &[X], inner, Vec::new(alloc))?]?;
+    let mut actions = vec![in alloc;
+        action(alloc, b"inner", PLAIN, &[X], inner, Vec::new(alloc))?,
+    ]?;
     actions.push(action(alloc, b"outer", PLAIN, &[X], outer, nests)?)?;
     let plays = vec![in alloc; play(alloc, 1, &[ANN])?]?;
     let values = [(b"x".as_slice(), 1)];
-    let made = draft(alloc, &[b"ann".as_slice()], &values, Vec::new(alloc), actions, plays, drills)?;
+    let made = draft(
+        alloc,
+        &[b"ann".as_slice()],
+        &values,
+        Vec::new(alloc),
+        actions,
+        plays,
+        drills,
+    )?;
     Ok(Plan::close(alloc, made)?)
 }

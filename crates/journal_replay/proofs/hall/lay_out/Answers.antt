@@ -10,5 +10,5 @@ returns-clause-laid g c =
     let device : Device = record { faults = g.P.Plant.faults plant; calls = g.P.Plant.calls plant; room = g.P.Plant.room plant; objects = g.P.Plant.objects plant; state = g.P.Plant.state plant; drilling = g.P.Plant.drilling plant } in
     let said = c.lay.ensures in
     laid_fits_ok c.args.plan.now c.lay.result c.as_slice.result.now c.as_slice-2.result.now c.bound.result (g.P.Plant.faults before) (g.P.Plant.state before) (g.P.Plant.drilling before) device
-      (c.as_slice.ensures.value ∙ c.in-Ok.ensures) (c.as_slice-2.ensures.value ∙ c.in-Ok-drills_of.ensures) c.bound.ensures said.put_faults
-      said.calls said.room said.objects said.state said.drilling
+    (c.as_slice.ensures.value ∙ c.in-Ok.ensures) (c.as_slice-2.ensures.value ∙ c.in-Ok-drills_of.ensures) c.bound.ensures said.put_faults
+    said.calls said.room said.objects said.state said.drilling

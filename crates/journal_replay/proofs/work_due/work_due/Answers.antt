@@ -1,4 +1,4 @@
-use Rattle.std.proofs.Common.{◌≡◌, ◌∙◌, ℕ, ap, sym, reverse, false, None}
+use Rattle.std.proofs.Common.{◌≡◌, ◌∙◌, ap, sym, reverse, false, None}
 use Rattle.place_plan.specs.Roles.{is_able, next_step}
 use Rattle.journal_replay.specs.WorkDue.{rounds_of}
 use Rattle.journal_replay.proofs.WorkNext.{none_outside, none_inside}
@@ -12,11 +12,11 @@ returns-then-not-is_able c =
     let plan = c.args.plan.now in
     let past = reverse c.args.journal.now in
     none_inside plan past c.args.by c.in-Some.place c.in-Some.ensures
-      (λ rounds can next. let unable : is_able plan past c.in-Some.place c.args.by ≡ false = sym c.is_able.ensures ∙ c.if-not-is_able.true in cc)
+    (λ rounds can next. let unable : is_able plan past c.in-Some.place c.args.by ≡ false = sym c.is_able.ensures ∙ c.if-not-is_able.true in cc)
 
 pub returns-in_default-rounds_of : goal.returns-in_default-rounds_of
 returns-in_default-rounds_of c =
     let plan = c.args.plan.now in
     let past = reverse c.args.journal.now in
     none_inside plan past c.args.by c.in-Some.place c.in-Some.ensures
-      (λ rounds can next. let none : None ≡ rounds_of (next_step plan past c.in-Some.place c.args.by) = c.in_default-rounds_of.ensures ∙ ap rounds_of c.next_step.ensures in cc)
+    (λ rounds can next. let none : None ≡ rounds_of (next_step plan past c.in-Some.place c.args.by) = c.in_default-rounds_of.ensures ∙ ap rounds_of c.next_step.ensures in cc)

@@ -1,4 +1,4 @@
-use Rattle.std.proofs.Common.{◌≡◌, ap, ◌∙◌}
+use Rattle.std.proofs.Common.{ap, ◌∙◌}
 use Rattle.place_plan.specs.declared.rows.ActionRow.{ActionRow}
 use Rattle.script_checker.specs.SoFar.{SoFar}
 use Rattle.script_checker.specs.After.{with_depth, with_places, with_bound, with_action_row, with_action, without_parts}

@@ -1,5 +1,4 @@
-use Rattle.std.proofs.Common.{◌≡◌, ◌≤◌, Err, ap, arith}
-use Rattle.script_checker.specs.Graphs.{IsOrdered}
+use Rattle.std.proofs.Common.{◌≤◌, Err, ap, arith}
 use Rattle.script_checker.proofs.graphs.declared_graph.Goals as goal
 
 pub unreachable-requires : goal.unreachable-requires

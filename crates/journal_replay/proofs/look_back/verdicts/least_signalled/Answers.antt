@@ -12,7 +12,7 @@ pub joined-requires-clause-known : goal.joined-requires-clause-known
 joined-requires-clause-known c =
     let plan = c.args.plan.now in
     subst (λ (order : CoverOrder). c.in-Some.signalled < order.count) (sym c.interface.ensures)
-      (signal_known plan (is_playable plan c.is_closed.ensures) (reverse c.args.journal.now) c.requires c.args.place _ c.in-Some.signalled [] c.in-Some.ensures)
+    (signal_known plan (is_playable plan c.is_closed.ensures) (reverse c.args.journal.now) c.requires c.args.place _ c.in-Some.signalled [] c.in-Some.ensures)
 
 pub loop-index-preserved-in-Some : goal.loop-index-preserved-in-Some
 loop-index-preserved-in-Some c =
@@ -24,8 +24,8 @@ loop-index-preserved-in-Some c =
     let next : i + 1 ≡ c.loop-index.index = omega arith in
     let front : drop i roles ≡ t ∷ drop c.loop-index.index roles = drop_more roles i 0 (omega arith) ∙ ap (λ j. t ∷ drop j roles) next in
     subst (λ (ts : List ℕ). IsCoverOf (interface_of plan c.args.place) (signals past c.args.place ts) (Some c.joined.result)) (sym front)
-      (signal_with plan (is_playable plan c.is_closed.ensures) past c.requires c.args.place t c.in-Some.signalled c.joined.result (drop c.loop-index.index roles) c.loop-index.cover c.in-Some.ensures c.loop-index.invariant
-        (subst (λ (order : CoverOrder). IsLeastCover order (c.in-Some.signalled ∷ listed c.loop-index.cover) c.joined.result) c.interface.ensures c.joined.ensures))
+    (signal_with plan (is_playable plan c.is_closed.ensures) past c.requires c.args.place t c.in-Some.signalled c.joined.result (drop c.loop-index.index roles) c.loop-index.cover c.in-Some.ensures c.loop-index.invariant
+    (subst (λ (order : CoverOrder). IsLeastCover order (c.in-Some.signalled ∷ listed c.loop-index.cover) c.joined.result) c.interface.ensures c.joined.ensures))
 
 pub returns : goal.returns
 returns c =
