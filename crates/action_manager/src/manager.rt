@@ -132,10 +132,12 @@ impl<M: Machine> Manager<M> {
                 },
                 making,
             )),
-            Err(Housed {
-                machine,
-                bulletin: _,
-            }) => Err(ManagerError { machine }),
+            Err(
+                Housed {
+                    machine,
+                    bulletin: _,
+                },
+            ) => Err(ManagerError { machine }),
         }
     }
 

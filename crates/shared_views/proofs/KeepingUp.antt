@@ -38,20 +38,20 @@ hears past b e t b' mine known tells cells boxes list k =
     let names = cells_of b in
     let kept = b.told.items in
     let each : (p : ℕ) → p < length names → Tells names p (get_or (set b.announcer e.place false) p false) (exception_resolved (e ∷ past) p) (get_or (set kept e.place t) p told.Nothing) =
-        λ p low. elim (cases_order p e.place) [
-          | inl same ↦
-              let is : (e.place == e.place) ≡ true = grind (arith, nat_tests) in
-              let now : exception_resolved (e ∷ past) e.place ≡ Some e.arg = ap (λ (b : Bool). if b then Some e.arg else exception_resolved past e.place) ((λ i. mine i && is i)) in
-              let word : get_or (set kept e.place t) e.place told.Nothing ≡ t = get_or-set_same kept e.place t told.Nothing (omega (arith, long, known)) in
-              subst (λ q. Tells names q (get_or (set b.announcer e.place false) q false) (exception_resolved (e ∷ past) q) (get_or (set kept e.place t) q told.Nothing)) (sym same)
-              (subst (λ (x : Option ℕ × Told). Tells names e.place (get_or (set b.announcer e.place false) e.place false) x.0 x.1) (λ i. (sym now i, sym word i)) tells)
-          | inr other ↦
-              let far : p ≢ e.place = λ same. elim other [ inl below ↦ omega (arith, below, same) | inr above ↦ omega (arith, above, same) ] in
-              let is : is_in kind.Resolve p e ≡ false = ap (λ b. is_of kind.Resolve e && b) (grind (arith, nat_tests, far)) ∙ ap (λ b. b && false) mine in
-              let box = get_or-set_other b.announcer e.place p false false far in
-              let word = get_or-set_other kept e.place p t told.Nothing far in
-              subst (λ (x : Bool × Option ℕ × Told). Tells names p x.0 x.1 x.2) (λ i. (sym box i, sym (other_place p e past _ refl is) i, sym word i)) (k.each p low)
-        ] in
+    λ p low. elim (cases_order p e.place) [
+      | inl same ↦
+          let is : (e.place == e.place) ≡ true = grind (arith, nat_tests) in
+          let now : exception_resolved (e ∷ past) e.place ≡ Some e.arg = ap (λ (b : Bool). if b then Some e.arg else exception_resolved past e.place) ((λ i. mine i && is i)) in
+          let word : get_or (set kept e.place t) e.place told.Nothing ≡ t = get_or-set_same kept e.place t told.Nothing (omega (arith, long, known)) in
+          subst (λ q. Tells names q (get_or (set b.announcer e.place false) q false) (exception_resolved (e ∷ past) q) (get_or (set kept e.place t) q told.Nothing)) (sym same)
+          (subst (λ (x : Option ℕ × Told). Tells names e.place (get_or (set b.announcer e.place false) e.place false) x.0 x.1) (λ i. (sym now i, sym word i)) tells)
+      | inr other ↦
+          let far : p ≢ e.place = λ same. elim other [ inl below ↦ omega (arith, below, same) | inr above ↦ omega (arith, above, same) ] in
+          let is : is_in kind.Resolve p e ≡ false = ap (λ b. is_of kind.Resolve e && b) (grind (arith, nat_tests, far)) ∙ ap (λ b. b && false) mine in
+          let box = get_or-set_other b.announcer e.place p false false far in
+          let word = get_or-set_other kept e.place p t told.Nothing far in
+          subst (λ (x : Bool × Option ℕ × Told). Tells names p x.0 x.1 x.2) (λ i. (sym box i, sym (other_place p e past _ refl is) i, sym word i)) (k.each p low)
+    ] in
     let lists = ap length boxes ∙ length-set b.announcer e.place false in
     let words = ap length list ∙ length-set kept e.place t in
     let same = ap length cells in

@@ -17,7 +17,7 @@ take_in-told-requires-clause-follows g c =
     let plan = g.M.Machine.plan_of was in
     let legal : LegalPast (g.M.Machine.plan_of now) (reverse (g.M.Machine.journal_of now)) = search rules in
     let all : AllWellFormed plan (reverse (g.M.Machine.journal_of now)) = subst (λ (p : Plan). AllWellFormed p (reverse (g.M.Machine.journal_of now))) (c.plan.ensures ∙ c.next-answer.ensures.plan)
-        (c.is_well_formed.ensures (reverse (g.M.Machine.journal_of now)) (subst (λ (p : Plan). LegalPast p (reverse (g.M.Machine.journal_of now))) (sym c.plan.ensures) legal)) in
+    (c.is_well_formed.ensures (reverse (g.M.Machine.journal_of now)) (subst (λ (p : Plan). LegalPast p (reverse (g.M.Machine.journal_of now))) (sym c.plan.ensures) legal)) in
     let room : length c.args.cells.now ≡ length plan.places = sym (ap length c.requires.ours) ∙ c.requires.kept.room in
     (reverse (g.M.Machine.journal_of was), c.requires.kept.keeps_up, did_suits plan (g.M.Machine.journal_of was) (g.M.Machine.journal_of now) c.args.by _ c.in-Did.entry c.args.cells.now room all c.in-Did.ensures.answer)
 
@@ -31,7 +31,7 @@ returns-clause-kept g c =
           let plan = plan_of was in
           let legal : LegalPast (plan_of now) (reverse (journal_of now)) = search rules in
           let all : AllWellFormed plan (reverse (journal_of now)) = subst (λ (p : Plan). AllWellFormed p (reverse (journal_of now))) (w.plan.ensures ∙ same)
-              (w.is_well_formed.ensures (reverse (journal_of now)) (subst (λ (p : Plan). LegalPast p (reverse (journal_of now))) (sym w.plan.ensures) legal)) in
+          (w.is_well_formed.ensures (reverse (journal_of now)) (subst (λ (p : Plan). LegalPast p (reverse (journal_of now))) (sym w.plan.ensures) legal)) in
           let room : length c.args.cells.now ≡ length plan.places = sym (ap length c.requires.ours) ∙ c.requires.kept.room in
           let suits = did_suits plan (journal_of was) (journal_of now) c.args.by _ w.in-Did.entry c.args.cells.now room all w.in-Did.ensures.answer in
           let up = w.take_in-told.ensures.keeps_up (reverse (journal_of was)) c.requires.kept.keeps_up suits in
