@@ -101,8 +101,8 @@ fn names_the_first_refused_line(rt: HostRuntime) -> Result<(), Fail> {
 fn chain_of(alloc: Global, depth: u32) -> Result<Vec<u8>, Fail> {
     let mut text = Vec::new(alloc);
     text.extend_from_slice(b"action a1\nroles r\nend\n")?;
-    for level in 2..depth + 1 {
-        let below = level - 1;
+    for below in 1..depth {
+        let level = below + 1;
         let block = format!(in alloc;
             "action a{level}\nroles r\nnest n a{below} r\nbody r\nenter n\nend\n"
         )?;
