@@ -295,3 +295,6 @@ pub fn top_quiet<S: Source, K: Sink, P: Plant>(
         },
     }
 }
+
+#[cfg(test)]
+mod tests;

@@ -1,0 +1,203 @@
+use super::*;
+use caa_base::memory::{MemPlant, MemSink, MemSource};
+use caa_base::one_byte::{OneByteSink, OneByteSource};
+use std::alloc::AllocError;
+use std::test::Fail;
+
+const FIRST_PATH: &[u8] =
+    b"participant ann\nparticipant bob\nobject x 5\naction look\nuse x\nroles a b\nbody a\nread x\nbody b\nwork 2\nend\nplay look ann bob\n";
+
+const FIRST_PATH_TEXT: &[u8] =
+    b"journal\narrive 0 ann\narrive 0 bob\nstart 0 bob\nwork 0 bob 2 1406932606\nverdict 0 bob done\nread 0 ann x 5\nverdict 0 ann done\nend 0 bob commit\nleave 0 ann\nleave 0 bob\nobject x 5\noutcome 0 look commit\n";
+
+const ORDINARY_USE: &[u8] =
+    b"participant ann\nparticipant bob\nobject x 5\nobject y 0\naction swap\nuse x y\nroles left right\nbody left\nread x\nadd x 1\nbody right\nput y 7\nend\nplay swap ann bob\n";
+
+const ORDINARY_USE_TEXT: &[u8] =
+    b"journal\narrive 0 ann\narrive 0 bob\nstart 0 bob\nwrite 0 bob y 7\nverdict 0 bob done\nread 0 ann x 5\nwrite 0 ann x 6\nverdict 0 ann done\nend 0 ann commit\nleave 0 ann\nleave 0 bob\nobject x 6\nobject y 7\noutcome 0 swap commit\n";
+
+/// An undo of two objects, of which the device refuses the second.
+const RESTORE_FAILS: &[u8] =
+    b"participant ann\nobject x 1\nobject y 2\ndrill y 2\naction u\nuse x y\nroles r\nbody r\nput x 10\nput y 20\nundo\nend\nplay u ann\n";
+
+fn words_of(alloc: Global, words: &[&str]) -> Result<Vec<String>, AllocError> {
+    let mut all = Vec::new(alloc);
+    for word in words {
+        all.push(String::from_str(alloc, word)?)?;
+    }
+    Ok(all)
+}
+
+/// The status and the text of a call over memory, and how many entries were kept.
+fn call(alloc: Global, words: &[&str], input: &[u8]) -> Result<(Status, Vec<u8>, u64), Fail> {
+    let words = words_of(alloc, words)?;
+    let mut source = MemSource::new(alloc, input, &[])?;
+    let mut sink = MemSink::new(alloc, 1000, &[])?;
+    let plant = MemPlant::new(false);
+    let ended = top_quiet(alloc, words.as_slice(), &mut source, &mut sink, plant);
+    let text = Vec::from_slice(alloc, sink.bytes())?;
+    Ok((ended.status, text, ended.journal.len()))
+}
+
+/// These parts one after another.
+fn joined(alloc: Global, parts: &[&[u8]]) -> Result<Vec<u8>, AllocError> {
+    let mut all = Vec::new(alloc);
+    for part in parts {
+        all.extend_from_slice(part)?;
+    }
+    Ok(all)
+}
+
+#[test]
+fn plays_over_a_device(rt: HostRuntime) -> Result<(), Fail> {
+    let (status, text, entries) = call(rt.alloc(), &["sim", "1"], FIRST_PATH)?;
+    assert_eq!(rt; status, Status::Done);
+    assert_eq!(rt; text.as_slice(), FIRST_PATH_TEXT);
+    assert_eq!(rt; entries, 10);
+
+    let words = words_of(rt.alloc(), &["sim", "1"])?;
+    let mut source = MemSource::new(rt.alloc(), ORDINARY_USE, &[])?;
+    let mut sink = MemSink::new(rt.alloc(), 1000, &[])?;
+    let plant = MemPlant::new(false);
+    let ended = top_quiet(rt.alloc(), words.as_slice(), &mut source, &mut sink, plant);
+    assert_eq!(rt; ended.status, Status::Done);
+    assert_eq!(rt; sink.bytes(), ORDINARY_USE_TEXT);
+    assert_eq!(rt; ended.plant.puts().len(), 2);
+    assert_eq!(rt; ended.plant.puts()[0], (1, 7));
+    assert_eq!(rt; ended.plant.puts()[1], (0, 6));
+
+    let (status, _, entries) = call(rt.alloc(), &["sim", "1"], RESTORE_FAILS)?;
+    assert_eq!(rt; status, Status::SomeFailed);
+    assert_eq!(rt; entries, 10);
+    Ok(())
+}
+
+#[test]
+fn other_words_are_usage(rt: HostRuntime) -> Result<(), Fail> {
+    let cases: [&[&str]; 12] = [
+        &[],
+        &["sim"],
+        &["sim", "01"],
+        &["sim", "-0"],
+        &["sim", "2147483648"],
+        &["sim", "1", "1"],
+        &["check", "1"],
+        &["audit", "1"],
+        &["run"],
+        &["cell", "1"],
+        &["cell", "2001"],
+        &["--help"],
+    ];
+    for words in cases {
+        let (status, text, entries) = call(rt.alloc(), words, FIRST_PATH)?;
+        assert_eq!(rt; status, Status::Usage);
+        assert_eq!(rt; text.as_slice(), b"usage: check | sim SEED | run | audit | cell N\n".as_slice());
+        assert_eq!(rt; entries, 0);
+    }
+    Ok(())
+}
+
+#[test]
+fn refusals_are_told(rt: HostRuntime) -> Result<(), Fail> {
+    let cases: [(&[u8], &[u8]); 8] = [
+        (b"object x 1000000000001\n", b"refused 1 2 bad-number\n"),
+        (b"participant 9a\n", b"refused 1 3 bad-name\n"),
+        (b"object x 1\nobject x 2\n", b"refused 2 11 twice\n"),
+        (b"play w ann\n", b"refused 1 10 unknown\n"),
+        (b"participant ann\naction w\n", b"refused 3 1 bad-line\n"),
+        (b"participant ann\naction w\nend\n", b"refused 3 14 role-unfilled\n"),
+        (
+            b"graph f\nexception z\nend\ngraph g\nexception c\nexception d\nexception a\nexception b\ncover c a\ncover c b\ncover d a\ncover d b\nend\n",
+            b"refused 13 13 no-least a b\n",
+        ),
+        (
+            b"graph f\nexception a\nend\ngraph g\nexception a\ncover a universal\nend\n",
+            b"refused 7 12 cycle universal\n",
+        ),
+    ];
+    for (script, line) in cases {
+        let (status, text, entries) = call(rt.alloc(), &["check"], script)?;
+        assert_eq!(rt; status, Status::Refused);
+        assert_eq!(rt; text.as_slice(), line);
+        assert_eq!(rt; entries, 0);
+    }
+    Ok(())
+}
+
+#[test]
+fn faults_are_told(rt: HostRuntime) -> Result<(), Fail> {
+    let words = words_of(rt.alloc(), &["sim", "1"])?;
+    let mut source = MemSource::new(rt.alloc(), ORDINARY_USE, &[])?;
+    let mut sink = MemSink::new(rt.alloc(), 1000, &[])?;
+    let plant = MemPlant::new(true);
+    let ended = top_quiet(rt.alloc(), words.as_slice(), &mut source, &mut sink, plant);
+    assert_eq!(rt; ended.status, Status::PlantFault);
+    assert_eq!(rt; sink.bytes(), b"fault plant\n".as_slice());
+    assert_eq!(rt; ended.journal.len(), 0);
+
+    for n in 1..=ORDINARY_USE.len() as u64 + 1 {
+        let mut source = OneByteSource::new(rt.alloc(), ORDINARY_USE, &[n])?;
+        let mut sink = MemSink::new(rt.alloc(), 1000, &[])?;
+        let plant = MemPlant::new(false);
+        let ended = top_quiet(rt.alloc(), words.as_slice(), &mut source, &mut sink, plant);
+        assert_eq!(rt; ended.status, Status::SourceFault);
+        assert_eq!(rt; sink.bytes(), b"fault source\n".as_slice());
+        assert_eq!(rt; ended.journal.len(), 0);
+    }
+    Ok(())
+}
+
+#[test]
+fn what_is_not_written_whole_is_a_sink_fault(rt: HostRuntime) -> Result<(), Fail> {
+    let words = words_of(rt.alloc(), &["sim", "1"])?;
+    for n in 1..=ORDINARY_USE_TEXT.len() {
+        let mut source = MemSource::new(rt.alloc(), ORDINARY_USE, &[])?;
+        let mut sink = OneByteSink::new(rt.alloc(), 1000, &[n as u64])?;
+        let plant = MemPlant::new(false);
+        let ended = top_quiet(rt.alloc(), words.as_slice(), &mut source, &mut sink, plant);
+        assert_eq!(rt; ended.status, Status::SinkFault);
+        assert_eq!(rt; sink.bytes(), &ORDINARY_USE_TEXT[..n - 1]);
+        assert_eq!(rt; ended.journal.len(), 11);
+    }
+    Ok(())
+}
+
+#[test]
+fn audits_journals(rt: HostRuntime) -> Result<(), Fail> {
+    let alloc = rt.alloc();
+    let whole = joined(alloc, &[ORDINARY_USE, ORDINARY_USE_TEXT])?;
+    let (status, text, entries) = call(alloc, &["audit"], whole.as_slice())?;
+    assert_eq!(rt; status, Status::Done);
+    assert_eq!(rt; text.as_slice(), b"legal 11\n".as_slice());
+    assert_eq!(rt; entries, 11);
+
+    // Without a journal, without its last line, with another journal, and with a verdict before the write that it follows.
+    let exchanged: [&[u8]; 5] = [
+        ORDINARY_USE,
+        &ORDINARY_USE_TEXT[..46],
+        &ORDINARY_USE_TEXT[62..81],
+        &ORDINARY_USE_TEXT[46..62],
+        &ORDINARY_USE_TEXT[81..],
+    ];
+    let cut = &ORDINARY_USE_TEXT[..ORDINARY_USE_TEXT.len() - 22];
+    let cases: [(&[&[u8]], &[u8]); 4] = [
+        (&[ORDINARY_USE], b"illegal 15\n"),
+        (&[ORDINARY_USE, cut], b"illegal 29\n"),
+        (&[ORDINARY_USE, FIRST_PATH_TEXT], b"illegal 27\n"),
+        (&exchanged, b"illegal 19\n"),
+    ];
+    for (parts, line) in cases {
+        let input = joined(alloc, parts)?;
+        let (status, text, entries) = call(alloc, &["audit"], input.as_slice())?;
+        assert_eq!(rt; status, Status::Illegal);
+        assert_eq!(rt; text.as_slice(), line);
+        assert_eq!(rt; entries, 0);
+    }
+
+    // The script before the journal is refused as any script.
+    let input = joined(alloc, &[b"object x 1\nobject x 2\n", ORDINARY_USE_TEXT])?;
+    let (status, text, _) = call(alloc, &["audit"], input.as_slice())?;
+    assert_eq!(rt; status, Status::Refused);
+    assert_eq!(rt; text.as_slice(), b"refused 2 11 twice\n".as_slice());
+    Ok(())
+}
