@@ -1,2 +1,5 @@
 mod Answers
 mod LineStarts
+mod Refusals
+mod Reversed
+mod Serving

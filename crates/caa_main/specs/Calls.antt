@@ -159,3 +159,23 @@ pub record WasLost {P : Type 0} (call : Call P) (sink : SinkUse) (answer : Statu
 
 abbrev pub Answers : {P : Type 0} → Call P → SinkUse → Status → Type 0
 Answers call sink answer = WroteAll call sink answer ⊎ (WasCutOff call sink answer ⊎ WasLost call sink answer)
+
+-- ---- completeness
+
+-- the words are `check` or `sim SEED`, the source tells the bytes of a script that has a plan, and no count rose: of failed reads, of
+-- failed writes, and of refusals to be laid out
+pub record IsServable {P : Type 0} (call : Call P) (sink : SinkUse) : Type 0 where
+  pub asked : Command
+  pub given : command_of call.words ≡ Some asked
+  pub unjudged : asked ≡ command.Audit → ⊥
+  pub bytes : List ℕ
+  pub told : call.source.left_before ≡ Some bytes
+  pub plan : Plan
+  pub script : HasPlan bytes plan
+  pub read : Rose call.source.faults_before call.source.faults_after → ⊥
+  pub laid : Rose call.left.plant.lay_faults_before call.left.plant.lay_faults_after → ⊥
+  pub written : Rose sink.faults_before sink.faults_after → ⊥
+
+-- the command was served, or no memory was found
+abbrev pub WasServed : Status → Type 0
+WasServed answer = (answer ≡ status.Done) ⊎ ((answer ≡ status.SomeFailed) ⊎ (answer ≡ status.OutOfMemory))

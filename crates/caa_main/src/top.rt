@@ -2,7 +2,7 @@ ghost use Rattle.std.specs.Prelude.{◌≡◌, ◌<◌, ◌≤◌, ◌^◌, [], 
 ghost use Rattle.caa_main.specs.Commands.{command_of, HasSeed};
 ghost use Rattle.caa_main.specs.Plays.{is_failed_play, has_failed_play};
 ghost use Rattle.caa_main.specs.Uses.{source_use, sink_use, plant_use, left_of, call_of, IsIdle};
-ghost use Rattle.caa_main.specs.Calls.{CheckComesTo, SimComesTo, AuditComesTo, PlanComesTo, InputComesTo, unread_finding, CameTo, Answers};
+ghost use Rattle.caa_main.specs.Calls.{CheckComesTo, SimComesTo, AuditComesTo, PlanComesTo, InputComesTo, unread_finding, CameTo, Answers, IsServable, WasServed};
 ghost use Rattle.caa_main.specs.Inputs.{most_bytes, script_in};
 
 use crate::command::{Command, command_of};
@@ -98,17 +98,20 @@ fn play<P: Plant>(alloc: Global, plan: Plan, seed: u32, plant: P) -> Coming<P>
         }
     };
     let (plan, plant, journal) = sim(hall, seed).into_parts();
-    let finding = match write(alloc, &plan, &journal, &Seens::empty(alloc)) {
-        Ok(text) => Finding::Played {
-            failed: has_failed_play(&plan, &journal),
-            text,
+    match write(alloc, &plan, &journal, &Seens::empty(alloc)) {
+        Ok(text) => Coming {
+            finding: Finding::Played {
+                failed: has_failed_play(&plan, &journal),
+                text,
+            },
+            plant,
+            journal,
         },
-        Err(_) => Finding::OutOfMemory,
-    };
-    Coming {
-        finding,
-        plant,
-        journal,
+        Err(_) => Coming {
+            finding: Finding::OutOfMemory,
+            plant,
+            journal,
+        },
     }
 }
 
@@ -239,19 +242,8 @@ fn journal_kept(alloc: Global, is_played: bool, journal: Journal) -> Journal
     }
 }
 
-/// Serves the command of the words, from a source to a sink, over a device. It always returns.
-///
-/// `check` reads a script and tells how large its plan is. `sim SEED`, with a seed from 0 to 2147483647, plays it to its end by the
-/// schedule of the seed and writes the text of the journal. `audit` reads a script and the text of a journal after it, and tells
-/// whether the journal is legal and complete. Things are tried in this order: the words (`Usage`); the reading (`SourceFault`, or
-/// `Refused` where it is too long); the script (`Refused`); for `audit` the journal (`Refused` past its most entries, or `Illegal`);
-/// for `sim` that the device is laid out (`PlantFault`), and the play (`SomeFailed` where a play failed); and the writing. Where the
-/// text of any status can't be written whole, the status is `SinkFault`, and a part of that text was written. At `OutOfMemory` nothing
-/// was written; it never comes for wrong words.
-///
-/// The journal that is handed back is the played one, wherever the script was played; for `audit` at `Done` the one that was read;
-/// and else empty. The device is as it was for `check` and `audit`, and wherever nothing was tried beyond the script.
-pub fn top_quiet<S: Source, K: Sink, P: Plant>(
+/// Serves the command of the words, and answers.
+fn answer<S: Source, K: Sink, P: Plant>(
     alloc: Global,
     words: &[String],
     source: &mut S,
@@ -294,6 +286,46 @@ pub fn top_quiet<S: Source, K: Sink, P: Plant>(
             journal: journal_kept(alloc, is_played, journal),
         },
     }
+}
+
+/// Serves the command of the words, from a source to a sink, over a device. It always returns.
+///
+/// `check` reads a script and tells how large its plan is. `sim SEED`, with a seed from 0 to 2147483647, plays it to its end by the
+/// schedule of the seed and writes the text of the journal. `audit` reads a script and the text of a journal after it, and tells
+/// whether the journal is legal and complete. Things are tried in this order: the words (`Usage`); the reading (`SourceFault`, or
+/// `Refused` where it is too long); the script (`Refused`); for `audit` the journal (`Refused` past its most entries, or `Illegal`);
+/// for `sim` that the device is laid out (`PlantFault`), and the play (`SomeFailed` where a play failed); and the writing. Where the
+/// text of any status can't be written whole, the status is `SinkFault`, and a part of that text was written. At `OutOfMemory` nothing
+/// was written; it never comes for wrong words.
+///
+/// The journal that is handed back is the played one, wherever the script was played; for `audit` at `Done` the one that was read;
+/// and else empty. The device is as it was for `check` and `audit`, and wherever nothing was tried beyond the script.
+pub fn top_quiet<S: Source, K: Sink, P: Plant>(
+    alloc: Global,
+    words: &[String],
+    source: &mut S,
+    sink: &mut K,
+    plant: P,
+) -> Ended<P>
+    ensures answer { Answers
+        (call_of (map string_bytes words.now) (source_use ⟦<S as Source>⟧ source.old source.new)
+        (left_of (plant_use ⟦<P as Plant>⟧ plant result.plant) result.journal.entries))
+        (sink_use ⟦<K as Sink>⟧ sink.old sink.new)
+        result.status }
+
+    // Words of a script's command, a script that has a plan, and no fault: the command is served, or memory was wanting.
+    ensures completeness { IsServable
+        (call_of (map string_bytes words.now) (source_use ⟦<S as Source>⟧ source.old source.new)
+        (left_of (plant_use ⟦<P as Plant>⟧ plant result.plant) result.journal.entries))
+        (sink_use ⟦<K as Sink>⟧ sink.old sink.new)
+        → WasServed result.status }
+
+    ensures untouched { command_of (map string_bytes words.now) ≡ None → source.new ≡ source.old }
+    ensures room { K.room sink.new ≡ K.room sink.old }
+    ensures source_count { S.faults source.old ≤ S.faults source.new }
+    ensures sink_count { K.faults sink.old ≤ K.faults sink.new }
+{
+    answer(alloc, words, source, sink, plant)
 }
 
 #[cfg(test)]

@@ -1,7 +1,7 @@
-use Rattle.std.proofs.Common.{◌≡◌, subst, inr, refl, Err}
+use Rattle.std.proofs.Common.{◌≡◌, subst, inr, refl, Ok, Err}
 use Rattle.script_checker.specs.declared.error.CheckCause.TheVariants as cause
 use Rattle.caa_main.specs.Scripts.{IsCause}
-use Rattle.caa_main.proofs.Answers.{refusal_answered}
+use Rattle.caa_main.proofs.Answers.{plan_answered, refusal_answered}
 use Rattle.caa_main.proofs.scripts.plan_of.Goals as goal
 
 pub returns-clause-refused : goal.returns-clause-refused
@@ -19,3 +19,10 @@ returns-clause-refused c =
       line = c.from-in-Err-compile.ensures;
       fault = told;
     })
+
+pub returns-in-Ok-compile-clause-plan : goal.returns-in-Ok-compile-clause-plan
+returns-in-Ok-compile-clause-plan c = record {
+  script = c.in-Ok.script;
+  spelled = c.in-Ok.ensures.read;
+  compiled = plan_answered c.in-Ok.script (Ok c.in-Ok-compile.plan) c.in-Ok-compile.plan c.in-Ok-compile.ensures refl;
+}

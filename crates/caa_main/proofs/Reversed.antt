@@ -1,0 +1,12 @@
+-- What holds of each entry of a past holds of each entry of the journal.
+use Rattle.std.proofs.Common.{◌≡◌, ℕ, ◌-◌, List, sym, subst, arith, length, get_or, reverse}
+use Rattle.std.specs.List.{All}
+use Rattle.std.proofs.lemmas.List.{reverse-reverse, length-reverse, get_or-reverse}
+use Rattle.caa_base.specs.declared.entry.Entry.{Entry}
+
+pub all_reversed : (P : Entry → Type 0) (es : List Entry) → All P (reverse es) → All P es
+all_reversed P es h k d l =
+    let n : ℕ = length (reverse es) in
+    let same_length : n ≡ length es = length-reverse es in
+    let there : get_or es k d ≡ get_or (reverse es) (n - 1 - k) d = rw reverse-reverse at (get_or-reverse (reverse es) k d (omega arith)) in
+    subst P (sym there) (h (n - 1 - k) d (omega arith))
