@@ -41,7 +41,11 @@ fn sim_of(words: &[String]) -> Option<Command>
 fn alone(command: Command, words: &[String]) -> Option<Command>
     ensures { result ≡ alone command (map string_bytes words.now) }
 {
-    if words.is_empty() { Some(command) } else { None }
+    if words.is_empty() {
+        Some(command)
+    } else {
+        None
+    }
 }
 
 /// The command of these words, where they are those of a command that is built.

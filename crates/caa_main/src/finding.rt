@@ -138,9 +138,7 @@ impl Finding {
         ensures wanting { IsErr result → needs_memory self ≡ true }
     {
         match self {
-            Finding::Usage => Ok(Text::Fixed(
-                b"usage: check | sim SEED | run | audit | cell N\n",
-            )),
+            Finding::Usage => Ok(Text::Fixed(b"usage: check | sim SEED | run | audit | cell N\n")),
             Finding::SourceFault => Ok(Text::Fixed(b"fault source\n")),
             Finding::PlantFault => Ok(Text::Fixed(b"fault plant\n")),
             Finding::OutOfMemory => Ok(Text::Fixed(b"")),

@@ -91,7 +91,10 @@ fn other_words_are_usage(rt: HostRuntime) -> Result<(), Fail> {
     for words in cases {
         let (status, text, entries) = call(rt.alloc(), words, FIRST_PATH)?;
         assert_eq!(rt; status, Status::Usage);
-        assert_eq!(rt; text.as_slice(), b"usage: check | sim SEED | run | audit | cell N\n".as_slice());
+        assert_eq!(rt;
+            text.as_slice(),
+            b"usage: check | sim SEED | run | audit | cell N\n".as_slice()
+        );
         assert_eq!(rt; entries, 0);
     }
     Ok(())
@@ -105,7 +108,10 @@ fn refusals_are_told(rt: HostRuntime) -> Result<(), Fail> {
         (b"object x 1\nobject x 2\n", b"refused 2 11 twice\n"),
         (b"play w ann\n", b"refused 1 10 unknown\n"),
         (b"participant ann\naction w\n", b"refused 3 1 bad-line\n"),
-        (b"participant ann\naction w\nend\n", b"refused 3 14 role-unfilled\n"),
+        (
+            b"participant ann\naction w\nend\n",
+            b"refused 3 14 role-unfilled\n",
+        ),
         (
             b"graph f\nexception z\nend\ngraph g\nexception c\nexception d\nexception a\nexception b\ncover c a\ncover c b\ncover d a\ncover d b\nend\n",
             b"refused 13 13 no-least a b\n",

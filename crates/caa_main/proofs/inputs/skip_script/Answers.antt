@@ -10,7 +10,7 @@ loop-line-preserved c =
     let more = c.cut_line.result.1.now in
     let test : is_journal_line line ≡ false = ap begins_journal (sym c.without_blanks.ensures) ∙ sym c.begins_journal.ensures ∙ c.if-begins_journal.false in
     let step : lines_before (lines_of c.loop-line.rest.now) ≡ suc (lines_before (lines_of more)) =
-        ap lines_before c.cut_line.ensures.cut ∙ ap (λ b. cond b 0 (suc (lines_before (lines_of more)))) test in
+    ap lines_before c.cut_line.ensures.cut ∙ ap (λ b. cond b 0 (suc (lines_before (lines_of more)))) test in
     record {
       counted = omega (arith, kept.counted, step);
       few = omega (arith, kept.few, c.cut_line.ensures.shorter);
