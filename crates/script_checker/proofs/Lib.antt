@@ -4,3 +4,11 @@ pub mod Taking
 pub mod Accepted
 pub mod ActionsGrow
 pub mod EntersKept
+pub mod ListsChange
+pub mod CountsKept
+pub mod PartsFit
+pub mod GraphsKept
+pub mod AcceptedDraft
+pub mod NestsKept
+pub mod NestTests
+pub mod OrderKept
