@@ -1,8 +1,13 @@
 -- The draft of an accepted script keeps rules of place_plan.
-use Rattle.std.proofs.Common.{◌≡◌, ℕ, ◌≤◌, nat_le, true, ◌&&◌, List, [], ◌∷◌, length, refl, sym, ap, ◌∙◌, arith}
-use Rattle.std.proofs.lemmas.Bool.{le-leb}
+use Rattle.std.proofs.Common.{◌≡◌, ℕ, ◌≤◌, nat_le, nat_lt, ◌==◌, true, ◌&&◌, List, [], ◌∷◌, length, slice_index_or, refl, sym, subst, arith}
+use Rattle.std.specs.List.{list_all}
+use Rattle.std.proofs.lemmas.Bool.{le-leb, and_parts}
+use Rattle.place_plan.specs.declared.rows.ActionRow.{ActionRow}
+use Rattle.place_plan.specs.declared.rows.NestRow.{NestRow}
+use Rattle.place_plan.specs.declared.rows.PlayRow.{PlayRow}
+use Rattle.place_plan.specs.Places.{no_action}
 use Rattle.place_plan.specs.declared.draft.Draft.{Draft}
-use Rattle.place_plan.specs.DraftRules.{size_rule, graph_rule, enter_rule}
+use Rattle.place_plan.specs.DraftRules.{size_rule, graph_rule, order_rule, enter_rule, fill_rule, fills, nest_fills, all_below, all_differ, face_rule, has_one_face}
 use Rattle.action_script.specs.declared.kind.Section.TheVariants as section
 use Rattle.action_script.specs.declared.script.Line.{Line}
 use Rattle.action_script.specs.Printing.{AreScript, forms_of}
@@ -12,6 +17,11 @@ use Rattle.script_checker.proofs.Accepted.{holds_after}
 use Rattle.script_checker.proofs.CountsKept.{AreFew, counts_kept, few_at_first}
 use Rattle.script_checker.proofs.PartsFit.{ActionsFit, fits_kept}
 use Rattle.script_checker.proofs.EntersKept.{AllEnter, enters_kept}
+use Rattle.caa_base.proofs.ListLemmas.{all_imply}
+use Rattle.script_checker.proofs.NestsKept.{Pass, pass_kept}
+use Rattle.script_checker.proofs.NestTests.{both, uses_filled, filled_test, uses_faced, faced_test}
+use Rattle.script_checker.proofs.OrderKept.{IsInOrder, order_kept}
+use Rattle.script_checker.proofs.PlaysKept.{play_right, PlaysRight, plays_kept}
 use Rattle.script_checker.proofs.GraphsKept.{IsPlainFirst, first_kept, rows_first, rows_named, rows_many}
 
 module _ (names : List (List ℕ)) (lines : List Line) (script : AreScript names (forms_of lines)) (accepted : AreAccepted names (nothing_yet names) lines) (draft : Draft) (drafted : IsDraftOf names (declared_after names (nothing_yet names) lines) draft) where
@@ -45,3 +55,42 @@ module _ (names : List (List ℕ)) (lines : List Line) (script : AreScript names
   -- each role enters just the uses that it fills
   pub keeps_enters : enter_rule draft ≡ true
   keeps_enters = rw drafted.actions (holds_after names AllEnter (enters_kept names) section.Top (nothing_yet names) lines script.lead script.sound accepted refl)
+
+  -- what an action nests was declared before it
+  pub keeps_order : order_rule draft ≡ true
+  keeps_order =
+      let h = holds_after names (λ at s. IsInOrder s) (order_kept names) section.Top (nothing_yet names) lines script.lead script.sound accepted (record { there = record { open_rows = refl; ended_rows = refl }; order = refl }) in
+      rw drafted.actions h.order
+
+  -- every role of what is nested or played is filled, each by another
+  nests_filled : list_all (λ (action : ActionRow). list_all (nest_fills draft) action.nests) draft.actions ≡ true
+  nests_filled =
+      let h = holds_after names (λ at s. Pass uses_filled s) (pass_kept uses_filled filled_test names) section.Top (nothing_yet names) lines script.lead script.sound accepted (record { open_rows = refl; ended_rows = refl }) in
+      all_imply (λ (action : ActionRow). list_all (uses_filled draft.actions last.graphs) action.nests) (λ (action : ActionRow). list_all (nest_fills draft) action.nests) draft.actions
+      (λ action k. all_imply (uses_filled draft.actions last.graphs) (nest_fills draft) action.nests
+      (λ nest m.
+      let p = and_parts (all_below (length draft.actions) nest.actions) _ m in
+      let q = and_parts (all_differ nest.roles) _ p.1 in
+      all_imply (λ a. length nest.roles == length (slice_index_or draft.actions a no_action).roles) (λ a. fills draft a nest.roles) nest.actions (λ a e. both _ _ e q.0) q.1)
+      k)
+      (subst (λ (actions : List ActionRow). list_all (λ (action : ActionRow). list_all (uses_filled actions last.graphs) action.nests) actions ≡ true) (sym drafted.actions) h.ended_rows)
+
+  plays_right : list_all (play_right (length last.participants) draft.actions) draft.plays ≡ true
+  plays_right =
+      let h = holds_after names (λ at s. PlaysRight s) (plays_kept names) section.Top (nothing_yet names) lines script.lead script.sound accepted refl in
+      rw (drafted.actions, drafted.plays) h
+
+  pub keeps_fillings : fill_rule draft ≡ true
+  keeps_fillings =
+      both _ _ nests_filled
+      (all_imply (play_right (length last.participants) draft.actions) (λ (play : PlayRow). fills draft play.action play.who) draft.plays
+      (λ play h. (and_parts (all_below (length last.participants) play.who) _ (and_parts (nat_lt play.action (length draft.actions)) _ h).1).1)
+      plays_right)
+
+  -- all actions of a use tell the same exceptions outside
+  pub keeps_faces : face_rule draft ≡ true
+  keeps_faces =
+      let h = holds_after names (λ at s. Pass uses_faced s) (pass_kept uses_faced faced_test names) section.Top (nothing_yet names) lines script.lead script.sound accepted (record { open_rows = refl; ended_rows = refl }) in
+      all_imply (λ (action : ActionRow). list_all (uses_faced draft.actions last.graphs) action.nests) (λ (action : ActionRow). list_all (has_one_face draft) action.nests) draft.actions
+      (λ action k. all_imply (uses_faced draft.actions last.graphs) (has_one_face draft) action.nests (λ nest m. (and_parts (all_below (length draft.actions) nest.actions) _ m).1) k)
+      (subst (λ (actions : List ActionRow). list_all (λ (action : ActionRow). list_all (uses_faced actions last.graphs) action.nests) actions ≡ true) (sym drafted.actions) h.ended_rows)

@@ -8,7 +8,8 @@ pub mod ListsChange
 pub mod CountsKept
 pub mod PartsFit
 pub mod GraphsKept
-pub mod AcceptedDraft
 pub mod NestsKept
 pub mod NestTests
 pub mod OrderKept
+pub mod PlaysKept
+pub mod AcceptedDraft

@@ -1,5 +1,5 @@
 -- Nested uses are of actions that are there, whose roles are filled, and which tell the same exceptions outside.
-use Rattle.std.proofs.Common.{◌≡◌, ℕ, suc, zero, ◌+◌, ◌<◌, nat_lt, ◌==◌, Bool, true, false, not, cond, ◌&&◌, ◌||◌, List, [], ◌∷◌, ◌++◌, map, length, slice_index_or, refl, sym, ap, ◌∙◌, arith, length-append}
+use Rattle.std.proofs.Common.{◌≡◌, ℕ, suc, zero, ◌+◌, ◌<◌, nat_lt, ◌==◌, Bool, true, false, not, cond, ◌&&◌, ◌||◌, List, [], ◌∷◌, ◌++◌, map, length, slice_index_or, refl, sym, ap, ◌∙◌, subst, arith, length-append}
 use Rattle.std.proofs.lemmas.List.{length-map}
 use Rattle.std.specs.List.{list_all}
 use Rattle.std.proofs.lemmas.Bool.{and_parts, false≢true, ltb-true, lt-ltb, eqb-true, eq-eqb}
@@ -29,6 +29,9 @@ neither false b h = absurd (false≢true (sym h))
 pub nor : (a b : Bool) → (a || b) ≡ false → (a ≡ false) × (b ≡ false)
 nor true b h = absurd (false≢true (sym h))
 nor false b h = (refl, h)
+
+pub both : (a b : Bool) → a ≡ true → b ≡ true → (a && b) ≡ true
+both a b h k = rw (h, k) refl
 
 pub is_not_not : (a : Bool) → not a ≡ false → a ≡ true
 is_not_not true h = refl
@@ -88,7 +91,7 @@ acts_same p actions more (a ∷ acts) b h =
 abbrev pub uses_there : List ActionRow → List DeclaredGraph → NestRow → Bool
 uses_there actions graphs row = all_below (length actions) row.actions
 
-one_longer : (actions : List ActionRow) (more : ActionRow) → length actions < length (actions ++ more ∷ [])
+pub one_longer : (actions : List ActionRow) (more : ActionRow) → length actions < length (actions ++ more ∷ [])
 one_longer actions more = let n : length (actions ++ more ∷ []) ≡ length actions + 1 = length-append actions (more ∷ []) in omega arith
 
 pub there_test : IsNestTest uses_there
@@ -114,7 +117,7 @@ fits_roles row action = length row.roles == length action.roles
 abbrev pub uses_filled : List ActionRow → List DeclaredGraph → NestRow → Bool
 uses_filled actions graphs row = all_below (length actions) row.actions && (all_differ row.roles && list_all (λ a. fits_roles row (slice_index_or actions a no_action)) row.actions)
 
-eqb_turn : (a b : ℕ) → (a == b) ≡ true → (b == a) ≡ true
+pub eqb_turn : (a b : ℕ) → (a == b) ≡ true → (b == a) ≡ true
 eqb_turn a b h = eq-eqb b a (sym (eqb-true a b h))
 
 pub filled_test : IsNestTest uses_filled
@@ -158,7 +161,9 @@ abbrev pub uses_faced : List ActionRow → List DeclaredGraph → NestRow → Bo
 uses_faced actions graphs row = one_face actions row.actions
 
 one_face_more : (actions : List ActionRow) (acts : List ℕ) (a : ℕ) → nat_lt a (length actions) ≡ true → tells (face_in actions acts) (slice_index_or actions a no_action) ≡ true → one_face actions acts ≡ true → one_face actions (acts ++ a ∷ []) ≡ true
-one_face_more actions [] a l f h = rw (l, eq-eqb _ _ (refl {x = (slice_index_or actions a no_action).interface})) refl
+one_face_more actions [] a l f h =
+    let face = (slice_index_or actions a no_action).interface in
+    rw (l, eq-eqb face face refl) refl
 one_face_more actions (b ∷ acts) a l f h =
     let p = and_parts (all_below (length actions) (b ∷ acts)) _ h in
     rw (all_push (λ a. nat_lt a (length actions)) (b ∷ acts) a p.0 l,
@@ -170,7 +175,8 @@ one_face_longer actions action (b ∷ acts) h =
     let p = and_parts (all_below (length actions) (b ∷ acts)) _ h in
     let k = and_parts (nat_lt b (length actions)) (all_below (length actions) acts) p.0 in
     let e : face_in (actions ++ action ∷ []) (b ∷ acts) ≡ face_in actions (b ∷ acts) = ap (λ (a : ActionRow). a.interface) (same_action actions action b (ltb-true _ _ k.0)) in
-    rw (below_more (length actions) _ (b ∷ acts) (one_longer actions action) p.0, e) (acts_same (tells (face_in actions (b ∷ acts))) actions action (b ∷ acts) p.0 p.1)
+    both _ _ (below_more (length actions) _ (b ∷ acts) (one_longer actions action) p.0)
+    (subst (λ (face : ℕ). list_all (λ a. tells face (slice_index_or (actions ++ action ∷ []) a no_action)) (b ∷ acts) ≡ true) (sym e) (acts_same (tells (face_in actions (b ∷ acts))) actions action (b ∷ acts) p.0 p.1))
 
 pub faced_test : IsNestTest uses_faced
 faced_test = record {
