@@ -7,7 +7,7 @@ use Rattle.place_plan.specs.declared.rows.NestRow.{NestRow}
 use Rattle.place_plan.specs.declared.rows.PlayRow.{PlayRow}
 use Rattle.place_plan.specs.Places.{no_action}
 use Rattle.place_plan.specs.declared.draft.Draft.{Draft}
-use Rattle.place_plan.specs.DraftRules.{size_rule, graph_rule, order_rule, enter_rule, fill_rule, fills, nest_fills, all_below, all_differ, face_rule, has_one_face}
+use Rattle.place_plan.specs.DraftRules.{size_rule, graph_rule, order_rule, enter_rule, fill_rule, fills, nest_fills, all_below, all_differ, face_rule, has_one_face, object_rule, action_held, role_held, nest_held}
 use Rattle.action_script.specs.declared.kind.Section.TheVariants as section
 use Rattle.action_script.specs.declared.script.Line.{Line}
 use Rattle.action_script.specs.Printing.{AreScript, forms_of}
@@ -20,6 +20,7 @@ use Rattle.script_checker.proofs.EntersKept.{AllEnter, enters_kept}
 use Rattle.caa_base.proofs.ListLemmas.{all_imply}
 use Rattle.script_checker.proofs.NestsKept.{Pass, pass_kept}
 use Rattle.script_checker.proofs.NestTests.{both, uses_filled, filled_test, uses_faced, faced_test}
+use Rattle.script_checker.proofs.HeldKept.{AreHeld, held_in, uses_held, held_kept}
 use Rattle.script_checker.proofs.OrderKept.{IsInOrder, order_kept}
 use Rattle.script_checker.proofs.PlaysKept.{play_right, PlaysRight, plays_kept}
 use Rattle.script_checker.proofs.GraphsKept.{IsPlainFirst, first_kept, rows_first, rows_named, rows_many}
@@ -94,3 +95,14 @@ module _ (names : List (List ℕ)) (lines : List Line) (script : AreScript names
       all_imply (λ (action : ActionRow). list_all (uses_faced draft.actions last.graphs) action.nests) (λ (action : ActionRow). list_all (has_one_face draft) action.nests) draft.actions
       (λ action k. all_imply (uses_faced draft.actions last.graphs) (has_one_face draft) action.nests (λ nest m. (and_parts (all_below (length draft.actions) nest.actions) _ m).1) k)
       (subst (λ (actions : List ActionRow). list_all (λ (action : ActionRow). list_all (uses_faced actions last.graphs) action.nests) actions ≡ true) (sym drafted.actions) h.ended_rows)
+
+  -- an action owns all objects that it touches
+  pub keeps_objects : object_rule draft ≡ true
+  keeps_objects =
+      let h = holds_after names (λ at s. AreHeld s) (held_kept names) section.Top (nothing_yet names) lines script.lead script.sound accepted
+          (record { open_held = λ e. record { steps_held = refl; roles_held = refl; nests_held = refl }; ended_held = refl }) in
+      all_imply (held_in draft.actions) (action_held draft) draft.actions
+      (λ action k.
+      let p = and_parts (list_all (role_held action.objects) action.roles) _ k in
+      both _ _ p.0 (all_imply (uses_held draft.actions action.objects) (nest_held draft action.objects) action.nests (λ nest m. (and_parts (all_below (length draft.actions) nest.actions) _ m).1) p.1))
+      (subst (λ (actions : List ActionRow). list_all (held_in actions) actions ≡ true) (sym drafted.actions) h.ended_held)

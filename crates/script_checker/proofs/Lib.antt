@@ -12,4 +12,5 @@ pub mod NestsKept
 pub mod NestTests
 pub mod OrderKept
 pub mod PlaysKept
+pub mod HeldKept
 pub mod AcceptedDraft
