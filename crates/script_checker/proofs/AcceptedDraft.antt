@@ -7,7 +7,7 @@ use Rattle.place_plan.specs.declared.rows.NestRow.{NestRow}
 use Rattle.place_plan.specs.declared.rows.PlayRow.{PlayRow}
 use Rattle.place_plan.specs.Places.{no_action}
 use Rattle.place_plan.specs.declared.draft.Draft.{Draft}
-use Rattle.place_plan.specs.DraftRules.{size_rule, graph_rule, order_rule, enter_rule, fill_rule, fills, nest_fills, all_below, all_differ, face_rule, has_one_face, object_rule, action_held, role_held, nest_held}
+use Rattle.place_plan.specs.DraftRules.{size_rule, graph_rule, order_rule, enter_rule, fill_rule, fills, nest_fills, all_below, all_differ, face_rule, has_one_face, depth_rule, depths_fit, object_rule, action_held, role_held, nest_held}
 use Rattle.action_script.specs.declared.kind.Section.TheVariants as section
 use Rattle.action_script.specs.declared.script.Line.{Line}
 use Rattle.action_script.specs.Printing.{AreScript, forms_of}
@@ -21,6 +21,7 @@ use Rattle.caa_base.proofs.ListLemmas.{all_imply}
 use Rattle.script_checker.proofs.NestsKept.{Pass, pass_kept}
 use Rattle.script_checker.proofs.NestTests.{both, uses_filled, filled_test, uses_faced, faced_test}
 use Rattle.script_checker.proofs.HeldKept.{AreHeld, held_in, uses_held, held_kept}
+use Rattle.script_checker.proofs.DepthsKept.{AreShallow, depths_kept, depths_within}
 use Rattle.script_checker.proofs.OrderKept.{IsInOrder, order_kept}
 use Rattle.script_checker.proofs.PlaysKept.{play_right, PlaysRight, plays_kept}
 use Rattle.script_checker.proofs.GraphsKept.{IsPlainFirst, first_kept, rows_first, rows_named, rows_many}
@@ -106,3 +107,10 @@ module _ (names : List (List ℕ)) (lines : List Line) (script : AreScript names
       let p = and_parts (list_all (role_held action.objects) action.roles) _ k in
       both _ _ p.0 (all_imply (uses_held draft.actions action.objects) (nest_held draft action.objects) action.nests (λ nest m. (and_parts (all_below (length draft.actions) nest.actions) _ m).1) p.1))
       (subst (λ (actions : List ActionRow). list_all (held_in actions) actions ≡ true) (sym drafted.actions) h.ended_held)
+
+  -- no action is too deep
+  pub keeps_depths : depth_rule draft ≡ true
+  keeps_depths =
+      let h = holds_after names (λ at s. AreShallow s) (depths_kept names) section.Top (nothing_yet names) lines script.lead script.sound accepted
+          (record { there = record { open_rows = refl; ended_rows = refl }; depths = record { many = refl; open_rows = refl; tell = λ a l. absurd (omega arith) } }) in
+      rw drafted.actions (depths_within last.depths last.actions h.depths.tell h.there.ended_rows 0 last.actions (omega arith))

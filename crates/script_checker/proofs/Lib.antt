@@ -13,4 +13,5 @@ pub mod NestTests
 pub mod OrderKept
 pub mod PlaysKept
 pub mod HeldKept
+pub mod DepthsKept
 pub mod AcceptedDraft
