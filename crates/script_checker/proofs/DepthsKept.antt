@@ -80,7 +80,7 @@ deepest_small depths (nest ∷ nests) h =
 -- ---- the depths that are counted
 
 -- the table is above the depths of what the action nests, and within the limit
-abbrev IsDepth : List ℕ → List ActionRow → ℕ → Type 0
+abbrev pub IsDepth : List ℕ → List ActionRow → ℕ → Type 0
 IsDepth depths actions a = (suc (deepest (at depths) (slice_index_or actions a no_action).nests) ≤ at depths a) × (at depths a ≤ 8)
 
 pub record DepthsTell (depths : List ℕ) (actions : List ActionRow) (rows : List NestRow) : Type 0 where

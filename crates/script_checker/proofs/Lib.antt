@@ -14,4 +14,5 @@ pub mod OrderKept
 pub mod PlaysKept
 pub mod HeldKept
 pub mod DepthsKept
+pub mod WeightsTell
 pub mod AcceptedDraft
