@@ -27,18 +27,18 @@ use Rattle.script_checker.proofs.NestTests.{both, same_action, uses_there, there
 
 -- ---- tables
 
-at_longer : (table : List ℕ) (v a : ℕ) → a < length table → at (table ++ v ∷ []) a ≡ at table a
+pub at_longer : (table : List ℕ) (v a : ℕ) → a < length table → at (table ++ v ∷ []) a ≡ at table a
 at_longer [] v a l = absurd (omega arith)
 at_longer (x ∷ xs) v zero l = refl
 at_longer (x ∷ xs) v (suc a) l = at_longer xs v a (omega arith)
 
-at_last : (table : List ℕ) (v n : ℕ) → length table ≡ n → at (table ++ v ∷ []) n ≡ v
+pub at_last : (table : List ℕ) (v n : ℕ) → length table ≡ n → at (table ++ v ∷ []) n ≡ v
 at_last [] v zero e = refl
 at_last [] v (suc n) e = absurd (omega arith)
 at_last (x ∷ xs) v zero e = absurd (omega arith)
 at_last (x ∷ xs) v (suc n) e = at_last xs v n (omega arith)
 
-action_last : (actions : List ActionRow) (more : ActionRow) (n : ℕ) → length actions ≡ n → slice_index_or (actions ++ more ∷ []) n no_action ≡ more
+pub action_last : (actions : List ActionRow) (more : ActionRow) (n : ℕ) → length actions ≡ n → slice_index_or (actions ++ more ∷ []) n no_action ≡ more
 action_last [] more zero e = refl
 action_last [] more (suc n) e = absurd (omega arith)
 action_last (x ∷ xs) more zero e = absurd (omega arith)
@@ -95,7 +95,7 @@ closed_tell : (s : SoFar) (v : Verdict) (o : Option Opening) → Tell s → Tell
 closed_tell s v None h = h
 closed_tell s v (Some o) h = h
 
-nests_there : (actions : List ActionRow) (depths : List ℕ) (a : ℕ) → length depths ≡ length actions → a < length actions → list_all (λ (action : ActionRow). list_all (λ (nest : NestRow). all_below (length actions) nest.actions) action.nests) actions ≡ true → list_all (λ (nest : NestRow). all_below (length depths) nest.actions) (slice_index_or actions a no_action).nests ≡ true
+pub nests_there : (actions : List ActionRow) (depths : List ℕ) (a : ℕ) → length depths ≡ length actions → a < length actions → list_all (λ (action : ActionRow). list_all (λ (nest : NestRow). all_below (length actions) nest.actions) action.nests) actions ≡ true → list_all (λ (nest : NestRow). all_below (length depths) nest.actions) (slice_index_or actions a no_action).nests ≡ true
 nests_there actions depths a e l h =
     rw e (at_row (λ (action : ActionRow). list_all (λ (nest : NestRow). all_below (length actions) nest.actions) action.nests) actions a no_action h l)
 

@@ -15,4 +15,5 @@ pub mod PlaysKept
 pub mod HeldKept
 pub mod DepthsKept
 pub mod WeightsTell
+pub mod WeightsKept
 pub mod AcceptedDraft
