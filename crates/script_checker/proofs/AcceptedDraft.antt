@@ -7,7 +7,7 @@ use Rattle.place_plan.specs.declared.rows.NestRow.{NestRow}
 use Rattle.place_plan.specs.declared.rows.PlayRow.{PlayRow}
 use Rattle.place_plan.specs.Places.{no_action}
 use Rattle.place_plan.specs.declared.draft.Draft.{Draft}
-use Rattle.place_plan.specs.DraftRules.{size_rule, graph_rule, order_rule, enter_rule, fill_rule, fills, nest_fills, all_below, all_differ, face_rule, has_one_face, depth_rule, depths_fit, bound_rule, KeepsParts, object_rule, action_held, role_held, nest_held}
+use Rattle.place_plan.specs.DraftRules.{size_rule, graph_rule, order_rule, enter_rule, fill_rule, fills, nest_fills, all_below, all_differ, face_rule, has_one_face, depth_rule, depths_fit, handlers_differ, bound_rule, KeepsParts, object_rule, action_held, role_held, nest_held}
 use Rattle.action_script.specs.declared.kind.Section.TheVariants as section
 use Rattle.action_script.specs.declared.script.Line.{Line}
 use Rattle.action_script.specs.Printing.{AreScript, forms_of}
@@ -20,6 +20,7 @@ use Rattle.script_checker.proofs.EntersKept.{AllEnter, enters_kept}
 use Rattle.caa_base.proofs.ListLemmas.{all_imply}
 use Rattle.script_checker.proofs.NestsKept.{Pass, pass_kept}
 use Rattle.script_checker.proofs.NestTests.{both, uses_filled, filled_test, uses_faced, faced_test}
+use Rattle.script_checker.proofs.HandlersKept.{HandlersDiffer, differ_kept}
 use Rattle.script_checker.proofs.HeldKept.{AreHeld, held_in, uses_held, held_kept}
 use Rattle.script_checker.proofs.DepthsKept.{AreShallow, depths_kept, depths_within}
 use Rattle.place_plan.specs.Bound.{action_bound, bound}
@@ -146,3 +147,9 @@ module _ (names : List (List ℕ)) (lines : List Line) (script : AreScript names
       let few_places : length (plan_of draft).places ≤ 65536 = omega (arith, all_places, h.places.1) in
       let few_entries : bound (plan_of draft) ≤ 1000000 = omega (arith, whole, h.entries.1) in
       both _ _ (le-leb (length (plan_of draft).places) 65536 few_places) (le-leb (bound (plan_of draft)) 1000000 few_entries)
+
+  -- the handlers of a role have different exceptions
+  pub handlers_apart : list_all (λ (action : ActionRow). list_all handlers_differ action.roles) draft.actions ≡ true
+  handlers_apart =
+      let h = holds_after names (λ at s. HandlersDiffer s) (differ_kept names) section.Top (nothing_yet names) lines script.lead script.sound accepted (record { open_differ = (refl, refl); ended_differ = refl }) in
+      rw drafted.actions h.ended_differ

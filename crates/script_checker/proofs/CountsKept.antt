@@ -197,7 +197,7 @@ counts_kept names = record {
     graphs = closed_graphs s verdict.Done s.opening h.graphs;
     actions = closed_actions s verdict.Done s.opening h.actions;
   };
-  says = λ at s f stands sound none h. record {
+  says = λ at s f stands sound none shut h. record {
     participants = says_participants names s f (within s f none) h.participants;
     objects = says_objects names s f (within s f none) h.objects;
     drills = says_drills names s f (within s f none) h.drills;

@@ -156,7 +156,7 @@ pub record AreShallow (s : SoFar) : Type 0 where
 pub depths_kept : (names : List (List ℕ)) → IsKept names (λ at s. AreShallow s)
 depths_kept names = record {
   settles = λ at s h. record { there = (pass_kept uses_there there_test names).settles at s h.there; depths = closed_tell s verdict.Done s.opening h.depths };
-  says = λ at s f stands sound none h. record { there = (pass_kept uses_there there_test names).says at s f stands sound none h.there; depths = says_tell names s f none h.there h.depths };
+  says = λ at s f stands sound none shut h. record { there = (pass_kept uses_there there_test names).says at s f stands sound none shut h.there; depths = says_tell names s f none h.there h.depths };
 }
 
 -- ---- the depths of the actions

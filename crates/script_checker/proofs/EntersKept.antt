@@ -33,5 +33,5 @@ end_enters s f e h = absurd (false≢true e)
 pub enters_kept : (names : List (List ℕ)) → IsKept names AllEnter
 enters_kept names = record {
   settles = λ at s h. rw (closed_actions s verdict.Done s.opening) h;
-  says = λ at s f stands sound none h. said_actions names s f enters h (λ e. end_enters s f e (entered s f none));
+  says = λ at s f stands sound none shut h. said_actions names s f enters h (λ e. end_enters s f e (entered s f none));
 }

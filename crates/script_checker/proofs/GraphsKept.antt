@@ -51,7 +51,7 @@ module _ (names : List (List ℕ)) where
 pub first_kept : (names : List (List ℕ)) → IsKept names (λ at s. IsPlainFirst s)
 first_kept names = record {
   settles = λ at s h. closed_first s verdict.Done s.opening h;
-  says = λ at s f stands sound none h. says_first names s f h;
+  says = λ at s f stands sound none shut h. says_first names s f h;
 }
 
 -- ---- the rows

@@ -204,7 +204,7 @@ held_kept names = record {
     open_held = closed_held s verdict.Done s.opening h.open_held;
     ended_held = rw (closed_actions s verdict.Done s.opening) h.ended_held;
   };
-  says = λ at s f stands sound none h. record {
+  says = λ at s f stands sound none shut h. record {
     open_held = says_held names s f none h.open_held;
     ended_held = says_ended names s f h (ends_action s f) refl;
   };

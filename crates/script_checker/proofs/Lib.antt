@@ -16,4 +16,5 @@ pub mod HeldKept
 pub mod DepthsKept
 pub mod WeightsTell
 pub mod WeightsKept
+pub mod HandlersKept
 pub mod AcceptedDraft

@@ -88,5 +88,5 @@ module _ (test : List ActionRow → List DeclaredGraph → NestRow → Bool) (is
     pub pass_kept : IsKept names (λ at s. Pass test s)
     pass_kept = record {
       settles = λ at s h. closed_pass s verdict.Done s.opening h;
-      says = λ at s f stands sound none h. says_pass s f none h;
+      says = λ at s f stands sound none shut h. says_pass s f none h;
     }

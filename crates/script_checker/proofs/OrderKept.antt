@@ -36,8 +36,8 @@ order_kept names = record {
     there = (pass_kept uses_there there_test names).settles at s h.there;
     order = rw (closed_actions s verdict.Done s.opening) h.order;
   };
-  says = λ at s f stands sound none h. record {
-    there = (pass_kept uses_there there_test names).says at s f stands sound none h.there;
+  says = λ at s f stands sound none shut h. record {
+    there = (pass_kept uses_there there_test names).says at s f stands sound none shut h.there;
     order = says_order names s f h (ends_action s f) refl;
   };
 }

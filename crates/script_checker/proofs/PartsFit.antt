@@ -176,7 +176,7 @@ fits_kept names = record {
     nests = closed_nests s verdict.Done s.opening h.nests;
     actions = rw (closed_actions s verdict.Done s.opening) h.actions;
   };
-  says = λ at s f stands sound none h. record {
+  says = λ at s f stands sound none shut h. record {
     programs = says_programs names s f (within s f none) h.programs;
     roles = says_roles names s f (within s f none) h.roles;
     nests = says_nests names s f (within s f none) h.nests;

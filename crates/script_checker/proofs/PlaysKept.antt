@@ -89,5 +89,5 @@ module _ (names : List (List ℕ)) where
 pub plays_kept : (names : List (List ℕ)) → IsKept names (λ at s. PlaysRight s)
 plays_kept names = record {
   settles = λ at s h. closed_plays s verdict.Done s.opening h;
-  says = λ at s f stands sound none h. says_plays names s f none h;
+  says = λ at s f stands sound none shut h. says_plays names s f none h;
 }

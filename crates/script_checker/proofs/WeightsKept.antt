@@ -149,9 +149,9 @@ weights_kept names = record {
     places = closed_places s verdict.Done s.opening h.places;
     entries = closed_entries s verdict.Done s.opening h.entries;
   };
-  says = λ at s f stands sound none h. record {
-    there = (pass_kept uses_there there_test names).says at s f stands sound none h.there;
-    right = (plays_kept names).says at s f stands sound none h.right;
+  says = λ at s f stands sound none shut h. record {
+    there = (pass_kept uses_there there_test names).says at s f stands sound none shut h.there;
+    right = (plays_kept names).says at s f stands sound none shut h.right;
     places = says_places names s f none h.there h.right h.places;
     entries = says_entries names s f none h.there h.right h.entries;
   };
