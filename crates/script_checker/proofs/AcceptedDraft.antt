@@ -1,13 +1,12 @@
 -- The draft of an accepted script keeps rules of place_plan.
-use Rattle.std.proofs.Common.{◌≡◌, ℕ, ◌≤◌, nat_le, nat_lt, ◌==◌, true, ◌&&◌, List, [], ◌∷◌, length, slice_index_or, refl, sym, subst, ◌∙◌, ◌<◌, arith}
+use Rattle.std.proofs.Common.{◌≡◌, ℕ, ◌≤◌, nat_lt, ◌==◌, true, List, length, slice_index_or, refl, sym, subst, ◌∙◌, ◌<◌, arith}
 use Rattle.std.specs.List.{list_all}
 use Rattle.std.proofs.lemmas.Bool.{le-leb, and_parts}
 use Rattle.place_plan.specs.declared.rows.ActionRow.{ActionRow}
-use Rattle.place_plan.specs.declared.rows.NestRow.{NestRow}
 use Rattle.place_plan.specs.declared.rows.PlayRow.{PlayRow}
 use Rattle.place_plan.specs.Places.{no_action}
 use Rattle.place_plan.specs.declared.draft.Draft.{Draft}
-use Rattle.place_plan.specs.DraftRules.{size_rule, graph_rule, order_rule, enter_rule, fill_rule, fills, nest_fills, all_below, all_differ, face_rule, has_one_face, depth_rule, depths_fit, handlers_differ, bound_rule, KeepsParts, object_rule, action_held, role_held, nest_held}
+use Rattle.place_plan.specs.DraftRules.{size_rule, graph_rule, order_rule, enter_rule, fill_rule, fills, nest_fills, all_below, all_differ, face_rule, has_one_face, depth_rule, handlers_differ, bound_rule, KeepsParts, object_rule, action_held, role_held, nest_held}
 use Rattle.action_script.specs.declared.kind.Section.TheVariants as section
 use Rattle.action_script.specs.declared.script.Line.{Line}
 use Rattle.action_script.specs.Printing.{AreScript, forms_of}
@@ -23,9 +22,9 @@ use Rattle.script_checker.proofs.NestTests.{both, uses_filled, filled_test, uses
 use Rattle.script_checker.proofs.HandlersKept.{HandlersDiffer, differ_kept}
 use Rattle.script_checker.proofs.HeldKept.{AreHeld, held_in, uses_held, held_kept}
 use Rattle.script_checker.proofs.DepthsKept.{AreShallow, depths_kept, depths_within}
-use Rattle.place_plan.specs.Bound.{action_bound, bound}
+use Rattle.place_plan.specs.Bound.{bound}
 use Rattle.place_plan.specs.Unfolding.{plan_of}
-use Rattle.place_plan.specs.Weights.{counted, at, weight, played_weight}
+use Rattle.place_plan.specs.Weights.{counted, at, played_weight}
 use Rattle.place_plan.proofs.Weighing.{counted_places, counted_bound}
 use Rattle.script_checker.proofs.WeightsTell.{own_weights, own_at, weighs}
 use Rattle.script_checker.proofs.WeightsKept.{AreWeighed, weights_kept, one_place, own_entries}
@@ -108,7 +107,7 @@ module _ (names : List (List ℕ)) (lines : List Line) (script : AreScript names
   pub keeps_objects : object_rule draft ≡ true
   keeps_objects =
       let h = holds_after names (λ at s. AreHeld s) (held_kept names) section.Top (nothing_yet names) lines script.lead script.sound accepted
-          (record { open_held = λ e. record { steps_held = refl; roles_held = refl; nests_held = refl }; ended_held = refl }) in
+      (record { open_held = λ e. record { steps_held = refl; roles_held = refl; nests_held = refl }; ended_held = refl }) in
       all_imply (held_in draft.actions) (action_held draft) draft.actions
       (λ action k.
       let p = and_parts (list_all (role_held action.objects) action.roles) _ k in
@@ -119,29 +118,29 @@ module _ (names : List (List ℕ)) (lines : List Line) (script : AreScript names
   pub keeps_depths : depth_rule draft ≡ true
   keeps_depths =
       let h = holds_after names (λ at s. AreShallow s) (depths_kept names) section.Top (nothing_yet names) lines script.lead script.sound accepted
-          (record { there = record { open_rows = refl; ended_rows = refl }; depths = record { many = refl; open_rows = refl; tell = λ a l. absurd (omega arith) } }) in
+      (record { there = record { open_rows = refl; ended_rows = refl }; depths = record { many = refl; open_rows = refl; tell = λ a l. absurd (omega arith) } }) in
       rw drafted.actions (depths_within last.depths last.actions h.depths.tell h.there.ended_rows 0 last.actions (omega arith))
 
   -- where all parts are right, the places and the bound are within the limits
   pub keeps_bound : KeepsParts draft → bound_rule draft ≡ true
   keeps_bound keeps =
       let d = holds_after names (λ at s. AreShallow s) (depths_kept names) section.Top (nothing_yet names) lines script.lead script.sound accepted
-          (record { there = record { open_rows = refl; ended_rows = refl }; depths = record { many = refl; open_rows = refl; tell = λ a l. absurd (omega arith) } }) in
+      (record { there = record { open_rows = refl; ended_rows = refl }; depths = record { many = refl; open_rows = refl; tell = λ a l. absurd (omega arith) } }) in
       let h = holds_after names (λ at s. AreWeighed s) (weights_kept names) section.Top (nothing_yet names) lines script.lead script.sound accepted
-          (record {
-            there = record { open_rows = refl; ended_rows = refl };
-            right = refl;
-            places = (record { many = refl; tell = λ a l. absurd (omega arith); whole = refl }, omega arith);
-            entries = (record { many = refl; tell = λ a l. absurd (omega arith); whole = refl }, omega arith);
-          }) in
+      (record {
+        there = record { open_rows = refl; ended_rows = refl };
+        right = refl;
+        places = (record { many = refl; tell = λ a l. absurd (omega arith); whole = refl }, omega arith);
+        entries = (record { many = refl; tell = λ a l. absurd (omega arith); whole = refl }, omega arith);
+      }) in
       let places : counted (played_weight (at last.places) draft.plays) ≡ counted (length (plan_of draft).places) =
-          counted_places draft keeps last.places (own_weights one_place last.actions)
-          (λ a l. own_at one_place last.actions a (subst (λ (actions : List ActionRow). a < length actions) drafted.actions l))
-          (rw drafted.actions (λ a l. weighs one_place last.depths last.places last.actions d.depths.tell h.places.0.tell h.there.ended_rows 8 a l (d.depths.tell a l).1)) in
+      counted_places draft keeps last.places (own_weights one_place last.actions)
+      (λ a l. own_at one_place last.actions a (subst (λ (actions : List ActionRow). a < length actions) drafted.actions l))
+      (rw drafted.actions (λ a l. weighs one_place last.depths last.places last.actions d.depths.tell h.places.0.tell h.there.ended_rows 8 a l (d.depths.tell a l).1)) in
       let entries : counted (played_weight (at last.bounds) draft.plays) ≡ counted (bound (plan_of draft)) =
-          counted_bound draft keeps last.bounds (own_weights own_entries last.actions)
-          (rw drafted.actions (λ a l. own_at own_entries last.actions a l))
-          (rw drafted.actions (λ a l. weighs own_entries last.depths last.bounds last.actions d.depths.tell h.entries.0.tell h.there.ended_rows 8 a l (d.depths.tell a l).1)) in
+      counted_bound draft keeps last.bounds (own_weights own_entries last.actions)
+      (rw drafted.actions (λ a l. own_at own_entries last.actions a l))
+      (rw drafted.actions (λ a l. weighs own_entries last.depths last.bounds last.actions d.depths.tell h.entries.0.tell h.there.ended_rows 8 a l (d.depths.tell a l).1)) in
       let all_places : last.all_places ≡ counted (length (plan_of draft).places) = h.places.0.whole ∙ subst (λ (plays : List PlayRow). counted (played_weight (at last.places) plays) ≡ counted (length (plan_of draft).places)) drafted.plays places in
       let whole : last.whole_bound ≡ counted (bound (plan_of draft)) = h.entries.0.whole ∙ subst (λ (plays : List PlayRow). counted (played_weight (at last.bounds) plays) ≡ counted (bound (plan_of draft))) drafted.plays entries in
       let few_places : length (plan_of draft).places ≤ 65536 = omega (arith, all_places, h.places.1) in

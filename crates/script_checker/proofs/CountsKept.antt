@@ -1,6 +1,6 @@
 -- An accepted script declares no more parts than the limits allow.
-use Rattle.std.proofs.Common.{◌≡◌, ℕ, suc, ◌+◌, ◌<◌, ◌≤◌, nat_le, Bool, true, false, List, [], ◌∷◌, ◌++◌, length, Option, Some, None, refl, sym, arith, length-append}
-use Rattle.std.proofs.lemmas.Bool.{leb-false, le-leb}
+use Rattle.std.proofs.Common.{◌≡◌, ℕ, suc, ◌+◌, ◌<◌, ◌≤◌, nat_le, false, List, [], ◌∷◌, ◌++◌, length, Option, Some, None, refl, arith, length-append}
+use Rattle.std.proofs.lemmas.Bool.{leb-false}
 use Rattle.caa_base.specs.declared.entry.Verdict.{Verdict}
 use Rattle.caa_base.specs.declared.entry.Verdict.TheVariants as verdict
 use Rattle.action_script.specs.declared.form.Form.{Form}
@@ -60,6 +60,7 @@ abbrev pub FewActions : SoFar → Type 0
 FewActions s = (length s.actions + open_actions s.block ≤ length s.action_names) × (length s.action_names ≤ 256)
 
 module _ where
+
 closed_participants : (s : SoFar) (v : Verdict) (o : Option Opening) → FewParticipants s → FewParticipants (closed_if s o v)
 closed_participants s v None h = h
 closed_participants s v (Some o) h = h

@@ -1,7 +1,7 @@
 -- No accepted action is too deep.
-use Rattle.std.proofs.Common.{◌≡◌, ℕ, suc, zero, ◌+◌, ◌<◌, ◌≤◌, nat_lt, nat_le, max, Bool, true, false, not, ◌&&◌, List, [], ◌∷◌, ◌++◌, length, slice_index_or, drop, Option, Some, None, refl, sym, ap, subst, arith, length-append, below_more}
+use Rattle.std.proofs.Common.{◌≡◌, ℕ, suc, zero, ◌+◌, ◌<◌, ◌≤◌, nat_lt, nat_le, Bool, true, false, List, [], ◌∷◌, ◌++◌, length, slice_index_or, Option, Some, None, refl, arith, length-append, below_more}
 use Rattle.std.specs.List.{list_all}
-use Rattle.std.proofs.lemmas.Bool.{and_parts, false≢true, ltb-true, lt-ltb, leb-false, le-leb}
+use Rattle.std.proofs.lemmas.Bool.{and_parts, ltb-true, lt-ltb, leb-false, le-leb}
 use Rattle.caa_base.specs.Lists.{index_of}
 use Rattle.caa_base.specs.declared.entry.Verdict.{Verdict}
 use Rattle.caa_base.specs.declared.entry.Verdict.TheVariants as verdict
@@ -106,8 +106,8 @@ one_more depths actions action h here there =
     let is : v ≡ suc (deepest (at depths) action.nests) = omega arith in
     below_more (IsDepth (depths ++ v ∷ []) (actions ++ action ∷ [])) (length actions)
     (λ k l.
-      let within : k < length depths = omega (arith, h.many) in
-      rw (same_action actions action k l, at_longer depths v k within, deepest_longer depths v (slice_index_or actions k no_action).nests (nests_there actions depths k h.many l there)) (h.tell k l))
+    let within : k < length depths = omega (arith, h.many) in
+    rw (same_action actions action k l, at_longer depths v k within, deepest_longer depths v (slice_index_or actions k no_action).nests (nests_there actions depths k h.many l there)) (h.tell k l))
     (rw (action_last actions action (length actions) refl, at_last depths v (length actions) h.many, deepest_longer depths v action.nests (rw h.many here)) (omega arith, omega arith))
 
 module _ (names : List (List ℕ)) where

@@ -1,5 +1,5 @@
 -- The handlers of a role in an accepted script have different exceptions.
-use Rattle.std.proofs.Common.{◌≡◌, ℕ, ◌==◌, Bool, true, false, not, ◌&&◌, ◌||◌, List, [], ◌∷◌, ◌++◌, map, slice_index_or, Option, Some, None, refl, sym, ◌∙◌, subst}
+use Rattle.std.proofs.Common.{◌≡◌, ℕ, ◌==◌, Bool, true, false, not, List, [], ◌∷◌, ◌++◌, map, slice_index_or, Option, Some, None, refl, sym, ◌∙◌, subst}
 use Rattle.std.specs.List.{list_all, list_any}
 use Rattle.std.proofs.lemmas.Bool.{and_parts, false≢true, not-true}
 use Rattle.caa_base.specs.Lists.{member, index_of}
@@ -22,9 +22,9 @@ use Rattle.script_checker.specs.Causes.{handles}
 use Rattle.script_checker.specs.After.{goes_on, closed_if, ended, with_said, with_program, idle_role}
 use Rattle.script_checker.specs.Compiled.{HasNone}
 use Rattle.script_checker.proofs.Accepted.{IsKept, once}
-use Rattle.script_checker.proofs.ActionsGrow.{ends_action, closed_actions, said_actions}
+use Rattle.script_checker.proofs.ActionsGrow.{closed_actions, said_actions}
 use Rattle.script_checker.proofs.ListsChange.{all_change, all_set, all_mapped}
-use Rattle.script_checker.proofs.NestTests.{nor, both, eqb_turn}
+use Rattle.script_checker.proofs.NestTests.{nor, eqb_turn}
 
 -- ---- one handler more
 

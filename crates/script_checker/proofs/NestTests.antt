@@ -11,8 +11,8 @@ use Rattle.place_plan.specs.DraftRules.{all_below, all_differ}
 use Rattle.action_script.specs.declared.form.Form.TheVariants as form
 use Rattle.script_checker.specs.declared.parts.DeclaredGraph.{DeclaredGraph}
 use Rattle.script_checker.specs.Numbers.{is_among, has_twice}
-use Rattle.script_checker.specs.SoFar.{SoFar, nest_of, action_of}
-use Rattle.script_checker.specs.Causes.{is_action, is_filled_by}
+use Rattle.script_checker.specs.SoFar.{nest_of, action_of}
+use Rattle.script_checker.specs.Causes.{is_action}
 use Rattle.script_checker.proofs.Choosing.{known}
 use Rattle.script_checker.proofs.Accepted.{filled, differing, faced}
 use Rattle.caa_base.proofs.ListLemmas.{all_imply}
@@ -126,7 +126,7 @@ filled_test = record {
       let k = neither (is_action s action) (list_all (is_among s.roles) roles) (known s (form.Nest nest action roles) none) in
       let d : all_differ (map (λ r. index_of r s.roles) roles) ≡ true = differ_mapped s.roles roles (differing s (form.Nest nest action roles) none) k.1 in
       let f : (length (map (λ r. index_of r s.roles) roles) == length (action_of s action).roles) ≡ true =
-          rw length-map (eqb_turn (length (action_of s action).roles) (length roles) (is_not_not _ (filled s (form.Nest nest action roles) none))) in
+      rw length-map (eqb_turn (length (action_of s action).roles) (length roles) (is_not_not _ (filled s (form.Nest nest action roles) none))) in
       rw (k.0, d, f) refl;
   mapped = λ actions graphs row i x h. h;
   undone = λ actions graphs row x h. h;
@@ -137,8 +137,11 @@ filled_test = record {
       let p = and_parts (all_below (length s.actions) row.actions) _ h in
       let q = and_parts (all_differ row.roles) _ p.1 in
       let f = eqb_turn (length (action_of s action).roles) (length row.roles) (is_not_not _ (filled s (form.Alternate nest action) none)) in
-      rw (all_push (λ a. nat_lt a (length s.actions)) row.actions (index_of action s.action_names) p.0 k.1, q.0,
-          all_push (λ a. fits_roles row (slice_index_or s.actions a no_action)) row.actions (index_of action s.action_names) q.1 f) refl;
+      rw (
+        all_push (λ a. nat_lt a (length s.actions)) row.actions (index_of action s.action_names) p.0 k.1,
+        q.0,
+        all_push (λ a. fits_roles row (slice_index_or s.actions a no_action)) row.actions (index_of action s.action_names) q.1 f,
+      ) refl;
   one_action = λ actions graphs action row h.
       let p = and_parts (all_below (length actions) row.actions) _ h in
       let q = and_parts (all_differ row.roles) _ p.1 in
@@ -166,8 +169,10 @@ one_face_more actions [] a l f h =
     rw (l, eq-eqb face face refl) refl
 one_face_more actions (b ∷ acts) a l f h =
     let p = and_parts (all_below (length actions) (b ∷ acts)) _ h in
-    rw (all_push (λ a. nat_lt a (length actions)) (b ∷ acts) a p.0 l,
-        all_push (λ a. tells (face_in actions (b ∷ acts)) (slice_index_or actions a no_action)) (b ∷ acts) a p.1 f) refl
+    rw (
+      all_push (λ a. nat_lt a (length actions)) (b ∷ acts) a p.0 l,
+      all_push (λ a. tells (face_in actions (b ∷ acts)) (slice_index_or actions a no_action)) (b ∷ acts) a p.1 f,
+    ) refl
 
 one_face_longer : (actions : List ActionRow) (action : ActionRow) (acts : List ℕ) → one_face actions acts ≡ true → one_face (actions ++ action ∷ []) acts ≡ true
 one_face_longer actions action [] h = refl

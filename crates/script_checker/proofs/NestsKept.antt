@@ -1,5 +1,5 @@
 -- What each nested use of an accepted script keeps, by the actions and graphs that are there.
-use Rattle.std.proofs.Common.{◌≡◌, ℕ, Bool, true, false, ◌&&◌, List, [], ◌∷◌, ◌++◌, map, length, slice_set, Option, Some, None, refl}
+use Rattle.std.proofs.Common.{◌≡◌, ℕ, Bool, true, List, [], ◌∷◌, ◌++◌, map, length, slice_set, Option, Some, None, refl}
 use Rattle.std.specs.List.{list_all}
 use Rattle.caa_base.specs.Lists.{index_of}
 use Rattle.caa_base.specs.declared.entry.Verdict.{Verdict}

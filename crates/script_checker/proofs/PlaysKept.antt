@@ -1,5 +1,5 @@
 -- The plays of an accepted script are of actions that are there, and their roles are filled, each by another participant.
-use Rattle.std.proofs.Common.{◌≡◌, ℕ, ◌+◌, ◌<◌, ◌≤◌, nat_lt, ◌==◌, Bool, true, false, ◌&&◌, List, [], ◌∷◌, ◌++◌, map, length, slice_index_or, Option, Some, None, refl, arith, length-append}
+use Rattle.std.proofs.Common.{◌≡◌, ℕ, ◌+◌, ◌<◌, nat_lt, ◌==◌, Bool, true, ◌&&◌, List, [], ◌∷◌, ◌++◌, map, length, slice_index_or, Option, Some, None, refl, arith, length-append}
 use Rattle.std.proofs.lemmas.List.{length-map}
 use Rattle.std.specs.List.{list_all}
 use Rattle.std.proofs.lemmas.Bool.{and_parts, ltb-true, lt-ltb}
@@ -24,7 +24,6 @@ use Rattle.caa_base.proofs.ListLemmas.{all_imply}
 use Rattle.script_checker.proofs.Choosing.{known}
 use Rattle.script_checker.proofs.Accepted.{IsKept, filled, differing}
 use Rattle.script_checker.proofs.ActionsGrow.{all_push}
-use Rattle.script_checker.proofs.ListsChange.{all_mapped}
 use Rattle.script_checker.proofs.NestTests.{neither, is_not_not, both, eqb_turn, differ_mapped, below_more, one_longer, same_action}
 
 -- by so many participants, and these actions
@@ -65,7 +64,7 @@ module _ (names : List (List ℕ)) where
       let k = neither (is_action s action) (list_all (is_among s.participants) who) (known s (form.Play action who) none) in
       let d : all_differ (map (λ p. index_of p s.participants) who) ≡ true = differ_mapped s.participants who (differing s (form.Play action who) none) k.1 in
       let f : (length (map (λ p. index_of p s.participants) who) == length (action_of s action).roles) ≡ true =
-          rw length-map (eqb_turn (length (action_of s action).roles) (length who) (is_not_not _ (filled s (form.Play action who) none))) in
+      rw length-map (eqb_turn (length (action_of s action).roles) (length who) (is_not_not _ (filled s (form.Play action who) none))) in
       let b : all_below (length s.participants) (map (λ p. index_of p s.participants) who) ≡ true = numbered s.participants who k.1 in
       both _ _ k.0 (both _ _ b (both _ _ f d))
     where

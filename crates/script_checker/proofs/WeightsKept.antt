@@ -1,9 +1,8 @@
 -- How much the plays of an accepted script unfold into is counted, and within the limits.
-use Rattle.std.proofs.Common.{◌≡◌, ℕ, suc, zero, ◌+◌, ◌<◌, ◌≤◌, nat_lt, true, false, ◌&&◌, List, [], ◌∷◌, ◌++◌, length, slice_index_or, Option, Some, None, refl, sym, arith, below_more, sum_by, length-append}
+use Rattle.std.proofs.Common.{◌≡◌, ℕ, ◌+◌, ◌<◌, ◌≤◌, nat_lt, true, List, [], ◌∷◌, ◌++◌, length, slice_index_or, Option, Some, None, refl, arith, below_more, sum_by, length-append}
 use Rattle.std.specs.List.{list_all}
 use Rattle.std.proofs.lemmas.Bool.{and_parts, ltb-true, ltb-false}
 use Rattle.std.proofs.lemmas.List.Sums.{sum_by-append, sum_by-cons}
-use Rattle.caa_base.specs.Lists.{index_of}
 use Rattle.caa_base.specs.declared.entry.Verdict.{Verdict}
 use Rattle.caa_base.specs.declared.entry.Verdict.TheVariants as verdict
 use Rattle.place_plan.specs.declared.rows.ActionRow.{ActionRow}
@@ -68,10 +67,10 @@ module _ (own : ActionRow → ℕ) (table : List ℕ) (actions : List ActionRow)
       let m : length (table ++ v ∷ []) ≡ length table + 1 = length-append table (v ∷ []) in
       let n : length (actions ++ action ∷ []) ≡ length actions + 1 = length-append actions (action ∷ []) in
       let more = below_more (IsWeight own (table ++ v ∷ []) (actions ++ action ∷ [])) (length actions)
-          (λ k l.
-          let within : k < length table = omega (arith, h.many) in
-          rw (same_action actions action k l, at_longer table v k within, nests_longer table v (slice_index_or actions k no_action).nests (nests_there actions table k h.many l there)) (h.tell k l))
-          (rw (action_last actions action (length actions) refl, at_last table v (length actions) h.many, nests_longer table v action.nests (rw h.many here)) refl) in
+      (λ k l.
+      let within : k < length table = omega (arith, h.many) in
+      rw (same_action actions action k l, at_longer table v k within, nests_longer table v (slice_index_or actions k no_action).nests (nests_there actions table k h.many l there)) (h.tell k l))
+      (rw (action_last actions action (length actions) refl, at_last table v (length actions) h.many, nests_longer table v action.nests (rw h.many here)) refl) in
       record {
         many = omega (arith, h.many);
         tell = λ a l. more a (omega arith);
