@@ -7,8 +7,6 @@ pub mod reading;
 pub mod right;
 mod seen_line;
 pub mod seens;
-#[cfg(test)]
-mod tests;
 mod values;
 mod words;
 pub mod writing;
