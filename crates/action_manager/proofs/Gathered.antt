@@ -7,11 +7,11 @@ use Rattle.action_manager.specs.declared.housed.Housed.{Housed}
 use Rattle.action_manager.specs.declared.view.View.{View}
 use Rattle.action_manager.specs.declared.seat.Seat.{Seat}
 use Rattle.action_manager.specs.Turns.{held, both_of, Has, Stands}
-use Rattle.action_manager.specs.Journals.{Journal, entries_by}
+use Rattle.action_manager.specs.OwnEntries.{Journal, entries_by}
 use Rattle.std.proofs.lemmas.Bool.Decides.{nat_tests}
 use Rattle.action_manager.specs.Stepping.{IsAtRest}
 use Rattle.action_manager.specs.Seats.{stand, seen_by, has_seat, Accounts}
-use Rattle.action_manager.proofs.Steps.{held_both}
+use Rattle.action_manager.proofs.LockSteps.{held_both}
 use Rattle.std.proofs.lemmas.List.Elements.{All-append}
 use Rattle.std.specs.List.{range_with_len}
 

@@ -1,4 +1,4 @@
-pub mod Journals
+pub mod OwnEntries
 pub mod Turns
 pub mod Stepping
 pub mod Locks

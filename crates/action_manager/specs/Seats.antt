@@ -6,7 +6,7 @@ use Rattle.atomic_table.specs.Seated.{TableId}
 use Rattle.atomic_table.specs.declared.shared.Seat.{Seat as TableSeat}
 use Rattle.shared_views.specs.declared.bulletin.Told.{Told}
 use Rattle.shared_views.specs.declared.bulletin.Told.TheVariants as told
-use Rattle.action_manager.specs.Journals.{Journal, entries_by}
+use Rattle.action_manager.specs.OwnEntries.{Journal, entries_by}
 use Rattle.action_manager.specs.Stepping.{IsAtRest}
 use Rattle.action_manager.specs.declared.view.Terms.{Terms}
 use Rattle.action_manager.specs.declared.view.View.{View}

@@ -9,7 +9,7 @@ use Rattle.place_plan.specs.Machine.{Answers}
 use Rattle.place_plan.specs.declared.machine.Answer.{Answer}
 use Rattle.action_manager.specs.declared.view.Terms.{Terms}
 use Rattle.action_manager.specs.declared.view.View.{View}
-use Rattle.action_manager.specs.Journals.{Journal, entries_by}
+use Rattle.action_manager.specs.OwnEntries.{Journal, entries_by}
 use Rattle.action_manager.specs.Turns.{rested}
 
 -- a seat at the table is at rest: it has no ticket and no book, holds no slot, and has taken in nobody

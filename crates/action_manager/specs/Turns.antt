@@ -5,7 +5,7 @@ use mathlib.Core.List.{IsPrefix}
 use lib.ListN.{get_elem?}
 use Rattle.atomic_table.specs.Table.{State, Me, Step}
 use Rattle.place_plan.specs.PlanValue.{Plan}
-use Rattle.action_manager.specs.Journals.{Journal, entries_by}
+use Rattle.action_manager.specs.OwnEntries.{Journal, entries_by}
 use Rattle.action_manager.specs.declared.view.View.{View}
 use Rattle.action_manager.specs.declared.view.Terms.{Terms}
 

@@ -2,7 +2,7 @@ ghost use Rattle.std.specs.Prelude.{ℕ, ◌≡◌, ◌+◌, ◌<◌, [], ◌∷
 ghost use mathlib.Core.List.{IsPrefix};
 ghost use Rattle.std.specs.List.{range_with_len};
 ghost use Rattle.shared_views.specs.Telling.{cells_of, IsFresh};
-ghost use Rattle.action_manager.specs.Journals.{entries_by};
+ghost use Rattle.action_manager.specs.OwnEntries.{entries_by};
 ghost use Rattle.action_manager.specs.Turns.{maker, held, Has, Stands};
 ghost use Rattle.action_manager.specs.Stepping.{IsAtRest, Steps, Looks};
 ghost use Rattle.action_manager.specs.Locks.{home_at, plan_at};

@@ -1,5 +1,5 @@
 ghost use Rattle.std.specs.Prelude.{◌≡◌, length};
-ghost use Rattle.action_manager.specs.Journals.{entries_by};
+ghost use Rattle.action_manager.specs.OwnEntries.{entries_by};
 
 use crate::housed::Housed;
 use crate::turns::Token;

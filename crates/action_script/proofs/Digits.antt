@@ -1,7 +1,7 @@
 -- Numbers by their digits.
 use Rattle.std.proofs.Common.{◌≡◌, ℕ, ◌+◌, ◌-◌, ◌*◌, ◌≤◌, ◌<◌, List, [], ◌∷◌, Some, None, arith}
 use Rattle.std.proofs.lemmas.Bool.Decides.{nat_tests}
-use Rattle.action_script.specs.Words.{digits_after, at_most}
+use Rattle.action_script.specs.ScriptWords.{digits_after, at_most}
 
 -- more digits never make a number less
 pub digits_after-ge : (n : ℕ) (digits : List ℕ) → n ≤ digits_after n digits

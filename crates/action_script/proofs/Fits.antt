@@ -9,10 +9,10 @@ use Rattle.action_script.specs.declared.field.Part.{Part}
 use Rattle.action_script.specs.declared.field.Part.TheVariants as part
 use Rattle.action_script.specs.declared.field.Field.{Field}
 use Rattle.action_script.specs.declared.field.Field.TheVariants as field
-use Rattle.action_script.specs.Words.{value_of, count_of, rounds_of, test_of}
+use Rattle.action_script.specs.ScriptWords.{value_of, count_of, rounds_of, test_of}
 use Rattle.caa_base.specs.Names.{is_name}
-use Rattle.action_script.specs.Names.{is_among, number_in}
-use Rattle.action_script.specs.Reading.{is_part, is_name_part, field_by}
+use Rattle.action_script.specs.NumberedNames.{is_among, number_in}
+use Rattle.action_script.specs.Spelling.{is_part, is_name_part, field_by}
 use Rattle.action_script.specs.Printing.{field_word, fits_part}
 use Rattle.action_script.proofs.Numerals.{decimal-natural, value_of-decimal, value_of-some, rounds_of-decimal, rounds_of-some, count_of-decimal, count_of-some}
 use Rattle.action_script.proofs.Inky.{test_of-some}

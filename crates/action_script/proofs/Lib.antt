@@ -3,14 +3,14 @@ pub mod Numbering
 pub mod Cutting
 pub mod LineCuts
 pub mod Speaking
-pub mod Counting
+pub mod NamesCounted
 pub mod Steadiness
-pub mod Steps
+pub mod LineByLine
 pub mod Numerals
 pub mod Inky
 pub mod Fits
 pub mod Shapes
-pub mod Joining
+pub mod JoinedAndCut
 pub mod Numbered
 pub mod PrintedLines
 pub mod ReadsBack

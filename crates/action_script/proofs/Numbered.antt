@@ -3,7 +3,7 @@ use Rattle.std.proofs.Common.{◌≡◌, ℕ, zero, suc, ◌+◌, ◌<◌, nat_l
 use Rattle.std.proofs.lemmas.Bool.{ltb-true, ltb-false}
 use Rattle.std.proofs.lemmas.List.{get_or_append_left}
 use Rattle.std.proofs.Math.Seq.{get_or-append_seam}
-use Rattle.action_script.specs.Names.{is_among, with_name, with_names, number_in}
+use Rattle.action_script.specs.NumberedNames.{is_among, with_name, with_names, number_in}
 use Rattle.action_script.proofs.Steadiness.{bytes_eq-same, number_in-push}
 use Rattle.action_script.proofs.Fits.{AreNumbered}
 

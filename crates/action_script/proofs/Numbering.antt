@@ -4,7 +4,7 @@ use Rattle.std.specs.List.{list_any, position_or_len}
 use Rattle.std.proofs.lemmas.List.Recursion.{is_position_or_len}
 use Rattle.std.proofs.lemmas.Bool.{ltb-false}
 use Rattle.std.proofs.lemmas.Option.{cond_some}
-use Rattle.action_script.specs.Names.{is_among, with_name, number_in}
+use Rattle.action_script.specs.NumberedNames.{is_among, with_name, number_in}
 
 -- the bytes of some keys
 abbrev pub bytes_of : List (Bor (List ℕ)) → List (List ℕ)

@@ -4,7 +4,7 @@ use Rattle.std.specs.List.{list_all}
 use Rattle.std.proofs.lemmas.Bool.{and_parts, leb-true, le-ltb}
 use Rattle.std.proofs.lemmas.Bool.Decides.{nat_tests}
 use Rattle.std.proofs.lemmas.List.{length-map}
-use Rattle.action_script.specs.declared.error.ScriptCause.TheVariants as cause
+use Rattle.action_script.specs.declared.script_error.ScriptCause.TheVariants as cause
 use Rattle.action_script.specs.declared.field.Part.{Part}
 use Rattle.action_script.specs.declared.field.Part.TheVariants as part
 use Rattle.action_script.specs.declared.field.Field.{Field}
@@ -12,16 +12,17 @@ use Rattle.action_script.specs.declared.form.Form.{Form}
 use Rattle.action_script.specs.declared.kind.Section.{Section}
 use Rattle.action_script.specs.declared.kind.LineKind.{LineKind}
 use Rattle.action_script.specs.declared.kind.LineKind.TheVariants as kind
-use Rattle.action_script.specs.Lines.{most_line, words_of, is_plain}
+use Rattle.caa_base.specs.Limits.{most_line_bytes}
+use Rattle.action_script.specs.CutLines.{words_of, is_plain}
 use Rattle.action_script.specs.Asked.{Asked}
 use Rattle.action_script.specs.Kinds.{word_of, parts_of, takes, stands_in}
 use Rattle.action_script.specs.Forms.{kind_of, fields_of, form_by}
-use Rattle.action_script.specs.Reading.{asked_of, is_right, is_wrong_test, is_test, field_of, kind_here, by_first_wrong, trial_of, by_check, by_kind, line_by_words, line_of}
+use Rattle.action_script.specs.Spelling.{asked_of, is_right, is_wrong_test, is_test, field_of, kind_here, by_first_wrong, trial_of, by_check, by_kind, line_by_words, line_of}
 use Rattle.action_script.specs.Printing.{field_word, words_after, form_line, said_by, fits_part, all_fit, is_sound, is_short}
 use Rattle.action_script.proofs.Inky.{right_word, first_word, first_speaks}
 use Rattle.action_script.proofs.Fits.{AreNumbered, field_word-part, field_by-word}
 use Rattle.action_script.proofs.Shapes.{form_by-own}
-use Rattle.action_script.proofs.Joining.{AreWords, words_of-joined, joined_plain}
+use Rattle.action_script.proofs.JoinedAndCut.{AreWords, words_of-joined, joined_plain}
 
 -- ---- fields as words
 
@@ -131,7 +132,7 @@ line_of-form s names form numbered sound short stands =
     let count : takes k (length words) ≡ true = subst (λ n. takes k n ≡ true) (sym (length-map fields (field_word names))) p.0 in
     let cut : words_of (form_line names form) ≡ word_of k ∷ words = words_of-joined (word_of k) words first says.words in
     let plain : list_all is_plain (form_line names form) ≡ true = joined_plain (word_of k) words first says.words in
-    let within : nat_lt most_line (length (form_line names form)) ≡ false = le-ltb most_line (length (form_line names form)) (leb-true (length (form_line names form)) most_line short) in
+    let within : nat_lt most_line_bytes (length (form_line names form)) ≡ false = le-ltb most_line_bytes (length (form_line names form)) (leb-true (length (form_line names form)) most_line_bytes short) in
     let here : kind_here s (word_of k) (length words) ≡ Some k = kind_here-own k s (length words) count stands in
     let tried : trial_of said.asked ≡ Ok tt = trial_of-right said.asked says.right in
     ap (λ b. if b then Err cause.TooLong else line_by_words s (list_all is_plain (form_line names form)) (words_of (form_line names form))) within

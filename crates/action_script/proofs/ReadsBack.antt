@@ -2,22 +2,23 @@
 use Rattle.std.proofs.Common.{◌≡◌, ℕ, ◌+◌, ◌≤◌, true, if◌then◌else◌, List, [], ◌∷◌, ◌++◌, length, map, Ok, Err, refl, ap, ◌∙◌, subst, append_assoc}
 use Rattle.std.specs.List.{list_all, flat_map}
 use Rattle.std.proofs.lemmas.Bool.{and_parts, le-ltb}
-use Rattle.action_script.specs.declared.error.ScriptCause.TheVariants as cause
+use Rattle.action_script.specs.declared.script_error.ScriptCause.TheVariants as cause
 use Rattle.action_script.specs.declared.form.Form.{Form}
 use Rattle.action_script.specs.declared.kind.Section.{Section}
 use Rattle.action_script.specs.declared.kind.Section.TheVariants as section
 use Rattle.action_script.specs.declared.script.Line.{Line}
-use Rattle.action_script.specs.Lines.{most_bytes, lines_of}
+use Rattle.caa_base.specs.Limits.{most_script_bytes}
+use Rattle.action_script.specs.CutLines.{lines_of}
 use Rattle.action_script.specs.Kinds.{word_of, parts_of, takes, stands_in, goes_to}
-use Rattle.action_script.specs.Names.{with_names}
+use Rattle.action_script.specs.NumberedNames.{with_names}
 use Rattle.action_script.specs.Forms.{kind_of, fields_of}
 use Rattle.action_script.specs.ScriptValue.{Script}
-use Rattle.action_script.specs.Reading.{names_of, Numbered, before, with_line, said_from, script_names, line_by, script_by, script_of, reading_of}
+use Rattle.action_script.specs.Spelling.{names_of, Numbered, before, with_line, said_from, script_names, line_by, script_by, script_of, reading_of}
 use Rattle.action_script.specs.Printing.{words_after, form_line, line_text, text_of, said_by, is_sound, is_short, lead_to_top, form_names, AreScript, forms_of, numbered_from, reread_of}
 use Rattle.action_script.proofs.Inky.{first_word}
 use Rattle.action_script.proofs.Fits.{AreNumbered}
 use Rattle.action_script.proofs.Numbered.{numbered-with_names, numbered-none}
-use Rattle.action_script.proofs.Joining.{is_one_line, joined_one_line, lines_of-line}
+use Rattle.action_script.proofs.JoinedAndCut.{is_one_line, joined_one_line, lines_of-line}
 use Rattle.action_script.proofs.PrintedLines.{say_fields, line_of-form, form_by-said}
 
 -- ---- the lines of the text
@@ -69,7 +70,7 @@ lines-saids number names (form ∷ forms) numbered sound =
 numbered-script : (names : List (List ℕ)) (forms : List Form) → AreScript names forms → AreNumbered names
 numbered-script names forms h = subst AreNumbered h.order (numbered-with_names [] (flat_map (form_names names) forms) numbered-none)
 
-pub reads_back : (script : Script) → AreScript script.names (forms_of script.lines) → length (text_of script) ≤ most_bytes → reading_of (text_of script) ≡ Ok (reread_of script)
+pub reads_back : (script : Script) → AreScript script.names (forms_of script.lines) → length (text_of script) ≤ most_script_bytes → reading_of (text_of script) ≡ Ok (reread_of script)
 reads_back script h small =
     let names = script.names in
     let forms = forms_of script.lines in
@@ -78,7 +79,7 @@ reads_back script h small =
     let own_names : script_names saids ≡ names = ap (with_names []) (names-saids 1 names forms) ∙ h.order in
     let own_lines : map (line_by (script_names saids)) saids ≡ numbered_from 1 forms = ap (λ n. map (line_by n) saids) own_names ∙ lines-saids 1 names forms numbered h.sound in
     let same : script_by saids ≡ reread_of script = (λ j. record { lines = own_lines j; names = own_names j }) in
-    ap (λ b. if b then Err (record { line = 0; cause = cause.TooLong }) else script_of (said_from 1 section.Top (lines_of (text_of script)))) (le-ltb most_bytes (length (text_of script)) small)
+    ap (λ b. if b then Err (record { line = 0; cause = cause.TooLong }) else script_of (said_from 1 section.Top (lines_of (text_of script)))) (le-ltb most_script_bytes (length (text_of script)) small)
     ∙ ap (λ lines. script_of (said_from 1 section.Top lines)) (lines_of-text names script.lines numbered h.sound)
     ∙ ap script_of (said_from-forms 1 section.Top names forms numbered h.lead h.sound h.short)
     ∙ ap Ok same

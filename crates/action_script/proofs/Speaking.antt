@@ -2,21 +2,22 @@
 use Rattle.std.proofs.Common.{◌≡◌, ℕ, ◌≤◌, Bool, true, false, cond, if◌then◌else◌, nat_lt, List, [], ◌∷◌, length, Option, Some, None, Result, Ok, Err, find, bytes_eq, refl, sym, ap, ◌∙◌, arith, subst}
 use Rattle.std.specs.List.{list_all}
 use Rattle.std.proofs.lemmas.Bool.{ltb-false, and_parts}
-use Rattle.action_script.specs.declared.error.ScriptCause.{ScriptCause}
-use Rattle.action_script.specs.declared.error.ScriptCause.TheVariants as cause
+use Rattle.action_script.specs.declared.script_error.ScriptCause.{ScriptCause}
+use Rattle.action_script.specs.declared.script_error.ScriptCause.TheVariants as cause
 use Rattle.action_script.specs.declared.field.Part.{Part}
 use Rattle.action_script.specs.declared.kind.Section.{Section}
 use Rattle.action_script.specs.declared.kind.LineKind.{LineKind}
 use Rattle.action_script.specs.Asked.{Said}
-use Rattle.action_script.specs.Lines.{most_line, words_of, is_plain, begins_comment}
+use Rattle.caa_base.specs.Limits.{most_line_bytes}
+use Rattle.action_script.specs.CutLines.{words_of, is_plain, begins_comment}
 use Rattle.action_script.specs.Kinds.{word_of, parts_of, takes, kinds}
-use Rattle.action_script.proofs.Counting.{length-words_of}
-use Rattle.action_script.specs.Reading.{asked_of, is_here, kind_here, trial_of, by_check, by_kind, line_by_words, line_of}
+use Rattle.action_script.proofs.NamesCounted.{length-words_of}
+use Rattle.action_script.specs.Spelling.{asked_of, is_here, kind_here, trial_of, by_check, by_kind, line_by_words, line_of}
 
 pub record Speaks (s : Section) (line : List ℕ) (said : Said) : Type 0 where
   pub first : List ℕ
   pub words : List (List ℕ)
-  pub short : length line ≤ most_line
+  pub short : length line ≤ most_line_bytes
   pub cut : words_of line ≡ first ∷ words
   pub spoken : begins_comment first ≡ false
   pub plain : list_all is_plain line ≡ true
@@ -33,7 +34,7 @@ find-passes test (y ∷ xs) x h = by (test y) refl h (find-passes test xs x)
     by true e g rest = let same : y ≡ x = cc in subst (λ z. test z ≡ true) same e
     by false e g rest = rest g
 
-by_words : (s : Section) (line : List ℕ) (said : Said) → length line ≤ most_line → (words : List (List ℕ)) → words_of line ≡ words → line_by_words s (list_all is_plain line) words ≡ Ok (Some said) → Speaks s line said
+by_words : (s : Section) (line : List ℕ) (said : Said) → length line ≤ most_line_bytes → (words : List (List ℕ)) → words_of line ≡ words → line_by_words s (list_all is_plain line) words ≡ Ok (Some said) → Speaks s line said
 by_words s line said short [] cut h = cc
 by_words s line said short (first ∷ words) cut h = by_comment (begins_comment first) refl h
   where
@@ -66,11 +67,11 @@ by_words s line said short (first ∷ words) cut h = by_comment (begins_comment 
     by_comment false e g = by_plain e (list_all is_plain line) refl g
 
 pub speaks : (s : Section) (line : List ℕ) (said : Said) → line_of s line ≡ Ok (Some said) → Speaks s line said
-speaks s line said h = by (nat_lt most_line (length line)) refl h
+speaks s line said h = by (nat_lt most_line_bytes (length line)) refl h
   where
-    by : (b : Bool) → nat_lt most_line (length line) ≡ b → (if b then Err cause.TooLong else line_by_words s (list_all is_plain line) (words_of line)) ≡ Ok (Some said) → Speaks s line said
+    by : (b : Bool) → nat_lt most_line_bytes (length line) ≡ b → (if b then Err cause.TooLong else line_by_words s (list_all is_plain line) (words_of line)) ≡ Ok (Some said) → Speaks s line said
     by true e g = cc
-    by false e g = by_words s line said (ltb-false most_line (length line) e) (words_of line) refl g
+    by false e g = by_words s line said (ltb-false most_line_bytes (length line) e) (words_of line) refl g
 
 -- ---- what follows
 

@@ -10,8 +10,8 @@ use Rattle.action_script.specs.declared.field.Field.TheVariants as field
 use Rattle.action_script.specs.declared.script.Line.{Line}
 use Rattle.action_script.specs.Asked.{Asked}
 use Rattle.action_script.specs.Forms.{form_by}
-use Rattle.action_script.specs.Names.{is_among, with_name, with_names, number_in}
-use Rattle.action_script.specs.Reading.{is_name_part, names_of, field_by, field_of, Numbered, line_by, script_names}
+use Rattle.action_script.specs.NumberedNames.{is_among, with_name, with_names, number_in}
+use Rattle.action_script.specs.Spelling.{is_name_part, names_of, field_by, field_of, Numbered, line_by, script_names}
 
 and : (a b : Bool) → a ≡ true → b ≡ true → (a && b) ≡ true
 and true b p q = q

@@ -5,22 +5,23 @@ use Rattle.std.proofs.lemmas.Bool.{and_parts, le-leb}
 use Rattle.std.proofs.lemmas.List.{length-map}
 use Rattle.std.proofs.lemmas.List.Splits.{length-slice_split}
 use Rattle.std.proofs.lemmas.Slice.Eq.{bytes_eq-Decides}
-use Rattle.action_script.specs.declared.error.ScriptCause.{ScriptCause}
-use Rattle.action_script.specs.declared.error.ScriptCause.TheVariants as cause
-use Rattle.action_script.specs.declared.error.ScriptError.{ScriptError}
+use Rattle.action_script.specs.declared.script_error.ScriptCause.{ScriptCause}
+use Rattle.action_script.specs.declared.script_error.ScriptCause.TheVariants as cause
+use Rattle.action_script.specs.declared.script_error.ScriptError.{ScriptError}
 use Rattle.action_script.specs.declared.field.Part.{Part}
 use Rattle.action_script.specs.declared.field.Part.TheVariants as part
 use Rattle.action_script.specs.declared.form.Form.{Form}
 use Rattle.action_script.specs.declared.kind.Section.{Section}
 use Rattle.action_script.specs.declared.kind.Section.TheVariants as section
 use Rattle.caa_base.specs.Lists.{is_empty}
-use Rattle.action_script.specs.Lines.{most_bytes, most_line, lines_of, words_of, is_blank, spaced}
+use Rattle.caa_base.specs.Limits.{most_script_bytes, most_line_bytes}
+use Rattle.action_script.specs.CutLines.{lines_of, words_of, is_blank, spaced}
 use Rattle.action_script.specs.Asked.{Asked, Said}
 use Rattle.action_script.specs.Kinds.{word_of, parts_of, takes, stands_in, goes_to, at_top}
-use Rattle.action_script.specs.Names.{is_among, with_names}
+use Rattle.action_script.specs.NumberedNames.{is_among, with_names}
 use Rattle.action_script.specs.Forms.{kind_of, form_by}
 use Rattle.action_script.specs.ScriptValue.{Script}
-use Rattle.action_script.specs.Reading.{asked_of, is_part, is_right, is_wrong_test, is_name_part, names_of, field_of, by_first_wrong, trial_of, Numbered, before, with_line, said_from, script_names, line_by, script_by, script_of, reading_of, line_of}
+use Rattle.action_script.specs.Spelling.{asked_of, is_part, is_right, is_wrong_test, is_name_part, names_of, field_of, by_first_wrong, trial_of, Numbered, before, with_line, said_from, script_names, line_by, script_by, script_of, reading_of, line_of}
 use Rattle.action_script.specs.Printing.{field_word, words_after, form_line, all_fit, is_sound, is_short, lead_to_top, form_names, AreScript, forms_of}
 use Rattle.action_script.proofs.Cutting.{filled}
 use Rattle.action_script.proofs.Speaking.{Speaks, speaks, speaks-takes}
@@ -145,12 +146,12 @@ well_said names s line said h among =
     let made = makes_form names k fields count fits in
     let after : words_after names form ≡ h.words = ap (map (field_word names)) made.same_fields ∙ written in
     let text : form_line names form ≡ h.first ++ spaced h.words = (λ j. word_of (made.same_kind j) ++ spaced (after j)) ∙ ap (λ w. w ++ spaced h.words) (sym first) in
-    let small : length (form_line names form) ≤ most_line = omega (arith, ap length text, joined_short line h.first h.words h.cut, h.short) in
+    let small : length (form_line names form) ≤ most_line_bytes = omega (arith, ap length text, joined_short line h.first h.words h.cut, h.short) in
     record {
       kind = made.same_kind;
       stands = subst (λ x. stands_in x s ≡ true) (sym made.same_kind) stands;
       sound = (λ j. takes (made.same_kind j) (length (made.same_fields j)) && all_fit names (parts_of (made.same_kind j)) (made.same_fields j)) ∙ rw (count, fits) refl;
-      short = le-leb (length (form_line names form)) most_line small;
+      short = le-leb (length (form_line names form)) most_line_bytes small;
       words = (λ j. names_of (asked_of (parts_of (made.same_kind j)) (after j))) ∙ ap names_of (sym h.asked);
     }
 
@@ -221,7 +222,7 @@ by_said bytes (Ok lines) script said h few_names few_lines =
     })
 
 pub well_read : (bytes : List ℕ) (script : Script) → reading_of bytes ≡ Ok script → length script.names < 2 ^ 32 → length script.lines < 2 ^ 32 → AreScript script.names (forms_of script.lines)
-well_read bytes script h few_names few_lines = by (nat_lt most_bytes (length bytes)) h
+well_read bytes script h few_names few_lines = by (nat_lt most_script_bytes (length bytes)) h
   where
     by : (b : Bool) → (if b then Err (record { line = 0; cause = cause.TooLong }) else script_of (said_from 1 section.Top (lines_of bytes))) ≡ Ok script → AreScript script.names (forms_of script.lines)
     by true g = cc

@@ -1,10 +1,10 @@
-pub mod Words
-pub mod Names
+pub mod ScriptWords
+pub mod NumberedNames
 pub mod Kinds
 pub mod Forms
-pub mod Lines
+pub mod CutLines
 pub mod Asked
 pub mod ScriptValue
-pub mod Reading
+pub mod Spelling
 pub mod SoFar
 pub mod Printing

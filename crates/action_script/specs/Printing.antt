@@ -10,14 +10,15 @@ use Rattle.action_script.specs.declared.form.Form.{Form}
 use Rattle.action_script.specs.declared.kind.Section.{Section}
 use Rattle.action_script.specs.declared.kind.Section.TheVariants as section
 use Rattle.action_script.specs.declared.script.Line.{Line}
-use Rattle.action_script.specs.Words.{test_word}
+use Rattle.action_script.specs.ScriptWords.{test_word}
 use Rattle.caa_base.specs.Names.{is_name}
-use Rattle.action_script.specs.Lines.{most_line, spaced}
+use Rattle.caa_base.specs.Limits.{most_line_bytes, most_value, most_rounds}
+use Rattle.action_script.specs.CutLines.{spaced}
 use Rattle.action_script.specs.Asked.{Said}
 use Rattle.action_script.specs.Kinds.{word_of, parts_of, takes, stands_in, goes_to, at_top}
 use Rattle.action_script.specs.Forms.{kind_of, fields_of}
-use Rattle.action_script.specs.Names.{with_names}
-use Rattle.action_script.specs.Reading.{asked_of, names_of}
+use Rattle.action_script.specs.NumberedNames.{with_names}
+use Rattle.action_script.specs.Spelling.{asked_of, names_of}
 use Rattle.action_script.specs.ScriptValue.{Script}
 
 -- ---- the text
@@ -47,17 +48,17 @@ text_of script = flat_map (line_text script.names) script.lines
 
 -- ---- what makes lines and names a script
 
--- a value is from -1000000000000 to 1000000000000
+-- a value lies in the range of values
 abbrev pub is_value : ℤ → Bool
-is_value (pos n) = nat_le n 1000000000000
-is_value (negsuc n) = nat_le (n + 1) 1000000000000
+is_value (pos n) = nat_le n most_value
+is_value (negsuc n) = nat_le (n + 1) most_value
 
 -- a field is what this part asks for: a name by the grammar, or a number in its range
 abbrev pub fits_part : List (List ℕ) → Part → Field → Bool
 fits_part names part.Name (field.Name n) = is_name (slice_index_or names n [])
 fits_part names part.Value (field.Value v) = is_value v
-fits_part names part.Count (field.Count k) = nat_le 1 k && nat_le k 1000000
-fits_part names part.Rounds (field.Count k) = nat_le k 1000000
+fits_part names part.Count (field.Count k) = nat_le 1 k && nat_le k most_rounds
+fits_part names part.Rounds (field.Count k) = nat_le k most_rounds
 fits_part names part.Test (field.Test t) = true
 fits_part names _ _ = false
 
@@ -78,7 +79,7 @@ AreBelow count (n ∷ numbers) = (n < count) × AreBelow count numbers
 
 -- the line is no longer than a line may be
 abbrev pub is_short : List (List ℕ) → Form → Bool
-is_short names form = nat_le (length (form_line names form)) most_line
+is_short names form = nat_le (length (form_line names form)) most_line_bytes
 
 -- these forms may follow one another where the reader is here, and lead it to the top
 abbrev pub lead_to_top : Section → List Form → Bool

@@ -1,16 +1,16 @@
 -- What was read of a script so far, line by line.
 use Rattle.std.specs.Prelude.{◌≡◌, ℕ, ◌+◌, List, [], ◌∷◌, ◌++◌, map, Option, Some, None, Result, Ok, Err}
-use Rattle.action_script.specs.declared.error.ScriptCause.{ScriptCause}
-use Rattle.action_script.specs.declared.error.ScriptError.{ScriptError}
+use Rattle.action_script.specs.declared.script_error.ScriptCause.{ScriptCause}
+use Rattle.action_script.specs.declared.script_error.ScriptError.{ScriptError}
 use Rattle.action_script.specs.declared.kind.Section.{Section}
 use Rattle.action_script.specs.declared.kind.Section.TheVariants as section
 use Rattle.action_script.specs.declared.script.Line.{Line}
 use Rattle.action_script.specs.declared.reader.Reader.{Reader}
 use Rattle.action_script.specs.Asked.{Said}
 use Rattle.action_script.specs.Kinds.{goes_to}
-use Rattle.action_script.specs.Lines.{lines_of}
-use Rattle.action_script.specs.Names.{with_names}
-use Rattle.action_script.specs.Reading.{names_of, Numbered, line_by, line_of, before, said_from, script_names}
+use Rattle.action_script.specs.CutLines.{lines_of}
+use Rattle.action_script.specs.NumberedNames.{with_names}
+use Rattle.action_script.specs.Spelling.{names_of, Numbered, line_by, line_of, before, said_from, script_names}
 
 -- the number of the next line, where the reader is, the names, and the lines that say something
 pub record SoFar : Type 0 where

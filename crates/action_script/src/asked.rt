@@ -1,12 +1,12 @@
 ghost use Rattle.std.specs.Prelude.{◌≡◌, ◌≢◌, ◌<◌, ◌^◌, ◌∷◌, [], not, find, option_copied, map, length, Ok, Err, Some, IfOk, IfErr, OnOk};
 ghost use Rattle.std.specs.List.{list_all};
-ghost use Rattle.action_script.specs.Names.{with_names};
-ghost use Rattle.action_script.specs.Reading.{asked_of, is_part, is_test, is_wrong_test, is_right, cause_of, names_of, field_by, field_of, trial_of};
-ghost use Rattle.action_script.specs.declared.error.ScriptCause.TheVariants as cause;
+ghost use Rattle.action_script.specs.NumberedNames.{with_names};
+ghost use Rattle.action_script.specs.Spelling.{asked_of, is_part, is_test, is_wrong_test, is_right, cause_of, names_of, field_by, field_of, trial_of};
+ghost use Rattle.action_script.specs.declared.script_error.ScriptCause.TheVariants as cause;
 
-use crate::error::ScriptCause;
 use crate::field::{Field, Part};
 use crate::names::NameTable;
+use crate::script_error::ScriptCause;
 use crate::word::{count_of, rounds_of, test_of, value_of};
 use caa_base::entry::Test;
 use caa_base::name::is_name;

@@ -3,16 +3,16 @@
 #![tactic(auto)]
 
 mod asked;
-pub mod error;
 mod field;
 pub mod form;
 mod kind;
-mod line;
 mod names;
 pub mod numbers;
 pub mod printer;
 pub mod reader;
 pub mod script;
+pub mod script_error;
+mod script_line;
 #[cfg(test)]
 mod tests;
 pub mod word;

@@ -1,8 +1,8 @@
 ghost use Rattle.std.specs.Prelude.{◌≡◌, ◌+◌, ◌<◌, ◌≤◌, ◌^◌, length, [], IfOk, IfErr, OnOk};
-ghost use Rattle.action_script.specs.Names.{with_name, number_in};
-ghost use Rattle.action_script.specs.declared.error.ScriptCause.TheVariants as cause;
+ghost use Rattle.action_script.specs.NumberedNames.{with_name, number_in};
+ghost use Rattle.action_script.specs.declared.script_error.ScriptCause.TheVariants as cause;
 
-use crate::error::ScriptCause;
+use crate::script_error::ScriptCause;
 use caa_base::name::Name;
 use indexmap::IndexSet;
 use std::alloc::Global;

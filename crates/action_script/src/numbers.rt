@@ -23,10 +23,8 @@ impl Numbers {
     pub fn from_slice(alloc: Global, items: &[u32]) -> Result<Numbers, OutOfMemory>
         ensures { IfOk result (λ numbers. numbers ≡ items.now) }
     {
-        match Vec::from_slice(alloc, items) {
-            Ok(items) => Ok(Numbers { items }),
-            Err(_) => Err(OutOfMemory),
-        }
+        let items = Vec::from_slice(alloc, items)?;
+        Ok(Numbers { items })
     }
 
     /// The numbers of a vector, in order. It takes no memory.

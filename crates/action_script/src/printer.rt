@@ -1,7 +1,8 @@
 ghost use Rattle.std.specs.Prelude.{◌≡◌, ◌≤◌, ◌∷◌, ◌++◌, [], length, map, Ok, OnOk, IfOk, slice_index_or};
 ghost use Rattle.std.specs.List.{flat_map};
-ghost use Rattle.action_script.specs.Lines.{most_bytes, spaced};
-ghost use Rattle.action_script.specs.Reading.{Spells};
+ghost use Rattle.caa_base.specs.Limits.{most_script_bytes};
+ghost use Rattle.action_script.specs.CutLines.{spaced};
+ghost use Rattle.action_script.specs.Spelling.{Spells};
 ghost use Rattle.action_script.specs.Printing.{reread_of, field_word, words_after, form_line, line_text, text_of};
 
 use crate::field::Field;
@@ -9,6 +10,7 @@ use crate::form::Form;
 use crate::script::{Line, Script};
 use crate::word::test_word;
 use caa_base::entry::OutOfMemory;
+use caa_base::line::in_memory;
 use caa_base::name::Name;
 use std::alloc::Global;
 use std::io;
@@ -73,12 +75,10 @@ fn push_lines(alloc: Global, text: &mut Vec<u8>, names: &[Name], lines: &[Line])
 pub fn print(alloc: Global, script: &Script) -> Result<Vec<u8>, OutOfMemory>
     ensures text { IfOk result (λ text. text.items ≡ text_of script.now) }
     // Where it isn't longer than a script may be, it reads back, on the lines 1, 2, 3 and so on.
-    ensures reads_back { IfOk result (λ text. length text.items ≤ most_bytes → Spells text.items (reread_of script.now)) }
+    ensures reads_back { IfOk result (λ text. length text.items ≤ most_script_bytes → Spells text.items (reread_of script.now)) }
 {
     script.are_script();
     let mut text = Vec::new(alloc);
-    match push_lines(alloc, &mut text, script.names(), script.lines()) {
-        Ok(()) => Ok(text),
-        Err(_) => Err(OutOfMemory),
-    }
+    in_memory(push_lines(alloc, &mut text, script.names(), script.lines()))?;
+    Ok(text)
 }

@@ -1,22 +1,21 @@
 ghost use Rattle.std.specs.Prelude.{◌≡◌, ◌≢◌, ◌+◌, ◌-◌, ◌<◌, ◌≤◌, ◌^◌, ◌==◌, ◌∷◌, [], length, position, Ok, Err, IfOk, IfErr, IfSome, OnOk, IsTrue};
-ghost use Rattle.action_script.specs.Lines.{most_bytes, lines_of};
+ghost use Rattle.caa_base.specs.Limits.{most_script_bytes};
+ghost use Rattle.action_script.specs.CutLines.{lines_of};
 ghost use Rattle.action_script.specs.Kinds.{takes};
-ghost use Rattle.action_script.specs.Reading.{line_of, said_from, Spells, HasFirstFault};
+ghost use Rattle.action_script.specs.Spelling.{line_of, said_from, Spells, HasFirstFault};
 ghost use Rattle.action_script.specs.SoFar.{so_far, TookSaid, TookLine, Took, HasRead};
-ghost use Rattle.action_script.specs.declared.error.ScriptCause.TheVariants as cause;
+ghost use Rattle.action_script.specs.declared.script_error.ScriptCause.TheVariants as cause;
 ghost use Rattle.action_script.specs.declared.kind.Section.TheVariants as section;
 
 use crate::asked::{add_names, fields_of};
-use crate::error::{ScriptCause, ScriptError};
 use crate::form::Form;
 use crate::kind::Section;
-use crate::line::{Said, read_line};
 use crate::names::NameTable;
 use crate::script::{Line, Script};
+use crate::script_error::{ScriptCause, ScriptError};
+use crate::script_line::{Said, read_line};
+use caa_base::limits::MOST_SCRIPT_BYTES;
 use std::alloc::Global;
-
-/// The greatest length of a script.
-const MOST_BYTES: usize = 1_048_576;
 
 /// What was read of a script so far.
 #[derive(Drop)]
@@ -103,7 +102,7 @@ impl<'a> Reader<'a> {
 
 /// Reads all lines of a script.
 fn read_lines(alloc: Global, bytes: &[u8]) -> Result<Reader<'_>, ScriptError>
-    requires { length bytes.now ≤ most_bytes }
+    requires { length bytes.now ≤ most_script_bytes }
     ensures read { IfOk result (λ reader. HasRead bytes.now [] (so_far reader)) }
     ensures few_lines { IfOk result (λ reader. length reader.lines.items < 2 ^ 32) }
     ensures few_names { IfOk result (λ reader. length reader.names < 2 ^ 32) }
@@ -136,7 +135,7 @@ pub fn read(alloc: Global, bytes: &[u8]) -> Result<Script, ScriptError>
     ensures read { IfOk result (λ script. Spells bytes.now script) }
     ensures refused { IfErr result (λ e. e.cause ≢ cause.OutOfMemory → HasFirstFault bytes.now e) }
 {
-    if bytes.len() > MOST_BYTES {
+    if bytes.len() as u64 > MOST_SCRIPT_BYTES {
         return Err(ScriptError {
             line: 0,
             cause: ScriptCause::TooLong,

@@ -60,10 +60,8 @@ impl Script {
         ensures lines { IfOk result (λ script. script.lines ≡ numbered_from 1 forms.items) }
         ensures names { IfOk result (λ script. script.names ≡ names.items) }
     {
-        match numbered(alloc, forms) {
-            Ok(lines) => Ok(Script::from_parts(lines, names)),
-            Err(_) => Err(OutOfMemory),
-        }
+        let lines = numbered(alloc, forms)?;
+        Ok(Script::from_parts(lines, names))
     }
 
     /// How many lines say something.

@@ -1,9 +1,9 @@
-use crate::error::{ScriptCause, ScriptError};
 use crate::form::Form;
 use crate::numbers::Numbers;
 use crate::printer::print;
 use crate::reader::read;
 use crate::script::Script;
+use crate::script_error::{ScriptCause, ScriptError};
 use caa_base::entry::Test;
 use caa_base::name::Name;
 use std::alloc::{AllocError, Global};

@@ -1,17 +1,18 @@
 ghost use Rattle.std.specs.Prelude.{◌≡◌, ◌≤◌, ◌&&◌, ◌<◌, ◌^◌, Some, IfSome, option_map, pos};
 ghost use Rattle.std.specs.Option.{ForSome};
 ghost use Rattle.std.specs.List.{list_all};
-ghost use Rattle.action_script.specs.Words.{leads_well, digits_after, natural_of, at_most, at_least_one, negative_of, value_of, count_of, rounds_of, test_of, test_word};
+ghost use Rattle.action_script.specs.ScriptWords.{leads_well, digits_after, natural_of, at_most, at_least_one, negative_of, value_of, count_of, rounds_of, test_of, test_word};
 ghost use Rattle.caa_base.specs.Names.{is_letter, is_digit, is_name_byte, begins_with_letter, is_name};
 
 use caa_base::entry::Test;
+use caa_base::limits;
 use caa_base::name::is_digit;
 
 /// The greatest value; the least is its negative.
-const MOST_VALUE: u64 = 1_000_000_000_000;
+const MOST_VALUE: u64 = limits::MOST_VALUE as u64;
 
 /// The greatest count, and the greatest number of rounds.
-const MOST_COUNT: u64 = 1_000_000;
+const MOST_COUNT: u64 = limits::MOST_ROUNDS as u64;
 
 fn leads_well(word: &[u8]) -> bool
     ensures { result ≡ leads_well word.now }

@@ -1,4 +1,4 @@
 pub mod Counting
 pub mod KnownBytes
 pub mod ListLemmas
-pub mod Values
+pub mod ValueRange

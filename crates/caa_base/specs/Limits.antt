@@ -26,6 +26,10 @@ most_puts = 1000000
 abbrev pub most_script_bytes : ℕ
 most_script_bytes = 1048576
 
+-- a script with the text of a journal after it
+abbrev pub most_audit_bytes : ℕ
+most_audit_bytes = 268435456
+
 -- a line without its line feed
 abbrev pub most_line_bytes : ℕ
 most_line_bytes = 16384
@@ -85,3 +89,7 @@ most_places = 65536
 
 abbrev pub most_entries : ℕ
 most_entries = 1000000
+
+-- entries of a journal that is audited
+abbrev pub most_audited : ℕ
+most_audited = 5000

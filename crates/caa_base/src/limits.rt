@@ -17,6 +17,9 @@ pub const MOST_PUTS: u32 = 1_000_000;
 /// Bytes of a script.
 pub const MOST_SCRIPT_BYTES: u64 = 1_048_576;
 
+/// Bytes of a script with the text of a journal after it.
+pub const MOST_AUDIT_BYTES: u64 = 268_435_456;
+
 /// Bytes of a line, its line feed not counted.
 pub const MOST_LINE_BYTES: usize = 16_384;
 
@@ -64,6 +67,9 @@ pub const MOST_PLACES: u64 = 65_536;
 
 /// Entries of a journal.
 pub const MOST_ENTRIES: u64 = 1_000_000;
+
+/// Entries of a journal that is audited.
+pub const MOST_AUDITED: u64 = 5_000;
 
 /// Whether a number may be the value of an object or a register.
 pub fn is_value(value: i64) -> bool

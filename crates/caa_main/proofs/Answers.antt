@@ -2,8 +2,8 @@
 use Rattle.std.proofs.Common.{◌≡◌, Ok, Err, Result, subst}
 use Rattle.action_script.specs.ScriptValue.{Script}
 use Rattle.place_plan.specs.PlanValue.{Plan}
-use Rattle.script_checker.specs.declared.error.CheckError.{CheckError}
-use Rattle.script_checker.specs.declared.error.CheckCause.TheVariants as cause
+use Rattle.script_checker.specs.declared.check_error.CheckError.{CheckError}
+use Rattle.script_checker.specs.declared.check_error.CheckCause.TheVariants as cause
 use Rattle.script_checker.specs.Compiled.{IsAnswer, planned, refused, wanting, IsPlanOf, IsFirstRefused}
 
 pub plan_answered : (script : Script) (r : Result Plan CheckError) (plan : Plan) → IsAnswer script r → r ≡ Ok plan → IsPlanOf script plan

@@ -1,5 +1,5 @@
 mod Answers
 mod LineStarts
-mod Refusals
+mod NotRefused
 mod Reversed
 mod Serving

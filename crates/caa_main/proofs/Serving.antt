@@ -7,8 +7,8 @@ use Rattle.caa_base.specs.Reading.{TookOff, TookUntil}
 use Rattle.caa_base.specs.declared.reading.ReadError.{ReadError}
 use Rattle.caa_base.specs.declared.reading.ReadError.TheVariants as error
 use Rattle.action_script.specs.ScriptValue.{Script}
-use Rattle.action_script.specs.Reading.{reading_of}
-use Rattle.action_script.specs.declared.error.ScriptError.{ScriptError}
+use Rattle.action_script.specs.Spelling.{reading_of}
+use Rattle.action_script.specs.declared.script_error.ScriptError.{ScriptError}
 use Rattle.script_checker.specs.Compiled.{IsFirstRefused}
 use Rattle.place_plan.specs.PlanValue.{Plan}
 use Rattle.caa_main.specs.declared.command.Command.{Command}
@@ -21,9 +21,9 @@ use Rattle.caa_main.specs.declared.status.Status.TheVariants as status
 use Rattle.caa_main.specs.Findings.{status_of}
 use Rattle.caa_main.specs.Inputs.{most_bytes, script_in}
 use Rattle.caa_main.specs.Scripts.{HasPlan, IsRefusedScript}
-use Rattle.caa_main.specs.Uses.{SourceUse, SinkUse, Left, Call}
+use Rattle.caa_main.specs.OutsideUse.{SourceUse, SinkUse, Left, Call}
 use Rattle.caa_main.specs.Calls.{PlanComesTo, InputComesTo, IsNotServed, HasStopped, unread_finding, CameTo, Answers, IsServable, WasServed}
-use Rattle.caa_main.proofs.Refusals.{plan_not_refused}
+use Rattle.caa_main.proofs.NotRefused.{plan_not_refused}
 
 -- ---- a script that has a plan
 

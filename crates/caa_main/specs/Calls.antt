@@ -20,9 +20,9 @@ use Rattle.caa_main.specs.Commands.{command_of}
 use Rattle.caa_main.specs.Findings.{counts_of, status_of, finding_text, is_played, needs_memory}
 use Rattle.caa_main.specs.Inputs.{most_bytes, script_in, journal_part}
 use Rattle.caa_main.specs.Judging.{IsLawful, IsIllegal, HasTooManyEntries}
-use Rattle.caa_main.specs.Plays.{IsPlayed, has_failed_play}
+use Rattle.caa_main.specs.FailedPlays.{IsPlayed, has_failed_play}
 use Rattle.caa_main.specs.Scripts.{HasPlan, IsRefusedScript}
-use Rattle.caa_main.specs.Uses.{SourceUse, SinkUse, Left, Call, IsIdle, IsUnplayed}
+use Rattle.caa_main.specs.OutsideUse.{SourceUse, SinkUse, Left, Call, IsIdle, IsUnplayed}
 
 -- ---- what each command comes to over a plan
 

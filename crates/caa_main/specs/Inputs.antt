@@ -1,8 +1,8 @@
 -- How the input of an audit is cut into the script and the text of the journal.
 use Rattle.std.specs.Prelude.{ℕ, ◌-◌, ◌==◌, zero, suc, if◌then◌else◌, Bool, ◌&&◌, List, [], ◌∷◌, length, take, drop, bytes_eq, codes}
 use Rattle.std.specs.List.{list_all}
-use Rattle.caa_base.specs.Limits.{most_script_bytes}
-use Rattle.action_script.specs.Lines.{lines_of, is_blank}
+use Rattle.caa_base.specs.Limits.{most_script_bytes, most_audit_bytes}
+use Rattle.action_script.specs.CutLines.{lines_of, is_blank}
 use Rattle.caa_main.specs.declared.command.Command.{Command}
 use Rattle.caa_main.specs.declared.command.Command.TheVariants as command
 
@@ -45,7 +45,7 @@ script_part bytes = take (length bytes - length (journal_part bytes)) bytes
 
 -- how many bytes the input of a command may have
 abbrev pub most_bytes : Command → ℕ
-most_bytes command.Audit = 268435456
+most_bytes command.Audit = most_audit_bytes
 most_bytes _ = most_script_bytes
 
 -- which of the bytes that were read are the script

@@ -1,10 +1,11 @@
 -- What an audit finds in the text of a journal.
 use Rattle.std.specs.Prelude.{◌≡◌, ◌⊎◌, ℕ, ◌+◌, List, [], ◌∷◌, length, Option, Some, None}
 use Rattle.caa_base.specs.declared.entry.Entry.{Entry}
+use Rattle.caa_base.specs.Limits.{most_audited}
 use Rattle.place_plan.specs.PlanValue.{Plan}
 use Rattle.place_plan.specs.Journals.{IsLegal, IsComplete}
 use Rattle.journal_text.specs.declared.seens.Seen.{Seen}
-use Rattle.journal_text.specs.Reading.{IsText, HasTooMany, IsFirstBad}
+use Rattle.journal_text.specs.TextOfJournal.{IsText, HasTooMany, IsFirstBad}
 use Rattle.journal_text.specs.Right.{first_wrong}
 use Rattle.journal_replay.specs.Audited.{IsFirstIllegal, IsUnfinished}
 use Rattle.caa_main.specs.declared.fault.Fault.TheVariants as fault
@@ -12,10 +13,6 @@ use Rattle.caa_main.specs.declared.fault.Refusal.{Refusal}
 use Rattle.caa_main.specs.declared.judging.Judgement.{Judgement}
 use Rattle.caa_main.specs.declared.judging.Judgement.TheVariants as judgement
 use Rattle.caa_main.specs.Inputs.{script_lines, journal_part}
-
--- how many entries a journal may have that is audited
-abbrev pub most_audited : ℕ
-most_audited = 5000
 
 -- the number of the first wrong look; a text without looks has none
 abbrev pub wrong_look : Plan → List Entry → List Seen → Option ℕ

@@ -1,16 +1,16 @@
 -- What the bytes of a script come to: its plan, or the fault for which it is refused.
 use Rattle.std.specs.Prelude.{◌≡◌, ◌⊎◌, ℕ, ◌==◌, if◌then◌else◌, List, [], ◌∷◌, ◌++◌, map, slice_index_or, Ok, Err, codes}
 use Rattle.action_script.specs.ScriptValue.{Script}
-use Rattle.action_script.specs.Reading.{reading_of}
+use Rattle.action_script.specs.Spelling.{reading_of}
 use Rattle.action_script.specs.declared.form.Form.{Form}
 use Rattle.action_script.specs.declared.form.Form.TheVariants as form
 use Rattle.action_script.specs.declared.script.Line.{Line}
-use Rattle.action_script.specs.declared.error.ScriptError.{ScriptError}
-use Rattle.action_script.specs.declared.error.ScriptCause.{ScriptCause}
-use Rattle.action_script.specs.declared.error.ScriptCause.TheVariants as spelling
-use Rattle.script_checker.specs.declared.error.CheckError.{CheckError}
-use Rattle.script_checker.specs.declared.error.CheckCause.{CheckCause}
-use Rattle.script_checker.specs.declared.error.CheckCause.TheVariants as cause
+use Rattle.action_script.specs.declared.script_error.ScriptError.{ScriptError}
+use Rattle.action_script.specs.declared.script_error.ScriptCause.{ScriptCause}
+use Rattle.action_script.specs.declared.script_error.ScriptCause.TheVariants as spelling
+use Rattle.script_checker.specs.declared.check_error.CheckError.{CheckError}
+use Rattle.script_checker.specs.declared.check_error.CheckCause.{CheckCause}
+use Rattle.script_checker.specs.declared.check_error.CheckCause.TheVariants as cause
 use Rattle.script_checker.specs.Compiled.{IsPlanOf, IsFirstRefused}
 use Rattle.place_plan.specs.PlanValue.{Plan}
 use Rattle.caa_main.specs.declared.fault.Fault.{Fault}

@@ -2,7 +2,7 @@
 
 ghost use Rattle.std.specs.Prelude.{◌≡◌, ◌≤◌, ◌<◌, ◌+◌, ◌-◌, ◌∷◌, ◌==◌, ℕ, suc, length, drop, position, IfSome};
 ghost use Rattle.std.specs.List.{list_all};
-ghost use Rattle.action_script.specs.Lines.{is_blank, lines_of};
+ghost use Rattle.action_script.specs.CutLines.{is_blank, lines_of};
 ghost use Rattle.caa_main.specs.Inputs.{without_blanks, begins_journal, is_journal_line, after_lines, script_lines, journal_part};
 
 /// Where the text of the journal begins in an input.

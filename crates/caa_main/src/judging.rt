@@ -3,23 +3,21 @@
 ghost use Rattle.std.specs.Prelude.{◌≡◌, ◌≤◌, ◌+◌, ℕ, List, true, length, IfOk, IfSome};
 ghost use Rattle.place_plan.specs.Journals.{IsLegal, IsComplete};
 ghost use Rattle.journal_text.specs.Text.{text_of};
-ghost use Rattle.journal_text.specs.Reading.{HasText};
+ghost use Rattle.journal_text.specs.TextOfJournal.{HasText};
 ghost use Rattle.journal_text.specs.Looks.{AreOfPlan};
 ghost use Rattle.journal_text.specs.Naming.{is_well_named};
 ghost use Rattle.caa_main.specs.Judging.{wrong_look, Judges};
 
 use caa_base::entry::OutOfMemory;
 use caa_base::journal::Journal;
+use caa_base::limits::MOST_AUDITED;
 use journal_replay::audit::audit;
 use journal_text::naming::is_well_named;
-use journal_text::reading::{TextError, read};
 use journal_text::right::first_wrong;
 use journal_text::seens::Seens;
+use journal_text::text_reader::{TextError, read};
 use place_plan::plan::Plan;
 use std::alloc::Global;
-
-/// How many entries a journal may have that is audited.
-const MOST_AUDITED: u64 = 5_000;
 
 /// What was found in the text of a journal.
 #[derive(Drop)]

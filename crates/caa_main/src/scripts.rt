@@ -4,15 +4,15 @@ ghost use Rattle.std.specs.Prelude.{◌≡◌, [], IfOk, IfErr, OnOk};
 ghost use Rattle.caa_main.specs.Scripts.{HasPlan, HasNoPlan, IsSpelling, IsCause, declared_after, declared_at, exception_at};
 
 use crate::fault::{Fault, Refusal};
-use action_script::error::ScriptCause;
 use action_script::form::Form;
 use action_script::reader::read;
 use action_script::script::Script;
+use action_script::script_error::ScriptCause;
 use caa_base::entry::OutOfMemory;
 use caa_base::name::Name;
 use place_plan::plan::Plan;
+use script_checker::check_error::{CheckCause, CheckError};
 use script_checker::compile::compile;
-use script_checker::error::{CheckCause, CheckError};
 use std::alloc::{AllocError, Global};
 
 /// Why bytes have no plan.

@@ -1,7 +1,7 @@
 ghost use Rattle.std.specs.Prelude.{◌≡◌, ◌<◌, ◌≤◌, ◌^◌, [], if◌then◌else◌, None, map, string_bytes};
 ghost use Rattle.caa_main.specs.Commands.{command_of, HasSeed};
-ghost use Rattle.caa_main.specs.Plays.{is_failed_play, has_failed_play};
-ghost use Rattle.caa_main.specs.Uses.{source_use, sink_use, plant_use, left_of, call_of, IsIdle};
+ghost use Rattle.caa_main.specs.FailedPlays.{is_failed_play, has_failed_play};
+ghost use Rattle.caa_main.specs.OutsideUse.{source_use, sink_use, plant_use, left_of, call_of, IsIdle};
 ghost use Rattle.caa_main.specs.Calls.{CheckComesTo, SimComesTo, AuditComesTo, PlanComesTo, InputComesTo, unread_finding, CameTo, Answers, IsServable, WasServed};
 ghost use Rattle.caa_main.specs.Inputs.{most_bytes, script_in};
 
@@ -14,7 +14,7 @@ use crate::scripts::{NoPlan, plan_of};
 use crate::status::{Ended, Status};
 use caa_base::entry::{Entry, Kind};
 use caa_base::journal::Journal;
-use caa_base::limits::MOST_SCRIPT_BYTES;
+use caa_base::limits::{MOST_AUDIT_BYTES, MOST_SCRIPT_BYTES};
 use caa_base::plant::Plant;
 use caa_base::reading::{ReadError, read_all, write_all};
 use caa_base::sink::Sink;
@@ -26,9 +26,6 @@ use journal_text::writing::write;
 use place_plan::plan::Plan;
 use role_driver::sim::sim;
 use std::alloc::Global;
-
-/// How many bytes the input of an audit has at most.
-const MOST_INPUT: u64 = 268_435_456;
 
 /// What a call came to, with the device and the journal that it hands back.
 #[derive(Drop)]
@@ -189,7 +186,7 @@ fn most_bytes(command: Command) -> u64
     ensures small { result ≤ 268435456 }
 {
     match command {
-        Command::Audit => MOST_INPUT,
+        Command::Audit => MOST_AUDIT_BYTES,
         Command::Check | Command::Sim(_) => MOST_SCRIPT_BYTES,
     }
 }

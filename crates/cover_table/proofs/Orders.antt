@@ -6,7 +6,7 @@ use Rattle.std.proofs.lemmas.List.Elements.{All-head, All-tail}
 use Rattle.std.proofs.lemmas.List.Folds.{list_all-append}
 use Rattle.std.proofs.lemmas.Bool.{and_parts, and_from, cases_order, cases_eq}
 use Rattle.cover_table.specs.Cover.{CoverOrder, covers, covers_each, IsLeastCover, HasLeastCover, IsOrder, IsSound, IsFirstWithoutLeast, SetsHaveLeastCovers}
-use Rattle.cover_table.specs.declared.rows.NoLeast.{NoLeast}
+use Rattle.cover_table.specs.declared.order.NoLeast.{NoLeast}
 
 and_swapped : (p q : Bool) → (p && (q && true)) ≡ (q && (p && true))
 and_swapped true true = refl

@@ -2,4 +2,4 @@ pub mod Checks
 pub mod Common
 pub mod Cover
 pub mod Joins
-pub mod Sizes
+pub mod SizedTables

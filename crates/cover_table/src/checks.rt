@@ -2,7 +2,7 @@ ghost use Rattle.std.specs.Prelude.{◌<◌, ◌≤◌, ◌↔◌, length, IsTru
 ghost use Rattle.cover_table.specs.Checks.{CoversAllOf, IsRightAt, IsRightPair};
 ghost use Rattle.cover_table.specs.Cover.{IsOrder, most_exceptions, order_of_rows};
 
-use crate::rows::{Row, has_bit};
+use crate::order::{Row, has_bit};
 
 /// Whether `a` covers all that `b` covers.
 fn covers_all_of(rows: &[Row], a: u32, b: u32) -> bool

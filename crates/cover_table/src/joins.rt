@@ -2,7 +2,7 @@ ghost use Rattle.std.specs.Prelude.{◌≡◌, ◌<◌, ◌≤◌, ◌↔◌, �
 ghost use Rattle.cover_table.specs.Cover.{covers, most_exceptions, order_of, IsLeastCover, IsOrder, IsSound, IsFirstWithoutLeast};
 ghost use Rattle.cover_table.specs.Common.{FailsAt, IsJoin};
 
-use crate::rows::{NoLeast, Order, Row, has_bit};
+use crate::order::{NoLeast, Order, Row, has_bit};
 use crate::uppers::{least_of_two, uppers_of};
 use std::marker::Model;
 

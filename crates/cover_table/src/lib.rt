@@ -3,7 +3,7 @@
 
 mod checks;
 mod joins;
-mod rows;
+mod order;
 mod sizes;
 #[cfg(test)]
 mod tests;
@@ -11,5 +11,5 @@ mod uppers;
 
 pub use checks::is_order;
 pub use joins::JoinTable;
-pub use rows::{MOST_EXCEPTIONS, NoLeast, Order, Row, has_bit, with_bit};
+pub use order::{MOST_EXCEPTIONS, NoLeast, Order, Row, has_bit, with_bit};
 pub use sizes::AnyTable;

@@ -3,7 +3,7 @@ ghost use Rattle.cover_table.specs.Cover.{covers, order_of, order_of_rows, IsLea
 ghost use Rattle.cover_table.specs.Joins.{least_size};
 
 use crate::joins::JoinTable;
-use crate::rows::{NoLeast, Order, Row};
+use crate::order::{NoLeast, Order, Row};
 use std::marker::Model;
 
 /// A table of least covers of the least size that holds its order.
@@ -67,7 +67,7 @@ impl Model for AnyTable {
 
     ghost Value = { CoverOrder };
 
-    ghost use Rattle.cover_table.specs.Sizes.{order_of_sized, HasLeastSize};
+    ghost use Rattle.cover_table.specs.SizedTables.{order_of_sized, HasLeastSize};
 
     ghost view = { λ t. order_of_sized t.sized };
 

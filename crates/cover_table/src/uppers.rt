@@ -2,7 +2,7 @@ ghost use Rattle.std.specs.Prelude.{◌≡◌, ◌<◌, ◌≤◌, ℕ, length, 
 ghost use Rattle.cover_table.specs.Cover.{has_bit, most_exceptions, tells};
 ghost use Rattle.cover_table.specs.Common.{AreUppers, HasJoin, IsJoin};
 
-use crate::rows::{Row, has_bit, with_bit};
+use crate::order::{Row, has_bit, with_bit};
 
 /// The numbers that cover `b`, as a row of bits.
 fn upper_row(rows: &[Row], b: u32) -> Row

@@ -1,5 +1,5 @@
 pub mod Chained
 pub mod Mutual
 pub mod Pairs
-pub mod Refusals
-pub mod Steps
+pub mod GraphCauses
+pub mod ClosingSteps

@@ -2,8 +2,8 @@
 use Rattle.std.specs.Prelude.{◌≡◌, ◌<◌, ◌≤◌, ℕ, true, List}
 use Rattle.cover_table.specs.Cover.{most_exceptions, CoverOrder, covers}
 use Rattle.exception_graph.specs.Chains.{IsFirstInCycle, IsFirstUnjoined, IsSoundGraph}
-use Rattle.exception_graph.specs.declared.error.GraphError.{GraphError}
-use Rattle.exception_graph.specs.declared.error.GraphError.TheVariants.{Cycle, NoLeast, TooMany, OutOfMemory}
+use Rattle.exception_graph.specs.declared.graph_error.GraphError.{GraphError}
+use Rattle.exception_graph.specs.declared.graph_error.GraphError.TheVariants.{Cycle, NoLeast, TooMany, OutOfMemory}
 
 -- number 0 is there, and covers all
 pub record HasUniversal (order : CoverOrder) : Type 0 where

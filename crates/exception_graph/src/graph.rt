@@ -5,7 +5,7 @@ ghost use Rattle.exception_graph.specs.Graph.{HasUniversal, IsRefusal};
 
 use crate::closing::tell_chains;
 use crate::cycles::first_in_cycle;
-use crate::error::GraphError;
+use crate::graph_error::GraphError;
 use caa_base::entry::OutOfMemory;
 use cover_table::{AnyTable, MOST_EXCEPTIONS};
 use std::alloc::Global;
@@ -130,9 +130,7 @@ impl Graph {
     pub fn copy(&self, alloc: Global) -> Result<Graph, OutOfMemory>
         ensures { IfOk result (λ graph. graph ≡ self.now) }
     {
-        match Box::new(alloc, self.table.copy()) {
-            Ok(table) => Ok(Graph { table }),
-            Err(_) => Err(OutOfMemory),
-        }
+        let table = Box::new(alloc, self.table.copy())?;
+        Ok(Graph { table })
     }
 }

@@ -3,10 +3,10 @@
 
 mod closing;
 mod cycles;
-mod error;
 mod graph;
+mod graph_error;
 #[cfg(test)]
 mod tests;
 
-pub use error::GraphError;
 pub use graph::Graph;
+pub use graph_error::GraphError;

@@ -16,8 +16,8 @@ use Rattle.place_plan.specs.Rules.{Row, MayArrive, MayAbort, AskForUndo, HaveAgr
 use Rattle.place_plan.specs.Journals.{LegalPast}
 use Rattle.journal_laws.proofs.Playable.{IsTree}
 use Rattle.caa_base.proofs.ListLemmas.{all_at, at_same, chosen, first_not_fails}
-use Rattle.place_plan.proofs.Plays.{plays_in}
-use Rattle.place_plan.proofs.Entries.{of_kind}
+use Rattle.place_plan.proofs.PlaysRise.{plays_in}
+use Rattle.place_plan.proofs.EntryKinds.{of_kind}
 use Rattle.journal_laws.proofs.Tree.{arrives_in}
 
 -- something that was raised stays raised

@@ -5,9 +5,9 @@ use Rattle.std.proofs.lemmas.Bool.{or_cases, eqb-true, false≢true, cases_eq}
 use Rattle.std.proofs.lemmas.Option.{get_or_from_slice_get}
 use Rattle.caa_base.specs.declared.entry.Entry.{Entry}
 use Rattle.caa_base.specs.declared.entry.Kind.TheVariants as kind
-use Rattle.place_plan.specs.declared.rows.RoleRow.{RoleRow}
-use Rattle.place_plan.specs.declared.rows.HandlerRow.{HandlerRow}
-use Rattle.place_plan.specs.declared.rows.PlaceRow.{PlaceRow}
+use Rattle.place_plan.specs.declared.draft_rows.RoleRow.{RoleRow}
+use Rattle.place_plan.specs.declared.draft_rows.HandlerRow.{HandlerRow}
+use Rattle.place_plan.specs.declared.draft_rows.PlaceRow.{PlaceRow}
 use Rattle.place_plan.specs.PlanValue.{Plan}
 use Rattle.caa_base.specs.Lists.{member, index_of}
 use Rattle.place_plan.specs.Places.{roles_of, objects_of, action_at, action_in, place_at, no_role, no_place, handler_in, body_of, handler_of}

@@ -18,7 +18,7 @@ use Rattle.place_plan.specs.Journals.{LegalPast, AllOver}
 use Rattle.journal_laws.specs.Laws.{Holds, EffectLaw, RestoresFit, Splits, is_restore, is_kept_mark, is_kept, last_write, has_failed_restore}
 use Rattle.journal_laws.proofs.Playable.{IsPlayable}
 use Rattle.caa_base.proofs.ListLemmas.{chosen, all_at}
-use Rattle.place_plan.proofs.Entries.{of_kind}
+use Rattle.place_plan.proofs.EntryKinds.{of_kind}
 use Rattle.journal_laws.proofs.Tree.{in_within, live_within}
 use Rattle.journal_laws.proofs.Phases.{going_parts}
 use Rattle.journal_laws.proofs.Holding.{live_uses, holds_within}

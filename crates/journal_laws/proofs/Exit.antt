@@ -16,7 +16,7 @@ use Rattle.journal_laws.specs.Laws.{Holds, Splits, ExitLaw}
 use Rattle.journal_laws.proofs.Playable.{IsPlayable}
 use Rattle.journal_laws.proofs.Core.{Core}
 use Rattle.caa_base.proofs.ListLemmas.{all_at}
-use Rattle.place_plan.proofs.Entries.{of_kind}
+use Rattle.place_plan.proofs.EntryKinds.{of_kind}
 use Rattle.journal_laws.proofs.Lives.{live_parts}
 use Rattle.journal_laws.proofs.Busy.{not_given}
 use Rattle.journal_laws.proofs.InnerFirst.{legal_rest}

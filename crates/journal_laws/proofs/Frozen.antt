@@ -16,7 +16,7 @@ use Rattle.place_plan.specs.Rules.{Row, MayLeave, MayFollow, Names, SaysVerdict,
 use Rattle.place_plan.specs.Journals.{LegalPast}
 use Rattle.journal_laws.proofs.Playable.{IsTree}
 use Rattle.caa_base.proofs.ListLemmas.{at_same}
-use Rattle.place_plan.proofs.Entries.{of_kind}
+use Rattle.place_plan.proofs.EntryKinds.{of_kind}
 use Rattle.journal_laws.proofs.Phases.{IsOpen, calm_open, hot_open, open_either, is_open, open_parts, open_from}
 use Rattle.journal_laws.proofs.Raised.{busy_inside, parent_round}
 

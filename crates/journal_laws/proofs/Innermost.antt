@@ -16,8 +16,8 @@ use Rattle.place_plan.specs.Journals.{LegalPast}
 use Rattle.journal_laws.specs.Laws.{Holds, InsideIsInnermost}
 use Rattle.journal_laws.proofs.Playable.{IsTree}
 use Rattle.caa_base.proofs.ListLemmas.{first_not_fails}
-use Rattle.place_plan.proofs.Plays.{plays_in}
-use Rattle.place_plan.proofs.Entries.{of_kind}
+use Rattle.place_plan.proofs.PlaysRise.{plays_in}
+use Rattle.place_plan.proofs.EntryKinds.{of_kind}
 use Rattle.journal_laws.proofs.Tree.{in_within, arrives_in}
 
 -- ---- tests

@@ -18,7 +18,7 @@ use Rattle.journal_laws.specs.Laws.{Holds, IsBounded}
 use Rattle.journal_laws.proofs.Playable.{IsPlayable}
 use Rattle.journal_laws.proofs.Core.{Core}
 use Rattle.caa_base.proofs.ListLemmas.{first_not_fails}
-use Rattle.place_plan.proofs.Entries.{of_kind, both_same}
+use Rattle.place_plan.proofs.EntryKinds.{of_kind, both_same}
 use Rattle.journal_laws.proofs.Newest.{newest_stands, stands_newest}
 use Rattle.journal_laws.proofs.Phases.{calm_open, hot_open, going_parts}
 use Rattle.journal_laws.proofs.Raised.{plain_calm, unhandled_fault}

@@ -14,7 +14,7 @@ pub mod LeastOf
 pub mod Recovering
 pub mod DueOnly
 pub mod DueMay
-pub mod Due
+pub mod DueEntry
 pub mod CoreKept
 pub mod Tree
 pub mod Busy
@@ -40,7 +40,7 @@ pub mod Makers
 pub mod Versions
 pub mod Effects
 pub mod Ranges
-pub mod WellFormed
+pub mod LegalWellFormed
 pub mod Costs
 pub mod Walked
 pub mod LengthLaw

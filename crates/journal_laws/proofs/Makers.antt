@@ -11,7 +11,7 @@ use Rattle.place_plan.specs.Whereabouts.{is_going}
 use Rattle.place_plan.specs.Rules.{Row, MayPut, MayFollow}
 use Rattle.place_plan.specs.Journals.{LegalPast}
 use Rattle.journal_laws.proofs.Playable.{IsTree}
-use Rattle.place_plan.proofs.Entries.{of_kind}
+use Rattle.place_plan.proofs.EntryKinds.{of_kind}
 use Rattle.journal_laws.proofs.Raised.{role_inside, busy_inside}
 use Rattle.journal_laws.proofs.Frozen.{able_open}
 use Rattle.journal_laws.proofs.Arrivals.{arrives_with_role}

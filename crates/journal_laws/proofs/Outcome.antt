@@ -16,7 +16,7 @@ use Rattle.place_plan.specs.Journals.{LegalPast}
 use Rattle.journal_laws.specs.Laws.{Holds, OutcomeLaw, RestoresFit, is_restore}
 use Rattle.journal_laws.proofs.Core.{Tries}
 use Rattle.caa_base.proofs.ListLemmas.{chosen, first_not_none}
-use Rattle.place_plan.proofs.Entries.{of_kind}
+use Rattle.place_plan.proofs.EntryKinds.{of_kind}
 use Rattle.journal_laws.proofs.Tried.{count_next, tries}
 
 -- ---- lists

@@ -12,7 +12,7 @@ use Rattle.place_plan.specs.Roles.{next_play, is_over, is_over_after}
 use Rattle.place_plan.specs.Journals.{LegalPast}
 use Rattle.journal_laws.proofs.Playable.{IsPlayable}
 use Rattle.caa_base.proofs.ListLemmas.{first_not_none, first_not_nowhere, last_member, last_greatest, no_last}
-use Rattle.place_plan.proofs.Plays.{plays_in, in_plays, plays_rise}
+use Rattle.place_plan.proofs.PlaysRise.{plays_in, in_plays, plays_rise}
 use Rattle.journal_laws.proofs.Tree.{in_within}
 use Rattle.journal_laws.proofs.Raised.{role_inside}
 use Rattle.journal_laws.proofs.Innermost.{stays_within}

@@ -3,15 +3,15 @@ use Rattle.std.proofs.Common.{◌≡◌, ℕ, ◌<◌, ◌≤◌, ◌==◌, nat_
 use Rattle.std.specs.List.{list_all}
 use Rattle.std.proofs.lemmas.Bool.{and_parts, or_cases, eqb-true, false≢true, ltb-true, lt-ltb, not-true, cases_Bool}
 use Rattle.place_plan.specs.declared.draft.Draft.{Draft}
-use Rattle.place_plan.specs.declared.rows.ObjectRow.{ObjectRow}
-use Rattle.place_plan.specs.declared.rows.PlaceRow.{PlaceRow}
-use Rattle.place_plan.specs.declared.rows.ActionRow.{ActionRow}
-use Rattle.place_plan.specs.declared.rows.NestRow.{NestRow}
-use Rattle.place_plan.specs.declared.rows.RoleRow.{RoleRow}
-use Rattle.place_plan.specs.declared.rows.HandlerRow.{HandlerRow}
-use Rattle.place_plan.specs.declared.rows.Program.{Program}
-use Rattle.place_plan.specs.declared.rows.Step.{Step}
-use Rattle.place_plan.specs.declared.rows.Step.TheVariants as step
+use Rattle.place_plan.specs.declared.draft_rows.ObjectRow.{ObjectRow}
+use Rattle.place_plan.specs.declared.draft_rows.PlaceRow.{PlaceRow}
+use Rattle.place_plan.specs.declared.draft_rows.ActionRow.{ActionRow}
+use Rattle.place_plan.specs.declared.draft_rows.NestRow.{NestRow}
+use Rattle.place_plan.specs.declared.draft_rows.RoleRow.{RoleRow}
+use Rattle.place_plan.specs.declared.draft_rows.HandlerRow.{HandlerRow}
+use Rattle.place_plan.specs.declared.draft_rows.Program.{Program}
+use Rattle.place_plan.specs.declared.draft_rows.Step.{Step}
+use Rattle.place_plan.specs.declared.draft_rows.Step.TheVariants as step
 use Rattle.place_plan.specs.PlanValue.{Plan}
 use Rattle.caa_base.specs.Lists.{member, index_of, is_empty, first_of, Rises}
 use Rattle.place_plan.specs.Places.{place_at, action_at, around, parent, roles_of, role_row, body_of, handler_in, abort_row, objects_of, uses, alternates_of, nest_number, nest_of, nest_in, internal_of, interface_of, fault_of, map_signal, initial_of, no_action, no_role, no_nest, no_place, no_object}
@@ -23,7 +23,7 @@ use Rattle.place_plan.specs.Closed.{IsClosed, AreSound}
 use Rattle.caa_base.proofs.ListLemmas.{all_at, get_passes, at_row, all_imply}
 use Rattle.place_plan.proofs.Passing.{past_end, below_or_not, as_filled}
 use Rattle.place_plan.proofs.DraftKeeps.{initials_range, graphs_range, objects_range, parts_range, plays_range, has_roles, all_nests_fit}
-use Rattle.caa_base.proofs.Values.{value_from}
+use Rattle.caa_base.proofs.ValueRange.{value_from}
 use Rattle.place_plan.proofs.Subtrees.{IsPlaced, IsKnown, use_of}
 use Rattle.place_plan.proofs.UnfoldedPlan.{IsUnfolded, is_unfolded, child_of, child_after, in_table, row_rises, rows_apart}
 use Rattle.place_plan.proofs.Casts.{all_cast, action_is, use_there, from_picked, in_picked, member_at}

@@ -19,8 +19,8 @@ use Rattle.journal_laws.specs.Laws.{Holds}
 use Rattle.journal_laws.proofs.Playable.{IsTree}
 use Rattle.journal_laws.proofs.Core.{Raises}
 use Rattle.caa_base.proofs.ListLemmas.{all_at, at_same, chosen, first_not_fails}
-use Rattle.place_plan.proofs.Plays.{plays_in}
-use Rattle.place_plan.proofs.Entries.{of_kind, both_same}
+use Rattle.place_plan.proofs.PlaysRise.{plays_in}
+use Rattle.place_plan.proofs.EntryKinds.{of_kind, both_same}
 use Rattle.journal_laws.proofs.Tree.{arrives_in}
 use Rattle.journal_laws.proofs.Busy.{IsBusy, AllBusy, all_busy, raised_stays}
 use Rattle.journal_laws.proofs.InnerFirst.{round_round}

@@ -18,7 +18,7 @@ use Rattle.journal_laws.specs.Laws.{Holds, Splits, HandlesLeast, Answered, IsAns
 use Rattle.journal_laws.proofs.Playable.{IsPlayable}
 use Rattle.journal_laws.proofs.Core.{Core}
 use Rattle.caa_base.proofs.ListLemmas.{all_at}
-use Rattle.place_plan.proofs.Entries.{of_kind}
+use Rattle.place_plan.proofs.EntryKinds.{of_kind}
 use Rattle.journal_laws.proofs.InnerFirst.{legal_rest, started_filled}
 use Rattle.journal_laws.proofs.Holding.{ended_started}
 use Rattle.journal_laws.proofs.Arrivals.{one_has}

@@ -4,7 +4,7 @@ use Rattle.std.proofs.Common.{◌≡◌, ℕ, ◌==◌, Bool, true, false, not, 
 use Rattle.std.proofs.lemmas.Bool.{and_parts, eqb-true, cases_order, false≢true, false_from_ne_true, both_ways}
 use Rattle.caa_base.specs.declared.entry.Entry.{Entry}
 use Rattle.caa_base.specs.declared.entry.Kind.TheVariants as kind
-use Rattle.place_plan.specs.declared.rows.Step.TheVariants as step
+use Rattle.place_plan.specs.declared.draft_rows.Step.TheVariants as step
 use Rattle.place_plan.specs.PlanValue.{Plan}
 use Rattle.caa_base.specs.Lists.{is_empty, first_of, next_after, last_or, last_of, Rises}
 use Rattle.place_plan.specs.Places.{parent, alternates_of, nest_number, next_in, next_alternate}

@@ -16,7 +16,7 @@ use Rattle.place_plan.specs.Journals.{LegalPast}
 use Rattle.journal_laws.specs.Laws.{AskedForUndo}
 use Rattle.journal_laws.proofs.Playable.{IsTree}
 use Rattle.journal_laws.proofs.Core.{Raises}
-use Rattle.place_plan.proofs.Entries.{of_kind, both_same}
+use Rattle.place_plan.proofs.EntryKinds.{of_kind, both_same}
 use Rattle.caa_base.proofs.ListLemmas.{chosen}
 use Rattle.journal_laws.proofs.Busy.{abort_doomed}
 use Rattle.journal_laws.proofs.Newest.{newest_stands, stands_newest}

@@ -12,7 +12,7 @@ use Rattle.place_plan.specs.Whereabouts.{has_ended, is_undone, is_left_in_silenc
 use Rattle.place_plan.specs.Rules.{Row, MayFollow}
 use Rattle.place_plan.specs.Journals.{LegalPast}
 use Rattle.journal_laws.proofs.Playable.{IsTree}
-use Rattle.place_plan.proofs.Entries.{of_kind}
+use Rattle.place_plan.proofs.EntryKinds.{of_kind}
 use Rattle.journal_laws.proofs.Lives.{live_parts}
 use Rattle.journal_laws.proofs.Holding.{end_live}
 

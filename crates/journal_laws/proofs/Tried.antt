@@ -15,7 +15,7 @@ use Rattle.place_plan.specs.Journals.{LegalPast}
 use Rattle.journal_laws.specs.Laws.{Holds, is_restore}
 use Rattle.journal_laws.proofs.Core.{Tries}
 use Rattle.caa_base.proofs.ListLemmas.{first_not_fails}
-use Rattle.place_plan.proofs.Entries.{of_kind, both_same}
+use Rattle.place_plan.proofs.EntryKinds.{of_kind, both_same}
 
 -- ---- counts
 

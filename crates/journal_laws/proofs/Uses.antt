@@ -5,8 +5,8 @@ use Rattle.std.proofs.lemmas.Bool.{and_parts, and_from, or_cases, or_left, or_ri
 use Rattle.caa_base.specs.declared.entry.Entry.{Entry}
 use Rattle.caa_base.specs.declared.entry.Kind.{Kind}
 use Rattle.caa_base.specs.declared.entry.Kind.TheVariants as kind
-use Rattle.place_plan.specs.declared.rows.Step.{Step}
-use Rattle.place_plan.specs.declared.rows.Step.TheVariants as step
+use Rattle.place_plan.specs.declared.draft_rows.Step.{Step}
+use Rattle.place_plan.specs.declared.draft_rows.Step.TheVariants as step
 use Rattle.place_plan.specs.PlanValue.{Plan}
 use Rattle.caa_base.specs.Lists.{member, is_at}
 use Rattle.place_plan.specs.Places.{parent, alternates_of, nest_number, body_of}
@@ -20,7 +20,7 @@ use Rattle.journal_laws.specs.Laws.{Holds}
 use Rattle.journal_laws.proofs.Playable.{IsPlayable}
 use Rattle.journal_laws.proofs.Core.{PassedEnter}
 use Rattle.caa_base.proofs.ListLemmas.{at_same, same_at, first_not_fails, first_not_before}
-use Rattle.place_plan.proofs.Entries.{of_kind, both_same, from_both}
+use Rattle.place_plan.proofs.EntryKinds.{of_kind, both_same, from_both}
 use Rattle.journal_laws.proofs.Newest.{newest_none}
 use Rattle.journal_laws.proofs.Phases.{calm_open}
 use Rattle.journal_laws.proofs.Raised.{plain_calm, raises}

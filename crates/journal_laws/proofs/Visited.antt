@@ -5,7 +5,7 @@ use Rattle.caa_base.specs.declared.entry.Entry.{Entry}
 use Rattle.caa_base.specs.declared.entry.Kind.{Kind}
 use Rattle.caa_base.specs.declared.entry.Kind.TheVariants as kind
 use Rattle.caa_base.specs.declared.entry.Verdict.{Verdict}
-use Rattle.place_plan.specs.declared.rows.Step.{Step}
+use Rattle.place_plan.specs.declared.draft_rows.Step.{Step}
 use Rattle.place_plan.specs.PlanValue.{Plan}
 use Rattle.caa_base.specs.Lists.{member}
 use Rattle.place_plan.specs.Places.{around, roles_of, plays_of}
@@ -19,8 +19,8 @@ use Rattle.journal_laws.specs.Laws.{Holds}
 use Rattle.journal_laws.proofs.Playable.{IsTree, IsPlayable}
 use Rattle.journal_laws.proofs.Core.{Visits}
 use Rattle.caa_base.proofs.ListLemmas.{first_not_before}
-use Rattle.place_plan.proofs.Plays.{plays_rise, in_plays}
-use Rattle.place_plan.proofs.Entries.{of_kind, both_same}
+use Rattle.place_plan.proofs.PlaysRise.{plays_rise, in_plays}
+use Rattle.place_plan.proofs.EntryKinds.{of_kind, both_same}
 use Rattle.journal_laws.proofs.Tree.{in_within, arrives_in}
 use Rattle.journal_laws.proofs.Busy.{raised_stays}
 use Rattle.journal_laws.proofs.Phases.{not_hot}

@@ -15,7 +15,7 @@ use Rattle.place_plan.specs.Journals.{LegalPast, AllOver}
 use Rattle.journal_laws.specs.Due.{due_of, due_at, due_inside, due_arrival}
 use Rattle.journal_laws.proofs.Playable.{IsPlayable}
 use Rattle.caa_base.proofs.ListLemmas.{all_from, same_at, first_not_fails, first_not_none, first_not_before}
-use Rattle.place_plan.proofs.Plays.{in_plays}
+use Rattle.place_plan.proofs.PlaysRise.{in_plays}
 use Rattle.journal_laws.proofs.Lives.{live_from, going_live}
 use Rattle.journal_laws.proofs.Tree.{in_within}
 use Rattle.journal_laws.proofs.Innermost.{within_itself}

@@ -5,7 +5,7 @@ use Rattle.std.proofs.lemmas.Option.{slice_get_within}
 use Rattle.caa_base.specs.declared.entry.Entry.{Entry}
 use Rattle.caa_base.specs.declared.entry.Kind.{Kind}
 use Rattle.caa_base.specs.declared.entry.Kind.TheVariants as kind
-use Rattle.place_plan.specs.declared.rows.Step.{Step}
+use Rattle.place_plan.specs.declared.draft_rows.Step.{Step}
 use Rattle.place_plan.specs.PlanValue.{Plan}
 use Rattle.caa_base.specs.Lists.{is_at}
 use Rattle.place_plan.specs.Places.{parent, action_at, body_of}
@@ -20,7 +20,7 @@ use Rattle.journal_laws.specs.Laws.{Holds}
 use Rattle.journal_laws.proofs.Playable.{IsPlayable}
 use Rattle.journal_laws.proofs.Core.{Core}
 use Rattle.caa_base.proofs.ListLemmas.{at_same}
-use Rattle.place_plan.proofs.Entries.{of_kind, both_same}
+use Rattle.place_plan.proofs.EntryKinds.{of_kind, both_same}
 use Rattle.journal_laws.proofs.Newest.{stands_newest, newest_none}
 use Rattle.journal_laws.proofs.Raised.{parent_round}
 use Rattle.journal_laws.proofs.Arrivals.{inside_arrived, inside_not_left}

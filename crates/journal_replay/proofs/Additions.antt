@@ -15,7 +15,7 @@ use Rattle.place_plan.specs.Bound.{bound}
 use Rattle.place_plan.specs.Journals.{LegalPast, is_put, is_fault}
 use Rattle.place_plan.specs.Entries.{is_of}
 use Rattle.place_plan.specs.WellFormed.{IsWellFormed, FieldsFit}
-use Rattle.place_plan.proofs.Entries.{of_kind}
+use Rattle.place_plan.proofs.EntryKinds.{of_kind}
 use Rattle.journal_replay.specs.IsDue.{DeviceDecides}
 use Rattle.journal_laws.specs.Laws.{Holds, IsBounded, DeviceLaw}
 use Rattle.journal_replay.specs.Device.{has_asked, attempts_in, Device}

@@ -4,7 +4,7 @@ use Rattle.std.proofs.Math.ListN.{get_or-map}
 use Rattle.std.proofs.lemmas.List.{length-map, length-replicate, get_or-replicate, take_more}
 use Rattle.caa_base.specs.PlantState.{PlantState, Drilling, after_lay, after_drills}
 use Rattle.caa_base.specs.declared.entry.Drill.{Drill}
-use Rattle.place_plan.specs.declared.rows.ObjectRow.{ObjectRow}
+use Rattle.place_plan.specs.declared.draft_rows.ObjectRow.{ObjectRow}
 use Rattle.place_plan.specs.PlanValue.{Plan}
 use Rattle.place_plan.specs.Places.{initial_of, no_object}
 use Rattle.place_plan.specs.Bound.{bound}

@@ -3,8 +3,8 @@ use Rattle.std.proofs.Common.{◌≡◌, ℕ, ℤ, true, List, Option, Some, Non
 use Rattle.caa_base.specs.Mixing.{mix}
 use Rattle.caa_base.specs.declared.entry.Entry.{Entry}
 use Rattle.caa_base.specs.declared.entry.Kind.TheVariants as kind
-use Rattle.place_plan.specs.declared.rows.Step.{Step}
-use Rattle.place_plan.specs.declared.rows.Step.TheVariants as step
+use Rattle.place_plan.specs.declared.draft_rows.Step.{Step}
+use Rattle.place_plan.specs.declared.draft_rows.Step.TheVariants as step
 use Rattle.place_plan.specs.PlanValue.{Plan}
 use Rattle.place_plan.specs.Whereabouts.{inside}
 use Rattle.place_plan.specs.Roles.{register, is_able, next_step}

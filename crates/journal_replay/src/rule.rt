@@ -33,8 +33,8 @@ use caa_base::journal::Journal;
 use caa_base::limits::MOST_VALUE;
 use caa_base::work::WorkDone;
 use journal_laws::{due_is_right, is_well_formed};
+use place_plan::draft_rows::{AbortRow, Step};
 use place_plan::plan::Plan;
-use place_plan::rows::{AbortRow, Step};
 use place_plan::value::value_at;
 
 // ---- what an entry says

@@ -11,8 +11,8 @@ use crate::look_back::roles::{next_step, register};
 use crate::look_back::verdicts::{has_given, is_handling, was_refused_in_handler};
 use caa_base::entry::{Entry, Kind, Participant, Place};
 use caa_base::work::WorkDone;
+use place_plan::draft_rows::Step;
 use place_plan::plan::Plan;
-use place_plan::rows::Step;
 
 /// A piece of mixing work that a participant is to do next.
 #[derive(Clone, Copy, Debug, PartialEq, Eq)]

@@ -11,13 +11,13 @@ use Rattle.caa_base.specs.Journal.{Entries}
 use Rattle.place_plan.specs.PlanValue.{Plan}
 use Rattle.place_plan.specs.WellFormed.{IsWellFormed, AllWellFormed}
 use Rattle.journal_text.specs.declared.seens.Seen.{Seen}
-use Rattle.journal_text.specs.declared.reading.TextError.{TextError}
-use Rattle.journal_text.specs.declared.reading.TextError.TheVariants as error
+use Rattle.journal_text.specs.declared.text_reader.TextError.{TextError}
+use Rattle.journal_text.specs.declared.text_reader.TextError.TheVariants as error
 use Rattle.journal_text.specs.Looks.{Looks, AreInOrder, InOrderFrom, AreOfPlan, IsOfPlan, last_watch}
 use Rattle.journal_text.specs.Text.{seen_line, closing_lines, first_line, text_of}
 use Rattle.journal_text.specs.Words.{seen_in}
-use Rattle.journal_text.specs.Reading.{lines_shared, HasText, IsText, HasTooMany, IsFirstBad, Refuses, Reads, ReadsBack, TextsDiffer}
-use Rattle.journal_text.specs.Steps.{BeginsNoEntry, BeginsNoSeen, MayCome, EntriesRead, SeensRead, StopsEntries, RefusesAfter}
+use Rattle.journal_text.specs.TextOfJournal.{lines_shared, HasText, IsText, HasTooMany, IsFirstBad, Refuses, Reads, ReadsBack, TextsDiffer}
+use Rattle.journal_text.specs.TextSteps.{BeginsNoEntry, BeginsNoSeen, MayCome, EntriesRead, SeensRead, StopsEntries, RefusesAfter}
 use Rattle.journal_text.proofs.EntryLines.{seen_in-line, IsLine, seen_line-is}
 use Rattle.journal_text.proofs.ReadingLemmas.{Tells, entry_lines, EachFits, tail_of, tail-no-entry, entries-same, entries-front, entries-shared, front-longest, shared-line, shared-none, shared-nothing, shared-front, shared-no_front}
 

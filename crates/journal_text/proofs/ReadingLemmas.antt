@@ -15,8 +15,8 @@ use Rattle.journal_text.specs.declared.seens.Seen.{Seen}
 use Rattle.journal_text.specs.Naming.{is_well_named}
 use Rattle.journal_text.specs.Text.{entry_line, seen_line, object_line, object_words, object_name, watched_object, action_name, ending_words, last_outcome, outcome_line, closing_lines}
 use Rattle.journal_text.specs.Words.{word_in, after_word, kind_in, entry_after, entry_in, seen_in}
-use Rattle.journal_text.specs.Reading.{lines_shared}
-use Rattle.journal_text.specs.Steps.{BeginsNoEntry, BeginsNoSeen, MayCome}
+use Rattle.journal_text.specs.TextOfJournal.{lines_shared}
+use Rattle.journal_text.specs.TextSteps.{BeginsNoEntry, BeginsNoSeen, MayCome}
 use Rattle.journal_text.proofs.WordLemmas.{word_in-whole, begins-line, is_whole}
 use Rattle.journal_text.proofs.EntryLines.{entry_in-line, seen_in-line, line-words, IsLine, is_unbroken, entry_line-is}
 

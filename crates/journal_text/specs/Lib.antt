@@ -1,8 +1,8 @@
 pub mod Looks
 pub mod Naming
 pub mod Text
-pub mod Values
+pub mod KnownValues
 pub mod Words
-pub mod Reading
-pub mod Steps
+pub mod TextOfJournal
+pub mod TextSteps
 pub mod Right

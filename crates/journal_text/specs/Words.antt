@@ -1,5 +1,6 @@
 -- How a line of a text is taken apart without regard to whether it is well written: what was taken is written again and compared.
 use Rattle.std.specs.Prelude.{ℕ, ℤ, pos, neg_ℤ, zero, suc, ◌+◌, ◌-◌, ◌*◌, ◌==◌, nat_le, if◌then◌else◌, Bool, false, ◌||◌, List, [], ◌∷◌, length, drop, Option, Some, None, option_map, bytes_eq, codes}
+use Rattle.caa_base.specs.Limits.{most_value, most_rounds}
 use Rattle.caa_base.specs.declared.entry.Entry.{Entry}
 use Rattle.caa_base.specs.declared.entry.Kind.{Kind}
 use Rattle.caa_base.specs.declared.entry.Kind.TheVariants as kind
@@ -51,7 +52,7 @@ number_in most word = if nat_le (digits_after 0 word) most then digits_after 0 w
 -- the number with its sign, within a million million on either side
 abbrev pub value_in : List ℕ → ℤ
 value_in [] = pos 0
-value_in (b ∷ rest) = if b == 45 then neg_ℤ (pos (number_in 1000000000000 rest)) else pos (number_in 1000000000000 (b ∷ rest))
+value_in (b ∷ rest) = if b == 45 then neg_ℤ (pos (number_in most_value rest)) else pos (number_in most_value (b ∷ rest))
 
 -- ---- names
 
@@ -113,7 +114,7 @@ abbrev pub object_fields : Plan → List ℕ → ℕ → Fields
 object_fields plan rest mark = record { arg = object_in plan (next_word rest); mark = mark; value = value_in (next_word (after_next rest)) }
 
 abbrev pub work_fields : List ℕ → Fields
-work_fields rest = record { arg = number_in 1000000 (next_word rest); mark = 0; value = value_in (next_word (after_next rest)) }
+work_fields rest = record { arg = number_in most_rounds (next_word rest); mark = 0; value = value_in (next_word (after_next rest)) }
 
 abbrev pub restore_mark : List ℕ → ℕ
 restore_mark word = if bytes_eq word (codes "well") then 0 else 1

@@ -3,10 +3,10 @@
 
 mod entry_line;
 pub mod naming;
-pub mod reading;
 pub mod right;
 mod seen_line;
 pub mod seens;
+pub mod text_reader;
 mod values;
 mod words;
 pub mod writing;

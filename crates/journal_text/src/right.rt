@@ -32,10 +32,8 @@ pub fn first_wrong(
     requires watches { AreOfPlan plan.now seens.now.seens }
     ensures { IfOk result (λ found. found ≡ first_wrong plan.now journal.now.entries seens.now.seens) }
 {
-    match wrong_in(alloc, plan, journal.as_slice(), seens.as_slice()) {
-        Ok(found) => Ok(found),
-        Err(_) => Err(OutOfMemory),
-    }
+    let found = wrong_in(alloc, plan, journal.as_slice(), seens.as_slice())?;
+    Ok(found)
 }
 
 /// The number of the first of these looks that is wrong.

@@ -2,14 +2,13 @@ ghost use Rattle.std.specs.Prelude.{◌≡◌, ◌<◌, ◌↔◌, IsTrue, lengt
 ghost use Rattle.caa_base.specs.Limits.{IsValue};
 ghost use Rattle.journal_text.specs.Text.{object_name, watched_object};
 ghost use Rattle.journal_text.specs.Words.{watch_in, seen_in};
-ghost use Rattle.journal_text.specs.Steps.{MayStand};
+ghost use Rattle.journal_text.specs.TextSteps.{MayStand};
 
 use crate::seens::Seen;
 use crate::words::{next_word, number_in, split_word, value_in};
 use crate::writing::object_name;
+use caa_base::limits::is_value;
 use place_plan::plan::Plan;
-
-const MOST_VALUE: i64 = 1_000_000_000_000;
 
 /// The look that a text seems to begin with. Whether it does is seen by writing the look again.
 pub fn seen_in(plan: &Plan, text: &[u8]) -> Seen
@@ -31,13 +30,6 @@ pub fn may_stand(plan: &Plan, least: u32, seen: &Seen) -> bool
     ensures { IsTrue result ↔ MayStand plan.now least seen.now }
 {
     least <= seen.watch && seen.watch < plan.watches() && is_value(seen.value)
-}
-
-/// Whether a number is a value.
-fn is_value(value: i64) -> bool
-    ensures { IsTrue result ↔ IsValue value }
-{
-    -MOST_VALUE <= value && value <= MOST_VALUE
 }
 
 /// The watch whose object has this name, or a number past the last one.

@@ -50,10 +50,8 @@ impl Seens {
         ensures seens { IfOk result (λ s. s.seens ≡ []) }
         ensures room { IfOk result (λ s. s.room ≡ room) }
     {
-        match Vec::with_capacity(alloc, room as usize) {
-            Ok(items) => Ok(Seens { items }),
-            Err(_) => Err(OutOfMemory),
-        }
+        let items = Vec::with_capacity(alloc, room as usize)?;
+        Ok(Seens { items })
     }
 
     /// The looks of a vector, where they are in order. It takes no memory.

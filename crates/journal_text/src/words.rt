@@ -1,8 +1,10 @@
 ghost use Rattle.std.specs.Prelude.{◌≡◌, ◌≤◌, drop};
 ghost use Rattle.journal_text.specs.Words.{is_gap, word_in, after_word, next_word, after_next, goes_on, digits_after, number_in, value_in};
 
+use caa_base::limits;
+
 /// The greatest value; the least is its negative.
-const MOST_VALUE: u64 = 1_000_000_000_000;
+const MOST_VALUE: u64 = limits::MOST_VALUE as u64;
 
 /// Whether a byte is a space or a line feed.
 fn is_gap(byte: u8) -> bool

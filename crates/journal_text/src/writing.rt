@@ -7,13 +7,14 @@ ghost use Rattle.place_plan.specs.Entries.{is_of};
 ghost use Rattle.place_plan.specs.Roles.{verdict_at};
 ghost use Rattle.place_plan.specs.WellFormed.{IsWellFormed, AllWellFormed};
 ghost use Rattle.journal_text.specs.Text.{action_name, object_name, internal_name, interface_name, kind_word, object_words, restore_word, verdict_words, outcome_at, outcome_words, abort_words, leave_words, field_words, entry_line, object_line, last_outcome, ending_words, outcome_line, closing_lines, seen_line, watched_object, first_line, text_of};
-ghost use Rattle.journal_text.specs.Values.{value_found};
+ghost use Rattle.journal_text.specs.KnownValues.{value_found};
 ghost use Rattle.journal_text.specs.Looks.{AreOfPlan};
 
 use crate::seens::{Seen, Seens};
 use crate::values::{last_values, value_found};
 use caa_base::entry::{Entry, Exception, Kind, Object, OutOfMemory, Outcome, Place, Verdict};
 use caa_base::journal::Journal;
+use caa_base::line::in_memory;
 use place_plan::plan::Plan;
 use std::alloc::{AllocError, Global};
 use std::io;
@@ -46,10 +47,8 @@ pub(crate) fn write_text(
     ensures { IfOk result (λ text. text.items ≡ text_of plan.now entries.now seens.now) }
 {
     let mut text = Vec::new(alloc);
-    match push_text(alloc, &mut text, plan, entries, seens) {
-        Ok(()) => Ok(text),
-        Err(_) => Err(OutOfMemory),
-    }
+    in_memory(push_text(alloc, &mut text, plan, entries, seens))?;
+    Ok(text)
 }
 
 /// The lines that follow from these entries.
@@ -62,10 +61,8 @@ pub(crate) fn write_closing(
     ensures { IfOk result (λ text. text.items ≡ closing_lines plan.now (reverse entries.now)) }
 {
     let mut text = Vec::new(alloc);
-    match push_closing(alloc, &mut text, plan, entries) {
-        Ok(()) => Ok(text),
-        Err(_) => Err(OutOfMemory),
-    }
+    in_memory(push_closing(alloc, &mut text, plan, entries))?;
+    Ok(text)
 }
 
 /// Adds all lines.

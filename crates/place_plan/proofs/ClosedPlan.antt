@@ -2,9 +2,9 @@
 use Rattle.std.proofs.Common.{◌≡◌, ℕ, ◌==◌, ◌<◌, ◌≤◌, nat_lt, nat_le, cond, Bool, true, false, ◌&&◌, ◌||◌, List, [], ◌∷◌, length, slice_index_or, slice_get, Option, Some, None, zero, suc, refl, sym, ap, ◌∙◌, subst, inl, inr, arith}
 use Rattle.std.specs.List.{list_all}
 use Rattle.std.proofs.lemmas.Bool.{and_parts, and_from, false≢true, ltb-true, leb-true}
-use Rattle.place_plan.specs.declared.rows.PlaceRow.{PlaceRow}
-use Rattle.place_plan.specs.declared.rows.ActionRow.{ActionRow}
-use Rattle.place_plan.specs.declared.rows.NestRow.{NestRow}
+use Rattle.place_plan.specs.declared.draft_rows.PlaceRow.{PlaceRow}
+use Rattle.place_plan.specs.declared.draft_rows.ActionRow.{ActionRow}
+use Rattle.place_plan.specs.declared.draft_rows.NestRow.{NestRow}
 use Rattle.place_plan.specs.declared.draft.Draft.{Draft}
 use Rattle.place_plan.specs.PlanValue.{Plan}
 use Rattle.caa_base.specs.Lists.{member, index_of}

@@ -5,9 +5,9 @@ use Rattle.std.proofs.lemmas.Bool.{and_parts, ltb-true, lt-leb, le-leb}
 use Rattle.std.proofs.Math.Seq.{drop-cons}
 use Rattle.std.proofs.lemmas.List.{get_or-replicate}
 use Rattle.std.proofs.lemmas.List.Sums.{sum_by-cons}
-use Rattle.place_plan.specs.declared.rows.ActionRow.{ActionRow}
-use Rattle.place_plan.specs.declared.rows.NestRow.{NestRow}
-use Rattle.place_plan.specs.declared.rows.PlayRow.{PlayRow}
+use Rattle.place_plan.specs.declared.draft_rows.ActionRow.{ActionRow}
+use Rattle.place_plan.specs.declared.draft_rows.NestRow.{NestRow}
+use Rattle.place_plan.specs.declared.draft_rows.PlayRow.{PlayRow}
 use Rattle.place_plan.specs.Places.{no_action}
 use Rattle.place_plan.specs.DraftRules.{all_below, deepest_of, deepest, depth_within, depths_fit}
 use Rattle.caa_base.specs.Limits.{most_depth}

@@ -1,4 +1,4 @@
-pub mod Plays
+pub mod PlaysRise
 pub mod Passing
 pub mod DraftKeeps
 pub mod ActionSizes
@@ -9,7 +9,7 @@ pub mod Counted
 pub mod Weighing
 pub mod Unfolds
 pub mod MadePlan
-pub mod Entries
+pub mod EntryKinds
 pub mod LegalProp
 pub mod ClosedPlan
-pub mod Values
+pub mod LatestValues

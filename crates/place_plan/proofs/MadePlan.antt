@@ -2,7 +2,7 @@
 use Rattle.std.proofs.Common.{◌≡◌, ℕ, ◌≤◌, nat_le, List, length, None, sym, ap, ◌∙◌, arith}
 use Rattle.std.proofs.lemmas.Bool.{and_parts, leb-true}
 use Rattle.place_plan.specs.declared.draft.Draft.{Draft}
-use Rattle.place_plan.specs.declared.rows.PlaceRow.{PlaceRow}
+use Rattle.place_plan.specs.declared.draft_rows.PlaceRow.{PlaceRow}
 use Rattle.place_plan.specs.declared.plan.Plan.TheInside.{Inside}
 use Rattle.place_plan.specs.PlanView.{plan_view, IsKept}
 use Rattle.place_plan.specs.Bound.{bound}

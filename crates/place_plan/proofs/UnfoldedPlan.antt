@@ -3,9 +3,9 @@ use Rattle.std.proofs.Common.{◌≡◌, ℕ, ◌+◌, ◌<◌, ◌≤◌, ◌==
 use Rattle.std.specs.List.{list_all}
 use Rattle.std.proofs.lemmas.Bool.{and_parts, or_cases, or_left, or_right, eqb-true, eq-eqb, false≢true, leb-true}
 use Rattle.place_plan.specs.declared.draft.Draft.{Draft}
-use Rattle.place_plan.specs.declared.rows.PlaceRow.{PlaceRow}
-use Rattle.place_plan.specs.declared.rows.PlayRow.{PlayRow}
-use Rattle.place_plan.specs.declared.rows.ActionRow.{ActionRow}
+use Rattle.place_plan.specs.declared.draft_rows.PlaceRow.{PlaceRow}
+use Rattle.place_plan.specs.declared.draft_rows.PlayRow.{PlayRow}
+use Rattle.place_plan.specs.declared.draft_rows.ActionRow.{ActionRow}
 use Rattle.place_plan.specs.PlanValue.{Plan}
 use Rattle.caa_base.specs.Lists.{member, Rises}
 use Rattle.place_plan.specs.Places.{place_at, around, nest_number, alternates_of, no_action, no_place}

@@ -1,9 +1,9 @@
 -- One step of the unfolding, and how the places that a walk has made grow into those of the whole.
 use Rattle.std.proofs.Common.{◌≡◌, ℕ, ◌+◌, ◌-◌, ◌<◌, ◌≤◌, List, [], ◌∷◌, ◌++◌, length, drop, get_or, slice_index_or, slice_set, zero, suc, refl, sym, ap, ap₂, ◌∙◌, arith, append-nil, length-append}
 use Rattle.std.proofs.Math.Seq.{drop-cons, set-append_seam}
-use Rattle.place_plan.specs.declared.rows.ActionRow.{ActionRow}
-use Rattle.place_plan.specs.declared.rows.NestRow.{NestRow}
-use Rattle.place_plan.specs.declared.rows.PlaceRow.{PlaceRow}
+use Rattle.place_plan.specs.declared.draft_rows.ActionRow.{ActionRow}
+use Rattle.place_plan.specs.declared.draft_rows.NestRow.{NestRow}
+use Rattle.place_plan.specs.declared.draft_rows.PlaceRow.{PlaceRow}
 use Rattle.place_plan.specs.Places.{no_action}
 use Rattle.place_plan.specs.Unfolding.{Unfolding, alternates_from, use_from, uses_from, children_from, unfold_at, bare_place}
 

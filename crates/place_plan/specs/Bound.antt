@@ -1,9 +1,9 @@
 -- How many entries a plan allows at most.
 use Rattle.std.specs.Prelude.{ℕ, ◌+◌, ◌*◌, max, List, [], ◌∷◌, length, slice_index_or, sum_by}
-use Rattle.place_plan.specs.declared.rows.RoleRow.{RoleRow}
-use Rattle.place_plan.specs.declared.rows.HandlerRow.{HandlerRow}
-use Rattle.place_plan.specs.declared.rows.ActionRow.{ActionRow}
-use Rattle.place_plan.specs.declared.rows.PlaceRow.{PlaceRow}
+use Rattle.place_plan.specs.declared.draft_rows.RoleRow.{RoleRow}
+use Rattle.place_plan.specs.declared.draft_rows.HandlerRow.{HandlerRow}
+use Rattle.place_plan.specs.declared.draft_rows.ActionRow.{ActionRow}
+use Rattle.place_plan.specs.declared.draft_rows.PlaceRow.{PlaceRow}
 use Rattle.place_plan.specs.PlanValue.{Plan}
 use Rattle.place_plan.specs.Places.{no_action}
 

@@ -2,7 +2,7 @@
 use Rattle.std.specs.Prelude.{◌≡◌, ℕ, ◌<◌, List, length, slice_index_or, None}
 use Rattle.cover_table.specs.Cover.{IsSound, SetsHaveLeastCovers}
 use Rattle.place_plan.specs.declared.draft.Draft.{Draft}
-use Rattle.place_plan.specs.declared.rows.GraphRow.{GraphRow}
+use Rattle.place_plan.specs.declared.draft_rows.GraphRow.{GraphRow}
 use Rattle.place_plan.specs.PlanValue.{Plan}
 use Rattle.place_plan.specs.Places.{no_graph}
 use Rattle.place_plan.specs.Unfolding.{plan_of}

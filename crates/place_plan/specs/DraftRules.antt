@@ -6,17 +6,17 @@ use Rattle.caa_base.specs.declared.entry.Drill.{Drill}
 use Rattle.caa_base.specs.declared.entry.Verdict.{Verdict}
 use Rattle.caa_base.specs.declared.entry.Verdict.TheVariants as verdict
 use Rattle.place_plan.specs.declared.draft.Draft.{Draft}
-use Rattle.place_plan.specs.declared.rows.GraphRow.{GraphRow}
-use Rattle.place_plan.specs.declared.rows.PlayRow.{PlayRow}
-use Rattle.place_plan.specs.declared.rows.ActionRow.{ActionRow}
-use Rattle.place_plan.specs.declared.rows.RoleRow.{RoleRow}
-use Rattle.place_plan.specs.declared.rows.NestRow.{NestRow}
-use Rattle.place_plan.specs.declared.rows.HandlerRow.{HandlerRow}
-use Rattle.place_plan.specs.declared.rows.AbortRow.{AbortRow}
-use Rattle.place_plan.specs.declared.rows.AbortRow.TheVariants as abort
-use Rattle.place_plan.specs.declared.rows.Program.{Program}
-use Rattle.place_plan.specs.declared.rows.Step.{Step}
-use Rattle.place_plan.specs.declared.rows.Step.TheVariants as step
+use Rattle.place_plan.specs.declared.draft_rows.GraphRow.{GraphRow}
+use Rattle.place_plan.specs.declared.draft_rows.PlayRow.{PlayRow}
+use Rattle.place_plan.specs.declared.draft_rows.ActionRow.{ActionRow}
+use Rattle.place_plan.specs.declared.draft_rows.RoleRow.{RoleRow}
+use Rattle.place_plan.specs.declared.draft_rows.NestRow.{NestRow}
+use Rattle.place_plan.specs.declared.draft_rows.HandlerRow.{HandlerRow}
+use Rattle.place_plan.specs.declared.draft_rows.AbortRow.{AbortRow}
+use Rattle.place_plan.specs.declared.draft_rows.AbortRow.TheVariants as abort
+use Rattle.place_plan.specs.declared.draft_rows.Program.{Program}
+use Rattle.place_plan.specs.declared.draft_rows.Step.{Step}
+use Rattle.place_plan.specs.declared.draft_rows.Step.TheVariants as step
 use Rattle.caa_base.specs.Lists.{member, is_empty}
 use Rattle.place_plan.specs.Places.{graph_at, no_action}
 use Rattle.place_plan.specs.Unfolding.{plan_of}

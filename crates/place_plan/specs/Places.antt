@@ -2,16 +2,16 @@
 use Rattle.std.specs.Prelude.{ℕ, ℤ, pos, ◌==◌, Bool, ◌||◌, if◌then◌else◌, List, [], ◌∷◌, slice_index_or, slice_get, Option, Some, None}
 use Rattle.cover_table.specs.Cover.{CoverOrder}
 use Rattle.caa_base.specs.declared.entry.Verdict.TheVariants as verdict
-use Rattle.place_plan.specs.declared.rows.ObjectRow.{ObjectRow}
-use Rattle.place_plan.specs.declared.rows.GraphRow.{GraphRow}
-use Rattle.place_plan.specs.declared.rows.PlaceRow.{PlaceRow}
-use Rattle.place_plan.specs.declared.rows.ActionRow.{ActionRow}
-use Rattle.place_plan.specs.declared.rows.RoleRow.{RoleRow}
-use Rattle.place_plan.specs.declared.rows.NestRow.{NestRow}
-use Rattle.place_plan.specs.declared.rows.HandlerRow.{HandlerRow}
-use Rattle.place_plan.specs.declared.rows.Program.{Program}
-use Rattle.place_plan.specs.declared.rows.AbortRow.{AbortRow}
-use Rattle.place_plan.specs.declared.rows.AbortRow.TheVariants as abort
+use Rattle.place_plan.specs.declared.draft_rows.ObjectRow.{ObjectRow}
+use Rattle.place_plan.specs.declared.draft_rows.GraphRow.{GraphRow}
+use Rattle.place_plan.specs.declared.draft_rows.PlaceRow.{PlaceRow}
+use Rattle.place_plan.specs.declared.draft_rows.ActionRow.{ActionRow}
+use Rattle.place_plan.specs.declared.draft_rows.RoleRow.{RoleRow}
+use Rattle.place_plan.specs.declared.draft_rows.NestRow.{NestRow}
+use Rattle.place_plan.specs.declared.draft_rows.HandlerRow.{HandlerRow}
+use Rattle.place_plan.specs.declared.draft_rows.Program.{Program}
+use Rattle.place_plan.specs.declared.draft_rows.AbortRow.{AbortRow}
+use Rattle.place_plan.specs.declared.draft_rows.AbortRow.TheVariants as abort
 use Rattle.place_plan.specs.PlanValue.{Plan}
 use Rattle.caa_base.specs.Lists.{member, index_of, first_of, last_or, next_after}
 

@@ -1,10 +1,10 @@
 -- What a plan is seen as.
 use Rattle.std.specs.Prelude.{ℕ, List}
 use Rattle.caa_base.specs.declared.entry.Drill.{Drill}
-use Rattle.place_plan.specs.declared.rows.ObjectRow.{ObjectRow}
-use Rattle.place_plan.specs.declared.rows.GraphRow.{GraphRow}
-use Rattle.place_plan.specs.declared.rows.ActionRow.{ActionRow}
-use Rattle.place_plan.specs.declared.rows.PlaceRow.{PlaceRow}
+use Rattle.place_plan.specs.declared.draft_rows.ObjectRow.{ObjectRow}
+use Rattle.place_plan.specs.declared.draft_rows.GraphRow.{GraphRow}
+use Rattle.place_plan.specs.declared.draft_rows.ActionRow.{ActionRow}
+use Rattle.place_plan.specs.declared.draft_rows.PlaceRow.{PlaceRow}
 
 -- the names of the participants, the objects, the graphs, the actions, the places into which the plays unfold, which of
 -- these are the plays, the puts that the device is to refuse, and the objects that are watched

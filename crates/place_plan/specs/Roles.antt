@@ -8,9 +8,9 @@ use Rattle.caa_base.specs.declared.entry.Test.{Test}
 use Rattle.caa_base.specs.declared.entry.Test.TheVariants.{Below, Above, Equal}
 use Rattle.caa_base.specs.declared.entry.Verdict.{Verdict}
 use Rattle.caa_base.specs.declared.entry.Verdict.TheVariants as verdict
-use Rattle.place_plan.specs.declared.rows.Program.{Program}
-use Rattle.place_plan.specs.declared.rows.Step.{Step}
-use Rattle.place_plan.specs.declared.rows.Step.TheVariants as step
+use Rattle.place_plan.specs.declared.draft_rows.Program.{Program}
+use Rattle.place_plan.specs.declared.draft_rows.Step.{Step}
+use Rattle.place_plan.specs.declared.draft_rows.Step.TheVariants as step
 use Rattle.place_plan.specs.PlanValue.{Plan}
 use Rattle.caa_base.specs.Lists.{is_at, first_not, last_of}
 use Rattle.place_plan.specs.Places.{idle, parent, roles_of, body_of, handler_of, plays_of}

@@ -1,16 +1,17 @@
 -- The rules of a journal: which entry may follow which past, one row for each kind.
-use Rattle.std.specs.Prelude.{◌≡◌, ℕ, ℤ, pos, negsuc, ◌+ℤ◌, ◌==◌, Bool, true, false, not, ◌&&◌, ◌||◌, if◌then◌else◌, List, [], ◌∷◌, Option, Some, None, MatchBool, MatchOption, is_none, int_lt}
+use Rattle.std.specs.Prelude.{◌≡◌, ℕ, ℤ, pos, neg_ℤ, ◌+ℤ◌, ◌==◌, Bool, true, false, not, ◌&&◌, ◌||◌, if◌then◌else◌, List, [], ◌∷◌, Option, Some, None, MatchBool, MatchOption, is_none, int_lt}
 use Rattle.cover_table.specs.Cover.{IsLeastCover}
+use Rattle.caa_base.specs.Limits.{most_value}
 use Rattle.caa_base.specs.Mixing.{mix}
 use Rattle.caa_base.specs.declared.entry.Entry.{Entry}
 use Rattle.caa_base.specs.declared.entry.Kind.{Kind}
 use Rattle.caa_base.specs.declared.entry.Kind.TheVariants as kind
 use Rattle.caa_base.specs.declared.entry.Verdict.{Verdict}
 use Rattle.caa_base.specs.declared.entry.Verdict.TheVariants as verdict
-use Rattle.place_plan.specs.declared.rows.AbortRow.{AbortRow}
-use Rattle.place_plan.specs.declared.rows.AbortRow.TheVariants as abort
-use Rattle.place_plan.specs.declared.rows.Step.{Step}
-use Rattle.place_plan.specs.declared.rows.Step.TheVariants as step
+use Rattle.place_plan.specs.declared.draft_rows.AbortRow.{AbortRow}
+use Rattle.place_plan.specs.declared.draft_rows.AbortRow.TheVariants as abort
+use Rattle.place_plan.specs.declared.draft_rows.Step.{Step}
+use Rattle.place_plan.specs.declared.draft_rows.Step.TheVariants as step
 use Rattle.place_plan.specs.PlanValue.{Plan}
 use Rattle.caa_base.specs.Lists.{first_not}
 use Rattle.place_plan.specs.Places.{parent, roles_of, handler_of, abort_row, internal_of, interface_of, alternates_of, nest_of, map_signal}
@@ -92,7 +93,9 @@ pub record MayWork (plan : Plan) (past : List Entry) (e : Entry) : Type 0 where
 
 -- brought to the nearer end of the range of values
 abbrev pub clamped : ℤ → ℤ
-clamped v = if int_lt (pos 1000000000000) v then pos 1000000000000 else (if int_lt v (negsuc 999999999999) then negsuc 999999999999 else v)
+clamped v =
+    if int_lt (pos most_value) v then pos most_value
+    else (if int_lt v (neg_ℤ (pos most_value)) then neg_ℤ (pos most_value) else v)
 
 -- the object and the value that a step puts, at this register
 abbrev pub put_of : Option Step → ℤ → Option (ℕ × ℤ)

@@ -2,10 +2,10 @@
 use Rattle.std.specs.Prelude.{◌≡◌, ℕ, ◌+◌, List, [], ◌∷◌, ◌++◌, map, length, slice_index_or, zero, suc}
 use Rattle.caa_base.specs.Limits.{most_depth}
 use Rattle.place_plan.specs.declared.draft.Draft.{Draft}
-use Rattle.place_plan.specs.declared.rows.PlaceRow.{PlaceRow}
-use Rattle.place_plan.specs.declared.rows.PlayRow.{PlayRow}
-use Rattle.place_plan.specs.declared.rows.ActionRow.{ActionRow}
-use Rattle.place_plan.specs.declared.rows.NestRow.{NestRow}
+use Rattle.place_plan.specs.declared.draft_rows.PlaceRow.{PlaceRow}
+use Rattle.place_plan.specs.declared.draft_rows.PlayRow.{PlayRow}
+use Rattle.place_plan.specs.declared.draft_rows.ActionRow.{ActionRow}
+use Rattle.place_plan.specs.declared.draft_rows.NestRow.{NestRow}
 use Rattle.place_plan.specs.PlanValue.{Plan}
 use Rattle.place_plan.specs.Places.{no_action}
 

@@ -7,7 +7,7 @@ ghost use Rattle.place_plan.specs.Weights.{counted, at, nested_weight};
 
 use crate::bound::{longest_body, longest_handler};
 use crate::depth::deepest;
-use crate::rows::{ActionRow, NestRow};
+use crate::draft_rows::{ActionRow, NestRow};
 use crate::tables::{MOST_COUNTED, counted_sum};
 use crate::unfolded::nested_weight;
 

@@ -2,7 +2,7 @@ ghost use Rattle.std.specs.Prelude.{◌≡◌, ◌≤◌};
 ghost use Rattle.place_plan.specs.Bound.{longest_body, longest_of, longest_handler, action_bound};
 ghost use Rattle.place_plan.specs.Sizes.{HasSizes};
 
-use crate::rows::{ActionRow, HandlerRow, RoleRow};
+use crate::draft_rows::{ActionRow, HandlerRow, RoleRow};
 
 /// How many steps the longest body has.
 pub(crate) fn longest_body(roles: &[RoleRow]) -> usize

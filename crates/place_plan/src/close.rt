@@ -3,7 +3,7 @@ ghost use Rattle.place_plan.specs.DraftRules.{bound_rule, broken_rule, KeepsPart
 
 use crate::depth::keeps_depth;
 use crate::draft::Draft;
-use crate::limits::{keeps_graphs, keeps_sizes};
+use crate::fitting::{keeps_graphs, keeps_sizes};
 use crate::ranges::keeps_ranges;
 use crate::unfolded::unfolded;
 use crate::uses::{

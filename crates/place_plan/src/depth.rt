@@ -5,7 +5,7 @@ ghost use Rattle.place_plan.specs.DraftRules.{deepest_of, deepest, depth_within,
 ghost use Rattle.place_plan.specs.Weights.{counted, at, Tells, nests_known};
 
 use crate::draft::Draft;
-use crate::rows::{ActionRow, NestRow};
+use crate::draft_rows::{ActionRow, NestRow};
 use crate::tables::{Table, counted_sum, number_at};
 use caa_base::limits::{MOST_ACTIONS, MOST_DEPTH};
 

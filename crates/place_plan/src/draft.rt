@@ -1,4 +1,4 @@
-use crate::rows::{ActionRow, GraphRow, ObjectRow, PlayRow};
+use crate::draft_rows::{ActionRow, GraphRow, ObjectRow, PlayRow};
 use caa_base::entry::{Drill, Object};
 use caa_base::name::Name;
 use caa_base::rows::Rows;

@@ -9,10 +9,10 @@ ghost use Rattle.place_plan.specs.Closed.{AreSound, IsClosed};
 
 use crate::close::broken_rule;
 use crate::draft::Draft;
-use crate::member::is_member;
-use crate::rows::{
+use crate::draft_rows::{
     AbortRow, ActionRow, GraphRow, HandlerRow, NestRow, ObjectRow, PlaceRow, Program, RoleRow,
 };
+use crate::member::is_member;
 use crate::unfolded::unfolded;
 use crate::unfolding::unfold_plays;
 use caa_base::entry::{Drill, Exception, Object, Participant, Place};

@@ -4,7 +4,9 @@ ghost use Rattle.place_plan.specs.DraftRules.{is_rising, is_rising_above, all_be
 ghost use Rattle.caa_base.specs.Limits.{is_value};
 
 use crate::draft::Draft;
-use crate::rows::{AbortRow, ActionRow, HandlerRow, NestRow, PlayRow, Program, RoleRow, Step};
+use crate::draft_rows::{
+    AbortRow, ActionRow, HandlerRow, NestRow, PlayRow, Program, RoleRow, Step,
+};
 use caa_base::entry::{Drill, Verdict};
 use caa_base::limits::{MOST_ROUNDS, is_value};
 

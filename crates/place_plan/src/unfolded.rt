@@ -9,7 +9,7 @@ ghost use Rattle.place_plan.specs.Weights.{counted, at, nested_weight, weight, p
 
 use crate::bound::action_bound;
 use crate::draft::Draft;
-use crate::rows::{ActionRow, NestRow, PlayRow};
+use crate::draft_rows::{ActionRow, NestRow, PlayRow};
 use crate::tables::{Table, counted_sum, number_at};
 use caa_base::limits::{MOST_ACTIONS, MOST_DEPTH};
 

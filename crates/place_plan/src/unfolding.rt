@@ -5,7 +5,7 @@ ghost use Rattle.place_plan.specs.DraftRules.{action_fits};
 ghost use Rattle.place_plan.specs.Unfolding.{unfold_at, use_from, numbers_from, cast_of, bare_place, plan_of, IsMade};
 
 use crate::draft::Draft;
-use crate::rows::{ActionRow, NestRow, PlaceRow, PlayRow};
+use crate::draft_rows::{ActionRow, NestRow, PlaceRow, PlayRow};
 use caa_base::entry::{Participant, Place};
 use caa_base::limits::MOST_DEPTH;
 use caa_base::rows::Rows;

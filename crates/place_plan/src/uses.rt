@@ -5,9 +5,9 @@ ghost use Rattle.caa_base.specs.Lists.{is_empty, member};
 ghost use Rattle.place_plan.specs.DraftRules.{all_below, nests_below, order_rule, all_differ, fills, nest_fills, fill_rule, action_fits, entered_by, filled_by, same_numbers, roles_enter, enter_rule, step_held, role_held, nest_held, action_held, object_rule, handlers_differ, face_of, nest_mapped, handler_rule, has_one_face, face_rule};
 
 use crate::draft::Draft;
+use crate::draft_rows::{ActionRow, HandlerRow, NestRow, PlayRow, Program, RoleRow, Step};
 use crate::member::is_member;
 use crate::ranges::{all_below, exceptions_of};
-use crate::rows::{ActionRow, HandlerRow, NestRow, PlayRow, Program, RoleRow, Step};
 use caa_base::entry::{Exception, Object};
 
 // ---- the order of actions

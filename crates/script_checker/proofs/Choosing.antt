@@ -4,9 +4,9 @@ use Rattle.std.proofs.lemmas.Bool.{false≢true, false_from_ne_true}
 use Rattle.cover_table.specs.Cover.{CoverOrder}
 use Rattle.exception_graph.specs.Chains.{IsFirstInCycle}
 use Rattle.action_script.specs.declared.form.Form.{Form}
-use Rattle.script_checker.specs.declared.error.CheckCause.{CheckCause}
-use Rattle.script_checker.specs.declared.error.CheckCause.TheVariants as cause
-use Rattle.script_checker.specs.SoFar.{SoFar}
+use Rattle.script_checker.specs.declared.check_error.CheckCause.{CheckCause}
+use Rattle.script_checker.specs.declared.check_error.CheckCause.TheVariants as cause
+use Rattle.script_checker.specs.DeclaredSoFar.{SoFar}
 use Rattle.script_checker.specs.Causes.{HasCause, is_unknown, is_twice, is_unfilled, fills_twice, enters_otherwise, is_not_held, is_too_deep, is_past_limit, is_past_bound, has_other_face, ends_graph}
 use Rattle.script_checker.specs.Chosen.{cause_if, name_cause, size_cause, part_cause}
 use Rattle.script_checker.specs.Graphs.{IsGraphRefusal, IsFaultless, Ends}

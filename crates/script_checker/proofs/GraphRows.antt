@@ -6,8 +6,8 @@ use Rattle.cover_table.specs.Cover.{CoverOrder, IsSound}
 use Rattle.exception_graph.specs.Chains.{IsOrderOf}
 use Rattle.caa_base.specs.declared.entry.Verdict.{Verdict}
 use Rattle.caa_base.specs.declared.entry.Verdict.TheVariants as verdict
-use Rattle.place_plan.specs.declared.rows.GraphRow.{GraphRow}
-use Rattle.action_script.specs.Names.{number_in}
+use Rattle.place_plan.specs.declared.draft_rows.GraphRow.{GraphRow}
+use Rattle.action_script.specs.NumberedNames.{number_in}
 use Rattle.action_script.specs.declared.form.Form.{Form}
 use Rattle.action_script.specs.declared.form.Form.TheVariants as form
 use Rattle.script_checker.specs.declared.parts.Block.{Block}
@@ -15,7 +15,7 @@ use Rattle.script_checker.specs.declared.parts.Block.TheVariants as block
 use Rattle.script_checker.specs.declared.parts.DeclaredGraph.{DeclaredGraph}
 use Rattle.script_checker.specs.declared.parts.Opening.{Opening}
 use Rattle.script_checker.specs.Blocks.{is_in_graph}
-use Rattle.script_checker.specs.SoFar.{SoFar, plain_graph}
+use Rattle.script_checker.specs.DeclaredSoFar.{SoFar, plain_graph}
 use Rattle.script_checker.specs.Causes.{ends_graph}
 use Rattle.script_checker.specs.After.{with_said, with_graph, closed_if, settled_if, ended}
 use Rattle.script_checker.specs.Graphs.{IsOrdered}

@@ -2,14 +2,14 @@
 use Rattle.std.proofs.Common.{◌≡◌, ◌≢◌, ℕ, suc, ◌+◌, ◌<◌, ◌≤◌, List, [], ◌∷◌, ◌++◌, length, take, drop, get_or, Ok, Err, refl, sym, ap, ◌∙◌, subst, arith, add-one}
 use Rattle.std.proofs.Math.Seq.{drop-cons, take-suc}
 use Rattle.std.proofs.lemmas.List.{take-append-drop, take_all}
-use Rattle.place_plan.specs.declared.rows.GraphRow.{GraphRow}
+use Rattle.place_plan.specs.declared.draft_rows.GraphRow.{GraphRow}
 use Rattle.place_plan.specs.PlanValue.{Plan}
 use Rattle.place_plan.specs.Unfolding.{plan_of}
 use Rattle.action_script.specs.declared.script.Line.{Line}
 use Rattle.action_script.specs.ScriptValue.{Script}
-use Rattle.script_checker.specs.declared.error.CheckCause.{CheckCause}
-use Rattle.script_checker.specs.declared.error.CheckCause.TheVariants as cause
-use Rattle.script_checker.specs.SoFar.{SoFar, nothing_yet}
+use Rattle.script_checker.specs.declared.check_error.CheckCause.{CheckCause}
+use Rattle.script_checker.specs.declared.check_error.CheckCause.TheVariants as cause
+use Rattle.script_checker.specs.DeclaredSoFar.{SoFar, nothing_yet}
 use Rattle.script_checker.specs.After.{after}
 use Rattle.script_checker.specs.Rows.{parted}
 use Rattle.script_checker.specs.Compiled.{number_of, IsAccepted, AreAccepted, IsLeastCause, declared_after, AreRowsOf, IsDraftOf, IsFirstRefused, IsAnswer}

@@ -2,14 +2,14 @@
 use Rattle.std.specs.Prelude.{ℕ, ◌+◌, Bool, true, false, not, ◌&&◌, List, [], ◌∷◌, ◌++◌, map, length, slice_index_or, slice_set, replicate, Option, Some, None, unwrap_or}
 use Rattle.caa_base.specs.declared.entry.Verdict.{Verdict}
 use Rattle.caa_base.specs.declared.entry.Verdict.TheVariants as verdict
-use Rattle.place_plan.specs.declared.rows.ActionRow.{ActionRow}
-use Rattle.place_plan.specs.declared.rows.RoleRow.{RoleRow}
-use Rattle.place_plan.specs.declared.rows.AbortRow.{AbortRow}
-use Rattle.place_plan.specs.declared.rows.AbortRow.TheVariants as abort
-use Rattle.place_plan.specs.declared.rows.NestRow.{NestRow}
-use Rattle.place_plan.specs.declared.rows.Program.{Program}
-use Rattle.place_plan.specs.declared.rows.Step.{Step}
-use Rattle.place_plan.specs.declared.rows.Step.TheVariants as step
+use Rattle.place_plan.specs.declared.draft_rows.ActionRow.{ActionRow}
+use Rattle.place_plan.specs.declared.draft_rows.RoleRow.{RoleRow}
+use Rattle.place_plan.specs.declared.draft_rows.AbortRow.{AbortRow}
+use Rattle.place_plan.specs.declared.draft_rows.AbortRow.TheVariants as abort
+use Rattle.place_plan.specs.declared.draft_rows.NestRow.{NestRow}
+use Rattle.place_plan.specs.declared.draft_rows.Program.{Program}
+use Rattle.place_plan.specs.declared.draft_rows.Step.{Step}
+use Rattle.place_plan.specs.declared.draft_rows.Step.TheVariants as step
 use Rattle.caa_base.specs.Lists.{index_of}
 use Rattle.place_plan.specs.Places.{no_role}
 use Rattle.place_plan.specs.Bound.{action_bound}
@@ -22,7 +22,7 @@ use Rattle.script_checker.specs.declared.parts.NestSaid.{NestSaid}
 use Rattle.script_checker.specs.declared.parts.Opening.{Opening}
 use Rattle.place_plan.specs.Weights.{counted, at, nested_weight}
 use Rattle.script_checker.specs.Numbers.{chosen_from}
-use Rattle.script_checker.specs.SoFar.{SoFar, graph_number, exceptions_at, internal_graph, interface_graph, inner, outer, face, action_of, nest_of, said_of, role_of, nothing_said}
+use Rattle.script_checker.specs.DeclaredSoFar.{SoFar, graph_number, exceptions_at, internal_graph, interface_graph, inner, outer, face, action_of, nest_of, said_of, role_of, nothing_said}
 use Rattle.script_checker.specs.Causes.{places_with, bound_with}
 
 -- the name of this number

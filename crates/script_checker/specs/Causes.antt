@@ -4,19 +4,20 @@ use Rattle.std.specs.List.{list_all, list_any}
 use Rattle.caa_base.specs.declared.entry.Drill.{Drill}
 use Rattle.cover_table.specs.Cover.{most_exceptions}
 use Rattle.exception_graph.specs.Chains.{IsFirstInCycle, IsFirstUnjoined}
-use Rattle.place_plan.specs.declared.rows.AbortRow.{AbortRow}
-use Rattle.place_plan.specs.declared.rows.AbortRow.TheVariants as abort
-use Rattle.place_plan.specs.declared.rows.HandlerRow.{HandlerRow}
+use Rattle.place_plan.specs.declared.draft_rows.AbortRow.{AbortRow}
+use Rattle.place_plan.specs.declared.draft_rows.AbortRow.TheVariants as abort
+use Rattle.place_plan.specs.declared.draft_rows.HandlerRow.{HandlerRow}
 use Rattle.caa_base.specs.Lists.{member, index_of, is_empty}
+use Rattle.caa_base.specs.Limits.{most_participants, most_objects, most_actions, most_graphs, most_roles, most_nests, most_alternates, most_steps, most_watches, most_drills, most_depth, most_places, most_entries}
 use Rattle.place_plan.specs.DraftRules.{roles_enter}
 use Rattle.action_script.specs.declared.form.Form.{Form}
 use Rattle.action_script.specs.declared.form.Form.TheVariants as form
-use Rattle.script_checker.specs.declared.error.CheckCause.{CheckCause}
-use Rattle.script_checker.specs.declared.error.CheckCause.TheVariants as cause
+use Rattle.script_checker.specs.declared.check_error.CheckCause.{CheckCause}
+use Rattle.script_checker.specs.declared.check_error.CheckCause.TheVariants as cause
 use Rattle.script_checker.specs.Blocks.{is_in_graph, is_in_action}
 use Rattle.place_plan.specs.Weights.{counted, at}
 use Rattle.script_checker.specs.Numbers.{is_among, has_twice}
-use Rattle.script_checker.specs.SoFar.{SoFar, inner, outer, face, face_of, action_of, nest_of, said_of, role_of}
+use Rattle.script_checker.specs.DeclaredSoFar.{SoFar, inner, outer, face, face_of, action_of, nest_of, said_of, role_of}
 
 -- ---- a name that the line uses isn't declared
 
@@ -132,7 +133,7 @@ is_not_held s _ = false
 -- ---- the line nests an action of the most depth
 
 abbrev pub is_deepest : SoFar → ℕ → Bool
-is_deepest s action = nat_le 8 (at s.depths (index_of action s.action_names))
+is_deepest s action = nat_le most_depth (at s.depths (index_of action s.action_names))
 
 abbrev pub is_too_deep : SoFar → Form → Bool
 is_too_deep s (form.Nest nest action roles) = is_deepest s action
@@ -146,24 +147,24 @@ abbrev pub places_with : SoFar → ℕ → ℕ
 places_with s action = counted (s.all_places + at s.places (index_of action s.action_names))
 
 abbrev pub is_past_limit : SoFar → Form → Bool
-is_past_limit s (form.Participant name) = nat_le 64 (length s.participants)
-is_past_limit s (form.Object name value) = nat_le 256 (length s.objects)
-is_past_limit s (form.Drill object nth) = nat_le 1000 (length s.drills)
-is_past_limit s (form.Watch object) = nat_le 16 (length s.watches)
-is_past_limit s (form.Graph name) = nat_le 256 (length s.graph_names)
-is_past_limit s (form.Action name) = nat_le 256 (length s.action_names)
-is_past_limit s (form.Play action who) = nat_lt 65536 (places_with s action)
+is_past_limit s (form.Participant name) = nat_le most_participants (length s.participants)
+is_past_limit s (form.Object name value) = nat_le most_objects (length s.objects)
+is_past_limit s (form.Drill object nth) = nat_le most_drills (length s.drills)
+is_past_limit s (form.Watch object) = nat_le most_watches (length s.watches)
+is_past_limit s (form.Graph name) = nat_le most_graphs (length s.graph_names)
+is_past_limit s (form.Action name) = nat_le most_actions (length s.action_names)
+is_past_limit s (form.Play action who) = nat_lt most_places (places_with s action)
 is_past_limit s (form.Exception name) = nat_le most_exceptions (length s.exceptions)
-is_past_limit s (form.Roles roles) = nat_lt 16 (length roles)
-is_past_limit s (form.Nest nest action roles) = nat_le 256 (length s.nests)
-is_past_limit s (form.Alternate nest action) = nat_le 4 (length (nest_of s nest).actions)
-is_past_limit s (form.ReadStep object) = nat_le 256 (length s.steps)
-is_past_limit s (form.PutStep object value) = nat_le 256 (length s.steps)
-is_past_limit s (form.AddStep object value) = nat_le 256 (length s.steps)
-is_past_limit s (form.WorkStep rounds) = nat_le 256 (length s.steps)
-is_past_limit s (form.CheckStep test value exception) = nat_le 256 (length s.steps)
-is_past_limit s (form.RaiseStep exception) = nat_le 256 (length s.steps)
-is_past_limit s (form.EnterStep nest) = nat_le 256 (length s.steps)
+is_past_limit s (form.Roles roles) = nat_lt most_roles (length roles)
+is_past_limit s (form.Nest nest action roles) = nat_le most_nests (length s.nests)
+is_past_limit s (form.Alternate nest action) = nat_le most_alternates (length (nest_of s nest).actions)
+is_past_limit s (form.ReadStep object) = nat_le most_steps (length s.steps)
+is_past_limit s (form.PutStep object value) = nat_le most_steps (length s.steps)
+is_past_limit s (form.AddStep object value) = nat_le most_steps (length s.steps)
+is_past_limit s (form.WorkStep rounds) = nat_le most_steps (length s.steps)
+is_past_limit s (form.CheckStep test value exception) = nat_le most_steps (length s.steps)
+is_past_limit s (form.RaiseStep exception) = nat_le most_steps (length s.steps)
+is_past_limit s (form.EnterStep nest) = nat_le most_steps (length s.steps)
 is_past_limit s _ = false
 
 -- ---- with the play a journal could have too many entries
@@ -172,7 +173,7 @@ abbrev pub bound_with : SoFar → ℕ → ℕ
 bound_with s action = counted (s.whole_bound + at s.bounds (index_of action s.action_names))
 
 abbrev pub is_past_bound : SoFar → Form → Bool
-is_past_bound s (form.Play action who) = nat_lt 1000000 (bound_with s action)
+is_past_bound s (form.Play action who) = nat_lt most_entries (bound_with s action)
 is_past_bound s _ = false
 
 -- ---- the line adds an action to a use whose first action tells other exceptions outside

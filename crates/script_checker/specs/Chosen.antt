@@ -1,9 +1,9 @@
 -- The first cause of a line that is found, where they are tried by their numbers.
 use Rattle.std.specs.Prelude.{Bool, true, false, Option, Some, None}
 use Rattle.action_script.specs.declared.form.Form.{Form}
-use Rattle.script_checker.specs.declared.error.CheckCause.{CheckCause}
-use Rattle.script_checker.specs.declared.error.CheckCause.TheVariants as cause
-use Rattle.script_checker.specs.SoFar.{SoFar}
+use Rattle.script_checker.specs.declared.check_error.CheckCause.{CheckCause}
+use Rattle.script_checker.specs.declared.check_error.CheckCause.TheVariants as cause
+use Rattle.script_checker.specs.DeclaredSoFar.{SoFar}
 use Rattle.script_checker.specs.Causes.{is_unknown, is_twice, is_unfilled, fills_twice, enters_otherwise, is_not_held, is_too_deep, is_past_limit, is_past_bound, has_other_face}
 
 abbrev pub cause_if : Bool → CheckCause → Option CheckCause → Option CheckCause

@@ -3,17 +3,17 @@ use Rattle.std.specs.Prelude.{◌≡◌, ℕ, ◌<◌, List, [], ◌∷◌, ◌+
 use Rattle.cover_table.specs.Cover.{IsSound}
 use Rattle.exception_graph.specs.Chains.{IsOrderOf}
 use Rattle.place_plan.specs.declared.draft.Draft.{Draft}
-use Rattle.place_plan.specs.declared.rows.GraphRow.{GraphRow}
+use Rattle.place_plan.specs.declared.draft_rows.GraphRow.{GraphRow}
 use Rattle.place_plan.specs.PlanValue.{Plan}
 use Rattle.place_plan.specs.Unfolding.{plan_of}
 use Rattle.action_script.specs.declared.form.Form.{Form}
 use Rattle.action_script.specs.declared.script.Line.{Line}
 use Rattle.action_script.specs.ScriptValue.{Script}
-use Rattle.script_checker.specs.declared.error.CheckCause.{CheckCause}
-use Rattle.script_checker.specs.declared.error.CheckCause.TheVariants as cause
-use Rattle.script_checker.specs.declared.error.CheckError.{CheckError}
+use Rattle.script_checker.specs.declared.check_error.CheckCause.{CheckCause}
+use Rattle.script_checker.specs.declared.check_error.CheckCause.TheVariants as cause
+use Rattle.script_checker.specs.declared.check_error.CheckError.{CheckError}
 use Rattle.script_checker.specs.declared.parts.DeclaredGraph.{DeclaredGraph}
-use Rattle.script_checker.specs.SoFar.{SoFar, nothing_yet}
+use Rattle.script_checker.specs.DeclaredSoFar.{SoFar, nothing_yet}
 use Rattle.script_checker.specs.Causes.{HasCause}
 use Rattle.script_checker.specs.After.{settled, after}
 

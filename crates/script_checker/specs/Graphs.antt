@@ -3,9 +3,9 @@ use Rattle.std.specs.Prelude.{◌≡◌, ℕ, List, length, Option, false, true,
 use Rattle.cover_table.specs.Cover.{CoverOrder, IsSound}
 use Rattle.exception_graph.specs.Chains.{IsOrderOf, IsFirstInCycle, IsFirstUnjoined}
 use Rattle.action_script.specs.declared.form.Form.{Form}
-use Rattle.script_checker.specs.declared.error.CheckCause.{CheckCause}
-use Rattle.script_checker.specs.declared.error.CheckCause.TheVariants as cause
-use Rattle.script_checker.specs.SoFar.{SoFar}
+use Rattle.script_checker.specs.declared.check_error.CheckCause.{CheckCause}
+use Rattle.script_checker.specs.declared.check_error.CheckCause.TheVariants as cause
+use Rattle.script_checker.specs.DeclaredSoFar.{SoFar}
 use Rattle.script_checker.specs.Causes.{ends_graph}
 
 -- the cause of a graph of so many exceptions and these pairs

@@ -6,5 +6,5 @@ pub mod Compiled
 pub mod Graphs
 pub mod Numbers
 pub mod Rows
-pub mod SoFar
+pub mod DeclaredSoFar
 pub mod View

@@ -2,8 +2,8 @@
 use Rattle.std.specs.Prelude.{◌≡◌, ℕ, List, [], ◌∷◌, ◌++◌, map}
 use Rattle.cover_table.specs.Cover.{CoverOrder}
 use Rattle.place_plan.specs.declared.draft.Draft.{Draft}
-use Rattle.place_plan.specs.declared.rows.GraphRow.{GraphRow}
-use Rattle.script_checker.specs.SoFar.{SoFar}
+use Rattle.place_plan.specs.declared.draft_rows.GraphRow.{GraphRow}
+use Rattle.script_checker.specs.DeclaredSoFar.{SoFar}
 use Rattle.script_checker.specs.Compiled.{exception_name}
 
 -- the new rows are the old ones and that of a graph with these exceptions

@@ -1,6 +1,6 @@
 -- What the tables of the checker say.
 use Rattle.script_checker.specs.declared.declared.Declared.{Declared}
-use Rattle.script_checker.specs.SoFar.{SoFar}
+use Rattle.script_checker.specs.DeclaredSoFar.{SoFar}
 
 abbrev pub so_far : Declared → SoFar
 so_far d = record {

@@ -3,7 +3,7 @@
 ghost use Rattle.std.specs.Prelude.{◌≡◌, ◌<◌, ◌≤◌, ◌+◌, ◌++◌, ◌∷◌, [], true, false, length, vec_len, map, slice_index_or, slice_set, replicate, Some, None, OnOk, IfOk};
 ghost use Rattle.caa_base.specs.Lists.{index_of};
 ghost use Rattle.place_plan.specs.Places.{no_role, no_nest};
-ghost use Rattle.script_checker.specs.SoFar.{nothing_said};
+ghost use Rattle.script_checker.specs.DeclaredSoFar.{nothing_said};
 ghost use Rattle.script_checker.specs.Causes.{is_unknown, is_past_limit};
 ghost use Rattle.script_checker.specs.After.{name_at, step_of, verdict_of, goes_on, is_of_parts, is_of_action, is_outside, settled, with_program, closed, with_step, with_opening, idle_role, with_abort, with_graph, begun, action_row, with_depth, with_places, with_bound, with_action_row, with_action, without_parts, with_said};
 ghost use Rattle.script_checker.specs.View.{so_far};
@@ -21,7 +21,7 @@ use caa_base::entry::{Drill, OutOfMemory, Verdict};
 use caa_base::name::Name;
 use caa_base::rows::Rows;
 use place_plan::action_size;
-use place_plan::rows::{
+use place_plan::draft_rows::{
     AbortRow, ActionRow, HandlerRow, NestRow, ObjectRow, PlayRow, Program, RoleRow, Step,
 };
 use std::alloc::{AllocError, Global};

@@ -6,7 +6,7 @@ ghost use Rattle.caa_base.specs.Lists.{member, index_of};
 ghost use Rattle.place_plan.specs.DraftRules.{roles_enter};
 ghost use Rattle.place_plan.specs.Weights.{counted, at};
 ghost use Rattle.script_checker.specs.Numbers.{is_among};
-ghost use Rattle.script_checker.specs.SoFar.{nest_of, said_of, role_of, face, inner};
+ghost use Rattle.script_checker.specs.DeclaredSoFar.{nest_of, said_of, role_of, face, inner};
 ghost use Rattle.script_checker.specs.Causes.{is_action, is_unknown, is_drill, is_said, handles, is_twice, is_filled_by, is_unfilled, fills_twice, enters_otherwise, holds, holds_all, is_not_held, is_deepest, is_too_deep, places_with, is_past_limit, bound_with, is_past_bound, has_other_face};
 ghost use Rattle.script_checker.specs.Blocks.{is_in_action};
 ghost use Rattle.script_checker.specs.View.{so_far};
@@ -22,7 +22,7 @@ use caa_base::limits::{
     MOST_ACTIONS, MOST_DEPTH, MOST_DRILLS, MOST_ENTRIES, MOST_EXCEPTIONS, MOST_GRAPHS, MOST_NESTS,
     MOST_OBJECTS, MOST_PARTICIPANTS, MOST_PLACES, MOST_ROLES, MOST_STEPS, MOST_WATCHES,
 };
-use place_plan::rows::AbortRow;
+use place_plan::draft_rows::AbortRow;
 use place_plan::tables::{counted_sum, number_at};
 use place_plan::uses::roles_enter;
 

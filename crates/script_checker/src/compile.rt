@@ -1,6 +1,6 @@
 ghost use Rattle.std.specs.Prelude.{◌≡◌, ◌≢◌, ◌<◌, ◌^◌, length, OnOk, IfOk, IfErr, MatchOption};
 ghost use Rattle.place_plan.specs.Unfolding.{plan_of};
-ghost use Rattle.script_checker.specs.SoFar.{nothing_yet};
+ghost use Rattle.script_checker.specs.DeclaredSoFar.{nothing_yet};
 ghost use Rattle.script_checker.specs.Causes.{HasCause, ends_graph};
 ghost use Rattle.script_checker.specs.After.{after};
 ghost use Rattle.script_checker.specs.Chosen.{name_cause, size_cause, part_cause};
@@ -8,15 +8,15 @@ ghost use Rattle.script_checker.specs.Graphs.{Ends};
 ghost use Rattle.script_checker.specs.Compiled.{IsLeast, HasNone, IsLeastCause, IsAccepted, AreRowsOf, IsDraftOf, IsAnswer};
 ghost use Rattle.script_checker.specs.Rows.{AddsRow, parted};
 ghost use Rattle.script_checker.specs.View.{so_far};
-ghost use Rattle.script_checker.specs.declared.error.CheckCause.TheVariants as cause;
+ghost use Rattle.script_checker.specs.declared.check_error.CheckCause.TheVariants as cause;
 
 use crate::adding::{add, settle};
 use crate::causes::{
     enters_otherwise, fills_twice, has_other_face, is_not_held, is_past_bound, is_past_limit,
     is_too_deep, is_twice, is_unfilled, is_unknown,
 };
+use crate::check_error::{CheckCause, CheckError};
 use crate::declared::Declared;
-use crate::error::{CheckCause, CheckError};
 use crate::graphs::{graph_of, row_of};
 use action_script::form::Form;
 use action_script::script::Script;
@@ -25,8 +25,8 @@ use caa_base::name::Name;
 use caa_base::rows::Rows;
 use exception_graph::Graph;
 use place_plan::draft::Draft;
+use place_plan::draft_rows::GraphRow;
 use place_plan::plan::Plan;
-use place_plan::rows::GraphRow;
 use std::alloc::Global;
 
 /// The first cause of a line that its names alone tell.

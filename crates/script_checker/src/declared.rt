@@ -1,14 +1,14 @@
 ghost use Rattle.std.specs.Prelude.{◌≡◌, ◌≤◌, ◌<◌, ◌^◌, true, length, vec_len, codes, All, IfOk};
 ghost use Rattle.script_checker.specs.Blocks.{is_in_graph};
-ghost use Rattle.action_script.specs.Names.{number_in};
-ghost use Rattle.script_checker.specs.SoFar.{plain_graph};
+ghost use Rattle.action_script.specs.NumberedNames.{number_in};
+ghost use Rattle.script_checker.specs.DeclaredSoFar.{plain_graph};
 
 use crate::number_list::NumberList;
 use crate::parts::{Block, DeclaredGraph, NestSaid, Opening};
 use caa_base::entry::Drill;
 use caa_base::name::Name;
 use caa_base::rows::Rows;
-use place_plan::rows::{ActionRow, NestRow, ObjectRow, PlayRow, RoleRow, Step};
+use place_plan::draft_rows::{ActionRow, NestRow, ObjectRow, PlayRow, RoleRow, Step};
 use std::alloc::{AllocError, Global};
 
 /// What the lines of a script have declared so far, by the numbers of names.
@@ -94,7 +94,7 @@ fn plain_graph(alloc: Global, universal: u32) -> Result<DeclaredGraph, AllocErro
 
 impl Declared {
     ghost use Rattle.std.specs.Prelude.{◌≡◌, ◌<◌, ◌^◌, length, IfOk};
-    ghost use Rattle.script_checker.specs.SoFar.{nothing_yet};
+    ghost use Rattle.script_checker.specs.DeclaredSoFar.{nothing_yet};
     ghost use Rattle.script_checker.specs.View.{so_far};
 
     /// What is declared before the first line of a script of these names.

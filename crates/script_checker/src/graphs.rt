@@ -8,15 +8,15 @@ ghost use Rattle.script_checker.specs.Compiled.{exception_name};
 ghost use Rattle.script_checker.specs.Graphs.{IsGraphRefusal, IsOrdered, Ends};
 ghost use Rattle.script_checker.specs.View.{so_far};
 
+use crate::check_error::CheckCause;
 use crate::declared::Declared;
-use crate::error::CheckCause;
 use crate::parts::Block;
 use action_script::form::Form;
 use caa_base::entry::OutOfMemory;
 use caa_base::name::Name;
 use caa_base::rows::Rows;
 use exception_graph::{Graph, GraphError};
-use place_plan::rows::GraphRow;
+use place_plan::draft_rows::GraphRow;
 use std::alloc::Global;
 
 /// Whether the line ends a graph.

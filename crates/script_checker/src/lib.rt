@@ -3,9 +3,9 @@
 
 mod adding;
 mod causes;
+pub mod check_error;
 pub mod compile;
 mod declared;
-pub mod error;
 mod graphs;
 mod lookups;
 mod number_list;

@@ -1,3 +1,3 @@
 pub mod Noted
-pub mod Refusals
+pub mod RefusedNotes
 pub mod Telling

@@ -6,7 +6,7 @@ use Rattle.place_plan.specs.Entries.{is_of}
 use Rattle.caa_base.specs.declared.entry.Entry.{Entry}
 use Rattle.place_plan.specs.Raising.{exception_resolved}
 use Rattle.shared_views.specs.Noted.{Noted, IsOf}
-use Rattle.shared_views.specs.Refusals.{place_refused}
+use Rattle.shared_views.specs.RefusedNotes.{place_refused}
 use Rattle.shared_views.specs.declared.bulletin.Bulletin.{Bulletin}
 use Rattle.shared_views.specs.declared.bulletin.Told.{Told}
 use Rattle.shared_views.specs.declared.bulletin.Told.TheVariants as told

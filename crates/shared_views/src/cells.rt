@@ -40,7 +40,7 @@ impl Model for Announcer {
 }
 
 impl ResolutionCells {
-    ghost use Rattle.shared_views.specs.Refusals.{place_refused};
+    ghost use Rattle.shared_views.specs.RefusedNotes.{place_refused};
 
     /// Empty cells for this many places, and the announcer with a box for each. All memory is taken here.
     pub fn open(alloc: Global, places: u32) -> Result<(ResolutionCells, Announcer), OutOfMemory>

@@ -28,7 +28,7 @@ pub struct NoteRefused {
 }
 
 impl NoteRefused {
-    ghost use Rattle.shared_views.specs.Refusals.{place_refused};
+    ghost use Rattle.shared_views.specs.RefusedNotes.{place_refused};
 
     /// Of this place.
     pub(crate) fn of(place: Place) -> NoteRefused

@@ -8,7 +8,7 @@ use caa_base::name::Name;
 use caa_base::rows::Rows;
 use exception_graph::Graph;
 use place_plan::draft::Draft;
-use place_plan::rows::{
+use place_plan::draft_rows::{
     AbortRow, ActionRow, GraphRow, HandlerRow, NestRow, ObjectRow, PlayRow, Program, RoleRow, Step,
 };
 use std::alloc::{AllocError, AllocFailed, Global};

@@ -7,14 +7,14 @@ use Rattle.caa_base.specs.declared.entry.Entry.{Entry}
 use Rattle.caa_base.specs.declared.entry.Kind.{Kind}
 use Rattle.caa_base.specs.declared.entry.Kind.TheVariants as kind
 use Rattle.caa_base.specs.declared.entry.Verdict.{Verdict}
-use Rattle.place_plan.specs.declared.rows.GraphRow.{GraphRow}
-use Rattle.place_plan.specs.declared.rows.ObjectRow.{ObjectRow}
-use Rattle.place_plan.specs.declared.rows.PlaceRow.{PlaceRow}
-use Rattle.place_plan.specs.declared.rows.RoleRow.{RoleRow}
-use Rattle.place_plan.specs.declared.rows.HandlerRow.{HandlerRow}
-use Rattle.place_plan.specs.declared.rows.Program.{Program}
-use Rattle.place_plan.specs.declared.rows.Step.{Step}
-use Rattle.place_plan.specs.declared.rows.AbortRow.{AbortRow}
+use Rattle.place_plan.specs.declared.draft_rows.GraphRow.{GraphRow}
+use Rattle.place_plan.specs.declared.draft_rows.ObjectRow.{ObjectRow}
+use Rattle.place_plan.specs.declared.draft_rows.PlaceRow.{PlaceRow}
+use Rattle.place_plan.specs.declared.draft_rows.RoleRow.{RoleRow}
+use Rattle.place_plan.specs.declared.draft_rows.HandlerRow.{HandlerRow}
+use Rattle.place_plan.specs.declared.draft_rows.Program.{Program}
+use Rattle.place_plan.specs.declared.draft_rows.Step.{Step}
+use Rattle.place_plan.specs.declared.draft_rows.AbortRow.{AbortRow}
 use Rattle.place_plan.specs.PlanValue.{Plan}
 use Rattle.place_plan.specs.Roles.{is_over}
 use Rattle.place_plan.specs.Rules.{MayFollow}

@@ -8,11 +8,11 @@ use Rattle.std.proofs.Common.{◌≡◌, ℕ, ℤ, pos, List, [], ◌∷◌, rev
 use Rattle.cover_table.specs.Cover.{IsLeastCover}
 use Rattle.caa_base.specs.declared.entry.Entry.{Entry}
 use Rattle.caa_base.specs.declared.entry.Verdict.TheVariants as verdict
-use Rattle.place_plan.specs.declared.rows.AbortRow.TheVariants as abort
-use Rattle.place_plan.specs.declared.rows.GraphRow.{GraphRow}
-use Rattle.place_plan.specs.declared.rows.ActionRow.{ActionRow}
-use Rattle.place_plan.specs.declared.rows.RoleRow.{RoleRow}
-use Rattle.place_plan.specs.declared.rows.Step.TheVariants as step
+use Rattle.place_plan.specs.declared.draft_rows.AbortRow.TheVariants as abort
+use Rattle.place_plan.specs.declared.draft_rows.GraphRow.{GraphRow}
+use Rattle.place_plan.specs.declared.draft_rows.ActionRow.{ActionRow}
+use Rattle.place_plan.specs.declared.draft_rows.RoleRow.{RoleRow}
+use Rattle.place_plan.specs.declared.draft_rows.Step.TheVariants as step
 use Rattle.place_plan.specs.PlanValue.{Plan}
 use Rattle.place_plan.specs.Places.{internal_of}
 use Rattle.place_plan.specs.Objects.{value_of}

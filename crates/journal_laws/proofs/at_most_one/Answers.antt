@@ -1,6 +1,6 @@
 use Rattle.journal_laws.proofs.PlayablePlan.{is_playable}
 use Rattle.journal_laws.proofs.CoreKept.{core}
-use Rattle.journal_laws.proofs.Due.{at_most_one}
+use Rattle.journal_laws.proofs.DueEntry.{at_most_one}
 use Rattle.journal_laws.proofs.at_most_one.Goals as goal
 
 pub returns : goal.returns

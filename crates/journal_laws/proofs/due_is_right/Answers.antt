@@ -1,6 +1,6 @@
 use Rattle.journal_laws.proofs.PlayablePlan.{is_playable}
 use Rattle.journal_laws.proofs.CoreKept.{core}
-use Rattle.journal_laws.proofs.Due.{due_is_right}
+use Rattle.journal_laws.proofs.DueEntry.{due_is_right}
 use Rattle.journal_laws.proofs.due_is_right.Goals as goal
 
 pub returns : goal.returns

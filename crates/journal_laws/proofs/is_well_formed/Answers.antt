@@ -1,6 +1,6 @@
 use Rattle.journal_laws.proofs.PlayablePlan.{is_playable}
 use Rattle.journal_laws.proofs.CoreKept.{core}
-use Rattle.journal_laws.proofs.WellFormed.{all_well_formed}
+use Rattle.journal_laws.proofs.LegalWellFormed.{all_well_formed}
 use Rattle.journal_laws.proofs.is_well_formed.Goals as goal
 
 pub returns : goal.returns

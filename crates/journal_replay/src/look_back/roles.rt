@@ -1,13 +1,13 @@
 ghost use Rattle.std.specs.Prelude.{◌≡◌, ◌==◌, ℤ, slice_get, reverse, Option, option_copied, Some, None};
-ghost use Rattle.place_plan.specs.declared.rows.Step.{Step as PlanStep};
+ghost use Rattle.place_plan.specs.declared.draft_rows.Step.{Step as PlanStep};
 ghost use Rattle.place_plan.specs.Roles.{advances, position, gives_value, register, or_idle, program_of, next_step, int_same, meets, raise_of, next_raise};
 
 use crate::look_back::entries::is_by;
 use crate::look_back::places::is_left_in_silence;
 use crate::look_back::raising::exception_handled;
 use caa_base::entry::{Entry, Exception, Kind, Participant, Place, Test};
+use place_plan::draft_rows::{Program, Step};
 use place_plan::plan::Plan;
-use place_plan::rows::{Program, Step};
 
 /// Whether the entry is a step of its maker in a place; the journal stands before it.
 fn advances(plan: &Plan, journal: &[Entry], place: Place, entry: &Entry) -> bool

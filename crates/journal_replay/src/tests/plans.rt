@@ -1,7 +1,7 @@
 //! The plans of worked journals.
 use caa_base::entry::{Drill, Exception, Object, Participant, Test, Verdict};
+use place_plan::draft_rows::{AbortRow, ActionRow, GraphRow, HandlerRow, NestRow, RoleRow, Step};
 use place_plan::plan::Plan;
-use place_plan::rows::{AbortRow, ActionRow, GraphRow, HandlerRow, NestRow, RoleRow, Step};
 use std::alloc::Global;
 use std::test::Fail;
 use trial_drafts::{Exceptions, Maps, action, draft, graph, nest, play, program, role};

@@ -1,5 +1,5 @@
 use super::*;
-use crate::rows::{PlayRow, Step};
+use crate::draft_rows::{PlayRow, Step};
 use crate::value::value_at;
 use caa_base::entry::{Entry, Kind, Verdict};
 use std::test::Fail;

@@ -1,7 +1,7 @@
 use super::*;
 use crate::close::broken_part;
+use crate::draft_rows::{AbortRow, GraphRow, HandlerRow, Program, RoleRow, Step};
 use crate::plan::{Plan, PlanError};
-use crate::rows::{AbortRow, GraphRow, HandlerRow, Program, RoleRow, Step};
 use caa_base::entry::Verdict;
 use caa_base::name::Name;
 use caa_base::rows::Rows;

@@ -1,6 +1,6 @@
 use Rattle.std.proofs.Common.{◌≡◌, drop}
-use Rattle.action_script.specs.Names.{with_names}
-use Rattle.action_script.specs.Reading.{names_of}
+use Rattle.action_script.specs.NumberedNames.{with_names}
+use Rattle.action_script.specs.Spelling.{names_of}
 use Rattle.action_script.proofs.asked.add_names.Given as goal
 
 abbrev pub invariant-loop-word : goal.invariant-loop-word

@@ -1,5 +1,5 @@
 use Rattle.std.proofs.Common.{◌≡◌, ◌++◌, map, drop}
-use Rattle.action_script.specs.Reading.{asked_of}
+use Rattle.action_script.specs.Spelling.{asked_of}
 use Rattle.action_script.proofs.asked.asked_of.Given as goal
 
 abbrev pub invariant-loop-index : goal.invariant-loop-index

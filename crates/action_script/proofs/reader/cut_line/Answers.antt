@@ -1,6 +1,6 @@
 use Rattle.std.proofs.Common.{◌≡◌, ◌∷◌, ◌+◌, ◌-◌, length, take, drop, sym, ap, ◌∙◌}
 use Rattle.std.proofs.lemmas.List.{take_rest}
-use Rattle.action_script.specs.Lines.{lines_of}
+use Rattle.action_script.specs.CutLines.{lines_of}
 use Rattle.action_script.proofs.LineCuts.{lines_of-found, lines_of-whole}
 use Rattle.action_script.proofs.reader.cut_line.Goals as goal
 

@@ -2,7 +2,7 @@ use Rattle.std.proofs.Common.{length, refl, sym, ap, ◌∙◌, arith}
 use Rattle.action_script.specs.ScriptValue.{Script}
 use Rattle.action_script.specs.SoFar.{so_far}
 use Rattle.action_script.proofs.WellRead.{well_read}
-use Rattle.action_script.proofs.Steps.{reading_of-refused, reading_of-open, reading_of-read}
+use Rattle.action_script.proofs.LineByLine.{reading_of-refused, reading_of-open, reading_of-read}
 use Rattle.action_script.proofs.reader.read.Goals as goal
 
 pub returns-then-not-at_top-clause-refused : goal.returns-then-not-at_top-clause-refused

@@ -1,6 +1,6 @@
 use Rattle.std.proofs.Common.{arith}
 use Rattle.action_script.specs.SoFar.{so_far}
-use Rattle.action_script.proofs.Steps.{has_read-more, has_read-refused, took-line, took-lines, took-names}
+use Rattle.action_script.proofs.LineByLine.{has_read-more, has_read-refused, took-line, took-lines, took-names}
 use Rattle.action_script.proofs.reader.read_lines.Goals as goal
 
 pub returns-in-Err-clause-refused : goal.returns-in-Err-clause-refused

@@ -1,5 +1,5 @@
 use Rattle.std.proofs.Common.{◌≡◌, drop}
-use Rattle.action_script.specs.Words.{digits_after}
+use Rattle.action_script.specs.ScriptWords.{digits_after}
 use Rattle.action_script.proofs.word.digits_within.Given as goal
 
 abbrev pub invariant-loop-digit : goal.invariant-loop-digit

@@ -1,5 +1,5 @@
 use Rattle.std.proofs.Common.{◌≡◌, ◌+◌, ◌-◌, ℕ, suc, length, drop, false, cond, sym, ap, ◌∙◌, arith}
-use Rattle.action_script.specs.Lines.{lines_of}
+use Rattle.action_script.specs.CutLines.{lines_of}
 use Rattle.caa_main.specs.Inputs.{lines_before, after_lines, script_lines, journal_part, is_journal_line, begins_journal}
 use Rattle.caa_main.proofs.inputs.skip_script.Goals as goal
 

@@ -1,5 +1,5 @@
 use Rattle.std.proofs.Common.{◌≡◌, subst, inr, refl, Ok, Err}
-use Rattle.script_checker.specs.declared.error.CheckCause.TheVariants as cause
+use Rattle.script_checker.specs.declared.check_error.CheckCause.TheVariants as cause
 use Rattle.caa_main.specs.Scripts.{IsCause}
 use Rattle.caa_main.proofs.Answers.{plan_answered, refusal_answered}
 use Rattle.caa_main.proofs.scripts.plan_of.Goals as goal

@@ -1,5 +1,5 @@
 use Rattle.std.proofs.Common.{◌<◌, length, arith}
-use Rattle.exception_graph.proofs.Steps.{told_in_one, closed_more, chains_more}
+use Rattle.exception_graph.proofs.ClosingSteps.{told_in_one, closed_more, chains_more}
 use Rattle.exception_graph.proofs.closing.close.Goals as goal
 
 pub loop-over-preserved : goal.loop-over-preserved

@@ -1,5 +1,5 @@
 use Rattle.std.proofs.Common.{take, drop, reverse}
-use Rattle.journal_text.specs.Values.{LooksBack}
+use Rattle.journal_text.specs.KnownValues.{LooksBack}
 use Rattle.journal_text.proofs.values.look_back.Given as goal
 
 abbrev pub invariant-loop-index : goal.invariant-loop-index

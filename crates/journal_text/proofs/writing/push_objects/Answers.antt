@@ -2,7 +2,7 @@ use Rattle.std.proofs.Common.{◌≡◌, ◌++◌, reverse, arith, ap, ◌∙◌
 use Rattle.std.specs.List.{flat_map, range_with_len}
 use Rattle.caa_base.specs.Lines.{line}
 use Rattle.place_plan.specs.Objects.{value_of}
-use Rattle.journal_text.specs.Values.{value_found}
+use Rattle.journal_text.specs.KnownValues.{value_found}
 use Rattle.journal_text.specs.Text.{object_words, object_line}
 use Rattle.journal_text.proofs.TextLemmas.{lines_more}
 use Rattle.journal_text.proofs.writing.push_objects.Goals as goal

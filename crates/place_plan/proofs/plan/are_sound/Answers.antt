@@ -1,7 +1,7 @@
 use Rattle.std.proofs.Common.{slice_index_or, ◌∙◌, subst, arith, below_more}
 use Rattle.std.proofs.lemmas.List.{get_or_default}
 use Rattle.cover_table.specs.Cover.{IsSound, SetsHaveLeastCovers}
-use Rattle.place_plan.specs.declared.rows.GraphRow.{GraphRow}
+use Rattle.place_plan.specs.declared.draft_rows.GraphRow.{GraphRow}
 use Rattle.place_plan.specs.Places.{no_graph}
 use Rattle.place_plan.proofs.plan.are_sound.Goals as goal
 

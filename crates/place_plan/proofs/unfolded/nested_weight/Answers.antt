@@ -1,5 +1,5 @@
 use Rattle.std.proofs.Common.{◌≡◌, ◌∙◌, ◌<◌, length, get_or, ap, arith, sum_by}
-use Rattle.place_plan.specs.declared.rows.NestRow.{NestRow}
+use Rattle.place_plan.specs.declared.draft_rows.NestRow.{NestRow}
 use Rattle.place_plan.specs.Weights.{counted, at}
 use Rattle.place_plan.proofs.Counted.{nested_step}
 use Rattle.place_plan.proofs.unfolded.nested_weight.Goals as goal

@@ -1,5 +1,5 @@
 use Rattle.std.proofs.Common.{◌≡◌, drop, map}
-use Rattle.place_plan.specs.declared.rows.HandlerRow.{HandlerRow}
+use Rattle.place_plan.specs.declared.draft_rows.HandlerRow.{HandlerRow}
 use Rattle.place_plan.specs.DraftRules.{all_differ}
 use Rattle.place_plan.proofs.uses.handlers_differ.Given as goal
 

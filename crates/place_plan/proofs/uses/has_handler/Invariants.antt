@@ -1,5 +1,5 @@
 use Rattle.std.proofs.Common.{◌≡◌, drop, map}
-use Rattle.place_plan.specs.declared.rows.HandlerRow.{HandlerRow}
+use Rattle.place_plan.specs.declared.draft_rows.HandlerRow.{HandlerRow}
 use Rattle.caa_base.specs.Lists.{member}
 use Rattle.place_plan.proofs.uses.has_handler.Given as goal
 

@@ -3,7 +3,7 @@ use Rattle.std.proofs.lemmas.List.{take_rest}
 use Rattle.std.proofs.lemmas.Int.{ints}
 use Rattle.caa_base.specs.declared.entry.Entry.{Entry}
 use Rattle.caa_base.specs.declared.entry.Kind.TheVariants as kind
-use Rattle.place_plan.proofs.Values.{value_given, value_passed, gives}
+use Rattle.place_plan.proofs.LatestValues.{value_given, value_passed, gives}
 use Rattle.place_plan.proofs.value.value_at.Goals as goal
 use Rattle.place_plan.proofs.value.value_at.Goals.{else-writes-via-then-writes+else-not-is_restored, else-writes-via-else-writes}
 

@@ -1,6 +1,6 @@
 use Rattle.std.proofs.Common.{◌≡◌, reverse, take, drop}
 use Rattle.place_plan.specs.Objects.{value_of, value_outside}
-use Rattle.place_plan.proofs.Values.{restored_in}
+use Rattle.place_plan.proofs.LatestValues.{restored_in}
 use Rattle.place_plan.proofs.value.value_at.Given as goal
 
 abbrev pub invariant-loop-index : goal.invariant-loop-index

@@ -1,6 +1,6 @@
 use Rattle.std.proofs.Common.{◌∙◌, arith, reverse, subst}
 use Rattle.journal_laws.specs.Laws.{Holds, GoesOn}
-use Rattle.role_driver.proofs.Turns.{round_silent}
+use Rattle.role_driver.proofs.GoingRound.{round_silent}
 use Rattle.role_driver.proofs.turn.take_turn.Goals as goal
 
 pub unreachable-requires : goal.unreachable-requires

@@ -1,6 +1,6 @@
 use Rattle.std.proofs.Common.{ap, ◌∙◌}
-use Rattle.place_plan.specs.declared.rows.ActionRow.{ActionRow}
-use Rattle.script_checker.specs.SoFar.{SoFar}
+use Rattle.place_plan.specs.declared.draft_rows.ActionRow.{ActionRow}
+use Rattle.script_checker.specs.DeclaredSoFar.{SoFar}
 use Rattle.script_checker.specs.After.{with_depth, with_places, with_bound, with_action_row, with_action, without_parts}
 use Rattle.script_checker.specs.View.{so_far}
 use Rattle.script_checker.proofs.adding.end_action.Goals as goal

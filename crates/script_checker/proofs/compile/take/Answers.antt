@@ -1,7 +1,7 @@
 use Rattle.std.proofs.Common.{◌≡◌, List, Option, sym, ap, ◌∙◌, subst}
 use Rattle.cover_table.specs.Cover.{CoverOrder}
 use Rattle.script_checker.specs.declared.parts.DeclaredGraph.{DeclaredGraph}
-use Rattle.script_checker.specs.SoFar.{SoFar}
+use Rattle.script_checker.specs.DeclaredSoFar.{SoFar}
 use Rattle.script_checker.specs.After.{goes_on, with_graph}
 use Rattle.script_checker.specs.Graphs.{Ends}
 use Rattle.script_checker.specs.Compiled.{AreRowsOf}

@@ -1,5 +1,5 @@
 use Rattle.std.proofs.Common.{◌≡◌, ◌+◌, drop, codes}
-use Rattle.action_script.specs.Names.{number_in}
+use Rattle.action_script.specs.NumberedNames.{number_in}
 use Rattle.script_checker.proofs.declared.universal_in.Given as goal
 
 abbrev pub invariant-loop-number : goal.invariant-loop-number

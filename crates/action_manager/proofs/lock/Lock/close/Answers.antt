@@ -1,7 +1,7 @@
 use Rattle.std.proofs.Common.{rules, ◌≡◌, ◌∙◌, sym, Some, subst, IsSome}
 use mathlib.Core.Option.{some-injective}
 use mathlib.Core.List.{IsPrefix}
-use Rattle.action_manager.proofs.Steps.{closes_empty}
+use Rattle.action_manager.proofs.LockSteps.{closes_empty}
 use Rattle.action_manager.proofs.lock.Lock.close.Goals as goal
 
 pub unwrap-requires : goal.unwrap-requires

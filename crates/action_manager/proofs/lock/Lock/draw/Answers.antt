@@ -1,5 +1,5 @@
 use Rattle.std.proofs.Common.{◌∙◌, ap, arith}
-use Rattle.action_manager.proofs.Steps.{draws}
+use Rattle.action_manager.proofs.LockSteps.{draws}
 use Rattle.action_manager.proofs.lock.Lock.draw.Goals as goal
 
 pub compare_exchange-found-requires : goal.compare_exchange-found-requires

@@ -1,7 +1,7 @@
 use Rattle.std.proofs.Common.{◌≡◌, ◌∙◌, ap, sym, subst, arith, [], ◌∷◌, Some}
-use Rattle.action_manager.specs.Journals.{Grows}
+use Rattle.action_manager.specs.OwnEntries.{Grows}
 use Rattle.atomic_table.specs.Table.{rest}
-use Rattle.action_manager.proofs.Steps.{hands}
+use Rattle.action_manager.proofs.LockSteps.{hands}
 use Rattle.action_manager.proofs.lock.Lock.hand_on.Goals as goal
 
 pub store-requires : goal.store-requires

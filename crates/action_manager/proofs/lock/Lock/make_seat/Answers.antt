@@ -1,5 +1,5 @@
 use Rattle.std.proofs.Common.{arith, ap}
-use Rattle.action_manager.proofs.Steps.{splits}
+use Rattle.action_manager.proofs.LockSteps.{splits}
 use Rattle.action_manager.proofs.lock.Lock.make_seat.Goals as goal
 
 pub split_seat-requires : goal.split_seat-requires

@@ -1,7 +1,7 @@
 use Rattle.std.proofs.Common.{◌∙◌, ap, sym, arith, Some}
 use Rattle.atomic_table.specs.Table.{step}
 use mathlib.Core.Option.{none}
-use Rattle.action_manager.proofs.Steps.{looks, came, in_hand}
+use Rattle.action_manager.proofs.LockSteps.{looks, came, in_hand}
 use Rattle.action_manager.proofs.lock.Lock.take.Goals as goal
 
 pub load-requires : goal.load-requires

@@ -1,5 +1,5 @@
 use Rattle.std.proofs.Common.{arith}
-use Rattle.action_manager.proofs.Steps.{joins}
+use Rattle.action_manager.proofs.LockSteps.{joins}
 use Rattle.action_manager.proofs.lock.Lock.take_in.Goals as goal
 
 pub join_seat-requires : goal.join_seat-requires

@@ -1,5 +1,5 @@
 use Rattle.std.proofs.Common.{rules, ◌<◌, ◌^◌, ℕ, ◌∙◌, ap, sym, subst, arith, length}
-use Rattle.action_manager.specs.Journals.{Journal, Grows}
+use Rattle.action_manager.specs.OwnEntries.{Journal, Grows}
 use Rattle.action_manager.specs.Stepping.{GrowsWithout}
 use Rattle.action_manager.proofs.Answering.{answer_grows, did_makes, did_fits}
 use Rattle.action_manager.proofs.manager.Manager.step.Goals as goal

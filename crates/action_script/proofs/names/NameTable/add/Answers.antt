@@ -1,5 +1,5 @@
 use Rattle.std.proofs.Common.{ap, ◌∙◌}
-use Rattle.action_script.specs.Names.{with_name}
+use Rattle.action_script.specs.NumberedNames.{with_name}
 use Rattle.action_script.proofs.Numbering.{bytes_of, bytes_of-added}
 use Rattle.action_script.proofs.names.NameTable.add.Goals as goal
 

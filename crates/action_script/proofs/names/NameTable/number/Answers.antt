@@ -1,5 +1,5 @@
 use Rattle.std.proofs.Common.{sym, ap, ◌∙◌}
-use Rattle.action_script.specs.Names.{number_in}
+use Rattle.action_script.specs.NumberedNames.{number_in}
 use Rattle.action_script.proofs.Numbering.{number_in-found, number_in-absent}
 use Rattle.action_script.proofs.names.NameTable.number.Goals as goal
 

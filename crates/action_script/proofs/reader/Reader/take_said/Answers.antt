@@ -1,8 +1,8 @@
 use Rattle.std.proofs.Common.{◌≡◌, ap, ◌∙◌, length, arith}
 use Rattle.std.proofs.lemmas.List.{length-map}
-use Rattle.action_script.specs.Names.{with_names}
-use Rattle.action_script.specs.Reading.{names_of, field_of}
-use Rattle.action_script.proofs.Counting.{length-with_names, length-names_of}
+use Rattle.action_script.specs.NumberedNames.{with_names}
+use Rattle.action_script.specs.Spelling.{names_of, field_of}
+use Rattle.action_script.proofs.NamesCounted.{length-with_names, length-names_of}
 use Rattle.action_script.proofs.reader.Reader.take_said.Goals as goal
 
 pub fields_of-requires : goal.fields_of-requires

@@ -1,5 +1,5 @@
 use Rattle.std.proofs.Common.{◌≡◌, Ok, Some, ap, ◌∙◌, arith}
-use Rattle.action_script.specs.Reading.{line_of}
+use Rattle.action_script.specs.Spelling.{line_of}
 use Rattle.action_script.proofs.Speaking.{speaks, speaks-short, speaks-takes}
 use Rattle.action_script.proofs.reader.Reader.take_text.Goals as goal
 

@@ -1,8 +1,8 @@
 use Rattle.std.proofs.Common.{ℕ, Ok, Err}
 use Rattle.exception_graph.specs.Chains.{IsSoundGraph}
-use Rattle.exception_graph.specs.declared.error.GraphError.TheVariants.{OutOfMemory}
+use Rattle.exception_graph.specs.declared.graph_error.GraphError.TheVariants.{OutOfMemory}
 use Rattle.exception_graph.proofs.Mutual.{universal_covers}
-use Rattle.exception_graph.proofs.Refusals.{accepted_where_sound, cycle_exactly, no_least_exactly}
+use Rattle.exception_graph.proofs.GraphCauses.{accepted_where_sound, cycle_exactly, no_least_exactly}
 use Rattle.exception_graph.proofs.graph.Graph.build.Goals as goal
 use Rattle.exception_graph.proofs.graph.Graph.build.Goals.{In-Ok}
 

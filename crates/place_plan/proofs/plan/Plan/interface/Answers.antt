@@ -1,6 +1,6 @@
 use Rattle.std.proofs.Common.{arith, subst, length, ap, ap₂, ◌<◌, ◌∙◌, slice_index_or}
 use Rattle.std.proofs.lemmas.List.{get_or_default}
-use Rattle.place_plan.specs.declared.rows.GraphRow.{GraphRow}
+use Rattle.place_plan.specs.declared.draft_rows.GraphRow.{GraphRow}
 use Rattle.place_plan.specs.PlanValue.{Plan}
 use Rattle.place_plan.specs.PlanView.{plan_view}
 use Rattle.place_plan.specs.Places.{action_at, no_graph}

@@ -1,0 +1,42 @@
+-- How the bytes of a script are cut into lines, and a line into words.
+use Rattle.std.specs.Prelude.{ℕ, ◌==◌, nat_le, if◌then◌else◌, Bool, false, not, ◌&&◌, ◌||◌, List, [], ◌∷◌, ◌++◌, filter}
+use Rattle.std.specs.List.{slice_split}
+use Rattle.caa_base.specs.Lists.{is_empty}
+
+-- ---- lines
+
+-- a last piece that is empty is no line
+abbrev pub without_empty_last : List (List ℕ) → List (List ℕ)
+without_empty_last [] = []
+without_empty_last (piece ∷ []) = if is_empty piece then [] else piece ∷ []
+without_empty_last (piece ∷ next ∷ more) = piece ∷ without_empty_last (next ∷ more)
+
+-- what stands between the line feeds of a text
+abbrev pub lines_of : List ℕ → List (List ℕ)
+lines_of bytes = without_empty_last (slice_split (λ b. b == 10) bytes)
+
+-- ---- words
+
+-- the space, the tab and the carriage return
+abbrev pub is_blank : ℕ → Bool
+is_blank b = (b == 32) || ((b == 9) || (b == 13))
+
+-- a byte that a line may have which isn't skipped
+abbrev pub is_plain : ℕ → Bool
+is_plain b = is_blank b || (nat_le 33 b && nat_le b 126)
+
+-- the longest pieces without blanks
+abbrev pub words_of : List ℕ → List (List ℕ)
+words_of line = filter (λ word. not (is_empty word)) (slice_split is_blank line)
+
+-- a word that begins a comment
+abbrev pub begins_comment : List ℕ → Bool
+begins_comment [] = false
+begins_comment (b ∷ rest) = b == 35
+
+-- ---- the other way round
+
+-- each of these words after a space
+abbrev pub spaced : List (List ℕ) → List ℕ
+spaced [] = []
+spaced (word ∷ words) = 32 ∷ word ++ spaced words
