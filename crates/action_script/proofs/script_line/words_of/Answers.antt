@@ -1,7 +1,7 @@
 use Rattle.std.proofs.Common.{sym, ◌∙◌, []}
 use Rattle.action_script.proofs.Cutting.{kept_word, left_empty}
-use Rattle.action_script.proofs.line.words_of.Goals as goal
-use Rattle.action_script.proofs.line.words_of.Goals.{then-not-is_empty+in_ok-push, else-not-is_empty}
+use Rattle.action_script.proofs.script_line.words_of.Goals as goal
+use Rattle.action_script.proofs.script_line.words_of.Goals.{then-not-is_empty+in_ok-push, else-not-is_empty}
 
 pub loop-piece-preserved : goal.loop-piece-preserved
 loop-piece-preserved c = elim c.if-not-is_empty.branch [

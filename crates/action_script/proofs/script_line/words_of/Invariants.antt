@@ -1,6 +1,6 @@
 use Rattle.std.proofs.Common.{◌≡◌, ◌++◌, map, drop, filter, not}
 use Rattle.caa_base.specs.Lists.{is_empty}
-use Rattle.action_script.proofs.line.words_of.Given as goal
+use Rattle.action_script.proofs.script_line.words_of.Given as goal
 
 abbrev pub invariant-loop-piece : goal.invariant-loop-piece
 invariant-loop-piece l =

@@ -4,7 +4,7 @@ use Rattle.std.proofs.lemmas.Bool.{cases_eq, eq-eqb, ne_eqb, or_left}
 use Rattle.std.proofs.lemmas.Nat.Bits.{bit_at_set_same, bit_at_set_other}
 use Rattle.cover_table.specs.Cover.{has_bit, most_exceptions}
 use Rattle.cover_table.proofs.Bits.{had_from_one}
-use Rattle.cover_table.proofs.rows.with_bit.Goals as goal
+use Rattle.cover_table.proofs.order.with_bit.Goals as goal
 
 pub returns : goal.returns
 returns c = λ b.

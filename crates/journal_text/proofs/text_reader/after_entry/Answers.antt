@@ -1,7 +1,7 @@
 use Rattle.std.proofs.Common.{◌≡◌, ◌++◌, List, ℕ, subst, ◌∙◌, ap}
 use Rattle.std.specs.Option.{MatchOption}
 use Rattle.journal_text.specs.Text.{entry_line}
-use Rattle.journal_text.proofs.reading.after_entry.Goals as goal
+use Rattle.journal_text.proofs.text_reader.after_entry.Goals as goal
 
 pub returns-in-Ok : goal.returns-in-Ok
 returns-in-Ok c =

@@ -1,6 +1,6 @@
 use Rattle.std.proofs.Common.{◌≡◌, ◌≤◌, ◌+◌, length, drop}
 use Rattle.journal_text.specs.TextOfJournal.{lines_shared}
-use Rattle.journal_text.proofs.reading.lines_shared.Given as goal
+use Rattle.journal_text.proofs.text_reader.lines_shared.Given as goal
 
 abbrev pub invariant-loop-index : goal.invariant-loop-index
 invariant-loop-index l = record {

@@ -4,7 +4,7 @@ use Rattle.journal_text.specs.Text.{entry_line}
 use Rattle.std.proofs.lemmas.Bool.{both_ways}
 use Rattle.place_plan.specs.WellFormed.{IsWellFormed}
 use Rattle.journal_text.proofs.ReadingLemmas.{no-entry}
-use Rattle.journal_text.proofs.reading.next_entry.Goals as goal
+use Rattle.journal_text.proofs.text_reader.next_entry.Goals as goal
 
 pub returns-then-not-is_well_formed : goal.returns-then-not-is_well_formed
 returns-then-not-is_well_formed c =

@@ -4,7 +4,7 @@ use Rattle.std.proofs.lemmas.Bool.{both_ways}
 use Rattle.journal_text.specs.Text.{seen_line}
 use Rattle.journal_text.specs.TextSteps.{MayCome}
 use Rattle.journal_text.proofs.ReadingLemmas.{no-seen}
-use Rattle.journal_text.proofs.reading.next_seen.Goals as goal
+use Rattle.journal_text.proofs.text_reader.next_seen.Goals as goal
 
 pub returns-then-not-may_stand : goal.returns-then-not-may_stand
 returns-then-not-may_stand c =

@@ -7,7 +7,7 @@ use Rattle.place_plan.specs.WellFormed.{IsWellFormed}
 use Rattle.journal_text.specs.Text.{entry_line}
 use Rattle.journal_text.specs.TextSteps.{EntryFound}
 use Rattle.journal_text.proofs.BadLines.{front-more}
-use Rattle.journal_text.proofs.reading.read_entries.Goals as goal
+use Rattle.journal_text.proofs.text_reader.read_entries.Goals as goal
 
 pub returns-then-len-limit-clause-stopped : goal.returns-then-len-limit-clause-stopped
 returns-then-len-limit-clause-stopped c =

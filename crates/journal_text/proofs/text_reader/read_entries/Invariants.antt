@@ -2,7 +2,7 @@ use Rattle.std.proofs.Common.{◌≡◌, ◌≤◌, ◌++◌, length}
 use Rattle.std.specs.List.{flat_map}
 use Rattle.place_plan.specs.WellFormed.{AllWellFormed}
 use Rattle.journal_text.specs.Text.{entry_line}
-use Rattle.journal_text.proofs.reading.read_entries.Given as goal
+use Rattle.journal_text.proofs.text_reader.read_entries.Given as goal
 
 abbrev pub decreases-loop-entries : goal.decreases-loop-entries
 decreases-loop-entries l = length l.rest

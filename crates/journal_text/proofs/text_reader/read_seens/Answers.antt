@@ -7,7 +7,7 @@ use Rattle.journal_text.specs.Text.{seen_line}
 use Rattle.journal_text.specs.TextSteps.{SeenFound}
 use Rattle.journal_text.proofs.LooksLemmas.{InOrderFrom-push}
 use Rattle.journal_text.proofs.BadLines.{front-more, last_watch-push}
-use Rattle.journal_text.proofs.reading.read_seens.Goals as goal
+use Rattle.journal_text.proofs.text_reader.read_seens.Goals as goal
 
 pub loop-seens-preserved : goal.loop-seens-preserved
 loop-seens-preserved c =

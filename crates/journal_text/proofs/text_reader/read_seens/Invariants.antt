@@ -2,7 +2,7 @@ use Rattle.std.proofs.Common.{◌≡◌, ◌++◌, length}
 use Rattle.std.specs.List.{flat_map}
 use Rattle.journal_text.specs.Looks.{AreInOrder, AreOfPlan, last_watch}
 use Rattle.journal_text.specs.Text.{seen_line}
-use Rattle.journal_text.proofs.reading.read_seens.Given as goal
+use Rattle.journal_text.proofs.text_reader.read_seens.Given as goal
 
 abbrev pub decreases-loop-seens : goal.decreases-loop-seens
 decreases-loop-seens l = length l.rest

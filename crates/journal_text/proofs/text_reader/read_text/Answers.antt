@@ -4,7 +4,7 @@ use Rattle.journal_text.specs.Text.{first_line, closing_lines, text_of}
 use Rattle.journal_text.specs.TextSteps.{EntriesRead, SeensRead, RefusesAfter}
 use Rattle.journal_text.proofs.ReadingLemmas.{Tells}
 use Rattle.journal_text.proofs.BadLines.{bad-first, bad-closing, bad-rest, good, nothing-left}
-use Rattle.journal_text.proofs.reading.read_text.Goals as goal
+use Rattle.journal_text.proofs.text_reader.read_text.Goals as goal
 
 pub returns-in_default : goal.returns-in_default
 returns-in_default c =

@@ -1,7 +1,7 @@
 use Rattle.std.proofs.Common.{◌∙◌, sym, true≢false, length}
 use Rattle.action_manager.specs.Managers.{plan_in}
 use Rattle.role_driver.proofs.Complete.{order_has_all, all_over}
-use Rattle.role_driver.proofs.closing.close_done.Goals as goal
+use Rattle.role_driver.proofs.all_seats.close_done.Goals as goal
 
 pub unreachable-requires : goal.unreachable-requires
 unreachable-requires g c =

@@ -5,7 +5,7 @@ use Rattle.action_manager.specs.Seats.{participant_of, seen_by}
 use Rattle.action_manager.proofs.Gathered.{all_more}
 use Rattle.role_driver.specs.Crew.{IsDone}
 use Rattle.role_driver.proofs.Complete.{moved_on, all_first}
-use Rattle.role_driver.proofs.closing.drive_each.Goals as goal
+use Rattle.role_driver.proofs.all_seats.drive_each.Goals as goal
 
 pub push_reserved-requires : goal.push_reserved-requires
 push_reserved-requires g c =

@@ -2,7 +2,7 @@ use Rattle.std.proofs.Common.{◌≡◌, ◌++◌, ◌+◌, length, map, All, ve
 use Rattle.action_manager.specs.Managers.{plan_in, IsSeatIn}
 use Rattle.action_manager.specs.Seats.{participant_of}
 use Rattle.role_driver.specs.Crew.{IsDone}
-use Rattle.role_driver.proofs.closing.drive_each.Given as goal
+use Rattle.role_driver.proofs.all_seats.drive_each.Given as goal
 
 abbrev pub invariant-loop-seat : goal.invariant-loop-seat
 invariant-loop-seat g l =
