@@ -1,3 +1,5 @@
+pub mod Boards
 pub mod Noted
+pub mod Publications
 pub mod RefusedNotes
 pub mod Telling

@@ -1,6 +1,7 @@
 //! What running threads may see without taking turns: the exception to which each place was resolved, and the notes of it.
 #![tactic(auto)]
 
+mod board;
 mod bulletin;
 mod cells;
 mod notes;
