@@ -1,51 +1,42 @@
 -- What the board that observers read shows, and what each of its readers knows of it.
-use Rattle.std.specs.Prelude.{◌≡◌, ℕ, ◌+◌, nat_lt, if◌then◌else◌, ◌%◌, ◌^◌, ℤ, List, [], ◌∷◌, ◌++◌, length, fold, Option, Some, None, slice_index_or, slice_set}
-use mathlib.Core.List.{IsPrefix}
+use Rattle.std.specs.Prelude.{◌≡◌, ℕ, ℤ, List, fold, Option, Some, None, IfSome, slice_index_or, slice_set}
 use mathlib.Core.Option.{some}
 use lib.ListN.{get_elem?}
-use Rattle.shared_views.specs.Publications.{Changes, last_given}
-use Rattle.shared_views.specs.declared.board.History.{History, Opening, After'}
+use Rattle.shared_views.specs.Publications.{Known, Begins, last_given}
+use Rattle.shared_views.specs.declared.board.Publication.{Publication}
 use Rattle.shared_views.specs.declared.board.Board.{Board}
 use Rattle.shared_views.specs.declared.board.View.{View}
 
--- the publications of a history, the first of them first
-abbrev pub told_in : History → List Changes
-told_in Opening = []
-told_in (After' mark before last) = told_in before ++ last.value.items ∷ []
-
--- what a board shows: the last value that each object was given, how often something was published, and the publications
+-- what a board shows: the last value that each object was given, and the publications
 abbrev pub Shown : Type 0
-Shown = List (Option ℤ) × (ℕ × List Changes)
+Shown = List (Option ℤ) × Known
 
 abbrev pub shown : Board → Shown
-shown b = (b.given.items, (b.ends, told_in b.history))
+shown b = (b.given.items, b.publications)
 
 -- a row of values, after one change
 abbrev pub row_after : List (Option ℤ) → ℕ × ℤ → List (Option ℤ)
 row_after row change = slice_set row change.0 (Some change.1)
 
 -- what a board shows after one publication more
-abbrev pub shown_after : Shown → Changes → Shown
-shown_after s changes = (fold row_after s.0 changes, ((s.1.0 + 1) % 2 ^ 64, s.1.1 ++ changes ∷ []))
+abbrev pub shown_after : Shown → Publication → Shown
+shown_after s p = (fold row_after s.0 p.changes.items, p.publications)
 
--- the board counts its publications, and has the last value that they give each object
-pub record IsRight (b : Board) : Type 0 where
-  pub counted : b.ends ≡ length (told_in b.history)
-  pub given : (o : ℕ) → slice_index_or b.given.items o None ≡ last_given o (told_in b.history)
+-- the board has the last value that its publications give each object
+abbrev pub IsRight : Board → Type 0
+IsRight b = (o : ℕ) → slice_index_or b.given.items o None ≡ last_given o b.publications.list
 
--- the board is right, and its publications begin with those that each reader has seen, and with those that it was told of
+-- what a reader knows of, if anything, begins what the board shows
+abbrev pub Fits : Known → View → Type 0
+Fits all v = IfSome v.known (λ k. Begins k all)
+
+-- the board is right, and shows all that any reader knows of
 pub record Keeps (b : Board) (views : List View) : Type 0 where
   pub right : IsRight b
-  pub each : (seat : ℕ) (v : View) → get_elem? views seat ≡ some v → IsPrefix v.seen (told_in b.history) × IsPrefix v.told (told_in b.history)
+  pub each : (seat : ℕ) (v : View) → get_elem? views seat ≡ some v → Fits b.publications v
 
--- what is seen is what the board shows afterwards, which is right. It begins with what was seen before, and with what was told
+-- afterwards the board is right, and it is known what it shows. That goes on from what was known
 pub record Sees (v : View) (before after : Board) (w : View) : Type 0 where
   pub right : IsRight after
-  pub all : w.seen ≡ told_in after.history
-  pub seen : IsPrefix v.seen w.seen
-  pub told : IsPrefix v.told w.seen
-  pub same : w.told ≡ v.told
-
--- the longer of two lists of publications
-abbrev pub longer : List Changes → List Changes → List Changes
-longer one other = if nat_lt (length one) (length other) then other else one
+  pub all : w.known ≡ Some after.publications
+  pub more : Fits after.publications v

@@ -1,4 +1,5 @@
 pub mod Boards
+pub mod Chronicles
 pub mod Noted
 pub mod Publications
 pub mod RefusedNotes

@@ -1,52 +1,50 @@
 //! What observers read while the writer goes on, and the rule by which they read it.
-ghost use Rattle.std.specs.Prelude.{◌≡◌, [], fold, replicate, IfOk, None};
+ghost use Rattle.std.specs.Prelude.{◌≡◌, fold, replicate, IfOk, None};
 ghost use Rattle.shared_views.specs.Boards.{row_after};
 
+use crate::publications::Publications;
 use atomic_table::{Join, Split};
 use caa_base::entry::{Object, OutOfMemory};
 use crossbeam_utils::rule::{Outcome, Protocol};
 use left_right::Absorb;
 use std::alloc::{AllocError, Global};
-use std::snapshot::Snapshot;
 
-/// The publications so far, the newest outermost. Only clauses read what the snapshots keep.
-#[derive(Drop)]
-pub enum History {
-    Opening,
-    After(Snapshot<History>, Snapshot<Vec<(Object, i64)>>),
-}
-
-/// How often something was published, and the last value that each object was given, if it was given one.
+/// The last value that each object was given, if it was given one, and the publications that gave them.
 #[derive(Drop)]
 pub struct Board {
-    pub ends: u64,
-    pub given: Vec<Option<i64>>,
-    pub history: History,
+    pub(crate) given: Vec<Option<i64>>,
+    pub(crate) publications: Publications,
 }
 
-/// The publications that a reader has seen, and those that it was told of. No value of it is made.
+/// One publication, and all of them up to it.
+#[derive(Drop)]
+pub struct Publication {
+    pub(crate) changes: Vec<(Object, i64)>,
+    pub(crate) publications: Publications,
+}
+
+/// The publications that a reader knows of, if any. No value of it is made.
 pub struct View {
-    pub seen: [[(Object, i64); 0]; 0],
-    pub told: [[(Object, i64); 0]; 0],
+    pub known: Option<Publications>,
 }
 
 impl Board {
-    ghost use Rattle.shared_views.specs.Boards.{told_in};
-
     /// A board of this many objects, on which nothing was published.
-    pub fn blank(alloc: Global, objects: u32) -> Result<Board, OutOfMemory>
+    pub(crate) fn blank(
+        alloc: Global,
+        objects: u32,
+        publications: Publications,
+    ) -> Result<Board, OutOfMemory>
         ensures given { IfOk result (λ b. b.given.items ≡ replicate objects None) }
-        ensures ends { IfOk result (λ b. b.ends ≡ 0) }
-        ensures history { IfOk result (λ b. told_in b.history ≡ []) }
+        ensures publications { IfOk result (λ b. b.publications ≡ publications) }
     {
         let mut given = Vec::new(alloc);
         for _ in 0..objects {
             given.push(None)?;
         }
         Ok(Board {
-            ends: 0,
             given,
-            history: History::Opening,
+            publications,
         })
     }
 }
@@ -63,26 +61,20 @@ fn give(given: &mut Vec<Option<i64>>, changes: &[(Object, i64)])
     }
 }
 
-impl Absorb<Vec<(Object, i64)>> for Board {
+impl Absorb<Publication> for Board {
     ghost use Rattle.shared_views.specs.Boards.{shown, shown_after};
 
-    type State = ([Option<i64>; 0], (u64, [[(Object, i64); 0]; 0]));
+    type State = ([Option<i64>; 0], Publications);
 
     ghost state = { shown };
 
-    ghost applied = { λ s changes. shown_after s changes.items };
+    ghost applied = { shown_after };
 
     ghost never_fails = { Unit {0} };
 
-    fn absorb_first(
-        &mut self,
-        operation: &Vec<(Object, i64)>,
-        _other: &Board,
-    ) -> Result<(), AllocError> {
-        give(&mut self.given, operation);
-        self.ends = self.ends.wrapping_add(1);
-        let before = Snapshot::of(&self.history);
-        self.history = History::After(before, Snapshot::of(operation));
+    fn absorb_first(&mut self, operation: &Publication, _other: &Board) -> Result<(), AllocError> {
+        give(&mut self.given, &operation.changes);
+        self.publications = operation.publications.again();
         Ok(())
     }
 }
@@ -91,11 +83,12 @@ impl Absorb<Vec<(Object, i64)>> for Board {
 pub struct Published;
 
 impl Protocol<Board, View> for Published {
+    ghost use Rattle.std.specs.Prelude.{None};
     ghost use Rattle.shared_views.specs.Boards.{Keeps};
 
     ghost holds = { Keeps };
 
-    ghost first = { record { seen = []; told = [] } };
+    ghost first = { record { known = None } };
 }
 
 /// What a reader sees, and what the writer shows.
@@ -107,22 +100,19 @@ impl Outcome<Board, View> for Looks {
     ghost then = { Sees };
 }
 
-/// What the writer tells.
-pub struct Word;
+/// What the writer tells a new reader.
+pub struct Tells;
 
-impl Split<View> for Word {
+impl Split<View> for Tells {
     ghost left = { λ v. v };
 
     ghost right = { λ v. v };
 }
 
-/// What a reader knows that was told.
-pub struct Informed;
+impl Join<View> for Tells {
+    ghost use Rattle.std.specs.Prelude.{None};
 
-impl Join<View> for Informed {
-    ghost use Rattle.shared_views.specs.Boards.{longer};
+    ghost both = { λ v w. w };
 
-    ghost both = { λ v w. record { seen = v.seen; told = longer v.told w.seen } };
-
-    ghost spent = { record { seen = []; told = [] } };
+    ghost spent = { record { known = None } };
 }

@@ -5,10 +5,12 @@ mod board;
 mod bulletin;
 mod cells;
 mod notes;
+mod publications;
 
 pub use bulletin::{Bulletin, Told};
 pub use cells::{Announcer, ResolutionCells};
 pub use notes::{NoteRefused, PlaceNote};
+pub use publications::Publications;
 
 #[cfg(test)]
 mod tests;
