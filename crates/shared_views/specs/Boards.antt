@@ -1,5 +1,5 @@
 -- What the board that observers read shows, and what each of its readers knows of it.
-use Rattle.std.specs.Prelude.{◌≡◌, ℕ, ℤ, List, fold, Option, Some, None, IfSome, slice_index_or, slice_set}
+use Rattle.std.specs.Prelude.{◌≡◌, ◌<◌, ℕ, ℤ, All, List, [], ◌∷◌, ◌++◌, length, fold, Option, Some, None, IfSome, slice_index_or, slice_set}
 use mathlib.Core.Option.{some}
 use lib.ListN.{get_elem?}
 use Rattle.shared_views.specs.Publications.{Known, Begins, last_given}
@@ -40,3 +40,9 @@ pub record Sees (v : View) (before after : Board) (w : View) : Type 0 where
   pub right : IsRight after
   pub all : w.known ≡ Some after.publications
   pub more : Fits after.publications v
+
+-- the publication is of objects that the board has, and goes on from what it shows
+pub record Follows (b : Board) (p : Publication) : Type 0 where
+  pub low : All (λ c. c.0 < length b.given.items) p.changes.items
+  pub book : p.publications.book ≡ b.publications.book
+  pub more : p.publications.list ≡ b.publications.list ++ p.changes.items ∷ []

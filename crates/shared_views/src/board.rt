@@ -1,8 +1,9 @@
 //! What observers read while the writer goes on, and the rule by which they read it.
-ghost use Rattle.std.specs.Prelude.{◌≡◌, fold, replicate, IfOk, None};
+ghost use Rattle.std.specs.Prelude.{◌≡◌, ◌<◌, fold, length, replicate, IfOk, None};
 ghost use Rattle.shared_views.specs.Boards.{row_after};
 
 use crate::publications::Publications;
+use crate::reading::Reading;
 use atomic_table::{Join, Split};
 use caa_base::entry::{Object, OutOfMemory};
 use crossbeam_utils::rule::{Outcome, Protocol};
@@ -29,6 +30,9 @@ pub struct View {
 }
 
 impl Board {
+    ghost use Rattle.shared_views.specs.Boards.{IsRight};
+    ghost use Rattle.shared_views.specs.Committing.{IsReading};
+
     /// A board of this many objects, on which nothing was published.
     pub(crate) fn blank(
         alloc: Global,
@@ -46,6 +50,23 @@ impl Board {
             given,
             publications,
         })
+    }
+
+    /// The value of an object after all publications on it.
+    pub(crate) fn reading(&self, object: Object, initials: &[i64]) -> Reading
+        requires object { object < length initials.now }
+        requires right { IsRight self.now }
+        ensures { IsReading initials.now self.now.publications object result }
+    {
+        let initial = initials[object as usize];
+        let given = match self.given.get(object as usize) {
+            Some(given) => *given,
+            None => None,
+        };
+        Reading {
+            ends: self.publications.ends(),
+            value: given.unwrap_or(initial),
+        }
     }
 }
 

@@ -4,13 +4,19 @@
 mod board;
 mod bulletin;
 mod cells;
+mod committed;
 mod notes;
+mod observer;
 mod publications;
+mod reading;
 
 pub use bulletin::{Bulletin, Told};
 pub use cells::{Announcer, ResolutionCells};
+pub use committed::{CommittedWriter, PublishError};
 pub use notes::{NoteRefused, PlaceNote};
+pub use observer::Observer;
 pub use publications::Publications;
+pub use reading::{ReadRefused, Reading};
 
 #[cfg(test)]
 mod tests;

@@ -1,4 +1,4 @@
-ghost use Rattle.std.specs.Prelude.{◌≡◌, ◌⊎◌, ◌≤◌, [], ◌∷◌, ◌++◌, length, MatchBool};
+ghost use Rattle.std.specs.Prelude.{◌≡◌, nat_lt, if◌then◌else◌, [], ◌∷◌, ◌++◌, length, MatchBool};
 ghost use mathlib.Core.List.{IsPrefix};
 ghost use Rattle.shared_views.specs.Chronicles.{head_of};
 ghost use Rattle.shared_views.specs.Publications.{Begins};
@@ -111,7 +111,7 @@ impl Publications {
         requires book { other.now.book ≡ self.now.book }
         ensures this { Begins self.now result }
         ensures that { Begins other.now result }
-        ensures one { (result ≡ self.now) ⊎ (result ≡ other.now) }
+        ensures one { result ≡ (if nat_lt (length self.now.list) (length other.now.list) then other.now else self.now) }
     {
         let mut both = self.reached.again();
         both.learn(&other.reached);
