@@ -1,5 +1,5 @@
 -- Each step on the board keeps its rule, and a publication leaves it right.
-use Rattle.std.proofs.Common.{◌≡◌, ◌≢◌, ℕ, zero, suc, suc-le-suc, ◌<◌, ◌==◌, ℤ, Bool, true, false, List, [], ◌∷◌, ◌++◌, length, set, get_or, fold, All, Option, Some, None, IfSome, if◌then◌else◌, refl, sym, ap, ◌∙◌, subst, inl, inr, ⊎_elim, arith, length-set, get_or-set_other, get_or-set_same}
+use Rattle.std.proofs.Common.{◌≡◌, ◌≢◌, ℕ, zero, suc, suc-le-suc, ◌<◌, ◌==◌, ℤ, Bool, true, false, List, [], ◌∷◌, ◌++◌, length, set, get_or, fold, All, Option, Some, None, IfSome, if◌then◌else◌, refl, sym, ap, ◌∙◌, subst, inl, inr, ⊎_elim, arith, length-set, get_or-set_other, get_or-set_same, replicate, Result, Ok, Err, IsOk, MatchResult, true≢false}
 use Rattle.std.proofs.lemmas.Bool.{cases_order}
 use Rattle.std.proofs.lemmas.Bool.Decides.{nat_tests}
 use Rattle.std.proofs.lemmas.List.Sums.{fold-append}
@@ -8,7 +8,7 @@ use lib.ListN.{get_elem?}
 use Rattle.crossbeam_utils.specs.Register.{Admits, TurnsAt, Forks, Merges}
 use Rattle.atomic_table.proofs.Lists.{at_set, at_snoc}
 use Rattle.shared_views.specs.Publications.{Changes, Known, Begins, given_after, last_given}
-use Rattle.shared_views.specs.Boards.{shown, row_after, shown_after, IsRight, Fits, Keeps, Sees}
+use Rattle.shared_views.specs.Boards.{shown, row_after, shown_after, IsRight, Fits, Keeps, Sees, Follows}
 use Rattle.shared_views.specs.declared.board.Board.{Board}
 use Rattle.shared_views.specs.declared.board.Publication.{Publication}
 use Rattle.shared_views.specs.declared.board.View.{View}
@@ -114,3 +114,29 @@ publishes n x y p right wide low more is =
 -- nothing was published
 pub same_right : (x y : Board) → IsRight x → shown y ≡ shown x → IsRight y
 same_right x y right is o = ap (λ s. get_or s.0 o None) is ∙ (right o ∙ sym (ap (λ s. last_given o s.1.list) is))
+
+-- nothing was published
+pub stays : (seat : ℕ) (v : View) (x y : Board) → IsRight x → shown y ≡ shown x → TurnsAt Keeps seat v x y Sees
+stays seat v x y right is = moves seat v x y (same_right x y right is) (subst (Begins x.publications) (sym (ap (λ s. s.1) is)) (known_itself x.publications))
+
+-- what waits to be shown is one publication
+pub shows_next : (x y : Board) (p : Publication) (waiting : List Publication) → IsRight x → waiting ≡ p ∷ [] → Follows x p → shown y ≡ fold shown_after (shown x) waiting → Publishes x y p
+shows_next x y p waiting right one f is = publishes (length x.given.items) x y p right refl f.low f.more (is ∙ ap (fold shown_after (shown x)) one)
+
+pub goes_on : (seat : ℕ) (v : View) (x y : Board) (p : Publication) → Follows x p → Publishes x y p → TurnsAt Keeps seat v x y Sees
+goes_on seat v x y p f b =
+    let begins : Begins x.publications p.publications = record { book = f.book; list = (p.changes.items ∷ [], sym f.more) } in
+    moves seat v x y b.right (subst (Begins x.publications) (sym b.all) begins)
+
+like_all : (n o : ℕ) (x : Option ℤ) → get_or (replicate n x) o x ≡ x
+like_all zero o x = refl
+like_all (suc n) zero x = refl
+like_all (suc n) (suc o) x = like_all n o x
+
+-- a board on which nothing was published is right
+pub blank_right : (b : Board) (n : ℕ) → b.given.items ≡ replicate n None → b.publications.list ≡ [] → IsRight b
+blank_right b n row none o = ap (λ r. get_or r o None) row ∙ (like_all n o None ∙ sym (ap (last_given o) none))
+
+pub ok_part : {X Y : Type 0} (r : Result X Y) (f : X → Type 0) (h : Y → Type 0) → IsOk r → MatchResult r f h → (x : X) × f x
+ok_part (Ok x) f h ok m = (x, m)
+ok_part (Err y) f h ok m = absurd (true≢false (sym ok))

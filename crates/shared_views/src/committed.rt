@@ -95,14 +95,155 @@ fn seat_all(writer: &mut BoardWriter, observers: &mut Vec<Observer>)
 }
 
 /// Shows observers what waits to be shown, which is one publication.
-fn show<R: Wait>(writer: BoardWriter, rt: &R) -> (BoardWriter, Result<(), AllocError>)
+fn show<R: Wait>(writer: BoardWriter, rt: &R) -> (BoardWriter, ())
     requires right { IsRight writer.desk.shown.value }
     requires waits { (p : _) × (drop writer.behind writer.log.items ≡ p ∷ []) × Follows writer.desk.shown.value p }
-    ensures shown { IsOk result.1 }
     ensures right { IsRight result.0.desk.shown.value }
     ensures wide { length result.0.desk.shown.value.given.items ≡ length writer.desk.shown.value.given.items }
     ensures publications { (p : _) → drop writer.behind writer.log.items ≡ p ∷ [] → result.0.desk.shown.value.publications ≡ p.publications }
     ensures idle { drop result.0.behind result.0.log.items ≡ [] }
 {
-    writer.publish_as::<Looks, R>(rt)
+    let (writer, _shown) = writer.publish_as::<Looks, R>(rt);
+    (writer, ())
+}
+
+impl CommittedWriter {
+    ghost use Rattle.std.specs.Prelude.{◌↔◌, IsTrue, is_err, Err};
+    ghost use Rattle.shared_views.specs.declared.committed.PublishError.TheVariants.{Stale};
+
+    /// A writer that has published nothing, and so many observers.
+    ///
+    /// An observer to which `left_right` gave no place is refused each reading.
+    pub fn open<R: Wait>(
+        rt: &R,
+        alloc: Global,
+        plan: &Plan,
+        observers: u32,
+    ) -> Result<(CommittedWriter, Vec<Observer>), OutOfMemory>
+        ensures initials { IfOk result (λ r. r.0.initials ≡ initials_of plan.now) }
+        ensures none { IfOk result (λ r. r.0.publications.list ≡ []) }
+        ensures fresh { IfOk result (λ r. r.0.is_stale ≡ false) }
+        ensures observers { IfOk result (λ r. r.1.items ≡ replicate observers (watching r.0)) }
+    {
+        let initials = initials_of(alloc, plan)?;
+        let (publications, head) = Publications::none();
+        let mut seats = Observer::all_apart(alloc, &initials, &publications, observers)?;
+        let mut writer = showing(rt, alloc, plan.objects(), &publications, observers)?;
+        seat_all(&mut writer, &mut seats);
+        let committed = CommittedWriter {
+            writer,
+            head,
+            initials,
+            stale: false,
+        };
+        Ok((committed, seats))
+    }
+
+    /// Publishes these changes, which observers see all at one step.
+    ///
+    /// Where it finds no memory, the view is stale, and nothing is published any more.
+    pub fn publish<R: Wait>(
+        &mut self,
+        rt: &R,
+        alloc: Global,
+        changes: &[(Object, i64)],
+    ) -> Result<(), PublishError>
+        requires objects { All (λ c. c.0 < length self.old.initials) changes.now }
+        ensures initials { self.new.initials ≡ self.old.initials }
+        ensures book { self.new.publications.book ≡ self.old.publications.book }
+        ensures published { MatchResult result (λ _. self.new.publications.list ≡ self.old.publications.list ++ changes.now ∷ []) (λ _. self.new.publications ≡ self.old.publications) }
+        ensures marked { self.new.is_stale ≡ is_err result }
+        ensures stale { (result ≡ Err Stale) ↔ IsTrue self.old.is_stale }
+    {
+        if self.stale {
+            return Err(PublishError::Stale);
+        }
+        match self.add(rt, alloc, changes) {
+            Ok(()) => Ok(()),
+            Err(OutOfMemory) => {
+                self.stale = true;
+                Err(PublishError::OutOfMemory)
+            }
+        }
+    }
+
+    /// Adds a publication of these changes, and shows it.
+    fn add<R: Wait>(
+        &mut self,
+        rt: &R,
+        alloc: Global,
+        changes: &[(Object, i64)],
+    ) -> Result<(), OutOfMemory>
+        requires objects { All (λ c. c.0 < length self.old.initials) changes.now }
+        requires fresh { self.old.is_stale ≡ false }
+        ensures initials { self.new.initials ≡ self.old.initials }
+        ensures fresh { self.new.is_stale ≡ false }
+        ensures book { self.new.publications.book ≡ self.old.publications.book }
+        ensures added { MatchResult result (λ _. self.new.publications.list ≡ self.old.publications.list ++ changes.now ∷ []) (λ _. self.new.publications ≡ self.old.publications) }
+    {
+        let publication = self.prepared(alloc, changes)?;
+        match self.writer.append(publication) {
+            Ok(()) => {
+                replace_with(&mut self.writer, rt, show);
+                Ok(())
+            }
+            Err(_refused) => Err(OutOfMemory),
+        }
+    }
+
+    /// A publication of these changes, which goes on from what was published.
+    fn prepared(
+        &self,
+        alloc: Global,
+        changes: &[(Object, i64)],
+    ) -> Result<Publication, OutOfMemory>
+        ensures changes { IfOk result (λ p. p.changes.items ≡ changes.now) }
+        ensures book { IfOk result (λ p. p.publications.book ≡ self.now.publications.book) }
+        ensures more { IfOk result (λ p. p.publications.list ≡ self.now.publications.list ++ changes.now ∷ []) }
+    {
+        let mut list = Vec::new(alloc);
+        list.extend_from_slice(changes)?;
+        let mut publications = self.writer.published().publications.again();
+        if !publications.add(&self.head, &list) {
+            return Err(OutOfMemory);
+        }
+        Ok(Publication {
+            changes: list,
+            publications,
+        })
+    }
+
+    /// Tells an observer what was published.
+    pub fn tell(&mut self) -> Publications
+        ensures same { self.new ≡ self.old }
+        ensures told { result ≡ self.old.publications }
+    {
+        self.writer.published().publications.again()
+    }
+
+    /// The value of an object after all publications.
+    pub fn last(&self, object: Object) -> Reading
+        requires { object < length self.now.initials }
+        ensures { IsReading self.now.initials self.now.publications object result }
+    {
+        self.writer.published().reading(object, &self.initials)
+    }
+
+    /// Whether an earlier publication found no memory.
+    pub fn is_stale(&self) -> bool
+        ensures { result ≡ self.now.is_stale }
+    {
+        self.stale
+    }
+
+    /// Ends the writer. It waits for readings that are under way. Afterwards its observers may be refused.
+    pub fn end<R: Wait>(self, rt: &R) {
+        let CommittedWriter {
+            writer,
+            head: _head,
+            initials: _initials,
+            stale: _,
+        } = self;
+        drop(writer.take(rt));
+    }
 }
