@@ -1,5 +1,5 @@
 -- The writer and the readers of the board, as their owners keep them.
-use Rattle.std.specs.Prelude.{◌≡◌, ◌∷◌, [], false, List, length, drop, Option, Some, None, IfSome}
+use Rattle.std.specs.Prelude.{◌≡◌, [], false, length, drop, Option, Some, None, IfSome}
 use Rattle.logbook.specs.Pages.{Book}
 use Rattle.left_right.specs.Sides.{view}
 use Rattle.shared_views.specs.Publications.{Known}

@@ -1,4 +1,4 @@
-use Rattle.std.proofs.Common.{◌≡◌, ◌∙◌, ap, fold, replicate, List, [], None}
+use Rattle.std.proofs.Common.{◌≡◌, ◌∙◌, ap, fold, replicate, [], None}
 use Rattle.shared_views.specs.Boards.{shown, shown_after}
 use Rattle.shared_views.specs.declared.board.Board.{Board}
 use Rattle.shared_views.proofs.BoardSteps.{blank_right, stays}

@@ -1,6 +1,6 @@
-use Rattle.std.proofs.Common.{◌≤◌, ◌∙◌, ap, sym, subst, arith, length, List}
+use Rattle.std.proofs.Common.{◌≤◌, ap, sym, subst, arith, length, List}
 use mathlib.Core.List.{IsPrefix}
-use Rattle.shared_views.specs.Publications.{Changes, Known, Begins}
+use Rattle.shared_views.specs.Publications.{Changes, Begins}
 use Rattle.shared_views.proofs.Beginnings.{shorter_begins}
 use Rattle.shared_views.proofs.publications.Publications.longer.Goals as goal
 
