@@ -42,8 +42,7 @@ admits x views k = record {
 pub moves : (seat : ℕ) (v : View) (x y : Board) → IsRight y → Begins x.publications y.publications → TurnsAt Keeps seat v x y Sees
 moves seat v x y right more views k at =
     let all : Known = y.publications in
-    let w : View = record { known = Some all } in
-    (
+    let w : View = record { known = Some all } in (
       w,
       record { right = right; each = each_fits x.publications all views seat w more (known_itself all) k.each },
       record { right = right; all = refl; more = some_on x.publications all v.known more (k.each seat v at) },

@@ -40,5 +40,5 @@ pub adds_moves : (v : List Changes) (e : Changes) (old : ℕ) → length v ≡ o
     → Moves IsCounted (λ l. []) (λ xs ys (n : ℕ). Unit {0}) 0 (v, (no_nib, None)) (λ n. either (n == old) (old + 1) n) (Adds (step 0 old (old + 1) e) (v, (no_nib, None)))
 adds_moves v e old len cs list kept pre away =
     let P : List Cell → Type 0 = λ c. (0 < length c) × ((cell c 0).1 ≡ true)
-            × Goes IsCounted (λ l. []) (λ xs ys (n : ℕ). Unit {0}) 0 (v, (no_nib, None)) (λ n. either (n == old) (old + 1) n) (Adds (step 0 old (old + 1) e) (v, (no_nib, None))) c list in
+    × Goes IsCounted (λ l. []) (λ xs ys (n : ℕ). Unit {0}) 0 (v, (no_nib, None)) (λ n. either (n == old) (old + 1) n) (Adds (step 0 old (old + 1) e) (v, (no_nib, None))) c list in
     subst P (sym kept) (omega arith, refl, adds_goes list v e old len pre (length list == old) refl)

@@ -8,11 +8,11 @@ use crate::observer::{BoardWriter, Observer};
 use crate::publications::{Head, Publications};
 use crate::reading::Reading;
 use caa_base::entry::{Object, OutOfMemory};
+use core::mem::replace_with;
 use left_right::writer::Writer;
 use place_plan::plan::Plan;
 use std::alloc::{AllocError, Global};
 use std::marker::Model;
-use core::mem::replace_with;
 use std::sync::Wait;
 use thiserror::Error;
 
@@ -76,7 +76,11 @@ fn showing<R: Wait>(
 {
     let first = Board::blank(alloc, objects, publications.again())?;
     let second = Board::blank(alloc, objects, publications.again())?;
-    let places = if observers == 0 { 1 } else { observers as usize };
+    let places = if observers == 0 {
+        1
+    } else {
+        observers as usize
+    };
     let writer = Writer::new(alloc, first, second, places)?;
     let (writer, _shown) = writer.publish_as::<Looks, R>(rt);
     Ok(writer)
@@ -192,11 +196,7 @@ impl CommittedWriter {
     }
 
     /// A publication of these changes, which goes on from what was published.
-    fn prepared(
-        &self,
-        alloc: Global,
-        changes: &[(Object, i64)],
-    ) -> Result<Publication, OutOfMemory>
+    fn prepared(&self, alloc: Global, changes: &[(Object, i64)]) -> Result<Publication, OutOfMemory>
         ensures changes { IfOk result (λ p. p.changes.items ≡ changes.now) }
         ensures book { IfOk result (λ p. p.publications.book ≡ self.now.publications.book) }
         ensures more { IfOk result (λ p. p.publications.list ≡ self.now.publications.list ++ changes.now ∷ []) }
@@ -246,4 +246,13 @@ impl CommittedWriter {
         } = self;
         drop(writer.take(rt));
     }
+}
+
+fn may_cross<T: Send>(_x: &T) {}
+
+/// A writer, an observer and what the one tells the other may go to another thread.
+pub fn crosses_threads(writer: &CommittedWriter, observer: &Observer, publications: &Publications) {
+    may_cross(writer);
+    may_cross(observer);
+    may_cross(publications);
 }

@@ -6,7 +6,7 @@ pub struct Reading {
 }
 
 /// No reading was had: `left_right` gave the observer no place, or didn't let it enter. This crate alone makes one.
-#[derive(Debug, PartialEq, Eq)]
+#[derive(Debug, Drop, PartialEq, Eq)]
 pub struct ReadRefused {
     seal: (),
 }
