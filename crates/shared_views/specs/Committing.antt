@@ -1,5 +1,5 @@
 -- What contracts see of a committed writer and of its observers.
-use Rattle.std.specs.Prelude.{◌≡◌, ℕ, ℤ, Bool, List, length, map}
+use Rattle.std.specs.Prelude.{◌≡◌, ◌≤◌, ℕ, ℤ, Bool, List, length, map, take}
 use Rattle.place_plan.specs.PlanValue.{Plan}
 use Rattle.shared_views.specs.Publications.{Known, value_after}
 use Rattle.shared_views.specs.declared.reading.Reading.{Reading}
@@ -27,3 +27,8 @@ watching w = record { initials = w.initials; known = w.publications }
 pub record IsReading (initials : List ℤ) (all : Known) (o : ℕ) (r : Reading) : Type 0 where
   pub ends : r.ends ≡ length all.list
   pub value : r.value ≡ value_after initials all.list o
+
+-- the reading is of the first so many of these publications
+pub record WasRead (initials : List ℤ) (all : Known) (o : ℕ) (r : Reading) : Type 0 where
+  pub ends : r.ends ≤ length all.list
+  pub value : r.value ≡ value_after initials (take r.ends all.list) o

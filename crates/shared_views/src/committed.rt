@@ -76,11 +76,7 @@ fn showing<R: Wait>(
 {
     let first = Board::blank(alloc, objects, publications.again())?;
     let second = Board::blank(alloc, objects, publications.again())?;
-    let places = if observers == 0 {
-        1
-    } else {
-        observers as usize
-    };
+    let places = observers.max(1) as usize;
     let writer = Writer::new(alloc, first, second, places)?;
     let (writer, _shown) = writer.publish_as::<Looks, R>(rt);
     Ok(writer)

@@ -16,7 +16,7 @@ pub use committed::{CommittedWriter, PublishError};
 pub use notes::{NoteRefused, PlaceNote};
 pub use observer::Observer;
 pub use publications::Publications;
-pub use reading::{ReadRefused, Reading};
+pub use reading::{ReadRefused, Reading, reading_stands};
 
 #[cfg(test)]
 mod tests;
