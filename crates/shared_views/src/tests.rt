@@ -69,7 +69,7 @@ fn readings<R: Wait>(
 }
 
 #[test]
-fn observer_reads_what_was_published(rt: HostRuntime) -> Result<(), Fail> {
+fn observer_reads(rt: HostRuntime) -> Result<(), Fail> {
     let alloc = rt.alloc();
     let plan = two_objects(alloc)?;
     assert_eq!(rt; plan.objects(), 2);
