@@ -3,7 +3,7 @@ use Rattle.std.proofs.Common.{◌≡◌, ◌∙◌, ℕ, ◌≤◌, ℤ, List, �
 use Rattle.std.proofs.lemmas.List.{take_all, take-append-le}
 use Rattle.shared_views.specs.Publications.{Changes, Known, Begins, value_after}
 use Rattle.shared_views.specs.Committing.{IsReading, WasRead}
-use Rattle.shared_views.specs.declared.reading.Reading.{Reading}
+use Rattle.shared_views.specs.declared.observed.Reading.{Reading}
 use Rattle.shared_views.proofs.Beginnings.{beginning_length}
 
 pub was_read : (initials : List ℤ) (all : Known) (o : ℕ) (r : Reading) → IsReading initials all o r → WasRead initials all o r

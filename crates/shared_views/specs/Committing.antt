@@ -2,7 +2,7 @@
 use Rattle.std.specs.Prelude.{◌≡◌, ◌≤◌, ℕ, ℤ, Bool, List, length, map, take}
 use Rattle.place_plan.specs.PlanValue.{Plan}
 use Rattle.shared_views.specs.Publications.{Known, value_after}
-use Rattle.shared_views.specs.declared.reading.Reading.{Reading}
+use Rattle.shared_views.specs.declared.observed.Reading.{Reading}
 
 -- the initial value of each object
 abbrev pub initials_of : Plan → List ℤ

@@ -2,8 +2,8 @@
 ghost use Rattle.std.specs.Prelude.{◌≡◌, ◌<◌, fold, length, replicate, IfOk, None};
 ghost use Rattle.shared_views.specs.Boards.{row_after};
 
+use crate::observed::Reading;
 use crate::publications::Publications;
-use crate::reading::Reading;
 use atomic_table::{Join, Split};
 use caa_base::entry::{Object, OutOfMemory};
 use crossbeam_utils::rule::{Outcome, Protocol};

@@ -4,9 +4,9 @@ ghost use Rattle.shared_views.specs.Boards.{IsRight, Follows};
 ghost use Rattle.shared_views.specs.Committing.{Committed, initials_of, watching, IsReading};
 
 use crate::board::{Board, Looks, Publication};
+use crate::observed::Reading;
 use crate::observer::{BoardWriter, Observer};
 use crate::publications::{Head, Publications};
-use crate::reading::Reading;
 use caa_base::entry::{Object, OutOfMemory};
 use core::mem::replace_with;
 use left_right::writer::Writer;

@@ -1,11 +1,12 @@
-ghost use Rattle.std.specs.Prelude.{◌≡◌, ◌<◌, ◌⊎◌, length, replicate, Some, IfOk, IfErr};
+ghost use Rattle.std.specs.Prelude.{◌≡◌, ◌<◌, ◌⊎◌, length, replicate, Some, IfSome, IfNone, IfOk, IfErr};
 ghost use Rattle.left_right.specs.Sides.{view};
+ghost use Rattle.shared_views.specs.Boards.{IsRight};
 ghost use Rattle.shared_views.specs.Publications.{Begins};
 ghost use Rattle.shared_views.specs.Committing.{Watching, IsReading};
 
 use crate::board::{Board, Looks, Publication, Published, Tells, View};
+use crate::observed::{ReadRefused, Reading};
 use crate::publications::Publications;
-use crate::reading::{ReadRefused, Reading};
 use caa_base::entry::{Object, OutOfMemory};
 use left_right::reader::Reader;
 use left_right::writer::Writer;
@@ -104,17 +105,26 @@ impl Observer {
                 return Err(ReadRefused::new());
             }
         };
-        let board = reading.get();
-        let is_older = board.publications.ends() < self.known.ends();
-        let found = board.reading(object, &self.initials);
-        if !is_older {
-            self.known = board.publications.longer(&self.known);
-        }
+        let found = self.look_at(reading.get(), object);
         self.reader = Some(reading.leave());
-        if is_older {
-            return Err(ReadRefused::new());
+        found.ok_or_else(ReadRefused::new)
+    }
+
+    /// The value of an object on this board, unless the board is older than what the observer knows of.
+    fn look_at(&mut self, board: &Board, object: Object) -> Option<Reading>
+        requires object { object < length self.old.initials }
+        requires right { IsRight board.now }
+        requires book { board.now.publications.book ≡ self.old.known.book }
+        ensures initials { self.new.initials ≡ self.old.initials }
+        ensures known { Begins self.old.known self.new.known }
+        ensures some { IfSome result (λ r. IsReading self.new.initials self.new.known object r) }
+        ensures none { IfNone result (self.new ≡ self.old) }
+    {
+        if board.publications.ends() < self.known.ends() {
+            return None;
         }
-        Ok(found)
+        self.known = board.publications.longer(&self.known);
+        Some(board.reading(object, &self.initials))
     }
 
     /// Learns what its writer told. From then on it reads no fewer publications.
