@@ -1,5 +1,5 @@
 -- The numbers in what an accepted script declares are in range, however much is declared later.
-use Rattle.std.proofs.Common.{◌≡◌, ℕ, suc, zero, ◌+◌, ◌<◌, ◌≤◌, nat_lt, Bool, true, false, not, ◌&&◌, is_some, List, [], ◌∷◌, ◌++◌, map, length, replicate, slice_index_or, slice_set, Option, Some, None, unwrap_or, refl, sym, arith, length-append}
+use Rattle.std.proofs.Common.{◌≡◌, ℕ, suc, zero, ◌+◌, ◌<◌, ◌≤◌, nat_lt, Bool, true, false, not, ◌&&◌, is_some, List, [], ◌∷◌, ◌++◌, map, length, replicate, slice_set, Option, Some, None, unwrap_or, refl, sym, arith, length-append}
 use Rattle.std.specs.List.{list_all}
 use Rattle.std.proofs.lemmas.Bool.{and_parts, false≢true, ltb-true, lt-ltb, eqb-true}
 use Rattle.caa_base.specs.Lists.{member, index_of, is_empty}
@@ -13,7 +13,6 @@ use Rattle.place_plan.specs.declared.draft_rows.AbortRow.{AbortRow}
 use Rattle.place_plan.specs.declared.draft_rows.AbortRow.TheVariants as abort
 use Rattle.place_plan.specs.declared.draft_rows.RoleRow.{RoleRow}
 use Rattle.place_plan.specs.declared.draft_rows.NestRow.{NestRow}
-use Rattle.place_plan.specs.declared.draft_rows.HandlerRow.{HandlerRow}
 use Rattle.place_plan.specs.declared.draft_rows.Program.{Program}
 use Rattle.place_plan.specs.declared.draft_rows.Step.{Step}
 use Rattle.place_plan.specs.declared.draft_rows.Step.TheVariants as step

@@ -33,7 +33,7 @@ returns-in-Ok-close c =
 pub unreachable-requires : goal.unreachable-requires
 unreachable-requires c =
     let unbroken = all_taken c.args.script.now c.names-names.result.now c.lines-line-items.result.now c.loop-line.line-index (so_far c.loop-line.declared) c.loop-line.rows.items
-        c.names-names.ensures c.lines-line-items.ensures c.loop-line-test.false c.loop-line.invariant c.breaks_no_rule.ensures in
+    c.names-names.ensures c.lines-line-items.ensures c.loop-line-test.false c.loop-line.invariant c.breaks_no_rule.ensures in
     let broken = c.in-Err-BadPart.ensures.bad c.in-Err-BadPart.field-0-0 (ap Err c.in-Err-BadPart.field-0-is) in
     none-some c.in-Err-BadPart.field-0-0 (sym unbroken ∙ sym (ap broken_rule c.draft_of.ensures) ∙ broken)
 
