@@ -1,7 +1,7 @@
 -- The draft of an accepted script keeps rules of place_plan.
-use Rattle.std.proofs.Common.{◌≡◌, ℕ, ◌≤◌, nat_lt, ◌==◌, true, not, List, None, length, slice_index_or, refl, sym, subst, ◌∙◌, ◌<◌, arith}
+use Rattle.std.proofs.Common.{◌≡◌, ℕ, ◌≤◌, nat_lt, ◌==◌, true, not, List, None, length, slice_index_or, refl, sym, subst, ◌∙◌, ◌<◌, arith, suc}
 use Rattle.std.specs.List.{list_all}
-use Rattle.std.proofs.lemmas.Bool.{le-leb, and_parts}
+use Rattle.std.proofs.lemmas.Bool.{le-leb, and_parts, and_from}
 use Rattle.caa_base.specs.Lists.{is_empty}
 use Rattle.caa_base.specs.declared.entry.Drill.{Drill}
 use Rattle.place_plan.specs.declared.draft_rows.ActionRow.{ActionRow}
@@ -21,7 +21,7 @@ use Rattle.script_checker.proofs.PartsFit.{ActionsFit, fits_kept}
 use Rattle.script_checker.proofs.EntersKept.{AllEnter, enters_kept}
 use Rattle.caa_base.proofs.ListLemmas.{all_imply, all_both}
 use Rattle.script_checker.proofs.NestsKept.{Pass, pass_kept}
-use Rattle.script_checker.proofs.NestTests.{both, uses_filled, filled_test, uses_faced, faced_test}
+use Rattle.script_checker.proofs.NestTests.{uses_filled, filled_test, uses_faced, faced_test}
 use Rattle.script_checker.proofs.HandlersKept.{HandlersDiffer, differ_kept}
 use Rattle.script_checker.proofs.HeldKept.{AreHeld, held_in, uses_held, held_kept}
 use Rattle.script_checker.proofs.DepthsKept.{AreShallow, depths_kept, depths_within}
@@ -36,6 +36,7 @@ use Rattle.script_checker.proofs.PlaysKept.{play_right, PlaysRight, plays_kept}
 use Rattle.script_checker.proofs.GraphsKept.{IsPlainFirst, first_kept, rows_first, rows_named, rows_many, rows_count}
 use Rattle.script_checker.proofs.RangesKept.{action_right, is_valued, drill_below}
 use Rattle.script_checker.proofs.MapsKept.{use_mapped, AreMapped, maps_kept, mapped_at_first}
+use Rattle.caa_base.specs.Limits.{most_participants, most_objects, most_actions, most_watches, most_drills, most_graphs, most_places, most_entries}
 
 module _ (names : List (List ℕ)) (lines : List Line) (script : AreScript names (forms_of lines)) (accepted : AreAccepted names (nothing_yet names) lines) (draft : Draft) (drafted : IsDraftOf names (declared_after names (nothing_yet names) lines) draft) where
   abbrev last : SoFar
@@ -51,12 +52,12 @@ module _ (names : List (List ℕ)) (lines : List Line) (script : AreScript names
   -- no more parts than the limits allow
   pub keeps_sizes : size_rule draft ≡ true
   keeps_sizes =
-      let participants : length draft.participants ≤ 64 = rw drafted.participants (omega (arith, counts.participants.0, counts.participants.1)) in
-      let objects : length draft.objects ≤ 256 = rw drafted.objects (omega (arith, counts.objects.0, counts.objects.1)) in
-      let graphs : length draft.graphs ≤ 257 = rw (rows_many names last.graphs draft.graphs drafted.graphs) (omega (arith, counts.graphs.0, counts.graphs.1)) in
-      let actions : length draft.actions ≤ 256 = rw drafted.actions (omega (arith, counts.actions.0, counts.actions.1)) in
-      let watches : length draft.watches ≤ 16 = rw drafted.watches counts.watches in
-      let drills : length draft.drills ≤ 1000 = rw drafted.drills counts.drills in
+      let participants : length draft.participants ≤ most_participants = rw drafted.participants (omega (arith, counts.participants.0, counts.participants.1)) in
+      let objects : length draft.objects ≤ most_objects = rw drafted.objects (omega (arith, counts.objects.0, counts.objects.1)) in
+      let graphs : length draft.graphs ≤ suc most_graphs = rw (rows_many names last.graphs draft.graphs drafted.graphs) (omega (arith, counts.graphs.0, counts.graphs.1)) in
+      let actions : length draft.actions ≤ most_actions = rw drafted.actions (omega (arith, counts.actions.0, counts.actions.1)) in
+      let watches : length draft.watches ≤ most_watches = rw drafted.watches counts.watches in
+      let drills : length draft.drills ≤ most_drills = rw drafted.drills counts.drills in
       rw (le-leb _ _ participants, le-leb _ _ objects, le-leb _ _ graphs, le-leb _ _ actions, le-leb _ _ watches, le-leb _ _ drills) (rw drafted.actions fits.actions)
 
   -- the plain graph stands first, and each graph has its names
@@ -84,7 +85,7 @@ module _ (names : List (List ℕ)) (lines : List Line) (script : AreScript names
       (λ nest m.
       let p = and_parts (all_below (length draft.actions) nest.actions) _ m in
       let q = and_parts (all_differ nest.roles) _ p.1 in
-      all_imply (λ a. length nest.roles == length (slice_index_or draft.actions a no_action).roles) (λ a. fills draft a nest.roles) nest.actions (λ a e. both _ _ e q.0) q.1)
+      all_imply (λ a. length nest.roles == length (slice_index_or draft.actions a no_action).roles) (λ a. fills draft a nest.roles) nest.actions (λ a e. and_from _ _ e q.0) q.1)
       k)
       (subst (λ (actions : List ActionRow). list_all (λ (action : ActionRow). list_all (uses_filled actions last.graphs) action.nests) actions ≡ true) (sym drafted.actions) h.ended_rows)
 
@@ -95,7 +96,7 @@ module _ (names : List (List ℕ)) (lines : List Line) (script : AreScript names
 
   pub keeps_fillings : fill_rule draft ≡ true
   keeps_fillings =
-      both _ _ nests_filled
+      and_from _ _ nests_filled
       (all_imply (play_right (length last.participants) draft.actions) (λ (play : PlayRow). fills draft play.action play.who) draft.plays
       (λ play h. (and_parts (all_below (length last.participants) play.who) _ (and_parts (nat_lt play.action (length draft.actions)) _ h).1).1)
       plays_right)
@@ -116,7 +117,7 @@ module _ (names : List (List ℕ)) (lines : List Line) (script : AreScript names
       all_imply (held_in draft.actions) (action_held draft) draft.actions
       (λ action k.
       let p = and_parts (list_all (role_held action.objects) action.roles) _ k in
-      both _ _ p.0 (all_imply (uses_held draft.actions action.objects) (nest_held draft action.objects) action.nests (λ nest m. (and_parts (all_below (length draft.actions) nest.actions) _ m).1) p.1))
+      and_from _ _ p.0 (all_imply (uses_held draft.actions action.objects) (nest_held draft action.objects) action.nests (λ nest m. (and_parts (all_below (length draft.actions) nest.actions) _ m).1) p.1))
       (subst (λ (actions : List ActionRow). list_all (held_in actions) actions ≡ true) (sym drafted.actions) h.ended_held)
 
   -- no action is too deep
@@ -148,9 +149,9 @@ module _ (names : List (List ℕ)) (lines : List Line) (script : AreScript names
       (rw drafted.actions (λ a l. weighs own_entries last.depths last.bounds last.actions d.depths.tell h.entries.0.tell h.there.ended_rows 8 a l (d.depths.tell a l).1)) in
       let all_places : last.all_places ≡ counted (length (plan_of draft).places) = h.places.0.whole ∙ subst (λ (plays : List PlayRow). counted (played_weight (at last.places) plays) ≡ counted (length (plan_of draft).places)) drafted.plays places in
       let whole : last.whole_bound ≡ counted (bound (plan_of draft)) = h.entries.0.whole ∙ subst (λ (plays : List PlayRow). counted (played_weight (at last.bounds) plays) ≡ counted (bound (plan_of draft))) drafted.plays entries in
-      let few_places : length (plan_of draft).places ≤ 65536 = omega (arith, all_places, h.places.1) in
-      let few_entries : bound (plan_of draft) ≤ 1000000 = omega (arith, whole, h.entries.1) in
-      both _ _ (le-leb (length (plan_of draft).places) 65536 few_places) (le-leb (bound (plan_of draft)) 1000000 few_entries)
+      let few_places : length (plan_of draft).places ≤ most_places = omega (arith, all_places, h.places.1) in
+      let few_entries : bound (plan_of draft) ≤ most_entries = omega (arith, whole, h.entries.1) in
+      and_from _ _ (le-leb (length (plan_of draft).places) most_places few_places) (le-leb (bound (plan_of draft)) most_entries few_entries)
 
   -- the handlers of a role have different exceptions
   pub handlers_apart : list_all (λ (action : ActionRow). list_all handlers_differ action.roles) draft.actions ≡ true
@@ -183,7 +184,7 @@ module _ (names : List (List ℕ)) (lines : List Line) (script : AreScript names
       (λ play h.
       let p = and_parts (nat_lt play.action (length draft.actions)) _ h in
       let q = and_parts (all_below (length last.participants) play.who) _ p.1 in
-      both _ _ p.0 (subst (λ (n : ℕ). all_below n play.who ≡ true) same q.0))
+      and_from _ _ p.0 (subst (λ (n : ℕ). all_below n play.who ≡ true) same q.0))
       plays_right
 
   -- all numbers are in range
@@ -193,7 +194,7 @@ module _ (names : List (List ℕ)) (lines : List Line) (script : AreScript names
       let valued = subst (λ (rows : List ObjectRow). list_all is_valued rows ≡ true) (sym drafted.objects) outside.valued in
       let drilled = subst (λ (drills : List Drill). list_all (drill_below (length draft.objects)) drills ≡ true) (sym drafted.drills) (outside.drilled (length draft.objects) many_objects) in
       let watched = subst (λ (watches : List ℕ). all_below (length draft.objects) watches ≡ true) (sym drafted.watches) (outside.watched (length draft.objects) many_objects) in
-      both _ _ valued (both _ _ actions_right (both _ _ plays_in_range (both _ _ drilled watched)))
+      and_from _ _ valued (and_from _ _ actions_right (and_from _ _ plays_in_range (and_from _ _ drilled watched)))
 
   -- each exception of a nested use is mapped
   nests_mapped : list_all (λ (action : ActionRow). list_all (nest_mapped draft) action.nests) draft.actions ≡ true

@@ -13,6 +13,7 @@ use Rattle.script_checker.specs.Causes.{is_past_limit}
 use Rattle.script_checker.specs.After.{closed_if, ended, with_said, action_row}
 use Rattle.script_checker.proofs.Choosing.{within}
 use Rattle.script_checker.proofs.Accepted.{IsKept}
+use Rattle.caa_base.specs.Limits.{most_participants, most_objects, most_drills, most_watches, most_graphs, most_actions}
 
 -- ---- one list more
 
@@ -33,16 +34,16 @@ same_more xs ys x y e =
 
 -- as many rows as names, and not too many
 abbrev pub FewParticipants : SoFar → Type 0
-FewParticipants s = (length s.participant_rows ≡ length s.participants) × (length s.participants ≤ 64)
+FewParticipants s = (length s.participant_rows ≡ length s.participants) × (length s.participants ≤ most_participants)
 
 abbrev pub FewObjects : SoFar → Type 0
-FewObjects s = (length s.object_rows ≡ length s.objects) × (length s.objects ≤ 256)
+FewObjects s = (length s.object_rows ≡ length s.objects) × (length s.objects ≤ most_objects)
 
 abbrev pub FewDrills : SoFar → Type 0
-FewDrills s = length s.drills ≤ 1000
+FewDrills s = length s.drills ≤ most_drills
 
 abbrev pub FewWatches : SoFar → Type 0
-FewWatches s = length s.watches ≤ 16
+FewWatches s = length s.watches ≤ most_watches
 
 -- graphs and actions that have begun, and how many of these have ended
 abbrev pub open_graphs : Block → ℕ
@@ -54,10 +55,10 @@ open_actions block.Action = 1
 open_actions _ = 0
 
 abbrev pub FewGraphs : SoFar → Type 0
-FewGraphs s = (length s.graphs + open_graphs s.block ≤ suc (length s.graph_names)) × (length s.graph_names ≤ 256)
+FewGraphs s = (length s.graphs + open_graphs s.block ≤ suc (length s.graph_names)) × (length s.graph_names ≤ most_graphs)
 
 abbrev pub FewActions : SoFar → Type 0
-FewActions s = (length s.actions + open_actions s.block ≤ length s.action_names) × (length s.action_names ≤ 256)
+FewActions s = (length s.actions + open_actions s.block ≤ length s.action_names) × (length s.action_names ≤ most_actions)
 
 module _ where
 
@@ -92,7 +93,7 @@ module _ (names : List (List ℕ)) where
   ended_participants s block.Action h = h
 
   says_participants : (s : SoFar) (f : Form) → is_past_limit s f ≡ false → FewParticipants s → FewParticipants (with_said names s f)
-  says_participants s (form.Participant name) w h = (same_more s.participant_rows s.participants _ name h.0, few_more 64 s.participants name w)
+  says_participants s (form.Participant name) w h = (same_more s.participant_rows s.participants _ name h.0, few_more most_participants s.participants name w)
   says_participants s form.End w h = ended_participants s s.block h
   says_participants s form.DoneLine w h = closed_participants s _ s.opening h
   says_participants s (form.SignalLine x) w h = closed_participants s _ s.opening h
@@ -105,7 +106,7 @@ module _ (names : List (List ℕ)) where
   ended_objects s block.Action h = h
 
   says_objects : (s : SoFar) (f : Form) → is_past_limit s f ≡ false → FewObjects s → FewObjects (with_said names s f)
-  says_objects s (form.Object name value) w h = (same_more s.object_rows s.objects _ name h.0, few_more 256 s.objects name w)
+  says_objects s (form.Object name value) w h = (same_more s.object_rows s.objects _ name h.0, few_more most_objects s.objects name w)
   says_objects s form.End w h = ended_objects s s.block h
   says_objects s form.DoneLine w h = closed_objects s _ s.opening h
   says_objects s (form.SignalLine x) w h = closed_objects s _ s.opening h
@@ -118,7 +119,7 @@ module _ (names : List (List ℕ)) where
   ended_drills s block.Action h = h
 
   says_drills : (s : SoFar) (f : Form) → is_past_limit s f ≡ false → FewDrills s → FewDrills (with_said names s f)
-  says_drills s (form.Drill object nth) w h = few_more 1000 s.drills _ w
+  says_drills s (form.Drill object nth) w h = few_more most_drills s.drills _ w
   says_drills s form.End w h = ended_drills s s.block h
   says_drills s form.DoneLine w h = closed_drills s _ s.opening h
   says_drills s (form.SignalLine x) w h = closed_drills s _ s.opening h
@@ -131,7 +132,7 @@ module _ (names : List (List ℕ)) where
   ended_watches s block.Action h = h
 
   says_watches : (s : SoFar) (f : Form) → is_past_limit s f ≡ false → FewWatches s → FewWatches (with_said names s f)
-  says_watches s (form.Watch object) w h = few_more 16 s.watches _ w
+  says_watches s (form.Watch object) w h = few_more most_watches s.watches _ w
   says_watches s form.End w h = ended_watches s s.block h
   says_watches s form.DoneLine w h = closed_watches s _ s.opening h
   says_watches s (form.SignalLine x) w h = closed_watches s _ s.opening h
@@ -151,7 +152,7 @@ module _ (names : List (List ℕ)) where
   says_graphs : (s : SoFar) (f : Form) → is_past_limit s f ≡ false → FewGraphs s → FewGraphs (with_said names s f)
   says_graphs s (form.Graph name) w h =
       let n : length (s.graph_names ++ name ∷ []) ≡ length s.graph_names + 1 = length-append s.graph_names _ in
-      (omega (arith, h.0), few_more 256 s.graph_names name w)
+      (omega (arith, h.0), few_more most_graphs s.graph_names name w)
   says_graphs s (form.Action name) w h = (omega (arith, h.0), h.1)
   says_graphs s form.End w h = ended_graphs s s.block refl h
   says_graphs s form.DoneLine w h = closed_graphs s _ s.opening h
@@ -170,7 +171,7 @@ module _ (names : List (List ℕ)) where
   says_actions : (s : SoFar) (f : Form) → is_past_limit s f ≡ false → FewActions s → FewActions (with_said names s f)
   says_actions s (form.Action name) w h =
       let n : length (s.action_names ++ name ∷ []) ≡ length s.action_names + 1 = length-append s.action_names _ in
-      (omega (arith, h.0), few_more 256 s.action_names name w)
+      (omega (arith, h.0), few_more most_actions s.action_names name w)
   says_actions s (form.Graph name) w h = (omega (arith, h.0), h.1)
   says_actions s form.End w h = ended_actions s s.block refl h
   says_actions s form.DoneLine w h = closed_actions s _ s.opening h

@@ -1,7 +1,7 @@
 -- No accepted action is too deep.
 use Rattle.std.proofs.Common.{◌≡◌, ℕ, suc, zero, ◌+◌, ◌<◌, ◌≤◌, nat_lt, nat_le, Bool, true, false, List, [], ◌∷◌, ◌++◌, length, slice_index_or, Option, Some, None, refl, arith, length-append, below_more}
 use Rattle.std.specs.List.{list_all}
-use Rattle.std.proofs.lemmas.Bool.{and_parts, ltb-true, lt-ltb, leb-false, le-leb}
+use Rattle.std.proofs.lemmas.Bool.{and_parts, ltb-true, lt-ltb, leb-false, le-leb, and_from}
 use Rattle.caa_base.specs.Lists.{index_of}
 use Rattle.caa_base.specs.declared.entry.Verdict.{Verdict}
 use Rattle.caa_base.specs.declared.entry.Verdict.TheVariants as verdict
@@ -23,7 +23,7 @@ use Rattle.script_checker.proofs.Accepted.{IsKept, shallow}
 use Rattle.script_checker.proofs.ActionsGrow.{all_push}
 use Rattle.script_checker.proofs.ListsChange.{all_set}
 use Rattle.script_checker.proofs.NestsKept.{Pass, pass_kept}
-use Rattle.script_checker.proofs.NestTests.{both, same_action, uses_there, there_test}
+use Rattle.script_checker.proofs.NestTests.{same_action, uses_there, there_test}
 
 -- ---- tables
 
@@ -135,7 +135,7 @@ module _ (names : List (List ℕ)) where
   says_tell s (form.Action name) none there h = record { many = h.many; open_rows = refl; tell = h.tell }
   says_tell s (form.Nest nest action roles) none there h = record {
     many = h.many;
-    open_rows = all_push (is_shallow s.depths) s.nest_rows _ h.open_rows (both _ _ (below_most _ (shallow s (form.Nest nest action roles) none)) refl);
+    open_rows = all_push (is_shallow s.depths) s.nest_rows _ h.open_rows (and_from _ _ (below_most _ (shallow s (form.Nest nest action roles) none)) refl);
     tell = h.tell;
   }
   says_tell s (form.Map nest lower upper) none there h = tell_still s nest _ h (λ k. k)
@@ -194,4 +194,4 @@ module _ (depths : List ℕ) (actions : List ActionRow) (tell : (a : ℕ) → a 
       let l : n < length actions = omega arith in
       let here = within_table 9 n l in
       let few = (tell n l).1 in
-      both _ _ (le-leb (depth_within 9 actions n) 8 (omega arith)) (depths_within (suc n) rest (omega arith))
+      and_from _ _ (le-leb (depth_within 9 actions n) 8 (omega arith)) (depths_within (suc n) rest (omega arith))

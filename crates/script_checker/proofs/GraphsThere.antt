@@ -1,7 +1,7 @@
 -- In an accepted script each line stands in the block that its section says, each graph has an exception, and the graphs of an action are there.
 use Rattle.std.proofs.Common.{◌≡◌, ℕ, suc, ◌+◌, ◌<◌, nat_lt, Bool, true, false, List, [], ◌∷◌, ◌++◌, length, Option, Some, None, refl, sym, arith, length-append}
 use Rattle.std.specs.List.{list_all}
-use Rattle.std.proofs.lemmas.Bool.{false≢true, ltb-true, lt-ltb}
+use Rattle.std.proofs.lemmas.Bool.{false≢true, ltb-true, lt-ltb, not-false}
 use Rattle.caa_base.specs.Lists.{index_of}
 use Rattle.caa_base.specs.declared.entry.Verdict.{Verdict}
 use Rattle.caa_base.specs.declared.entry.Verdict.TheVariants as verdict
@@ -26,7 +26,6 @@ use Rattle.script_checker.proofs.Accepted.{IsKept}
 use Rattle.script_checker.proofs.ActionsGrow.{all_push}
 use Rattle.script_checker.proofs.CountsKept.{open_graphs}
 use Rattle.script_checker.proofs.GraphsKept.{first_alone, still_first}
-use Rattle.script_checker.proofs.NestTests.{is_not_not}
 
 -- the block of a section
 abbrev pub block_of : Section → Block
@@ -140,11 +139,11 @@ module _ (names : List (List ℕ)) where
   says_there at s form.End e none h = ended_there at s s.block refl h
   says_there at s (form.Internal graph) e none h =
       let t = as_action at s e h in
-      let a = is_not_not _ (known s (form.Internal graph) none) in
+      let a = not-false _ (known s (form.Internal graph) none) in
       record { linked = t.linked; many = t.many; plain = t.plain; filled = t.filled; begun = t.begun; internal_there = named_there s graph a t; interface_there = t.interface_there }
   says_there at s (form.Interface graph) e none h =
       let t = as_action at s e h in
-      let a = is_not_not _ (known s (form.Interface graph) none) in
+      let a = not-false _ (known s (form.Interface graph) none) in
       record { linked = t.linked; many = t.many; plain = t.plain; filled = t.filled; begun = t.begun; internal_there = t.internal_there; interface_there = named_there s graph a t }
   says_there at s (form.Fault x) e none h = as_action at s e h
   says_there at s (form.Uses objects) e none h = as_action at s e h

@@ -1,7 +1,7 @@
 -- The handlers of a role in an accepted script have different exceptions.
 use Rattle.std.proofs.Common.{◌≡◌, ℕ, ◌==◌, Bool, true, false, not, List, [], ◌∷◌, ◌++◌, map, slice_index_or, Option, Some, None, refl, sym, ◌∙◌, subst}
 use Rattle.std.specs.List.{list_all, list_any}
-use Rattle.std.proofs.lemmas.Bool.{and_parts, false≢true, not-true}
+use Rattle.std.proofs.lemmas.Bool.{and_parts, false≢true, not-true, or_parts}
 use Rattle.caa_base.specs.Lists.{member, index_of}
 use Rattle.caa_base.specs.declared.entry.Verdict.{Verdict}
 use Rattle.caa_base.specs.declared.entry.Verdict.TheVariants as verdict
@@ -24,7 +24,7 @@ use Rattle.script_checker.specs.Compiled.{HasNone}
 use Rattle.script_checker.proofs.Accepted.{IsKept, once}
 use Rattle.script_checker.proofs.ActionsGrow.{closed_actions, said_actions}
 use Rattle.script_checker.proofs.ListsChange.{all_change, all_set, all_mapped}
-use Rattle.script_checker.proofs.NestTests.{nor, eqb_turn}
+use Rattle.script_checker.proofs.NestTests.{eqb_turn}
 
 -- ---- one handler more
 
@@ -41,14 +41,14 @@ exceptions handlers = map (λ (h : HandlerRow). h.exception) handlers
 absent_push : (n x : ℕ) (program : Program) (handlers : List HandlerRow) → member n (exceptions handlers) ≡ false → (x == n) ≡ false → member n (exceptions (handlers ++ record { exception = x; program = program } ∷ [])) ≡ false
 absent_push n x program [] h e = rw e refl
 absent_push n x program (k ∷ handlers) h e =
-    let p = nor (k.exception == n) (member n (exceptions handlers)) h in
+    let p = or_parts (k.exception == n) (member n (exceptions handlers)) h in
     rw (p.0, absent_push n x program handlers p.1 e) refl
 
 differ_push : (x : ℕ) (program : Program) (handlers : List HandlerRow) → all_differ (exceptions handlers) ≡ true → list_any (handles x) handlers ≡ false → all_differ (exceptions (handlers ++ record { exception = x; program = program } ∷ [])) ≡ true
 differ_push x program [] h f = refl
 differ_push x program (k ∷ handlers) h f =
     let p = and_parts (not (member k.exception (exceptions handlers))) (all_differ (exceptions handlers)) h in
-    let q = nor (k.exception == x) (list_any (handles x) handlers) f in
+    let q = or_parts (k.exception == x) (list_any (handles x) handlers) f in
     rw (absent_push k.exception x program handlers (not-true _ p.0) (eqb_turn_false k.exception x q.0), differ_push x program handlers p.1 q.1) refl
 
 -- ---- what is being declared

@@ -1,7 +1,7 @@
 -- An accepted action owns the objects that its steps, and the actions nested in it, touch.
 use Rattle.std.proofs.Common.{◌≡◌, ℕ, nat_lt, Bool, true, false, not, ◌&&◌, List, [], ◌∷◌, ◌++◌, length, slice_index_or, Option, Some, None, refl, subst}
 use Rattle.std.specs.List.{list_all}
-use Rattle.std.proofs.lemmas.Bool.{and_parts, false≢true}
+use Rattle.std.proofs.lemmas.Bool.{and_parts, false≢true, and_from, not-false, or_parts}
 use Rattle.caa_base.specs.Lists.{member, index_of, is_empty}
 use Rattle.caa_base.specs.declared.entry.Verdict.{Verdict}
 use Rattle.caa_base.specs.declared.entry.Verdict.TheVariants as verdict
@@ -31,7 +31,7 @@ use Rattle.script_checker.proofs.Choosing.{known}
 use Rattle.script_checker.proofs.Accepted.{IsKept, once, held}
 use Rattle.script_checker.proofs.ActionsGrow.{all_push, ends_action, closed_actions, said_none, said_one}
 use Rattle.script_checker.proofs.ListsChange.{all_change, all_set, all_mapped}
-use Rattle.script_checker.proofs.NestTests.{neither, nor, both, is_not_not, below_more, one_longer, acts_same}
+use Rattle.script_checker.proofs.NestTests.{neither, below_more, one_longer, acts_same}
 
 abbrev all_members : List ℕ → ActionRow → Bool
 all_members objects action = list_all (λ o. member o objects) action.objects
@@ -66,14 +66,14 @@ any_step objects (step.Enter n) h = refl
 any_role : (objects : List ℕ) (role : RoleRow) → role_held [] role ≡ true → role_held objects role ≡ true
 any_role objects role h =
     let p = and_parts (list_all (step_held []) role.body.steps) (list_all (λ (h : HandlerRow). list_all (step_held []) h.program.steps) role.handlers) h in
-    both _ _ (all_imply (step_held []) (step_held objects) role.body.steps (any_step objects) p.0)
+    and_from _ _ (all_imply (step_held []) (step_held objects) role.body.steps (any_step objects) p.0)
     (all_imply (λ (h : HandlerRow). list_all (step_held []) h.program.steps) (λ (h : HandlerRow). list_all (step_held objects) h.program.steps) role.handlers
     (λ h k. all_imply (step_held []) (step_held objects) h.program.steps (any_step objects) k) p.1)
 
 any_use : (actions : List ActionRow) (objects : List ℕ) (nest : NestRow) → uses_held actions [] nest ≡ true → uses_held actions objects nest ≡ true
 any_use actions objects nest h =
     let p = and_parts (all_below (length actions) nest.actions) _ h in
-    both _ _ p.0
+    and_from _ _ p.0
     (all_imply (λ a. all_members [] (slice_index_or actions a no_action)) (λ a. all_members objects (slice_index_or actions a no_action)) nest.actions
     (λ a k. all_imply (λ o. member o []) (λ o. member o objects) (slice_index_or actions a no_action).objects (λ o m. absurd (false≢true m)) k) p.1)
 
@@ -89,10 +89,10 @@ any_objects actions old objects steps roles nests e h =
 -- ---- programs
 
 program_held : (objects : List ℕ) (exception : Option ℕ) (program : Program) → list_all (step_held objects) program.steps ≡ true → (row : RoleRow) → role_held objects row ≡ true → role_held objects (with_program row exception program) ≡ true
-program_held objects None program p row h = both _ _ p (and_parts (list_all (step_held objects) row.body.steps) (list_all (λ (h : HandlerRow). list_all (step_held objects) h.program.steps) row.handlers) h).1
+program_held objects None program p row h = and_from _ _ p (and_parts (list_all (step_held objects) row.body.steps) (list_all (λ (h : HandlerRow). list_all (step_held objects) h.program.steps) row.handlers) h).1
 program_held objects (Some x) program p row h =
     let parts = and_parts (list_all (step_held objects) row.body.steps) (list_all (λ (h : HandlerRow). list_all (step_held objects) h.program.steps) row.handlers) h in
-    both _ _ parts.0 (all_push (λ (h : HandlerRow). list_all (step_held objects) h.program.steps) row.handlers (record { exception = x; program = program }) parts.1 p)
+    and_from _ _ parts.0 (all_push (λ (h : HandlerRow). list_all (step_held objects) h.program.steps) row.handlers (record { exception = x; program = program }) parts.1 p)
 
 closed_held : (s : SoFar) (v : Verdict) (o : Option Opening) → OpenHeld s → OpenHeld (closed_if s o v)
 closed_held s v None h = h
@@ -131,23 +131,23 @@ module _ (names : List (List ℕ)) where
   says_held s (form.Graph name) none h = λ e. absurd (false≢true e)
   says_held s (form.Action name) none h = λ e. record { steps_held = refl; roles_held = refl; nests_held = refl }
   says_held s (form.Uses objects) none h = λ e.
-      any_objects s.actions s.uses _ s.steps s.role_rows s.nest_rows (empty_is s.uses (is_not_not _ (nor (not (is_empty s.uses)) (has_twice objects) (once s (form.Uses objects) none)).0)) (h e)
+      any_objects s.actions s.uses _ s.steps s.role_rows s.nest_rows (empty_is s.uses (not-false _ (or_parts (not (is_empty s.uses)) (has_twice objects) (once s (form.Uses objects) none)).0)) (h e)
   says_held s (form.Roles roles) none h = other_abort s _ h (λ k. all_mapped (role_held s.uses) (idle_role names) roles (λ name. refl))
   says_held s (form.Nest nest action roles) none h = λ e.
       let k = h e in
       let a = neither (is_action s action) (list_all (is_among s.roles) roles) (known s (form.Nest nest action roles) none) in
-      let m = is_not_not _ (held s (form.Nest nest action roles) none) in
+      let m = not-false _ (held s (form.Nest nest action roles) none) in
       record { steps_held = k.steps_held; roles_held = k.roles_held; nests_held = all_push (uses_held s.actions s.uses) s.nest_rows _ k.nests_held (rw (a.0, m) refl) }
   says_held s (form.Map nest lower upper) none h = nest_held_still s nest _ h (λ k. k)
   says_held s (form.MapUndo nest x) none h = nest_held_still s nest _ h (λ k. k)
   says_held s (form.MapFailure nest x) none h = nest_held_still s nest _ h (λ k. k)
   says_held s (form.Alternate nest action) none h =
       let a = neither (is_among s.nests nest) (is_action s action) (known s (form.Alternate nest action) none) in
-      let m = is_not_not _ (held s (form.Alternate nest action) none) in
+      let m = not-false _ (held s (form.Alternate nest action) none) in
       let row = nest_of s nest in
       nest_held_still s nest _ h (λ k.
       let p = and_parts (all_below (length s.actions) row.actions) _ k in
-      both _ _ (all_push (λ a. nat_lt a (length s.actions)) row.actions (index_of action s.action_names) p.0 a.1)
+      and_from _ _ (all_push (λ a. nat_lt a (length s.actions)) row.actions (index_of action s.action_names) p.0 a.1)
       (all_push (λ a. all_members s.uses (slice_index_or s.actions a no_action)) row.actions (index_of action s.action_names) p.1 m))
   says_held s (form.Abort role x) none h =
       other_abort s _ h (all_change (role_held s.uses) (λ (row : RoleRow). record row { abort = abort.Always (index_of x (outer s)) }) s.role_rows (index_of role s.roles) no_role (λ row k. k))
@@ -155,9 +155,9 @@ module _ (names : List (List ℕ)) where
       other_abort s _ h (all_change (role_held s.uses) (λ (row : RoleRow). record row { abort = abort.Where t v (index_of x (outer s)) }) s.role_rows (index_of role s.roles) no_role (λ row k. k))
   says_held s (form.Body role) none h = no_steps s h
   says_held s (form.Handler role x) none h = no_steps s h
-  says_held s (form.ReadStep object) none h = one_step s _ (is_not_not _ (held s (form.ReadStep object) none)) h
-  says_held s (form.PutStep object v) none h = one_step s _ (is_not_not _ (held s (form.PutStep object v) none)) h
-  says_held s (form.AddStep object v) none h = one_step s _ (is_not_not _ (held s (form.AddStep object v) none)) h
+  says_held s (form.ReadStep object) none h = one_step s _ (not-false _ (held s (form.ReadStep object) none)) h
+  says_held s (form.PutStep object v) none h = one_step s _ (not-false _ (held s (form.PutStep object v) none)) h
+  says_held s (form.AddStep object v) none h = one_step s _ (not-false _ (held s (form.AddStep object v) none)) h
   says_held s (form.WorkStep k) none h = one_step s _ refl h
   says_held s (form.CheckStep t v x) none h = one_step s _ refl h
   says_held s (form.RaiseStep x) none h = one_step s _ refl h
@@ -177,11 +177,11 @@ pub record AreHeld (s : SoFar) : Type 0 where
 held_longer : (actions : List ActionRow) (more : ActionRow) (action : ActionRow) → held_in actions action ≡ true → held_in (actions ++ more ∷ []) action ≡ true
 held_longer actions more action h =
     let p = and_parts (list_all (role_held action.objects) action.roles) _ h in
-    both _ _ p.0
+    and_from _ _ p.0
     (all_imply (uses_held actions action.objects) (uses_held (actions ++ more ∷ []) action.objects) action.nests
     (λ nest k.
     let q = and_parts (all_below (length actions) nest.actions) _ k in
-    both _ _ (below_more (length actions) _ nest.actions (one_longer actions more) q.0) (acts_same (all_members action.objects) actions more nest.actions q.0 q.1))
+    and_from _ _ (below_more (length actions) _ nest.actions (one_longer actions more) q.0) (acts_same (all_members action.objects) actions more nest.actions q.0 q.1))
     p.1)
 
 ends_in_action : (s : SoFar) (f : Form) → ends_action s f ≡ true → is_in_action s.block ≡ true
@@ -195,7 +195,7 @@ says_ended names s f h true e =
     rw (said_one names s f e)
     (all_push (held_in (s.actions ++ row ∷ [])) s.actions row
     (all_imply (held_in s.actions) (held_in (s.actions ++ row ∷ [])) s.actions (held_longer s.actions row) h.ended_held)
-    (held_longer s.actions row row (both _ _ k.roles_held k.nests_held)))
+    (held_longer s.actions row row (and_from _ _ k.roles_held k.nests_held)))
 says_ended names s f h false e = rw (said_none names s f e) h.ended_held
 
 pub held_kept : (names : List (List ℕ)) → IsKept names (λ at s. AreHeld s)

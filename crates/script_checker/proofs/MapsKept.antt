@@ -2,7 +2,7 @@
 use Rattle.std.proofs.Common.{◌≡◌, ℕ, suc, zero, ◌+◌, ◌<◌, nat_lt, ◌==◌, Bool, true, false, not, ◌&&◌, List, [], ◌∷◌, ◌++◌, length, replicate, slice_index_or, slice_set, Option, Some, None, refl, sym, ap, ◌∙◌, arith, length-append, length-set}
 use Rattle.std.proofs.lemmas.List.{length-replicate}
 use Rattle.std.specs.List.{list_all}
-use Rattle.std.proofs.lemmas.Bool.{and_parts, false≢true, not-true, ltb-true, eq-eqb}
+use Rattle.std.proofs.lemmas.Bool.{and_parts, false≢true, not-true, ltb-true, eq-eqb, and_from}
 use Rattle.caa_base.specs.Lists.{index_of, is_empty}
 use Rattle.caa_base.specs.declared.entry.Verdict.{Verdict}
 use Rattle.caa_base.specs.declared.entry.Verdict.TheVariants as verdict
@@ -27,7 +27,7 @@ use Rattle.script_checker.proofs.Choosing.{known}
 use Rattle.script_checker.proofs.Accepted.{IsKept}
 use Rattle.script_checker.proofs.ActionsGrow.{all_push}
 use Rattle.script_checker.proofs.ListsChange.{all_set}
-use Rattle.script_checker.proofs.NestTests.{neither, both, same_action}
+use Rattle.script_checker.proofs.NestTests.{neither, same_action}
 use Rattle.script_checker.proofs.RangesKept.{AreInRange, action_right, ranges_kept, in_range_at_first}
 
 -- by the count of exceptions of each graph, and the graph of the exceptions that each action tells outside
@@ -76,7 +76,7 @@ some_still (b ∷ actions) a = refl
 alternate_still : (count face : ℕ → ℕ) (row : NestRow) (a : ℕ) → use_mapped count face row ≡ true → use_mapped count face (record row { actions = row.actions ++ a ∷ [] }) ≡ true
 alternate_still count face row a h =
     let p = and_parts (not (is_empty row.actions)) _ h in
-    both _ _ (some_still row.actions a) (rw (first_still row.actions a (not-true _ p.0)) p.1)
+    and_from _ _ (some_still row.actions a) (rw (first_still row.actions a (not-true _ p.0)) p.1)
 
 -- ---- lines
 

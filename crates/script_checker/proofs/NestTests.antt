@@ -1,8 +1,8 @@
 -- Nested uses are of actions that are there, whose roles are filled, and which tell the same exceptions outside.
-use Rattle.std.proofs.Common.{◌≡◌, ℕ, suc, zero, ◌+◌, ◌<◌, nat_lt, ◌==◌, Bool, true, false, not, cond, ◌&&◌, ◌||◌, List, [], ◌∷◌, ◌++◌, map, length, slice_index_or, refl, sym, ap, ◌∙◌, subst, arith, length-append}
+use Rattle.std.proofs.Common.{◌≡◌, ℕ, suc, zero, ◌+◌, ◌<◌, ◌≤◌, nat_lt, ◌==◌, Bool, true, false, not, cond, ◌&&◌, ◌||◌, List, [], ◌∷◌, ◌++◌, map, length, slice_index_or, refl, sym, ap, ◌∙◌, subst, arith, length-append}
 use Rattle.std.proofs.lemmas.List.{length-map}
 use Rattle.std.specs.List.{list_all}
-use Rattle.std.proofs.lemmas.Bool.{and_parts, false≢true, ltb-true, lt-ltb, eqb-true, eq-eqb}
+use Rattle.std.proofs.lemmas.Bool.{and_parts, false≢true, ltb-true, lt-ltb, eqb-true, eq-eqb, and_from, not-false, or_parts}
 use Rattle.caa_base.specs.Lists.{member, index_of}
 use Rattle.place_plan.specs.declared.draft_rows.ActionRow.{ActionRow}
 use Rattle.place_plan.specs.declared.draft_rows.NestRow.{NestRow}
@@ -26,17 +26,6 @@ neither true true h = (refl, refl)
 neither true false h = absurd (false≢true (sym h))
 neither false b h = absurd (false≢true (sym h))
 
-pub nor : (a b : Bool) → (a || b) ≡ false → (a ≡ false) × (b ≡ false)
-nor true b h = absurd (false≢true (sym h))
-nor false b h = (refl, h)
-
-pub both : (a b : Bool) → a ≡ true → b ≡ true → (a && b) ≡ true
-both a b h k = rw (h, k) refl
-
-pub is_not_not : (a : Bool) → not a ≡ false → a ≡ true
-is_not_not true h = refl
-is_not_not false h = absurd (false≢true (sym h))
-
 -- ---- names and their numbers
 
 -- two names of one number are one
@@ -53,7 +42,7 @@ index_one (n ∷ ns) x y l e = by_tests (n == x) (n == y) refl refl (index_one n
 absent_mapped : (ns : List ℕ) (x : ℕ) (xs : List ℕ) → is_among ns x ≡ true → member x xs ≡ false → member (index_of x ns) (map (λ r. index_of r ns) xs) ≡ false
 absent_mapped ns x [] a h = refl
 absent_mapped ns x (y ∷ ys) a h =
-    let p = nor (y == x) (member x ys) h in
+    let p = or_parts (y == x) (member x ys) h in
     rw (by_test (index_of y ns == index_of x ns) refl p.0, absent_mapped ns x ys a p.1) refl
   where
     by_test : (b : Bool) → (index_of y ns == index_of x ns) ≡ b → (y == x) ≡ false → (index_of y ns == index_of x ns) ≡ false
@@ -64,9 +53,21 @@ absent_mapped ns x (y ∷ ys) a h =
 pub differ_mapped : (ns xs : List ℕ) → has_twice xs ≡ false → list_all (is_among ns) xs ≡ true → all_differ (map (λ r. index_of r ns) xs) ≡ true
 differ_mapped ns [] h a = refl
 differ_mapped ns (x ∷ xs) h a =
-    let p = nor (member x xs) (has_twice xs) h in
+    let p = or_parts (member x xs) (has_twice xs) h in
     let q = and_parts (is_among ns x) (list_all (is_among ns) xs) a in
     rw (absent_mapped ns x xs q.0 p.0, differ_mapped ns xs p.1 q.1) refl
+
+-- what is below a count is below a greater one, and the number of a name that is there is below the count of names
+pub still_below : (n few many : ℕ) → nat_lt n few ≡ true → few ≤ many → nat_lt n many ≡ true
+still_below n few many h l =
+    let low = ltb-true n few h in
+    lt-ltb n many (omega arith)
+
+pub numbers_below : (names xs : List ℕ) (many : ℕ) → list_all (is_among names) xs ≡ true → length names ≤ many → all_below many (map (λ r. index_of r names) xs) ≡ true
+numbers_below names [] many h l = refl
+numbers_below names (x ∷ xs) many h l =
+    let p = and_parts (is_among names x) (list_all (is_among names) xs) h in
+    and_from _ _ (still_below (index_of x names) (length names) many p.0 l) (numbers_below names xs many p.1 l)
 
 -- ---- one action more
 
@@ -76,7 +77,7 @@ same_action (x ∷ xs) more zero l = refl
 same_action (x ∷ xs) more (suc a) l = same_action xs more a (omega arith)
 
 pub below_more : (m n : ℕ) (acts : List ℕ) → m < n → all_below m acts ≡ true → all_below n acts ≡ true
-below_more m n acts l h = all_imply (λ a. nat_lt a m) (λ a. nat_lt a n) acts (λ a k. let low = ltb-true a m k in lt-ltb a n (omega arith)) h
+below_more m n acts l h = all_imply (λ a. nat_lt a m) (λ a. nat_lt a n) acts (λ a k. still_below a m n k (omega arith)) h
 
 -- what holds of the actions of a use holds with one action more
 pub acts_same : (p : ActionRow → Bool) (actions : List ActionRow) (more : ActionRow) (acts : List ℕ) → all_below (length actions) acts ≡ true → list_all (λ a. p (slice_index_or actions a no_action)) acts ≡ true → list_all (λ a. p (slice_index_or (actions ++ more ∷ []) a no_action)) acts ≡ true
@@ -126,7 +127,7 @@ filled_test = record {
       let k = neither (is_action s action) (list_all (is_among s.roles) roles) (known s (form.Nest nest action roles) none) in
       let d : all_differ (map (λ r. index_of r s.roles) roles) ≡ true = differ_mapped s.roles roles (differing s (form.Nest nest action roles) none) k.1 in
       let f : (length (map (λ r. index_of r s.roles) roles) == length (action_of s action).roles) ≡ true =
-      rw length-map (eqb_turn (length (action_of s action).roles) (length roles) (is_not_not _ (filled s (form.Nest nest action roles) none))) in
+      rw length-map (eqb_turn (length (action_of s action).roles) (length roles) (not-false _ (filled s (form.Nest nest action roles) none))) in
       rw (k.0, d, f) refl;
   mapped = λ actions graphs row i x h. h;
   undone = λ actions graphs row x h. h;
@@ -136,7 +137,7 @@ filled_test = record {
       let k = neither (is_among s.nests nest) (is_action s action) (known s (form.Alternate nest action) none) in
       let p = and_parts (all_below (length s.actions) row.actions) _ h in
       let q = and_parts (all_differ row.roles) _ p.1 in
-      let f = eqb_turn (length (action_of s action).roles) (length row.roles) (is_not_not _ (filled s (form.Alternate nest action) none)) in
+      let f = eqb_turn (length (action_of s action).roles) (length row.roles) (not-false _ (filled s (form.Alternate nest action) none)) in
       rw (
         all_push (λ a. nat_lt a (length s.actions)) row.actions (index_of action s.action_names) p.0 k.1,
         q.0,
@@ -180,7 +181,7 @@ one_face_longer actions action (b ∷ acts) h =
     let p = and_parts (all_below (length actions) (b ∷ acts)) _ h in
     let k = and_parts (nat_lt b (length actions)) (all_below (length actions) acts) p.0 in
     let e : face_in (actions ++ action ∷ []) (b ∷ acts) ≡ face_in actions (b ∷ acts) = ap (λ (a : ActionRow). a.interface) (same_action actions action b (ltb-true _ _ k.0)) in
-    both _ _ (below_more (length actions) _ (b ∷ acts) (one_longer actions action) p.0)
+    and_from _ _ (below_more (length actions) _ (b ∷ acts) (one_longer actions action) p.0)
     (subst (λ (face : ℕ). list_all (λ a. tells face (slice_index_or (actions ++ action ∷ []) a no_action)) (b ∷ acts) ≡ true) (sym e) (acts_same (tells (face_in actions (b ∷ acts))) actions action (b ∷ acts) p.0 p.1))
 
 pub faced_test : IsNestTest uses_faced
@@ -193,7 +194,7 @@ faced_test = record {
   failed = λ actions graphs row x h. h;
   alternated = λ s nest action none h.
       let k = neither (is_among s.nests nest) (is_action s action) (known s (form.Alternate nest action) none) in
-      one_face_more s.actions (nest_of s nest).actions (index_of action s.action_names) k.1 (is_not_not _ (faced s (form.Alternate nest action) none)) h;
+      one_face_more s.actions (nest_of s nest).actions (index_of action s.action_names) k.1 (not-false _ (faced s (form.Alternate nest action) none)) h;
   one_action = λ actions graphs action row h. one_face_longer actions action row.actions h;
   one_graph = λ actions graphs graph row h. h;
 }

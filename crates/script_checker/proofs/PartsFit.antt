@@ -2,7 +2,7 @@
 use Rattle.std.proofs.Common.{◌≡◌, ℕ, ◌+◌, ◌≤◌, nat_le, Bool, true, false, not, ◌&&◌, List, [], ◌∷◌, ◌++◌, map, length, Option, Some, None, refl, arith, length-append, length-set}
 use Rattle.std.proofs.lemmas.List.{length-map}
 use Rattle.std.specs.List.{list_all}
-use Rattle.std.proofs.lemmas.Bool.{and_parts, false≢true, ltb-false, le-leb}
+use Rattle.std.proofs.lemmas.Bool.{and_parts, false≢true, ltb-false, le-leb, and_from}
 use Rattle.caa_base.specs.Lists.{is_empty, index_of}
 use Rattle.caa_base.specs.declared.entry.Verdict.{Verdict}
 use Rattle.caa_base.specs.declared.entry.Verdict.TheVariants as verdict
@@ -28,22 +28,20 @@ use Rattle.script_checker.proofs.Accepted.{IsKept, filled}
 use Rattle.script_checker.proofs.ActionsGrow.{all_push, ends_action, closed_actions, said_actions}
 use Rattle.script_checker.proofs.ListsChange.{all_change, all_set, all_mapped}
 use Rattle.script_checker.proofs.CountsKept.{few_more}
+use Rattle.caa_base.specs.Limits.{most_steps, most_roles, most_nests, most_alternates}
 
 -- the steps of what is being declared, and the roles so far
 abbrev pub ProgramsFit : SoFar → Type 0
-ProgramsFit s = (length s.steps ≤ 256) × (list_all role_fits s.role_rows ≡ true)
-
-both : (a b : Bool) → a ≡ true → b ≡ true → (a && b) ≡ true
-both a b h k = rw (h, k) refl
+ProgramsFit s = (length s.steps ≤ most_steps) × (list_all role_fits s.role_rows ≡ true)
 
 -- a role with one more program that fits
 program_added : (exception : Option ℕ) (program : Program) → program_fits program ≡ true → (row : RoleRow) → role_fits row ≡ true → role_fits (with_program row exception program) ≡ true
 program_added None program p row h =
     let parts = and_parts (program_fits row.body) (list_all (λ (h : HandlerRow). program_fits h.program) row.handlers) h in
-    both _ _ p parts.1
+    and_from _ _ p parts.1
 program_added (Some x) program p row h =
     let parts = and_parts (program_fits row.body) (list_all (λ (h : HandlerRow). program_fits h.program) row.handlers) h in
-    both _ _ parts.0 (all_push (λ (h : HandlerRow). program_fits h.program) row.handlers (record { exception = x; program = program }) parts.1 p)
+    and_from _ _ parts.0 (all_push (λ (h : HandlerRow). program_fits h.program) row.handlers (record { exception = x; program = program }) parts.1 p)
 
 pub closed_programs : (s : SoFar) (v : Verdict) (o : Option Opening) → ProgramsFit s → ProgramsFit (closed_if s o v)
 closed_programs s v None h = h
@@ -64,13 +62,13 @@ module _ (names : List (List ℕ)) where
   says_programs s (form.AbortTest role t v x) w h = (h.0, all_change role_fits (λ (row : RoleRow). record row { abort = abort.Where t v (index_of x (outer s)) }) s.role_rows (index_of role s.roles) no_role (λ row k. k) h.1)
   says_programs s (form.Body role) w h = (omega arith, h.1)
   says_programs s (form.Handler role x) w h = (omega arith, h.1)
-  says_programs s (form.ReadStep object) w h = (few_more 256 s.steps _ w, h.1)
-  says_programs s (form.PutStep object v) w h = (few_more 256 s.steps _ w, h.1)
-  says_programs s (form.AddStep object v) w h = (few_more 256 s.steps _ w, h.1)
-  says_programs s (form.WorkStep k) w h = (few_more 256 s.steps _ w, h.1)
-  says_programs s (form.CheckStep t v x) w h = (few_more 256 s.steps _ w, h.1)
-  says_programs s (form.RaiseStep x) w h = (few_more 256 s.steps _ w, h.1)
-  says_programs s (form.EnterStep n) w h = (few_more 256 s.steps _ w, h.1)
+  says_programs s (form.ReadStep object) w h = (few_more most_steps s.steps _ w, h.1)
+  says_programs s (form.PutStep object v) w h = (few_more most_steps s.steps _ w, h.1)
+  says_programs s (form.AddStep object v) w h = (few_more most_steps s.steps _ w, h.1)
+  says_programs s (form.WorkStep k) w h = (few_more most_steps s.steps _ w, h.1)
+  says_programs s (form.CheckStep t v x) w h = (few_more most_steps s.steps _ w, h.1)
+  says_programs s (form.RaiseStep x) w h = (few_more most_steps s.steps _ w, h.1)
+  says_programs s (form.EnterStep n) w h = (few_more most_steps s.steps _ w, h.1)
   says_programs s form.End w h = ended_programs s s.block h
   says_programs s form.DoneLine w h = closed_programs s _ s.opening h
   says_programs s (form.SignalLine x) w h = closed_programs s _ s.opening h
@@ -80,7 +78,7 @@ module _ (names : List (List ℕ)) where
 -- ---- as many role rows as roles
 
 abbrev pub AreRoles : SoFar → Type 0
-AreRoles s = (length s.role_rows ≤ 16) × (is_in_action s.block ≡ true → length s.role_rows ≡ length s.roles)
+AreRoles s = (length s.role_rows ≤ most_roles) × (is_in_action s.block ≡ true → length s.role_rows ≡ length s.roles)
 
 pub closed_roles : (s : SoFar) (v : Verdict) (o : Option Opening) → AreRoles s → AreRoles (closed_if s o v)
 closed_roles s v None h = h
@@ -95,7 +93,7 @@ module _ (names : List (List ℕ)) where
   pub says_roles : (s : SoFar) (f : Form) → is_past_limit s f ≡ false → AreRoles s → AreRoles (with_said names s f)
   says_roles s (form.Graph name) w h = (h.0, λ e. absurd (false≢true e))
   says_roles s (form.Action name) w h = (omega arith, λ e. refl)
-  says_roles s (form.Roles roles) w h = (rw length-map (ltb-false 16 (length roles) w), λ e. rw length-map refl)
+  says_roles s (form.Roles roles) w h = (rw length-map (ltb-false most_roles (length roles) w), λ e. rw length-map refl)
   says_roles s (form.Abort role x) w h = (rw length-set h.0, λ e. rw length-set (h.1 e))
   says_roles s (form.AbortTest role t v x) w h = (rw length-set h.0, λ e. rw length-set (h.1 e))
   says_roles s form.End w h = ended_roles s s.block refl h
@@ -107,16 +105,16 @@ module _ (names : List (List ℕ)) where
 -- ---- nested uses
 
 abbrev pub NestsFit : SoFar → Type 0
-NestsFit s = (length s.nest_rows ≤ length s.nests) × (length s.nests ≤ 256) × (list_all nest_fits s.nest_rows ≡ true)
+NestsFit s = (length s.nest_rows ≤ length s.nests) × (length s.nests ≤ most_nests) × (list_all nest_fits s.nest_rows ≡ true)
 
 pub closed_nests : (s : SoFar) (v : Verdict) (o : Option Opening) → NestsFit s → NestsFit (closed_if s o v)
 closed_nests s v None h = h
 closed_nests s v (Some o) h = h
 
 -- one action more
-more_alternates : (actions : List ℕ) (a : ℕ) → nat_le 4 (length actions) ≡ false → (not (is_empty (actions ++ a ∷ [])) && nat_le (length (actions ++ a ∷ [])) 4) ≡ true
+more_alternates : (actions : List ℕ) (a : ℕ) → nat_le most_alternates (length actions) ≡ false → (not (is_empty (actions ++ a ∷ [])) && nat_le (length (actions ++ a ∷ [])) most_alternates) ≡ true
 more_alternates [] a w = refl
-more_alternates (b ∷ actions) a w = le-leb _ _ (few_more 4 (b ∷ actions) a w)
+more_alternates (b ∷ actions) a w = le-leb _ _ (few_more most_alternates (b ∷ actions) a w)
 
 module _ (names : List (List ℕ)) where
   ended_nests : (s : SoFar) (b : Block) → NestsFit s → NestsFit (ended names s b)
@@ -134,7 +132,7 @@ module _ (names : List (List ℕ)) where
       let row = plain_nest (name_at names nest) (index_of action s.action_names) (map (λ r. index_of r s.roles) roles) (length (exceptions_at s.graphs (action_of s action).interface)) in
       let m : length (s.nest_rows ++ row ∷ []) ≡ length s.nest_rows + 1 = length-append s.nest_rows (row ∷ []) in
       let n : length (s.nests ++ nest ∷ []) ≡ length s.nests + 1 = length-append s.nests (nest ∷ []) in
-      (omega (arith, h.0), few_more 256 s.nests nest w, all_push nest_fits s.nest_rows row h.2 refl)
+      (omega (arith, h.0), few_more most_nests s.nests nest w, all_push nest_fits s.nest_rows row h.2 refl)
   says_nests s (form.Map nest lower upper) w h = nest_changed s nest _ h (λ k. k)
   says_nests s (form.MapUndo nest x) w h = nest_changed s nest _ h (λ k. k)
   says_nests s (form.MapFailure nest x) w h = nest_changed s nest _ h (λ k. k)
@@ -165,8 +163,8 @@ has_roles s f e u = absurd (false≢true e)
 end_fits : (names : List (List ℕ)) (s : SoFar) → ActionsFit s → is_in_action s.block ≡ true → is_empty s.roles ≡ false → action_fits (action_row names s) ≡ true
 end_fits names s h e u =
     let some : is_empty s.role_rows ≡ false = filled_by s.role_rows s.roles (h.roles.1 e) u in
-    let few : length s.nest_rows ≤ 256 = omega (arith, h.nests.0, h.nests.1) in
-    rw (some, le-leb (length s.role_rows) 16 h.roles.0, le-leb (length s.nest_rows) 256 few, h.programs.1, h.nests.2) refl
+    let few : length s.nest_rows ≤ most_nests = omega (arith, h.nests.0, h.nests.1) in
+    rw (some, le-leb (length s.role_rows) most_roles h.roles.0, le-leb (length s.nest_rows) most_nests few, h.programs.1, h.nests.2) refl
 
 pub fits_kept : (names : List (List ℕ)) → IsKept names (λ at s. ActionsFit s)
 fits_kept names = record {

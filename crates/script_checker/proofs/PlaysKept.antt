@@ -2,7 +2,7 @@
 use Rattle.std.proofs.Common.{◌≡◌, ℕ, ◌+◌, ◌<◌, nat_lt, ◌==◌, Bool, true, ◌&&◌, List, [], ◌∷◌, ◌++◌, map, length, slice_index_or, Option, Some, None, refl, arith, length-append}
 use Rattle.std.proofs.lemmas.List.{length-map}
 use Rattle.std.specs.List.{list_all}
-use Rattle.std.proofs.lemmas.Bool.{and_parts, ltb-true, lt-ltb}
+use Rattle.std.proofs.lemmas.Bool.{and_parts, ltb-true, lt-ltb, and_from, not-false}
 use Rattle.caa_base.specs.Lists.{index_of}
 use Rattle.caa_base.specs.declared.entry.Verdict.{Verdict}
 use Rattle.caa_base.specs.declared.entry.Verdict.TheVariants as verdict
@@ -24,7 +24,7 @@ use Rattle.caa_base.proofs.ListLemmas.{all_imply}
 use Rattle.script_checker.proofs.Choosing.{known}
 use Rattle.script_checker.proofs.Accepted.{IsKept, filled, differing}
 use Rattle.script_checker.proofs.ActionsGrow.{all_push}
-use Rattle.script_checker.proofs.NestTests.{neither, is_not_not, both, eqb_turn, differ_mapped, below_more, one_longer, same_action}
+use Rattle.script_checker.proofs.NestTests.{neither, eqb_turn, differ_mapped, below_more, one_longer, same_action, numbers_below}
 
 -- by so many participants, and these actions
 abbrev pub play_right : ℕ → List ActionRow → PlayRow → Bool
@@ -43,7 +43,7 @@ more_participants : (m n : ℕ) (actions : List ActionRow) → m < n → (play :
 more_participants m n actions l play h =
     let p = and_parts (nat_lt play.action (length actions)) _ h in
     let q = and_parts (all_below m play.who) _ p.1 in
-    both _ _ p.0 (both _ _ (below_more m n play.who l q.0) q.1)
+    and_from _ _ p.0 (and_from _ _ (below_more m n play.who l q.0) q.1)
 
 more_actions : (n : ℕ) (actions : List ActionRow) (action : ActionRow) (play : PlayRow) → play_right n actions play ≡ true → play_right n (actions ++ action ∷ []) play ≡ true
 more_actions n actions action play h =
@@ -51,7 +51,7 @@ more_actions n actions action play h =
     let q = and_parts (all_below n play.who) _ p.1 in
     let low = ltb-true play.action (length actions) p.0 in
     let longer = one_longer actions action in
-    rw (same_action actions action play.action low) (both _ _ (lt-ltb play.action _ (omega arith)) p.1)
+    rw (same_action actions action play.action low) (and_from _ _ (lt-ltb play.action _ (omega arith)) p.1)
 
 module _ (names : List (List ℕ)) where
   ended_plays : (s : SoFar) (b : Block) → PlaysRight s → PlaysRight (ended names s b)
@@ -64,15 +64,9 @@ module _ (names : List (List ℕ)) where
       let k = neither (is_action s action) (list_all (is_among s.participants) who) (known s (form.Play action who) none) in
       let d : all_differ (map (λ p. index_of p s.participants) who) ≡ true = differ_mapped s.participants who (differing s (form.Play action who) none) k.1 in
       let f : (length (map (λ p. index_of p s.participants) who) == length (action_of s action).roles) ≡ true =
-      rw length-map (eqb_turn (length (action_of s action).roles) (length who) (is_not_not _ (filled s (form.Play action who) none))) in
-      let b : all_below (length s.participants) (map (λ p. index_of p s.participants) who) ≡ true = numbered s.participants who k.1 in
-      both _ _ k.0 (both _ _ b (both _ _ f d))
-    where
-      numbered : (ns xs : List ℕ) → list_all (is_among ns) xs ≡ true → all_below (length ns) (map (λ p. index_of p ns) xs) ≡ true
-      numbered ns [] h = refl
-      numbered ns (x ∷ xs) h =
-          let p = and_parts (is_among ns x) (list_all (is_among ns) xs) h in
-          both _ _ p.0 (numbered ns xs p.1)
+      rw length-map (eqb_turn (length (action_of s action).roles) (length who) (not-false _ (filled s (form.Play action who) none))) in
+      let b : all_below (length s.participants) (map (λ p. index_of p s.participants) who) ≡ true = numbers_below s.participants who (length s.participants) k.1 (omega arith) in
+      and_from _ _ k.0 (and_from _ _ b (and_from _ _ f d))
 
   says_plays : (s : SoFar) (f : Form) → HasNone s f → PlaysRight s → PlaysRight (with_said names s f)
   says_plays s (form.Participant name) none h =

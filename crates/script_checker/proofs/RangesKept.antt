@@ -1,7 +1,7 @@
 -- The numbers in what an accepted script declares are in range, however much is declared later.
 use Rattle.std.proofs.Common.{◌≡◌, ℕ, suc, zero, ◌+◌, ◌<◌, ◌≤◌, nat_lt, Bool, true, false, not, ◌&&◌, is_some, List, [], ◌∷◌, ◌++◌, map, length, replicate, slice_set, Option, Some, None, unwrap_or, refl, sym, arith, length-append}
 use Rattle.std.specs.List.{list_all}
-use Rattle.std.proofs.lemmas.Bool.{and_parts, false≢true, ltb-true, lt-ltb, eqb-true}
+use Rattle.std.proofs.lemmas.Bool.{and_parts, false≢true, ltb-true, lt-ltb, eqb-true, and_from, not-false, or_parts}
 use Rattle.caa_base.specs.Lists.{member, index_of, is_empty}
 use Rattle.caa_base.specs.declared.entry.Drill.{Drill}
 use Rattle.caa_base.specs.declared.entry.Verdict.{Verdict}
@@ -40,7 +40,7 @@ use Rattle.script_checker.proofs.Choosing.{known, within}
 use Rattle.script_checker.proofs.Accepted.{IsKept, once}
 use Rattle.script_checker.proofs.ActionsGrow.{all_push}
 use Rattle.script_checker.proofs.ListsChange.{all_change, all_set, all_mapped}
-use Rattle.script_checker.proofs.NestTests.{neither, nor, both, is_not_not}
+use Rattle.script_checker.proofs.NestTests.{neither, still_below, numbers_below}
 use Rattle.script_checker.proofs.GraphsKept.{first_alone}
 use Rattle.script_checker.proofs.GraphsThere.{has_exception, some_exception, GraphsThere, closed_there, says_there}
 use Rattle.script_checker.proofs.PartsFit.{AreRoles, closed_roles, says_roles}
@@ -48,27 +48,16 @@ use Rattle.script_checker.proofs.ValuesSaid.{value_first, value_second, rounds_a
 
 -- ---- numbers below a count
 
-pub still_below : (n few many : ℕ) → nat_lt n few ≡ true → few ≤ many → nat_lt n many ≡ true
-still_below n few many h l =
-    let low = ltb-true n few h in
-    lt-ltb n many (omega arith)
-
-pub numbers_below : (names xs : List ℕ) (many : ℕ) → list_all (is_among names) xs ≡ true → length names ≤ many → all_below many (map (λ r. index_of r names) xs) ≡ true
-numbers_below names [] many h l = refl
-numbers_below names (x ∷ xs) many h l =
-    let p = and_parts (is_among names x) (list_all (is_among names) xs) h in
-    both _ _ (still_below (index_of x names) (length names) many p.0 l) (numbers_below names xs many p.1 l)
-
 zeros_below : (count many : ℕ) → nat_lt 0 many ≡ true → all_below many (replicate count 0) ≡ true
 zeros_below zero many h = refl
-zeros_below (suc count) many h = both _ _ h (zeros_below count many h)
+zeros_below (suc count) many h = and_from _ _ h (zeros_below count many h)
 
 -- chosen numbers rise, and are below the count of what they are chosen from
 rises_above : (low n : ℕ) (names xs : List ℕ) → low < n → is_rising_above low (chosen_from n names xs) ≡ true
 rises_above low n names [] l = refl
 rises_above low n names (x ∷ xs) l =
     either (λ (ys : List ℕ). is_rising_above low ys ≡ true) (member x names) (n ∷ chosen_from (n + 1) names xs) (chosen_from (n + 1) names xs)
-    (both _ _ (lt-ltb low n l) (rises_above n (n + 1) names xs (omega arith)))
+    (and_from _ _ (lt-ltb low n l) (rises_above n (n + 1) names xs (omega arith)))
     (rises_above low (n + 1) names xs (omega arith))
 
 rises : (n : ℕ) (names xs : List ℕ) → is_rising (chosen_from n names xs) ≡ true
@@ -83,7 +72,7 @@ chosen_below n many names [] l = refl
 chosen_below n many names (x ∷ xs) l =
     let more = chosen_below (n + 1) many names xs (omega (arith, l)) in
     either (λ (ys : List ℕ). all_below many ys ≡ true) (member x names) (n ∷ chosen_from (n + 1) names xs) (chosen_from (n + 1) names xs)
-    (both _ _ (lt-ltb n many (omega (arith, l))) more)
+    (and_from _ _ (lt-ltb n many (omega (arith, l))) more)
     more
 
 -- ---- the action that is being declared
@@ -135,11 +124,11 @@ OpenRight s = (c : Counts) → Enough c s → PartsRight c s
 -- ---- programs
 
 program_right : (c : Counts) (exception : Option ℕ) (program : Program) → handled_in_range c.internal exception ≡ true → program_in_range c.objects c.internal c.interface program ≡ true → (row : RoleRow) → role_in_range c.objects c.internal c.interface row ≡ true → role_in_range c.objects c.internal c.interface (with_program row exception program) ≡ true
-program_right c None program e p row h = both _ _ p (and_parts (program_in_range c.objects c.internal c.interface row.body) _ h).1
+program_right c None program e p row h = and_from _ _ p (and_parts (program_in_range c.objects c.internal c.interface row.body) _ h).1
 program_right c (Some x) program e p row h =
     let parts = and_parts (program_in_range c.objects c.internal c.interface row.body) _ h in
     let more = and_parts (list_all (handler_in_range c.objects c.internal c.interface) row.handlers) (abort_in_range c.interface row.abort) parts.1 in
-    both _ _ parts.0 (both _ _ (all_push (handler_in_range c.objects c.internal c.interface) row.handlers (record { exception = x; program = program }) more.0 (both _ _ e p)) more.1)
+    and_from _ _ parts.0 (and_from _ _ (all_push (handler_in_range c.objects c.internal c.interface) row.handlers (record { exception = x; program = program }) more.0 (and_from _ _ e p)) more.1)
 
 closed_parts : (c : Counts) (s : SoFar) (v : Verdict) (o : Option Opening) → s.opening ≡ o → verdict_in_range c.interface v ≡ true → PartsRight c s → PartsRight c (closed_if s o v)
 closed_parts c s v None e w h = h
@@ -152,7 +141,7 @@ closed_parts c s v (Some o) e w h =
       uses_rise = h.uses_rise;
       uses_right = h.uses_right;
       fault_right = h.fault_right;
-      roles_right = all_change (role_in_range c.objects c.internal c.interface) (λ (row : RoleRow). with_program row o.exception program) s.role_rows o.role no_role (program_right c o.exception program handled (both _ _ h.steps_right w)) h.roles_right;
+      roles_right = all_change (role_in_range c.objects c.internal c.interface) (λ (row : RoleRow). with_program row o.exception program) s.role_rows o.role no_role (program_right c o.exception program handled (and_from _ _ h.steps_right w)) h.roles_right;
       nests_right = h.nests_right;
     }
 
@@ -187,7 +176,7 @@ nest_parts c row h =
     record { actions_right = p.0; roles_right = q.0; maps_right = m.0; undo_right = l.0; failure_right = l.1 }
 
 nest_from : (c : Counts) (row : NestRow) → NestParts c row → NestRight c row
-nest_from c row p = both _ _ p.actions_right (both _ _ p.roles_right (both _ _ p.maps_right (both _ _ p.undo_right p.failure_right)))
+nest_from c row p = and_from _ _ p.actions_right (and_from _ _ p.roles_right (and_from _ _ p.maps_right (and_from _ _ p.undo_right p.failure_right)))
 
 mapped_right : (c : Counts) (row : NestRow) (i x : ℕ) → nat_lt x c.internal ≡ true → NestRight c row → NestRight c (record row { maps = slice_set row.maps i x })
 mapped_right c row i x l h =
@@ -253,7 +242,7 @@ abort_said s role row right h = λ c b.
           (λ r m.
           let p = and_parts (program_in_range c.objects c.internal c.interface r.body) _ m in
           let q = and_parts (list_all (handler_in_range c.objects c.internal c.interface) r.handlers) (abort_in_range c.interface r.abort) p.1 in
-          both _ _ p.0 (both _ _ q.0 (right c b)))
+          and_from _ _ p.0 (and_from _ _ q.0 (right c b)))
           k.roles_right;
       nests_right = k.nests_right;
     }
@@ -342,7 +331,7 @@ module _ (names : List (List ℕ)) where
         opening_right = k.opening_right;
         uses_rise = k.uses_rise;
         uses_right = k.uses_right;
-        fault_right = still_below (index_of x (inner s)) (length (inner s)) c.internal (is_not_not _ (known s (form.Fault x) none)) b.of_inner;
+        fault_right = still_below (index_of x (inner s)) (length (inner s)) c.internal (not-false _ (known s (form.Fault x) none)) b.of_inner;
         roles_right = k.roles_right;
         nests_right = k.nests_right;
       }
@@ -359,7 +348,7 @@ module _ (names : List (List ℕ)) where
         nests_right = k.nests_right;
       }
   says_open at then s (form.Roles roles) sound none now later h = λ c b.
-      let e = empty_is s.roles (is_not_not _ (nor (not (is_empty s.roles)) (has_twice roles) (once s (form.Roles roles) none)).0) in
+      let e = empty_is s.roles (not-false _ (or_parts (not (is_empty s.roles)) (has_twice roles) (once s (form.Roles roles) none)).0) in
       let few : length s.roles ≤ c.roles = rw e (omega arith) in
       let k = h c (record { of_objects = b.of_objects; of_actions = b.of_actions; of_roles = few; of_inner = b.of_inner; of_outer = b.of_outer }) in
       record {
@@ -384,11 +373,11 @@ module _ (names : List (List ℕ)) where
         fault_right = k.fault_right;
         roles_right = k.roles_right;
         nests_right = all_push (nest_in_range c.actions c.roles c.internal) s.nest_rows _ k.nests_right
-            (both _ _ (both _ _ (still_below (index_of action s.action_names) (length s.actions) c.actions a.0 b.of_actions) refl)
-            (both _ _ (numbers_below s.roles roles c.roles a.1 b.of_roles) (both _ _ (zeros_below _ c.internal one) (both _ _ one one))));
+            (and_from _ _ (and_from _ _ (still_below (index_of action s.action_names) (length s.actions) c.actions a.0 b.of_actions) refl)
+            (and_from _ _ (numbers_below s.roles roles c.roles a.1 b.of_roles) (and_from _ _ (zeros_below _ c.internal one) (and_from _ _ one one))));
       }
   says_open at then s (form.Map nest lower upper) sound none now later h =
-      let a = (neither (is_among (face s nest) lower) (is_among (inner s) upper) (nor (not (is_among s.nests nest)) _ (known s (form.Map nest lower upper) none)).1).1 in
+      let a = (neither (is_among (face s nest) lower) (is_among (inner s) upper) (or_parts (not (is_among s.nests nest)) _ (known s (form.Map nest lower upper) none)).1).1 in
       nest_changes s nest _ (λ c b. mapped_right c (nest_of s nest) (index_of lower (face s nest)) (index_of upper (inner s)) (still_below (index_of upper (inner s)) (length (inner s)) c.internal a b.of_inner)) h
   says_open at then s (form.MapUndo nest x) sound none now later h =
       let a = (neither (is_among s.nests nest) (is_among (inner s) x) (known s (form.MapUndo nest x) none)).1 in
@@ -405,36 +394,36 @@ module _ (names : List (List ℕ)) where
   says_open at then s (form.AbortTest role t v x) sound none now later h =
       let a = (neither (is_among s.roles role) (is_among (outer s) x) (known s (form.AbortTest role t v x) none)).1 in
       let w = value_second _ v _ (parts_sound names (form.AbortTest role t v x) sound) in
-      abort_said s role (abort.Where t v (index_of x (outer s))) (λ c b. both _ _ w (still_below (index_of x (outer s)) (length (outer s)) c.interface a b.of_outer)) h
+      abort_said s role (abort.Where t v (index_of x (outer s))) (λ c b. and_from _ _ w (still_below (index_of x (outer s)) (length (outer s)) c.interface a b.of_outer)) h
   says_open at then s (form.Body role) sound none now later h = opened s (record { role = index_of role s.roles; exception = None }) (λ c b. refl) h
   says_open at then s (form.Handler role x) sound none now later h =
       let a = (neither (is_among s.roles role) (is_among (inner s) x) (known s (form.Handler role x) none)).1 in
       opened s (record { role = index_of role s.roles; exception = Some (index_of x (inner s)) }) (λ c b. still_below (index_of x (inner s)) (length (inner s)) c.internal a b.of_inner) h
   says_open at then s (form.ReadStep object) sound none now later h =
-      let a = is_not_not _ (known s (form.ReadStep object) none) in
+      let a = not-false _ (known s (form.ReadStep object) none) in
       step_more s (step.Read (index_of object s.objects)) (λ c b. still_below (index_of object s.objects) (length s.objects) c.objects a b.of_objects) h
   says_open at then s (form.PutStep object v) sound none now later h =
-      let a = is_not_not _ (known s (form.PutStep object v) none) in
+      let a = not-false _ (known s (form.PutStep object v) none) in
       let w = value_second _ v _ (parts_sound names (form.PutStep object v) sound) in
-      step_more s (step.Put (index_of object s.objects) v) (λ c b. both _ _ (still_below (index_of object s.objects) (length s.objects) c.objects a b.of_objects) w) h
+      step_more s (step.Put (index_of object s.objects) v) (λ c b. and_from _ _ (still_below (index_of object s.objects) (length s.objects) c.objects a b.of_objects) w) h
   says_open at then s (form.AddStep object v) sound none now later h =
-      let a = is_not_not _ (known s (form.AddStep object v) none) in
+      let a = not-false _ (known s (form.AddStep object v) none) in
       let w = value_second _ v _ (parts_sound names (form.AddStep object v) sound) in
-      step_more s (step.Add (index_of object s.objects) v) (λ c b. both _ _ (still_below (index_of object s.objects) (length s.objects) c.objects a b.of_objects) w) h
+      step_more s (step.Add (index_of object s.objects) v) (λ c b. and_from _ _ (still_below (index_of object s.objects) (length s.objects) c.objects a b.of_objects) w) h
   says_open at then s (form.WorkStep k) sound none now later h =
       step_more s (step.Work k) (λ c b. rounds_alone k (parts_sound names (form.WorkStep k) sound)) h
   says_open at then s (form.CheckStep t v x) sound none now later h =
-      let a = is_not_not _ (known s (form.CheckStep t v x) none) in
+      let a = not-false _ (known s (form.CheckStep t v x) none) in
       let w = value_first v _ (parts_sound names (form.CheckStep t v x) sound) in
-      step_more s (step.Check t v (index_of x (inner s))) (λ c b. both _ _ w (still_below (index_of x (inner s)) (length (inner s)) c.internal a b.of_inner)) h
+      step_more s (step.Check t v (index_of x (inner s))) (λ c b. and_from _ _ w (still_below (index_of x (inner s)) (length (inner s)) c.internal a b.of_inner)) h
   says_open at then s (form.RaiseStep x) sound none now later h =
-      let a = is_not_not _ (known s (form.RaiseStep x) none) in
+      let a = not-false _ (known s (form.RaiseStep x) none) in
       step_more s (step.Raise (index_of x (inner s))) (λ c b. still_below (index_of x (inner s)) (length (inner s)) c.internal a b.of_inner) h
   says_open at then s (form.EnterStep nest) sound none now later h = step_more s (step.Enter (index_of nest s.nests)) (λ c b. refl) h
   says_open at then s form.End sound none now later h = ended_open s s.block h
   says_open at then s form.DoneLine sound none now later h = closed_right s verdict.Done (λ c b. refl) h
   says_open at then s (form.SignalLine x) sound none now later h =
-      let a = is_not_not _ (known s (form.SignalLine x) none) in
+      let a = not-false _ (known s (form.SignalLine x) none) in
       closed_right s (verdict.Signal (index_of x (outer s))) (λ c b. still_below (index_of x (outer s)) (length (outer s)) c.interface a b.of_outer) h
   says_open at then s form.UndoLine sound none now later h = closed_right s verdict.Undo (λ c b. refl) h
   says_open at then s f sound none now later h = h
@@ -464,9 +453,9 @@ module _ (names : List (List ℕ)) where
   ended_row at s e there roles here objects actions graphs count lo la lg lc =
       let c : Counts = record { objects = objects; actions = actions; roles = length s.role_rows; internal = count (internal_graph s); interface = count (interface_graph s) } in
       let k = here c (record { of_objects = lo; of_actions = la; of_roles = omega (arith, roles.1 (in_action_here s e)); of_inner = lc (internal_graph s); of_outer = lc (interface_graph s) }) in
-      both _ _
-      (both _ _ (lt-ltb (internal_graph s) graphs (omega (arith, there.internal_there))) (both _ _ (lt-ltb (interface_graph s) graphs (omega (arith, there.interface_there))) k.fault_right))
-      (both _ _ (both _ _ k.uses_rise k.uses_right) (both _ _ k.roles_right k.nests_right))
+      and_from _ _
+      (and_from _ _ (lt-ltb (internal_graph s) graphs (omega (arith, there.internal_there))) (and_from _ _ (lt-ltb (interface_graph s) graphs (omega (arith, there.interface_there))) k.fault_right))
+      (and_from _ _ (and_from _ _ k.uses_rise k.uses_right) (and_from _ _ k.roles_right k.nests_right))
 
   ended_ended : (at : Section) (s : SoFar) (b : Block) → s.block ≡ b → GraphsThere at s → AreRoles s → OpenRight s → EndedRight s → EndedRight (ended names s b)
   ended_ended at s block.Top e there roles here h = h
@@ -532,14 +521,14 @@ module _ (names : List (List ℕ)) where
         watched = λ many l. h.watched many (omega (arith, l));
       }
   says_outside s (form.Drill object nth) sound none h =
-      let a = is_not_not _ (known s (form.Drill object nth) none) in
+      let a = not-false _ (known s (form.Drill object nth) none) in
       record {
         valued = h.valued;
         drilled = λ many l. all_push (drill_below many) s.drills _ (h.drilled many l) (still_below (index_of object s.objects) (length s.objects) many a l);
         watched = h.watched;
       }
   says_outside s (form.Watch object) sound none h =
-      let a = is_not_not _ (known s (form.Watch object) none) in
+      let a = not-false _ (known s (form.Watch object) none) in
       record {
         valued = h.valued;
         drilled = h.drilled;

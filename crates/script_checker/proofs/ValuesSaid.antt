@@ -1,13 +1,12 @@
 -- The values and the rounds of a script's lines are in range.
 use Rattle.std.proofs.Common.{◌≡◌, ℕ, ℤ, pos, negsuc, int_lt, ◌+◌, ◌≤◌, nat_le, Bool, true, false, not, ◌&&◌, List, length, ap, arith}
 use Rattle.std.proofs.lemmas.Int.{ints}
-use Rattle.std.proofs.lemmas.Bool.{and_parts, leb-true, false_from_ne_true}
+use Rattle.std.proofs.lemmas.Bool.{and_parts, leb-true, false_from_ne_true, and_from}
 use Rattle.caa_base.specs.Limits.{is_value, most_rounds}
 use Rattle.action_script.specs.declared.form.Form.{Form}
 use Rattle.action_script.specs.Kinds.{takes, parts_of}
 use Rattle.action_script.specs.Forms.{kind_of, fields_of}
 use Rattle.action_script.specs.Printing.{is_sound, all_fit, is_value as is_said_value}
-use Rattle.script_checker.proofs.NestTests.{both}
 
 -- the two tests of a value are one
 value_said : (v : ℤ) → is_said_value v ≡ true → is_value v ≡ true
@@ -15,12 +14,12 @@ value_said (pos n) h =
     let small : n ≤ 1000000000000 = leb-true n 1000000000000 h in
     let low : int_lt (pos n) (negsuc 999999999999) ≡ false = false_from_ne_true _ (λ e. omega (arith, ints)) in
     let high : int_lt (pos 1000000000000) (pos n) ≡ false = false_from_ne_true _ (λ e. omega (arith, ints)) in
-    both _ _ (ap not low) (ap not high)
+    and_from _ _ (ap not low) (ap not high)
 value_said (negsuc n) h =
     let small : n + 1 ≤ 1000000000000 = leb-true (n + 1) 1000000000000 h in
     let low : int_lt (negsuc n) (negsuc 999999999999) ≡ false = false_from_ne_true _ (λ e. omega (arith, ints)) in
     let high : int_lt (pos 1000000000000) (negsuc n) ≡ false = false_from_ne_true _ (λ e. omega (arith, ints)) in
-    both _ _ (ap not low) (ap not high)
+    and_from _ _ (ap not low) (ap not high)
 
 -- the fields of a sound line are what is asked for
 pub parts_sound : (names : List (List ℕ)) (f : Form) → is_sound names f ≡ true → all_fit names (parts_of (kind_of f)) (fields_of f) ≡ true

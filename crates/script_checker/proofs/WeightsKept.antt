@@ -28,6 +28,7 @@ use Rattle.script_checker.proofs.NestTests.{same_action, uses_there, there_test}
 use Rattle.script_checker.proofs.PlaysKept.{play_right, PlaysRight, plays_kept}
 use Rattle.script_checker.proofs.DepthsKept.{at_longer, at_last, action_last, nests_there}
 use Rattle.script_checker.proofs.WeightsTell.{IsWeight}
+use Rattle.caa_base.specs.Limits.{most_places, most_entries}
 
 -- ---- one action more
 
@@ -94,10 +95,10 @@ abbrev pub own_entries : ActionRow → ℕ
 own_entries action = action_bound action (length action.roles)
 
 abbrev pub PlacesWeigh : SoFar → Type 0
-PlacesWeigh s = Weighs one_place s.places s.actions s.plays s.all_places × (s.all_places ≤ 65536)
+PlacesWeigh s = Weighs one_place s.places s.actions s.plays s.all_places × (s.all_places ≤ most_places)
 
 abbrev pub EntriesWeigh : SoFar → Type 0
-EntriesWeigh s = Weighs own_entries s.bounds s.actions s.plays s.whole_bound × (s.whole_bound ≤ 1000000)
+EntriesWeigh s = Weighs own_entries s.bounds s.actions s.plays s.whole_bound × (s.whole_bound ≤ most_entries)
 
 closed_places : (s : SoFar) (v : Verdict) (o : Option Opening) → PlacesWeigh s → PlacesWeigh (closed_if s o v)
 closed_places s v None h = h
@@ -119,7 +120,7 @@ module _ (names : List (List ℕ)) where
   ended_entries s block.Action there right h = (weighs_longer own_entries s.bounds s.actions s.plays s.whole_bound h.0 (length s.participants) (action_row names s) there.open_rows there.ended_rows right, h.1)
 
   says_places : (s : SoFar) (f : Form) → HasNone s f → Pass uses_there s → PlaysRight s → PlacesWeigh s → PlacesWeigh (with_said names s f)
-  says_places s (form.Play action who) none there right h = (weighs_play one_place s.places s.actions s.plays s.all_places h.0 _, ltb-false 65536 (places_with s action) (within s (form.Play action who) none))
+  says_places s (form.Play action who) none there right h = (weighs_play one_place s.places s.actions s.plays s.all_places h.0 _, ltb-false most_places (places_with s action) (within s (form.Play action who) none))
   says_places s form.End none there right h = ended_places s s.block there right h
   says_places s form.DoneLine none there right h = closed_places s _ s.opening h
   says_places s (form.SignalLine x) none there right h = closed_places s _ s.opening h
@@ -127,7 +128,7 @@ module _ (names : List (List ℕ)) where
   says_places s f none there right h = h
 
   says_entries : (s : SoFar) (f : Form) → HasNone s f → Pass uses_there s → PlaysRight s → EntriesWeigh s → EntriesWeigh (with_said names s f)
-  says_entries s (form.Play action who) none there right h = (weighs_play own_entries s.bounds s.actions s.plays s.whole_bound h.0 _, ltb-false 1000000 (bound_with s action) (bounded s (form.Play action who) none))
+  says_entries s (form.Play action who) none there right h = (weighs_play own_entries s.bounds s.actions s.plays s.whole_bound h.0 _, ltb-false most_entries (bound_with s action) (bounded s (form.Play action who) none))
   says_entries s form.End none there right h = ended_entries s s.block there right h
   says_entries s form.DoneLine none there right h = closed_entries s _ s.opening h
   says_entries s (form.SignalLine x) none there right h = closed_entries s _ s.opening h

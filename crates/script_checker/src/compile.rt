@@ -175,7 +175,8 @@ pub fn breaks_no_rule(script: &Script)
 
 /// The plan of a script, or the first line of it that is refused, with its least cause.
 ///
-/// `OutOfMemory` comes where no memory is found, and tells nothing of the script. The script stays as it was.
+/// `OutOfMemory` comes where no memory is found, and tells nothing of the script. A script without a refused line is kept from its
+/// plan by nothing else, since its draft breaks no rule, as `breaks_no_rule` says. The script stays as it was.
 pub fn compile(alloc: Global, script: &Script) -> Result<Plan, CheckError>
     ensures { IsAnswer script.now result }
 {
