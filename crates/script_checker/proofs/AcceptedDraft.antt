@@ -36,7 +36,7 @@ use Rattle.script_checker.proofs.PlaysKept.{play_right, PlaysRight, plays_kept}
 use Rattle.script_checker.proofs.GraphsKept.{IsPlainFirst, first_kept, rows_first, rows_named, rows_many, rows_count}
 use Rattle.script_checker.proofs.RangesKept.{action_right, is_valued, drill_below}
 use Rattle.script_checker.proofs.MapsKept.{use_mapped, AreMapped, maps_kept, mapped_at_first}
-use Rattle.caa_base.specs.Limits.{most_participants, most_objects, most_actions, most_watches, most_drills, most_graphs, most_places, most_entries}
+use Rattle.caa_base.specs.Limits.{most_participants, most_objects, most_actions, most_watches, most_drills, most_graphs, most_places, most_entries, most_depth}
 
 module _ (names : List (List ℕ)) (lines : List Line) (script : AreScript names (forms_of lines)) (accepted : AreAccepted names (nothing_yet names) lines) (draft : Draft) (drafted : IsDraftOf names (declared_after names (nothing_yet names) lines) draft) where
   abbrev last : SoFar
@@ -142,11 +142,11 @@ module _ (names : List (List ℕ)) (lines : List Line) (script : AreScript names
       let places : counted (played_weight (at last.places) draft.plays) ≡ counted (length (plan_of draft).places) =
       counted_places draft keeps last.places (own_weights one_place last.actions)
       (λ a l. own_at one_place last.actions a (subst (λ (actions : List ActionRow). a < length actions) drafted.actions l))
-      (rw drafted.actions (λ a l. weighs one_place last.depths last.places last.actions d.depths.tell h.places.0.tell h.there.ended_rows 8 a l (d.depths.tell a l).1)) in
+      (rw drafted.actions (λ a l. weighs one_place last.depths last.places last.actions d.depths.tell h.places.0.tell h.there.ended_rows most_depth a l (d.depths.tell a l).1)) in
       let entries : counted (played_weight (at last.bounds) draft.plays) ≡ counted (bound (plan_of draft)) =
       counted_bound draft keeps last.bounds (own_weights own_entries last.actions)
       (rw drafted.actions (λ a l. own_at own_entries last.actions a l))
-      (rw drafted.actions (λ a l. weighs own_entries last.depths last.bounds last.actions d.depths.tell h.entries.0.tell h.there.ended_rows 8 a l (d.depths.tell a l).1)) in
+      (rw drafted.actions (λ a l. weighs own_entries last.depths last.bounds last.actions d.depths.tell h.entries.0.tell h.there.ended_rows most_depth a l (d.depths.tell a l).1)) in
       let all_places : last.all_places ≡ counted (length (plan_of draft).places) = h.places.0.whole ∙ subst (λ (plays : List PlayRow). counted (played_weight (at last.places) plays) ≡ counted (length (plan_of draft).places)) drafted.plays places in
       let whole : last.whole_bound ≡ counted (bound (plan_of draft)) = h.entries.0.whole ∙ subst (λ (plays : List PlayRow). counted (played_weight (at last.bounds) plays) ≡ counted (bound (plan_of draft))) drafted.plays entries in
       let few_places : length (plan_of draft).places ≤ most_places = omega (arith, all_places, h.places.1) in

@@ -2,6 +2,7 @@
 use Rattle.std.proofs.Common.{◌≡◌, ℕ, suc, zero, ◌+◌, ◌<◌, ◌≤◌, nat_lt, nat_le, Bool, true, false, List, [], ◌∷◌, ◌++◌, length, slice_index_or, Option, Some, None, refl, arith, length-append, below_more}
 use Rattle.std.specs.List.{list_all}
 use Rattle.std.proofs.lemmas.Bool.{and_parts, ltb-true, lt-ltb, leb-false, le-leb, and_from}
+use Rattle.caa_base.specs.Limits.{most_depth}
 use Rattle.caa_base.specs.Lists.{index_of}
 use Rattle.caa_base.specs.declared.entry.Verdict.{Verdict}
 use Rattle.caa_base.specs.declared.entry.Verdict.TheVariants as verdict
@@ -59,17 +60,17 @@ deepest_longer table v (nest ∷ nests) h =
 -- ---- what is nested isn't of the most depth
 
 abbrev pub is_shallow : List ℕ → NestRow → Bool
-is_shallow depths nest = list_all (λ a. nat_lt (at depths a) 8) nest.actions
+is_shallow depths nest = list_all (λ a. nat_lt (at depths a) most_depth) nest.actions
 
-of_small : (depths acts : List ℕ) → list_all (λ a. nat_lt (at depths a) 8) acts ≡ true → deepest_of (at depths) acts ≤ 7
+of_small : (depths acts : List ℕ) → list_all (λ a. nat_lt (at depths a) most_depth) acts ≡ true → deepest_of (at depths) acts < most_depth
 of_small depths [] h = omega arith
 of_small depths (a ∷ acts) h =
-    let p = and_parts (nat_lt (at depths a) 8) (list_all (λ a. nat_lt (at depths a) 8) acts) h in
-    let here = ltb-true (at depths a) 8 p.0 in
+    let p = and_parts (nat_lt (at depths a) most_depth) (list_all (λ a. nat_lt (at depths a) most_depth) acts) h in
+    let here = ltb-true (at depths a) most_depth p.0 in
     let more = of_small depths acts p.1 in
     omega arith
 
-deepest_small : (depths : List ℕ) (nests : List NestRow) → list_all (is_shallow depths) nests ≡ true → deepest (at depths) nests ≤ 7
+deepest_small : (depths : List ℕ) (nests : List NestRow) → list_all (is_shallow depths) nests ≡ true → deepest (at depths) nests < most_depth
 deepest_small depths [] h = omega arith
 deepest_small depths (nest ∷ nests) h =
     let p = and_parts (is_shallow depths nest) (list_all (is_shallow depths) nests) h in
@@ -81,7 +82,7 @@ deepest_small depths (nest ∷ nests) h =
 
 -- the table is above the depths of what the action nests, and within the limit
 abbrev pub IsDepth : List ℕ → List ActionRow → ℕ → Type 0
-IsDepth depths actions a = (suc (deepest (at depths) (slice_index_or actions a no_action).nests) ≤ at depths a) × (at depths a ≤ 8)
+IsDepth depths actions a = (suc (deepest (at depths) (slice_index_or actions a no_action).nests) ≤ at depths a) × (at depths a ≤ most_depth)
 
 pub record DepthsTell (depths : List ℕ) (actions : List ActionRow) (rows : List NestRow) : Type 0 where
   pub many : length depths ≡ length actions
@@ -128,8 +129,8 @@ module _ (names : List (List ℕ)) where
   tell_still : (s : SoFar) (nest : ℕ) (row : NestRow) → Tell s → (is_shallow s.depths (nest_of s nest) ≡ true → is_shallow s.depths row ≡ true) → Tell (with_nest s nest row)
   tell_still s nest row h keeps = record { many = h.many; open_rows = all_set (is_shallow s.depths) s.nest_rows (index_of nest s.nests) no_nest row keeps h.open_rows; tell = h.tell }
 
-  below_most : (d : ℕ) → nat_le 8 d ≡ false → nat_lt d 8 ≡ true
-  below_most d e = lt-ltb d 8 (leb-false 8 d e)
+  below_most : (d : ℕ) → nat_le most_depth d ≡ false → nat_lt d most_depth ≡ true
+  below_most d e = lt-ltb d most_depth (leb-false most_depth d e)
 
   says_tell : (s : SoFar) (f : Form) → HasNone s f → Pass uses_there s → Tell s → Tell (with_said names s f)
   says_tell s (form.Action name) none there h = record { many = h.many; open_rows = refl; tell = h.tell }
@@ -142,7 +143,7 @@ module _ (names : List (List ℕ)) where
   says_tell s (form.MapUndo nest x) none there h = tell_still s nest _ h (λ k. k)
   says_tell s (form.MapFailure nest x) none there h = tell_still s nest _ h (λ k. k)
   says_tell s (form.Alternate nest action) none there h =
-      tell_still s nest _ h (λ k. all_push (λ a. nat_lt (at s.depths a) 8) (nest_of s nest).actions (index_of action s.action_names) k (below_most _ (shallow s (form.Alternate nest action) none)))
+      tell_still s nest _ h (λ k. all_push (λ a. nat_lt (at s.depths a) most_depth) (nest_of s nest).actions (index_of action s.action_names) k (below_most _ (shallow s (form.Alternate nest action) none)))
   says_tell s form.End none there h = ended_tell s s.block there h
   says_tell s form.DoneLine none there h = closed_tell s _ s.opening h
   says_tell s (form.SignalLine x) none there h = closed_tell s _ s.opening h
@@ -192,6 +193,6 @@ module _ (depths : List ℕ) (actions : List ActionRow) (tell : (a : ℕ) → a 
   depths_within n [] e = refl
   depths_within n (a ∷ rest) e =
       let l : n < length actions = omega arith in
-      let here = within_table 9 n l in
+      let here = within_table (suc most_depth) n l in
       let few = (tell n l).1 in
-      and_from _ _ (le-leb (depth_within 9 actions n) 8 (omega arith)) (depths_within (suc n) rest (omega arith))
+      and_from _ _ (le-leb (depth_within (suc most_depth) actions n) most_depth (omega arith)) (depths_within (suc n) rest (omega arith))
