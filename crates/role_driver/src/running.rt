@@ -1,7 +1,7 @@
 ghost use Rattle.std.specs.Prelude.{◌≡◌, [], length, map, reverse, All, IfOk, IfErr, vec_capacity};
 ghost use Rattle.std.specs.List.{range_with_len};
 ghost use mathlib.Core.List.{IsPrefix};
-ghost use Rattle.place_plan.specs.Journals.{IsComplete};
+ghost use Rattle.place_plan.specs.Journals.{IsLegal, IsComplete};
 ghost use Rattle.action_manager.specs.Openings.{IsUnresolved};
 ghost use Rattle.action_manager.specs.Managers.{IsSeatIn};
 ghost use Rattle.action_manager.specs.Seats.{participant_of};
@@ -73,9 +73,9 @@ fn drive_in_threads<M: Machine + Send, G: Gate + Sync, R: Threads + Wait + Sync>
 
 /// Plays a machine to its end, each participant in a thread of its own.
 ///
-/// Nothing may be resolved yet in its journal. The machine comes back complete, with the same plan and base, and with a journal that
-/// begins with the old one. A participant whose thread can't be started is driven by the caller, in turn with others of its kind. At
-/// `Err` no memory was found before the first entry, and the machine is as it was. It need not return.
+/// Nothing may be resolved yet in its journal. The machine comes back complete, with the same plan and base, and with a legal
+/// journal that begins with the old one. A participant whose thread can't be started is driven by the caller, in turn with others
+/// of its kind. At `Err` no memory was found before the first entry, and the machine is as it was. It need not return.
 pub fn run<M: Machine + Send, G: Gate + Sync, R: Threads + Wait + Sync>(
     rt: &R,
     alloc: Global,
@@ -86,6 +86,7 @@ pub fn run<M: Machine + Send, G: Gate + Sync, R: Threads + Wait + Sync>(
     ensures plan { IfOk result (λ f. M.plan_of f.machine ≡ M.plan_of machine) }
     ensures base { IfOk result (λ f. M.base_of f.machine ≡ M.base_of machine) }
     ensures begins { IfOk result (λ f. IsPrefix (M.journal_of machine) (M.journal_of f.machine)) }
+    ensures legal { IfOk result (λ f. IsLegal (M.plan_of machine) (M.journal_of f.machine)) }
     ensures complete { IfOk result (λ f. IsComplete (M.plan_of machine) (M.journal_of f.machine)) }
     ensures refused { IfErr result (λ e. e.machine ≡ machine) }
 {
