@@ -1,3 +1,4 @@
 pub mod Choosing
 pub mod GraphRows
 pub mod Taking
+pub mod NamesKept
