@@ -23,3 +23,4 @@ pub mod RangesKept
 pub mod MapsKept
 pub mod AcceptedDraft
 pub mod Unbroken
+pub mod NamesKept
