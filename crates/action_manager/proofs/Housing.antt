@@ -3,7 +3,6 @@ use Rattle.std.proofs.Common.{◌≡◌, ℕ, ◌<◌, List, [], ◌∷◌, ◌+
 use Rattle.std.proofs.lemmas.List.{reverse-append}
 use Rattle.caa_base.specs.Mixing.{Worked}
 use Rattle.caa_base.specs.declared.entry.Entry.{Entry}
-use Rattle.caa_base.specs.declared.entry.Kind.TheVariants as kind
 use Rattle.place_plan.specs.PlanValue.{Plan}
 use Rattle.place_plan.specs.Rules.{Row, MayResolve, MayHandle}
 use Rattle.place_plan.specs.WellFormed.{AllWellFormed, IsWellFormed}

@@ -1,6 +1,7 @@
 //! A machine that several threads step, one turn at a time.
 #![tactic(auto)]
 
+mod crossing;
 mod handed;
 mod home;
 mod housed;
@@ -10,5 +11,6 @@ mod seat;
 mod turns;
 mod view;
 
+pub use crossing::crosses_threads;
 pub use manager::{Closed, Manager, ManagerError, Opened, StillOut};
 pub use seat::{NoNote, Seat};

@@ -96,7 +96,7 @@ pub fn find_journal(bytes: &[u8]) -> JournalStart
     ensures journal { drop result.place bytes.now ≡ journal_part bytes.now }
     ensures within { result.place ≤ length bytes.now }
     ensures lines { result.lines ≡ script_lines bytes.now }
-    ensures few { result.lines ≤ length bytes.now }
+    ensures few { result.lines ≤ result.place }
 {
     let (rest, lines) = skip_script(bytes);
     JournalStart {

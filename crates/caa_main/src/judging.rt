@@ -1,6 +1,6 @@
 //! The judge of a journal.
 
-ghost use Rattle.std.specs.Prelude.{◌≡◌, ◌≤◌, ◌+◌, ℕ, List, true, length, IfOk, IfSome};
+ghost use Rattle.std.specs.Prelude.{◌≡◌, ◌<◌, ◌≤◌, ◌+◌, ◌^◌, ℕ, List, true, length, IfOk};
 ghost use Rattle.place_plan.specs.Journals.{IsLegal, IsComplete};
 ghost use Rattle.journal_text.specs.Text.{text_of};
 ghost use Rattle.journal_text.specs.TextOfJournal.{HasText};
@@ -12,7 +12,6 @@ use caa_base::entry::OutOfMemory;
 use caa_base::journal::Journal;
 use caa_base::limits::MOST_AUDITED;
 use journal_replay::audit::audit;
-use journal_text::naming::is_well_named;
 use journal_text::right::first_wrong;
 use journal_text::seens::Seens;
 use journal_text::text_reader::{TextError, read};
@@ -49,13 +48,12 @@ fn wrong_look(
     first_wrong(alloc, plan, journal, seens)
 }
 
-/// The line of a look, where it is no more than can be shown.
-fn line_of_look(plan: &Plan, journal: &Journal, look: u64) -> Option<u64>
-    requires { length journal.now.entries ≤ 5000 }
-    ensures { IfSome result (λ line. line ≡ 2 + length journal.now.entries + length plan.now.objects + length plan.now.places + look) }
+/// The line of a look.
+fn line_of_look(plan: &Plan, journal: &Journal, look: u64) -> u64
+    requires { 2 + length journal.now.entries + length plan.now.objects + length plan.now.places + look < 2 ^ 64 }
+    ensures { result ≡ 2 + length journal.now.entries + length plan.now.objects + length plan.now.places + look }
 {
-    let before = 2 + journal.len() + u64::from(plan.objects()) + u64::from(plan.places());
-    before.checked_add(look)
+    2 + journal.len() + u64::from(plan.objects()) + u64::from(plan.places()) + look
 }
 
 /// Judges what was seen beside a legal and complete journal.
@@ -64,13 +62,13 @@ fn judge_seens(alloc: Global, plan: &Plan, journal: Journal, seens: &Seens) -> J
     requires fit { HasText plan.now 5000 journal.entries seens.now.seens }
     requires legal { IsLegal plan.now journal.entries }
     requires complete { IsComplete plan.now journal.entries }
+    requires short { length (text_of plan.now journal.entries seens.now.seens) < 2 ^ 63 }
     ensures { (text : List ℕ) → text ≡ text_of plan.now journal.entries seens.now.seens → Judges plan.now text result }
 {
     match wrong_look(alloc, plan, &journal, seens) {
         Ok(None) => Judgement::Lawful(journal),
-        Ok(Some(look)) => match line_of_look(plan, &journal, look) {
-            Some(number) => Judgement::Illegal { number },
-            None => Judgement::OutOfMemory,
+        Ok(Some(look)) => Judgement::Illegal {
+            number: line_of_look(plan, &journal, look),
         },
         Err(_) => Judgement::OutOfMemory,
     }
@@ -80,6 +78,7 @@ fn judge_seens(alloc: Global, plan: &Plan, journal: Journal, seens: &Seens) -> J
 fn judge_journal(alloc: Global, plan: &Plan, journal: Journal, seens: &Seens) -> Judgement
     requires named { is_well_named plan.now ≡ true }
     requires fit { HasText plan.now 5000 journal.entries seens.now.seens }
+    requires short { length (text_of plan.now journal.entries seens.now.seens) < 2 ^ 63 }
     ensures { (text : List ℕ) → text ≡ text_of plan.now journal.entries seens.now.seens → Judges plan.now text result }
 {
     match audit(plan, &journal) {
@@ -93,11 +92,9 @@ fn judge_journal(alloc: Global, plan: &Plan, journal: Journal, seens: &Seens) ->
 /// Judges the text of a journal of a plan: it is none, or the journal isn't legal or isn't complete, or shows a wrong value, or none
 /// of this.
 pub fn judge(alloc: Global, plan: &Plan, text: &[u8]) -> Judgement
+    requires { is_well_named plan.now ≡ true }
     ensures { Judges plan.now text.now result }
 {
-    if !is_well_named(plan) {
-        return Judgement::OutOfMemory;
-    }
     let (journal, seens) = match read(alloc, plan, text, MOST_AUDITED) {
         Ok(read) => read,
         Err(TextError::TooMany { line: _ }) => return Judgement::TooMany,

@@ -1,6 +1,7 @@
 //! From the bytes of a script to its plan, or to the fault for which it is refused.
 
-ghost use Rattle.std.specs.Prelude.{◌≡◌, [], IfOk, IfErr, OnOk};
+ghost use Rattle.std.specs.Prelude.{◌≡◌, true, [], IfOk, IfErr, OnOk};
+ghost use Rattle.journal_text.specs.Naming.{is_well_named};
 ghost use Rattle.caa_main.specs.Scripts.{HasPlan, HasNoPlan, IsSpelling, IsCause, declared_after, declared_at, exception_at};
 
 use crate::fault::{Fault, Refusal};
@@ -13,6 +14,7 @@ use caa_base::name::Name;
 use place_plan::plan::Plan;
 use script_checker::check_error::{CheckCause, CheckError};
 use script_checker::compile::compile;
+use script_checker::own_names::has_own_names;
 use std::alloc::{AllocError, Global};
 
 /// Why bytes have no plan.
@@ -118,9 +120,12 @@ fn cause_of(alloc: Global, script: &Script, error: CheckError) -> Result<Fault, 
     }
 }
 
-/// The plan of the script that these bytes spell. A refusal names the line and the fault, and for a graph the exceptions at fault.
+/// The plan of the script that these bytes spell; its names tell its parts apart.
+///
+/// A refusal names the line and the fault, and for a graph the exceptions at fault.
 pub fn plan_of(alloc: Global, bytes: &[u8]) -> Result<Plan, NoPlan>
     ensures plan { IfOk result (HasPlan bytes.now) }
+    ensures named { IfOk result (λ plan. is_well_named plan ≡ true) }
     ensures refused { IfErr result (HasNoPlan bytes.now) }
 {
     let script = match read(alloc, bytes) {
@@ -134,7 +139,10 @@ pub fn plan_of(alloc: Global, bytes: &[u8]) -> Result<Plan, NoPlan>
         }
     };
     match compile(alloc, &script) {
-        Ok(plan) => Ok(plan),
+        Ok(plan) => {
+            has_own_names(&script, &plan);
+            Ok(plan)
+        }
         Err(error) => {
             let fault = cause_of(alloc, &script, error)?;
             Err(NoPlan::Refused(Refusal {

@@ -1,4 +1,5 @@
-ghost use Rattle.std.specs.Prelude.{◌≡◌, ◌<◌, ◌≤◌, ◌^◌, [], if◌then◌else◌, None, map, string_bytes};
+ghost use Rattle.std.specs.Prelude.{◌≡◌, ◌<◌, ◌≤◌, ◌^◌, true, [], if◌then◌else◌, None, map, string_bytes};
+ghost use Rattle.journal_text.specs.Naming.{is_well_named};
 ghost use Rattle.caa_main.specs.Commands.{command_of, HasSeed};
 ghost use Rattle.caa_main.specs.FailedPlays.{is_failed_play, has_failed_play};
 ghost use Rattle.caa_main.specs.OutsideUse.{source_use, sink_use, plant_use, left_of, call_of, IsIdle};
@@ -114,6 +115,7 @@ fn play<P: Plant>(alloc: Global, plan: Plan, seed: u32, plant: P) -> Coming<P>
 
 /// Judges the journal that stands after the script, which has so many lines.
 fn judge_after<P: Plant>(alloc: Global, plan: &Plan, bytes: &[u8], plant: P) -> Coming<P>
+    requires { is_well_named plan.now ≡ true }
     ensures { AuditComesTo plan.now bytes.now result.finding (left_of (plant_use ⟦<P as Plant>⟧ plant result.plant) result.journal.entries) }
 {
     let start = find_journal(bytes);
@@ -125,10 +127,10 @@ fn judge_after<P: Plant>(alloc: Global, plan: &Plan, bytes: &[u8], plant: P) -> 
             plant,
             journal,
         },
-        Judgement::Illegal { number } => match start.lines.checked_add(number) {
-            Some(line) => Coming::idle(alloc, Finding::Illegal { line }, plant),
-            None => Coming::idle(alloc, Finding::OutOfMemory, plant),
-        },
+        Judgement::Illegal { number } => {
+            let line = start.lines + number;
+            Coming::idle(alloc, Finding::Illegal { line }, plant)
+        }
         Judgement::TooMany => {
             let refusal = Refusal {
                 line: start.lines + 5_002,
@@ -148,7 +150,8 @@ fn serve_plan<P: Plant>(
     bytes: &[u8],
     plant: P,
 ) -> Coming<P>
-    requires { HasSeed command }
+    requires seed { HasSeed command }
+    requires named { is_well_named plan ≡ true }
     ensures { PlanComesTo command plan bytes.now result.finding (left_of (plant_use ⟦<P as Plant>⟧ plant result.plant) result.journal.entries) }
 {
     match command {

@@ -1,9 +1,11 @@
 -- What a well-named plan says of its names.
-use Rattle.std.proofs.Common.{◌≡◌, ℕ, ◌+◌, ◌-◌, ◌<◌, ◌≤◌, ◌==◌, Bool, true, false, not, ◌&&◌, List, [], ◌∷◌, length, slice_index_or, nat_le, nat_lt, refl, sym, ap, subst, zero-add, ◌∙◌, inl, inr, ◌⊎◌, arith, suc, zero}
+use Rattle.std.proofs.Common.{◌≡◌, ℕ, ◌+◌, ◌-◌, ◌<◌, ◌≤◌, ◌==◌, Bool, true, false, not, ◌&&◌, List, [], ◌∷◌, length, slice_index_or, bytes_eq, if◌then◌else◌, nat_le, nat_lt, refl, sym, ap, subst, zero-add, ◌∙◌, inl, inr, ◌⊎◌, arith, suc, zero}
 use Rattle.std.specs.List.{list_all, range_with_len}
 use Rattle.std.proofs.lemmas.List.FromFn.{get_or-range_with_len, length-range_with_len}
 use Rattle.std.proofs.lemmas.List.{get_or_past}
-use Rattle.std.proofs.lemmas.Bool.{and_left, and_parts, and_from, or_from, ne_eqb, cases_lt, ltb-true, cases_eq, eqb-true, false≢true}
+use Rattle.std.proofs.lemmas.List.Sums.{list_all-from_AllPass}
+use Rattle.std.proofs.lemmas.Slice.Eq.{bytes_eq-Decides}
+use Rattle.std.proofs.lemmas.Bool.{and_left, and_parts, and_from, or_from, ne_eqb, cases_lt, ltb-true, cases_eq, eq-eqb, eqb-true, false≢true}
 use Rattle.caa_base.specs.Names.{is_name_byte, begins_with_letter, is_name}
 use Rattle.place_plan.specs.PlanValue.{Plan}
 use Rattle.place_plan.specs.Places.{no_graph, graph_at, exception_name}
@@ -105,3 +107,33 @@ pub range_fail : (test : ℕ → Bool) (from n : ℕ) → from < n → test from
 range_fail test from n within fail =
     let left : n - from ≡ suc (n - (from + 1)) = omega arith in
     rw left (sym (and_left (test from) _ fail))
+
+-- ---- a plan whose names differ is well named
+
+-- a word is the name of the first number alone that has it
+index_among-first : (name_of : ℕ → List ℕ) (word : List ℕ) (i from left : ℕ) → from ≤ i → i < from + left → name_of i ≡ word → ((k : ℕ) → from ≤ k → k < i → name_of k ≡ word → ⊥) → index_among name_of word from left ≡ i
+index_among-first name_of word i from zero low high is none = absurd (omega (arith, low, high))
+index_among-first name_of word i from (suc left) low high is none =
+    by (bytes_eq (name_of from) word) refl (cases_lt from i)
+    (λ before. index_among-first name_of word i (suc from) left (omega (arith, before)) (omega (arith, high)) is (λ k l w. none k (omega (arith, l)) w))
+  where
+    by : (b : Bool) → bytes_eq (name_of from) word ≡ b → (from < i) ⊎ (i ≤ from) → (from < i → index_among name_of word (suc from) left ≡ i) → (if b then from else index_among name_of word (suc from) left) ≡ i
+    by true e (inl before) later = absurd (none from (omega arith) before ((bytes_eq-Decides (name_of from) word).0 e))
+    by true e (inr here) later = omega (arith, low, here)
+    by false e (inl before) later = later before
+    by false e (inr here) later =
+        let same : from ≡ i = omega (arith, low, here) in
+        absurd (false≢true (sym e ∙ (bytes_eq-Decides (name_of from) word).1 (ap name_of same ∙ is)))
+
+-- what each number below n passes, all pass
+pub all_below_pass : (test : ℕ → Bool) (n : ℕ) → ((i : ℕ) → i < n → test i ≡ true) → list_all test (range_with_len 0 n) ≡ true
+all_below_pass test n h = list_all-from_AllPass test (range_with_len 0 n) (λ i d l.
+    let within : i < n = omega (arith, l, length-range_with_len 0 n) in
+    subst (λ k. test k ≡ true) (sym (get_or-range_with_len 0 n i d within ∙ zero-add i)) (h i within))
+
+-- names of which no two are the same lead to their numbers
+pub own_index : (name_of : ℕ → List ℕ) (n i : ℕ) → i < n → ((k : ℕ) → k < i → name_of k ≡ name_of i → ⊥) → (index_among name_of (name_of i) 0 n == i) ≡ true
+own_index name_of n i l differ = eq-eqb _ _ (index_among-first name_of (name_of i) i 0 n (omega arith) (omega (arith, l)) refl (λ k low w. differ k w))
+
+pub are_names-from : (name_of : ℕ → List ℕ) (n : ℕ) → ((i : ℕ) → i < n → is_name (name_of i) ≡ true) → ((k i : ℕ) → k < i → i < n → name_of k ≡ name_of i → ⊥) → are_names name_of n ≡ true
+are_names-from name_of n spelled differ = all_below_pass (is_own_name name_of n) n (λ i l. and_from _ _ (spelled i l) (own_index name_of n i l (λ k w. differ k i w l)))

@@ -6,6 +6,8 @@ pub mod naming;
 pub mod right;
 mod seen_line;
 pub mod seens;
+#[cfg(test)]
+mod tests;
 pub mod text_reader;
 mod values;
 mod words;

@@ -1,7 +1,7 @@
 ghost use Rattle.std.specs.Prelude.{◌≡◌, [], length, map, All, vec_capacity};
 ghost use Rattle.std.specs.List.{range_with_len};
 ghost use mathlib.Core.List.{IsPrefix};
-ghost use Rattle.place_plan.specs.Journals.{IsComplete};
+ghost use Rattle.place_plan.specs.Journals.{IsLegal, IsComplete};
 ghost use Rattle.action_manager.specs.Managers.{plan_in, handed_in, IsSeatIn};
 ghost use Rattle.action_manager.specs.Seats.{participant_of};
 ghost use Rattle.role_driver.specs.Crew.{IsDone};
@@ -40,6 +40,7 @@ pub fn close_done<M: Machine>(manager: Manager<M>, seats: Vec<Seat<M>>) -> M
     ensures plan { M.plan_of result ≡ plan_in manager }
     ensures base { M.base_of result ≡ M.base_of (handed_in manager) }
     ensures begins { IsPrefix (M.journal_of (handed_in manager)) (M.journal_of result) }
+    ensures legal { IsLegal (plan_in manager) (M.journal_of result) }
     ensures complete { IsComplete (plan_in manager) (M.journal_of result) }
 {
     match manager.close(seats) {

@@ -1,9 +1,10 @@
 -- What a script comes to: its plan, or the first line that is refused.
-use Rattle.std.specs.Prelude.{◌≡◌, ℕ, ◌<◌, List, [], ◌∷◌, ◌++◌, map, length, slice_index_or, codes, Result, Ok, Err}
+use Rattle.std.specs.Prelude.{◌≡◌, ℕ, ◌<◌, List, [], ◌∷◌, ◌++◌, map, length, slice_index_or, codes, None, Result, Ok, Err}
 use Rattle.cover_table.specs.Cover.{IsSound}
 use Rattle.exception_graph.specs.Chains.{IsOrderOf}
 use Rattle.place_plan.specs.declared.draft.Draft.{Draft}
 use Rattle.place_plan.specs.declared.draft_rows.GraphRow.{GraphRow}
+use Rattle.place_plan.specs.DraftRules.{broken_rule}
 use Rattle.place_plan.specs.PlanValue.{Plan}
 use Rattle.place_plan.specs.Unfolding.{plan_of}
 use Rattle.action_script.specs.declared.form.Form.{Form}
@@ -91,6 +92,12 @@ pub record IsDraftOf (names : List (List ℕ)) (s : SoFar) (draft : Draft) : Typ
   pub plays : draft.plays ≡ s.plays
   pub drills : draft.drills ≡ s.drills
   pub watches : draft.watches ≡ s.watches
+
+-- where no line of the script has a cause, what is declared makes a draft that breaks no rule
+abbrev pub BreaksNoRule : Script → Type 0
+BreaksNoRule script =
+    AreAccepted script.names (nothing_yet script.names) script.lines → (draft : Draft) → IsDraftOf script.names (declared_after script.names (nothing_yet script.names) script.lines) draft
+    → broken_rule draft ≡ None
 
 -- no line of the script has a cause, and the plan is the unfolding of its draft
 pub record IsPlanOf (script : Script) (plan : Plan) : Type 0 where

@@ -8,3 +8,4 @@ pub mod Numbers
 pub mod Rows
 pub mod DeclaredSoFar
 pub mod View
+pub mod OwnNames

@@ -5,7 +5,7 @@ ghost use Rattle.script_checker.specs.Causes.{HasCause, ends_graph};
 ghost use Rattle.script_checker.specs.After.{after};
 ghost use Rattle.script_checker.specs.Chosen.{name_cause, size_cause, part_cause};
 ghost use Rattle.script_checker.specs.Graphs.{Ends};
-ghost use Rattle.script_checker.specs.Compiled.{IsLeast, HasNone, IsLeastCause, IsAccepted, AreRowsOf, IsDraftOf, IsAnswer};
+ghost use Rattle.script_checker.specs.Compiled.{IsLeast, HasNone, IsLeastCause, IsAccepted, AreRowsOf, IsDraftOf, BreaksNoRule, IsAnswer};
 ghost use Rattle.script_checker.specs.Rows.{AddsRow, parted};
 ghost use Rattle.script_checker.specs.View.{so_far};
 ghost use Rattle.script_checker.specs.declared.check_error.CheckCause.TheVariants as cause;
@@ -26,7 +26,7 @@ use caa_base::rows::Rows;
 use exception_graph::Graph;
 use place_plan::draft::Draft;
 use place_plan::draft_rows::GraphRow;
-use place_plan::plan::Plan;
+use place_plan::plan::{Plan, PlanError};
 use std::alloc::Global;
 
 /// The first cause of a line that its names alone tell.
@@ -166,13 +166,22 @@ fn plain_rows(alloc: Global, names: &[Name]) -> Result<Vec<GraphRow>, OutOfMemor
     Ok(rows)
 }
 
+/// A script without a refused line makes a draft that breaks no rule of place_plan. A statement alone: the call does nothing.
+pub fn breaks_no_rule(script: &Script)
+    ensures { BreaksNoRule script.now }
+{
+    script.are_script();
+}
+
 /// The plan of a script, or the first line of it that is refused, with its least cause.
 ///
-/// `OutOfMemory` comes where no memory is found, and tells nothing of the script. The script stays as it was.
+/// `OutOfMemory` comes where no memory is found, and tells nothing of the script. A script without a refused line is kept from its
+/// plan by nothing else, since its draft breaks no rule, as `breaks_no_rule` says. The script stays as it was.
 pub fn compile(alloc: Global, script: &Script) -> Result<Plan, CheckError>
     ensures { IsAnswer script.now result }
 {
     script.are_script();
+    breaks_no_rule(script);
     let names = script.names();
     let Ok(mut declared) = Declared::new(alloc, names) else {
         return Err(wanting());
@@ -193,7 +202,8 @@ pub fn compile(alloc: Global, script: &Script) -> Result<Plan, CheckError>
     }
     match Plan::close(alloc, draft_of(declared, rows)) {
         Ok(plan) => Ok(plan),
-        Err(_) => Err(wanting()),
+        Err(PlanError::OutOfMemory) => Err(wanting()),
+        Err(PlanError::BadPart { rule: _ }) => unreachable!(),
     }
 }
 

@@ -9,4 +9,5 @@ mod declared;
 mod graphs;
 mod lookups;
 mod number_list;
+pub mod own_names;
 mod parts;

@@ -2,6 +2,7 @@ use Rattle.std.proofs.Common.{◌≡◌, subst, inr, refl, Ok, Err}
 use Rattle.script_checker.specs.declared.check_error.CheckCause.TheVariants as cause
 use Rattle.caa_main.specs.Scripts.{IsCause}
 use Rattle.caa_main.proofs.Answers.{plan_answered, refusal_answered}
+use Rattle.caa_main.proofs.WellNamed.{well_named}
 use Rattle.caa_main.proofs.scripts.plan_of.Goals as goal
 
 pub returns-clause-refused : goal.returns-clause-refused
@@ -26,3 +27,9 @@ returns-in-Ok-compile-clause-plan c = record {
   spelled = c.in-Ok.ensures.read;
   compiled = plan_answered c.in-Ok.script (Ok c.in-Ok-compile.plan) c.in-Ok-compile.plan c.in-Ok-compile.ensures refl;
 }
+
+pub has_own_names-requires : goal.has_own_names-requires
+has_own_names-requires c = plan_answered c.in-Ok.script (Ok c.in-Ok-compile.plan) c.in-Ok-compile.plan c.in-Ok-compile.ensures refl
+
+pub returns-in-Ok-compile-clause-named : goal.returns-in-Ok-compile-clause-named
+returns-in-Ok-compile-clause-named c = well_named c.in-Ok-compile.plan c.has_own_names.ensures

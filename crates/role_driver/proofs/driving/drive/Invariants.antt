@@ -1,6 +1,6 @@
 use Rattle.std.proofs.Common.{◌≡◌}
 use mathlib.Core.List.{IsPrefix}
-use Rattle.action_manager.specs.Managers.{plan_in, IsSeatIn}
+use Rattle.action_manager.specs.Managers.{IsSeatIn}
 use Rattle.action_manager.specs.Seats.{participant_of, seen_by}
 use Rattle.role_driver.proofs.driving.drive.Given as goal
 

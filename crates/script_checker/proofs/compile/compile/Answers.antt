@@ -1,9 +1,12 @@
-use Rattle.std.proofs.Common.{ap, ◌∙◌}
+use Rattle.std.proofs.Common.{Err, sym, ap, ◌∙◌}
+use Rattle.std.proofs.lemmas.Option.{none-some}
+use Rattle.place_plan.specs.DraftRules.{broken_rule}
 use Rattle.place_plan.specs.declared.draft.Draft.{Draft}
 use Rattle.place_plan.specs.Unfolding.{plan_of}
 use Rattle.script_checker.specs.Compiled.IsAnswer.{wanting}
 use Rattle.script_checker.specs.View.{so_far}
 use Rattle.script_checker.proofs.Taking.{taken_more, line_refused, script_planned}
+use Rattle.script_checker.proofs.Unbroken.{all_taken}
 use Rattle.script_checker.proofs.compile.compile.Goals as goal
 
 pub returns-in_default : goal.returns-in_default
@@ -27,5 +30,12 @@ returns-in-Ok-close c =
     script_planned c.args.script.now c.names-names.result.now c.lines-line-items.result.now c.loop-line.line-index (so_far c.loop-line.declared) c.loop-line.rows.items c.in-Ok-close.plan
     c.names-names.ensures c.lines-line-items.ensures c.loop-line-test.false c.loop-line.invariant (c.in-Ok-close.ensures.ok ∙ ap (λ (draft : Draft). plan_of draft) c.draft_of.ensures)
 
-pub returns-in-Err-close : goal.returns-in-Err-close
-returns-in-Err-close c = wanting c.wanting-in-Err-close.ensures
+pub unreachable-requires : goal.unreachable-requires
+unreachable-requires c =
+    let unbroken = all_taken c.args.script.now c.names-names.result.now c.lines-line-items.result.now c.loop-line.line-index (so_far c.loop-line.declared) c.loop-line.rows.items
+    c.names-names.ensures c.lines-line-items.ensures c.loop-line-test.false c.loop-line.invariant c.breaks_no_rule.ensures in
+    let broken = c.in-Err-BadPart.ensures.bad c.in-Err-BadPart.field-0-0 (ap Err c.in-Err-BadPart.field-0-is) in
+    none-some c.in-Err-BadPart.field-0-0 (sym unbroken ∙ sym (ap broken_rule c.draft_of.ensures) ∙ broken)
+
+pub returns-in-Err-OutOfMemory : goal.returns-in-Err-OutOfMemory
+returns-in-Err-OutOfMemory c = wanting c.wanting-in-Err-OutOfMemory.ensures

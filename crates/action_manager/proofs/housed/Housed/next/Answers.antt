@@ -1,13 +1,9 @@
-use Rattle.std.proofs.Common.{rules, ◌≡◌, ◌∙◌, sym, ap, subst, length, reverse, List, ◌∷◌, refl}
-use Rattle.caa_base.specs.declared.entry.Entry.{Entry}
+use Rattle.std.proofs.Common.{rules, ◌≡◌, ◌∙◌, sym, ap, subst, length, reverse}
 use Rattle.place_plan.specs.PlanValue.{Plan}
 use Rattle.place_plan.specs.Journals.{LegalPast}
 use Rattle.place_plan.specs.WellFormed.{AllWellFormed}
-use Rattle.place_plan.specs.Machine.{Answers, Did}
-use Rattle.place_plan.specs.declared.machine.Answer.{Answer}
-use Rattle.shared_views.specs.Telling.{cells_of, KeepsUp, Suits}
 use Rattle.action_manager.specs.Housed.{IsKept}
-use Rattle.action_manager.proofs.Housing.{past_after, did_suits, kept_silent, kept_did, silent_keeps}
+use Rattle.action_manager.proofs.Housing.{did_suits, kept_silent, kept_did, silent_keeps}
 use Rattle.action_manager.proofs.housed.Housed.next.Goals as goal
 use Rattle.action_manager.proofs.housed.Housed.next.Goals.{in-Did, in_default}
 

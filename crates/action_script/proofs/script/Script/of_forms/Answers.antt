@@ -5,4 +5,4 @@ use Rattle.action_script.proofs.script.Script.of_forms.Goals as goal
 
 pub from_parts-requires : goal.from_parts-requires
 from_parts-requires c =
-    subst (AreScript c.args.names.items) (sym (ap forms_of c.in-Ok.ensures ∙ forms_of-numbered_from 1 c.args.forms.items)) c.requires
+    subst (AreScript c.args.names.items) (sym (ap forms_of c.in_ok-lines.ensures ∙ forms_of-numbered_from 1 c.args.forms.items)) c.requires

@@ -1,0 +1,226 @@
+ghost use Rattle.std.specs.Prelude.{◌≡◌, [], length, map, All, IfOk, IfErr, vec_capacity};
+ghost use Rattle.role_driver.specs.Crew.{IsMember, who_of};
+ghost use Rattle.action_manager.specs.Managers.{IsSeatIn};
+ghost use Rattle.action_manager.specs.Seats.{participant_of};
+
+use crate::driving::{drive, step_and_ask};
+use action_manager::{Manager, Seat};
+use caa_base::entry::Participant;
+use caa_base::gate::Gate;
+use caa_base::work::WorkDone;
+use place_plan::machine::{Answer, Machine};
+use std::snapshot::Snapshot;
+use std::sync::Wait;
+use std::sync::atomic::{AtomicBool, Ordering};
+use std::thread;
+use std::thread::{Promise, PromisedHandle, Scope, Threads};
+
+/// The seat of this participant comes back, of the same manager.
+#[derive(Drop)]
+pub struct Belongs<M: Machine> {
+    pub manager: Snapshot<Manager<M>>,
+    pub participant: Participant,
+}
+
+impl<M: Machine> Promise<Seat<M>> for Belongs<M> {
+    ghost use Rattle.std.specs.Prelude.{◌≡◌};
+    ghost use Rattle.action_manager.specs.Managers.{IsSeatIn};
+    ghost use Rattle.action_manager.specs.Seats.{participant_of};
+
+    ghost kept_by = { λ p r. IsSeatIn M.base_of p.manager.value r × (participant_of r ≡ p.participant) };
+}
+
+/// Drives a seat, unless it is handed back.
+fn drive_unless<M: Machine, G: Gate, R: Wait>(
+    rt: &R,
+    manager: &Manager<M>,
+    seat: Seat<M>,
+    handed_back: &AtomicBool,
+    gate: &G,
+) -> Seat<M>
+    requires opened { IsSeatIn M.base_of manager.now seat }
+    ensures opened { IsSeatIn M.base_of manager.now result }
+    ensures same { participant_of result ≡ participant_of seat }
+{
+    if handed_back.load(Ordering::SeqCst) {
+        seat
+    } else {
+        drive(rt, manager, seat, gate)
+    }
+}
+
+/// A thread for a seat, or the seat where none can be started.
+pub fn start<'s, E, M: Machine + Send, G: Gate + Sync, R: Threads + Wait + Sync>(
+    scope: &'s Scope<'s, E>,
+    rt: &'s R,
+    manager: &'s Manager<M>,
+    seat: Seat<M>,
+    handed_back: &'s AtomicBool,
+    gate: &'s G,
+) -> Result<PromisedHandle<Seat<M>, Belongs<M>>, Seat<M>>
+    requires opened { IsSeatIn M.base_of manager.now seat }
+    ensures ok { IfOk result (λ h. (h.promise.manager.value ≡ manager.now) × (h.promise.participant ≡ participant_of seat)) }
+    ensures err { IfErr result (λ s. IsSeatIn M.base_of manager.now s × (participant_of s ≡ participant_of seat)) }
+{
+    let promise = Belongs {
+        manager: Snapshot::of(manager),
+        participant: seat.participant(),
+    };
+    match scope.spawn_with(
+        promise,
+        move || -> Seat<M>
+            requires { IsSeatIn M.base_of manager.now seat }
+            ensures { IsSeatIn M.base_of manager.entry.now result × (participant_of result ≡ participant_of seat) }
+        { drive_unless(rt, manager, seat, handed_back, gate) },
+    ) {
+        Ok(child) => Ok(child),
+        Err(refused) => {
+            handed_back.store(true, Ordering::SeqCst);
+            Err((refused.value)())
+        }
+    }
+}
+
+/// A thread that drives a seat, or the seat where none could be started.
+pub type Member<M> = Result<PromisedHandle<Seat<M>, Belongs<M>>, Seat<M>>;
+
+/// Starts a thread for each seat.
+pub fn start_all<'s, E, M: Machine + Send, G: Gate + Sync, R: Threads + Wait + Sync>(
+    scope: &'s Scope<'s, E>,
+    rt: &'s R,
+    manager: &'s Manager<M>,
+    seats: Vec<Seat<M>>,
+    mut crew: Vec<Member<M>>,
+    handed_back: &'s [AtomicBool],
+    gate: &'s G,
+) -> Vec<Member<M>>
+    requires room { (crew.items ≡ []) × (vec_capacity crew ≡ length seats.items) }
+    requires flags { length handed_back.now ≡ length seats.items }
+    requires opened { All (λ s. IsSeatIn M.base_of manager.now s) seats.items }
+    ensures crew { All (λ r. IsMember M.base_of manager.now (λ h. h.promise.manager.value) r) result.items }
+    ensures order { map (λ r. who_of (λ h. h.promise.participant) r) result.items ≡ map participant_of seats.items }
+{
+    for seat in seats {
+        let flag = &handed_back[crew.len()];
+        crew.push_reserved(start(scope, rt, manager, seat, flag, gate));
+    }
+    crew
+}
+
+/// One turn of a seat, with its mixing work, and whether its participant is over.
+fn go_on<M: Machine, G: Gate, R: Wait>(
+    rt: &R,
+    manager: &Manager<M>,
+    seat: &mut Seat<M>,
+    gate: &G,
+) -> bool
+    requires opened { IsSeatIn M.base_of manager.now seat.old }
+    ensures opened { IsSeatIn M.base_of manager.now seat.new }
+    ensures same { participant_of seat.new ≡ participant_of seat.old }
+{
+    match step_and_ask(rt, manager, seat, None) {
+        Answer::Did(_) | Answer::NotYet => false,
+        Answer::Over => true,
+        Answer::Work {
+            place,
+            rounds,
+            from,
+        } => {
+            gate.work(seat.participant(), place);
+            step_and_ask(rt, manager, seat, Some(WorkDone::make(from, rounds)));
+            false
+        }
+    }
+}
+
+/// One turn of a member whose seat was handed back, and whether its participant is over; nothing of one with a thread.
+fn turn_of<M: Machine, G: Gate, R: Wait>(
+    rt: &R,
+    manager: &Manager<M>,
+    member: &mut Member<M>,
+    gate: &G,
+) -> bool
+    requires member { IsMember M.base_of manager.now (λ h. h.promise.manager.value) member.old }
+    ensures member { IsMember M.base_of manager.now (λ h. h.promise.manager.value) member.new }
+    ensures same { who_of (λ h. h.promise.participant) member.new ≡ who_of (λ h. h.promise.participant) member.old }
+{
+    match member {
+        Ok(_) => true,
+        Err(seat) => go_on(rt, manager, seat, gate),
+    }
+}
+
+/// One turn of each seat that was handed back, and whether all of these are over.
+fn round<M: Machine, G: Gate, R: Wait>(
+    rt: &R,
+    manager: &Manager<M>,
+    crew: &mut Vec<Member<M>>,
+    gate: &G,
+) -> bool
+    requires crew { All (λ r. IsMember M.base_of manager.now (λ h. h.promise.manager.value) r) crew.old.items }
+    ensures crew { All (λ r. IsMember M.base_of manager.now (λ h. h.promise.manager.value) r) crew.new.items }
+    ensures order { map (λ r. who_of (λ h. h.promise.participant) r) crew.new.items ≡ map (λ r. who_of (λ h. h.promise.participant) r) crew.old.items }
+{
+    let mut over = true;
+    for index in 0..crew.len() {
+        let done = turn_of(rt, manager, &mut crew[index], gate);
+        over = over && done;
+    }
+    over
+}
+
+/// Takes turns for the seats that were handed back, round by round, until all of these are over.
+pub fn drive_handed_back<M: Machine, G: Gate, R: Wait>(
+    rt: &R,
+    manager: &Manager<M>,
+    crew: &mut Vec<Member<M>>,
+    gate: &G,
+)
+    requires crew { All (λ r. IsMember M.base_of manager.now (λ h. h.promise.manager.value) r) crew.old.items }
+    ensures crew { All (λ r. IsMember M.base_of manager.now (λ h. h.promise.manager.value) r) crew.new.items }
+    ensures order { map (λ r. who_of (λ h. h.promise.participant) r) crew.new.items ≡ map (λ r. who_of (λ h. h.promise.participant) r) crew.old.items }
+{
+    for _ in rt.forever() {
+        if round(rt, manager, crew, gate) {
+            return;
+        }
+        thread::yield_now();
+    }
+    unreachable!()
+}
+
+/// The seat of a member, once its thread has ended.
+fn join_one<M: Machine, G: Gate, R: Threads + Wait>(
+    rt: &R,
+    manager: &Manager<M>,
+    member: Member<M>,
+    gate: &G,
+) -> Seat<M>
+    requires member { IsMember M.base_of manager.now (λ h. h.promise.manager.value) member }
+    ensures opened { IsSeatIn M.base_of manager.now result }
+    ensures same { participant_of result ≡ who_of (λ h. h.promise.participant) member }
+{
+    match member {
+        Ok(child) => child.join(rt),
+        Err(seat) => drive(rt, manager, seat, gate),
+    }
+}
+
+/// The seats of all members, in order.
+pub fn join_all<M: Machine, G: Gate, R: Threads + Wait>(
+    rt: &R,
+    manager: &Manager<M>,
+    crew: Vec<Member<M>>,
+    mut seats: Vec<Seat<M>>,
+    gate: &G,
+) -> Vec<Seat<M>>
+    requires room { (seats.items ≡ []) × (vec_capacity seats ≡ length crew.items) }
+    requires crew { All (λ r. IsMember M.base_of manager.now (λ h. h.promise.manager.value) r) crew.items }
+    ensures opened { All (λ s. IsSeatIn M.base_of manager.now s) result.items }
+    ensures order { map participant_of result.items ≡ map (λ r. who_of (λ h. h.promise.participant) r) crew.items }
+{
+    for member in crew {
+        seats.push_reserved(join_one(rt, manager, member, gate));
+    }
+    seats
+}

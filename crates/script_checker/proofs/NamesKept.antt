@@ -1,0 +1,263 @@
+-- The names of an accepted script tell its parts apart: each line without cause keeps that they do.
+use Rattle.std.proofs.Common.{◌≡◌, ◌≢◌, ℕ, zero, suc, ◌<◌, ◌≤◌, ◌==◌, Bool, true, false, ◌&&◌, if◌then◌else◌, List, [], ◌∷◌, ◌++◌, map, length, get_or, codes, Option, Some, None, refl, sym, ap, ◌∙◌, subst, arith}
+use Rattle.std.specs.List.{All, AllPairs, list_all, flat_map}
+use Rattle.std.proofs.lemmas.Bool.{and_parts, or_parts, eq-eqb, ltb-false, ltb-true, false≢true, false_from_ne_true, not-false}
+use Rattle.std.proofs.lemmas.List.{get_or-map, get_or_default, map-append, length-append, length-map}
+use Rattle.std.proofs.lemmas.List.Elements.{All-push, All-nil, All-map}
+use Rattle.std.proofs.lemmas.List.Quantifiers.{all_pairs_push}
+use Rattle.caa_base.specs.Names.{is_name}
+use Rattle.caa_base.specs.Lists.{member, index_of}
+use Rattle.caa_base.specs.declared.entry.Verdict.{Verdict}
+use Rattle.caa_base.specs.declared.entry.Verdict.TheVariants as verdict
+use Rattle.place_plan.specs.declared.draft_rows.GraphRow.{GraphRow}
+use Rattle.place_plan.specs.declared.draft_rows.ObjectRow.{ObjectRow}
+use Rattle.place_plan.specs.PlanValue.{Plan}
+use Rattle.action_script.specs.declared.form.Form.{Form}
+use Rattle.action_script.specs.declared.form.Form.TheVariants as form
+use Rattle.action_script.specs.declared.script.Line.{Line}
+use Rattle.action_script.specs.NumberedNames.{number_in}
+use Rattle.action_script.specs.ScriptValue.{Script}
+use Rattle.action_script.specs.Printing.{is_sound, forms_of, form_names, AreScript}
+use Rattle.action_script.proofs.Fits.{AreNumbered, named_within}
+use Rattle.action_script.proofs.Numbered.{numbered-with_names, numbered-none}
+use Rattle.script_checker.specs.declared.check_error.CheckCause.TheVariants as cause
+use Rattle.script_checker.specs.declared.parts.Block.{Block}
+use Rattle.script_checker.specs.declared.parts.Block.TheVariants as block
+use Rattle.script_checker.specs.declared.parts.DeclaredGraph.{DeclaredGraph}
+use Rattle.script_checker.specs.declared.parts.Opening.{Opening}
+use Rattle.script_checker.specs.Numbers.{is_among}
+use Rattle.script_checker.specs.DeclaredSoFar.{SoFar, nothing_yet}
+use Rattle.script_checker.specs.Causes.{is_unknown, is_twice}
+use Rattle.script_checker.specs.After.{name_at, goes_on, closed_if, settled_if, settled, ended, with_said, after}
+use Rattle.script_checker.specs.Compiled.{exception_name, declared_after, AreAccepted, IsRowOf, AreRowsOf, IsPlanOf}
+use Rattle.script_checker.specs.OwnNames.{AreOwnNames, NamesExceptions, HasOwnNames}
+use Rattle.script_checker.proofs.Choosing.{known}
+use Rattle.script_checker.proofs.GraphRows.{found}
+
+-- ---- a number that is none of some others
+
+not_met : (x : ℕ) (xs : List ℕ) (i d : ℕ) → member x xs ≡ false → i < length xs → get_or xs i d ≢ x
+not_met x [] i d none l e = absurd (omega arith)
+not_met x (y ∷ xs) zero d none l e = false≢true (sym (or_parts (y == x) (member x xs) none).0 ∙ eq-eqb y x e)
+not_met x (y ∷ xs) (suc i) d none l e = not_met x xs i d (or_parts (y == x) (member x xs) none).1 (omega (arith, l)) e
+
+not_among : (x : ℕ) (xs : List ℕ) (i d : ℕ) → length xs ≤ index_of x xs → i < length xs → get_or xs i d ≢ x
+not_among x [] i d none l e = absurd (omega arith)
+not_among x (y ∷ xs) zero d none l e = by (y == x) refl none
+  where
+    by : (b : Bool) → (y == x) ≡ b → suc (length xs) ≤ (if b then zero else suc (index_of x xs)) → ⊥
+    by true same g = absurd (omega (arith, g))
+    by false same g = false≢true (sym same ∙ eq-eqb y x e)
+not_among x (y ∷ xs) (suc i) d none l e = by (y == x) none (λ past. not_among x xs i d past (omega (arith, l)) e)
+  where
+    by : (b : Bool) → suc (length xs) ≤ (if b then zero else suc (index_of x xs)) → (length xs ≤ index_of x xs → ⊥) → ⊥
+    by true g rest = absurd (omega (arith, g))
+    by false g rest = rest (omega (arith, g))
+
+-- ---- numbers of names
+
+-- the name of the number is one by the grammar, and leads back to it
+abbrev IsOwn : List (List ℕ) → (ℕ → List ℕ) → ℕ → Type 0
+IsOwn names name_of n = (is_name (name_of n) ≡ true) × (number_in names (name_of n) ≡ n)
+
+-- such numbers, of which no two are the same
+record AreOwn (names : List (List ℕ)) (name_of : ℕ → List ℕ) (xs : List ℕ) : Type 0 where
+  pub each : All (IsOwn names name_of) xs
+  pub differ : AllPairs (λ a b. a ≢ b) xs
+
+module _ (names : List (List ℕ)) (name_of : ℕ → List ℕ) where
+  own_none : AreOwn names name_of []
+  own_none = record { each = All-nil (IsOwn names name_of); differ = λ i j d l w. absurd (omega arith) }
+
+  own_push : (xs : List ℕ) (x : ℕ) → AreOwn names name_of xs → IsOwn names name_of x → is_among xs x ≡ false → AreOwn names name_of (xs ++ x ∷ [])
+  own_push xs x h own once = record {
+    each = All-push (IsOwn names name_of) xs x h.each own;
+    differ = all_pairs_push (λ a b. a ≢ b) xs x h.differ (λ i d l. not_among x xs i d (ltb-false (index_of x xs) (length xs) once) l);
+  }
+
+  own_names : (xs : List ℕ) → AreOwn names name_of xs → AreOwnNames (map name_of xs)
+  own_names xs h = record {
+    spelled = All-map (λ name. is_name name ≡ true) name_of xs (λ i d l. (h.each i d l).0);
+    differ = λ i j d l w e.
+        let w : j < length xs = omega (arith, w, length-map xs name_of) in
+        let back = λ (k : ℕ) (v : k < length xs). (h.each k 0 v).1 in
+        let same : name_of (get_or xs i 0) ≡ name_of (get_or xs j 0) = sym (get_or-map name_of xs i 0 d (omega (arith, l, w))) ∙ e ∙ get_or-map name_of xs j 0 d w in
+        h.differ i j 0 l w (sym (back i (omega (arith, l, w))) ∙ ap (number_in names) same ∙ back j w);
+  }
+
+-- ---- the names of a script
+
+module _ (names : List (List ℕ)) (numbered : AreNumbered names) where
+  named : (n : ℕ) → is_name (name_at names n) ≡ true → IsOwn names (name_at names) n
+  named n h = (h, numbered n (named_within names n h))
+
+  excepted : (n : ℕ) → is_name (name_at names n) ≡ true → IsOwn names (exception_name names) n
+  excepted n h =
+      let same : exception_name names n ≡ name_at names n = get_or_default names n (codes "universal") [] (named_within names n h) in
+      subst (λ (word : List ℕ). (is_name word ≡ true) × (number_in names word ≡ n)) (sym same) (named n h)
+
+-- the exception that stands for all others
+universal_own : (names : List (List ℕ)) (n : ℕ) → n ≡ number_in names (codes "universal") → IsOwn names (exception_name names) n
+universal_own names n e =
+    let same : exception_name names n ≡ codes "universal" = ap (exception_name names) e ∙ found names (codes "universal") in
+    subst (λ (word : List ℕ). (is_name word ≡ true) × (number_in names word ≡ n)) (sym same) (refl, sym e)
+
+-- ---- what each line keeps
+
+-- these are the names of such numbers
+record AreNamedBy (names : List (List ℕ)) (xs : List ℕ) (rows : List (List ℕ)) : Type 0 where
+  pub own : AreOwn names (name_at names) xs
+  pub same : rows ≡ map (name_at names) xs
+
+-- the exceptions of all graphs have names of their own, and so have those that are being declared
+record AreGraphsNamed (names : List (List ℕ)) (universal : ℕ) (exceptions : List ℕ) (graphs : List DeclaredGraph) : Type 0 where
+  pub first : universal ≡ number_in names (codes "universal")
+  pub open_own : AreOwn names (exception_name names) exceptions
+  pub own : All (λ (graph : DeclaredGraph). AreOwn names (exception_name names) graph.exceptions) graphs
+
+-- the watches are of so many objects, and no two are of the same
+record AreWatches (count : ℕ) (watches : List ℕ) : Type 0 where
+  pub within : All (λ object. object < count) watches
+  pub once : AllPairs (λ a b. a ≢ b) watches
+
+abbrev object_names : List ObjectRow → List (List ℕ)
+object_names rows = map (λ (row : ObjectRow). row.name) rows
+
+abbrev NamesStand : List (List ℕ) → SoFar → Type 0
+NamesStand names s =
+    AreNamedBy names s.participants s.participant_rows
+    × AreNamedBy names s.objects (object_names s.object_rows)
+    × AreGraphsNamed names s.universal s.exceptions s.graphs
+    × AreWatches (length s.objects) s.watches
+
+watches_stand : (xs : List ℕ) (x : ℕ) (watches : List ℕ) → AreWatches (length xs) watches → AreWatches (length (xs ++ x ∷ [])) watches
+watches_stand xs x watches h = record { within = λ i d l. let w = h.within i d l in omega (arith, w, length-append xs (x ∷ [])); once = h.once }
+
+watches_push : (xs watches : List ℕ) (x : ℕ) → is_among xs x ≡ true → member (index_of x xs) watches ≡ false → AreWatches (length xs) watches → AreWatches (length xs) (watches ++ index_of x xs ∷ [])
+watches_push xs watches x known once h = record {
+  within = All-push (λ object. object < length xs) watches (index_of x xs) h.within (ltb-true (index_of x xs) (length xs) known);
+  once = all_pairs_push (λ a b. a ≢ b) watches (index_of x xs) h.once (λ i d l. not_met (index_of x xs) watches i d once l);
+}
+
+module _ (names : List (List ℕ)) (numbered : AreNumbered names) where
+  named_push : (xs : List ℕ) (rows : List (List ℕ)) (n : ℕ) → is_name (name_at names n) ≡ true → is_among xs n ≡ false → AreNamedBy names xs rows → AreNamedBy names (xs ++ n ∷ []) (rows ++ name_at names n ∷ [])
+  named_push xs rows n spelled once h = record {
+    own = own_push names (name_at names) xs n h.own (named names numbered n spelled) once;
+    same = ap (λ (rows : List (List ℕ)). rows ++ name_at names n ∷ []) h.same ∙ sym (map-append (name_at names) xs (n ∷ []));
+  }
+
+  objects_push : (xs : List ℕ) (rows : List ObjectRow) (row : ObjectRow) (n : ℕ) → row.name ≡ name_at names n → is_name (name_at names n) ≡ true → is_among xs n ≡ false → AreNamedBy names xs (object_names rows) → AreNamedBy names (xs ++ n ∷ []) (object_names (rows ++ row ∷ []))
+  objects_push xs rows row n same spelled once h =
+      let e : object_names (rows ++ row ∷ []) ≡ object_names rows ++ name_at names n ∷ [] = map-append (λ (row : ObjectRow). row.name) rows (row ∷ []) ∙ ap (λ (name : List ℕ). object_names rows ++ name ∷ []) same in
+      subst (λ (rows : List (List ℕ)). AreNamedBy names (xs ++ n ∷ []) rows) (sym e) (named_push xs (object_names rows) n spelled once h)
+
+  graph_begins : (universal : ℕ) (exceptions : List ℕ) (graphs : List DeclaredGraph) → AreGraphsNamed names universal exceptions graphs → AreGraphsNamed names universal (universal ∷ []) graphs
+  graph_begins universal exceptions graphs h = record {
+    first = h.first;
+    open_own = own_push names (exception_name names) [] universal (own_none names (exception_name names)) (universal_own names universal h.first) refl;
+    own = h.own;
+  }
+
+  exceptions_push : (universal : ℕ) (exceptions : List ℕ) (graphs : List DeclaredGraph) (n : ℕ) → is_name (name_at names n) ≡ true → is_among exceptions n ≡ false → AreGraphsNamed names universal exceptions graphs → AreGraphsNamed names universal (exceptions ++ n ∷ []) graphs
+  exceptions_push universal exceptions graphs n spelled once h = record {
+    first = h.first;
+    open_own = own_push names (exception_name names) exceptions n h.open_own (excepted names numbered n spelled) once;
+    own = h.own;
+  }
+
+  graphs_push : (universal : ℕ) (exceptions : List ℕ) (pairs : List (ℕ × ℕ)) (graphs : List DeclaredGraph) → AreGraphsNamed names universal exceptions graphs → AreGraphsNamed names universal [] (graphs ++ record { exceptions = exceptions; pairs = pairs } ∷ [])
+  graphs_push universal exceptions pairs graphs h = record {
+    first = h.first;
+    open_own = own_none names (exception_name names);
+    own = All-push (λ (graph : DeclaredGraph). AreOwn names (exception_name names) graph.exceptions) graphs (record { exceptions = exceptions; pairs = pairs }) h.own h.open_own;
+  }
+
+  closed_stand : (s : SoFar) (v : Verdict) (o : Option Opening) → NamesStand names s → NamesStand names (closed_if s o v)
+  closed_stand s v None h = h
+  closed_stand s v (Some o) h = h
+
+  settled_stand : (s : SoFar) (b : Bool) → NamesStand names s → NamesStand names (settled_if b s)
+  settled_stand s true h = h
+  settled_stand s false h = closed_stand s verdict.Done s.opening h
+
+  ended_stand : (s : SoFar) (b : Block) → NamesStand names s → NamesStand names (ended names s b)
+  ended_stand s block.Top h = h
+  ended_stand s block.Graph h = (h.0, h.1, graphs_push s.universal s.exceptions s.pairs s.graphs h.2, h.3)
+  ended_stand s block.Action h = h
+
+  -- the first word of a line that declares something is a name
+  first_spelled : (n : ℕ) (rest : Bool) → (is_name (name_at names n) && rest) ≡ true → is_name (name_at names n) ≡ true
+  first_spelled n rest h = (and_parts (is_name (name_at names n)) rest h).0
+
+  said_stand : (s : SoFar) (f : Form) → is_sound names f ≡ true → is_unknown s f ≡ false → is_twice s f ≡ false → NamesStand names s → NamesStand names (with_said names s f)
+  said_stand s (form.Participant n) sound known once h = (named_push s.participants s.participant_rows n (first_spelled n _ sound) once h.0, h.1, h.2, h.3)
+  said_stand s (form.Object n v) sound known once h =
+      (h.0, objects_push s.objects s.object_rows (record { name = name_at names n; initial = v }) n refl (first_spelled n _ sound) once h.1, h.2, watches_stand s.objects n s.watches h.3)
+  said_stand s (form.Watch n) sound known once h = (h.0, h.1, h.2, watches_push s.objects s.watches n (not-false (is_among s.objects n) known) once h.3)
+  said_stand s (form.Graph n) sound known once h = (h.0, h.1, graph_begins s.universal s.exceptions s.graphs h.2, h.3)
+  said_stand s (form.Exception n) sound known once h = (h.0, h.1, exceptions_push s.universal s.exceptions s.graphs n (first_spelled n _ sound) once h.2, h.3)
+  said_stand s form.End sound known once h = ended_stand s s.block h
+  said_stand s form.DoneLine sound known once h = closed_stand s _ s.opening h
+  said_stand s (form.SignalLine x) sound known once h = closed_stand s _ s.opening h
+  said_stand s form.UndoLine sound known once h = closed_stand s _ s.opening h
+  said_stand s f sound known once h = h
+
+  lines_stand : (s : SoFar) (lines : List Line) → list_all (is_sound names) (forms_of lines) ≡ true → AreAccepted names s lines → NamesStand names s → NamesStand names (declared_after names s lines)
+  lines_stand s [] sound accepted h = h
+  lines_stand s (line ∷ lines) sound accepted h =
+      let p = and_parts (is_sound names line.form) (list_all (is_sound names) (forms_of lines)) sound in
+      let before = settled s line.form in
+      let once = false_from_ne_true (is_twice before line.form) (λ e. accepted.0 cause.Twice e) in
+      lines_stand (after names s line.form) lines p.1 accepted.1
+      (said_stand before line.form p.0 (known before line.form accepted.0) once (settled_stand s (goes_on line.form) h))
+
+  nothing_stands : NamesStand names (nothing_yet names)
+  nothing_stands = (
+    record { own = own_none names (name_at names); same = refl },
+    record { own = own_none names (name_at names); same = refl },
+    graphs_push (number_in names (codes "universal")) (number_in names (codes "universal") ∷ []) [] [] (record {
+      first = refl;
+      open_own = own_push names (exception_name names) [] _ (own_none names (exception_name names)) (universal_own names _ refl) refl;
+      own = All-nil (λ (graph : DeclaredGraph). AreOwn names (exception_name names) graph.exceptions);
+    }),
+    record { within = All-nil (λ object. object < 0); once = λ i j d l w. absurd (omega arith) },
+  )
+
+-- ---- the plan
+
+row_named : (names : List (List ℕ)) (graph : DeclaredGraph) (row : GraphRow) → IsRowOf names graph row → AreOwn names (exception_name names) graph.exceptions → NamesExceptions row
+row_named names graph row h own = record {
+  own = subst (λ (rows : List (List ℕ)). AreOwnNames rows) (sym h.named) (own_names names (exception_name names) graph.exceptions own);
+  each = ap (λ (rows : List (List ℕ)). length rows) h.named ∙ length-map graph.exceptions (exception_name names) ∙ sym h.order.counts;
+}
+
+rows_named : (names : List (List ℕ)) (graphs : List DeclaredGraph) (rows : List GraphRow) → AreRowsOf names graphs rows → All (λ (graph : DeclaredGraph). AreOwn names (exception_name names) graph.exceptions) graphs → All NamesExceptions rows
+rows_named names [] [] h own = All-nil NamesExceptions
+rows_named names [] (row ∷ rows) h own = absurd h
+rows_named names (graph ∷ graphs) [] h own = absurd h
+rows_named names (graph ∷ graphs) (row ∷ rows) h own = by (rows_named names graphs rows h.1 (λ k e w. own (suc k) e (omega (arith, w))))
+  where
+    by : All NamesExceptions rows → (i : ℕ) (d : GraphRow) → i < length (row ∷ rows) → NamesExceptions (get_or (row ∷ rows) i d)
+    by rest zero d l = row_named names graph row h.0 (own 0 graph (omega arith))
+    by rest (suc i) d l = rest i d (omega (arith, l))
+
+named_rows : (names : List (List ℕ)) (xs : List ℕ) (rows : List (List ℕ)) → AreNamedBy names xs rows → AreOwnNames rows
+named_rows names xs rows h = subst (λ (rows : List (List ℕ)). AreOwnNames rows) (sym h.same) (own_names names (name_at names) xs h.own)
+
+-- an accepted script has a plan whose names tell its parts apart
+pub own_names_of : (script : Script) (plan : Plan) → AreScript script.names (forms_of script.lines) → IsPlanOf script plan → HasOwnNames plan
+own_names_of script plan whole h =
+    let names = script.names in
+    let numbered : AreNumbered names = subst (λ (names : List (List ℕ)). AreNumbered names) whole.order (numbered-with_names [] (flat_map (form_names names) (forms_of script.lines)) numbered-none) in
+    let s = declared_after names (nothing_yet names) script.lines in
+    let stand = lines_stand names numbered (nothing_yet names) script.lines whole.sound h.accepted (nothing_stands names numbered) in
+    let draft = h.draft in
+    let count : length draft.objects ≡ length s.objects =
+    ap (λ (rows : List ObjectRow). length rows) h.declared.objects ∙ sym (length-map s.object_rows (λ (row : ObjectRow). row.name)) ∙ ap (λ (rows : List (List ℕ)). length rows) stand.1.same ∙ length-map s.objects (name_at names) in
+    subst (λ (plan : Plan). HasOwnNames plan) (sym h.unfolded) (record {
+      participants = subst (λ (rows : List (List ℕ)). AreOwnNames rows) (sym h.declared.participants) (named_rows names s.participants s.participant_rows stand.0);
+      objects = subst (λ (rows : List ObjectRow). AreOwnNames (object_names rows)) (sym h.declared.objects) (named_rows names s.objects (object_names s.object_rows) stand.1);
+      graphs = rows_named names s.graphs draft.graphs h.declared.graphs stand.2.own;
+      watched = subst (λ (watches : List ℕ). All (λ object. object < length draft.objects) watches) (sym h.declared.watches) (subst (λ (n : ℕ). All (λ object. object < n) s.watches) (sym count) stand.3.within);
+      once = subst (λ (watches : List ℕ). AllPairs (λ a b. a ≢ b) watches) (sym h.declared.watches) stand.3.once;
+    })

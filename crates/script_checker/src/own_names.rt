@@ -1,0 +1,14 @@
+ghost use Rattle.script_checker.specs.Compiled.{IsPlanOf};
+ghost use Rattle.script_checker.specs.OwnNames.{HasOwnNames};
+
+use action_script::script::Script;
+use place_plan::plan::Plan;
+
+/// The names of the plan of a script tell its parts apart, and no object is watched twice. A statement alone: the call does nothing.
+pub fn has_own_names(script: &Script, plan: &Plan)
+    requires { IsPlanOf script.now plan.now }
+    ensures { HasOwnNames plan.now }
+{
+    let _ = plan;
+    script.are_script();
+}
