@@ -1,5 +1,5 @@
 -- The line that a judgement names is one of the text, or the one after it.
-use Rattle.std.proofs.Common.{◌≡◌, ◌⊎◌, inl, inr, ℕ, suc, ◌+◌, ◌<◌, ◌≤◌, ◌==◌, Bool, true, false, if◌then◌else◌, List, [], ◌∷◌, ◌++◌, length, reverse, decimal, Option, Some, None, refl, sym, ap, subst, arith}
+use Rattle.std.proofs.Common.{◌≡◌, ◌⊎◌, inl, inr, ℕ, suc, ◌+◌, ◌≤◌, ◌==◌, Bool, true, false, if◌then◌else◌, List, [], ◌∷◌, ◌++◌, length, reverse, decimal, Option, Some, None, refl, sym, subst, arith}
 use Rattle.std.specs.List.{flat_map, range_with_len}
 use Rattle.std.proofs.lemmas.List.{length-append}
 use Rattle.std.proofs.lemmas.List.FromFn.{length-range_with_len}
@@ -8,10 +8,10 @@ use Rattle.caa_base.specs.Lines.{spaced, line}
 use Rattle.place_plan.specs.PlanValue.{Plan}
 use Rattle.journal_text.specs.declared.seens.Seen.{Seen}
 use Rattle.journal_text.specs.Text.{participant_name, kind_word, field_words, entry_line, object_line, outcome_line, closing_lines, seen_line, first_line, text_of}
-use Rattle.journal_text.specs.TextOfJournal.{lines_shared, IsText, IsFirstBad}
+use Rattle.journal_text.specs.TextOfJournal.{lines_shared}
 use Rattle.journal_text.specs.Right.{is_right, is_whole, next_seen, first_wrong_from}
 use Rattle.journal_replay.specs.Audited.{IsFirstIllegal, IsUnfinished}
-use Rattle.caa_main.specs.Judging.{wrong_look, IsUnlawful, IsWronglySeen, IsIllegalAt}
+use Rattle.caa_main.specs.Judging.{wrong_look, IsIllegalAt}
 
 -- ---- a text has no more lines than bytes
 
@@ -37,7 +37,10 @@ text_long plan journal seens =
     let first : length first_line ≡ 8 = refl in
     let closing : length (closing_lines plan past) ≡ length object_text + length outcome_text = length-append object_text outcome_text in
     omega (
-      arith, whole, first, closing,
+      arith,
+      whole,
+      first,
+      closing,
       lines_few (entry_line plan) (λ e. line_filled (kind_word e.kind) (decimal e.place ∷ participant_name plan e.by ∷ field_words e.kind plan e)) journal,
       lines_few (object_line plan past) (λ o. omega arith) objects,
       lines_few (outcome_line plan past) (λ p. omega arith) places,
@@ -45,7 +48,8 @@ text_long plan journal seens =
       length-range_with_len 0 (length plan.objects),
       length-range_with_len 0 (length plan.places),
       length-append (entry_text ++ closing_lines plan past) seen_text,
-      length-append entry_text (closing_lines plan past))
+      length-append entry_text (closing_lines plan past),
+    )
 
 shared_few : (bytes text : List ℕ) → lines_shared bytes text ≤ length bytes
 shared_few [] text = omega arith

@@ -1,5 +1,5 @@
 -- A call that can be served is served, or memory was wanting.
-use Rattle.std.proofs.Common.{◌≡◌, ℕ, ◌+◌, ◌≤◌, nat_lt, Bool, true, false, cond, List, [], ◌∷◌, ◌++◌, length, length-append, Option, Some, None, IfSome, Result, Ok, Err, inl, inr, ◌⊎◌, refl, sym, ap, ◌∙◌, subst, arith}
+use Rattle.std.proofs.Common.{◌≡◌, ℕ, ◌+◌, ◌≤◌, nat_lt, Bool, true, false, cond, List, ◌++◌, length, length-append, Option, Some, None, IfSome, Result, Ok, Err, inl, inr, refl, sym, ap, ◌∙◌, subst, arith}
 use Rattle.std.proofs.lemmas.Bool.{ltb-false}
 use Rattle.caa_base.specs.Counts.{Rose}
 use Rattle.caa_base.specs.Limits.{most_script_bytes}
@@ -7,8 +7,6 @@ use Rattle.caa_base.specs.Reading.{TookOff, TookUntil}
 use Rattle.caa_base.specs.declared.reading.ReadError.{ReadError}
 use Rattle.caa_base.specs.declared.reading.ReadError.TheVariants as error
 use Rattle.action_script.specs.ScriptValue.{Script}
-use Rattle.action_script.specs.Spelling.{reading_of}
-use Rattle.action_script.specs.declared.script_error.ScriptError.{ScriptError}
 use Rattle.script_checker.specs.Compiled.{IsFirstRefused}
 use Rattle.place_plan.specs.PlanValue.{Plan}
 use Rattle.caa_main.specs.declared.command.Command.{Command}
@@ -17,12 +15,11 @@ use Rattle.caa_main.specs.declared.fault.Refusal.{Refusal}
 use Rattle.caa_main.specs.declared.finding.Finding.{Finding}
 use Rattle.caa_main.specs.declared.finding.Finding.TheVariants as finding
 use Rattle.caa_main.specs.declared.status.Status.{Status}
-use Rattle.caa_main.specs.declared.status.Status.TheVariants as status
 use Rattle.caa_main.specs.Findings.{status_of}
 use Rattle.caa_main.specs.Inputs.{most_bytes, script_in}
 use Rattle.caa_main.specs.Scripts.{HasPlan, IsRefusedScript}
 use Rattle.caa_main.specs.OutsideUse.{SourceUse, SinkUse, Left, Call}
-use Rattle.caa_main.specs.Calls.{PlanComesTo, InputComesTo, IsNotServed, HasStopped, unread_finding, CameTo, Answers, IsServable, WasServed}
+use Rattle.caa_main.specs.Calls.{PlanComesTo, IsNotServed, HasStopped, unread_finding, CameTo, Answers, IsServable, WasServed}
 use Rattle.caa_main.proofs.NotRefused.{plan_not_refused}
 
 -- ---- a script that has a plan

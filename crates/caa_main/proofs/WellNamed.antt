@@ -1,16 +1,14 @@
 -- The plan of a script is well named.
-use Rattle.std.proofs.Common.{◌≡◌, ◌≢◌, ◌⊎◌, inl, inr, ℕ, ◌<◌, ◌≤◌, ◌==◌, nat_lt, Bool, true, ◌&&◌, List, [], map, length, get_or, slice_index_or, refl, sym, ap, ◌∙◌, subst, arith}
+use Rattle.std.proofs.Common.{◌≡◌, ◌⊎◌, inl, inr, ℕ, ◌<◌, ◌≤◌, true, List, [], length, slice_index_or, refl, sym, ◌∙◌, subst, arith}
 use Rattle.std.proofs.lemmas.Bool.{and_from, lt-ltb, cases_lt}
 use Rattle.std.proofs.lemmas.List.{get_or-map, length-map}
 use Rattle.caa_base.specs.Names.{is_name}
-use Rattle.place_plan.specs.declared.draft_rows.GraphRow.{GraphRow}
 use Rattle.place_plan.specs.declared.draft_rows.ObjectRow.{ObjectRow}
 use Rattle.place_plan.specs.PlanValue.{Plan}
-use Rattle.place_plan.specs.Places.{no_object, no_graph, graph_at, exception_name}
-use Rattle.script_checker.specs.OwnNames.{AreOwnNames, NamesExceptions, HasOwnNames}
-use Rattle.journal_text.specs.Text.{participant_name, object_name, watched_object}
+use Rattle.place_plan.specs.Places.{no_object, no_graph, graph_at}
+use Rattle.script_checker.specs.OwnNames.{AreOwnNames, HasOwnNames}
+use Rattle.journal_text.specs.Text.{object_name, watched_object}
 use Rattle.journal_text.specs.Naming.{are_names, is_named_graph, is_own_watch, is_well_named}
-use Rattle.journal_text.specs.Words.{watch_in}
 use Rattle.journal_text.proofs.NamingLemmas.{all_below_pass, own_index, are_names-from}
 
 own_list : (names : List (List ℕ)) (n : ℕ) → length names ≡ n → AreOwnNames names → are_names (λ i. slice_index_or names i []) n ≡ true

@@ -1,6 +1,6 @@
-use Rattle.std.proofs.Common.{◌≡◌, ◌+◌, ◌-◌, ℕ, suc, length, drop, false, cond, sym, ap, ◌∙◌, arith}
+use Rattle.std.proofs.Common.{◌≡◌, ◌+◌, suc, false, cond, sym, ap, ◌∙◌, arith}
 use Rattle.action_script.specs.CutLines.{lines_of}
-use Rattle.caa_main.specs.Inputs.{lines_before, after_lines, script_lines, journal_part, is_journal_line, begins_journal}
+use Rattle.caa_main.specs.Inputs.{lines_before, after_lines, is_journal_line, begins_journal}
 use Rattle.caa_main.proofs.inputs.skip_script.Goals as goal
 
 pub loop-line-preserved : goal.loop-line-preserved
