@@ -1,13 +1,23 @@
-//! What running threads may see without taking turns: the exception to which each place was resolved, and the notes of it.
+//! What running threads may see without taking turns: the exception to which each place was resolved, with the notes of it, and the
+//! committed values of the objects.
 #![tactic(auto)]
 
+mod board;
 mod bulletin;
 mod cells;
+mod committed;
 mod notes;
+mod observed;
+mod observer;
+mod publications;
 
 pub use bulletin::{Bulletin, Told};
 pub use cells::{Announcer, ResolutionCells};
+pub use committed::{CommittedWriter, PublishError};
 pub use notes::{NoteRefused, PlaceNote};
+pub use observed::{ReadRefused, Reading, reading_stands};
+pub use observer::Observer;
+pub use publications::Publications;
 
 #[cfg(test)]
 mod tests;

@@ -1,4 +1,13 @@
+ghost use Rattle.std.specs.Prelude.{◌≡◌, length};
+
 use super::*;
+use caa_base::name::Name;
+use caa_base::rows::Rows;
+use place_plan::draft::Draft;
+use place_plan::draft_rows::{GraphRow, ObjectRow};
+use place_plan::plan::Plan;
+use std::alloc::Global;
+use std::sync::Wait;
 use std::test::Fail;
 
 #[test]
@@ -10,5 +19,72 @@ fn notes_meet(rt: HostRuntime) -> Result<(), Fail> {
     assert!(rt; told.is_ok() && cells.resolved(&mut other) == Some(7));
     cells.agree(&mut note, &mut other);
     assert!(rt; cells.resolved(&mut cells.note(2)).is_none());
+    Ok(())
+}
+
+/// A plan of two objects, x of 5 and y of 0.
+fn two_objects(alloc: Global) -> Result<Plan, Fail> {
+    let x = ObjectRow {
+        name: Name::from_bytes(alloc, b"x")?,
+        initial: 5,
+    };
+    let y = ObjectRow {
+        name: Name::from_bytes(alloc, b"y")?,
+        initial: 0,
+    };
+    let draft = Draft {
+        participants: Rows::from_vec(Vec::new(alloc)),
+        objects: Rows::from_vec(vec![in alloc; x, y]?),
+        graphs: Rows::from_vec(vec![in alloc; GraphRow::plain(alloc)?]?),
+        actions: Rows::from_vec(Vec::new(alloc)),
+        plays: Rows::from_vec(Vec::new(alloc)),
+        drills: Rows::from_vec(Vec::new(alloc)),
+        watches: Rows::from_vec(Vec::new(alloc)),
+    };
+    Ok(Plan::close(alloc, draft)?)
+}
+
+/// What is read of y in turn: before, between and after two publications, by one that isn't told and by one that is.
+fn readings<R: Wait>(
+    rt: &R,
+    alloc: Global,
+    writer: &mut CommittedWriter,
+    early: &mut Observer,
+    late: &mut Observer,
+) -> [Option<Reading>; 4]
+    requires objects { (length writer.old.initials ≡ 2) × (length early.old.initials ≡ 2) × (length late.old.initials ≡ 2) }
+    requires ours { late.old.known.book ≡ writer.old.publications.book }
+{
+    let before = early.read(1).ok();
+    let is_first = writer.publish(rt, alloc, &[(0, 7), (1, 1)]).is_ok();
+    let between = early.read(1).ok();
+    let is_second = writer.publish(rt, alloc, &[(1, 2)]).is_ok();
+    late.learn(writer.tell());
+    let after = late.read(1).ok();
+    if is_first && is_second {
+        [before, between, after, Some(writer.last(0))]
+    } else {
+        [None, None, None, None]
+    }
+}
+
+fn says(reading: Option<Reading>, ends: u64, value: i64) -> bool {
+    reading == Some(Reading { ends, value })
+}
+
+#[test]
+fn observer_reads(rt: HostRuntime) -> Result<(), Fail> {
+    let alloc = rt.alloc();
+    let plan = two_objects(alloc)?;
+    assert_eq!(rt; plan.objects(), 2);
+    let (mut writer, mut observers) = CommittedWriter::open(&rt, alloc, &plan, 2)?;
+    let (Some(mut late), Some(mut early)) = (observers.pop(), observers.pop()) else {
+        writer.end(&rt);
+        return Err(Fail::from("two observers were asked for"));
+    };
+    let readings = readings(&rt, alloc, &mut writer, &mut early, &mut late);
+    writer.end(&rt);
+    let [before, between, after, last] = readings;
+    assert!(rt; says(before, 0, 0) && says(between, 1, 1) && says(after, 2, 2) && says(last, 2, 7));
     Ok(())
 }

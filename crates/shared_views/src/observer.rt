@@ -1,0 +1,140 @@
+ghost use Rattle.std.specs.Prelude.{◌≡◌, ◌<◌, ◌⊎◌, length, replicate, Some, IfSome, IfNone, IfOk, IfErr};
+ghost use Rattle.left_right.specs.Sides.{view};
+ghost use Rattle.shared_views.specs.Boards.{IsRight};
+ghost use Rattle.shared_views.specs.Publications.{Begins};
+ghost use Rattle.shared_views.specs.Committing.{Watching, IsReading};
+
+use crate::board::{Board, Looks, Publication, Published, Tells, View};
+use crate::observed::{ReadRefused, Reading};
+use crate::publications::Publications;
+use caa_base::entry::{Object, OutOfMemory};
+use left_right::reader::Reader;
+use left_right::writer::Writer;
+use std::alloc::Global;
+use std::marker::Model;
+
+/// The writer of the board.
+pub(crate) type BoardWriter = Writer<Board, Publication, View, Published>;
+
+/// Reads committed values from any thread, and waits for nobody.
+///
+/// Contracts see the initial values and the publications that it has seen or was told of.
+#[derive(Drop)]
+pub struct Observer {
+    reader: Option<Reader<Board, View, Published>>,
+    initials: Vec<i64>,
+    known: Publications,
+}
+
+impl Model for Observer {
+    ghost use Rattle.shared_views.specs.Committing.{Watching};
+    ghost use Rattle.shared_views.specs.Seating.{watching_view, IsPlaced};
+
+    ghost Value = { Watching };
+
+    ghost view = { watching_view };
+
+    ghost invariant = { IsPlaced };
+}
+
+impl Observer {
+    /// An observer that has no place yet.
+    fn apart(
+        alloc: Global,
+        initials: &[i64],
+        publications: &Publications,
+    ) -> Result<Observer, OutOfMemory>
+        ensures { IfOk result (λ o. o ≡ record { initials = initials.now; known = publications.now }) }
+    {
+        let mut copy = Vec::new(alloc);
+        copy.extend_from_slice(initials)?;
+        Ok(Observer {
+            reader: None,
+            initials: copy,
+            known: publications.again(),
+        })
+    }
+
+    /// So many observers that have no place yet.
+    pub(crate) fn all_apart(
+        alloc: Global,
+        initials: &[i64],
+        publications: &Publications,
+        count: u32,
+    ) -> Result<Vec<Observer>, OutOfMemory>
+        ensures { IfOk result (λ v. v.items ≡ replicate count (record { initials = initials.now; known = publications.now })) }
+    {
+        let mut observers = Vec::new(alloc);
+        for _ in 0..count {
+            observers.push(Observer::apart(alloc, initials, publications)?)?;
+        }
+        Ok(observers)
+    }
+
+    /// Takes a place at the board, where `left_right` has one.
+    pub(crate) fn take_place(&mut self, writer: &mut BoardWriter)
+        requires writer { (view writer.old.desk.place).known ≡ Some writer.old.desk.shown.value.publications }
+        requires book { writer.old.desk.shown.value.publications.book ≡ self.old.known.book }
+        ensures same { self.new ≡ self.old }
+        ensures shown { (writer.new.desk.shown ≡ writer.old.desk.shown) × (writer.new.log ≡ writer.old.log) × (writer.new.behind ≡ writer.old.behind) }
+        ensures writer { (view writer.new.desk.place).known ≡ Some writer.new.desk.shown.value.publications }
+    {
+        if let Ok(mut reader) = writer.factory().reader() {
+            reader.learn::<Tells>(writer.tell::<Tells>());
+            self.reader = Some(reader);
+        }
+    }
+
+    /// The value of an object after all publications that the observer then knows of, which are no fewer than before.
+    ///
+    /// A refusal leaves the observer as it was.
+    pub fn read(&mut self, object: Object) -> Result<Reading, ReadRefused>
+        requires object { object < length self.old.initials }
+        ensures initials { self.new.initials ≡ self.old.initials }
+        ensures known { Begins self.old.known self.new.known }
+        ensures read { IfOk result (λ r. IsReading self.new.initials self.new.known object r) }
+        ensures refused { IfErr result (λ _. self.new ≡ self.old) }
+    {
+        let Some(reader) = self.reader.take() else {
+            return Err(ReadRefused::new());
+        };
+        let reading = match reader.enter_as::<Looks>() {
+            Ok(reading) => reading,
+            Err(reader) => {
+                self.reader = Some(reader);
+                return Err(ReadRefused::new());
+            }
+        };
+        let found = self.look_at(reading.get(), object);
+        self.reader = Some(reading.leave());
+        found.ok_or_else(ReadRefused::new)
+    }
+
+    /// The value of an object on this board, unless the board is older than what the observer knows of.
+    fn look_at(&mut self, board: &Board, object: Object) -> Option<Reading>
+        requires object { object < length self.old.initials }
+        requires right { IsRight board.now }
+        requires book { board.now.publications.book ≡ self.old.known.book }
+        ensures initials { self.new.initials ≡ self.old.initials }
+        ensures known { Begins self.old.known self.new.known }
+        ensures some { IfSome result (λ r. IsReading self.new.initials self.new.known object r) }
+        ensures none { IfNone result (self.new ≡ self.old) }
+    {
+        if board.publications.ends() < self.known.ends() {
+            return None;
+        }
+        self.known = board.publications.longer(&self.known);
+        Some(board.reading(object, &self.initials))
+    }
+
+    /// Learns what its writer told. From then on it reads no fewer publications.
+    pub fn learn(&mut self, told: Publications)
+        requires ours { told.book ≡ self.old.known.book }
+        ensures initials { self.new.initials ≡ self.old.initials }
+        ensures known { Begins self.old.known self.new.known }
+        ensures told { Begins told self.new.known }
+        ensures no_more { (self.new.known ≡ self.old.known) ⊎ (self.new.known ≡ told) }
+    {
+        self.known = self.known.longer(&told);
+    }
+}
