@@ -26,9 +26,10 @@ module _ (M : RattleType) (s : IsSend M) where
   housed_row_send = recorded_send (Struct (shape (housed.the_type M))) (housed.the_type M).D (housed.the_type M).to (housed.the_type M).to_one housed_send
 
   pub seat_send : IsSend (Struct (shape (seat.the_type M)))
-  seat_send = struct_send (shape (seat.the_type M))
-      (token_crosses.the_send (option.the_row (housed.the_row M)) view.the_row (option_crosses.the_send (housed.the_row M) housed_row_send),
-      (search sendable, (search sendable, (search sendable, (told_crosses.the_field_send, tt)))))
+  seat_send = struct_send (shape (seat.the_type M)) (
+    token_crosses.the_send (option.the_row (housed.the_row M)) view.the_row (option_crosses.the_send (housed.the_row M) housed_row_send),
+    (search sendable, (search sendable, (search sendable, (told_crosses.the_field_send, tt)))),
+  )
 
   pub manager_sync : (g : machine.Ghosts M.Denot) → IsSync (Struct (shape (manager.the_type M g)))
   manager_sync g = struct_sync (shape (manager.the_type M g))
