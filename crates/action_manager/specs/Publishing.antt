@@ -1,5 +1,5 @@
 -- What is published as plays end.
-use Rattle.std.specs.Prelude.{◌≡◌, ◌≤◌, ◌<◌, ℕ, ℤ, ◌&&◌, Bool, false, List, [], ◌∷◌, ◌++◌, length, map, is_none, if◌then◌else◌}
+use Rattle.std.specs.Prelude.{◌≡◌, ◌≤◌, ◌<◌, ℕ, ◌&&◌, Bool, false, List, [], ◌∷◌, ◌++◌, length, map, is_none, if◌then◌else◌}
 use Rattle.caa_base.specs.declared.entry.Entry.{Entry}
 use Rattle.caa_base.specs.declared.entry.Kind.TheVariants as kind
 use Rattle.place_plan.specs.PlanValue.{Plan}

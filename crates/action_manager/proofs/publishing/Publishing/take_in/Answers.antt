@@ -1,4 +1,4 @@
-use Rattle.std.proofs.Common.{rules, true, ◌≡◌, ◌<◌, ◌∷◌, ℕ, List, All, length, reverse, sym, ap, ◌∙◌, subst, arith}
+use Rattle.std.proofs.Common.{rules, true, ◌≡◌, ◌<◌, ◌∷◌, All, length, reverse, sym, ap, ◌∙◌, subst, arith}
 use Rattle.place_plan.specs.PlanValue.{Plan}
 use Rattle.place_plan.specs.Closed.{IsClosed}
 use Rattle.place_plan.specs.Journals.{LegalPast}
