@@ -3,5 +3,6 @@ mod JudgedLines
 mod LineStarts
 mod NotRefused
 mod Reversed
-mod Serving
+mod CallsServed
+mod ToldCalls
 mod WellNamed

@@ -8,6 +8,9 @@ use Rattle.caa_base.specs.declared.entry.Entry.{Entry}
 use Rattle.caa_base.specs.declared.reading.ReadError.{ReadError}
 use Rattle.caa_base.specs.declared.reading.ReadError.TheVariants as error
 use Rattle.place_plan.specs.PlanValue.{Plan}
+use Rattle.role_driver.specs.Schedule.{GrewBy, first_of_seed}
+use Rattle.journal_text.specs.declared.seens.Seen.{Seen}
+use Rattle.journal_text.specs.Right.{first_wrong}
 use Rattle.journal_text.specs.Text.{text_of}
 use Rattle.caa_main.specs.declared.command.Command.{Command}
 use Rattle.caa_main.specs.declared.command.Command.TheVariants as command
@@ -16,7 +19,6 @@ use Rattle.caa_main.specs.declared.finding.Finding.{Finding}
 use Rattle.caa_main.specs.declared.finding.Finding.TheVariants as finding
 use Rattle.caa_main.specs.declared.status.Status.{Status}
 use Rattle.caa_main.specs.declared.status.Status.TheVariants as status
-use Rattle.caa_main.specs.Commands.{command_of}
 use Rattle.caa_main.specs.Findings.{counts_of, status_of, finding_text, is_played, needs_memory}
 use Rattle.caa_main.specs.Inputs.{most_bytes, script_in, journal_part}
 use Rattle.caa_main.specs.Judging.{IsLawful, IsIllegal, HasTooManyEntries}
@@ -31,14 +33,36 @@ abbrev pub CheckComesTo : {P : Type 0} → Plan → Finding → Left P → Type 
 CheckComesTo plan (finding.Checked counts) left = (counts ≡ counts_of plan) × IsIdle left
 CheckComesTo plan _ left = ⊥
 
--- `sim` plays the plan: status clause and printed clause. Or the device refused to be laid out, or no memory was found, before the
--- play or after it
+-- a play that ended: status clause, and printed clause with these looks. Its text may have found no memory
+abbrev pub EndsAs : Plan → List Entry → List Seen → Finding → Type 0
+EndsAs plan journal seens (finding.Played failed text) = (failed ≡ has_failed_play plan journal) × (text.items ≡ text_of plan journal seens)
+EndsAs plan journal seens finding.OutOfMemory = Unit {0}
+EndsAs plan journal seens _ = ⊥
+
+-- no play began: the device refused to be laid out, or no memory was found
+abbrev pub DoesNotBegin : {P : Type 0} → Finding → Left P → Type 0
+DoesNotBegin finding.PlantFault left = Rose left.plant.lay_faults_before left.plant.lay_faults_after × IsUnplayed left
+DoesNotBegin finding.OutOfMemory left = IsUnplayed left
+DoesNotBegin _ left = ⊥
+
+-- `sim` plays the plan by the schedule of the seed, and nobody watches
+pub record IsSimulated {P : Type 0} (plan : Plan) (seed : ℕ) (found : Finding) (left : Left P) : Type 0 where
+  pub played : IsPlayed plan left
+  pub schedule : GrewBy (first_of_seed seed) plan [] left.journal
+  pub ends : EndsAs plan left.journal [] found
+
 abbrev pub SimComesTo : {P : Type 0} → Plan → ℕ → Finding → Left P → Type 0
-SimComesTo plan seed (finding.Played failed text) left =
-    IsPlayed plan seed left × (failed ≡ has_failed_play plan left.journal) × (text.items ≡ text_of plan left.journal [])
-SimComesTo plan seed finding.PlantFault left = Rose left.plant.lay_faults_before left.plant.lay_faults_after × IsUnplayed left
-SimComesTo plan seed finding.OutOfMemory left = IsUnplayed left ⊎ IsPlayed plan seed left
-SimComesTo plan seed _ left = ⊥
+SimComesTo plan seed found left = IsSimulated plan seed found left ⊎ DoesNotBegin found left
+
+-- `run` plays the plan in threads, and what is told of its watches is right (observer clause)
+pub record IsRun {P : Type 0} (plan : Plan) (found : Finding) (left : Left P) : Type 0 where
+  pub played : IsPlayed plan left
+  pub seens : List Seen
+  pub right : is_played found ≡ true → first_wrong plan left.journal seens ≡ None
+  pub ends : EndsAs plan left.journal seens found
+
+abbrev pub RunComesTo : {P : Type 0} → Plan → Finding → Left P → Type 0
+RunComesTo plan found left = IsRun plan found left ⊎ DoesNotBegin found left
 
 -- the journal that was read is legal and complete, has so many entries, and is handed back
 pub record IsLegalInput {P : Type 0} (plan : Plan) (bytes : List ℕ) (entries : ℕ) (left : Left P) : Type 0 where
@@ -57,6 +81,7 @@ AuditComesTo plan bytes _ left = ⊥
 abbrev pub PlanComesTo : {P : Type 0} → Command → Plan → List ℕ → Finding → Left P → Type 0
 PlanComesTo command.Check plan bytes found left = CheckComesTo plan found left
 PlanComesTo (command.Sim seed) plan bytes found left = SimComesTo plan seed found left
+PlanComesTo command.Run plan bytes found left = RunComesTo plan found left
 PlanComesTo command.Audit plan bytes found left = AuditComesTo plan bytes found left
 
 -- ---- what each command comes to over the bytes that were read
@@ -78,10 +103,10 @@ InputComesTo command bytes found left = IsServed command bytes found left ⊎ Is
 
 -- ---- what a call comes to, in the order in which things are tried
 
--- the words are of no command that is built, and nothing was read
+-- the words are no command that is served, and nothing was read
 pub record IsUsage {P : Type 0} (call : Call P) (found : Finding) : Type 0 where
   pub finding : found ≡ finding.Usage
-  pub cause : command_of call.words ≡ None
+  pub cause : call.asked ≡ None
   pub unread : call.source.left_after ≡ call.source.left_before
   pub idle : IsIdle call.left
 
@@ -97,7 +122,7 @@ unread_finding error.OutOfMemory = finding.OutOfMemory
 
 pub record IsUnread {P : Type 0} (call : Call P) (found : Finding) : Type 0 where
   pub command : Command
-  pub given : command_of call.words ≡ Some command
+  pub given : call.asked ≡ Some command
   pub error : ReadError
   pub finding : found ≡ unread_finding error
   pub taken : TookUntil call.source.left_before call.source.left_after (most_bytes command) error
@@ -112,7 +137,7 @@ pub record WasRead (source : SourceUse) (most : ℕ) (bytes : List ℕ) : Type 0
 
 pub record IsRead {P : Type 0} (call : Call P) (found : Finding) : Type 0 where
   pub command : Command
-  pub given : command_of call.words ≡ Some command
+  pub given : call.asked ≡ Some command
   pub bytes : List ℕ
   pub read : WasRead call.source (most_bytes command) bytes
   pub comes : InputComesTo command bytes found call.left
@@ -122,52 +147,53 @@ CameTo call found = IsUsage call found ⊎ (IsUnread call found ⊎ IsRead call 
 
 -- ---- what a call answers
 
--- the whole text of what was found was written, and its status is answered
-pub record WroteAll {P : Type 0} (call : Call P) (sink : SinkUse) (answer : Status) : Type 0 where
-  pub finding : Finding
-  pub came : CameTo call finding
-  pub answered : answer ≡ status_of finding
-  pub written : sink.held_after ≡ append_known sink.held_before (finding_text finding)
-
 -- the call, where it hands back this journal
 abbrev pub with_journal : {P : Type 0} → Call P → List Entry → Call P
-with_journal call journal = record { words = call.words; source = call.source; left = record { plant = call.left.plant; journal = journal } }
+with_journal call journal = record { asked = call.asked; source = call.source; left = record { plant = call.left.plant; journal = journal } }
 
 -- the journal that is handed back where the text of a finding wasn't written: a played one
 abbrev pub journal_kept : Finding → List Entry → List Entry
 journal_kept found journal = if is_played found then journal else []
 
+-- the whole text of what was found was written, and its status is answered
+pub record WroteAll (found : Finding) (journal handed : List Entry) (sink : SinkUse) (answer : Status) : Type 0 where
+  pub kept : handed ≡ journal
+  pub answered : answer ≡ status_of found
+  pub written : sink.held_after ≡ append_known sink.held_before (finding_text found)
+
 -- a write failed: the sink took a part of the text of what was found
-pub record WasCutOff {P : Type 0} (call : Call P) (sink : SinkUse) (answer : Status) : Type 0 where
-  pub finding : Finding
-  pub journal : List Entry
-  pub came : CameTo (with_journal call journal) finding
-  pub kept : call.left.journal ≡ journal_kept finding journal
+pub record WasCutOff (found : Finding) (journal handed : List Entry) (sink : SinkUse) (answer : Status) : Type 0 where
+  pub kept : handed ≡ journal_kept found journal
   pub answered : answer ≡ status.SinkFault
-  pub part : WrotePart sink.held_before sink.held_after (finding_text finding)
+  pub part : WrotePart sink.held_before sink.held_after (finding_text found)
   pub cause : Rose sink.faults_before sink.faults_after
 
 -- no memory was found for the text of what was found, and nothing was written
-pub record WasLost {P : Type 0} (call : Call P) (sink : SinkUse) (answer : Status) : Type 0 where
-  pub finding : Finding
-  pub journal : List Entry
-  pub came : CameTo (with_journal call journal) finding
-  pub large : needs_memory finding ≡ true
-  pub kept : call.left.journal ≡ []
+pub record WasLost (found : Finding) (handed : List Entry) (sink : SinkUse) (answer : Status) : Type 0 where
+  pub kept : handed ≡ []
+  pub large : needs_memory found ≡ true
   pub answered : answer ≡ status.OutOfMemory
   pub unwritten : sink.held_after ≡ sink.held_before
 
-abbrev pub Answers : {P : Type 0} → Call P → SinkUse → Status → Type 0
-Answers call sink answer = WroteAll call sink answer ⊎ (WasCutOff call sink answer ⊎ WasLost call sink answer)
+-- what was found with this journal is told, and a journal is handed back
+abbrev pub Tells : Finding → List Entry → List Entry → SinkUse → Status → Type 0
+Tells found journal handed sink answer =
+    WroteAll found journal handed sink answer ⊎ (WasCutOff found journal handed sink answer ⊎ WasLost found handed sink answer)
+
+pub record Answers {P : Type 0} (call : Call P) (sink : SinkUse) (answer : Status) : Type 0 where
+  pub finding : Finding
+  pub journal : List Entry
+  pub came : CameTo (with_journal call journal) finding
+  pub tells : Tells finding journal call.left.journal sink answer
 
 -- ---- completeness
 
--- the words are `check` or `sim SEED`, the source tells the bytes of a script that has a plan, and no count rose: of failed reads, of
--- failed writes, and of refusals to be laid out
+-- the words are `check`, `sim SEED` or `run`, the source tells the bytes of a script that has a plan, and no count rose: of failed
+-- reads, of failed writes, and of refusals to be laid out
 pub record IsServable {P : Type 0} (call : Call P) (sink : SinkUse) : Type 0 where
-  pub asked : Command
-  pub given : command_of call.words ≡ Some asked
-  pub unjudged : asked ≡ command.Audit → ⊥
+  pub served : Command
+  pub given : call.asked ≡ Some served
+  pub unjudged : served ≡ command.Audit → ⊥
   pub bytes : List ℕ
   pub told : call.source.left_before ≡ Some bytes
   pub plan : Plan

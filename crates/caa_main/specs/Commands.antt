@@ -30,10 +30,16 @@ abbrev pub alone : Command → List (List ℕ) → Option Command
 alone command [] = Some command
 alone command (word ∷ words) = None
 
--- the command of these words, where they are `check`, `sim SEED` or `audit`
+-- the command of these words, where they are `check`, `sim SEED`, `run` or `audit`
 abbrev pub command_of : List (List ℕ) → Option Command
 command_of [] = None
 command_of (word ∷ words) =
     if bytes_eq word (codes "check") then alone command.Check words
     else (if bytes_eq word (codes "sim") then sim_of words
-    else (if bytes_eq word (codes "audit") then alone command.Audit words else None))
+    else (if bytes_eq word (codes "run") then alone command.Run words
+    else (if bytes_eq word (codes "audit") then alone command.Audit words else None)))
+
+-- a command that needs no threads; `run` needs them
+abbrev pub without_threads : Option Command → Option Command
+without_threads (Some command.Run) = None
+without_threads asked = asked

@@ -9,7 +9,6 @@ use Rattle.place_plan.specs.Entries.{is_of}
 use Rattle.place_plan.specs.Journals.{IsLegal, IsComplete, faults_in}
 use Rattle.journal_laws.specs.Laws.{KeepsLaws}
 use Rattle.journal_replay.specs.Device.{HasValues, HasDrills}
-use Rattle.role_driver.specs.Schedule.{GrewBy, first_of_seed}
 use Rattle.caa_main.specs.OutsideUse.{Left}
 
 -- the entry ends a play as failed
@@ -20,16 +19,14 @@ is_failed_play plan e = is_of kind.End e && ((e.mark == 4) && is_none (parent pl
 abbrev pub has_failed_play : Plan → List Entry → Bool
 has_failed_play plan journal = list_any (is_failed_play plan) journal
 
--- the plan was played to its end by the schedule of the seed, and the journal that is handed back is the one of the play
-pub record IsPlayed {P : Type 0} (plan : Plan) (seed : ℕ) (left : Left P) : Type 0 where
+-- the plan was played to its end, and the journal that is handed back is the one of the play
+pub record IsPlayed {P : Type 0} (plan : Plan) (left : Left P) : Type 0 where
   -- lawful clause
   pub legal : IsLegal plan left.journal
   pub complete : IsComplete plan left.journal
   pub laws : KeepsLaws plan (reverse left.journal)
   -- fault law: the device's count rose by one for each put and restore that was refused, unless it stands at its end
   pub faults : left.plant.faults_after < 2 ^ 64 - 1 → left.plant.faults_after ≡ left.plant.faults_before + faults_in left.journal
-  -- schedule clause
-  pub schedule : GrewBy (first_of_seed seed) plan [] left.journal
   -- device clause: where the device tells its values and puts, they are those of the journal
   pub device : IfSome left.plant.state (HasValues plan left.journal)
   -- drill clause: where it tells its drills and tries, the refused puts are just those that were drilled

@@ -5,6 +5,7 @@ use Rattle.caa_base.specs.declared.entry.Entry.{Entry}
 use Rattle.caa_base.specs.declared.source.Source.{Ghosts as SourceGhosts}
 use Rattle.caa_base.specs.declared.sink.Sink.{Ghosts as SinkGhosts}
 use Rattle.caa_base.specs.declared.plant.Plant.{Ghosts as PlantGhosts}
+use Rattle.caa_main.specs.declared.command.Command.{Command}
 
 -- what a source had left before and has left now, where it tells that; its counts of faults before and now
 pub record SourceUse : Type 0 where
@@ -72,14 +73,14 @@ pub record Left (P : Type 0) : Type 0 where
 abbrev pub left_of : {P : Type 0} → PlantUse P → List Entry → Left P
 left_of plant journal = record { plant = plant; journal = journal }
 
--- the words of a call, how it used the source, and what it leaves
+-- the command that a call is to serve, where its words are one; how it used the source, and what it leaves
 pub record Call (P : Type 0) : Type 0 where
-  pub words : List (List ℕ)
+  pub asked : Option Command
   pub source : SourceUse
   pub left : Left P
 
-abbrev pub call_of : {P : Type 0} → List (List ℕ) → SourceUse → Left P → Call P
-call_of words source left = record { words = words; source = source; left = left }
+abbrev pub call_of : {P : Type 0} → Option Command → SourceUse → Left P → Call P
+call_of asked source left = record { asked = asked; source = source; left = left }
 
 -- nothing was played, and the device is as it was
 pub record IsIdle {P : Type 0} (left : Left P) : Type 0 where

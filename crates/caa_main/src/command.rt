@@ -1,5 +1,5 @@
 ghost use Rattle.std.specs.Prelude.{◌≡◌, map, string_bytes, IfSome};
-ghost use Rattle.caa_main.specs.Commands.{command_of, sim_of, seed_of, alone, HasSeed};
+ghost use Rattle.caa_main.specs.Commands.{command_of, sim_of, seed_of, alone, without_threads, HasSeed};
 
 use action_script::word::value_of;
 
@@ -13,6 +13,8 @@ pub enum Command {
     Check,
     /// Plays a script by the schedule of this seed, which is below 2^31.
     Sim(u32),
+    /// Plays a script, each participant in a thread of its own.
+    Run,
     /// Judges a journal by the script before it.
     Audit,
 }
@@ -58,9 +60,23 @@ pub fn command_of(words: &[String]) -> Option<Command>
         alone(Command::Check, more)
     } else if word.as_str() == "sim" {
         sim_of(more)
+    } else if word.as_str() == "run" {
+        alone(Command::Run, more)
     } else if word.as_str() == "audit" {
         alone(Command::Audit, more)
     } else {
         None
+    }
+}
+
+/// The command of these words, where it is one that needs no threads.
+pub fn quiet_command_of(words: &[String]) -> Option<Command>
+    ensures command { result ≡ without_threads (command_of (map string_bytes words.now)) }
+    ensures quiet { without_threads result ≡ result }
+    ensures seed { IfSome result HasSeed }
+{
+    match command_of(words) {
+        Some(Command::Run) => None,
+        asked => asked,
     }
 }

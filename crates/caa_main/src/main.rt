@@ -6,12 +6,15 @@ mod fault;
 mod finding;
 mod inputs;
 mod judging;
+mod playing;
 mod scripts;
+mod serving;
 mod status;
 mod top;
 
 use crate::status::Status;
-use crate::top::top_quiet;
+use crate::top::top;
+use caa_base::gate::EmptyGate;
 use caa_base::memory::MemPlant;
 use caa_base::standard::{StdSink, StdSource};
 use std::alloc::AllocError;
@@ -38,12 +41,14 @@ fn main(rt: HostRuntime) -> ExitCode {
     };
     let mut source = StdSource::new(rt.stdin());
     let mut sink = StdSink::new(rt.stdout());
-    let ended = top_quiet(
+    let ended = top(
+        &rt,
         rt.alloc(),
         words.as_slice(),
         &mut source,
         &mut sink,
         MemPlant::new(false),
+        &EmptyGate,
     );
     ExitCode::from(ended.status as u8)
 }

@@ -6,3 +6,4 @@ pub mod Words
 pub mod TextOfJournal
 pub mod TextSteps
 pub mod Right
+pub mod LastLooks

@@ -1,7 +1,10 @@
 use super::*;
+use caa_base::entry::{Participant, Place};
+use caa_base::gate::EmptyGate;
 use caa_base::memory::{MemPlant, MemSink, MemSource};
 use caa_base::one_byte::{OneByteSink, OneByteSource};
 use std::alloc::AllocError;
+use std::sync::atomic::{AtomicBool, AtomicU64, Ordering};
 use std::test::Fail;
 
 const FIRST_PATH: &[u8] =
@@ -205,5 +208,95 @@ fn audits_journals(rt: HostRuntime) -> Result<(), Fail> {
     let (status, text, _) = call(alloc, &["audit"], input.as_slice())?;
     assert_eq!(rt; status, Status::Refused);
     assert_eq!(rt; text.as_slice(), b"refused 2 11 twice\n".as_slice());
+    Ok(())
+}
+
+/// A gate at which two participants wait for each other, for a while.
+#[derive(Drop)]
+struct Meeting {
+    came: [AtomicBool; 2],
+    misses: AtomicU64,
+}
+
+impl Meeting {
+    fn new() -> Self {
+        Meeting {
+            came: [AtomicBool::new(false), AtomicBool::new(false)],
+            misses: AtomicU64::new(0),
+        }
+    }
+}
+
+impl Gate for Meeting {
+    fn work(&self, by: Participant, _place: Place) {
+        let own = by as usize % 2;
+        self.came[own].store(true, Ordering::SeqCst);
+        for _ in 0..50_000_000 {
+            if self.came[1 - own].load(Ordering::SeqCst) {
+                return;
+            }
+        }
+        self.misses.store(1, Ordering::SeqCst);
+    }
+}
+
+/// The status and the text of a script that is run in threads over memory.
+fn run_over<G: Gate + Sync, R: Threads + Wait + Sync>(
+    rt: &R,
+    alloc: Global,
+    script: &[u8],
+    gate: &G,
+) -> Result<(Status, Vec<u8>), Fail> {
+    let words = words_of(alloc, &["run"])?;
+    let mut source = MemSource::new(alloc, script, &[])?;
+    let mut sink = MemSink::new(alloc, 1000, &[])?;
+    let plant = MemPlant::new(false);
+    let ended = top(
+        rt,
+        alloc,
+        words.as_slice(),
+        &mut source,
+        &mut sink,
+        plant,
+        gate,
+    );
+    Ok((ended.status, Vec::from_slice(alloc, sink.bytes())?))
+}
+
+/// What an audit says of the text of a run.
+fn audit_of(alloc: Global, script: &[u8], text: &[u8]) -> Result<Status, Fail> {
+    let input = joined(alloc, &[script, text])?;
+    let (status, _, _) = call(alloc, &["audit"], input.as_slice())?;
+    Ok(status)
+}
+
+#[test]
+fn threads_meet_at_their_work(rt: HostRuntime) -> Result<(), Fail> {
+    let script =
+        b"participant ann\nparticipant bob\naction w\nroles r\nbody r\nwork 1\nend\nplay w ann\nplay w bob\n".as_slice();
+    let gate = Meeting::new();
+    let (status, text) = run_over(&rt, rt.alloc(), script, &gate)?;
+    assert_eq!(rt; status, Status::Done);
+    assert_eq!(rt; gate.misses.load(Ordering::SeqCst), 0);
+    assert!(rt; gate.came[0].load(Ordering::SeqCst));
+    assert!(rt; gate.came[1].load(Ordering::SeqCst));
+    assert_eq!(rt;
+        audit_of(rt.alloc(), script, text.as_slice())?,
+        Status::Done
+    );
+    Ok(())
+}
+
+#[test]
+fn a_run_tells_of_its_watches(rt: HostRuntime) -> Result<(), Fail> {
+    let script =
+        b"participant ann\nparticipant bob\nobject x 0\nwatch x\naction w\nuse x\nroles r\nbody r\nread x\nadd x 1\nend\nplay w ann\nplay w bob\n".as_slice();
+    let (status, text) = run_over(&rt, rt.alloc(), script, &EmptyGate)?;
+    assert_eq!(rt; status, Status::Done);
+    assert!(rt; text.as_slice().ends_with(b"\nseen x 2 2\n"));
+    assert_eq!(rt;
+        audit_of(rt.alloc(), script, text.as_slice())?,
+        Status::Done
+    );
     Ok(())
 }

@@ -1,7 +1,7 @@
 use Rattle.std.proofs.Common.{ℕ, ◌-◌, length, take, drop, arith}
 use Rattle.std.proofs.lemmas.List.{length-drop, length-take}
 use Rattle.caa_main.proofs.JudgedLines.{illegal_near}
-use Rattle.caa_main.proofs.top.judge_after.Goals as goal
+use Rattle.caa_main.proofs.serving.judge_after.Goals as goal
 
 pub overflow_add-line : goal.overflow_add-line
 overflow_add-line g c =
