@@ -13,6 +13,7 @@ use place_plan::plan::Plan;
 use std::alloc::Global;
 use std::snapshot::Snapshot;
 use std::sync::Wait;
+use std::thread;
 
 /// A turn lock: who draws a ticket has the turn, and all that lies in the slot, once the tickets before it were served.
 pub struct Lock<H: Home> {
@@ -96,7 +97,7 @@ impl<H: Home> Lock<H> {
         unreachable!()
     }
 
-    /// Looking, until the ticket is served, and taking what lies in the slot.
+    /// Looking, until the ticket is served, and taking what lies in the slot. Between two looks it lets other threads run.
     fn take<R: Wait>(&self, rt: &R, token: &mut Token<H>, ticket: u64) -> H
         requires token { (token.old.table_id ≡ id_of self.now) × (token.old.me.1 ≡ []) }
         requires waits { (token.old.me.0.holds ≡ true) × (token.old.me.0.has_book ≡ false) × (token.old.me.0.ticket ≡ ticket) }
@@ -110,6 +111,7 @@ impl<H: Home> Lock<H> {
             if self.table.shared.load::<Look<H>>(token, SERVING) == ticket {
                 return self.table.shared.exchange(token, HOME, None).unwrap();
             }
+            thread::yield_now();
         }
         unreachable!()
     }
