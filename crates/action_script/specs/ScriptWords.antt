@@ -43,7 +43,8 @@ negative_of (Some (suc n)) = Some (negsuc n)
 -- a value: at most 10^12 on either side of 0, with `-` before it where it is negative
 abbrev pub value_of : List ℕ → Option ℤ
 value_of [] = None
-value_of (b ∷ rest) = if b == 45 then negative_of (at_most most_value (natural_of rest)) else option_map pos (at_most most_value (natural_of (b ∷ rest)))
+value_of (b ∷ rest) =
+    if b == 45 then negative_of (at_most most_value (natural_of rest)) else option_map pos (at_most most_value (natural_of (b ∷ rest)))
 
 -- a number of rounds
 abbrev pub rounds_of : List ℕ → Option ℕ

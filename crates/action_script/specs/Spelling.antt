@@ -113,11 +113,14 @@ by_kind words (Some kind) = by_check (record { kind = kind; asked = asked_of (pa
 -- a line without words, and a comment, says nothing; another one has plain bytes alone and is of some kind
 abbrev pub line_by_words : Section → Bool → List (List ℕ) → Result (Option Said) ScriptCause
 line_by_words s plain [] = Ok None
-line_by_words s plain (word ∷ words) = if begins_comment word then Ok None else (if plain then by_kind words (kind_here s word (length words)) else Err cause.BadLine)
+line_by_words s plain (word ∷ words) =
+    if begins_comment word then Ok None
+    else (if plain then by_kind words (kind_here s word (length words)) else Err cause.BadLine)
 
 -- what a line says where the reader is here, if anything; or its first fault
 abbrev pub line_of : Section → List ℕ → Result (Option Said) ScriptCause
-line_of s line = if nat_lt most_line_bytes (length line) then Err cause.TooLong else line_by_words s (list_all is_plain line) (words_of line)
+line_of s line =
+    if nat_lt most_line_bytes (length line) then Err cause.TooLong else line_by_words s (list_all is_plain line) (words_of line)
 
 -- ---- all lines
 
@@ -132,7 +135,9 @@ before line (Ok lines) = Ok (line ∷ lines)
 before line (Err e) = Err e
 
 -- a line of this number, with what follows it where the reader is then
-abbrev pub with_line : ℕ → Section → (Section → Result (List Numbered) ScriptError) → Result (Option Said) ScriptCause → Result (List Numbered) ScriptError
+abbrev pub with_line :
+    ℕ → Section → (Section → Result (List Numbered) ScriptError) → Result (Option Said) ScriptCause
+    → Result (List Numbered) ScriptError
 with_line number s more (Ok None) = more s
 with_line number s more (Ok (Some said)) = before (record { number = number; said = said }) (more (goes_to said.kind s))
 with_line number s more (Err c) = Err (record { line = number; cause = c })

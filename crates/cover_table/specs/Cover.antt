@@ -44,7 +44,8 @@ order_of count rows = record { count = count; rows = take count rows }
 -- each number covers itself and what those that it covers cover, and no two cover each other
 pub record IsOrder (order : CoverOrder) : Type 0 where
   pub reflexive : (a : ℕ) → a < order.count → covers order a a ≡ true
-  pub transitive : (a b c : ℕ) → a < order.count → b < order.count → c < order.count → covers order a b ≡ true → covers order b c ≡ true → covers order a c ≡ true
+  pub transitive : (a b c : ℕ) → a < order.count → b < order.count → c < order.count
+      → covers order a b ≡ true → covers order b c ≡ true → covers order a c ≡ true
   pub antisymmetric : (a b : ℕ) → a < order.count → b < order.count → covers order a b ≡ true → covers order b a ≡ true → a ≡ b
 
 -- some number is the least cover of xs

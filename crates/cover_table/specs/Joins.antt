@@ -7,7 +7,8 @@ pub record HoldsJoins (width count : ℕ) (rows : List ℕ) (joins : List (List 
   pub fits : count ≤ width
   pub within : width ≤ most_exceptions
   pub is_order : IsOrder (order_of count rows)
-  pub least : (a b : ℕ) → a < count → b < count → IsLeastCover (order_of count rows) (a ∷ b ∷ []) (slice_index (slice_index_or joins a []) b)
+  pub least : (a b : ℕ) → a < count → b < count
+      → IsLeastCover (order_of count rows) (a ∷ b ∷ []) (slice_index (slice_index_or joins a []) b)
 
 -- the smallest size of a table that has room for this many numbers
 abbrev pub least_size : ℕ → ℕ

@@ -53,7 +53,8 @@ impl<const N: usize> JoinTable<N> {
         requires order { IsOrder (order_of order.now.count order.now.rows) }
         ensures same { IfOk result (λ table. table ≡ order_of order.now.count order.now.rows) }
         ensures sound { OnOk result (IsSound (order_of order.now.count order.now.rows)) }
-        ensures no_least { (a b : ℕ) → IsErrOf result (record { a = a; b = b }) ↔ IsFirstWithoutLeast (order_of order.now.count order.now.rows) a b }
+        ensures no_least { (a b : ℕ) →
+            IsErrOf result (record { a = a; b = b }) ↔ IsFirstWithoutLeast (order_of order.now.count order.now.rows) a b }
     {
         let all_uppers: [Row; N] = uppers_of(&order.rows[..order.count as usize]);
         let uppers = &all_uppers[..order.count as usize];

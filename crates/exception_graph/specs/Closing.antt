@@ -14,7 +14,8 @@ pub record TellDeclared (count : ℕ) (pairs : List (ℕ × ℕ)) (rows : List �
 
 -- rows tell all that they tell in two steps over an exception below `bound`
 abbrev pub AreClosedOver : List ℕ → ℕ → Type 0
-AreClosedOver rows bound = (m a b : ℕ) → m < bound → a < length rows → tells rows a m ≡ true → tells rows m b ≡ true → tells rows a b ≡ true
+AreClosedOver rows bound =
+    (m a b : ℕ) → m < bound → a < length rows → tells rows a m ≡ true → tells rows m b ≡ true → tells rows a b ≡ true
 
 -- the new rows tell what the old ones did
 abbrev pub TellMore : List ℕ → List ℕ → Type 0

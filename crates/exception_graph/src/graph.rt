@@ -70,7 +70,8 @@ impl Graph {
         ensures sound { OnOk result (IsSoundGraph count pairs.now) }
         ensures too_many { (number : ℕ) → IsErrOf result (GraphError.TooMany number) ↔ ((most_exceptions < count) × (number ≡ count)) }
         ensures cycle { (at : ℕ) → IsErrOf result (GraphError.Cycle at) ↔ ((count ≤ most_exceptions) × IsFirstInCycle count pairs.now at) }
-        ensures no_least { (a b : ℕ) → IsErrOf result (GraphError.NoLeast a b) ↔ ((count ≤ most_exceptions) × IsFirstUnjoined count pairs.now a b) }
+        ensures no_least { (a b : ℕ) →
+            IsErrOf result (GraphError.NoLeast a b) ↔ ((count ≤ most_exceptions) × IsFirstUnjoined count pairs.now a b) }
         ensures accepted { IsSoundGraph count pairs.now → IsOkUnless result GraphError.OutOfMemory }
         ensures out_of_memory { IsErrOf result GraphError.OutOfMemory → IsSoundGraph count pairs.now }
     {

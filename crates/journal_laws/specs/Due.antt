@@ -125,7 +125,8 @@ due_body plan past p t None = due_forward plan past p t (next_step plan past p t
 
 -- a handler that is broken off asks for undo
 abbrev pub due_handler : Plan → List Entry → ℕ → ℕ → Option Entry
-due_handler plan past p t = if breaks_off plan past p t then Some (verdict_entry p t verdict.Undo) else due_step plan past p t (next_step plan past p t)
+due_handler plan past p t =
+    if breaks_off plan past p t then Some (verdict_entry p t verdict.Undo) else due_step plan past p t (next_step plan past p t)
 
 -- a role begins its handler for the resolved exception, or asks for undo where it has none
 abbrev pub due_answer : Plan → ℕ → ℕ → ℕ → Option Entry
@@ -145,7 +146,8 @@ due_resolve p t (Some x) = Some (marked kind.Resolve p t 0 x)
 
 abbrev pub due_halted : Plan → List Entry → ℕ → ℕ → Option ℕ → Option Entry
 due_halted plan past p t (Some x) = due_resolved plan past p t x
-due_halted plan past p t None = if all_are_halted plan past p then due_resolve p t (least_of (internal_of plan p) (exceptions_raised plan past p)) else None
+due_halted plan past p t None =
+    if all_are_halted plan past p then due_resolve p t (least_of (internal_of plan p) (exceptions_raised plan past p)) else None
 
 -- who isn't halted in a hot place raises, or is informed
 abbrev pub due_running : ℕ → ℕ → Option ℕ → Option Entry

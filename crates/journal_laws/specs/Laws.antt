@@ -36,7 +36,8 @@ InsideIsInnermost plan past =
 abbrev pub HolderIsInnermost : Plan → List Entry → Type 0
 HolderIsInnermost plan past =
     (o p : ℕ) → (holder_of plan past o ≡ Some p)
-    ↔ ((is_live past p ≡ true) × (uses plan p o ≡ true) × ((q : ℕ) → is_live past q ≡ true → uses plan q o ≡ true → is_within plan p q ≡ true))
+    ↔ ((is_live past p ≡ true) × (uses plan p o ≡ true)
+    × ((q : ℕ) → is_live past q ≡ true → uses plan q o ≡ true → is_within plan p q ≡ true))
 
 -- ---- the next entry
 
@@ -68,8 +69,10 @@ IsBounded plan past = length past ≤ bound plan
 
 -- each who handles in p handles the least cover of all that is raised there in the whole journal, and all handle one exception
 pub record HandlesLeast (plan : Plan) (past : List Entry) (p : ℕ) : Type 0 where
-  pub least : (later before : List Entry) (e : Entry) → Splits past later e before → is_in kind.Handle p e ≡ true → IsLeastCover (internal_of plan p) (exceptions_raised plan past p) e.arg
-  pub one : (later before later' before' : List Entry) (e f : Entry) → Splits past later e before → Splits past later' f before' → is_in kind.Handle p e ≡ true → is_in kind.Handle p f ≡ true → e.arg ≡ f.arg
+  pub least : (later before : List Entry) (e : Entry) → Splits past later e before → is_in kind.Handle p e ≡ true
+      → IsLeastCover (internal_of plan p) (exceptions_raised plan past p) e.arg
+  pub one : (later before later' before' : List Entry) (e f : Entry) → Splits past later e before → Splits past later' f before'
+      → is_in kind.Handle p e ≡ true → is_in kind.Handle p f ≡ true → e.arg ≡ f.arg
 
 -- t gave the verdict undo in p after the Resolve of p
 pub record AskedForUndo (past : List Entry) (p t : ℕ) : Type 0 where
@@ -97,7 +100,8 @@ pub record IsAnswered (plan : Plan) (past : List Entry) (p : ℕ) : Type 0 where
 pub record ResolutionLaw (plan : Plan) (past : List Entry) : Type 0 where
   pub handles : (p : ℕ) → HandlesLeast plan past p
   -- a place in which something was raised, and which ended without aborts, was resolved and answered
-  pub answered : (p : ℕ) → has_ended past p ≡ true → has kind.Abort past p ≡ false → is_raised plan past p ≡ true → IsAnswered plan past p
+  pub answered : (p : ℕ) → has_ended past p ≡ true → has kind.Abort past p ≡ false → is_raised plan past p ≡ true
+      → IsAnswered plan past p
 
 -- ---- exit law
 
@@ -111,7 +115,9 @@ pub record EndsOnce (plan : Plan) (p : ℕ) (later before : List Entry) : Type 0
 
 -- each End is the only one of its place, after what each role says and before any leaves
 abbrev pub ExitLaw : Plan → List Entry → Type 0
-ExitLaw plan past = (p : ℕ) (later before : List Entry) (e : Entry) → Splits past later e before → is_in kind.End p e ≡ true → EndsOnce plan p later before
+ExitLaw plan past =
+    (p : ℕ) (later before : List Entry) (e : Entry) → Splits past later e before → is_in kind.End p e ≡ true
+    → EndsOnce plan p later before
 
 -- ---- outcome law
 
@@ -154,7 +160,8 @@ has_failed_restore past o = list_any (λ e. is_of kind.Restore e && ((e.arg == o
 -- in a complete journal an object that no restore failed for holds what the kept places alone leave
 abbrev pub EffectLaw : Plan → List Entry → Type 0
 EffectLaw plan past =
-    AllOver plan past → (o : ℕ) → has_failed_restore past o ≡ false → value_of plan past o ≡ last_write plan past o (λ e. is_kept plan past e.place)
+    AllOver plan past → (o : ℕ) → has_failed_restore past o ≡ false
+    → value_of plan past o ≡ last_write plan past o (λ e. is_kept plan past e.place)
 
 -- ---- device law
 
@@ -188,9 +195,12 @@ touches_object _ = false
 -- no two places that go on side by side have one object
 pub record IsolationLaw (plan : Plan) (past : List Entry) : Type 0 where
   -- of two places that use one object and are live at one moment, one encloses the other
-  pub nested : (later before : List Entry) (p q o : ℕ) → past ≡ later ++ before → is_live before p ≡ true → is_live before q ≡ true → uses plan p o ≡ true → uses plan q o ≡ true → is_within plan p q || is_within plan q p ≡ true
+  pub nested : (later before : List Entry) (p q o : ℕ) → past ≡ later ++ before
+      → is_live before p ≡ true → is_live before q ≡ true → uses plan p o ≡ true → uses plan q o ≡ true
+      → is_within plan p q || is_within plan q p ≡ true
   -- an object is touched only in the place that holds it at that moment
-  pub held : (later before : List Entry) (e : Entry) → Splits past later e before → touches_object e.kind ≡ true → holder_of plan before e.arg ≡ Some e.place
+  pub held : (later before : List Entry) (e : Entry) → Splits past later e before → touches_object e.kind ≡ true
+      → holder_of plan before e.arg ≡ Some e.place
 
 -- ---- all laws of one journal
 

@@ -73,7 +73,14 @@ pub struct PlainHall<P: Plant> {
     base: u64,
     ghost legal: { LegalPast plan (reverse journal.entries) } by { LegalPast-prop plan (reverse journal.entries) },
     ghost room: { bound plan ≤ journal.room },
-    ghost device: { FitsJournal plan base journal.entries (record { faults = P.faults plant; calls = P.calls plant; room = P.room plant; objects = P.objects plant; state = P.state plant; drilling = P.drilling plant }) },
+    ghost device: { FitsJournal plan base journal.entries (record {
+      faults = P.faults plant;
+      calls = P.calls plant;
+      room = P.room plant;
+      objects = P.objects plant;
+      state = P.state plant;
+      drilling = P.drilling plant;
+    }) },
 }
 
 /// The values of the objects before the first entry.
@@ -100,7 +107,14 @@ fn drills_of(alloc: Global, plan: &Plan) -> Result<Vec<Drill>, AllocError>
 
 /// Lays out a plant for a plan: the initial values, the drills, and room for as many puts as a journal of the plan has entries.
 fn lay_out<P: Plant>(alloc: Global, plan: &Plan, plant: &mut P) -> Result<(), PlantError>
-    ensures laid { OnOk result (FitsJournal plan.now (P.faults plant.old) [] (record { faults = P.faults plant.new; calls = P.calls plant.new; room = P.room plant.new; objects = P.objects plant.new; state = P.state plant.new; drilling = P.drilling plant.new })) }
+    ensures laid { OnOk result (FitsJournal plan.now (P.faults plant.old) [] (record {
+      faults = P.faults plant.new;
+      calls = P.calls plant.new;
+      room = P.room plant.new;
+      objects = P.objects plant.new;
+      state = P.state plant.new;
+      drilling = P.drilling plant.new;
+    })) }
     ensures tells_state { is_some (P.state plant.new) ≡ is_some (P.state plant.old) }
     ensures tells_drilling { is_some (P.drilling plant.new) ≡ is_some (P.drilling plant.old) }
     ensures lay_faults { CountsFault (is_refused result) (P.lay_faults plant.old) (P.lay_faults plant.new) }
@@ -291,7 +305,8 @@ impl<P: Plant> Machine for PlainHall<P> {
         ensures plan { plan_in self.new ≡ plan_in self.old }
         ensures base { base_in self.new ≡ base_in self.old }
         ensures count { P.faults (plant_in self.old) ≤ P.faults (plant_in self.new) }
-        ensures fault { (e : JournalEntry) → result ≡ Answer.Did e → is_fault e ≡ true → Rose (P.faults (plant_in self.old)) (P.faults (plant_in self.new)) }
+        ensures fault { (e : JournalEntry) → result ≡ Answer.Did e → is_fault e ≡ true →
+            Rose (P.faults (plant_in self.old)) (P.faults (plant_in self.new)) }
         ensures answer { Answers (plan_in self.old) (journal_in self.old) (journal_in self.new) by hint result }
     {
         if let Some(work) = work_due(&self.plan, self.journal.as_slice(), by) {

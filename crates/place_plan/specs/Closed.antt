@@ -10,7 +10,9 @@ use Rattle.place_plan.specs.DraftRules.{broken_rule}
 
 -- each graph is sound: so what is raised has a least cover, and one alone
 abbrev pub AreSound : List GraphRow → Type 0
-AreSound rows = (g : ℕ) → g < length rows → IsSound (slice_index_or rows g no_graph).graph × SetsHaveLeastCovers (slice_index_or rows g no_graph).graph
+AreSound rows =
+    (g : ℕ) → g < length rows
+    → IsSound (slice_index_or rows g no_graph).graph × SetsHaveLeastCovers (slice_index_or rows g no_graph).graph
 
 -- the plan is the unfolding of a draft that breaks no rule, and its graphs are sound
 pub record IsClosed (plan : Plan) : Type 0 where

@@ -37,12 +37,15 @@ nest_fits nest = not (is_empty nest.actions) && nat_le (length nest.actions) mos
 abbrev pub action_fits : ActionRow → Bool
 action_fits action =
     not (is_empty action.roles)
-    && (nat_le (length action.roles) most_roles && (nat_le (length action.nests) most_nests && (list_all role_fits action.roles && list_all nest_fits action.nests)))
+    && (nat_le (length action.roles) most_roles && (nat_le (length action.nests) most_nests
+    && (list_all role_fits action.roles && list_all nest_fits action.nests)))
 
 abbrev pub size_rule : Draft → Bool
 size_rule draft =
-    nat_le (length draft.participants) most_participants && (nat_le (length draft.objects) most_objects && (nat_le (length draft.graphs) (suc most_graphs) && (nat_le (length draft.actions) most_actions
-    && (nat_le (length draft.watches) most_watches && (nat_le (length draft.drills) most_drills && list_all action_fits draft.actions)))))
+    nat_le (length draft.participants) most_participants && (nat_le (length draft.objects) most_objects
+    && (nat_le (length draft.graphs) (suc most_graphs) && (nat_le (length draft.actions) most_actions
+    && (nat_le (length draft.watches) most_watches && (nat_le (length draft.drills) most_drills
+    && list_all action_fits draft.actions)))))
 
 -- ---- 2: graph 0 has one exception alone, and each graph has as many names as exceptions
 
@@ -103,7 +106,8 @@ role_in_range objects internal interface role =
 
 abbrev pub nest_in_range : ℕ → ℕ → ℕ → NestRow → Bool
 nest_in_range actions roles internal nest =
-    all_below actions nest.actions && (all_below roles nest.roles && (all_below internal nest.maps && (nat_lt nest.undo internal && nat_lt nest.failure internal)))
+    all_below actions nest.actions && (all_below roles nest.roles && (all_below internal nest.maps
+    && (nat_lt nest.undo internal && nat_lt nest.failure internal)))
 
 -- how many exceptions a graph of the draft has
 abbrev pub exceptions_of : Draft → ℕ → ℕ
@@ -136,8 +140,9 @@ drill_in_range draft drill = nat_lt drill.object (length draft.objects)
 
 abbrev pub range_rule : Draft → Bool
 range_rule draft =
-    list_all (λ o. is_value o.initial) draft.objects && (list_all (action_in_range draft) draft.actions && (list_all (play_in_range draft) draft.plays
-    && (list_all (drill_in_range draft) draft.drills && all_below (length draft.objects) draft.watches)))
+    list_all (λ o. is_value o.initial) draft.objects && (list_all (action_in_range draft) draft.actions
+    && (list_all (play_in_range draft) draft.plays && (list_all (drill_in_range draft) draft.drills
+    && all_below (length draft.objects) draft.watches)))
 
 -- ---- 4: what an action nests was declared before it
 
@@ -203,10 +208,12 @@ step_held objects (step.Add o v) = member o objects
 step_held objects _ = true
 
 abbrev pub role_held : List ℕ → RoleRow → Bool
-role_held objects role = list_all (step_held objects) role.body.steps && list_all (λ h. list_all (step_held objects) h.program.steps) role.handlers
+role_held objects role =
+    list_all (step_held objects) role.body.steps && list_all (λ h. list_all (step_held objects) h.program.steps) role.handlers
 
 abbrev pub nest_held : Draft → List ℕ → NestRow → Bool
-nest_held draft objects nest = list_all (λ action. list_all (λ o. member o objects) (slice_index_or draft.actions action no_action).objects) nest.actions
+nest_held draft objects nest =
+    list_all (λ action. list_all (λ o. member o objects) (slice_index_or draft.actions action no_action).objects) nest.actions
 
 abbrev pub action_held : Draft → ActionRow → Bool
 action_held draft action = list_all (role_held action.objects) action.roles && list_all (nest_held draft action.objects) action.nests
@@ -275,8 +282,9 @@ broken_if false rule next = Some rule
 -- the least rule that the draft breaks
 abbrev pub broken_rule : Draft → Option ℕ
 broken_rule draft =
-    broken_if (size_rule draft) 1 (broken_if (graph_rule draft) 2 (broken_if (range_rule draft) 3 (broken_if (order_rule draft) 4 (broken_if (fill_rule draft) 5
-    (broken_if (enter_rule draft) 6 (broken_if (object_rule draft) 7 (broken_if (depth_rule draft) 8 (broken_if (handler_rule draft) 9
+    broken_if (size_rule draft) 1 (broken_if (graph_rule draft) 2 (broken_if (range_rule draft) 3
+    (broken_if (order_rule draft) 4 (broken_if (fill_rule draft) 5 (broken_if (enter_rule draft) 6
+    (broken_if (object_rule draft) 7 (broken_if (depth_rule draft) 8 (broken_if (handler_rule draft) 9
     (broken_if (bound_rule draft) 10 (broken_if (face_rule draft) 11 None))))))))))
 
 -- the draft breaks no rule of a number below 10

@@ -12,4 +12,5 @@ pub record HasSizes (action : ActionRow) (played : ℕ) : Type 0 where
 
 -- each action is within the limits, played by its roles
 abbrev pub AllHaveSizes : List ActionRow → Type 0
-AllHaveSizes actions = (a : ℕ) → a < length actions → HasSizes (slice_index_or actions a no_action) (length (slice_index_or actions a no_action).roles)
+AllHaveSizes actions =
+    (a : ℕ) → a < length actions → HasSizes (slice_index_or actions a no_action) (length (slice_index_or actions a no_action).roles)

@@ -55,7 +55,13 @@ unfoldable pub unfold_at : ℕ → List ActionRow → Unfolding
 unfold_at zero actions a who around i n = []
 unfold_at (suc depth) actions a who around i n =
     let nests = (slice_index_or actions a no_action).nests in
-    record { around = around; nest = i; action = a; roles = who; children = children_from (unfold_at depth actions) who (n ∷ around) 0 (n + 1) nests }
+    record {
+      around = around;
+      nest = i;
+      action = a;
+      roles = who;
+      children = children_from (unfold_at depth actions) who (n ∷ around) 0 (n + 1) nests;
+    }
     ∷ uses_from (unfold_at depth actions) who (n ∷ around) 0 (n + 1) nests
 
 -- the plays in order, each with its whole subtree

@@ -1,5 +1,6 @@
 ghost use Rattle.std.specs.Prelude.{◌≡◌, ◌≤◌, ◌+◌, ℕ, ◌<◌, true, List, length, slice_index_or};
 ghost use Rattle.std.specs.List.{list_all};
+ghost use Rattle.caa_base.specs.Limits.{most_actions};
 ghost use Rattle.place_plan.specs.Places.{no_action};
 ghost use Rattle.place_plan.specs.DraftRules.{deepest_of, deepest, depth_within, depth_rule};
 ghost use Rattle.place_plan.specs.Weights.{counted, at, Tells, nests_known};
@@ -33,8 +34,9 @@ pub(crate) fn deepest(nests: &[NestRow], depths: &[u64]) -> u64
 
 /// The depths of all actions, as far as one more level tells than these do.
 fn one_level_more(actions: &[ActionRow], depths: &[u64]) -> Table
-    requires { length actions.now ≤ 256 }
-    ensures { (a : ℕ) → a < length actions.now → at result a ≡ counted (1 + deepest (at depths.now) (slice_index_or actions.now a no_action).nests) }
+    requires { length actions.now ≤ most_actions }
+    ensures { (a : ℕ) → a < length actions.now →
+        at result a ≡ counted (1 + deepest (at depths.now) (slice_index_or actions.now a no_action).nests) }
 {
     let mut table = [0; MOST_ACTIONS];
     for (number, action) in actions.iter().enumerate() {
@@ -45,7 +47,7 @@ fn one_level_more(actions: &[ActionRow], depths: &[u64]) -> Table
 
 /// The depths of all actions, as far as one level more tells than an action may have.
 fn depths_of(actions: &[ActionRow]) -> Table
-    requires few { length actions.now ≤ 256 }
+    requires few { length actions.now ≤ most_actions }
     requires known { nests_known actions.now ≡ true }
     ensures { Tells actions.now result (depth_within 9 actions.now) }
 {
@@ -58,7 +60,7 @@ fn depths_of(actions: &[ActionRow]) -> Table
 
 /// Whether no action is deeper than it may be.
 pub(crate) fn keeps_depth(draft: &Draft) -> bool
-    requires few { length draft.now.actions ≤ 256 }
+    requires few { length draft.now.actions ≤ most_actions }
     requires known { nests_known draft.now.actions ≡ true }
     ensures { result ≡ depth_rule draft.now }
 {

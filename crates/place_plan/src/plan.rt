@@ -591,6 +591,3 @@ impl Plan {
         }
     }
 }
-
-#[cfg(test)]
-mod tests;

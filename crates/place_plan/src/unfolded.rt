@@ -1,5 +1,6 @@
 ghost use Rattle.std.specs.Prelude.{◌≡◌, ◌≤◌, ◌+◌, ℕ, ◌<◌, true, List, length, slice_index_or, sum_by};
 ghost use Rattle.std.specs.List.{list_all};
+ghost use Rattle.caa_base.specs.Limits.{most_actions};
 ghost use Rattle.place_plan.specs.Places.{no_action};
 ghost use Rattle.place_plan.specs.Bound.{bound, action_bound};
 ghost use Rattle.place_plan.specs.Sizes.{AllHaveSizes};
@@ -46,8 +47,9 @@ pub(crate) fn nested_weight(nests: &[NestRow], weights: &[u64]) -> u64
 
 /// The weights of all actions, with what is nested in them one level deeper than in these.
 fn one_level_deeper(actions: &[ActionRow], own: &[u64], weights: &[u64]) -> Table
-    requires { length actions.now ≤ 256 }
-    ensures { (a : ℕ) → a < length actions.now → at result a ≡ counted (at own.now a + nested_weight (at weights.now) (slice_index_or actions.now a no_action).nests) }
+    requires { length actions.now ≤ most_actions }
+    ensures { (a : ℕ) → a < length actions.now →
+        at result a ≡ counted (at own.now a + nested_weight (at weights.now) (slice_index_or actions.now a no_action).nests) }
 {
     let mut table = [0; MOST_ACTIONS];
     for (number, action) in actions.iter().enumerate() {
@@ -59,7 +61,7 @@ fn one_level_deeper(actions: &[ActionRow], own: &[u64], weights: &[u64]) -> Tabl
 
 /// The weights of all actions with all that is nested in them, where each instance has the weight that the table gives its action.
 fn weights_of(actions: &[ActionRow], own: &[u64]) -> Table
-    requires few { length actions.now ≤ 256 }
+    requires few { length actions.now ≤ most_actions }
     requires known { nests_known actions.now ≡ true }
     ensures { Tells actions.now result (weight own.now 8 actions.now) }
 {
@@ -83,9 +85,10 @@ fn played_weight(plays: &[PlayRow], weights: &[u64]) -> u64
 
 /// How many entries an instance of each action may have.
 fn own_bounds(actions: &[ActionRow]) -> Table
-    requires few { length actions.now ≤ 256 }
+    requires few { length actions.now ≤ most_actions }
     requires sizes { AllHaveSizes actions.now }
-    ensures { (a : ℕ) → a < length actions.now → at result a ≡ action_bound (slice_index_or actions.now a no_action) (length (slice_index_or actions.now a no_action).roles) }
+    ensures { (a : ℕ) → a < length actions.now →
+        at result a ≡ action_bound (slice_index_or actions.now a no_action) (length (slice_index_or actions.now a no_action).roles) }
 {
     let mut table = [0; MOST_ACTIONS];
     for (number, action) in actions.iter().enumerate() {
@@ -113,6 +116,3 @@ pub fn unfolded(draft: &Draft) -> Size
         bound: played_weight(plays, &bounds),
     }
 }
-
-#[cfg(test)]
-mod tests;

@@ -1,5 +1,6 @@
 ghost use Rattle.std.specs.Prelude.{◌≡◌, ◌≤◌, ◌+◌, ◌++◌, ◌∷◌, true, List, length, slice_index_or, IfOk};
 ghost use Rattle.std.specs.List.{list_all};
+ghost use Rattle.caa_base.specs.Limits.{most_actions, most_places};
 ghost use Rattle.place_plan.specs.Places.{no_action};
 ghost use Rattle.place_plan.specs.DraftRules.{action_fits};
 ghost use Rattle.place_plan.specs.Unfolding.{unfold_at, use_from, numbers_from, cast_of, bare_place, plan_of, IsMade};
@@ -15,7 +16,7 @@ use std::alloc::{AllocError, Global};
 fn nests_of(actions: &[ActionRow], action: u32) -> &[NestRow]
     requires { list_all action_fits actions.now ≡ true }
     ensures nests { result.now ≡ (slice_index_or actions.now action no_action).nests }
-    ensures few { length result.now ≤ 256 }
+    ensures few { length result.now ≤ most_actions }
 {
     match actions.get(action as usize) {
         Some(row) => row.nests.as_slice(),
@@ -94,8 +95,10 @@ fn unfold(
     places: &mut Vec<PlaceRow>,
 ) -> Result<(), AllocError>
     requires fit { list_all action_fits actions.now ≡ true }
-    requires few { length places.old.items + length (unfold_at depth actions.now action who.now around.now nest (length places.old.items)) ≤ 65536 }
-    ensures { IfOk result (λ _. places.new.items ≡ places.old.items ++ unfold_at depth actions.now action who.now around.now nest (length places.old.items)) }
+    requires few { length places.old.items + length (unfold_at depth actions.now action who.now around.now nest (length places.old.items))
+        ≤ most_places }
+    ensures { IfOk result (λ _.
+        places.new.items ≡ places.old.items ++ unfold_at depth actions.now action who.now around.now nest (length places.old.items)) }
 {
     if depth == 0 {
         return Ok(());
@@ -134,9 +137,13 @@ fn unfold_use(
     places: &mut Vec<PlaceRow>,
 ) -> Result<Rows<Place>, AllocError>
     requires fit { list_all action_fits actions.now ≡ true }
-    requires few { length places.old.items + length (use_from (unfold_at depth actions.now) who.now around.now nest (length places.old.items) used.now) ≤ 65536 }
-    ensures places { IfOk result (λ _. places.new.items ≡ places.old.items ++ use_from (unfold_at depth actions.now) who.now around.now nest (length places.old.items) used.now) }
-    ensures numbers { IfOk result (λ row. row ≡ numbers_from (unfold_at depth actions.now) (cast_of who.now used.now) around.now nest (length places.old.items) used.now.actions) }
+    requires few { length places.old.items + length (use_from (unfold_at depth actions.now) who.now around.now nest (length places.old.items) used.now)
+        ≤ most_places }
+    ensures places { IfOk result (λ _.
+        places.new.items
+        ≡ places.old.items ++ use_from (unfold_at depth actions.now) who.now around.now nest (length places.old.items) used.now) }
+    ensures numbers { IfOk result (λ row.
+        row ≡ numbers_from (unfold_at depth actions.now) (cast_of who.now used.now) around.now nest (length places.old.items) used.now.actions) }
 {
     let cast = cast_of(alloc, who, used)?;
     let mut numbers = Vec::new(alloc);
@@ -162,7 +169,7 @@ pub(crate) fn unfold_plays(
     draft: &Draft,
 ) -> Result<(Vec<PlaceRow>, Vec<Place>), AllocError>
     requires fit { list_all action_fits draft.now.actions ≡ true }
-    requires few { length (plan_of draft.now).places ≤ 65536 }
+    requires few { length (plan_of draft.now).places ≤ most_places }
     ensures { IfOk result (λ made. IsMade draft.now made.0.items made.1.items) }
 {
     let mut places = Vec::new(alloc);

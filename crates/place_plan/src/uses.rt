@@ -1,5 +1,6 @@
 ghost use Rattle.std.specs.Prelude.{◌≡◌, ◌≤◌, true, [], ◌∷◌, map, length, slice_index_or, MatchOption};
 ghost use Rattle.std.specs.List.{list_all};
+ghost use Rattle.caa_base.specs.Limits.{most_roles};
 ghost use Rattle.place_plan.specs.Places.{no_action};
 ghost use Rattle.caa_base.specs.Lists.{is_empty, member};
 ghost use Rattle.place_plan.specs.DraftRules.{all_below, nests_below, order_rule, all_differ, fills, nest_fills, fill_rule, action_fits, entered_by, filled_by, same_numbers, roles_enter, enter_rule, step_held, role_held, nest_held, action_held, object_rule, handlers_differ, face_of, nest_mapped, handler_rule, has_one_face, face_rule};
@@ -155,7 +156,7 @@ fn handlers_enter_nothing(role: &RoleRow) -> bool
 
 /// Whether the body of each role enters just the uses that the role fills, each once and in order, and no handler enters any.
 pub fn roles_enter(nests: &[NestRow], roles: &[RoleRow]) -> bool
-    requires { length roles.now ≤ 16 }
+    requires { length roles.now ≤ most_roles }
     ensures { result ≡ roles_enter nests.now 0 roles.now }
 {
     for (number, role) in roles.iter().enumerate() {

@@ -133,7 +133,15 @@ pub fn action(
     roles: Vec<RoleRow>,
     nests: Vec<NestRow>,
 ) -> Result<ActionRow, TrialError>
-    ensures { IfOk result (λ action. action ≡ record { name = name.now; internal = exceptions.internal; interface = exceptions.interface; fault = exceptions.fault; objects = objects.now; roles = roles.items; nests = nests.items }) }
+    ensures { IfOk result (λ action. action ≡ record {
+      name = name.now;
+      internal = exceptions.internal;
+      interface = exceptions.interface;
+      fault = exceptions.fault;
+      objects = objects.now;
+      roles = roles.items;
+      nests = nests.items;
+    }) }
 {
     Ok(ActionRow {
         name: Name::from_bytes(alloc, name)?,
@@ -217,3 +225,8 @@ pub fn draft(
         watches: Rows::from_vec(Vec::new(alloc)),
     })
 }
+
+#[cfg(test)]
+mod plan_tests;
+#[cfg(test)]
+mod use_tests;

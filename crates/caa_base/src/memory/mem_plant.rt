@@ -27,9 +27,18 @@ impl Model for MemPlant {
 
     ghost Value = { FailingPlant };
 
-    ghost view = { λ p. record { plant = p.plant; drilling = drilling_of p.drills; fail_lay = p.fail_lay; lay_faults = p.lay_faults; faults = p.faults } };
+    ghost view = { λ p. record {
+      plant = p.plant;
+      drilling = drilling_of p.drills;
+      fail_lay = p.fail_lay;
+      lay_faults = p.lay_faults;
+      faults = p.faults;
+    } };
 
-    ghost invariant = { λ p. record { objects : length (drilling_of p.drills).tries ≡ length p.plant.state.values; tries : (o : ℕ) → slice_index (drilling_of p.drills).tries o ≤ p.plant.calls } };
+    ghost invariant = { λ p. record {
+      objects : length (drilling_of p.drills).tries ≡ length p.plant.state.values;
+      tries : (o : ℕ) → slice_index (drilling_of p.drills).tries o ≤ p.plant.calls;
+    } };
 }
 
 impl MemPlant {

@@ -24,7 +24,11 @@ impl Model for SurePlant {
 
     ghost view = { λ p. record { state = state_of p.laid; calls = p.calls; room = p.room } };
 
-    ghost invariant = { λ p. record { puts : length (state_of p.laid).puts ≤ p.calls; calls : p.calls ≤ p.room; memory : p.room ≤ room_of p.laid } };
+    ghost invariant = { λ p. record {
+      puts : length (state_of p.laid).puts ≤ p.calls;
+      calls : p.calls ≤ p.room;
+      memory : p.room ≤ room_of p.laid;
+    } };
 }
 
 impl SurePlant {

@@ -24,7 +24,11 @@ impl Model for SureSink {
 
     ghost view = { λ s. record { held = s.bytes.items; room = s.room; refused = s.refused } };
 
-    ghost invariant = { λ s. record { fits : length s.bytes.items ≤ s.room; memory : s.room ≤ vec_capacity s.bytes; willing : length s.bytes.items < s.room → s.refused ≡ 0 } };
+    ghost invariant = { λ s. record {
+      fits : length s.bytes.items ≤ s.room;
+      memory : s.room ≤ vec_capacity s.bytes;
+      willing : length s.bytes.items < s.room → s.refused ≡ 0;
+    } };
 }
 
 impl SureSink {

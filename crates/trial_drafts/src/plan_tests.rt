@@ -1,7 +1,13 @@
-use super::*;
-use crate::draft_rows::{PlayRow, Step};
-use crate::value::value_at;
-use caa_base::entry::{Entry, Kind, Verdict};
+//! Drafts of one action that nests nothing: what its plan reads, and which rule a wrong draft breaks.
+
+use crate::{Exceptions, action, draft, numbers, play, program, role};
+use caa_base::entry::{Drill, Entry, Kind, Object, Participant, Verdict};
+use caa_base::rows::Rows;
+use place_plan::draft::Draft;
+use place_plan::draft_rows::{AbortRow, ActionRow, GraphRow, PlayRow, RoleRow, Step};
+use place_plan::plan::{Plan, PlanError};
+use place_plan::value::value_at;
+use std::alloc::Global;
 use std::test::Fail;
 
 /// What differs in the drafts of these tests: each has two participants, and one action, `look`.
@@ -34,37 +40,26 @@ const FIRST_PATH: Parts<'static> = Parts {
     plays: 1,
 };
 
-fn role(alloc: Global, name: &[u8], step: Step) -> Result<RoleRow, Fail> {
-    Ok(RoleRow {
-        name: Name::from_bytes(alloc, name)?,
-        body: Program {
-            steps: Rows::from_vec(vec![in alloc; step]?),
-            verdict: Verdict::Done,
-        },
-        handlers: Rows::from_vec(Vec::new(alloc)),
-        abort: AbortRow::Never,
-    })
+fn role_of(alloc: Global, name: &[u8], step: Step) -> Result<RoleRow, Fail> {
+    let body = program(alloc, &[step], Verdict::Done)?;
+    Ok(role(alloc, name, body, Vec::new(alloc), AbortRow::Never)?)
 }
 
 fn roles(alloc: Global, parts: Parts) -> Result<Vec<RoleRow>, Fail> {
     let mut roles = Vec::new(alloc);
     if parts.has_roles {
-        roles.push(role(alloc, b"a", Step::Read(parts.read))?)?;
-        roles.push(role(alloc, b"b", Step::Work(2))?)?;
+        roles.push(role_of(alloc, b"a", Step::Read(parts.read))?)?;
+        roles.push(role_of(alloc, b"b", Step::Work(2))?)?;
     }
     Ok(roles)
 }
 
-fn objects(alloc: Global, initials: &[i64]) -> Result<Vec<ObjectRow>, Fail> {
-    let mut objects = Vec::new(alloc);
+fn values<'a>(alloc: Global, initials: &[i64]) -> Result<Vec<(&'a [u8], i64)>, Fail> {
+    let mut values = Vec::new(alloc);
     for initial in initials {
-        let name = Name::from_bytes(alloc, b"x")?;
-        objects.push(ObjectRow {
-            name,
-            initial: *initial,
-        })?;
+        values.push((b"x".as_slice(), *initial))?;
     }
-    Ok(objects)
+    Ok(values)
 }
 
 fn graphs(alloc: Global, parts: Parts) -> Result<Vec<GraphRow>, Fail> {
@@ -78,48 +73,50 @@ fn graphs(alloc: Global, parts: Parts) -> Result<Vec<GraphRow>, Fail> {
 fn plays(alloc: Global, parts: Parts) -> Result<Vec<PlayRow>, Fail> {
     let mut plays = Vec::new(alloc);
     for _ in 0..parts.plays {
-        let who = Rows::from_vec(Vec::from_slice(alloc, parts.who)?);
-        plays.push(PlayRow { action: 0, who })?;
+        plays.push(play(alloc, 0, parts.who)?)?;
     }
     Ok(plays)
 }
 
-fn actions(alloc: Global, parts: Parts) -> Result<Vec<ActionRow>, Fail> {
-    Ok(vec![in alloc;
-        ActionRow {
-            name: Name::from_bytes(alloc, b"look")?,
-            internal: 0,
-            interface: 0,
-            fault: 0,
-            objects: Rows::from_vec(Vec::from_slice(alloc, parts.uses)?),
-            roles: Rows::from_vec(roles(alloc, parts)?),
-            nests: Rows::from_vec(Vec::new(alloc)),
-        },
-    ]?)
+fn look(alloc: Global, parts: Parts) -> Result<ActionRow, Fail> {
+    let plain = Exceptions {
+        internal: 0,
+        interface: 0,
+        fault: 0,
+    };
+    Ok(action(
+        alloc,
+        b"look",
+        plain,
+        parts.uses,
+        roles(alloc, parts)?,
+        Vec::new(alloc),
+    )?)
 }
 
-fn draft(alloc: Global, parts: Parts) -> Result<Draft, Fail> {
-    let ann = Name::from_bytes(alloc, b"ann")?;
-    let bob = Name::from_bytes(alloc, b"bob")?;
-    Ok(Draft {
-        participants: Rows::from_vec(vec![in alloc; ann, bob]?),
-        objects: Rows::from_vec(objects(alloc, parts.initials)?),
-        graphs: Rows::from_vec(graphs(alloc, parts)?),
-        actions: Rows::from_vec(actions(alloc, parts)?),
-        plays: Rows::from_vec(plays(alloc, parts)?),
-        drills: Rows::from_vec(vec![in alloc; Drill { object: 0, nth: 3 }]?),
-        watches: Rows::from_vec(vec![in alloc; 0]?),
-    })
+fn draft_of(alloc: Global, parts: Parts) -> Result<Draft, Fail> {
+    let mut made = draft(
+        alloc,
+        &[b"ann".as_slice(), b"bob".as_slice()],
+        values(alloc, parts.initials)?.as_slice(),
+        Vec::new(alloc),
+        vec![in alloc; look(alloc, parts)?]?,
+        plays(alloc, parts)?,
+        &[Drill { object: 0, nth: 3 }],
+    )?;
+    made.graphs = Rows::from_vec(graphs(alloc, parts)?);
+    made.watches = numbers(alloc, &[0])?;
+    Ok(made)
 }
 
 /// The plan of these parts.
 fn closed(alloc: Global, parts: Parts) -> Result<Plan, Fail> {
-    Ok(Plan::close(alloc, draft(alloc, parts)?)?)
+    Ok(Plan::close(alloc, draft_of(alloc, parts)?)?)
 }
 
 /// The rule that closing names; none where the draft becomes a plan.
 fn rule_named(alloc: Global, parts: Parts) -> Result<Option<u32>, Fail> {
-    match Plan::close(alloc, draft(alloc, parts)?) {
+    match Plan::close(alloc, draft_of(alloc, parts)?) {
         Ok(_) => Ok(None),
         Err(PlanError::BadPart { rule }) => Ok(Some(rule)),
         Err(PlanError::OutOfMemory) => Err(Fail::from("out of memory")),

@@ -1,19 +1,24 @@
-use super::*;
-use crate::close::broken_part;
-use crate::draft_rows::{AbortRow, GraphRow, HandlerRow, Program, RoleRow, Step};
-use crate::plan::{Plan, PlanError};
+//! Drafts with nested uses: what they unfold into, and which rule a wrong one breaks.
+
+use crate::{Exceptions, Maps, action, draft, nest, play, program, role};
 use caa_base::entry::Verdict;
-use caa_base::name::Name;
 use caa_base::rows::Rows;
+use place_plan::close::broken_part;
+use place_plan::draft::Draft;
+use place_plan::draft_rows::{
+    AbortRow, ActionRow, GraphRow, HandlerRow, NestRow, PlayRow, RoleRow, Step,
+};
+use place_plan::plan::{Plan, PlanError};
+use place_plan::unfolded::{Size, unfolded};
 use std::alloc::Global;
 use std::test::Fail;
 
-/// A nested use: its actions, the roles that play it, and how many exceptions it maps.
+/// A nested use: its actions, the roles that play it, and the exceptions that it maps.
 #[derive(Clone, Copy)]
 struct UseParts<'a> {
     actions: &'a [u32],
     roles: &'a [u32],
-    maps: u32,
+    maps: &'a [u32],
 }
 
 /// An action: its interface graph, the steps of each role, the exceptions for which its first role has handlers, and its uses.
@@ -38,7 +43,7 @@ const INNER: ActionParts<'static> = ActionParts {
     uses: &[UseParts {
         actions: &[0],
         roles: &[0],
-        maps: 1,
+        maps: &[0],
     }],
     ..LEAF
 };
@@ -50,28 +55,21 @@ const OUTER: ActionParts<'static> = ActionParts {
         UseParts {
             actions: &[0, 2, 1],
             roles: &[0],
-            maps: 1,
+            maps: &[0],
         },
         UseParts {
             actions: &[1],
             roles: &[1],
-            maps: 1,
+            maps: &[0],
         },
     ],
     ..LEAF
 };
 
-fn program(alloc: Global, steps: &[Step]) -> Result<Program, Fail> {
-    Ok(Program {
-        steps: Rows::from_vec(Vec::from_slice(alloc, steps)?),
-        verdict: Verdict::Done,
-    })
-}
-
 fn handlers(alloc: Global, exceptions: &[u32]) -> Result<Vec<HandlerRow>, Fail> {
     let mut handlers = Vec::new(alloc);
     for exception in exceptions {
-        let program = program(alloc, &[])?;
+        let program = program(alloc, &[], Verdict::Done)?;
         handlers.push(HandlerRow {
             exception: *exception,
             program,
@@ -80,91 +78,69 @@ fn handlers(alloc: Global, exceptions: &[u32]) -> Result<Vec<HandlerRow>, Fail> 
     Ok(handlers)
 }
 
-fn role(alloc: Global, steps: &[Step], exceptions: &[u32]) -> Result<RoleRow, Fail> {
-    Ok(RoleRow {
-        name: Name::from_bytes(alloc, b"r")?,
-        body: program(alloc, steps)?,
-        handlers: Rows::from_vec(handlers(alloc, exceptions)?),
-        abort: AbortRow::Never,
-    })
+fn role_of(alloc: Global, steps: &[Step], exceptions: &[u32]) -> Result<RoleRow, Fail> {
+    let body = program(alloc, steps, Verdict::Done)?;
+    Ok(role(
+        alloc,
+        b"r",
+        body,
+        handlers(alloc, exceptions)?,
+        AbortRow::Never,
+    )?)
 }
 
-fn roles(alloc: Global, action: ActionParts) -> Result<Vec<RoleRow>, Fail> {
+fn roles(alloc: Global, parts: ActionParts) -> Result<Vec<RoleRow>, Fail> {
     let mut roles = Vec::new(alloc);
-    for (number, steps) in action.bodies.iter().enumerate() {
-        let exceptions = if number == 0 { action.handlers } else { &[] };
-        roles.push(role(alloc, steps, exceptions)?)?;
+    for (number, steps) in parts.bodies.iter().enumerate() {
+        let exceptions = if number == 0 { parts.handlers } else { &[] };
+        roles.push(role_of(alloc, steps, exceptions)?)?;
     }
     Ok(roles)
 }
 
-fn zeros(alloc: Global, count: u32) -> Result<Rows<u32>, Fail> {
-    let mut zeros = Vec::new(alloc);
-    for _ in 0..count {
-        zeros.push(0)?;
-    }
-    Ok(Rows::from_vec(zeros))
-}
-
-fn nest(alloc: Global, part: UseParts) -> Result<NestRow, Fail> {
-    Ok(NestRow {
-        name: Name::from_bytes(alloc, b"n")?,
-        actions: Rows::from_vec(Vec::from_slice(alloc, part.actions)?),
-        roles: Rows::from_vec(Vec::from_slice(alloc, part.roles)?),
-        maps: zeros(alloc, part.maps)?,
+fn nest_of(alloc: Global, parts: UseParts) -> Result<NestRow, Fail> {
+    let maps = Maps {
+        exceptions: parts.maps,
         undo: 0,
         failure: 0,
-    })
+    };
+    Ok(nest(alloc, b"n", parts.actions, parts.roles, maps)?)
 }
 
-fn action(alloc: Global, parts: ActionParts) -> Result<ActionRow, Fail> {
+fn action_of(alloc: Global, parts: ActionParts) -> Result<ActionRow, Fail> {
     let mut nests = Vec::new(alloc);
     for part in parts.uses {
-        nests.push(nest(alloc, *part)?)?;
+        nests.push(nest_of(alloc, *part)?)?;
     }
-    Ok(ActionRow {
-        name: Name::from_bytes(alloc, b"a")?,
+    let exceptions = Exceptions {
         internal: 0,
         interface: parts.interface,
         fault: 0,
-        objects: Rows::from_vec(Vec::new(alloc)),
-        roles: Rows::from_vec(roles(alloc, parts)?),
-        nests: Rows::from_vec(nests),
-    })
+    };
+    Ok(action(alloc, b"a", exceptions, &[], roles(alloc, parts)?, nests)?)
 }
 
 /// A play of the last action by everybody, and one of the first by the second participant.
 fn plays(alloc: Global, last: u32, everybody: &[u32]) -> Result<Vec<PlayRow>, Fail> {
-    Ok(vec![in alloc;
-        PlayRow {
-            action: last,
-            who: Rows::from_vec(Vec::from_slice(alloc, everybody)?),
-        },
-        PlayRow {
-            action: 0,
-            who: Rows::from_vec(vec![in alloc; 1]?),
-        },
-    ]?)
+    Ok(vec![in alloc; play(alloc, last, everybody)?, play(alloc, 0, &[1])?]?)
 }
 
-/// The draft of these actions; the last one is played by everybody.
-fn draft(alloc: Global, parts: &[ActionParts], everybody: &[u32]) -> Result<Draft, Fail> {
+/// The draft of these actions; the last one is played by everybody. It has two plain graphs.
+fn draft_of(alloc: Global, parts: &[ActionParts], everybody: &[u32]) -> Result<Draft, Fail> {
     let mut actions = Vec::new(alloc);
     for part in parts {
-        actions.push(action(alloc, *part)?)?;
+        actions.push(action_of(alloc, *part)?)?;
     }
     let last = (parts.len().max(1) - 1).min(255) as u32;
-    let ann = Name::from_bytes(alloc, b"ann")?;
-    let bob = Name::from_bytes(alloc, b"bob")?;
-    Ok(Draft {
-        participants: Rows::from_vec(vec![in alloc; ann, bob]?),
-        objects: Rows::from_vec(Vec::new(alloc)),
-        graphs: Rows::from_vec(vec![in alloc; GraphRow::plain(alloc)?, GraphRow::plain(alloc)?]?),
-        actions: Rows::from_vec(actions),
-        plays: Rows::from_vec(plays(alloc, last, everybody)?),
-        drills: Rows::from_vec(Vec::new(alloc)),
-        watches: Rows::from_vec(Vec::new(alloc)),
-    })
+    Ok(draft(
+        alloc,
+        &[b"ann".as_slice(), b"bob".as_slice()],
+        &[],
+        vec![in alloc; GraphRow::plain(alloc)?]?,
+        actions,
+        plays(alloc, last, everybody)?,
+        &[],
+    )?)
 }
 
 /// How much the draft unfolds into, where it breaks no rule below 10.
@@ -220,7 +196,7 @@ fn inner_places_are_read(plan: &Plan) -> bool {
 
 #[test]
 fn nested_uses_unfold_in_preorder(rt: HostRuntime) -> Result<(), Fail> {
-    let parts = draft(rt.alloc(), &[LEAF, LEAF, INNER, OUTER], &[0, 1])?;
+    let parts = draft_of(rt.alloc(), &[LEAF, LEAF, INNER, OUTER], &[0, 1])?;
     let size = size_of(&parts)?;
     assert_eq!(rt; size.places, 7);
     assert_eq!(rt; size.bound, 100);
@@ -238,18 +214,18 @@ fn eightfold(alloc: Global, inner: u32) -> Result<ActionRow, Fail> {
     let mut steps = Vec::new(alloc);
     for number in 0..8 {
         let actions = [inner; 4];
-        nests.push(nest(
+        nests.push(nest_of(
             alloc,
             UseParts {
                 actions: actions.as_slice(),
                 roles: &[0],
-                maps: 1,
+                maps: &[0],
             },
         )?)?;
         steps.push(Step::Enter(number))?;
     }
-    let mut row = action(alloc, LEAF)?;
-    row.roles = Rows::from_vec(vec![in alloc; role(alloc, steps.as_slice(), &[])?]?);
+    let mut row = action_of(alloc, LEAF)?;
+    row.roles = Rows::from_vec(vec![in alloc; role_of(alloc, steps.as_slice(), &[])?]?);
     row.nests = Rows::from_vec(nests);
     Ok(row)
 }
@@ -257,11 +233,11 @@ fn eightfold(alloc: Global, inner: u32) -> Result<ActionRow, Fail> {
 /// A draft of so many actions, each with thirty-two alternates of the one before it.
 fn multiplied(alloc: Global, levels: u32) -> Result<Draft, Fail> {
     let mut actions = Vec::new(alloc);
-    actions.push(action(alloc, LEAF)?)?;
+    actions.push(action_of(alloc, LEAF)?)?;
     for level in 1..levels {
         actions.push(eightfold(alloc, level - 1)?)?;
     }
-    let mut parts = draft(alloc, &[LEAF], &[0])?;
+    let mut parts = draft_of(alloc, &[LEAF], &[0])?;
     parts.actions = Rows::from_vec(actions);
     parts.plays = Rows::from_vec(plays(alloc, levels.max(1) - 1, &[0])?);
     Ok(parts)
@@ -284,14 +260,14 @@ fn uses_that_multiply_are_counted_and_refused(rt: HostRuntime) -> Result<(), Fai
 /// The rule that a draft of a leaf, another one with this interface, and this action breaks.
 fn rule_of(alloc: Global, interface: u32, last: ActionParts) -> Result<Option<u32>, Fail> {
     let other = ActionParts { interface, ..LEAF };
-    rule_named(alloc, draft(alloc, &[LEAF, other, last], &[0])?)
+    rule_named(alloc, draft_of(alloc, &[LEAF, other, last], &[0])?)
 }
 
 /// A use of the first two actions.
 const BOTH: UseParts<'static> = UseParts {
     actions: &[0, 1],
     roles: &[0],
-    maps: 1,
+    maps: &[0],
 };
 
 const ONE_USE: ActionParts<'static> = ActionParts {
@@ -321,7 +297,7 @@ fn each_rule_of_uses_is_named(rt: HostRuntime) -> Result<(), Fail> {
         ..ONE_USE
     };
     let unmapped = ActionParts {
-        uses: &[UseParts { maps: 0, ..BOTH }],
+        uses: &[UseParts { maps: &[], ..BOTH }],
         ..INNER
     };
     let drafts = [
