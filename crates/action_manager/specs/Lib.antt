@@ -7,3 +7,4 @@ pub mod Tidings
 pub mod Seats
 pub mod Openings
 pub mod Managers
+pub mod Publishing

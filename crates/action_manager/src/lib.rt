@@ -7,6 +7,7 @@ mod home;
 mod housed;
 mod lock;
 mod manager;
+mod publishing;
 mod seat;
 mod turns;
 mod view;
