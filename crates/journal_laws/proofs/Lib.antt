@@ -22,6 +22,7 @@ pub mod InnerFirst
 pub mod Innermost
 pub mod Holding
 pub mod Isolation
+pub mod PlaysCommit
 pub mod Silence
 pub mod Arrivals
 pub mod Uses
