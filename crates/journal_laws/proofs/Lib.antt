@@ -22,7 +22,6 @@ pub mod InnerFirst
 pub mod Innermost
 pub mod Holding
 pub mod Isolation
-pub mod PlaysCommit
 pub mod Silence
 pub mod Arrivals
 pub mod Uses
@@ -38,6 +37,8 @@ pub mod LawsKept
 pub mod Tried
 pub mod Outcome
 pub mod Makers
+pub mod PlaysEnd
+pub mod PlaysCommit
 pub mod Versions
 pub mod Effects
 pub mod Ranges

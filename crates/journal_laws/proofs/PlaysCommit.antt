@@ -17,7 +17,7 @@ use Rattle.place_plan.specs.Whereabouts.{has_started, has_ended, is_live}
 use Rattle.place_plan.specs.Objects.{restores, writes, holder_of, is_within_any, places_undone, value_outside, value_of}
 use Rattle.place_plan.specs.Journals.{LegalPast, plays_ended, committed_value}
 use Rattle.journal_laws.specs.Laws.{Holds, CommitLaw, touches_object}
-use Rattle.journal_laws.proofs.Playable.{IsTree}
+use Rattle.journal_laws.proofs.Playable.{IsTree, IsPlayable}
 use Rattle.caa_base.proofs.ListLemmas.{last_member}
 use Rattle.place_plan.proofs.EntryKinds.{of_kind}
 use Rattle.journal_laws.proofs.Lives.{live_parts, live_from}
@@ -26,6 +26,7 @@ use Rattle.journal_laws.proofs.InnerFirst.{legal_rest}
 use Rattle.journal_laws.proofs.Holding.{live_uses, holds_within, end_live}
 use Rattle.journal_laws.proofs.Isolation.{isolation}
 use Rattle.journal_laws.proofs.Exit.{end_row}
+use Rattle.journal_laws.proofs.PlaysEnd.{member_more, ends, nothing_round, ended_is, ended_listed, all_end}
 
 -- ---- values, where entries are left out
 
@@ -76,9 +77,6 @@ all_kept (e ∷ past) = ap (λ es. e ∷ es) (all_kept past)
 
 -- ---- members
 
-member_more : (q p : ℕ) (ps : List ℕ) → member q (ps ++ p ∷ []) ≡ (member q ps || ((p == q) || false))
-member_more q p ps = list_any-append (λ x. x == q) ps (p ∷ [])
-
 taken_member : (q n : ℕ) (ps : List ℕ) → member q (take n ps) ≡ true → member q ps ≡ true
 taken_member q zero ps m = absurd (false≢true m)
 taken_member q (suc n) [] m = absurd (false≢true m)
@@ -88,7 +86,10 @@ taken_member q (suc n) (p ∷ ps) m =
       | inr x ↦ or_right _ _ (taken_member q n ps x)
     ]
 
-module _ (plan : Plan) (tree : IsTree plan) where
+module _ (plan : Plan) (playable : IsPlayable plan) where
+  abbrev tree : IsTree plan
+  tree = playable.tree
+
   -- ---- plays
 
   within_top : (p : ℕ) → is_within plan p (top_of plan p) ≡ true
@@ -101,10 +102,6 @@ module _ (plan : Plan) (tree : IsTree plan) where
   top_alone : (p : ℕ) → around plan (top_of plan p) ≡ []
   top_alone p = alone_at p (around plan p) refl
 
-  nothing_round : (p : ℕ) (qs : List ℕ) → around plan p ≡ qs → first_of qs ≡ None → around plan p ≡ []
-  nothing_round p [] a w = a
-  nothing_round p (q ∷ qs) a w = absurd cc
-
   -- a play in which o is changed is live, and uses o
   changed_top : (past : List Entry) (e : Entry) (o : ℕ) → LegalPast plan (e ∷ past) → changes o e ≡ true → live_uses plan o past (top_of plan e.place) ≡ true
   changed_top past e o legal w =
@@ -112,45 +109,9 @@ module _ (plan : Plan) (tree : IsTree plan) where
       let held : holder_of plan past o ≡ Some e.place = subst (λ a. holder_of plan past a ≡ Some e.place) how.1 ((isolation plan tree (e ∷ past) legal).held [] past e refl how.0) in
       holds_within plan tree past legal.0 o (top_of plan e.place) ∙ ap (λ h. in_within plan h (top_of plan e.place)) held ∙ within_top e.place
 
-  -- ---- plays that have ended
-
-  abbrev ends : Entry → Bool
-  ends e = is_of kind.End e && is_none (parent plan e.place)
-
-  ended_is : (past : List Entry) (q : ℕ) → member q (plays_ended plan past) ≡ true → has_ended past q ≡ true
-  ended_is [] q m = absurd (false≢true m)
-  ended_is (e ∷ past) q m = elim (cases_Bool (ends e)) [
-    | inl x ↦ elim (or_cases (member q (plays_ended plan past)) ((e.place == q) || false) (sym (member_more q e.place (plays_ended plan past)) ∙ (rw x at m))) [
-      | inl y ↦ or_right _ _ (ended_is past q y)
-      | inr y ↦ or_left _ _ (and_from (is_of kind.End e) (e.place == q) (and_parts (is_of kind.End e) (is_none (parent plan e.place)) x).0 (or_false y))
-    ]
-    | inr x ↦ or_right _ _ (ended_is past q (rw x at m))
-  ]
-    where
-      or_false : ((e.place == q) || false) ≡ true → (e.place == q) ≡ true
-      or_false y = elim (or_cases (e.place == q) false y) [ inl z ↦ z | inr z ↦ absurd (false≢true z) ]
-
-  ended_listed : (past : List Entry) (q : ℕ) → around plan q ≡ [] → has_ended past q ≡ true → member q (plays_ended plan past) ≡ true
-  ended_listed [] q a w = absurd (false≢true w)
-  ended_listed (e ∷ past) q a w = elim (cases_Bool (ends e)) [
-    | inl x ↦ rw x (member_more q e.place (plays_ended plan past) ∙ elim (or_cases (is_in kind.End q e) (has_ended past q) w) [
-      | inl y ↦ or_right _ _ (or_left _ _ (and_parts (is_of kind.End e) (e.place == q) y).1)
-      | inr y ↦ or_left _ _ (ended_listed past q a y)
-    ])
-    | inr x ↦ rw x (elim (or_cases (is_in kind.End q e) (has_ended past q) w) [
-      | inl y ↦ absurd (both_ways _ x (ends_it y))
-      | inr y ↦ ended_listed past q a y
-    ])
-  ]
-    where
-      ends_it : is_in kind.End q e ≡ true → ends e ≡ true
-      ends_it y =
-          let parts = and_parts (is_of kind.End e) (e.place == q) y in
-          and_from _ _ parts.0 (subst (λ p. is_none (parent plan p) ≡ true) (sym (eqb-true e.place q parts.1)) (ap (λ qs. is_none (first_of qs)) a))
-
   -- the first plays that ended are the same as the journal goes on
   firsts_stay : (e : Entry) (past : List Entry) (n : ℕ) → n ≤ length (plays_ended plan past) → (take n (plays_ended plan (e ∷ past)) ≡ take n (plays_ended plan past)) × (n ≤ length (plays_ended plan (e ∷ past)))
-  firsts_stay e past n low = elim (cases_Bool (ends e)) [
+  firsts_stay e past n low = elim (cases_Bool (ends plan e)) [
     | inl x ↦ rw x (take-append-le n (plays_ended plan past) (e.place ∷ []) low, omega (arith, low, length-append (plays_ended plan past) (e.place ∷ [])))
     | inr x ↦ rw x (refl, low)
   ]
@@ -165,7 +126,7 @@ module _ (plan : Plan) (tree : IsTree plan) where
   left_out : (past : List Entry) (e : Entry) (n o : ℕ) → LegalPast plan (e ∷ past) → changes o e ≡ true → member (top_of plan e.place) (take n (plays_ended plan past)) ≡ false
   left_out past e n o legal w =
       let live = (and_parts (is_live past (top_of plan e.place)) (uses plan (top_of plan e.place) o) (changed_top past e o legal w)).0 in
-      false_from_ne_true _ (λ m. both_ways _ (live_parts (top_of plan e.place) past live).1 (ended_is past (top_of plan e.place) (taken_member (top_of plan e.place) n (plays_ended plan past) m)))
+      false_from_ne_true _ (λ m. both_ways _ (live_parts (top_of plan e.place) past live).1 (ended_is plan past (top_of plan e.place) (taken_member (top_of plan e.place) n (plays_ended plan past) m)))
 
   stays_once : (past : List Entry) (e : Entry) (n o : ℕ) → LegalPast plan (e ∷ past) → n ≤ length (plays_ended plan past) → committed_value plan (e ∷ past) n o ≡ committed_value plan past n o
   stays_once past e n o legal low =
@@ -204,8 +165,8 @@ module _ (plan : Plan) (tree : IsTree plan) where
       let parts = and_parts (is_live before q) (uses plan q o) there in
       let started : has_started past q ≡ true = subst (λ es. has_started es q ≡ true) (sym split) (list_any-append (is_in kind.Start q) later (e ∷ before) ∙ or_right _ _ (or_right _ _ (live_parts q before parts.0).0)) in
       member_more q p (plays_ended plan past) ∙ elim (cases_Bool (has_ended past q)) [
-        | inl x ↦ or_left _ _ (ended_listed past q (top_alone e.place) x)
-        | inr x ↦ or_right _ _ (or_left _ _ (eq-eqb p q (live_alone past p q o legal a (top_alone e.place) live (and_from (is_live past q) (uses plan q o) (live_from q past started x) parts.1))))
+        | inl x ↦ or_left _ _ (ended_listed plan past q (top_alone e.place) x)
+        | inr x ↦ or_right _ _ (eq-eqb p q (live_alone past p q o legal a (top_alone e.place) live (and_from (is_live past q) (uses plan q o) (live_from q past started x) parts.1)))
       ]
 
   -- an object of a play has its value at the end by the plays that have ended
@@ -231,10 +192,10 @@ module _ (plan : Plan) (tree : IsTree plan) where
   at_end : (p o : ℕ) (past : List Entry) (e : Entry) → LegalPast plan (e ∷ past) → is_in kind.End p e ≡ true → parent plan p ≡ None
       → (committed_value plan (e ∷ past) (suc (length (plays_ended plan past))) o ≡ cond (uses plan p o) (value_of plan (e ∷ past) o) (committed_value plan past (length (plays_ended plan past)) o)) × (length (plays_ended plan (e ∷ past)) ≡ suc (length (plays_ended plan past)))
   at_end p o past e legal is top = (
-      ap (λ ps. value_by ps (e ∷ past) o) (ap (take (suc (length (plays_ended plan past)))) more ∙ taken)
-      ∙ (pass_filtered plan past e o [] (λ f. member (top_of plan f.place) (plays_ended plan past ++ p ∷ [])) (unchanged e.kind e is) ∙ by_use (uses plan p o) refl),
-      ap length more ∙ (length-append (plays_ended plan past) (p ∷ []) ∙ omega arith),
-    )
+    ap (λ ps. value_by ps (e ∷ past) o) (ap (take (suc (length (plays_ended plan past)))) more ∙ taken)
+        ∙ (pass_filtered plan past e o [] (λ f. member (top_of plan f.place) (plays_ended plan past ++ p ∷ [])) (unchanged e.kind e is) ∙ by_use (uses plan p o) refl),
+    ap length more ∙ (length-append (plays_ended plan past) (p ∷ []) ∙ omega arith),
+  )
     where
       unchanged : (k : Kind) (f : Entry) → is_in kind.End p (of_kind k f) ≡ true → changes o (of_kind k f) ≡ false
       unchanged kind.End f w = refl
@@ -245,7 +206,7 @@ module _ (plan : Plan) (tree : IsTree plan) where
 
       more : plays_ended plan (e ∷ past) ≡ plays_ended plan past ++ p ∷ []
       more =
-          let ended : ends e ≡ true = and_from _ _ (and_parts (is_of kind.End e) (e.place == p) is).0 (subst (λ a. is_none (parent plan a) ≡ true) (sym here) (ap is_none top)) in
+          let ended : ends plan e ≡ true = and_from _ _ (and_parts (is_of kind.End e) (e.place == p) is).0 (subst (λ a. is_none (parent plan a) ≡ true) (sym here) (ap is_none top)) in
           rw ended (ap (λ a. plays_ended plan past ++ a ∷ []) here)
 
       taken : take (suc (length (plays_ended plan past))) (plays_ended plan past ++ p ∷ []) ≡ plays_ended plan past ++ p ∷ []
@@ -257,7 +218,7 @@ module _ (plan : Plan) (tree : IsTree plan) where
       by_use : (b : Bool) → uses plan p o ≡ b → value_by (plays_ended plan past ++ p ∷ []) past o ≡ cond b (value_of plan (e ∷ past) o) (committed_value plan past (length (plays_ended plan past)) o)
       by_use true u =
           let live : is_live past p ≡ true = subst (λ a. is_live past a ≡ true) here (end_live plan tree past (of_kind kind.End e) legal.0 (end_row plan past e.kind e p legal.1 is).0) in
-          commits_own p o past legal.0 (nothing_round p (around plan p) refl top) (and_from (is_live past p) (uses plan p o) live u) ∙ sym (pass plan past e o [] (unchanged e.kind e is))
+          commits_own p o past legal.0 (nothing_round plan p (around plan p) refl top) (and_from (is_live past p) (uses plan p o) live u) ∙ sym (pass plan past e o [] (unchanged e.kind e is))
       by_use false u = commits_others p o past legal.0 u ∙ sym (ap (λ ps. value_by ps past o) all_taken)
 
   commit : (past : List Entry) → LegalPast plan past → CommitLaw plan past
@@ -272,8 +233,9 @@ module _ (plan : Plan) (tree : IsTree plan) where
         subst (λ es. committed_value plan es (suc k) o ≡ cond (uses plan p o) (value_of plan (e ∷ before) o) (committed_value plan es k o)) (sym split) (
         (stay later (e ∷ before) (suc k) o whole (omega (arith, ended.1))).0 ∙ ended.0
         ∙ ap (cond (uses plan p o) (value_of plan (e ∷ before) o)) (sym ((stay later (e ∷ before) k o whole (omega (arith, ended.1))).0 ∙ stays_once before e k o here (omega arith))));
+    whole = λ over. all_end plan playable past legal over;
   }
 
 -- commit law
-pub plays_commit : (plan : Plan) → IsTree plan → Holds CommitLaw plan
-plays_commit plan tree past legal = commit plan tree past legal
+pub plays_commit : (plan : Plan) → IsPlayable plan → Holds CommitLaw plan
+plays_commit plan playable past legal = commit plan playable past legal

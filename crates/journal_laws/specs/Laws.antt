@@ -201,6 +201,8 @@ pub record CommitLaw (plan : Plan) (past : List Entry) : Type 0 where
   -- an object of the play gets the value that it has at the end, and each other object keeps its own
   pub commits : (p o : ℕ) (later before : List Entry) (e : Entry) → Splits past later e before → is_in kind.End p e ≡ true → parent plan p ≡ None
       → committed_value plan past (suc (length (plays_ended plan before))) o ≡ (if uses plan p o then value_of plan (e ∷ before) o else committed_value plan past (length (plays_ended plan before)) o)
+  -- in a complete journal as many plays have ended as there are
+  pub whole : AllOver plan past → length (plays_ended plan past) ≡ length plan.plays
 
 -- ---- all laws of one journal
 
