@@ -8,3 +8,4 @@ pub mod Seats
 pub mod Openings
 pub mod Managers
 pub mod Publishing
+pub mod PublishingLaw

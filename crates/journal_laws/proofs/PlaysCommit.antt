@@ -1,7 +1,6 @@
 -- Commit law: whoever changes an object does so inside a play that is live and uses it, so what is written in other plays is no
 -- part of its value at the end of the play.
 use Rattle.std.proofs.Common.{◌≡◌, ℕ, ℤ, ◌==◌, ◌≤◌, Bool, true, false, not, cond, ◌&&◌, ◌||◌, List, [], ◌∷◌, ◌++◌, filter, length, take, Some, None, is_none, zero, suc, refl, sym, ap, ◌∙◌, subst, arith, inl, inr}
-use Rattle.std.specs.List.{list_any}
 use Rattle.std.proofs.lemmas.List.{take-append-le, take_all, length-append}
 use Rattle.std.proofs.lemmas.List.Folds.{list_any-append}
 use Rattle.std.proofs.Math.Bool.{or-false}
@@ -10,7 +9,7 @@ use Rattle.caa_base.specs.declared.entry.Entry.{Entry}
 use Rattle.caa_base.specs.declared.entry.Kind.{Kind}
 use Rattle.caa_base.specs.declared.entry.Kind.TheVariants as kind
 use Rattle.place_plan.specs.PlanValue.{Plan}
-use Rattle.caa_base.specs.Lists.{member, first_of, last_or}
+use Rattle.caa_base.specs.Lists.{member, last_or}
 use Rattle.place_plan.specs.Places.{around, parent, top_of, uses, is_within}
 use Rattle.place_plan.specs.Entries.{is_of, is_in}
 use Rattle.place_plan.specs.Whereabouts.{has_started, has_ended, is_live}

@@ -1,7 +1,7 @@
 -- Each play ends at most once, and in a complete journal each has ended.
 use Rattle.std.proofs.Common.{◌≡◌, ℕ, ◌==◌, ◌≤◌, Bool, true, false, ◌&&◌, ◌||◌, List, [], ◌∷◌, ◌++◌, length, None, is_none, suc, refl, sym, ap, ◌∙◌, subst, arith, inl, inr}
 use Rattle.std.specs.Cmp.{IsEquivalence}
-use Rattle.std.specs.List.{IsDistinct, AllByRecursion, list_any}
+use Rattle.std.specs.List.{IsDistinct, AllByRecursion}
 use Rattle.std.proofs.lemmas.Cmp.{nat_eq_equiv}
 use Rattle.std.proofs.lemmas.Map.Made.{length-le_from_is_member}
 use Rattle.std.proofs.lemmas.List.Folds.{list_any-append}
@@ -16,7 +16,6 @@ use Rattle.place_plan.specs.Entries.{is_of, is_in}
 use Rattle.place_plan.specs.Whereabouts.{has_ended}
 use Rattle.place_plan.specs.Journals.{LegalPast, AllOver, plays_ended}
 use Rattle.journal_laws.proofs.Playable.{IsPlayable}
-use Rattle.caa_base.proofs.ListLemmas.{member_above}
 use Rattle.place_plan.proofs.EntryKinds.{of_kind}
 use Rattle.place_plan.proofs.PlaysRise.{in_plays}
 use Rattle.journal_laws.proofs.Lives.{live_parts}
