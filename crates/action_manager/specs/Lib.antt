@@ -7,3 +7,5 @@ pub mod Tidings
 pub mod Seats
 pub mod Openings
 pub mod Managers
+pub mod Publishing
+pub mod PublishingLaw

@@ -7,10 +7,13 @@ mod home;
 mod housed;
 mod lock;
 mod manager;
+mod publishing;
+mod publishing_law;
 mod seat;
 mod turns;
 mod view;
 
 pub use crossing::crosses_threads;
 pub use manager::{Closed, Manager, ManagerError, Opened, StillOut};
+pub use publishing_law::publishes_committed;
 pub use seat::{NoNote, Seat};

@@ -37,6 +37,8 @@ pub mod LawsKept
 pub mod Tried
 pub mod Outcome
 pub mod Makers
+pub mod PlaysEnd
+pub mod PlaysCommit
 pub mod Versions
 pub mod Effects
 pub mod Ranges

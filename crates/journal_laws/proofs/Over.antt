@@ -48,7 +48,7 @@ module _ (plan : Plan) (playable : IsPlayable plan) where
         | inr (inr above) ↦ absurd (let most = last_greatest 0 (plays_of plan t) p q (plays_rise plan t 0 plan.plays playable.rise) last m in omega arith)
       ]
 
-  over_left : (past : List Entry) → LegalPast plan past → (t q : ℕ) → is_over plan past t ≡ true → member q (plays_of plan t) ≡ true → has_by kind.Leave past q t ≡ true
+  pub over_left : (past : List Entry) → LegalPast plan past → (t q : ℕ) → is_over plan past t ≡ true → member q (plays_of plan t) ≡ true → has_by kind.Leave past q t ≡ true
   over_left past legal t q h m = by_last (last_of (plays_of plan t)) refl h
     where
       by_last : (o : Option ℕ) → last_of (plays_of plan t) ≡ o → is_over_after past t o ≡ true → has_by kind.Leave past q t ≡ true

@@ -1,5 +1,5 @@
 -- What holds of every legal journal of a plan. `past` is its entries, the newest first.
-use Rattle.std.specs.Prelude.{◌≡◌, ℕ, ℤ, ◌==◌, ◌+◌, ◌<◌, ◌≤◌, ◌⊎◌, ◌↔◌, Bool, true, false, ◌&&◌, ◌||◌, if◌then◌else◌, List, [], ◌∷◌, ◌++◌, length, count_by, Option, Some, None, is_none}
+use Rattle.std.specs.Prelude.{◌≡◌, ℕ, ℤ, ◌==◌, ◌+◌, ◌<◌, ◌≤◌, ◌⊎◌, ◌↔◌, Bool, true, false, ◌&&◌, ◌||◌, if◌then◌else◌, List, [], ◌∷◌, ◌++◌, length, count_by, Option, Some, None, is_none, suc}
 use Rattle.std.specs.List.{list_any, list_all}
 use Rattle.cover_table.specs.Cover.{IsLeastCover}
 use Rattle.caa_base.specs.declared.entry.Entry.{Entry}
@@ -7,13 +7,13 @@ use Rattle.caa_base.specs.declared.entry.Kind.{Kind}
 use Rattle.caa_base.specs.declared.entry.Kind.TheVariants as kind
 use Rattle.place_plan.specs.PlanValue.{Plan}
 use Rattle.caa_base.specs.Lists.{member}
-use Rattle.place_plan.specs.Places.{around, is_within, roles_of, uses, initial_of, internal_of, handler_of}
+use Rattle.place_plan.specs.Places.{around, parent, is_within, roles_of, uses, initial_of, internal_of, handler_of}
 use Rattle.place_plan.specs.Entries.{is_of, is_in, is_by, has, has_by, newest}
 use Rattle.place_plan.specs.Whereabouts.{inside, stays, is_live, has_ended, has_started}
 use Rattle.place_plan.specs.Raising.{exceptions_raised, is_raised, exception_resolved}
 use Rattle.place_plan.specs.Objects.{holder_of, value_of, writes, has_failed}
 use Rattle.place_plan.specs.Rules.{MayFollow}
-use Rattle.place_plan.specs.Journals.{LegalPast, AllOver, is_put}
+use Rattle.place_plan.specs.Journals.{LegalPast, AllOver, is_put, plays_ended, committed_value}
 use Rattle.place_plan.specs.Bound.{bound}
 
 -- what a law says holds of every legal journal of the plan
@@ -201,6 +201,18 @@ pub record IsolationLaw (plan : Plan) (past : List Entry) : Type 0 where
   -- an object is touched only in the place that holds it at that moment
   pub held : (later before : List Entry) (e : Entry) → Splits past later e before → touches_object e.kind ≡ true
       → holder_of plan before e.arg ≡ Some e.place
+
+-- ---- commit law
+
+-- what is committed stays, and the end of a play commits the values of its objects
+pub record CommitLaw (plan : Plan) (past : List Entry) : Type 0 where
+  -- the values by the first plays that ended are the same as the journal goes on
+  pub stays : (later before : List Entry) (n o : ℕ) → past ≡ later ++ before → n ≤ length (plays_ended plan before) → committed_value plan past n o ≡ committed_value plan before n o
+  -- an object of the play gets the value that it has at the end, and each other object keeps its own
+  pub commits : (p o : ℕ) (later before : List Entry) (e : Entry) → Splits past later e before → is_in kind.End p e ≡ true → parent plan p ≡ None
+      → committed_value plan past (suc (length (plays_ended plan before))) o ≡ (if uses plan p o then value_of plan (e ∷ before) o else committed_value plan past (length (plays_ended plan before)) o)
+  -- in a complete journal as many plays have ended as there are
+  pub whole : AllOver plan past → length (plays_ended plan past) ≡ length plan.plays
 
 -- ---- all laws of one journal
 

@@ -1,7 +1,7 @@
 //! The laws of all legal journals of a plan. Each is a statement alone: the call does nothing.
 #![tactic(auto)]
 
-ghost use Rattle.journal_laws.specs.Laws.{Holds, AtMostOne, GoesOn, IsBounded, InsideIsInnermost, HolderIsInnermost, DeviceLaw, KeepsLaws};
+ghost use Rattle.journal_laws.specs.Laws.{Holds, AtMostOne, GoesOn, IsBounded, InsideIsInnermost, HolderIsInnermost, DeviceLaw, CommitLaw, KeepsLaws};
 ghost use Rattle.journal_laws.specs.Due.{DueIsRight};
 ghost use Rattle.place_plan.specs.WellFormed.{AllWellFormed};
 
@@ -60,6 +60,13 @@ pub fn holder_is_innermost(plan: &Plan)
 /// nothing was, that is its first value.
 pub fn last_put_is_value(plan: &Plan)
     ensures { Holds DeviceLaw plan.now }
+{
+    plan.is_closed();
+}
+
+/// Commit law: the end of a play commits the values that its objects have then, and no others; what is committed stays.
+pub fn ends_commit(plan: &Plan)
+    ensures { Holds CommitLaw plan.now }
 {
     plan.is_closed();
 }

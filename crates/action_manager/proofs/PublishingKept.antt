@@ -1,0 +1,63 @@
+-- A writer goes on publishing the ends of plays, entry by entry.
+use Rattle.std.proofs.Common.{◌≡◌, ℕ, zero, suc, ℤ, ◌+◌, ◌<◌, ◌++◌, ◌==◌, ◌||◌, Bool, true, false, true≢false, List, [], ◌∷◌, length, map, take, get_or, All, Result, Ok, Err, if◌then◌else◌, refl, sym, ap, ◌∙◌, subst, arith}
+use Rattle.std.specs.Prelude.{MatchResult, is_err}
+use Rattle.std.proofs.lemmas.Bool.{or_right}
+use Rattle.std.proofs.lemmas.Bool.Decides.{nat_tests}
+use Rattle.std.proofs.lemmas.List.{take_more, map-append, length-map}
+use Rattle.std.proofs.lemmas.List.Elements.{All-map}
+use Rattle.caa_base.specs.Lists.{member}
+use Rattle.place_plan.specs.Closed.{IsClosed}
+use Rattle.place_plan.specs.Places.{objects_of}
+use Rattle.place_plan.specs.Objects.{value_of}
+use Rattle.journal_laws.proofs.PlayablePlan.{is_playable}
+use Rattle.caa_base.specs.declared.entry.Entry.{Entry}
+use Rattle.place_plan.specs.PlanValue.{Plan}
+use Rattle.shared_views.specs.Publications.{Changes}
+use Rattle.shared_views.specs.Committing.{Committed, initials_of}
+use Rattle.action_manager.specs.Publishing.{ends_play, values_of, published, Publishes}
+
+-- an entry that ends no play changes nothing
+pub not_an_end : (plan : Plan) (past : List Entry) (e : Entry) (w : Committed) → ends_play plan e ≡ false → Publishes plan past w → Publishes plan (e ∷ past) w
+not_an_end plan past e w other k = record {
+  initials = k.initials;
+  all = λ fresh. k.all fresh ∙ sym (ap (λ b. if b then published plan past ++ values_of plan (e ∷ past) e.place ∷ [] else published plan past) other);
+}
+
+was_fresh : {X : Type 0} (b : Bool) → (b ≡ true → X) → (X → ⊥) → b ≡ false
+was_fresh true told never = absurd (never (told refl))
+was_fresh false told never = refl
+
+-- the end of a play was published, or no memory was found
+pub an_end : {A E : Type 0} (plan : Plan) (past : List Entry) (e : Entry) (w w' : Committed) (changes : Changes) (r : Result A E) (late : E) → ends_play plan e ≡ true → changes ≡ values_of plan (e ∷ past) e.place
+    → w'.initials ≡ w.initials → MatchResult r (λ _. w'.publications.list ≡ w.publications.list ++ changes ∷ []) (λ _. w'.publications ≡ w.publications) → w'.is_stale ≡ is_err r
+    → (w.is_stale ≡ true → r ≡ Err late) → Publishes plan past w → Publishes plan (e ∷ past) w'
+an_end plan past e w w' changes (Ok a) late is same initials list marked stale k = record {
+  initials = initials ∙ k.initials;
+  all = λ fresh.
+      let was : w.is_stale ≡ false = was_fresh w.is_stale stale (λ told. true≢false (ap is_err (sym told))) in
+      list ∙ (ap (λ l. l ++ changes ∷ []) (k.all was) ∙ (ap (λ c. published plan past ++ c ∷ []) same
+      ∙ sym (ap (λ b. if b then published plan past ++ values_of plan (e ∷ past) e.place ∷ [] else published plan past) is)));
+}
+an_end plan past e w w' changes (Err x) late is same initials list marked stale k = record {
+  initials = initials ∙ k.initials;
+  all = λ fresh. absurd (true≢false (sym marked ∙ fresh));
+}
+
+at_index : (xs : List ℕ) (i d : ℕ) → i < length xs → member (get_or xs i d) xs ≡ true
+at_index [] i d low = absurd (omega (arith, low))
+at_index (x ∷ xs) zero d low = let same : (x == x) ≡ true = grind (arith, nat_tests) in ap (λ b. b || member x xs) same
+at_index (x ∷ xs) (suc i) d low = or_right (x == get_or xs i d) (member (get_or xs i d) xs) (at_index xs i d (omega (arith, low)))
+
+-- each object of a place is one of the plan's
+pub object_known : (plan : Plan) → IsClosed plan → (p i d : ℕ) → i < length (objects_of plan p) → get_or (objects_of plan p) i d < length plan.objects
+object_known plan closed p i d low = (is_playable plan closed).objects p (get_or (objects_of plan p) i d) (at_index (objects_of plan p) i d low)
+
+pub values_known : (plan : Plan) → IsClosed plan → (past : List Entry) (p : ℕ) (initials : List ℤ) → initials ≡ initials_of plan → All (λ c. c.0 < length initials) (values_of plan past p)
+values_known plan closed past p initials is =
+    let wide : length initials ≡ length plan.objects = ap length is ∙ length-map plan.objects (λ o. o.initial) in
+    subst (λ n. All (λ c. c.0 < n) (values_of plan past p)) (sym wide)
+    (All-map (λ (c : ℕ × ℤ). c.0 < length plan.objects) (λ o. (o, value_of plan past o)) (objects_of plan p) (λ k d low. object_known plan closed p k d low))
+
+-- one element more
+pub mapped_more : (f : ℕ → ℕ × ℤ) (xs : List ℕ) (i d : ℕ) → i < length xs → map f (take i xs) ++ f (get_or xs i d) ∷ [] ≡ map f (take (i + 1) xs)
+mapped_more f xs i d low = sym (ap (map f) (take_more xs i d low) ∙ map-append f (take i xs) (get_or xs i d ∷ []))

@@ -1,0 +1,98 @@
+ghost use Rattle.std.specs.Prelude.{◌≡◌, ◌<◌, [], ◌∷◌, List, length, reverse, replicate, IfOk, vec_capacity};
+ghost use Rattle.caa_base.specs.declared.entry.Entry.{Entry as JournalEntry};
+ghost use Rattle.shared_views.specs.Committing.{initials_of, watching};
+ghost use Rattle.action_manager.specs.Publishing.{ends_play, values_of, published, Publishes, HasRoom};
+
+use caa_base::entry::{Entry, Kind, Object, OutOfMemory, Place};
+use journal_laws::is_well_formed;
+use place_plan::machine::Machine;
+use place_plan::plan::Plan;
+use shared_views::{CommittedWriter, Observer};
+use std::alloc::Global;
+use std::sync::Wait;
+
+/// Publishes the values of a play's objects as the play ends.
+pub struct Publishing {
+    pub(crate) writer: CommittedWriter,
+    pub(crate) changes: Vec<(Object, i64)>,
+}
+
+/// How many objects a place has at most.
+fn most_objects(plan: &Plan) -> usize
+    ensures { HasRoom plan.now result }
+{
+    let mut most = 0;
+    for place in 0..plan.places() {
+        let count = plan.objects_of(place).len();
+        if most < count {
+            most = count;
+        }
+    }
+    most
+}
+
+/// Room for the changes of any play.
+fn room_for(alloc: Global, plan: &Plan) -> Result<Vec<(Object, i64)>, OutOfMemory>
+    ensures { IfOk result (λ v. HasRoom plan.now (vec_capacity v)) }
+{
+    Ok(Vec::with_capacity(alloc, most_objects(plan))?)
+}
+
+/// Whether an entry is the end of a play.
+fn ends_play(plan: &Plan, entry: &Entry) -> bool
+    ensures { result ≡ ends_play plan.now entry.now }
+{
+    entry.kind == Kind::End && plan.parent(entry.place).is_none()
+}
+
+impl Publishing {
+    /// What publishes the plays of a plan, of which none has ended, and so many observers of it.
+    pub fn open<R: Wait>(
+        rt: &R,
+        alloc: Global,
+        plan: &Plan,
+        observers: u32,
+    ) -> Result<(Publishing, Vec<Observer>), OutOfMemory>
+        ensures room { IfOk result (λ r. HasRoom plan.now (vec_capacity r.0.changes)) }
+        ensures publishes { IfOk result (λ r. (past : List JournalEntry) → published plan.now past ≡ [] → Publishes plan.now past r.0.writer) }
+        ensures observers { IfOk result (λ r. r.1.items ≡ replicate observers (watching r.0.writer)) }
+    {
+        let changes = room_for(alloc, plan)?;
+        let (writer, seats) = CommittedWriter::open(rt, alloc, plan, observers)?;
+        Ok((Publishing { writer, changes }, seats))
+    }
+
+    /// The values of the objects of a place, by the machine's journal.
+    fn collect<M: Machine>(&mut self, machine: &M, place: Place)
+        requires place { place < length (M.plan_of machine.now).places }
+        requires room { HasRoom (M.plan_of machine.now) (vec_capacity self.old.changes) }
+        ensures writer { self.new.writer ≡ self.old.writer }
+        ensures room { vec_capacity self.new.changes ≡ vec_capacity self.old.changes }
+        ensures changes { self.new.changes.items ≡ values_of (M.plan_of machine.now) (reverse (M.journal_of machine.now)) place }
+    {
+        machine.plan().is_closed();
+        self.changes.clear();
+        let objects = machine.plan().objects_of(place);
+        for index in 0..objects.len() {
+            let object = objects[index];
+            self.changes.push_reserved((object, machine.value(object)));
+        }
+    }
+
+    /// Takes in the entry that a machine made last: the end of a play is published.
+    pub fn take_in<M: Machine, R: Wait>(&mut self, rt: &R, alloc: Global, machine: &M, entry: Entry)
+        requires last { (past : List JournalEntry) × (reverse (M.journal_of machine.now) ≡ entry ∷ past) }
+        requires room { HasRoom (M.plan_of machine.now) (vec_capacity self.old.changes) }
+        requires initials { self.old.writer.initials ≡ initials_of (M.plan_of machine.now) }
+        ensures room { vec_capacity self.new.changes ≡ vec_capacity self.old.changes }
+        ensures book { self.new.writer.publications.book ≡ self.old.writer.publications.book }
+        ensures publishes { (past : List JournalEntry) → reverse (M.journal_of machine.now) ≡ entry ∷ past → Publishes (M.plan_of machine.now) past self.old.writer → Publishes (M.plan_of machine.now) (entry ∷ past) self.new.writer }
+    {
+        is_well_formed(machine.plan());
+        if ends_play(machine.plan(), &entry) {
+            self.collect(machine, entry.place);
+            machine.plan().is_closed();
+            let _ = self.writer.publish(rt, alloc, self.changes.as_slice());
+        }
+    }
+}
