@@ -11,4 +11,5 @@ pub record PublishingLaw (plan : Plan) (past : List Entry) : Type 0 where
   -- each play that has ended published once
   pub count : length (published plan past) ≡ length (plays_ended plan past)
   -- after the first n publications an object has the value that the first n plays committed
-  pub values : (n o : ℕ) → n ≤ length (published plan past) → value_after (initials_of plan) (take n (published plan past)) o ≡ committed_value plan past n o
+  pub values : (n o : ℕ) → n ≤ length (published plan past)
+      → value_after (initials_of plan) (take n (published plan past)) o ≡ committed_value plan past n o

@@ -207,10 +207,13 @@ pub record IsolationLaw (plan : Plan) (past : List Entry) : Type 0 where
 -- what is committed stays, and the end of a play commits the values of its objects
 pub record CommitLaw (plan : Plan) (past : List Entry) : Type 0 where
   -- the values by the first plays that ended are the same as the journal goes on
-  pub stays : (later before : List Entry) (n o : ℕ) → past ≡ later ++ before → n ≤ length (plays_ended plan before) → committed_value plan past n o ≡ committed_value plan before n o
+  pub stays : (later before : List Entry) (n o : ℕ) → past ≡ later ++ before → n ≤ length (plays_ended plan before)
+      → committed_value plan past n o ≡ committed_value plan before n o
   -- an object of the play gets the value that it has at the end, and each other object keeps its own
-  pub commits : (p o : ℕ) (later before : List Entry) (e : Entry) → Splits past later e before → is_in kind.End p e ≡ true → parent plan p ≡ None
-      → committed_value plan past (suc (length (plays_ended plan before))) o ≡ (if uses plan p o then value_of plan (e ∷ before) o else committed_value plan past (length (plays_ended plan before)) o)
+  pub commits : (p o : ℕ) (later before : List Entry) (e : Entry) → Splits past later e before
+      → is_in kind.End p e ≡ true → parent plan p ≡ None
+      → committed_value plan past (suc (length (plays_ended plan before))) o
+      ≡ (if uses plan p o then value_of plan (e ∷ before) o else committed_value plan past (length (plays_ended plan before)) o)
   -- in a complete journal as many plays have ended as there are
   pub whole : AllOver plan past → length (plays_ended plan past) ≡ length plan.plays
 
