@@ -8,7 +8,7 @@ ghost use Rattle.action_manager.specs.Turns.{maker, held, Has, Stands};
 ghost use Rattle.action_manager.specs.Stepping.{IsAtRest, Steps, Looks};
 ghost use Rattle.action_manager.specs.Locks.{home_at, plan_at};
 ghost use Rattle.action_manager.specs.Openings.{IsUnresolved};
-ghost use Rattle.action_manager.specs.Publishing.{Publishes, new_observer};
+ghost use Rattle.action_manager.specs.Publishing.{Publishes, book_of, new_observer};
 ghost use Rattle.action_manager.specs.Housed.{IsKept, IsRight};
 ghost use Rattle.action_manager.specs.Tidings.{TellsAfter};
 ghost use Rattle.action_manager.specs.Seats.{IsNewSeat, participant_of, seen_by, told_to, stand, has_seat, HaveAll, IsLeastMissing, Accounts};
@@ -140,7 +140,8 @@ impl<M: Machine> Manager<M> {
     ) -> Result<(Manager<M>, Token<Housed<M>>), ManagerError<M>>
         requires cells { cells ≡ cells_of home.bulletin }
         requires kept { IsKept M.plan_of M.journal_of home }
-        ensures home { IfOk result (λ r. home_at r.0.lock ≡ home) }
+        ensures machine { IfOk result (λ r. handed_in r.0 ≡ home.machine) }
+        ensures book { IfOk result (λ r. book_in r.0 ≡ book_of home.publishing) }
         ensures plan { IfOk result (λ r. plan_in r.0 ≡ M.plan_of home.machine) }
         ensures making { IfOk result (λ r. (r.1.table_id ≡ table_of r.0) × (r.1.me ≡ (maker (terms_in M.base_of r.0) 0 (M.journal_of home.machine), []))) }
         ensures refused { IfErr result (λ e. e.machine ≡ home.machine) }
@@ -213,6 +214,7 @@ impl<M: Machine> Manager<M> {
         for by in 0..self.participants {
             seats.push_reserved(self.make_seat(&mut making, by, seen, counts[by as usize]));
         }
+        let _maker = making.into_badge();
         seats
     }
 

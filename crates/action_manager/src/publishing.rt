@@ -1,7 +1,8 @@
 ghost use Rattle.std.specs.Prelude.{◌≡◌, ◌<◌, [], ◌∷◌, List, length, reverse, replicate, IfOk, vec_capacity};
 ghost use Rattle.caa_base.specs.declared.entry.Entry.{Entry as JournalEntry};
+ghost use Rattle.place_plan.specs.Journals.{plays_ended};
 ghost use Rattle.shared_views.specs.Committing.{initials_of};
-ghost use Rattle.action_manager.specs.Publishing.{ends_play, values_of, published, Publishes, HasRoom, book_of, new_observer};
+ghost use Rattle.action_manager.specs.Publishing.{ends_play, values_of, Publishes, HasRoom, book_of, new_observer};
 
 use caa_base::entry::{Entry, Kind, Object, OutOfMemory, Place};
 use journal_laws::is_well_formed;
@@ -55,7 +56,7 @@ impl Publishing {
         observers: u32,
     ) -> Result<(Publishing, Vec<Observer>), OutOfMemory>
         ensures room { IfOk result (λ r. HasRoom plan.now (vec_capacity r.0.changes)) }
-        ensures publishes { IfOk result (λ r. (past : List JournalEntry) → published plan.now past ≡ [] → Publishes plan.now past r.0.writer) }
+        ensures publishes { IfOk result (λ r. (past : List JournalEntry) → plays_ended plan.now past ≡ [] → Publishes plan.now past r.0.writer) }
         ensures observers { IfOk result (λ r. r.1.items ≡ replicate observers (new_observer plan.now (book_of r.0))) }
     {
         let changes = room_for(alloc, plan)?;

@@ -14,4 +14,4 @@ pub returns-in-Some-pop-clause-accounts : goal.returns-in-Some-pop-clause-accoun
 returns-in-Some-pop-clause-accounts g c =
     let rest = c.pop.new.self.items in
     let whole = c.gather-kept.ensures.all ∙ ap (λ t. (t.me.0.who, t.me.0.seen) ∷ reverse (map stand rest)) c.into_token.ensures in
-    gathered_account (g.M.Machine.journal_of c.shut_with.result) c.args.seats.items rest c.in-Some-pop.last _ c.in-Some-pop.ensures.items whole c.shut_with.ensures.stands
+    gathered_account (g.M.Machine.journal_of c.shut_with.result.machine) c.args.seats.items rest c.in-Some-pop.last _ c.in-Some-pop.ensures.items whole c.shut_with.ensures.stands
