@@ -105,11 +105,13 @@ pub fn run<M: Machine + Send, G: Gate + Sync, R: Threads + Wait + Sync>(
         return Err(RunError { machine });
     };
     match Manager::open(rt, alloc, machine, 0) {
-        Ok(Opened {
-            manager,
-            seats,
-            observers: _,
-        }) => {
+        Ok(
+            Opened {
+                manager,
+                seats,
+                observers: _,
+            },
+        ) => {
             let seats = drive_in_threads(rt, &manager, seats, crew, back, flags.as_slice(), gate);
             let seats = drive_each(rt, &manager, seats, driven, gate);
             let Closed {
