@@ -105,13 +105,12 @@ pub fn run<M: Machine + Send, G: Gate + Sync, R: Threads + Wait + Sync>(
         return Err(RunError { machine });
     };
     match Manager::open(rt, alloc, machine, 0) {
-        Ok(
-            Opened {
+        Ok(opened) => {
+            let Opened {
                 manager,
                 seats,
                 observers: _,
-            },
-        ) => {
+            } = opened;
             let seats = drive_in_threads(rt, &manager, seats, crew, back, flags.as_slice(), gate);
             let seats = drive_each(rt, &manager, seats, driven, gate);
             let Closed {

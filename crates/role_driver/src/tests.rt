@@ -98,25 +98,23 @@ fn go_rounds<M: Machine, R: Wait>(
 #[test]
 fn the_end_of_a_play_is_published(rt: HostRuntime) -> Result<(), Fail> {
     let hall = look_hall(rt.alloc())?;
-    let (manager, mut seats) = match Manager::open(&rt, rt.alloc(), hall, 1) {
-        Ok(
-            Opened {
-                manager,
-                seats,
-                observers: _,
-            },
-        ) => (manager, seats),
+    let opened = match Manager::open(&rt, rt.alloc(), hall, 1) {
+        Ok(opened) => opened,
         Err(ManagerError { machine: _ }) => panic!(rt; "no memory"),
     };
+    let Opened {
+        manager,
+        mut seats,
+        observers: _,
+    } = opened;
     go_rounds(&rt, &manager, &mut seats, 20);
     match manager.close(seats) {
-        Ok(
-            Closed {
+        Ok(closed) => {
+            let Closed {
                 machine,
                 mut writer,
                 stale,
-            },
-        ) => {
+            } = closed;
             let published = writer.tell().ends();
             writer.end(&rt);
             assert!(rt; machine.complete() && !stale);
