@@ -5,13 +5,13 @@ use Rattle.role_driver.proofs.running.run.Goals as goal
 
 pub drive_in_threads-seats-requires-clause-room : goal.drive_in_threads-seats-requires-clause-room
 drive_in_threads-seats-requires-clause-room g c =
-    let seats = c.in-Ok-open.field-0.seats.items in
+    let seats = c.in-Ok-open.opened.seats.items in
     let long = order_counts participant_of seats _ c.in-Ok-open.ensures.order in
     search rules
 
 pub drive_in_threads-seats-requires-clause-flags : goal.drive_in_threads-seats-requires-clause-flags
 drive_in_threads-seats-requires-clause-flags g c =
-    let seats = c.in-Ok-open.field-0.seats.items in
+    let seats = c.in-Ok-open.opened.seats.items in
     let long = order_counts participant_of seats _ c.in-Ok-open.ensures.order in
     search rules
 
