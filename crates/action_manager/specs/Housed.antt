@@ -7,8 +7,8 @@ use Rattle.action_manager.specs.declared.view.Terms.{Terms}
 use Rattle.action_manager.specs.declared.housed.Housed.{Housed}
 use Rattle.action_manager.specs.Publishing.{Publishes, HasRoom, book_of}
 
--- the bulletin keeps up with the machine's journal, by one cell for each place; its plays that have ended were published, and there is
--- room for the changes of any other
+-- the bulletin keeps up with the machine's journal, by one cell for each place; what its ended plays publish was published, as far as
+-- memory was found, and there is room for the changes of any play
 pub record IsKept {M : Type 0} (plan_of : M → Plan) (journal_of : M → List Entry) (h : Housed M) : Type 0 where
   pub keeps_up : KeepsUp (reverse (journal_of h.machine)) h.bulletin
   pub wide : length (cells_of h.bulletin) ≡ length (plan_of h.machine).places
