@@ -27,29 +27,10 @@ use Rattle.journal_text.specs.Looks.{last_watch, AreOfPlan}
 use Rattle.journal_text.specs.Text.{watched_object}
 use Rattle.journal_text.specs.Right.{is_committed, follows, is_followed, is_right, is_whole, next_seen, first_wrong_from}
 use Rattle.journal_text.specs.LastLooks.{last_look}
-
--- ---- the value of a look
-
-initial_fits : (plan : Plan) → IsClosed plan → (o : ℕ) → IsValue (initial_of plan o)
-initial_fits plan closed o = subst (λ (p : Plan). IsValue (initial_of p o)) (sym closed.same)
-    (value_from _ (get_passes (λ (r : ObjectRow). is_value r.initial) closed.draft.objects o no_object (initials_range closed.draft (keeps_rules closed.draft closed.whole).0) refl))
-
-written_fits : (plan : Plan) (k : Kind) (e : Entry) → (code_of kind.Write == code_of k) ≡ true → FieldsFit k plan e → IsValue e.value
-written_fits plan kind.Write e w h = h.0.value
-written_fits plan _ e w h = absurd (false≢true w)
-
--- after well-formed entries each object holds a value
-value_fits : (plan : Plan) → ((o : ℕ) → IsValue (initial_of plan o)) → (past : List Entry) → AllWellFormed plan past → (o : ℕ) (us : List ℕ) → IsValue (value_outside plan past o us)
-value_fits plan initial [] h o us = initial o
-value_fits plan initial (e ∷ past) h o us = by (writes o e) (not (is_within_any plan e.place us)) refl (value_fits plan initial past (All-tail (IsWellFormed plan) e past h) o (places_undone o e us))
-  where
-    by : (a b : Bool) → writes o e ≡ a → IsValue (value_outside plan past o (places_undone o e us)) → IsValue (cond (a && b) e.value (value_outside plan past o (places_undone o e us)))
-    by true true w ih = written_fits plan e.kind e (and_parts (is_of kind.Write e) _ w).0 (All-head (IsWellFormed plan) e past h).fields
-    by true false w ih = ih
-    by false b w ih = ih
+use Rattle.journal_text.proofs.CommittedFits.{committed_fits}
 
 pub look_fits : (plan : Plan) → IsClosed plan → (past : List Entry) → AllWellFormed plan past → (w : ℕ) → IsValue (last_look plan past w).value
-look_fits plan closed past h w = value_fits plan (initial_fits plan closed) _ (All-filter (λ e. member (top_of plan e.place) (take (length plan.plays) (plays_ended plan past))) (IsWellFormed plan) past h) (watched_object plan w) []
+look_fits plan closed past h w = committed_fits plan closed past h (length plan.plays) (watched_object plan w)
 
 -- ---- the watches of looks
 

@@ -7,4 +7,5 @@ pub mod EntryLines
 pub mod ReadingLemmas
 pub mod BadLines
 pub mod RightLemmas
+pub mod CommittedFits
 pub mod LastLookLemmas
