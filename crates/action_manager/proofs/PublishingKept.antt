@@ -1,6 +1,7 @@
 -- A writer goes on publishing the ends of plays, entry by entry.
-use Rattle.std.proofs.Common.{◌≡◌, ℕ, zero, suc, ℤ, ◌+◌, ◌<◌, ◌++◌, ◌==◌, ◌||◌, Bool, true, false, true≢false, List, [], ◌∷◌, length, map, take, get_or, All, Result, Ok, Err, if◌then◌else◌, refl, sym, ap, ◌∙◌, subst, arith}
+use Rattle.std.proofs.Common.{◌≡◌, ℕ, zero, suc, ℤ, ◌+◌, ◌<◌, ◌++◌, ◌==◌, ◌||◌, Bool, true, false, true≢false, List, [], ◌∷◌, length, map, take, get_or, length-append, All, Result, Ok, Err, if◌then◌else◌, refl, sym, ap, ◌∙◌, subst, arith}
 use Rattle.std.specs.Prelude.{MatchResult, is_err}
+use mathlib.Core.List.{IsPrefix}
 use Rattle.std.proofs.lemmas.Bool.{or_right}
 use Rattle.std.proofs.lemmas.Bool.Decides.{nat_tests}
 use Rattle.std.proofs.lemmas.List.{take_more, map-append, length-map}
@@ -9,18 +10,52 @@ use Rattle.caa_base.specs.Lists.{member}
 use Rattle.place_plan.specs.Closed.{IsClosed}
 use Rattle.place_plan.specs.Places.{objects_of}
 use Rattle.place_plan.specs.Objects.{value_of}
+use Rattle.place_plan.specs.Journals.{plays_ended}
 use Rattle.journal_laws.proofs.PlayablePlan.{is_playable}
 use Rattle.caa_base.specs.declared.entry.Entry.{Entry}
 use Rattle.place_plan.specs.PlanValue.{Plan}
-use Rattle.shared_views.specs.Publications.{Changes}
+use Rattle.shared_views.specs.Publications.{Changes, Known}
+use Rattle.shared_views.proofs.Beginnings.{begins_itself, begins_further}
 use Rattle.shared_views.specs.Committing.{Committed, initials_of}
 use Rattle.action_manager.specs.Publishing.{ends_play, values_of, published, Publishes}
 
+-- the end of a play adds what it publishes
+one_more : (plan : Plan) (past : List Entry) (e : Entry) → ends_play plan e ≡ true → published plan (e ∷ past) ≡ published plan past ++ values_of plan (e ∷ past) e.place ∷ []
+one_more plan past e is = ap (λ b. if b then published plan past ++ values_of plan (e ∷ past) e.place ∷ [] else published plan past) is
+
+-- any other entry adds nothing
+none_more : (plan : Plan) (past : List Entry) (e : Entry) → ends_play plan e ≡ false → published plan (e ∷ past) ≡ published plan past
+none_more plan past e other = ap (λ b. if b then published plan past ++ values_of plan (e ∷ past) e.place ∷ [] else published plan past) other
+
+both_grow : {A B : Type 0} (b : Bool) (xs : List A) (ys : List B) (x : A) (y : B) → length xs ≡ length ys → length (if b then xs ++ x ∷ [] else xs) ≡ length (if b then ys ++ y ∷ [] else ys)
+both_grow true xs ys x y same = length-append xs (x ∷ []) ∙ (ap (λ n. n + 1) same ∙ sym (length-append ys (y ∷ [])))
+both_grow false xs ys x y same = same
+
+-- as often was published as plays have ended
+pub as_many : (plan : Plan) (past : List Entry) → length (published plan past) ≡ length (plays_ended plan past)
+as_many plan [] = refl
+as_many plan (e ∷ past) = both_grow (ends_play plan e) (published plan past) (plays_ended plan past) (values_of plan (e ∷ past) e.place) e.place (as_many plan past)
+
+no_elements : {A : Type 0} (xs : List A) → length xs ≡ 0 → xs ≡ []
+no_elements [] none = refl
+no_elements (x ∷ xs) none = absurd (omega (arith, none))
+
+-- before any play has ended nothing was published
+pub none_published : (plan : Plan) (past : List Entry) → plays_ended plan past ≡ [] → published plan past ≡ []
+none_published plan past none = no_elements (published plan past) (as_many plan past ∙ ap length none)
+
+-- a new writer, before any play has ended
+pub publishes_none : (plan : Plan) (past : List Entry) (w : Committed) → plays_ended plan past ≡ [] → w.initials ≡ initials_of plan → w.publications.list ≡ [] → Publishes plan past w
+publishes_none plan past w none initials list =
+    let same : w.publications.list ≡ published plan past = list ∙ sym (none_published plan past none) in
+    record { initials = initials; first = subst (IsPrefix w.publications.list) same (begins_itself w.publications.list); all = λ fresh. same }
+
 -- an entry that ends no play changes nothing
 pub not_an_end : (plan : Plan) (past : List Entry) (e : Entry) (w : Committed) → ends_play plan e ≡ false → Publishes plan past w → Publishes plan (e ∷ past) w
-not_an_end plan past e w other k = record {
+not_an_end plan past e w other k = let same = sym (none_more plan past e other) in record {
   initials = k.initials;
-  all = λ fresh. k.all fresh ∙ sym (ap (λ b. if b then published plan past ++ values_of plan (e ∷ past) e.place ∷ [] else published plan past) other);
+  first = subst (IsPrefix w.publications.list) same k.first;
+  all = λ fresh. k.all fresh ∙ same;
 }
 
 was_fresh : {X : Type 0} (b : Bool) → (b ≡ true → X) → (X → ⊥) → b ≡ false
@@ -31,17 +66,17 @@ was_fresh false told never = refl
 pub an_end : {A E : Type 0} (plan : Plan) (past : List Entry) (e : Entry) (w w' : Committed) (changes : Changes) (r : Result A E) (late : E) → ends_play plan e ≡ true → changes ≡ values_of plan (e ∷ past) e.place
     → w'.initials ≡ w.initials → MatchResult r (λ _. w'.publications.list ≡ w.publications.list ++ changes ∷ []) (λ _. w'.publications ≡ w.publications) → w'.is_stale ≡ is_err r
     → (w.is_stale ≡ true → r ≡ Err late) → Publishes plan past w → Publishes plan (e ∷ past) w'
-an_end plan past e w w' changes (Ok a) late is same initials list marked stale k = record {
-  initials = initials ∙ k.initials;
-  all = λ fresh.
-      let was : w.is_stale ≡ false = was_fresh w.is_stale stale (λ told. true≢false (ap is_err (sym told))) in
-      list ∙ (ap (λ l. l ++ changes ∷ []) (k.all was) ∙ (ap (λ c. published plan past ++ c ∷ []) same
-      ∙ sym (ap (λ b. if b then published plan past ++ values_of plan (e ∷ past) e.place ∷ [] else published plan past) is)));
-}
-an_end plan past e w w' changes (Err x) late is same initials list marked stale k = record {
-  initials = initials ∙ k.initials;
-  all = λ fresh. absurd (true≢false (sym marked ∙ fresh));
-}
+an_end plan past e w w' changes (Ok a) late is same initials list marked stale k =
+    let was : w.is_stale ≡ false = was_fresh w.is_stale stale (λ told. true≢false (ap is_err (sym told))) in
+    let all : w'.publications.list ≡ published plan (e ∷ past) = list ∙ (ap (λ l. l ++ changes ∷ []) (k.all was) ∙ (ap (λ c. published plan past ++ c ∷ []) same ∙ sym (one_more plan past e is))) in
+    record { initials = initials ∙ k.initials; first = subst (IsPrefix w'.publications.list) all (begins_itself w'.publications.list); all = λ fresh. all }
+an_end plan past e w w' changes (Err x) late is same initials list marked stale k =
+    let further = begins_further w.publications.list (published plan past) (published plan (e ∷ past)) k.first (values_of plan (e ∷ past) e.place ∷ [], sym (one_more plan past e is)) in
+    record {
+      initials = initials ∙ k.initials;
+      first = subst (λ (l : Known). IsPrefix l.list (published plan (e ∷ past))) (sym list) further;
+      all = λ fresh. absurd (true≢false (sym marked ∙ fresh));
+    }
 
 at_index : (xs : List ℕ) (i d : ℕ) → i < length xs → member (get_or xs i d) xs ≡ true
 at_index [] i d low = absurd (omega (arith, low))

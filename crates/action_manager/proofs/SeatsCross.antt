@@ -1,4 +1,5 @@
 -- Where a machine may go to another thread, so may a seat, and threads may share its manager.
+use Rattle.std.proofs.Crossing.{crosses}
 use denote.RattleType.{RattleType}
 use denote.Param.Send.{IsSend, IsSync, struct_send, struct_sync, recorded_send, sendable}
 use denote.Struct.Struct.{Struct}
@@ -9,7 +10,9 @@ use Rattle.atomic_table.proofs.shared.Seat.TheSendSync as token_crosses
 use Rattle.shared_views.proofs.bulletin.Told.TheSendSync as told_crosses
 use Rattle.shared_views.proofs.cells.ResolutionCells.TheSendSync as cells_cross
 use Rattle.shared_views.proofs.Sent.{bulletin_send}
+use Rattle.shared_views.proofs.committed.CommittedWriter.TheSendSync as writer_crosses
 use Rattle.place_plan.specs.declared.machine.Machine as machine
+use Rattle.action_manager.specs.contracts.publishing.Publishing as publishing
 use Rattle.action_manager.specs.contracts.housed.Housed as housed
 use Rattle.action_manager.specs.contracts.housed.HousedHome.TheImpl as home
 use Rattle.action_manager.specs.contracts.seat.Seat as seat
@@ -18,9 +21,12 @@ use Rattle.action_manager.specs.contracts.manager.Manager as manager
 use Rattle.action_manager.proofs.handed.Handed.TheSendSync as handed_crosses
 use Rattle.action_manager.proofs.lock.Lock.TheSendSync as lock_crosses
 
+publishing_send : IsSend (Struct (shape publishing.the_type))
+publishing_send = struct_send (shape publishing.the_type) (writer_crosses.the_send, (search (crosses, sendable) depth 20, (search (crosses, sendable) depth 20, tt)))
+
 module _ (M : RattleType) (s : IsSend M) where
   housed_send : IsSend (Struct (shape (housed.the_type M)))
-  housed_send = struct_send (shape (housed.the_type M)) (s, (bulletin_send, tt))
+  housed_send = struct_send (shape (housed.the_type M)) (s, (bulletin_send, (publishing_send, tt)))
 
   housed_row_send : IsSend (housed.the_row M)
   housed_row_send = recorded_send (Struct (shape (housed.the_type M))) (housed.the_type M).D (housed.the_type M).to (housed.the_type M).to_one housed_send

@@ -2,9 +2,11 @@
 use Rattle.std.specs.Prelude.{ℕ, List}
 use Rattle.atomic_table.specs.Seated.{TableId}
 use Rattle.place_plan.specs.PlanValue.{Plan}
+use Rattle.logbook.specs.Pages.{Book}
 use Rattle.shared_views.specs.Telling.{cells_of}
 use Rattle.action_manager.specs.declared.view.Terms.{Terms}
 use Rattle.action_manager.specs.declared.manager.Manager.{Manager}
+use Rattle.action_manager.specs.Publishing.{book_of}
 use Rattle.action_manager.specs.Turns.{terms_of}
 use Rattle.action_manager.specs.Locks.{id_of, home_at, plan_at}
 use Rattle.action_manager.specs.Seats.{IsSeatOf}
@@ -26,9 +28,13 @@ handed_in manager = (home_at manager.lock).machine
 abbrev pub cells_in : {M : Type 0} → Manager M → List ℕ
 cells_in manager = cells_of (home_at manager.lock).bulletin
 
+-- the name of its list of publications, of which its observers and its writer are
+abbrev pub book_in : {M : Type 0} → Manager M → Book
+book_in manager = book_of (home_at manager.lock).publishing
+
 -- what its machine keeps to in every turn
 abbrev pub terms_in : {M : Type 0} → (M → ℕ) → Manager M → Terms
-terms_in base_of manager = terms_of (plan_in manager) (base_of (handed_in manager)) (cells_in manager)
+terms_in base_of manager = terms_of (plan_in manager) (base_of (handed_in manager)) (cells_in manager) (book_in manager)
 
 -- the seat was opened by this manager, and is at rest
 abbrev pub IsSeatIn : {M : Type 0} → (M → ℕ) → Manager M → Seat M → Type 0

@@ -35,6 +35,10 @@ pub record IsSeatOf {M : Type 0} (table : TableId) (terms : Terms) (seat : Seat 
   pub rests : IsAtRest terms seat.token.me
   pub known : seat.participant < length terms.plan.participants
 
+-- the second seat is of the manager of the first one, on the same terms, and at rest
+abbrev pub IsBeside : {M : Type 0} → Seat M → Seat M → Type 0
+IsBeside first second = IsSeatOf first.token.table_id first.token.me.0.terms second
+
 -- some seat in the list is this participant's
 abbrev pub has_seat : {M : Type 0} → ℕ → List (Seat M) → Bool
 has_seat t seats = list_any (λ s. s.participant == t) seats

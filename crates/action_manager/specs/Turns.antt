@@ -4,13 +4,14 @@ use mathlib.Core.Option.{some}
 use mathlib.Core.List.{IsPrefix}
 use lib.ListN.{get_elem?}
 use Rattle.atomic_table.specs.Table.{State, Me, Step}
+use Rattle.logbook.specs.Pages.{Book}
 use Rattle.place_plan.specs.PlanValue.{Plan}
 use Rattle.action_manager.specs.OwnEntries.{Journal, entries_by}
 use Rattle.action_manager.specs.declared.view.View.{View}
 use Rattle.action_manager.specs.declared.view.Terms.{Terms}
 
-abbrev pub terms_of : Plan → ℕ → List ℕ → Terms
-terms_of plan base cells = record { plan = plan; base = base; cells = cells }
+abbrev pub terms_of : Plan → ℕ → List ℕ → Book → Terms
+terms_of plan base cells book = record { plan = plan; base = base; cells = cells; book = book }
 
 -- a seat of a participant that has no turn, and has seen these entries
 abbrev pub rested : Terms → ℕ → Journal → View
@@ -23,8 +24,11 @@ maker terms n j = record { seated = false; making = true; terms = terms; who = 0
 abbrev pub no_plan : Plan
 no_plan = record { participants = []; objects = []; graphs = []; actions = []; places = []; plays = []; drills = []; watches = [] }
 
+abbrev pub no_book : Book
+no_book = record { number = 0; log_name = 0; cells_name = 0 }
+
 abbrev pub spent_view : View
-spent_view = record { seated = false; making = false; terms = terms_of no_plan 0 []; who = 0; next = 0; holds = false; ticket = 0; has_book = false; book = []; seen = []; taken = [] }
+spent_view = record { seated = false; making = false; terms = terms_of no_plan 0 [] no_book; who = 0; next = 0; holds = false; ticket = 0; has_book = false; book = []; seen = []; taken = [] }
 
 -- one seat takes in another
 abbrev pub both_of : View → View → View

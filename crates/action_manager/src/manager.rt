@@ -1,25 +1,29 @@
-ghost use Rattle.std.specs.Prelude.{ℕ, ◌≡◌, ◌+◌, ◌<◌, [], ◌∷◌, length, map, reverse, All, true, false, IsTrue, ◌↔◌, IfOk, IfErr, OnOk, IfSome, IfNone, vec_capacity};
+ghost use Rattle.std.specs.Prelude.{ℕ, ◌≡◌, ◌+◌, ◌<◌, [], ◌∷◌, length, map, replicate, reverse, All, true, false, IsTrue, ◌↔◌, IfOk, IfErr, OnOk, IfSome, IfNone, vec_capacity};
 ghost use mathlib.Core.List.{IsPrefix};
 ghost use Rattle.std.specs.List.{range_with_len};
+ghost use Rattle.place_plan.specs.Journals.{plays_ended};
 ghost use Rattle.shared_views.specs.Telling.{cells_of, IsFresh};
 ghost use Rattle.action_manager.specs.OwnEntries.{entries_by};
 ghost use Rattle.action_manager.specs.Turns.{maker, held, Has, Stands};
 ghost use Rattle.action_manager.specs.Stepping.{IsAtRest, Steps, Looks};
 ghost use Rattle.action_manager.specs.Locks.{home_at, plan_at};
 ghost use Rattle.action_manager.specs.Openings.{IsUnresolved};
+ghost use Rattle.action_manager.specs.Publishing.{Publishes, book_of, new_observer};
+ghost use Rattle.action_manager.specs.Housed.{IsKept, IsRight};
 ghost use Rattle.action_manager.specs.Tidings.{TellsAfter};
 ghost use Rattle.action_manager.specs.Seats.{IsNewSeat, participant_of, seen_by, told_to, stand, has_seat, HaveAll, IsLeastMissing, Accounts};
 
 use crate::handed::Handed;
 use crate::housed::Housed;
 use crate::lock::Lock;
+use crate::publishing::Publishing;
 use crate::seat::Seat;
 use crate::turns::Token;
 use caa_base::entry::{OutOfMemory, Participant};
 use caa_base::work::WorkDone;
 use place_plan::machine::{Answer, Machine};
 use place_plan::plan::Plan;
-use shared_views::{Bulletin, ResolutionCells, Told};
+use shared_views::{Bulletin, CommittedWriter, Observer, ResolutionCells, Told};
 use std::alloc::{AllocError, Global};
 use std::snapshot::Snapshot;
 use std::sync::Wait;
@@ -34,10 +38,11 @@ pub struct Manager<M: Machine> {
     ghost named: { cells ≡ cells_of (home_at lock).bulletin },
 }
 
-/// A manager with its seats, one for each participant, in order.
+/// A manager with its seats, one for each participant, in order, and with the observers of its committed values.
 pub struct Opened<M: Machine> {
     pub manager: Manager<M>,
     pub seats: Vec<Seat<M>>,
+    pub observers: Vec<Observer>,
 }
 
 /// No memory was found. The machine is as it was handed in.
@@ -45,9 +50,30 @@ pub struct ManagerError<M> {
     pub machine: M,
 }
 
-/// The machine of a manager that was closed.
+/// What a manager that was closed gives back.
 pub struct Closed<M> {
     pub machine: M,
+    /// The writer that was opened with the manager's observers.
+    pub writer: CommittedWriter,
+    /// A publication found no memory. From then on nothing was published.
+    pub stale: bool,
+}
+
+impl<M> Closed<M> {
+    /// What comes out of the slot.
+    fn of(home: Housed<M>) -> Closed<M>
+        ensures machine { result.machine ≡ home.machine }
+        ensures writer { result.writer ≡ home.publishing.writer }
+        ensures stale { result.stale ≡ home.publishing.writer.is_stale }
+    {
+        let (machine, writer) = home.into_parts();
+        let stale = writer.is_stale();
+        Closed {
+            machine,
+            writer,
+            stale,
+        }
+    }
 }
 
 /// A participant's seat isn't among those handed in: the least such participant, and all as it was.
@@ -103,26 +129,26 @@ fn fresh_cells(alloc: Global, plan: &Plan) -> Result<(ResolutionCells, Bulletin)
 }
 
 impl<M: Machine> Manager<M> {
-    ghost use Rattle.action_manager.specs.Managers.{table_of, plan_in, handed_in, cells_in, terms_in, IsSeatIn};
+    ghost use Rattle.action_manager.specs.Managers.{table_of, plan_in, handed_in, cells_in, book_in, terms_in, IsSeatIn};
 
-    /// A lock round a machine, with the maker's seat.
-    fn set_up(
+    /// A lock round a machine and what keeps up with it, with the maker's seat.
+    fn set_up<R: Wait>(
+        rt: &R,
         alloc: Global,
-        machine: M,
+        home: Housed<M>,
         cells: ResolutionCells,
-        bulletin: Bulletin,
     ) -> Result<(Manager<M>, Token<Housed<M>>), ManagerError<M>>
-        requires early { IsUnresolved (reverse (M.journal_of machine)) }
-        requires cells { (cells ≡ cells_of bulletin) × (length cells ≡ length (M.plan_of machine).places) }
-        requires fresh { IsFresh bulletin }
-        ensures machine { IfOk result (λ r. handed_in r.0 ≡ machine) }
-        ensures plan { IfOk result (λ r. plan_in r.0 ≡ M.plan_of machine) }
-        ensures making { IfOk result (λ r. (r.1.table_id ≡ table_of r.0) × (r.1.me ≡ (maker (terms_in M.base_of r.0) 0 (M.journal_of machine), []))) }
-        ensures refused { IfErr result (λ e. e.machine ≡ machine) }
+        requires cells { cells ≡ cells_of home.bulletin }
+        requires kept { IsKept M.plan_of M.journal_of home }
+        ensures machine { IfOk result (λ r. handed_in r.0 ≡ home.machine) }
+        ensures book { IfOk result (λ r. book_in r.0 ≡ book_of home.publishing) }
+        ensures plan { IfOk result (λ r. plan_in r.0 ≡ M.plan_of home.machine) }
+        ensures making { IfOk result (λ r. (r.1.table_id ≡ table_of r.0) × (r.1.me ≡ (maker (terms_in M.base_of r.0) 0 (M.journal_of home.machine), []))) }
+        ensures refused { IfErr result (λ e. e.machine ≡ home.machine) }
     {
-        let participants = machine.plan().participants();
-        let plan = Snapshot::of(machine.plan());
-        match Lock::open(alloc, Housed { machine, bulletin }, plan) {
+        let participants = home.machine.plan().participants();
+        let plan = Snapshot::of(home.machine.plan());
+        match Lock::open(alloc, home, plan) {
             Ok((lock, making)) => Ok((
                 Manager {
                     lock,
@@ -132,12 +158,11 @@ impl<M: Machine> Manager<M> {
                 },
                 making,
             )),
-            Err(
-                Housed {
-                    machine,
-                    bulletin: _,
-                },
-            ) => Err(ManagerError { machine }),
+            Err(home) => {
+                let (machine, writer) = home.into_parts();
+                writer.end(rt);
+                Err(ManagerError { machine })
+            }
         }
     }
 
@@ -189,19 +214,27 @@ impl<M: Machine> Manager<M> {
         for by in 0..self.participants {
             seats.push_reserved(self.make_seat(&mut making, by, seen, counts[by as usize]));
         }
+        let _maker = making.into_badge();
         seats
     }
 
-    /// A manager round a machine, and a seat for each participant, in order.
+    /// A manager round a machine, a seat for each participant, in order, and so many observers.
     ///
-    /// Each seat has seen the journal that the machine has, in which nothing is resolved yet. At `Err` no memory was found, and the
-    /// machine comes back as it was.
-    pub fn open(alloc: Global, machine: M) -> Result<Opened<M>, ManagerError<M>>
+    /// Each seat has seen the journal that the machine has, in which nothing is resolved yet and no play has ended. At `Err` no memory
+    /// was found, and the machine comes back as it was.
+    pub fn open<R: Wait>(
+        rt: &R,
+        alloc: Global,
+        machine: M,
+        observers: u32,
+    ) -> Result<Opened<M>, ManagerError<M>>
         requires early { IsUnresolved (reverse (M.journal_of machine)) }
+        requires none_ended { plays_ended (M.plan_of machine) (reverse (M.journal_of machine)) ≡ [] }
         ensures machine { IfOk result (λ o. handed_in o.manager ≡ machine) }
         ensures plan { IfOk result (λ o. plan_in o.manager ≡ M.plan_of machine) }
         ensures order { IfOk result (λ o. map participant_of o.seats.items ≡ range_with_len 0 (length (M.plan_of machine).participants)) }
         ensures new { IfOk result (λ o. All (λ s. IsNewSeat (table_of o.manager) (terms_in M.base_of o.manager) (M.journal_of machine) s) o.seats.items) }
+        ensures observers { IfOk result (λ o. o.observers.items ≡ replicate observers (new_observer (M.plan_of machine) (book_in o.manager))) }
         ensures refused { IfErr result (λ e. e.machine ≡ machine) }
     {
         let participants = machine.plan().participants();
@@ -215,10 +248,22 @@ impl<M: Machine> Manager<M> {
         let Ok((cells, bulletin)) = fresh_cells(alloc, machine.plan()) else {
             return Err(ManagerError { machine });
         };
-        match Manager::set_up(alloc, machine, cells, bulletin) {
+        let Ok((publishing, observers)) = Publishing::open(rt, alloc, machine.plan(), observers) else {
+            return Err(ManagerError { machine });
+        };
+        let home = Housed {
+            machine,
+            bulletin,
+            publishing,
+        };
+        match Manager::set_up(rt, alloc, home, cells) {
             Ok((manager, making)) => {
                 let seats = manager.make_seats(making, room, counts, seen);
-                Ok(Opened { manager, seats })
+                Ok(Opened {
+                    manager,
+                    seats,
+                    observers,
+                })
             }
             Err(error) => Err(error),
         }
@@ -234,7 +279,8 @@ impl<M: Machine> Manager<M> {
     /// One turn of the seat's participant: the machine's answer, on a journal that begins with what the seat had seen.
     ///
     /// The seat has then seen the journal that the machine left. After a Resolve or a Handle it has the note of that place, to be
-    /// taken; a refused announcement leaves the entry made. It may wait, and need not return.
+    /// taken. The end of a play is published in the same turn, with the allocator that `open` was given. An announcement or a
+    /// publication that is refused leaves the entry made. It may wait, and need not return.
     pub fn step<R: Wait>(&self, rt: &R, seat: &mut Seat<M>, hint: Option<WorkDone>) -> Answer
         requires opened { IsSeatIn M.base_of self.now seat.old }
         ensures opened { IsSeatIn M.base_of self.now seat.new }
@@ -243,7 +289,7 @@ impl<M: Machine> Manager<M> {
         ensures told { TellsAfter (cells_in self.now) result (told_to seat.new) }
     {
         let (ticket, mut home) = self.lock.begin(rt, &mut seat.token);
-        let (answer, told) = home.next(&self.cells, seat.participant, hint);
+        let (answer, told) = home.next(rt, &self.cells, seat.participant, hint);
         let seen = home.machine.journal_len();
         self.lock.hand_on(&mut seat.token, ticket, home);
         seat.seen = seen;
@@ -317,10 +363,11 @@ impl<M: Machine> Manager<M> {
         kept
     }
 
-    /// Gives the machine back, where every participant's seat is in the list.
+    /// Gives the machine and the writer back, where every participant's seat is in the list.
     ///
-    /// What each seat has seen begins the machine's journal, which has no further entry of that participant. At `Err` a seat is
-    /// missing, and manager and seats come back as they were.
+    /// What each seat has seen begins the machine's journal, which has no further entry of that participant. The writer is of the
+    /// list that the manager's observers read. It has published the ends of the first plays that ended in that journal, in order,
+    /// and of all of them unless it is stale. At `Err` a seat is missing, and manager and seats come back as they were.
     pub fn close(self, mut seats: Vec<Seat<M>>) -> Result<Closed<M>, StillOut<M>>
         requires opened { All (λ s. IsSeatIn M.base_of self s) seats.items }
         ensures all { OnOk result (HaveAll (length (plan_in self).participants) seats.items) }
@@ -328,6 +375,9 @@ impl<M: Machine> Manager<M> {
         ensures base { IfOk result (λ c. M.base_of c.machine ≡ M.base_of (handed_in self)) }
         ensures begins { IfOk result (λ c. IsPrefix (M.journal_of (handed_in self)) (M.journal_of c.machine)) }
         ensures accounts { IfOk result (λ c. All (λ s. Accounts (M.journal_of c.machine) s) seats.items) }
+        ensures book { IfOk result (λ c. c.writer.publications.book ≡ book_in self) }
+        ensures published { IfOk result (λ c. Publishes (plan_in self) (reverse (M.journal_of c.machine)) c.writer) }
+        ensures stale { IfOk result (λ c. c.stale ≡ c.writer.is_stale) }
         ensures missing { IfErr result (λ e. IsLeastMissing (length (plan_in self).participants) seats.items e.missing) }
         ensures same { IfErr result (λ e. (e.manager ≡ self) × (e.seats.items ≡ seats.items)) }
     {
@@ -341,24 +391,19 @@ impl<M: Machine> Manager<M> {
         match seats.pop() {
             Some(last) => {
                 let kept = self.gather(last.into_token(), seats);
-                Ok(Closed {
-                    machine: self.shut_with(kept),
-                })
+                Ok(Closed::of(self.shut_with(kept)))
             }
-            None => Ok(Closed {
-                machine: self.shut_empty(),
-            }),
+            None => Ok(Closed::of(self.shut_empty())),
         }
     }
 
-    /// The machine, where the seat stands for all participants.
-    fn shut_with(self, kept: Token<Housed<M>>) -> M
+    /// What lies in the slot, where the seat stands for all participants.
+    fn shut_with(self, kept: Token<Housed<M>>) -> Housed<M>
         requires kept { (kept.table_id ≡ table_of self) × (kept.me.0.has_book ≡ false) }
         requires all { (t : ℕ) → t < self.participants → Has t (held kept.me.0) }
-        ensures plan { M.plan_of result ≡ plan_in self }
-        ensures base { M.base_of result ≡ M.base_of (handed_in self) }
-        ensures begins { IsPrefix (M.journal_of (handed_in self)) (M.journal_of result) }
-        ensures stands { Stands (M.journal_of result) (held kept.me.0) }
+        ensures right { IsRight M.plan_of M.base_of M.journal_of (terms_in M.base_of self) result }
+        ensures begins { IsPrefix (M.journal_of (handed_in self)) (M.journal_of result.machine) }
+        ensures stands { Stands (M.journal_of result.machine) (held kept.me.0) }
     {
         let Manager {
             lock,
@@ -366,15 +411,14 @@ impl<M: Machine> Manager<M> {
             cells: _,
             handed: _,
         } = self;
-        lock.close_with(kept).into_machine()
+        lock.close_with(kept)
     }
 
-    /// The machine, where there is no participant.
-    fn shut_empty(self) -> M
+    /// The same, where there is no participant.
+    fn shut_empty(self) -> Housed<M>
         requires none { self.participants ≡ 0 }
-        ensures plan { M.plan_of result ≡ plan_in self }
-        ensures base { M.base_of result ≡ M.base_of (handed_in self) }
-        ensures begins { IsPrefix (M.journal_of (handed_in self)) (M.journal_of result) }
+        ensures right { IsRight M.plan_of M.base_of M.journal_of (terms_in M.base_of self) result }
+        ensures begins { IsPrefix (M.journal_of (handed_in self)) (M.journal_of result.machine) }
     {
         let Manager {
             lock,
@@ -382,6 +426,6 @@ impl<M: Machine> Manager<M> {
             cells: _,
             handed: _,
         } = self;
-        lock.close().into_machine()
+        lock.close()
     }
 }

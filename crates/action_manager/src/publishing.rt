@@ -1,7 +1,8 @@
 ghost use Rattle.std.specs.Prelude.{◌≡◌, ◌<◌, [], ◌∷◌, List, length, reverse, replicate, IfOk, vec_capacity};
 ghost use Rattle.caa_base.specs.declared.entry.Entry.{Entry as JournalEntry};
-ghost use Rattle.shared_views.specs.Committing.{initials_of, watching};
-ghost use Rattle.action_manager.specs.Publishing.{ends_play, values_of, published, Publishes, HasRoom};
+ghost use Rattle.place_plan.specs.Journals.{plays_ended};
+ghost use Rattle.shared_views.specs.Committing.{initials_of};
+ghost use Rattle.action_manager.specs.Publishing.{ends_play, values_of, Publishes, HasRoom, book_of, new_observer};
 
 use caa_base::entry::{Entry, Kind, Object, OutOfMemory, Place};
 use journal_laws::is_well_formed;
@@ -15,6 +16,7 @@ use std::sync::Wait;
 pub struct Publishing {
     pub(crate) writer: CommittedWriter,
     pub(crate) changes: Vec<(Object, i64)>,
+    alloc: Global,
 }
 
 /// How many objects a place has at most.
@@ -54,12 +56,17 @@ impl Publishing {
         observers: u32,
     ) -> Result<(Publishing, Vec<Observer>), OutOfMemory>
         ensures room { IfOk result (λ r. HasRoom plan.now (vec_capacity r.0.changes)) }
-        ensures publishes { IfOk result (λ r. (past : List JournalEntry) → published plan.now past ≡ [] → Publishes plan.now past r.0.writer) }
-        ensures observers { IfOk result (λ r. r.1.items ≡ replicate observers (watching r.0.writer)) }
+        ensures publishes { IfOk result (λ r. (past : List JournalEntry) → plays_ended plan.now past ≡ [] → Publishes plan.now past r.0.writer) }
+        ensures observers { IfOk result (λ r. r.1.items ≡ replicate observers (new_observer plan.now (book_of r.0))) }
     {
         let changes = room_for(alloc, plan)?;
         let (writer, seats) = CommittedWriter::open(rt, alloc, plan, observers)?;
-        Ok((Publishing { writer, changes }, seats))
+        let publishing = Publishing {
+            writer,
+            changes,
+            alloc,
+        };
+        Ok((publishing, seats))
     }
 
     /// The values of the objects of a place, by the machine's journal.
@@ -80,19 +87,33 @@ impl Publishing {
     }
 
     /// Takes in the entry that a machine made last: the end of a play is published.
-    pub fn take_in<M: Machine, R: Wait>(&mut self, rt: &R, alloc: Global, machine: &M, entry: Entry)
+    pub fn take_in<M: Machine, R: Wait>(&mut self, rt: &R, machine: &M, entry: Entry)
         requires last { (past : List JournalEntry) × (reverse (M.journal_of machine.now) ≡ entry ∷ past) }
         requires room { HasRoom (M.plan_of machine.now) (vec_capacity self.old.changes) }
         requires initials { self.old.writer.initials ≡ initials_of (M.plan_of machine.now) }
         ensures room { vec_capacity self.new.changes ≡ vec_capacity self.old.changes }
-        ensures book { self.new.writer.publications.book ≡ self.old.writer.publications.book }
+        ensures book { book_of self.new ≡ book_of self.old }
         ensures publishes { (past : List JournalEntry) → reverse (M.journal_of machine.now) ≡ entry ∷ past → Publishes (M.plan_of machine.now) past self.old.writer → Publishes (M.plan_of machine.now) (entry ∷ past) self.new.writer }
     {
         is_well_formed(machine.plan());
         if ends_play(machine.plan(), &entry) {
             self.collect(machine, entry.place);
             machine.plan().is_closed();
-            let _ = self.writer.publish(rt, alloc, self.changes.as_slice());
+            let _ = self
+                .writer
+                .publish(rt, self.alloc, self.changes.as_slice());
         }
+    }
+
+    /// The writer alone.
+    pub fn into_writer(self) -> CommittedWriter
+        ensures { result ≡ self.writer }
+    {
+        let Publishing {
+            writer,
+            changes: _,
+            alloc: _,
+        } = self;
+        writer
     }
 }

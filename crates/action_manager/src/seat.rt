@@ -1,4 +1,4 @@
-ghost use Rattle.std.specs.Prelude.{◌≡◌, length};
+ghost use Rattle.std.specs.Prelude.{◌≡◌, [], length};
 ghost use Rattle.action_manager.specs.OwnEntries.{entries_by};
 
 use crate::housed::Housed;
@@ -8,7 +8,6 @@ use shared_views::{NoteRefused, PlaceNote, Told};
 use std::mem;
 
 /// The right of one participant to take turns. It may go to another thread.
-#[derive(Drop)]
 pub struct Seat<M> {
     pub(crate) token: Token<Housed<M>>,
     pub(crate) participant: Participant,
@@ -18,6 +17,21 @@ pub struct Seat<M> {
     ghost who: { participant ≡ token.me.0.who },
     ghost so_long: { seen ≡ length token.me.0.seen },
     ghost so_many: { made ≡ length (entries_by participant token.me.0.seen) },
+    ghost empty_handed: { token.me.1 ≡ [] },
+}
+
+/// A seat that is let go holds nothing out of the slot, so no machine is let go with it.
+impl<M> Drop for Seat<M> {
+    fn drop(self) {
+        let Seat {
+            token,
+            participant: _,
+            seen: _,
+            made: _,
+            told: _,
+        } = self;
+        let _badge = token.into_badge();
+    }
 }
 
 /// Why a seat has no note to give.

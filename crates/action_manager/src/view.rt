@@ -1,6 +1,23 @@
 use caa_base::entry::Entry;
 use place_plan::plan::Plan;
 use std::collections::LinkedList;
+use std::marker::Model;
+
+/// The name of a list of publications. No value of it is made.
+#[derive(Drop)]
+pub struct BookName {
+    pub number: u64,
+    pub log_name: u64,
+    pub cells_name: u64,
+}
+
+impl Model for BookName {
+    ghost use Rattle.logbook.specs.Pages.{Book};
+
+    ghost Value = { Book };
+
+    ghost view = { λ b. record { number = b.number; log_name = b.log_name; cells_name = b.cells_name } };
+}
 
 /// What the machine at home keeps to, in every turn. No value of it is made.
 #[derive(Drop)]
@@ -11,6 +28,8 @@ pub struct Terms {
     pub base: u64,
     /// The names of the cells of resolved exceptions.
     pub cells: LinkedList<u64>,
+    /// The name of the list of publications.
+    pub book: BookName,
 }
 
 /// What a seat at the table knows. No value of it is made.

@@ -94,10 +94,10 @@ pub who_is : {M H : Type 0} (f : H → ℕ) (t : ℕ) (P : H → Type 0) (Q : Se
 who_is f t P Q (Ok h) ok err = ok.1
 who_is f t P Q (Err s) ok err = err.1
 
-pub member_is : {M H : Type 0} (base_of : M → ℕ) (manager : Manager M) (manager_of : H → Manager M) (f : H → ℕ) (t : ℕ) (r : Result H (Seat M))
-    → IfOk r (λ h. (manager_of h ≡ manager) × (f h ≡ t)) → IfErr r (λ s. IsSeatIn base_of manager s × (participant_of s ≡ t)) → IsMember base_of manager manager_of r
-member_is base_of manager manager_of f t (Ok h) ok err = ok.0
-member_is base_of manager manager_of f t (Err s) ok err = err.0
+pub member_is : {M H : Type 0} (base_of : M → ℕ) (manager : Manager M) (seat_of : H → Seat M) (f : H → ℕ) (t : ℕ) (r : Result H (Seat M))
+    → IfOk r (λ h. IsSeatIn base_of manager (seat_of h) × (f h ≡ t)) → IfErr r (λ s. IsSeatIn base_of manager s × (participant_of s ≡ t)) → IsMember base_of manager seat_of r
+member_is base_of manager seat_of f t (Ok h) ok err = ok.0
+member_is base_of manager seat_of f t (Err s) ok err = err.0
 
 pub order_counts : {X : Type 0} (f : X → ℕ) (xs : List X) (n : ℕ) → map f xs ≡ range_with_len 0 n → length xs ≡ n
 order_counts f xs n order = sym (length-map xs f) ∙ (ap length order ∙ length-range_with_len 0 n)

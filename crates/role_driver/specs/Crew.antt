@@ -12,9 +12,9 @@ pub record IsDone {M : Type 0} (base_of : M → ℕ) (manager : Manager M) (seat
   pub over : is_over (plan_in manager) (reverse (seen_by seat)) (participant_of seat) ≡ true
 
 -- a member of the crew: a thread that drives a seat of this manager, or such a seat that was handed back
-abbrev pub IsMember : {M H : Type 0} → (M → ℕ) → Manager M → (H → Manager M) → Result H (Seat M) → Type 0
-IsMember base_of manager manager_of (Ok thread) = manager_of thread ≡ manager
-IsMember base_of manager manager_of (Err seat) = IsSeatIn base_of manager seat
+abbrev pub IsMember : {M H : Type 0} → (M → ℕ) → Manager M → (H → Seat M) → Result H (Seat M) → Type 0
+IsMember base_of manager seat_of (Ok thread) = IsSeatIn base_of manager (seat_of thread)
+IsMember base_of manager seat_of (Err seat) = IsSeatIn base_of manager seat
 
 -- whose seat it is
 abbrev pub who_of : {M H : Type 0} → (H → ℕ) → Result H (Seat M) → ℕ

@@ -1,8 +1,9 @@
-ghost use Rattle.std.specs.Prelude.{◌≡◌, [], length, map, All, vec_capacity};
+ghost use Rattle.std.specs.Prelude.{◌≡◌, [], length, map, reverse, All, vec_capacity};
 ghost use Rattle.std.specs.List.{range_with_len};
 ghost use mathlib.Core.List.{IsPrefix};
 ghost use Rattle.place_plan.specs.Journals.{IsLegal, IsComplete};
-ghost use Rattle.action_manager.specs.Managers.{plan_in, handed_in, IsSeatIn};
+ghost use Rattle.action_manager.specs.Publishing.{Publishes};
+ghost use Rattle.action_manager.specs.Managers.{plan_in, handed_in, book_in, IsSeatIn};
 ghost use Rattle.action_manager.specs.Seats.{participant_of};
 ghost use Rattle.role_driver.specs.Crew.{IsDone};
 
@@ -33,18 +34,21 @@ pub fn drive_each<M: Machine, G: Gate, R: Wait>(
     driven
 }
 
-/// Gives the machine back, once each seat is over; then it is complete.
-pub fn close_done<M: Machine>(manager: Manager<M>, seats: Vec<Seat<M>>) -> M
+/// Gives the machine and the writer back, once each seat is over; then the machine is complete.
+pub fn close_done<M: Machine>(manager: Manager<M>, seats: Vec<Seat<M>>) -> Closed<M>
     requires done { All (λ s. IsDone M.base_of manager s) seats.items }
     requires order { map participant_of seats.items ≡ range_with_len 0 (length (plan_in manager).participants) }
-    ensures plan { M.plan_of result ≡ plan_in manager }
-    ensures base { M.base_of result ≡ M.base_of (handed_in manager) }
-    ensures begins { IsPrefix (M.journal_of (handed_in manager)) (M.journal_of result) }
-    ensures legal { IsLegal (plan_in manager) (M.journal_of result) }
-    ensures complete { IsComplete (plan_in manager) (M.journal_of result) }
+    ensures plan { M.plan_of result.machine ≡ plan_in manager }
+    ensures base { M.base_of result.machine ≡ M.base_of (handed_in manager) }
+    ensures begins { IsPrefix (M.journal_of (handed_in manager)) (M.journal_of result.machine) }
+    ensures legal { IsLegal (plan_in manager) (M.journal_of result.machine) }
+    ensures complete { IsComplete (plan_in manager) (M.journal_of result.machine) }
+    ensures book { result.writer.publications.book ≡ book_in manager }
+    ensures published { Publishes (plan_in manager) (reverse (M.journal_of result.machine)) result.writer }
+    ensures stale { result.stale ≡ result.writer.is_stale }
 {
     match manager.close(seats) {
-        Ok(Closed { machine }) => machine,
+        Ok(closed) => closed,
         Err(_refused) => unreachable!(),
     }
 }

@@ -1,7 +1,7 @@
 ghost use Rattle.std.specs.Prelude.{◌≡◌, [], length, map, All, IfOk, IfErr, vec_capacity};
 ghost use Rattle.role_driver.specs.Crew.{IsMember, who_of};
 ghost use Rattle.action_manager.specs.Managers.{IsSeatIn};
-ghost use Rattle.action_manager.specs.Seats.{participant_of};
+ghost use Rattle.action_manager.specs.Seats.{participant_of, IsBeside};
 
 use crate::driving::{drive, step_and_ask};
 use action_manager::{Manager, Seat};
@@ -15,22 +15,22 @@ use std::sync::atomic::{AtomicBool, Ordering};
 use std::thread;
 use std::thread::{Promise, PromisedHandle, Scope, Threads};
 
-/// The seat of this participant comes back, of the same manager.
+/// A seat of this participant comes back, of the manager of the seat that went.
 #[derive(Drop)]
-pub struct Belongs<M: Machine> {
-    pub manager: Snapshot<Manager<M>>,
+pub struct Belongs<M> {
+    pub seat: Snapshot<Seat<M>>,
     pub participant: Participant,
 }
 
-impl<M: Machine> Promise<Seat<M>> for Belongs<M> {
+impl<M> Promise<Seat<M>> for Belongs<M> {
     ghost use Rattle.std.specs.Prelude.{◌≡◌};
-    ghost use Rattle.action_manager.specs.Managers.{IsSeatIn};
-    ghost use Rattle.action_manager.specs.Seats.{participant_of};
+    ghost use Rattle.action_manager.specs.Seats.{IsBeside, participant_of};
 
-    ghost kept_by = { λ p r. IsSeatIn M.base_of p.manager.value r × (participant_of r ≡ p.participant) };
+    ghost kept_by = { λ p r. IsBeside p.seat.value r × (participant_of r ≡ p.participant) };
 }
 
 /// Drives a seat, unless it is handed back.
+#[tactic(auto, using(action_manager::proofs::Beside::both_beside))]
 fn drive_unless<M: Machine, G: Gate, R: Wait>(
     rt: &R,
     manager: &Manager<M>,
@@ -40,6 +40,7 @@ fn drive_unless<M: Machine, G: Gate, R: Wait>(
 ) -> Seat<M>
     requires opened { IsSeatIn M.base_of manager.now seat }
     ensures opened { IsSeatIn M.base_of manager.now result }
+    ensures beside { IsBeside seat result }
     ensures same { participant_of result ≡ participant_of seat }
 {
     if handed_back.load(Ordering::SeqCst) {
@@ -50,6 +51,7 @@ fn drive_unless<M: Machine, G: Gate, R: Wait>(
 }
 
 /// A thread for a seat, or the seat where none can be started.
+#[tactic(auto, using(action_manager::proofs::Beside::beside_opened))]
 pub fn start<'s, E, M: Machine + Send, G: Gate + Sync, R: Threads + Wait + Sync>(
     scope: &'s Scope<'s, E>,
     rt: &'s R,
@@ -59,18 +61,18 @@ pub fn start<'s, E, M: Machine + Send, G: Gate + Sync, R: Threads + Wait + Sync>
     gate: &'s G,
 ) -> Result<PromisedHandle<Seat<M>, Belongs<M>>, Seat<M>>
     requires opened { IsSeatIn M.base_of manager.now seat }
-    ensures ok { IfOk result (λ h. (h.promise.manager.value ≡ manager.now) × (h.promise.participant ≡ participant_of seat)) }
+    ensures ok { IfOk result (λ h. IsSeatIn M.base_of manager.now h.promise.seat.value × (h.promise.participant ≡ participant_of seat)) }
     ensures err { IfErr result (λ s. IsSeatIn M.base_of manager.now s × (participant_of s ≡ participant_of seat)) }
 {
     let promise = Belongs {
-        manager: Snapshot::of(manager),
+        seat: Snapshot::of(&seat),
         participant: seat.participant(),
     };
     match scope.spawn_with(
         promise,
         move || -> Seat<M>
             requires { IsSeatIn M.base_of manager.now seat }
-            ensures { IsSeatIn M.base_of manager.entry.now result × (participant_of result ≡ participant_of seat) }
+            ensures { IsBeside seat result × (participant_of result ≡ participant_of seat) }
         { drive_unless(rt, manager, seat, handed_back, gate) },
     ) {
         Ok(child) => Ok(child),
@@ -97,7 +99,7 @@ pub fn start_all<'s, E, M: Machine + Send, G: Gate + Sync, R: Threads + Wait + S
     requires room { (crew.items ≡ []) × (vec_capacity crew ≡ length seats.items) }
     requires flags { length handed_back.now ≡ length seats.items }
     requires opened { All (λ s. IsSeatIn M.base_of manager.now s) seats.items }
-    ensures crew { All (λ r. IsMember M.base_of manager.now (λ h. h.promise.manager.value) r) result.items }
+    ensures crew { All (λ r. IsMember M.base_of manager.now (λ h. h.promise.seat.value) r) result.items }
     ensures order { map (λ r. who_of (λ h. h.promise.participant) r) result.items ≡ map participant_of seats.items }
 {
     for seat in seats {
@@ -140,8 +142,8 @@ fn turn_of<M: Machine, G: Gate, R: Wait>(
     member: &mut Member<M>,
     gate: &G,
 ) -> bool
-    requires member { IsMember M.base_of manager.now (λ h. h.promise.manager.value) member.old }
-    ensures member { IsMember M.base_of manager.now (λ h. h.promise.manager.value) member.new }
+    requires member { IsMember M.base_of manager.now (λ h. h.promise.seat.value) member.old }
+    ensures member { IsMember M.base_of manager.now (λ h. h.promise.seat.value) member.new }
     ensures same { who_of (λ h. h.promise.participant) member.new ≡ who_of (λ h. h.promise.participant) member.old }
 {
     match member {
@@ -157,8 +159,8 @@ fn round<M: Machine, G: Gate, R: Wait>(
     crew: &mut Vec<Member<M>>,
     gate: &G,
 ) -> bool
-    requires crew { All (λ r. IsMember M.base_of manager.now (λ h. h.promise.manager.value) r) crew.old.items }
-    ensures crew { All (λ r. IsMember M.base_of manager.now (λ h. h.promise.manager.value) r) crew.new.items }
+    requires crew { All (λ r. IsMember M.base_of manager.now (λ h. h.promise.seat.value) r) crew.old.items }
+    ensures crew { All (λ r. IsMember M.base_of manager.now (λ h. h.promise.seat.value) r) crew.new.items }
     ensures order { map (λ r. who_of (λ h. h.promise.participant) r) crew.new.items ≡ map (λ r. who_of (λ h. h.promise.participant) r) crew.old.items }
 {
     let mut over = true;
@@ -176,8 +178,8 @@ pub fn drive_handed_back<M: Machine, G: Gate, R: Wait>(
     crew: &mut Vec<Member<M>>,
     gate: &G,
 )
-    requires crew { All (λ r. IsMember M.base_of manager.now (λ h. h.promise.manager.value) r) crew.old.items }
-    ensures crew { All (λ r. IsMember M.base_of manager.now (λ h. h.promise.manager.value) r) crew.new.items }
+    requires crew { All (λ r. IsMember M.base_of manager.now (λ h. h.promise.seat.value) r) crew.old.items }
+    ensures crew { All (λ r. IsMember M.base_of manager.now (λ h. h.promise.seat.value) r) crew.new.items }
     ensures order { map (λ r. who_of (λ h. h.promise.participant) r) crew.new.items ≡ map (λ r. who_of (λ h. h.promise.participant) r) crew.old.items }
 {
     for _ in rt.forever() {
@@ -190,13 +192,14 @@ pub fn drive_handed_back<M: Machine, G: Gate, R: Wait>(
 }
 
 /// The seat of a member, once its thread has ended.
+#[tactic(auto, using(action_manager::proofs::Beside::beside_opened))]
 fn join_one<M: Machine, G: Gate, R: Threads + Wait>(
     rt: &R,
     manager: &Manager<M>,
     member: Member<M>,
     gate: &G,
 ) -> Seat<M>
-    requires member { IsMember M.base_of manager.now (λ h. h.promise.manager.value) member }
+    requires member { IsMember M.base_of manager.now (λ h. h.promise.seat.value) member }
     ensures opened { IsSeatIn M.base_of manager.now result }
     ensures same { participant_of result ≡ who_of (λ h. h.promise.participant) member }
 {
@@ -215,7 +218,7 @@ pub fn join_all<M: Machine, G: Gate, R: Threads + Wait>(
     gate: &G,
 ) -> Vec<Seat<M>>
     requires room { (seats.items ≡ []) × (vec_capacity seats ≡ length crew.items) }
-    requires crew { All (λ r. IsMember M.base_of manager.now (λ h. h.promise.manager.value) r) crew.items }
+    requires crew { All (λ r. IsMember M.base_of manager.now (λ h. h.promise.seat.value) r) crew.items }
     ensures opened { All (λ s. IsSeatIn M.base_of manager.now s) result.items }
     ensures order { map participant_of result.items ≡ map (λ r. who_of (λ h. h.promise.participant) r) crew.items }
 {

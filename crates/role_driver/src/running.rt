@@ -1,14 +1,14 @@
 ghost use Rattle.std.specs.Prelude.{◌≡◌, [], length, map, reverse, All, IfOk, IfErr, vec_capacity};
 ghost use Rattle.std.specs.List.{range_with_len};
 ghost use mathlib.Core.List.{IsPrefix};
-ghost use Rattle.place_plan.specs.Journals.{IsLegal, IsComplete};
+ghost use Rattle.place_plan.specs.Journals.{IsLegal, IsComplete, plays_ended};
 ghost use Rattle.action_manager.specs.Openings.{IsUnresolved};
 ghost use Rattle.action_manager.specs.Managers.{IsSeatIn};
 ghost use Rattle.action_manager.specs.Seats.{participant_of};
 
 use crate::all_seats::{close_done, drive_each};
 use crate::crew::{Member, drive_handed_back, join_all, start_all};
-use action_manager::{Manager, ManagerError, Opened, Seat};
+use action_manager::{Closed, Manager, ManagerError, Opened, Seat};
 use caa_base::gate::Gate;
 use place_plan::machine::Machine;
 use std::alloc::{AllocError, Global};
@@ -73,7 +73,7 @@ fn drive_in_threads<M: Machine + Send, G: Gate + Sync, R: Threads + Wait + Sync>
 
 /// Plays a machine to its end, each participant in a thread of its own.
 ///
-/// Nothing may be resolved yet in its journal. The machine comes back complete, with the same plan and base, and with a legal
+/// In its journal nothing may be resolved yet, and no play may have ended. The machine comes back complete, with the same plan and base, and with a legal
 /// journal that begins with the old one. A participant whose thread can't be started is driven by the caller, in turn with others
 /// of its kind. At `Err` no memory was found before the first entry, and the machine is as it was. It need not return.
 pub fn run<M: Machine + Send, G: Gate + Sync, R: Threads + Wait + Sync>(
@@ -83,6 +83,7 @@ pub fn run<M: Machine + Send, G: Gate + Sync, R: Threads + Wait + Sync>(
     gate: &G,
 ) -> Result<Finished<M>, RunError<M>>
     requires early { IsUnresolved (reverse (M.journal_of machine)) }
+    requires none_ended { plays_ended (M.plan_of machine) (reverse (M.journal_of machine)) ≡ [] }
     ensures plan { IfOk result (λ f. M.plan_of f.machine ≡ M.plan_of machine) }
     ensures base { IfOk result (λ f. M.base_of f.machine ≡ M.base_of machine) }
     ensures begins { IfOk result (λ f. IsPrefix (M.journal_of machine) (M.journal_of f.machine)) }
@@ -103,13 +104,21 @@ pub fn run<M: Machine + Send, G: Gate + Sync, R: Threads + Wait + Sync>(
     let Ok(driven) = Vec::with_capacity(alloc, count) else {
         return Err(RunError { machine });
     };
-    match Manager::open(alloc, machine) {
-        Ok(Opened { manager, seats }) => {
+    match Manager::open(rt, alloc, machine, 0) {
+        Ok(Opened {
+            manager,
+            seats,
+            observers: _,
+        }) => {
             let seats = drive_in_threads(rt, &manager, seats, crew, back, flags.as_slice(), gate);
             let seats = drive_each(rt, &manager, seats, driven, gate);
-            Ok(Finished {
-                machine: close_done(manager, seats),
-            })
+            let Closed {
+                machine,
+                writer,
+                stale: _,
+            } = close_done(manager, seats);
+            writer.end(rt);
+            Ok(Finished { machine })
         }
         Err(ManagerError { machine }) => Err(RunError { machine }),
     }

@@ -1,8 +1,13 @@
-use Rattle.std.proofs.Common.{rules, ◌<◌, ◌^◌, ℕ, ◌∙◌, ap, sym, subst, arith, length}
+use Rattle.std.proofs.Common.{rules, ◌<◌, ◌^◌, ℕ, ◌∙◌, ◌≡◌, ap, sym, subst, arith, length, reverse}
 use Rattle.action_manager.specs.OwnEntries.{Journal, Grows}
-use Rattle.action_manager.specs.Stepping.{GrowsWithout}
+use Rattle.place_plan.specs.PlanValue.{Plan}
+use Rattle.place_plan.specs.Journals.{LegalPast}
+use Rattle.place_plan.specs.Machine.{Answers}
+use Rattle.action_manager.specs.Stepping.{GrowsWithout, Steps}
+use Rattle.action_manager.specs.Seats.{seen_by}
 use Rattle.action_manager.proofs.Answering.{answer_grows, did_makes, did_fits}
 use Rattle.action_manager.proofs.manager.Manager.step.Goals as goal
+use Rattle.action_manager.proofs.manager.Manager.step.Goals.{in-Did, in_default}
 
 pub hand_on-requires-clause-grown : goal.hand_on-requires-clause-grown
 hand_on-requires-clause-grown g c =
@@ -22,3 +27,26 @@ overflow_add-seat g c =
     let small : length now < 2 ^ 64 = search rules in
     let fits = did_fits seat.made who (2 ^ 64) seen now one seat.so_many small in
     omega (arith, fits)
+
+pub returns-clause-turn : goal.returns-clause-turn
+returns-clause-turn g c =
+    let home = c.begin-ticket.result.1.machine in let left = c.next-answer.new.self.machine in
+    let was = g.M.Machine.journal_of home in let now = g.M.Machine.journal_of left in
+    let plan = c.args.self.now.lock.table.shared.key.plan.value in
+    let seat = c.args.seat.now in let who = seat.participant in let seen = seat.token.me.0.seen in
+    let of_plan : g.M.Machine.plan_of home ≡ plan = c.begin-ticket.ensures.right.plan in
+    let grown : GrowsWithout who seen was = subst (λ t. GrowsWithout t seen was) (sym seat.who) c.begin-ticket.ensures.grown in
+    let legal_was : LegalPast (g.M.Machine.plan_of home) (reverse was) = search rules in
+    let legal_now : LegalPast (g.M.Machine.plan_of left) (reverse now) = search rules in
+    let steps : Steps plan who seen now c.args.hint c.next-answer.result.0 = record {
+      before = was;
+      grown = grown;
+      legal_before = subst (λ (p : Plan). LegalPast p (reverse was)) of_plan legal_was;
+      answers = subst (λ (p : Plan). Answers p was now who c.args.hint c.next-answer.result.0) of_plan c.next-answer.ensures.answer;
+      legal = subst (λ (p : Plan). LegalPast p (reverse now)) (c.next-answer.ensures.plan ∙ of_plan) legal_now;
+    } in
+    let saw = ap (λ m. m.0.seen) c.hand_on.ensures.view in
+    elim c.match-answer.branch [
+      | in-Did w ↦ subst (λ j. Steps plan who seen j c.args.hint c.next-answer.result.0) (sym (ap seen_by w.seat-is ∙ saw)) steps
+      | in_default w ↦ subst (λ j. Steps plan who seen j c.args.hint c.next-answer.result.0) (sym (ap seen_by w.seat-is ∙ saw)) steps
+    ]
