@@ -1,12 +1,14 @@
 -- What a watcher recorded, as more is published, and once all is.
-use Rattle.std.proofs.Common.{◌≡◌, ℕ, ℤ, ◌+◌, ◌-◌, ◌<◌, ◌≤◌, ◌==◌, nat_lt, nat_le, Bool, true, false, cond, ◌&&◌, ◌||◌, List, [], ◌∷◌, ◌++◌, filter, length, map, take, All, zero, suc, refl, sym, ap, ◌∙◌, subst, arith, inl, inr}
+use Rattle.std.proofs.Common.{◌≡◌, ℕ, ℤ, ◌+◌, ◌*◌, ◌-◌, ◌<◌, ◌≤◌, ◌==◌, nat_lt, nat_le, Bool, true, false, cond, ◌&&◌, ◌||◌, List, [], ◌∷◌, ◌++◌, filter, length, map, take, get_or, All, zero, suc, refl, sym, ap, ◌∙◌, subst, arith, inl, inr}
 use Rattle.std.specs.Prelude.{slice_index_or}
 use Rattle.std.specs.List.{list_all}
 use Rattle.std.specs.Ordering.{int_eq}
 use Rattle.std.proofs.lemmas.Cmp.{int_eq_equiv}
-use Rattle.std.proofs.lemmas.Bool.{and_parts, and_from, false≢true, cases_Bool, ltb-true, leb-true}
+use Rattle.std.proofs.lemmas.Bool.{and_parts, and_from, false≢true, cases_Bool, cases_lt, ltb-true, leb-true}
+use Rattle.std.proofs.Math.Nat.{suc-mul}
+use Rattle.std.proofs.Math.ListN.{get_or-map as read_mapped}
 use Rattle.std.proofs.lemmas.Bool.Decides.{nat_tests, Decides-int_eq}
-use Rattle.std.proofs.lemmas.List.{take-append-le, length-map}
+use Rattle.std.proofs.lemmas.List.{take-append-le, length-map, get_or-map}
 use Rattle.std.proofs.lemmas.List.Folds.{list_all-append}
 use Rattle.std.proofs.lemmas.List.Elements.{All-nil, All-cons, All-weaker}
 use Rattle.caa_base.specs.Limits.{IsValue}
@@ -17,12 +19,14 @@ use Rattle.place_plan.specs.Journals.{plays_ended, committed_value}
 use Rattle.place_plan.proofs.DraftKeeps.{few_objects}
 use Rattle.journal_laws.specs.Laws.{CommitLaw}
 use Rattle.shared_views.specs.Publications.{Known, Begins, value_after}
-use Rattle.shared_views.specs.Committing.{Committed, initials_of, IsReading, WasRead}
+use Rattle.shared_views.specs.Committing.{Committed, Watching, initials_of, IsReading, WasRead}
 use Rattle.shared_views.specs.declared.observed.Reading.{Reading}
 use Rattle.shared_views.proofs.Readings.{was_read as read_then, still_read}
 use Rattle.action_manager.specs.Publishing.{published}
 use Rattle.action_manager.specs.PublishingLaw.{PublishingLaw}
 use Rattle.role_driver.specs.Records.{was_read, ends_rise, is_record, is_news}
+use Rattle.role_driver.specs.declared.watcher.Watcher.{Watcher}
+use Rattle.role_driver.specs.Watching.{Task, task_of}
 use Rattle.role_driver.specs.Gathering.{HasPublished, with_last}
 
 -- ---- readings
@@ -148,3 +152,37 @@ module _ (plan : Plan) (past : List Entry) (w : Committed) (done : HasPublished 
             rw x (All-cons (λ (q : Reading). q.value ≡ committed_value plan past q.ends o) r (with_last rs last) (shows_known known o r more low (read_is w.initials known o r parts.0)) rest)
         | inr x ↦ rw x rest
       ]
+
+-- all that makes the looks of a watch right
+pub record AreGood (plan : Plan) (past : List Entry) (o : ℕ) (rs : List Reading) (last : Reading) : Type 0 where
+  pub committed : All (λ r. r.value ≡ committed_value plan past r.ends o) (with_last rs last)
+  pub rise : ends_rise (with_last rs last) ≡ true
+  pub few : length (with_last rs last) ≤ suc (length plan.plays)
+  pub end : last.ends ≡ length plan.plays
+
+pub are_good : (plan : Plan) (past : List Entry) (w : Committed) → HasPublished plan past w → PublishingLaw plan past → CommitLaw plan past → (seer : Watching) (o old new : ℕ) (rs : List Reading) (last : Reading)
+    → seer.initials ≡ w.initials → old ≡ o → new ≡ o → Begins w.publications seer.known → is_record seer.initials seer.known new rs ≡ true → IsReading w.initials w.publications old last → AreGood plan past o rs last
+are_good plan past w done law commit seer o old new rs last same was is more h now =
+    let h' = subst (λ x. is_record seer.initials seer.known x rs ≡ true) is h in
+    let right = subst (λ i. is_record i seer.known o rs ≡ true) same h' in
+    let parts = and_parts (list_all (was_read w.initials seer.known o) rs) (ends_rise rs) right in
+    let read = subst (λ x. IsReading w.initials w.publications x last) was now in
+    let end : last.ends ≡ length plan.plays = read.ends ∙ ended plan past w done law commit in
+    record {
+      committed = all_committed plan past w done law commit seer.known o rs last more parts.0 read;
+      rise = with_last_rises rs last parts.1;
+      few = omega (arith, with_last_few rs last parts.1, end);
+      end = end;
+    }
+
+pub row_fits : (k n s : ℕ) → k < n → k * s + s ≤ n * s
+row_fits k zero s l = absurd (omega (arith, l))
+row_fits k (suc n) s l = elim (cases_lt k n) [
+  | inl below ↦ omega (arith, row_fits k n s below, suc-mul n s)
+  | inr above ↦ let same : k ≡ n = omega (arith, l, above) in omega (arith, ap (λ x. x * s) same, suc-mul n s)
+]
+
+-- the task of one watcher among all
+pub task_among : (ws : List Watcher) (f : ℕ → Task) (os : List ℕ) (i : ℕ) (x : Watcher) → map task_of ws ≡ map f os → i < length os → x ≡ get_or ws i x → task_of x ≡ f (slice_index_or os i 0)
+task_among ws f os i x same low is =
+    ap task_of is ∙ sym (read_mapped task_of ws i x) ∙ ap (λ l. get_or l i (task_of x)) same ∙ get_or-map f os i 0 (task_of x) low

@@ -23,6 +23,13 @@ impl Promise<Watcher> for Returns {
 /// A thread that a watcher looks in, or the watcher where none could be started.
 pub type Post = Result<PromisedHandle<Watcher, Returns>, Watcher>;
 
+/// Watchers, with room for their threads, and for them when they come back.
+pub struct Watch {
+    pub watchers: Vec<Watcher>,
+    pub posts: Vec<Post>,
+    pub back: Vec<Watcher>,
+}
+
 /// Starts a thread in which a watcher looks until the flag is raised. Where none can be started, the watcher comes back.
 fn post<'s, E, R: Threads + Wait + Sync>(
     scope: &'s Scope<'s, E>,

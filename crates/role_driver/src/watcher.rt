@@ -30,16 +30,16 @@ impl Watcher {
     ghost use Rattle.role_driver.specs.Watching.{task_of};
     ghost use Rattle.role_driver.specs.Gathering.{task_by};
 
-    /// A watcher that has recorded nothing yet, and records no more than it has room for.
-    pub fn new(object: Object, observer: Observer, blank: Vec<Reading>) -> Watcher
+    /// A watcher that has recorded nothing yet. It records no more than there is room for in the list, which is cleared.
+    pub fn new(object: Object, observer: Observer, mut seen: Vec<Reading>) -> Watcher
         requires object { object < length observer.initials }
-        requires blank { blank.items ≡ [] }
         ensures { task_of result ≡ record { object = object; initials = observer.initials; book = observer.known.book } }
     {
+        seen.clear();
         Watcher {
             object,
             observer,
-            seen: blank,
+            seen,
         }
     }
 
