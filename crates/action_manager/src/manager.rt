@@ -248,7 +248,8 @@ impl<M: Machine> Manager<M> {
         let Ok((cells, bulletin)) = fresh_cells(alloc, machine.plan()) else {
             return Err(ManagerError { machine });
         };
-        let Ok((publishing, observers)) = Publishing::open(rt, alloc, machine.plan(), observers) else {
+        let Ok((publishing, observers)) = Publishing::open(rt, alloc, machine.plan(), observers)
+        else {
             return Err(ManagerError { machine });
         };
         let home = Housed {

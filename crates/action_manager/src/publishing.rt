@@ -99,9 +99,7 @@ impl Publishing {
         if ends_play(machine.plan(), &entry) {
             self.collect(machine, entry.place);
             machine.plan().is_closed();
-            let _ = self
-                .writer
-                .publish(rt, self.alloc, self.changes.as_slice());
+            let _ = self.writer.publish(rt, self.alloc, self.changes.as_slice());
         }
     }
 

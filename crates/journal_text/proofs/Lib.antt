@@ -8,4 +8,3 @@ pub mod ReadingLemmas
 pub mod BadLines
 pub mod RightLemmas
 pub mod CommittedFits
-pub mod LastLookLemmas

@@ -1,7 +1,10 @@
-ghost use Rattle.std.specs.Prelude.{◌≡◌, [], IfOk};
+ghost use Rattle.std.specs.Prelude.{◌≡◌, [], All, IfOk};
 ghost use Rattle.journal_replay.specs.Hall.{journal_in};
+ghost use Rattle.action_manager.specs.Managers.{IsSeatIn};
 
+use crate::crew::go_on;
 use crate::running::{Finished, RunError, run};
+use action_manager::{Closed, Manager, ManagerError, Opened, Seat};
 use caa_base::entry::Verdict;
 use caa_base::gate::EmptyGate;
 use caa_base::memory::SurePlant;
@@ -10,6 +13,7 @@ use place_plan::draft_rows::{AbortRow, RoleRow, Step};
 use place_plan::machine::Machine;
 use place_plan::plan::Plan;
 use std::alloc::Global;
+use std::sync::Wait;
 use std::test::Fail;
 use trial_drafts::{Exceptions, action, draft, play, program, role};
 
@@ -56,12 +60,70 @@ fn participants_play_in_threads(rt: HostRuntime) -> Result<(), Fail> {
     for _ in 0..20u32 {
         let hall = look_hall(rt.alloc())?;
         match run(&rt, rt.alloc(), hall, &EmptyGate) {
-            Ok(Finished { machine }) => {
+            Ok(Finished { machine, seens }) => {
                 assert!(rt; machine.complete());
                 assert_eq!(rt; machine.journal_len(), 10);
+                assert!(rt; seens.is_some_and(|seens| seens.is_empty()));
             }
             Err(RunError { machine: _ }) => panic!(rt; "no memory"),
         }
+    }
+    Ok(())
+}
+
+/// One turn of each seat, with its mixing work.
+fn go_round<M: Machine, R: Wait>(rt: &R, manager: &Manager<M>, seats: &mut Vec<Seat<M>>)
+    requires { All (λ s. IsSeatIn M.base_of manager.now s) seats.old.items }
+    ensures { All (λ s. IsSeatIn M.base_of manager.now s) seats.new.items }
+{
+    for index in 0..seats.len() {
+        go_on(rt, manager, &mut seats[index], &EmptyGate);
+    }
+}
+
+/// So many rounds.
+fn go_rounds<M: Machine, R: Wait>(
+    rt: &R,
+    manager: &Manager<M>,
+    seats: &mut Vec<Seat<M>>,
+    count: u32,
+)
+    requires { All (λ s. IsSeatIn M.base_of manager.now s) seats.old.items }
+    ensures { All (λ s. IsSeatIn M.base_of manager.now s) seats.new.items }
+{
+    for _ in 0..count {
+        go_round(rt, manager, seats);
+    }
+}
+
+#[test]
+fn the_end_of_a_play_is_published(rt: HostRuntime) -> Result<(), Fail> {
+    let hall = look_hall(rt.alloc())?;
+    let (manager, mut seats) = match Manager::open(&rt, rt.alloc(), hall, 1) {
+        Ok(
+            Opened {
+                manager,
+                seats,
+                observers: _,
+            },
+        ) => (manager, seats),
+        Err(ManagerError { machine: _ }) => panic!(rt; "no memory"),
+    };
+    go_rounds(&rt, &manager, &mut seats, 20);
+    match manager.close(seats) {
+        Ok(
+            Closed {
+                machine,
+                mut writer,
+                stale,
+            },
+        ) => {
+            let published = writer.tell().ends();
+            writer.end(&rt);
+            assert!(rt; machine.complete() && !stale);
+            assert_eq!(rt; published, 1);
+        }
+        Err(_missing) => panic!(rt; "a seat is missing"),
     }
     Ok(())
 }

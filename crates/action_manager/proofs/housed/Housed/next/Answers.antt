@@ -52,7 +52,7 @@ returns-clause-kept g c =
           let published = w.take_in.ensures.publishes (reverse (journal_of was)) (past_after (journal_of was) (journal_of now) entry told.added) ended in
           subst (IsKept plan_of journal_of) (sym w.self-is)
           (kept_did plan_of journal_of c.args.self.now (record { machine = now; bulletin = w.take_in-told.new.self; publishing = w.take_in.new.self }) entry c.requires.kept same told.added
-              (w.take_in-told.ensures.cells ∙ sym c.requires.ours) up published w.take_in.ensures.room)
+          (w.take_in-told.ensures.cells ∙ sym c.requires.ours) up published w.take_in.ensures.room)
       | in_default w ↦
           subst (IsKept plan_of journal_of) (sym w.self-is)
           (kept_silent plan_of journal_of c.args.self.now now c.requires.kept same (silent_keeps (plan_of was) (journal_of was) (journal_of now) c.args.by _ c.next-answer.result c.next-answer.ensures.answer w.in_default.not-Did))

@@ -1,4 +1,4 @@
-use Rattle.std.proofs.Common.{◌≡◌, ◌∙◌, sym, ap, length, map}
+use Rattle.std.proofs.Common.{◌∙◌, sym, ap, length, map}
 use Rattle.std.specs.List.{range_with_len}
 use Rattle.place_plan.specs.PlanValue.{Plan}
 use Rattle.action_manager.specs.OwnEntries.{entries_by}
