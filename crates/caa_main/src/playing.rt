@@ -17,7 +17,6 @@ use caa_base::journal::Journal;
 use caa_base::plant::Plant;
 use journal_laws::{is_well_formed, keeps_laws};
 use journal_replay::hall::{OpenCause, PlainHall};
-use journal_text::last_looks::last_looks;
 use journal_text::seens::Seens;
 use journal_text::writing::write;
 use place_plan::plan::Plan;
@@ -148,8 +147,8 @@ fn unplayed<P: Plant>(hall: PlainHall<P>) -> Coming<P>
     }
 }
 
-/// Plays a plan to its end, each participant in a thread of its own, and writes the text of its journal with the last look of each
-/// watch. It need not return.
+/// Plays a plan to its end, each participant in a thread of its own, and writes the text of its journal with what the watchers saw.
+/// It need not return.
 pub fn run_plan<P: Plant + Send, G: Gate + Sync, R: Threads + Wait + Sync>(
     rt: &R,
     alloc: Global,
@@ -166,14 +165,14 @@ pub fn run_plan<P: Plant + Send, G: Gate + Sync, R: Threads + Wait + Sync>(
         Ok(opened) => opened,
         Err(unopened) => return unopened,
     };
-    let played = match run(rt, alloc, opened, gate) {
-        Ok(Finished { machine }) => machine,
+    let (played, seens) = match run(rt, alloc, opened, gate) {
+        Ok(Finished { machine, seens }) => (machine, seens),
         Err(RunError { machine }) => return unplayed(machine),
     };
     let (plan, plant, journal) = played.into_parts();
-    match last_looks(alloc, &plan, &journal) {
-        Ok(seens) => ended(alloc, &plan, plant, journal, &seens),
-        Err(_) => Coming {
+    match seens {
+        Some(seens) => ended(alloc, &plan, plant, journal, &seens),
+        None => Coming {
             finding: Finding::OutOfMemory,
             plant,
             journal,

@@ -7,4 +7,4 @@ pub mod EntryLines
 pub mod ReadingLemmas
 pub mod BadLines
 pub mod RightLemmas
-pub mod LastLookLemmas
+pub mod CommittedFits

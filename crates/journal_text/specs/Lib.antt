@@ -6,4 +6,3 @@ pub mod Words
 pub mod TextOfJournal
 pub mod TextSteps
 pub mod Right
-pub mod LastLooks

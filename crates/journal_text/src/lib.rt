@@ -2,7 +2,6 @@
 #![tactic(auto)]
 
 mod entry_line;
-pub mod last_looks;
 pub mod naming;
 pub mod right;
 mod seen_line;

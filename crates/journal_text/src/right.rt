@@ -4,7 +4,7 @@ ghost use Rattle.caa_base.specs.Lists.{member};
 ghost use Rattle.place_plan.specs.Places.{top_of, parent};
 ghost use Rattle.place_plan.specs.Entries.{is_of};
 ghost use Rattle.place_plan.specs.Objects.{value_of};
-ghost use Rattle.place_plan.specs.Journals.{plays_ended, committed_value};
+ghost use Rattle.place_plan.specs.Journals.{plays_ended};
 ghost use Rattle.journal_text.specs.Looks.{AreOfPlan};
 ghost use Rattle.journal_text.specs.Naming.{is_well_named};
 ghost use Rattle.journal_text.specs.Text.{watched_object};
@@ -34,23 +34,6 @@ pub fn first_wrong(
 {
     let found = wrong_in(alloc, plan, journal.as_slice(), seens.as_slice())?;
     Ok(found)
-}
-
-/// The value of an object by the entries of so many plays, the first that ended, and of the places inside them.
-pub fn committed(
-    alloc: Global,
-    plan: &Plan,
-    journal: &Journal,
-    ends: u64,
-    object: Object,
-) -> Result<i64, OutOfMemory>
-    requires { object < length plan.now.objects }
-    ensures { IfOk result (λ value. value ≡ committed_value plan.now (reverse journal.now.entries) ends object) }
-{
-    let entries = journal.as_slice();
-    let ended = plays_ended(alloc, plan, entries)?;
-    let value = committed_value(alloc, plan, entries, first_of(&ended, ends), object)?;
-    Ok(value)
 }
 
 /// The number of the first of these looks that is wrong.
@@ -182,7 +165,7 @@ fn first_of(places: &[Place], count: u64) -> &[Place]
 }
 
 /// The object of a watch.
-pub(crate) fn watched_object(plan: &Plan, watch: u32) -> Object
+fn watched_object(plan: &Plan, watch: u32) -> Object
     requires named { is_well_named plan.now ≡ true }
     requires watch { watch < length plan.now.watches }
     ensures object { result ≡ watched_object plan.now watch }

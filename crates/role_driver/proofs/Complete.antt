@@ -80,7 +80,7 @@ pub all_over : {M : Type 0} (base_of : M → ℕ) (manager : Manager M) (journal
 all_over base_of manager journal seats done accounts all = λ t low. over_in base_of manager journal t seats done accounts (all t low)
 
 -- an element was taken off the front of one list, and stands changed at the end of the other
-pub moved_on : {X Y : Type 0} (f : X → ℕ) (g : Y → ℕ) (xs ys : List X) (zs zs' : List Y) (s : X) (r : Y) → zs' ≡ zs ++ r ∷ [] → xs ≡ s ∷ ys → g r ≡ f s → map g zs' ++ map f ys ≡ map g zs ++ map f xs
+pub moved_on : {X Y Z : Type 0} (f : X → Z) (g : Y → Z) (xs ys : List X) (zs zs' : List Y) (s : X) (r : Y) → zs' ≡ zs ++ r ∷ [] → xs ≡ s ∷ ys → g r ≡ f s → map g zs' ++ map f ys ≡ map g zs ++ map f xs
 moved_on f g xs ys zs zs' s r longer shorter same =
     let first : map g zs' ≡ map g zs ++ f s ∷ [] = ap (map g) longer ∙ (map-append g zs (r ∷ []) ∙ ap (λ n. map g zs ++ n ∷ []) same) in
     ap (λ l. l ++ map f ys) first ∙ (append_assoc (map g zs) (f s ∷ []) (map f ys) ∙ ap (λ l. map g zs ++ l) (sym (ap (map f) shorter)))

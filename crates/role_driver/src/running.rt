@@ -1,25 +1,39 @@
-ghost use Rattle.std.specs.Prelude.{◌≡◌, [], length, map, reverse, All, IfOk, IfErr, vec_capacity};
+ghost use Rattle.std.specs.Prelude.{◌≡◌, ◌*◌, [], length, map, reverse, suc, All, None, IfSome, IfOk, IfErr, vec_capacity};
 ghost use Rattle.std.specs.List.{range_with_len};
 ghost use mathlib.Core.List.{IsPrefix};
 ghost use Rattle.place_plan.specs.Journals.{IsLegal, IsComplete, plays_ended};
+ghost use Rattle.journal_text.specs.Looks.{AreOfPlan};
+ghost use Rattle.journal_text.specs.Right.{first_wrong};
 ghost use Rattle.action_manager.specs.Openings.{IsUnresolved};
+ghost use Rattle.action_manager.specs.Publishing.{Publishes};
 ghost use Rattle.action_manager.specs.Managers.{IsSeatIn};
 ghost use Rattle.action_manager.specs.Seats.{participant_of};
+ghost use Rattle.role_driver.specs.Watching.{task_of};
+ghost use Rattle.role_driver.specs.Gathering.{task_by};
 
 use crate::all_seats::{close_done, drive_each};
+use crate::assigning::assigned;
 use crate::crew::{Member, drive_handed_back, join_all, start_all};
+use crate::gathering::gather;
+use crate::posts::{Watch, call_all_back, post_all, raise};
+use crate::watch_room::{WatchRoom, lowered};
+use crate::watcher::Watcher;
 use action_manager::{Closed, Manager, ManagerError, Opened, Seat};
 use caa_base::gate::Gate;
+use journal_text::seens::Seens;
 use place_plan::machine::Machine;
-use std::alloc::{AllocError, Global};
+use shared_views::CommittedWriter;
+use std::alloc::Global;
 use std::sync::Wait;
 use std::sync::atomic::AtomicBool;
 use std::thread;
 use std::thread::Threads;
 
-/// A machine that was played to its end.
+/// A machine that was played to its end, and what was seen of the watched objects meanwhile.
 pub struct Finished<M> {
     pub machine: M,
+    /// None where no memory was found for a publication.
+    pub seens: Option<Seens>,
 }
 
 /// No memory was found. The machine is as it was handed in.
@@ -27,18 +41,7 @@ pub struct RunError<M> {
     pub machine: M,
 }
 
-/// Flags that aren't raised.
-fn lowered(alloc: Global, count: usize) -> Result<Vec<AtomicBool>, AllocError>
-    ensures { IfOk result (λ flags. length flags.items ≡ count) }
-{
-    let mut flags = Vec::new(alloc);
-    for _made in 0..count {
-        flags.push(AtomicBool::new(false))?;
-    }
-    Ok(flags)
-}
-
-/// Drives each seat in a thread of its own.
+/// Drives each seat in a thread of its own, and lets the watchers look in theirs until all of these have ended.
 fn drive_in_threads<M: Machine + Send, G: Gate + Sync, R: Threads + Wait + Sync>(
     rt: &R,
     manager: &Manager<M>,
@@ -46,36 +49,76 @@ fn drive_in_threads<M: Machine + Send, G: Gate + Sync, R: Threads + Wait + Sync>
     crew: Vec<Member<M>>,
     back: Vec<Seat<M>>,
     flags: &[AtomicBool],
+    watch: Watch,
+    over: &[AtomicBool],
     gate: &G,
-) -> Vec<Seat<M>>
+) -> (Vec<Seat<M>>, Vec<Watcher>)
     requires room { (crew.items ≡ []) × (vec_capacity crew ≡ length seats.items) × (back.items ≡ []) × (vec_capacity back ≡ length seats.items) }
     requires flags { length flags.now ≡ length seats.items }
     requires opened { All (λ s. IsSeatIn M.base_of manager.now s) seats.items }
-    ensures opened { All (λ s. IsSeatIn M.base_of manager.now s) result.items }
-    ensures order { map participant_of result.items ≡ map participant_of seats.items }
+    requires watch { (watch.posts.items ≡ []) × (vec_capacity watch.posts ≡ length watch.watchers.items) × (watch.back.items ≡ []) × (vec_capacity watch.back ≡ length watch.watchers.items) }
+    requires over { length over.now ≡ length watch.watchers.items }
+    ensures opened { All (λ s. IsSeatIn M.base_of manager.now s) result.0.items }
+    ensures order { map participant_of result.0.items ≡ map participant_of seats.items }
+    ensures tasks { map task_of result.1.items ≡ map task_of watch.watchers.items }
 {
+    let Watch {
+        watchers,
+        posts,
+        back: called,
+    } = watch;
     thread::scope(
         thread::scope_env(),
         rt,
-        |scope| -> Vec<Seat<M>>
+        |scope| -> (Vec<Seat<M>>, Vec<Watcher>)
             requires room { (crew.items ≡ []) × (vec_capacity crew ≡ length seats.items) × (back.items ≡ []) × (vec_capacity back ≡ length seats.items) }
             requires flags { length flags.now ≡ length seats.items }
             requires opened { All (λ s. IsSeatIn M.base_of manager.now s) seats.items }
-            ensures opened { All (λ s. IsSeatIn M.base_of manager.entry.now s) result.items }
-            ensures order { map participant_of result.items ≡ map participant_of seats.items }
+            requires watch { (posts.items ≡ []) × (vec_capacity posts ≡ length watchers.items) × (called.items ≡ []) × (vec_capacity called ≡ length watchers.items) }
+            requires over { length over.now ≡ length watchers.items }
+            ensures opened { All (λ s. IsSeatIn M.base_of manager.entry.now s) result.0.items }
+            ensures order { map participant_of result.0.items ≡ map participant_of seats.items }
+            ensures tasks { map task_of result.1.items ≡ map task_of watchers.items }
         {
+            let posts = post_all(scope, rt, watchers, posts, over);
             let mut crew = start_all(scope, rt, manager, seats, crew, flags, gate);
             drive_handed_back(rt, manager, &mut crew, gate);
-            join_all(rt, manager, crew, back, gate)
+            let seats = join_all(rt, manager, crew, back, gate);
+            raise(over);
+            (seats, call_all_back(rt, posts, called))
         },
     )
 }
 
-/// Plays a machine to its end, each participant in a thread of its own.
+/// What all watchers saw, unless the writer is stale.
+fn seens_of<M: Machine>(
+    machine: &M,
+    writer: &mut CommittedWriter,
+    stale: bool,
+    watchers: &mut Vec<Watcher>,
+    seens: Seens,
+) -> Option<Seens>
+    requires stale { stale ≡ writer.old.is_stale }
+    requires published { Publishes (M.plan_of machine.now) (reverse (M.journal_of machine.now)) writer.old }
+    requires complete { IsComplete (M.plan_of machine.now) (M.journal_of machine.now) }
+    requires tasks { map task_of watchers.old.items ≡ map (task_by writer.old) (M.plan_of machine.now).watches }
+    requires seens { (seens.seens ≡ []) × (seens.room ≡ length (M.plan_of machine.now).watches * suc (length (M.plan_of machine.now).plays)) }
+    ensures of_plan { IfSome result (λ s. AreOfPlan (M.plan_of machine.now) s.seens) }
+    ensures right { IfSome result (λ s. first_wrong (M.plan_of machine.now) (M.journal_of machine.now) s.seens ≡ None) }
+{
+    if stale {
+        return None;
+    }
+    Some(gather(machine, writer, watchers, seens))
+}
+
+/// Plays a machine to its end, each participant in a thread of its own, and lets a watcher look at each watched object in another.
 ///
-/// In its journal nothing may be resolved yet, and no play may have ended. The machine comes back complete, with the same plan and base, and with a legal
-/// journal that begins with the old one. A participant whose thread can't be started is driven by the caller, in turn with others
-/// of its kind. At `Err` no memory was found before the first entry, and the machine is as it was. It need not return.
+/// In its journal nothing may be resolved yet, and no play may have ended. The machine comes back complete, with the same plan and
+/// base, and with a legal journal that begins with the old one. With it comes what was seen, right looks of that journal, unless no
+/// memory was found for a publication. A participant whose thread can't be started is driven by the caller, in turn with others of
+/// its kind; a watcher whose thread can't be started takes a last look alone. At `Err` no memory was found before the first entry,
+/// and the machine is as it was. It need not return.
 pub fn run<M: Machine + Send, G: Gate + Sync, R: Threads + Wait + Sync>(
     rt: &R,
     alloc: Global,
@@ -89,9 +132,13 @@ pub fn run<M: Machine + Send, G: Gate + Sync, R: Threads + Wait + Sync>(
     ensures begins { IfOk result (λ f. IsPrefix (M.journal_of machine) (M.journal_of f.machine)) }
     ensures legal { IfOk result (λ f. IsLegal (M.plan_of machine) (M.journal_of f.machine)) }
     ensures complete { IfOk result (λ f. IsComplete (M.plan_of machine) (M.journal_of f.machine)) }
+    ensures of_plan { IfOk result (λ f. IfSome f.seens (λ s. AreOfPlan (M.plan_of machine) s.seens)) }
+    ensures right { IfOk result (λ f. IfSome f.seens (λ s. first_wrong (M.plan_of machine) (M.journal_of f.machine) s.seens ≡ None)) }
     ensures refused { IfErr result (λ e. e.machine ≡ machine) }
 {
     let count = machine.plan().participants() as usize;
+    let watches = machine.plan().watches();
+    machine.plan().is_closed();
     let Ok(flags) = lowered(alloc, count) else {
         return Err(RunError { machine });
     };
@@ -104,22 +151,42 @@ pub fn run<M: Machine + Send, G: Gate + Sync, R: Threads + Wait + Sync>(
     let Ok(driven) = Vec::with_capacity(alloc, count) else {
         return Err(RunError { machine });
     };
-    match Manager::open(rt, alloc, machine, 0) {
-        Ok(opened) => {
-            let Opened {
+    let Ok(room) = WatchRoom::take(alloc, machine.plan()) else {
+        return Err(RunError { machine });
+    };
+    match Manager::open(rt, alloc, machine, watches) {
+        Ok(
+            Opened {
                 manager,
                 seats,
-                observers: _,
-            } = opened;
-            let seats = drive_in_threads(rt, &manager, seats, crew, back, flags.as_slice(), gate);
+                observers,
+            },
+        ) => {
+            let watch = Watch {
+                watchers: assigned(&manager, room.blanks, observers, room.watchers),
+                posts: room.posts,
+                back: room.back,
+            };
+            let (seats, mut watchers) = drive_in_threads(
+                rt,
+                &manager,
+                seats,
+                crew,
+                back,
+                flags.as_slice(),
+                watch,
+                room.over.as_slice(),
+                gate,
+            );
             let seats = drive_each(rt, &manager, seats, driven, gate);
             let Closed {
                 machine,
-                writer,
-                stale: _,
+                mut writer,
+                stale,
             } = close_done(manager, seats);
+            let seens = seens_of(&machine, &mut writer, stale, &mut watchers, room.seens);
             writer.end(rt);
-            Ok(Finished { machine })
+            Ok(Finished { machine, seens })
         }
         Err(ManagerError { machine }) => Err(RunError { machine }),
     }

@@ -60,9 +60,10 @@ fn participants_play_in_threads(rt: HostRuntime) -> Result<(), Fail> {
     for _ in 0..20u32 {
         let hall = look_hall(rt.alloc())?;
         match run(&rt, rt.alloc(), hall, &EmptyGate) {
-            Ok(Finished { machine }) => {
+            Ok(Finished { machine, seens }) => {
                 assert!(rt; machine.complete());
                 assert_eq!(rt; machine.journal_len(), 10);
+                assert!(rt; seens.is_some_and(|seens| seens.is_empty()));
             }
             Err(RunError { machine: _ }) => panic!(rt; "no memory"),
         }

@@ -287,13 +287,21 @@ fn threads_meet_at_their_work(rt: HostRuntime) -> Result<(), Fail> {
     Ok(())
 }
 
+/// What may be seen of x by the plays of a script that has two.
+const SEEN: [&[u8]; 4] = [
+    b"commit\nseen x 2 2\n",
+    b"commit\nseen x 0 0\nseen x 2 2\n",
+    b"commit\nseen x 1 1\nseen x 2 2\n",
+    b"commit\nseen x 0 0\nseen x 1 1\nseen x 2 2\n",
+];
+
 #[test]
 fn a_run_tells_of_its_watches(rt: HostRuntime) -> Result<(), Fail> {
     let script =
         b"participant ann\nparticipant bob\nobject x 0\nwatch x\naction w\nuse x\nroles r\nbody r\nread x\nadd x 1\nend\nplay w ann\nplay w bob\n".as_slice();
     let (status, text) = run_over(&rt, rt.alloc(), script, &EmptyGate)?;
     assert_eq!(rt; status, Status::Done);
-    assert!(rt; text.as_slice().ends_with(b"\nseen x 2 2\n"));
+    assert!(rt; SEEN.iter().any(|ending| text.as_slice().ends_with(ending)));
     assert_eq!(rt;
         audit_of(rt.alloc(), script, text.as_slice())?,
         Status::Done

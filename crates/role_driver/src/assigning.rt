@@ -1,0 +1,31 @@
+ghost use Rattle.std.specs.Prelude.{◌≡◌, ◌<◌, [], All, length, map, replicate, vec_capacity};
+ghost use Rattle.role_driver.specs.Watching.{task_of};
+ghost use Rattle.role_driver.specs.WatchRooms.{task_with, observer_of};
+
+use crate::watch_room::Blank;
+use crate::watcher::Watcher;
+use action_manager::Manager;
+use place_plan::machine::Machine;
+use shared_views::Observer;
+
+/// A watcher for each blank, by the manager's observers.
+pub fn assigned<M: Machine>(
+    _manager: &Manager<M>,
+    blanks: Vec<Blank>,
+    mut observers: Vec<Observer>,
+    mut watchers: Vec<Watcher>,
+) -> Vec<Watcher>
+    requires observers { observers.items ≡ replicate (length blanks.items) (observer_of _manager.now) }
+    requires objects { All (λ b. b.object < length (observer_of _manager.now).initials) blanks.items }
+    requires room { (watchers.items ≡ []) × (vec_capacity watchers ≡ length blanks.items) }
+    ensures { map task_of result.items ≡ map (λ b. task_with (observer_of _manager.now) b.object) blanks.items }
+{
+    for blank in blanks {
+        let Blank { object, seen } = blank;
+        match observers.pop() {
+            Some(observer) => watchers.push_reserved(Watcher::new(object, observer, seen)),
+            None => unreachable!(),
+        }
+    }
+    watchers
+}

@@ -1,0 +1,74 @@
+ghost use Rattle.std.specs.Prelude.{◌≡◌, length, IfOk};
+
+use crate::posts::Post;
+use crate::watcher::Watcher;
+use caa_base::entry::{Object, OutOfMemory};
+use journal_text::seens::Seens;
+use place_plan::plan::Plan;
+use shared_views::Reading;
+use std::alloc::{AllocError, Global};
+use std::sync::atomic::AtomicBool;
+
+/// Room for what is read of one object.
+#[derive(Drop)]
+pub struct Blank {
+    pub object: Object,
+    pub seen: Vec<Reading>,
+}
+
+/// All the memory that the watchers of a plan need.
+#[derive(Drop)]
+pub struct WatchRoom {
+    pub blanks: Vec<Blank>,
+    pub watchers: Vec<Watcher>,
+    pub posts: Vec<Post>,
+    pub back: Vec<Watcher>,
+    pub over: Vec<AtomicBool>,
+    pub seens: Seens,
+}
+
+/// Flags that aren't raised.
+pub fn lowered(alloc: Global, count: usize) -> Result<Vec<AtomicBool>, AllocError>
+    ensures { IfOk result (λ flags. length flags.items ≡ count) }
+{
+    let mut flags = Vec::new(alloc);
+    for _made in 0..count {
+        flags.push(AtomicBool::new(false))?;
+    }
+    Ok(flags)
+}
+
+impl WatchRoom {
+    ghost use Rattle.std.specs.Prelude.{map};
+    ghost use Rattle.role_driver.specs.WatchRooms.{IsRoomFor};
+
+    /// A blank for each watch, with room for a reading at each end of a play and one more.
+    fn blanks(alloc: Global, plan: &Plan) -> Result<Vec<Blank>, AllocError>
+        ensures { IfOk result (λ v. map (λ b. b.object) v.items ≡ plan.now.watches) }
+    {
+        let readings = plan.plays() as usize + 1;
+        let mut blanks = Vec::new(alloc);
+        for watch in 0..plan.watches() {
+            let object = plan.watch(watch);
+            let seen = Vec::with_capacity(alloc, readings)?;
+            blanks.push(Blank { object, seen })?;
+        }
+        Ok(blanks)
+    }
+
+    /// Takes the memory.
+    pub fn take(alloc: Global, plan: &Plan) -> Result<WatchRoom, OutOfMemory>
+        ensures { IfOk result (λ r. IsRoomFor plan.now r) }
+    {
+        let count = plan.watches() as usize;
+        let looks = u64::from(plan.watches()) * (u64::from(plan.plays()) + 1);
+        Ok(WatchRoom {
+            blanks: WatchRoom::blanks(alloc, plan)?,
+            watchers: Vec::with_capacity(alloc, count)?,
+            posts: Vec::with_capacity(alloc, count)?,
+            back: Vec::with_capacity(alloc, count)?,
+            over: lowered(alloc, count)?,
+            seens: Seens::with_room(alloc, looks)?,
+        })
+    }
+}
