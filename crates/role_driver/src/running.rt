@@ -155,13 +155,12 @@ pub fn run<M: Machine + Send, G: Gate + Sync, R: Threads + Wait + Sync>(
         return Err(RunError { machine });
     };
     match Manager::open(rt, alloc, machine, watches) {
-        Ok(
-            Opened {
+        Ok(opened) => {
+            let Opened {
                 manager,
                 seats,
                 observers,
-            },
-        ) => {
+            } = opened;
             let watch = Watch {
                 watchers: assigned(&manager, room.blanks, observers, room.watchers),
                 posts: room.posts,
