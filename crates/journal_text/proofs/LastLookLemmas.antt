@@ -1,7 +1,6 @@
 -- The last looks of all watches: each shows a value, and they are right.
-use Rattle.std.proofs.Common.{◌≡◌, ℕ, ℤ, zero, suc, ◌+◌, ◌<◌, ◌≤◌, ◌==◌, Bool, true, false, cond, ◌&&◌, not, List, [], ◌∷◌, length, map, filter, take, Option, None, Some, refl, sym, ap, ◌∙◌, subst, arith}
-use Rattle.std.specs.Prelude.{slice_index_or}
-use Rattle.std.specs.List.{All, range_with_len}
+use Rattle.std.proofs.Common.{◌≡◌, ℕ, ℤ, zero, suc, ◌+◌, ◌<◌, ◌≤◌, ◌==◌, Bool, true, false, cond, ◌&&◌, not, List, [], ◌∷◌, length, map, take, Option, None, Some, refl, sym, ap, ◌∙◌, subst, arith}
+use Rattle.std.specs.List.{range_with_len}
 use Rattle.std.specs.Ordering.{int_eq}
 use Rattle.std.proofs.lemmas.Cmp.{int_eq_equiv}
 use Rattle.std.proofs.lemmas.Bool.{and_parts, and_from, or_right, eq-eqb, false≢true}
@@ -18,14 +17,14 @@ use Rattle.place_plan.specs.PlanValue.{Plan}
 use Rattle.place_plan.specs.Places.{initial_of, no_object, top_of}
 use Rattle.place_plan.specs.Closed.{IsClosed}
 use Rattle.place_plan.specs.Entries.{code_of, is_of}
-use Rattle.place_plan.specs.Objects.{is_within_any, writes, places_undone, value_outside, value_of}
-use Rattle.place_plan.specs.Journals.{plays_ended, committed_value}
+use Rattle.place_plan.specs.Objects.{is_within_any, writes, places_undone, value_outside}
+use Rattle.place_plan.specs.Journals.{plays_ended}
 use Rattle.place_plan.specs.WellFormed.{FieldsFit, IsWellFormed, AllWellFormed}
 use Rattle.place_plan.proofs.DraftKeeps.{keeps_rules, initials_range}
 use Rattle.journal_text.specs.declared.seens.Seen.{Seen}
 use Rattle.journal_text.specs.Looks.{last_watch, AreOfPlan}
 use Rattle.journal_text.specs.Text.{watched_object}
-use Rattle.journal_text.specs.Right.{is_committed, follows, is_followed, is_right, is_whole, next_seen, first_wrong_from}
+use Rattle.journal_text.specs.Right.{follows, is_followed, is_right, is_whole, next_seen, first_wrong_from}
 use Rattle.journal_text.specs.LastLooks.{last_look}
 
 -- ---- the value of a look
