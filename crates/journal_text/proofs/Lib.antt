@@ -8,3 +8,5 @@ pub mod ReadingLemmas
 pub mod BadLines
 pub mod RightLemmas
 pub mod CommittedFits
+pub mod PlaceChains
+pub mod CommittedLemmas

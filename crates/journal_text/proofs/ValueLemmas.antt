@@ -38,7 +38,7 @@ any-or f g (n ∷ ns) = rw (any-or f g ns) (shuffle (f n) (g n) (list_any f ns) 
 eq-turned : (m n : ℕ) → (m == n) ≡ (n == m)
 eq-turned m n = grind (arith, nat_tests)
 
-any-same : (f g : ℕ → Bool) (ns : List ℕ) → ((n : ℕ) → f n ≡ g n) → list_any f ns ≡ list_any g ns
+pub any-same : (f g : ℕ → Bool) (ns : List ℕ) → ((n : ℕ) → f n ≡ g n) → list_any f ns ≡ list_any g ns
 any-same f g [] h = refl
 any-same f g (n ∷ ns) h = rw (h n, any-same f g ns h) refl
 

@@ -2,6 +2,7 @@ pub mod Looks
 pub mod Naming
 pub mod Text
 pub mod KnownValues
+pub mod CommittedValues
 pub mod Words
 pub mod TextOfJournal
 pub mod TextSteps

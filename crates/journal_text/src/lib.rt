@@ -1,6 +1,7 @@
 //! The text of a journal, both ways, and what watchers saw while it was made.
 #![tactic(auto)]
 
+mod committed;
 mod entry_line;
 pub mod naming;
 pub mod right;

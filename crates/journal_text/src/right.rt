@@ -1,20 +1,21 @@
-ghost use Rattle.std.specs.Prelude.{◌≡◌, ◌<◌, ◌+◌, ◌&&◌, ◌==◌, true, length, reverse, take, drop, filter, option_copied, Some, None, IfOk, is_none};
+ghost use Rattle.std.specs.Prelude.{◌≡◌, ◌<◌, ◌+◌, ◌&&◌, ◌==◌, [], true, length, reverse, drop, slice_index_or, option_copied, Some, None, IfOk, is_none};
+ghost use Rattle.std.specs.Ordering.{int_eq};
 ghost use Rattle.caa_base.specs.declared.entry.Kind.TheVariants as kind;
-ghost use Rattle.caa_base.specs.Lists.{member};
-ghost use Rattle.place_plan.specs.Places.{top_of, parent};
+ghost use Rattle.place_plan.specs.Places.{parent};
 ghost use Rattle.place_plan.specs.Entries.{is_of};
-ghost use Rattle.place_plan.specs.Objects.{value_of};
-ghost use Rattle.place_plan.specs.Journals.{plays_ended};
+ghost use Rattle.place_plan.specs.Journals.{plays_ended, committed_value};
 ghost use Rattle.journal_text.specs.Looks.{AreOfPlan};
 ghost use Rattle.journal_text.specs.Naming.{is_well_named};
 ghost use Rattle.journal_text.specs.Text.{watched_object};
+ghost use Rattle.journal_text.specs.CommittedValues.{value_by, HasCommitted, HasWatched};
 ghost use Rattle.journal_text.specs.Right.{is_committed, follows, is_followed, is_right, is_whole, first_wrong};
 
+use crate::committed::{committed_values, ranks_of};
 use crate::seens::{Seen, Seens};
 use caa_base::entry::{Entry, Kind, Object, OutOfMemory, Place};
 use caa_base::journal::Journal;
+use caa_base::rows::Rows;
 use place_plan::plan::Plan;
-use place_plan::value::value_at;
 use std::alloc::{AllocError, Global};
 
 /// The number of the first wrong look, counted from 0; none where all are right.
@@ -48,11 +49,12 @@ fn wrong_in(
     ensures { IfOk result (λ found. found ≡ first_wrong plan.now entries.now seens.now) }
 {
     let ended = plays_ended(alloc, plan, entries)?;
+    let tables = watched_values(alloc, plan, entries, &ended)?;
     let mut before = None;
     for (index, seen) in seens.iter().enumerate() {
         let stands = follows(before, *seen)
             && is_followed(plan, *seen, seens.get(index + 1).copied());
-        if !stands || !is_committed(alloc, plan, entries, &ended, seen)? {
+        if !stands || !is_committed(plan, entries, &tables, seen) {
             return Ok(Some(index as u64));
         }
         before = Some(*seen);
@@ -119,49 +121,72 @@ fn is_whole(plan: &Plan, last: Option<Seen>) -> bool
 }
 
 /// Whether a look shows the value that its object had by the plays that had ended.
-fn is_committed(
+///
+/// The tables have the values of each watch, so plan and entries are named by the contract alone.
+fn is_committed(plan: &Plan, entries: &[Entry], tables: &[Rows<i64>], seen: &Seen) -> bool
+    requires watch { seen.now.watch < length plan.now.watches }
+    requires tables { HasWatched plan.now (plays_ended plan.now (reverse entries.now)) (reverse entries.now) tables.now (length plan.now.watches) }
+    ensures { result ≡ is_committed plan.now (reverse entries.now) seen.now }
+{
+    let _ = plan;
+    let _ = entries;
+    shows_value(tables, seen)
+}
+
+/// Whether a look shows the value of its watch by the plays that had ended.
+fn shows_value(tables: &[Rows<i64>], seen: &Seen) -> bool
+    requires watch { seen.now.watch < length tables.now }
+    requires table { 0 < length (slice_index_or tables.now seen.now.watch []) }
+    ensures { result ≡ int_eq seen.now.value (value_by (slice_index_or tables.now seen.now.watch []) seen.now.ends) }
+{
+    seen.value == value_by(tables[seen.watch as usize].as_slice(), seen.ends)
+}
+
+/// The value of an object by the first so many plays that ended.
+///
+/// The values are those by the first 0, 1, 2 and so on, so plan, entries and object are named by the contract alone.
+#[tactic(auto, using(crate::proofs::CommittedLemmas::value_by_is))]
+fn committed_by(plan: &Plan, entries: &[Entry], object: Object, values: &[i64], ends: u64) -> i64
+    requires { HasCommitted plan.now (plays_ended plan.now (reverse entries.now)) (reverse entries.now) object values.now }
+    ensures { result ≡ committed_value plan.now (reverse entries.now) ends object }
+{
+    let _ = plan;
+    let _ = entries;
+    let _ = object;
+    value_by(values, ends)
+}
+
+/// The value by so many plays that ended; by all where there are fewer.
+fn value_by(values: &[i64], ends: u64) -> i64
+    requires { 0 < length values.now }
+    ensures { result ≡ value_by values.now ends }
+{
+    let last = values.len() - 1;
+    if ends < last as u64 {
+        values[ends as usize]
+    } else {
+        values[last]
+    }
+}
+
+/// For each watch the values of its object by the first 0, 1, 2 and so on of these plays.
+fn watched_values(
     alloc: Global,
     plan: &Plan,
     entries: &[Entry],
     ended: &[Place],
-    seen: &Seen,
-) -> Result<bool, AllocError>
-    requires named { is_well_named plan.now ≡ true }
-    requires watch { seen.now.watch < length plan.now.watches }
-    requires ended { ended.now ≡ plays_ended plan.now (reverse entries.now) }
-    ensures { IfOk result (λ yes. yes ≡ is_committed plan.now (reverse entries.now) seen.now) }
+) -> Result<Vec<Rows<i64>>, AllocError>
+    requires { is_well_named plan.now ≡ true }
+    ensures { IfOk result (λ tables. HasWatched plan.now ended.now (reverse entries.now) tables.items (length plan.now.watches)) }
 {
-    let object = watched_object(plan, seen.watch);
-    let value = committed_value(alloc, plan, entries, first_of(ended, seen.ends), object)?;
-    Ok(seen.value == value)
-}
-
-/// The value of an object by the entries of these plays and of the places inside them.
-#[tactic(auto, using(crate::proofs::RightLemmas::reverse_filter))]
-fn committed_value(
-    alloc: Global,
-    plan: &Plan,
-    entries: &[Entry],
-    plays: &[Place],
-    object: Object,
-) -> Result<i64, AllocError>
-    requires { object < length plan.now.objects }
-    ensures { IfOk result (λ value.
-        value ≡ value_of plan.now (filter (λ e. member (top_of plan.now e.place) plays.now) (reverse entries.now)) object) }
-{
-    let kept = entries_of(alloc, plan, entries, plays)?;
-    Ok(value_at(plan, &kept, object))
-}
-
-/// The first of these places, at most so many.
-fn first_of(places: &[Place], count: u64) -> &[Place]
-    ensures { result.now ≡ take count places.now }
-{
-    if count < places.len() as u64 {
-        &places[..count as usize]
-    } else {
-        places
+    let ranks = ranks_of(alloc, ended)?;
+    let mut tables = Vec::new(alloc);
+    for watch in 0..plan.watches() {
+        let object = watched_object(plan, watch);
+        let values = committed_values(alloc, plan, entries, ended, &ranks, object)?;
+        tables.push(Rows::from_vec(values))?;
     }
+    Ok(tables)
 }
 
 /// The object of a watch.
@@ -172,29 +197,4 @@ fn watched_object(plan: &Plan, watch: u32) -> Object
     ensures known { result < length plan.now.objects }
 {
     plan.watch(watch)
-}
-
-/// The entries of these plays and of the places inside them.
-fn entries_of(
-    alloc: Global,
-    plan: &Plan,
-    entries: &[Entry],
-    plays: &[Place],
-) -> Result<Vec<Entry>, AllocError>
-    ensures { IfOk result (λ kept. kept.items ≡ filter (λ e. member (top_of plan.now e.place) plays.now) entries.now) }
-{
-    let mut kept = Vec::new(alloc);
-    for entry in entries {
-        if is_among(plan.top_of(entry.place), plays) {
-            kept.push(*entry)?;
-        }
-    }
-    Ok(kept)
-}
-
-/// Whether a place is one of these.
-fn is_among(place: Place, places: &[Place]) -> bool
-    ensures { result ≡ member place places.now }
-{
-    places.iter().any(|other| *other == place)
 }

@@ -24,3 +24,4 @@ pub mod MapsKept
 pub mod AcceptedDraft
 pub mod Unbroken
 pub mod NamesKept
+pub mod NumberTables

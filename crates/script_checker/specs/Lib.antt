@@ -5,6 +5,7 @@ pub mod Chosen
 pub mod Compiled
 pub mod Graphs
 pub mod Numbers
+pub mod NumberTable
 pub mod Rows
 pub mod DeclaredSoFar
 pub mod View

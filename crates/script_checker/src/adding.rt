@@ -214,14 +214,12 @@ fn set_map(alloc: Global, nests: &mut [NestRow], nest: u32, lower: u32, upper: u
 
 /// Says that an exception of a nested use is mapped.
 #[tactic(auto, using(std::proofs::lemmas::List::set_past))]
-fn say_mapped(alloc: Global, said: &mut [NestSaid], nest: u32, lower: u32) -> Result<(), AllocError>
+fn say_mapped(said: &mut [NestSaid], nest: u32, lower: u32) -> Result<(), AllocError>
     ensures { OnOk result (said.new ≡ slice_set said.old nest (record (slice_index_or said.old nest nothing_said) { mapped = (slice_index_or said.old nest nothing_said).mapped ++ lower ∷ [] })) }
 {
     let index = nest as usize;
     if index < said.len() {
-        let row = &mut said[index];
-        let mapped = replace(&mut row.mapped, Rows::from_vec(Vec::new(alloc)));
-        row.mapped = with_number(mapped, lower)?;
+        said[index].mapped.push(lower)?;
     }
     Ok(())
 }
@@ -240,7 +238,7 @@ fn add_map(declared: &mut Declared, nest: u32, lower: u32, upper: u32) -> Result
         lower,
         upper,
     );
-    say_mapped(alloc, declared.nests_said.as_mut_slice(), number, lower)
+    say_mapped(declared.nests_said.as_mut_slice(), number, lower)
 }
 
 /// Carries the undo of a nested use out as an exception.
@@ -358,7 +356,7 @@ fn add_nest(
     declared.nests.push(nest)?;
     declared.nest_rows.push(row)?;
     declared.nests_said.push(NestSaid {
-        mapped: Rows::from_vec(Vec::new(alloc)),
+        mapped: NumberList::new(alloc),
         has_undo: false,
         has_failure: false,
     })?;
@@ -421,7 +419,7 @@ fn begin_action(declared: &mut Declared, name: u32) -> Result<(), AllocError>
     declared.internal = None;
     declared.interface = None;
     declared.fault = None;
-    declared.uses.clear();
+    declared.uses = NumberList::new(declared.alloc);
     declared.roles = NumberList::new(declared.alloc);
     declared.role_rows.clear();
     declared.bodies.clear();
@@ -440,7 +438,7 @@ fn take_action(declared: &mut Declared, names: &[Name]) -> Result<ActionRow, Out
 {
     let alloc = declared.alloc;
     let name = name_row(alloc, names, declared.action_name)?;
-    let objects = replace(&mut declared.uses, Vec::new(alloc));
+    let objects = replace(&mut declared.uses, NumberList::new(alloc));
     let roles = replace(&mut declared.role_rows, Vec::new(alloc));
     let nests = replace(&mut declared.nest_rows, Vec::new(alloc));
     Ok(ActionRow {
@@ -448,7 +446,7 @@ fn take_action(declared: &mut Declared, names: &[Name]) -> Result<ActionRow, Out
         internal: declared.internal.unwrap_or(0),
         interface: declared.interface.unwrap_or(0),
         fault: declared.fault.unwrap_or(0),
-        objects: Rows::from_vec(objects),
+        objects: Rows::from_vec(objects.into_items()),
         roles: Rows::from_vec(roles),
         nests: Rows::from_vec(nests),
     })
@@ -564,7 +562,8 @@ fn add_play(declared: &mut Declared, action: u32, who: &[u32]) -> Result<(), All
 fn add_uses(declared: &mut Declared, objects: &[u32]) -> Result<(), AllocError>
     ensures { OnOk result (so_far declared.new ≡ with_said [] (so_far declared.old) (Form.Uses objects.now)) }
 {
-    declared.uses = chosen(declared.alloc, objects, &declared.objects)?;
+    let used = NumberList::from_slice(declared.alloc, objects)?;
+    declared.uses = chosen(declared.alloc, &used, &declared.objects)?;
     Ok(())
 }
 

@@ -1,6 +1,6 @@
 //! Whether a line has a cause to be refused.
 
-ghost use Rattle.std.specs.Prelude.{◌≡◌, ◌≤◌, nat_le, length, map, not, ◌||◌, slice_index_or};
+ghost use Rattle.std.specs.Prelude.{◌≡◌, ◌≤◌, nat_le, length, map, not, ◌||◌, slice_index_or, IfOk};
 ghost use Rattle.std.specs.List.{list_any, list_all};
 ghost use Rattle.caa_base.specs.Lists.{member, index_of};
 ghost use Rattle.place_plan.specs.DraftRules.{roles_enter};
@@ -25,6 +25,7 @@ use caa_base::limits::{
 use place_plan::draft_rows::AbortRow;
 use place_plan::tables::{counted_sum, number_at};
 use place_plan::uses::roles_enter;
+use std::alloc::{AllocError, Global};
 
 /// Actions of a nested use.
 const MOST_ALTERNATES: usize = 4;
@@ -113,7 +114,7 @@ fn is_mapped(declared: &Declared, nest: u32, lower: u32) -> bool
         .as_slice()
         .get(declared.nests.find(nest) as usize)
     {
-        Some(row) => is_member(number, row.mapped.as_slice()),
+        Some(row) => row.mapped.contains(number),
         None => false,
     }
 }
@@ -190,10 +191,10 @@ fn has_handler(declared: &Declared, role: u32, exception: u32) -> bool
 }
 
 /// Whether the line declares or says again what was declared or said.
-pub(crate) fn is_twice(declared: &Declared, form: &Form) -> bool
-    ensures { result ≡ is_twice (so_far declared.now) form.now }
+pub(crate) fn is_twice(declared: &Declared, form: &Form) -> Result<bool, AllocError>
+    ensures { IfOk result (λ yes. yes ≡ is_twice (so_far declared.now) form.now) }
 {
-    match form {
+    let twice = match form {
         Form::Participant(name) => declared.participants.contains(*name),
         Form::Object(name, _) => declared.objects.contains(*name),
         Form::Drill(object, nth) => is_drilled(declared, declared.objects.find(*object), *nth),
@@ -204,8 +205,12 @@ pub(crate) fn is_twice(declared: &Declared, form: &Form) -> bool
         Form::Internal(_) => declared.internal.is_some(),
         Form::Interface(_) => declared.interface.is_some(),
         Form::Fault(_) => declared.fault.is_some(),
-        Form::Uses(objects) => !declared.uses.is_empty() || has_twice(objects.items()),
-        Form::Roles(roles) => !declared.roles.is_empty() || has_twice(roles.items()),
+        Form::Uses(objects) => {
+            !declared.uses.is_empty() || has_twice(declared.alloc, objects.items())?
+        }
+        Form::Roles(roles) => {
+            !declared.roles.is_empty() || has_twice(declared.alloc, roles.items())?
+        }
         Form::Nest(nest, _, _) => declared.nests.contains(*nest),
         Form::Map(nest, lower, _) => is_mapped(declared, *nest, *lower),
         Form::MapUndo(nest, _) => has_undo(declared, *nest),
@@ -214,7 +219,8 @@ pub(crate) fn is_twice(declared: &Declared, form: &Form) -> bool
         Form::Body(role) => is_member(declared.roles.find(*role), &declared.bodies),
         Form::Handler(role, exception) => has_handler(declared, *role, *exception),
         _ => false,
-    }
+    };
+    Ok(twice)
 }
 
 // ---- roles that aren't filled
@@ -266,13 +272,13 @@ pub(crate) fn is_unfilled(declared: &Declared, form: &Form) -> bool
 }
 
 /// Whether the line fills two roles by one.
-pub(crate) fn fills_twice(form: &Form) -> bool
-    ensures { result ≡ fills_twice form.now }
+pub(crate) fn fills_twice(alloc: Global, form: &Form) -> Result<bool, AllocError>
+    ensures { IfOk result (λ yes. yes ≡ fills_twice form.now) }
 {
     match form {
-        Form::Play(_, who) => has_twice(who.items()),
-        Form::Nest(_, _, roles) => has_twice(roles.items()),
-        _ => false,
+        Form::Play(_, who) => has_twice(alloc, who.items()),
+        Form::Nest(_, _, roles) => has_twice(alloc, roles.items()),
+        _ => Ok(false),
     }
 }
 
@@ -294,7 +300,7 @@ pub(crate) fn enters_otherwise(declared: &Declared, form: &Form) -> bool
 fn holds(declared: &Declared, object: u32) -> bool
     ensures { result ≡ holds (so_far declared.now) object }
 {
-    is_member(declared.objects.find(object), &declared.uses)
+    declared.uses.contains(declared.objects.find(object))
 }
 
 /// Whether the action uses all objects of another one.

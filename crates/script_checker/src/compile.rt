@@ -27,18 +27,18 @@ use exception_graph::Graph;
 use place_plan::draft::Draft;
 use place_plan::draft_rows::GraphRow;
 use place_plan::plan::{Plan, PlanError};
-use std::alloc::Global;
+use std::alloc::{AllocError, Global};
 
 /// The first cause of a line that its names alone tell.
-fn name_cause(declared: &Declared, form: &Form) -> Option<CheckCause>
-    ensures { result ≡ name_cause (so_far declared.now) form.now }
+fn name_cause(declared: &Declared, form: &Form) -> Result<Option<CheckCause>, AllocError>
+    ensures { IfOk result (λ cause. cause ≡ name_cause (so_far declared.now) form.now) }
 {
     if is_unknown(declared, form) {
-        Some(CheckCause::Unknown)
-    } else if is_twice(declared, form) {
-        Some(CheckCause::Twice)
+        Ok(Some(CheckCause::Unknown))
+    } else if is_twice(declared, form)? {
+        Ok(Some(CheckCause::Twice))
     } else {
-        None
+        Ok(None)
     }
 }
 
@@ -60,19 +60,19 @@ fn size_cause(declared: &Declared, form: &Form) -> Option<CheckCause>
 }
 
 /// The first cause of a line that roles and objects tell, or those.
-fn part_cause(declared: &Declared, form: &Form) -> Option<CheckCause>
-    ensures { result ≡ part_cause (so_far declared.now) form.now }
+fn part_cause(declared: &Declared, form: &Form) -> Result<Option<CheckCause>, AllocError>
+    ensures { IfOk result (λ cause. cause ≡ part_cause (so_far declared.now) form.now) }
 {
     if is_unfilled(declared, form) {
-        Some(CheckCause::RoleUnfilled)
-    } else if fills_twice(form) {
-        Some(CheckCause::RoleTwice)
+        Ok(Some(CheckCause::RoleUnfilled))
+    } else if fills_twice(declared.alloc, form)? {
+        Ok(Some(CheckCause::RoleTwice))
     } else if enters_otherwise(declared, form) {
-        Some(CheckCause::NestOrder)
+        Ok(Some(CheckCause::NestOrder))
     } else if is_not_held(declared, form) {
-        Some(CheckCause::ObjectNotHeld)
+        Ok(Some(CheckCause::ObjectNotHeld))
     } else {
-        size_cause(declared, form)
+        Ok(size_cause(declared, form))
     }
 }
 
@@ -82,15 +82,19 @@ fn check(declared: &Declared, form: &Form) -> Result<Option<Graph>, CheckCause>
     ensures accepted { OnOk result (HasNone (so_far declared.now) form.now) }
     ensures refused { IfErr result (λ c. c ≢ cause.OutOfMemory → IsLeast (so_far declared.now) form.now c) }
 {
-    match name_cause(declared, form) {
-        Some(cause) => Err(cause),
-        None => match graph_of(declared, form) {
-            Ok(graph) => match part_cause(declared, form) {
+    let of_names = name_cause(declared, form)?;
+    if let Some(cause) = of_names {
+        return Err(cause);
+    }
+    match graph_of(declared, form) {
+        Err(cause) => Err(cause),
+        Ok(graph) => {
+            let of_parts = part_cause(declared, form)?;
+            match of_parts {
                 Some(cause) => Err(cause),
                 None => Ok(graph),
-            },
-            Err(cause) => Err(cause),
-        },
+            }
+        }
     }
 }
 

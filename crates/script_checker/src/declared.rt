@@ -48,7 +48,7 @@ pub struct Declared {
     pub internal: Option<u32>,
     pub interface: Option<u32>,
     pub fault: Option<u32>,
-    pub uses: Vec<u32>,
+    pub uses: NumberList,
     pub roles: NumberList,
     pub role_rows: Vec<RoleRow>,
     /// Those of its roles that have a body.
@@ -130,7 +130,7 @@ impl Declared {
             internal: None,
             interface: None,
             fault: None,
-            uses: Vec::new(alloc),
+            uses: NumberList::new(alloc),
             roles: NumberList::new(alloc),
             role_rows: Vec::new(alloc),
             bodies: Vec::new(alloc),

@@ -12,7 +12,7 @@ use crate::declared::Declared;
 use crate::number_list::NumberList;
 use std::alloc::{AllocError, Global};
 
-/// Whether a number is in a list.
+/// Whether a number is in a list, which is a short one.
 pub(crate) fn is_member(number: u32, list: &[u32]) -> bool
     ensures { result ≡ member number list.now }
 {
@@ -27,22 +27,26 @@ pub(crate) fn are_among(names: &NumberList, some: &[u32]) -> bool
 }
 
 /// Whether each of some numbers is in a list.
-pub(crate) fn are_members(numbers: &[u32], list: &[u32]) -> bool
+pub(crate) fn are_members(numbers: &[u32], list: &NumberList) -> bool
     ensures { result ≡ list_all (λ o. member o list.now) numbers.now }
 {
-    numbers.iter().all(|number| is_member(*number, list))
+    numbers.iter().all(|number| list.contains(*number))
 }
 
 /// Whether a number stands twice in a list.
-pub(crate) fn has_twice(list: &[u32]) -> bool
-    ensures { result ≡ has_twice list.now }
+///
+/// It goes over the numbers once, from the last one back, with a table of those that it has met.
+pub(crate) fn has_twice(alloc: Global, list: &[u32]) -> Result<bool, AllocError>
+    ensures { IfOk result (λ yes. yes ≡ has_twice list.now) }
 {
-    for (index, number) in list.iter().enumerate() {
-        if is_member(*number, &list[index + 1..]) {
-            return true;
+    let mut met = NumberList::new(alloc);
+    for index in (0..list.len()).rev() {
+        if met.contains(list[index]) {
+            return Ok(true);
         }
+        met.push(list[index])?;
     }
-    false
+    Ok(false)
 }
 
 /// The numbers of some names among those.
@@ -172,16 +176,16 @@ pub(crate) fn face_of(declared: &Declared, nest: u32) -> u32
 /// The numbers of those names that are among some others, in order.
 pub(crate) fn chosen(
     alloc: Global,
-    some: &[u32],
+    some: &NumberList,
     names: &NumberList,
-) -> Result<Vec<u32>, AllocError>
-    ensures { IfOk result (λ numbers. numbers.items ≡ chosen_from 0 some.now names.now) }
+) -> Result<NumberList, AllocError>
+    ensures { IfOk result (λ numbers. numbers ≡ chosen_from 0 some.now names.now) }
 {
-    let mut numbers = Vec::new(alloc);
+    let mut numbers = NumberList::new(alloc);
     let items = names.items();
     let count = names.len();
     for number in 0..count {
-        if is_member(items[number as usize], some) {
+        if some.contains(items[number as usize]) {
             numbers.push(number)?;
         }
     }

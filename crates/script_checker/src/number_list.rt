@@ -1,24 +1,37 @@
-ghost use Rattle.std.specs.Prelude.{◌≡◌, ◌<◌, ◌++◌, ◌∷◌, [], ◌^◌, length, OnOk, OnErr, IfOk};
-ghost use Rattle.caa_base.specs.Lists.{index_of, is_empty};
+ghost use Rattle.std.specs.Prelude.{◌≡◌, ◌<◌, ◌++◌, ◌∷◌, [], length, nat_eq, slice_get, Some, OnOk, OnErr, IfOk};
+ghost use Rattle.std.specs.Option.{option_eq};
+ghost use Rattle.caa_base.specs.Lists.{member, index_of, is_empty};
 ghost use Rattle.script_checker.specs.Numbers.{is_among};
 
 use std::alloc::{AllocError, Global};
+use std::collections::HashMap;
 use std::marker::Model;
 
 /// Names in the order in which they were declared, seen as the list of their numbers in the script.
+///
+/// A table has the place of each, so a name is found in one look however many there are.
 #[derive(Drop)]
 pub struct NumberList {
     items: Vec<u32>,
+    places: HashMap<u32, u32>,
 }
 
 impl Model for NumberList {
-    ghost use Rattle.std.specs.Prelude.{List, ℕ, ◌<◌, ◌^◌, length};
+    ghost use Rattle.std.specs.Prelude.{List, ℕ, ◌<◌, length};
+    ghost use Rattle.script_checker.specs.NumberTable.{IsTableOf};
 
     ghost Value = { List ℕ };
 
     ghost view = { λ n. n.items.items };
 
-    ghost invariant = { λ n. length n.items.items < 4294967295 };
+    ghost invariant = { λ n. (length n.items.items < 4294967295) × IsTableOf n.places n.items.items };
+}
+
+/// Whether this name stands at a place.
+fn stands_at(names: &[u32], place: u32, name: u32) -> bool
+    ensures { result ≡ option_eq nat_eq (slice_get names.now place) (Some name) }
+{
+    names.get(place as usize).copied() == Some(name)
 }
 
 impl NumberList {
@@ -28,6 +41,7 @@ impl NumberList {
     {
         NumberList {
             items: Vec::new(alloc),
+            places: HashMap::new(alloc),
         }
     }
 
@@ -35,12 +49,11 @@ impl NumberList {
     pub fn from_slice(alloc: Global, names: &[u32]) -> Result<NumberList, AllocError>
         ensures { IfOk result (λ list. list ≡ names.now) }
     {
-        if names.len() >= 4_294_967_295 {
-            return Err(AllocError);
+        let mut list = NumberList::new(alloc);
+        for name in names {
+            list.push(*name)?;
         }
-        Ok(NumberList {
-            items: Vec::from_slice(alloc, names)?,
-        })
+        Ok(list)
     }
 
     /// Adds a name at the end. A list that can't grow any more wants memory too.
@@ -48,8 +61,12 @@ impl NumberList {
         ensures added { OnOk result (self.new ≡ self.old ++ name ∷ []) }
         ensures refused { OnErr result (self.new ≡ self.old) }
     {
-        if self.items.len() >= 4_294_967_294 {
+        let count = self.items.len();
+        if count >= 4_294_967_294 {
             return Err(AllocError);
+        }
+        if !self.contains(name) {
+            self.places.insert(name, count as u32)?;
         }
         self.items.push(name)?;
         Ok(())
@@ -75,19 +92,26 @@ impl NumberList {
         ensures place { result ≡ index_of name self.now }
         ensures small { result < 4294967295 }
     {
-        for (place, item) in self.items.iter().enumerate() {
-            if *item == name {
-                return place as u32;
-            }
+        match self.places.get(&name) {
+            Some(place) if stands_at(&self.items, *place, name) => *place,
+            _ => self.items.len() as u32,
         }
-        self.items.len() as u32
     }
 
     /// Whether a name is there.
+    #[tactic(auto, using(crate::proofs::NumberTables::among_is_member))]
     pub fn contains(&self, name: u32) -> bool
-        ensures { result ≡ is_among self.now name }
+        ensures found { result ≡ is_among self.now name }
+        ensures listed { result ≡ member name self.now }
     {
         self.find(name) < self.len()
+    }
+
+    /// The names, in order.
+    pub fn into_items(self) -> Vec<u32>
+        ensures { result.items ≡ self }
+    {
+        self.items
     }
 
     /// The names.

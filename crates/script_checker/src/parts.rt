@@ -26,7 +26,7 @@ pub struct DeclaredGraph {
 #[derive(Drop)]
 pub struct NestSaid {
     /// The exceptions that have a `map` line.
-    pub mapped: Rows<u32>,
+    pub mapped: NumberList,
     /// Whether it has a `mapundo` line.
     pub has_undo: bool,
     /// Whether it has a `mapfailure` line.

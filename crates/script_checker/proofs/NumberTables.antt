@@ -1,0 +1,175 @@
+-- Lemmas on lists of names and the tables of their places.
+use Rattle.std.proofs.Common.{◌≡◌, ℕ, ◌==◌, ◌+◌, ◌<◌, ◌≤◌, Bool, true, false, cond, nat_lt, nat_eq, List, [], ◌∷◌, ◌++◌, ◌||◌, length, slice_get, Some, None, Option, drop, reverse, get_or, add-one, refl, sym, ap, subst, ◌∙◌, arith, zero, suc, inl, inr, ◌⊎◌}
+use Rattle.std.proofs.lemmas.Bool.{eqb-true, eq-eqb, ne_eqb, false≢true, cases_eq, cases_lt, cases_Bool, or_left, or_right, lt-ltb, le-ltb, ltb-true, ltb-false}
+use Rattle.std.proofs.lemmas.List.{length-append, reverse-append}
+use Rattle.std.proofs.lemmas.List.Folds.{list_any-append}
+use Rattle.std.proofs.Math.Seq.{drop-cons}
+use Rattle.std.specs.Option.{option_eq}
+use Rattle.std.specs.HashMap.{HashMap, get}
+use Rattle.caa_base.specs.Lists.{member, index_of}
+use Rattle.caa_base.proofs.ListLemmas.{index_within}
+use Rattle.script_checker.specs.Numbers.{is_among, has_twice}
+use Rattle.script_checker.specs.NumberTable.{IsTableOf}
+
+-- a name that isn't among these counts by how many they are
+pub absent_at_end : (name : ℕ) (names : List ℕ) → is_among names name ≡ false → index_of name names ≡ length names
+absent_at_end name names not = omega (arith, ltb-false (index_of name names) (length names) not, index_within name names)
+
+-- a name is among these, or counts by how many they are
+pub among_or_end : (name : ℕ) (names : List ℕ) → (is_among names name ≡ true) ⊎ ((is_among names name ≡ false) × (index_of name names ≡ length names))
+among_or_end name names = elim (cases_Bool (is_among names name)) [
+  | inl here ↦ inl here
+  | inr not ↦ inr (not, absent_at_end name names not)
+]
+
+-- where a name stands, it is among these
+among_at : (name : ℕ) (names : List ℕ) (i : ℕ) → slice_get names i ≡ Some name → is_among names name ≡ true
+among_at name names i there = let at = first_at names i there in lt-ltb (index_of name names) (length names) (omega (arith, at.0, at.1))
+  where
+    step : (b : Bool) (m n : ℕ) → m ≤ n → cond b 0 (suc m) ≤ suc n
+    step true m n l = omega arith
+    step false m n l = omega arith
+
+    first_at : (xs : List ℕ) (i : ℕ) → slice_get xs i ≡ Some name → (index_of name xs ≤ i) × (i < length xs)
+    first_at [] i h = absurd cc
+    first_at (x ∷ xs) zero h = let same : x ≡ name = cc in (rw (eq-eqb x name same) (omega arith), omega arith)
+    first_at (x ∷ xs) (suc i) h = let rest = first_at xs i h in (step (x == name) (index_of name xs) i rest.0, omega (arith, rest.1))
+
+-- a name that is among these stands where it is said to
+at_index : (name : ℕ) (names : List ℕ) → is_among names name ≡ true → slice_get names (index_of name names) ≡ Some name
+at_index name [] h = absurd (false≢true h)
+at_index name (x ∷ xs) h = by (x == name) refl h (at_index name xs)
+  where
+    by : (b : Bool) → (x == name) ≡ b → nat_lt (cond b 0 (suc (index_of name xs))) (suc (length xs)) ≡ true → (is_among xs name ≡ true → slice_get xs (index_of name xs) ≡ Some name)
+        → slice_get (x ∷ xs) (cond b 0 (suc (index_of name xs))) ≡ Some name
+    by true e l k = ap Some (eqb-true x name e)
+    by false e l k = k (lt-ltb (index_of name xs) (length xs) (omega (arith, ltb-true (suc (index_of name xs)) (suc (length xs)) l)))
+
+module _ {S : Type 0} (table : HashMap ℕ ℕ S) (names : List ℕ) (name : ℕ) (is : IsTableOf table names) where
+  -- the table says where a name stands, if the name is there
+  pub found_at : (place : ℕ) → get nat_eq table name ≡ Some place → option_eq nat_eq (slice_get names place) (Some name) ≡ true → place ≡ index_of name names
+  found_at place h there = let told = is name (among_at name names place (same_some (slice_get names place) there)) in cc
+    where
+      same_some : (o : Option ℕ) → option_eq nat_eq o (Some name) ≡ true → o ≡ Some name
+      same_some None e = absurd (false≢true e)
+      same_some (Some x) e = ap Some (eqb-true x name e)
+
+  -- where it says nothing, the name isn't there
+  pub not_told : get nat_eq table name ≡ None → length names ≡ index_of name names
+  not_told h = elim (among_or_end name names) [
+    | inl here ↦ let told = is name here in absurd cc
+    | inr end ↦ sym end.1
+  ]
+
+  -- nor where another name stands at the place that it says
+  pub told_wrong : (place : ℕ) → get nat_eq table name ≡ Some place → option_eq nat_eq (slice_get names place) (Some name) ≡ false → length names ≡ index_of name names
+  told_wrong place h other = elim (among_or_end name names) [
+    | inl here ↦
+        let told = is name here in
+        let same : place ≡ index_of name names = cc in
+        absurd (false≢true (sym other ∙ rw (same, at_index name names here) (eq-eqb name name refl)))
+    | inr end ↦ sym end.1
+  ]
+
+-- one more name at the end moves none of those before it
+pub index_before_more : (name more : ℕ) (names : List ℕ) → index_of name names < length names → index_of name (names ++ more ∷ []) ≡ index_of name names
+index_before_more name more [] l = absurd (omega arith)
+index_before_more name more (x ∷ xs) l = by (x == name) l (index_before_more name more xs)
+  where
+    by : (b : Bool) → cond b 0 (suc (index_of name xs)) < suc (length xs) → (index_of name xs < length xs → index_of name (xs ++ more ∷ []) ≡ index_of name xs)
+        → cond b 0 (suc (index_of name (xs ++ more ∷ []))) ≡ cond b 0 (suc (index_of name xs))
+    by true h k = refl
+    by false h k = ap suc (k (omega arith))
+
+-- and stands after them where it wasn't among them
+pub index_of_new : (name : ℕ) (names : List ℕ) → index_of name names ≡ length names → index_of name (names ++ name ∷ []) ≡ length names
+index_of_new name [] h = rw (eq-eqb name name refl) refl
+index_of_new name (x ∷ xs) h = by (x == name) h (index_of_new name xs)
+  where
+    by : (b : Bool) → cond b 0 (suc (index_of name xs)) ≡ suc (length xs) → (index_of name xs ≡ length xs → index_of name (xs ++ name ∷ []) ≡ length xs)
+        → cond b 0 (suc (index_of name (xs ++ name ∷ []))) ≡ suc (length xs)
+    by true g k = absurd (omega (arith, g))
+    by false g k = ap suc (k (omega (arith, g)))
+
+-- another name at the end isn't that one
+pub index_past_other : (name more : ℕ) (names : List ℕ) → (more ≡ name → ⊥) → index_of name names ≡ length names → index_of name (names ++ more ∷ []) ≡ suc (length names)
+index_past_other name more [] other h = rw (ne_eqb more name other) refl
+index_past_other name more (x ∷ xs) other h = by (x == name) h (index_past_other name more xs other)
+  where
+    by : (b : Bool) → cond b 0 (suc (index_of name xs)) ≡ suc (length xs) → (index_of name xs ≡ length xs → index_of name (xs ++ more ∷ []) ≡ suc (length xs))
+        → cond b 0 (suc (index_of name (xs ++ more ∷ []))) ≡ suc (suc (length xs))
+    by true g k = absurd (omega (arith, g))
+    by false g k = ap suc (k (omega (arith, g)))
+
+module _ {S : Type 0} (old : HashMap ℕ ℕ S) (names : List ℕ) (name : ℕ) where
+  -- a table stays one where the list gets a name that it has
+  pub table_of_again : IsTableOf old names → is_among names name ≡ true → IsTableOf old (names ++ name ∷ [])
+  table_of_again is here other there = elim (among_or_end other names) [
+    | inl old_one ↦ is other old_one ∙ ap Some (sym (index_before_more other name names (ltb-true _ _ old_one)))
+    | inr end ↦ absurd (omega (arith, ltb-true _ _ there, index_past_other other name names (apart other end) end.1, length-append names (name ∷ [])))
+  ]
+    where
+      apart : (other : ℕ) → (is_among names other ≡ false) × (index_of other names ≡ length names) → name ≡ other → ⊥
+      apart other end same = false≢true (sym end.0 ∙ subst (λ n. is_among names n ≡ true) same here)
+
+  -- and one where both get a new name
+  pub table_of_more : (new : HashMap ℕ ℕ S) → IsTableOf old names → index_of name names ≡ length names → ((other : ℕ) → get nat_eq new other ≡ cond (nat_eq name other) (Some (length names)) (get nat_eq old other)) → IsTableOf new (names ++ name ∷ [])
+  table_of_more new is end says other there = says other ∙ elim (cases_eq name other) [
+    | inl same ↦ rw (eq-eqb name other same) (ap Some (sym (subst (λ n. index_of n (names ++ name ∷ []) ≡ length names) same (index_of_new name names end))))
+    | inr apart ↦ rw (ne_eqb name other apart) (elim (among_or_end other names) [
+      | inl old_one ↦ is other old_one ∙ ap Some (sym (index_before_more other name names (ltb-true _ _ old_one)))
+      | inr past ↦ absurd (omega (arith, ltb-true _ _ there, index_past_other other name names apart past.1, length-append names (name ∷ [])))
+    ])
+  ]
+
+-- ---- members
+
+one_more : (m n : ℕ) → nat_lt (suc m) (suc n) ≡ nat_lt m n
+one_more m n = elim (cases_lt m n) [
+  | inl l ↦ lt-ltb (suc m) (suc n) (omega arith) ∙ sym (lt-ltb m n l)
+  | inr l ↦ le-ltb (suc m) (suc n) (omega arith) ∙ sym (le-ltb m n l)
+]
+
+-- a name is among these just where it is a member
+pub among_is_member : (name : ℕ) (names : List ℕ) → is_among names name ≡ member name names
+among_is_member name [] = refl
+among_is_member name (x ∷ xs) = by (x == name) (among_is_member name xs)
+  where
+    by : (b : Bool) → is_among xs name ≡ member name xs → nat_lt (cond b 0 (suc (index_of name xs))) (suc (length xs)) ≡ (b || member name xs)
+    by true h = lt-ltb 0 (suc (length xs)) (omega arith)
+    by false h = one_more (index_of name xs) (length xs) ∙ h
+
+-- a member is one from either end
+member_reverse : (x : ℕ) (xs : List ℕ) → member x (reverse xs) ≡ member x xs
+member_reverse x [] = refl
+member_reverse x (y ∷ ys) =
+    ap (member x) (reverse-append (y ∷ []) ys) ∙ list_any-append (λ z. z == x) (reverse ys) (y ∷ []) ∙ rw (member_reverse x ys) (swap (member x ys) (y == x))
+  where
+    swap : (a b : Bool) → (a || (b || false)) ≡ (b || a)
+    swap true true = refl
+    swap true false = refl
+    swap false true = refl
+    swap false false = refl
+
+-- ---- numbers that stand twice
+
+-- what stands twice in the rest stands twice
+twice_of_rest : (i : ℕ) (xs : List ℕ) → has_twice (drop i xs) ≡ true → has_twice xs ≡ true
+twice_of_rest zero xs h = h
+twice_of_rest (suc i) [] h = h
+twice_of_rest (suc i) (x ∷ xs) h = or_right (member x xs) (has_twice xs) (twice_of_rest i xs h)
+
+module _ (xs met : List ℕ) (i j d : ℕ) (next : i + 1 ≡ j) (within : i < length xs) (back : met ≡ reverse (drop j xs)) where
+  rest : drop i xs ≡ get_or xs i d ∷ drop j xs
+  rest = rw (← next, add-one) (drop-cons xs i d within)
+
+  is_met : member (get_or xs i d) met ≡ member (get_or xs i d) (drop j xs)
+  is_met = ap (member (get_or xs i d)) back ∙ member_reverse (get_or xs i d) (drop j xs)
+
+  -- a number that was met on the way back stands twice
+  pub twice_found : member (get_or xs i d) met ≡ true → has_twice xs ≡ true
+  twice_found h = twice_of_rest i xs (rw rest (or_left _ _ (sym is_met ∙ h)))
+
+  -- one that wasn't doesn't yet
+  pub twice_next : member (get_or xs i d) met ≡ false → has_twice (drop j xs) ≡ false → (met ++ get_or xs i d ∷ [] ≡ reverse (drop i xs)) × (has_twice (drop i xs) ≡ false)
+  twice_next h none = (rw (rest, back) (sym (reverse-append (get_or xs i d ∷ []) (drop j xs))), rw rest (rw (sym is_met ∙ h) none))
