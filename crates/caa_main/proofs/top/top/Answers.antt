@@ -1,4 +1,4 @@
-use Rattle.std.proofs.Common.{Some, ap, sym, ◌∙◌}
+use Rattle.std.proofs.Common.{rules, Some, ap, sym, ◌∙◌}
 use Rattle.caa_main.proofs.CallsServed.{complete}
 use Rattle.caa_main.proofs.ToldCalls.{answered}
 use Rattle.caa_main.proofs.top.top.Goals as goal
@@ -10,3 +10,6 @@ returns-in-Some-Run-clause-answer g c =
 
 pub returns-in-Some-Run-clause-completeness : goal.returns-in-Some-Run-clause-completeness
 returns-in-Some-Run-clause-completeness g c = complete _ _ _ (returns-in-Some-Run-clause-answer g c)
+
+pub returns-in_default-clause-completeness : goal.returns-in_default-clause-completeness
+returns-in_default-clause-completeness g c = complete _ _ _ (search rules)
