@@ -175,10 +175,10 @@ def statuses(program):
         return open(os.path.join(CASES, name), "rb")
 
     long_bound = lines(["participant p", "action a", "roles r", "end"] + ["play a p"] * 60000).encode()
-    compare("status 0", program, ["check"], 0, None, stdin=case("first_cycle"))
+    compare("status 0", program, ["check"], 0, "ok participants 2 objects 1 places 1 bound 23\n", stdin=case("first_cycle"))
     compare("status 1", program, ["sim", "1"], 1, None, stdin=case("stuck_valve"))
     compare("status 2", program, ["check", "1"], 2, None, stdin=case("first_cycle"))
-    compare("status 3, from a folder", program, ["check"], 3, b"fault source\n".decode(), stdin=os.open(CASES, os.O_RDONLY))
+    compare("status 3, from a folder", program, ["check"], 3, "fault source\n", stdin=os.open(CASES, os.O_RDONLY))
     compare("status 3, closed", program, ["check"], 3, "fault source\n", preexec_fn=lambda: os.close(0))
     compare("status 4", program, ["check"], 4, None, stdin=case("two_stops"))
     compare("status 5", program, ["sim", "1"], 5, None, stdin=case("first_cycle"), stdout=open("/dev/full", "wb"))
