@@ -1,5 +1,5 @@
 -- What can be served is served, what is to be found is told, and what is to be refused is refused; or memory was wanting.
-use Rattle.std.proofs.Common.{◌≡◌, ℕ, ◌+◌, ◌<◌, ◌≤◌, Bool, true, false, List, [], ◌∷◌, ◌++◌, length, length-append, Option, Some, None, IfSome, Ok, Err, inl, inr, ◌⊎◌, refl, sym, ap, ◌∙◌, subst, subst₂, arith}
+use Rattle.std.proofs.Common.{◌≡◌, ℕ, ◌+◌, ◌<◌, ◌≤◌, true, false, List, [], ◌++◌, length, length-append, Option, Some, None, IfSome, Ok, Err, inl, inr, ◌⊎◌, refl, sym, ap, ◌∙◌, subst, subst₂, arith}
 use Rattle.std.specs.Io.KnownBytes.{append_known}
 use Rattle.caa_base.specs.Counts.{Rose}
 use Rattle.caa_base.specs.Limits.{most_script_bytes}
@@ -21,7 +21,7 @@ use Rattle.caa_main.specs.declared.status.Status.TheVariants as status
 use Rattle.caa_main.specs.Findings.{status_of, finding_text}
 use Rattle.caa_main.specs.Inputs.{most_bytes, script_in}
 use Rattle.caa_main.specs.Scripts.{HasPlan, IsRefusedScript}
-use Rattle.caa_main.specs.OutsideUse.{SourceUse, SinkUse, Left, Call}
+use Rattle.caa_main.specs.OutsideUse.{SinkUse, Left, Call}
 use Rattle.caa_main.specs.Calls.{CheckComesTo, EndsAs, DoesNotBegin, AuditComesTo, PlanComesTo, InputComesTo, IsNotServed, IsUnread, IsRead, HasStopped, unread_finding, CameTo, with_journal, Tells, Answers}
 use Rattle.caa_main.specs.Served.{IsGiven, WasTold, IsServable, WasServed, IsToFind, legal_journal, illegal_line, too_many_entries, IsAuditable, HoldsRefused, IsRefusable, WasRefused, MissesNothing}
 use Rattle.caa_main.proofs.NotRefused.{plan_not_refused}

@@ -1,5 +1,5 @@
 -- What an audit is to find by a plan is one finding alone.
-use Rattle.std.proofs.Common.{◌≡◌, ◌⊎◌, ℕ, zero, suc, ◌+◌, ◌<◌, ◌≤◌, List, [], ◌∷◌, length, reverse, take, get_or, Some, None, Err, inl, inr, refl, sym, ap, ◌∙◌, subst, subst₂, arith}
+use Rattle.std.proofs.Common.{◌≡◌, ◌⊎◌, ℕ, zero, suc, ◌+◌, ◌<◌, ◌≤◌, List, [], ◌∷◌, length, reverse, take, Some, None, Err, inl, inr, refl, sym, ap, ◌∙◌, subst, arith}
 use Rattle.std.specs.List.{slice_get}
 use Rattle.std.proofs.lemmas.Bool.{cases_lt}
 use Rattle.std.proofs.lemmas.List.{take-take, take_all}
@@ -12,7 +12,6 @@ use Rattle.place_plan.specs.Journals.{LegalPast, IsLegal, IsComplete}
 use Rattle.journal_replay.specs.Audited.{IsFirstIllegal, IsUnfinished}
 use Rattle.journal_replay.proofs.Prefixes.{legal_front, reverse_more}
 use Rattle.journal_text.specs.declared.seens.Seen.{Seen}
-use Rattle.journal_text.specs.declared.text_reader.TextError.{TextError}
 use Rattle.journal_text.specs.declared.text_reader.TextError.TheVariants as error
 use Rattle.journal_text.specs.TextOfJournal.{IsText, HasTooMany, IsFirstBad}
 use Rattle.journal_text.proofs.ReadingLemmas.{Tells}
@@ -21,7 +20,7 @@ use Rattle.caa_main.specs.declared.fault.Refusal.{Refusal}
 use Rattle.caa_main.specs.declared.finding.Finding.{Finding}
 use Rattle.caa_main.specs.declared.finding.Finding.TheVariants as finding
 use Rattle.caa_main.specs.Inputs.{script_lines, journal_part}
-use Rattle.caa_main.specs.Judging.{wrong_look, IsLawful, IsUnlawful, IsWronglySeen, IsIllegalAt, IsIllegal, HasTooManyEntries}
+use Rattle.caa_main.specs.Judging.{wrong_look, IsLawful, IsUnlawful, IsWronglySeen, IsIllegalAt, HasTooManyEntries}
 use Rattle.caa_main.specs.Served.{IsToFind, legal_journal, illegal_line, too_many_entries}
 
 -- ---- the first entry that isn't legal

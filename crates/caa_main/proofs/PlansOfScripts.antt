@@ -1,5 +1,5 @@
 -- A script is no longer than it may be, and its plan tells a journal from its text.
-use Rattle.std.proofs.Common.{◌≡◌, ◌≢◌, ℕ, ◌+◌, ◌≤◌, ◌<◌, ◌^◌, ◌==◌, nat_lt, nat_le, if◌then◌else◌, Bool, true, false, cond, List, [], ◌∷◌, ◌++◌, length, length-append, Option, Some, None, Result, Ok, Err, refl, sym, ap, subst, arith}
+use Rattle.std.proofs.Common.{◌≡◌, ◌≢◌, ℕ, ◌+◌, ◌≤◌, ◌==◌, nat_lt, nat_le, if◌then◌else◌, Bool, true, false, cond, List, [], ◌∷◌, ◌++◌, length, length-append, Option, Some, None, Result, Ok, Err, refl, sym, ap, subst, arith}
 use Rattle.std.specs.List.{flat_map, slice_split, onto_first}
 use Rattle.std.proofs.lemmas.Bool.{ltb-false, leb-true, and_parts}
 use Rattle.std.proofs.lemmas.List.{length-map}
@@ -20,7 +20,7 @@ use Rattle.action_script.specs.CutLines.{lines_of, without_empty_last}
 use Rattle.action_script.specs.Kinds.{goes_to, at_top}
 use Rattle.action_script.specs.Printing.{AreScript, forms_of}
 use Rattle.action_script.specs.ScriptValue.{Script}
-use Rattle.action_script.specs.Spelling.{Numbered, before, with_line, said_from, line_of, names_of, script_names, line_by, script_by, script_of, reading_of}
+use Rattle.action_script.specs.Spelling.{Numbered, before, with_line, said_from, line_of, names_of, script_names, line_by, script_by, script_of}
 use Rattle.action_script.proofs.NamesCounted.{length-with_names, length-names_of}
 use Rattle.action_script.proofs.Speaking.{speaks, speaks-short}
 use Rattle.action_script.proofs.WellRead.{well_read}
