@@ -1,16 +1,14 @@
--- A call that can be served is served, or memory was wanting.
-use Rattle.std.proofs.Common.{◌≡◌, ℕ, ◌+◌, ◌≤◌, nat_lt, Bool, true, false, cond, List, [], ◌∷◌, ◌++◌, length, length-append, Option, Some, None, IfSome, Result, Ok, Err, inl, inr, ◌⊎◌, refl, sym, ap, ◌∙◌, subst, arith}
-use Rattle.std.proofs.lemmas.Bool.{ltb-false}
+-- What can be served is served, what is to be found is told, and what is to be refused is refused; or memory was wanting.
+use Rattle.std.proofs.Common.{◌≡◌, ℕ, ◌+◌, ◌<◌, ◌≤◌, true, false, List, [], ◌++◌, length, length-append, Option, Some, None, IfSome, Ok, Err, inl, inr, ◌⊎◌, refl, sym, ap, ◌∙◌, subst, subst₂, arith}
+use Rattle.std.specs.Io.KnownBytes.{append_known}
 use Rattle.caa_base.specs.Counts.{Rose}
 use Rattle.caa_base.specs.Limits.{most_script_bytes}
 use Rattle.caa_base.specs.Reading.{TookOff, TookUntil}
+use Rattle.caa_base.specs.declared.entry.Entry.{Entry}
 use Rattle.caa_base.specs.declared.reading.ReadError.{ReadError}
 use Rattle.caa_base.specs.declared.reading.ReadError.TheVariants as error
 use Rattle.action_script.specs.ScriptValue.{Script}
-use Rattle.action_script.specs.Spelling.{reading_of}
-use Rattle.action_script.specs.declared.script_error.ScriptError.{ScriptError}
 use Rattle.script_checker.specs.Compiled.{IsFirstRefused}
-use Rattle.caa_base.specs.declared.entry.Entry.{Entry}
 use Rattle.journal_text.specs.declared.seens.Seen.{Seen}
 use Rattle.place_plan.specs.PlanValue.{Plan}
 use Rattle.caa_main.specs.declared.command.Command.{Command}
@@ -20,30 +18,15 @@ use Rattle.caa_main.specs.declared.finding.Finding.{Finding}
 use Rattle.caa_main.specs.declared.finding.Finding.TheVariants as finding
 use Rattle.caa_main.specs.declared.status.Status.{Status}
 use Rattle.caa_main.specs.declared.status.Status.TheVariants as status
-use Rattle.caa_main.specs.Findings.{status_of}
+use Rattle.caa_main.specs.Findings.{status_of, finding_text}
 use Rattle.caa_main.specs.Inputs.{most_bytes, script_in}
 use Rattle.caa_main.specs.Scripts.{HasPlan, IsRefusedScript}
-use Rattle.caa_main.specs.OutsideUse.{SourceUse, SinkUse, Left, Call}
-use Rattle.caa_main.specs.Calls.{CheckComesTo, EndsAs, DoesNotBegin, PlanComesTo, InputComesTo, IsNotServed, HasStopped, unread_finding, CameTo, with_journal, Tells, Answers, IsServable, WasServed}
+use Rattle.caa_main.specs.OutsideUse.{SinkUse, Left, Call}
+use Rattle.caa_main.specs.Calls.{CheckComesTo, EndsAs, DoesNotBegin, AuditComesTo, PlanComesTo, InputComesTo, IsNotServed, IsUnread, IsRead, HasStopped, unread_finding, CameTo, with_journal, Tells, Answers}
+use Rattle.caa_main.specs.Served.{IsGiven, WasTold, IsServable, WasServed, IsToFind, legal_journal, illegal_line, too_many_entries, IsAuditable, HoldsRefused, IsRefusable, WasRefused, MissesNothing}
 use Rattle.caa_main.proofs.NotRefused.{plan_not_refused}
-
--- ---- a script that has a plan
-
-too_long_first : {T E : Type 0} (t : Bool) (e : E) (r : Result T E) (v : T) → cond t (Err e) r ≡ Ok v → t ≡ false
-too_long_first true e r v h = absurd cc
-too_long_first false e r v h = refl
-
--- it isn't longer than a script may be
-plan_short : (bytes : List ℕ) (plan : Plan) → HasPlan bytes plan → length bytes ≤ most_script_bytes
-plan_short bytes plan h = ltb-false most_script_bytes (length bytes) (too_long_first (nat_lt most_script_bytes (length bytes)) _ _ h.script h.spelled)
-
--- nor is it refused
-not_refused : (bytes : List ℕ) (plan : Plan) (refusal : Refusal) → HasPlan bytes plan → IsRefusedScript bytes refusal → ⊥
-not_refused bytes plan refusal h (inl m) = let both : Ok h.script ≡ Err m.error = sym h.spelled ∙ m.first in absurd cc
-not_refused bytes plan refusal h (inr u) =
-    let both : Ok h.script ≡ Ok u.script = sym h.spelled ∙ u.spelled in
-    let same : u.script ≡ h.script = cc in
-    plan_not_refused h.script plan u.error h.compiled (subst (λ (s : Script). IsFirstRefused s u.error) same u.first)
+use Rattle.caa_main.proofs.PlansOfScripts.{plan_short, plan_tells}
+use Rattle.caa_main.proofs.FoundAlone.{found_alone}
 
 -- ---- what was read
 
@@ -53,6 +36,58 @@ not_too_long bytes (Some rest) most l t =
     let front : Some bytes ≡ Some (t.bytes ++ rest) = t.front in
     let same : bytes ≡ t.bytes ++ rest = cc in
     absurd (omega (arith, t.number, ap length same, length-append t.bytes rest))
+
+module _ {P : Type 0} (call : Call P) (sink : SinkUse) (c : Command) (bytes : List ℕ) (given : IsGiven call sink c bytes) where
+  one_command : (d : Command) → call.asked ≡ Some d → d ≡ c
+  one_command d asked = let both : Some d ≡ Some c = sym asked ∙ given.asked in cc
+
+  -- an input that isn't too long was read, or memory was wanting
+  stopped : (most : ℕ) (e : ReadError) → length bytes ≤ most → TookUntil call.source.left_before call.source.left_after most e → HasStopped call.source e → unread_finding e ≡ finding.OutOfMemory
+  stopped most error.Fault short taken cause = absurd (given.read cause)
+  stopped most error.TooLong short taken cause =
+      absurd (not_too_long bytes call.source.left_after most short (subst (λ (o : Option (List ℕ)). TookOff o call.source.left_after (most + 1)) given.told taken))
+  stopped most error.OutOfMemory short taken cause = refl
+
+  unread : (found : Finding) → length bytes ≤ most_bytes c → IsUnread call found → found ≡ finding.OutOfMemory
+  unread found short u =
+      let most : length bytes ≤ most_bytes u.command = subst (λ d. length bytes ≤ most_bytes d) (sym (one_command u.command u.given)) short in
+      u.finding ∙ stopped (most_bytes u.command) u.error most u.taken u.cause
+
+  -- what was read is what the source told
+  own_bytes : (found : Finding) (r : IsRead call found) → r.bytes ≡ bytes
+  own_bytes found r = subst (λ o. IfSome o (λ rest. r.bytes ≡ rest)) given.told r.read.all
+
+  was_read : (found : Finding) → IsRead call found → InputComesTo c bytes found call.left
+  was_read found r = subst₂ (λ d b. InputComesTo d b found call.left) (one_command r.command r.given) (own_bytes found r) r.comes
+
+  input_comes : (found : Finding) → length bytes ≤ most_bytes c → CameTo call found → (InputComesTo c bytes found call.left) ⊎ (found ≡ finding.OutOfMemory)
+  input_comes found short (inl usage) = let none : Some c ≡ None = sym given.asked ∙ usage.cause in absurd cc
+  input_comes found short (inr (inl u)) = inr (unread found short u)
+  input_comes found short (inr (inr r)) = inl (was_read found r)
+
+  -- the same, where the call hands back another journal
+  given_with : (journal : List Entry) → IsGiven (with_journal call journal) sink c bytes
+  given_with journal = record { asked = given.asked; told = given.told; read = given.read; written = given.written }
+
+-- ---- what was told
+
+-- where this was found, or want of memory, it was told
+was_told : (found other : Finding) (journal handed : List Entry) (sink : SinkUse) (answer : Status) → (Rose sink.faults_before sink.faults_after → ⊥)
+    → (other ≡ found) ⊎ (other ≡ finding.OutOfMemory) → Tells other journal handed sink answer → WasTold found sink answer
+was_told found other journal handed sink answer quiet (inl same) (inl whole) = inl (whole.answered ∙ ap status_of same, whole.written ∙ ap (λ f. append_known sink.held_before (finding_text f)) same)
+was_told found other journal handed sink answer quiet (inr lost) (inl whole) = inr (whole.answered ∙ ap status_of lost)
+was_told found other journal handed sink answer quiet one (inr (inl cut)) = absurd (quiet cut.cause)
+was_told found other journal handed sink answer quiet one (inr (inr lost)) = inr lost.answered
+
+-- ---- a script that has a plan
+
+-- it isn't refused
+not_refused : (bytes : List ℕ) (plan : Plan) (refusal : Refusal) → HasPlan bytes plan → IsRefusedScript bytes refusal → ⊥
+not_refused bytes plan refusal h (inl m) = let both : Ok h.script ≡ Err m.error = sym h.spelled ∙ m.first in absurd cc
+not_refused bytes plan refusal h (inr u) =
+    let both : Ok h.script ≡ Ok u.script = sym h.spelled ∙ u.spelled in
+    let same : u.script ≡ h.script = cc in
+    plan_not_refused h.script plan u.error h.compiled (subst (λ (s : Script). IsFirstRefused s u.error) same u.first)
 
 -- a command other than `audit` reads a script
 most_of_script : (c : Command) → (c ≡ command.Audit → ⊥) → most_bytes c ≡ most_script_bytes
@@ -66,16 +101,6 @@ script_of_script command.Check bytes h = refl
 script_of_script (command.Sim seed) bytes h = refl
 script_of_script command.Run bytes h = refl
 script_of_script command.Audit bytes h = absurd (h refl)
-
--- ---- what was found
-
--- a reading that stopped found want of memory
-stopped_served : (source : SourceUse) (bytes : List ℕ) (most : ℕ) (e : ReadError) → source.left_before ≡ Some bytes → length bytes ≤ most
-    → (Rose source.faults_before source.faults_after → ⊥) → TookUntil source.left_before source.left_after most e → HasStopped source e → WasServed (status_of (unread_finding e))
-stopped_served source bytes most error.Fault told short quiet taken cause = absurd (quiet cause)
-stopped_served source bytes most error.TooLong told short quiet taken cause =
-    absurd (not_too_long bytes source.left_after most short (subst (λ (o : Option (List ℕ)). TookOff o source.left_after (most + 1)) told taken))
-stopped_served source bytes most error.OutOfMemory told short quiet taken cause = inr (inr refl)
 
 -- a play that ended is served, or its text found no memory
 ended_served : (plan : Plan) (journal : List Entry) (seens : List Seen) (found : Finding) → EndsAs plan journal seens found → WasServed (status_of found)
@@ -124,49 +149,126 @@ plan_served command.Run plan bytes found left other laid (inl played) = ended_se
 plan_served command.Run plan bytes found left other laid (inr unopened) = begun_served found left laid unopened
 
 -- a script that has a plan isn't turned away
-away_served : {P : Type 0} (c : Command) (bytes : List ℕ) (plan : Plan) (found : Finding) (left : Left P) → HasPlan (script_in c bytes) plan
-    → IsNotServed c bytes found left → WasServed (status_of found)
-away_served c bytes plan (finding.Refused refusal) left script h = absurd (not_refused (script_in c bytes) plan refusal script h.0)
-away_served c bytes plan finding.OutOfMemory left script h = inr (inr refl)
-away_served c bytes plan finding.Usage left script h = elim h [ ]
-away_served c bytes plan finding.SourceFault left script h = elim h [ ]
-away_served c bytes plan finding.PlantFault left script h = elim h [ ]
-away_served c bytes plan (finding.Checked counts) left script h = elim h [ ]
-away_served c bytes plan (finding.Played failed text) left script h = elim h [ ]
-away_served c bytes plan (finding.Legal entries) left script h = elim h [ ]
-away_served c bytes plan (finding.Illegal line) left script h = elim h [ ]
+not_away : {P : Type 0} (c : Command) (bytes : List ℕ) (plan : Plan) (found : Finding) (left : Left P) → HasPlan (script_in c bytes) plan → IsNotServed c bytes found left → found ≡ finding.OutOfMemory
+not_away c bytes plan (finding.Refused refusal) left script h = absurd (not_refused (script_in c bytes) plan refusal script h.0)
+not_away c bytes plan finding.OutOfMemory left script h = refl
+not_away c bytes plan finding.Usage left script h = elim h [ ]
+not_away c bytes plan finding.SourceFault left script h = elim h [ ]
+not_away c bytes plan finding.PlantFault left script h = elim h [ ]
+not_away c bytes plan (finding.Checked counts) left script h = elim h [ ]
+not_away c bytes plan (finding.Played failed text) left script h = elim h [ ]
+not_away c bytes plan (finding.Legal entries) left script h = elim h [ ]
+not_away c bytes plan (finding.Illegal line) left script h = elim h [ ]
 
--- ---- the call
+lost_served : (found : Finding) → found ≡ finding.OutOfMemory → WasServed (status_of found)
+lost_served found lost = inr (inr (ap status_of lost))
 
-same_command : (words : Option Command) (c d : Command) → words ≡ Some c → words ≡ Some d → c ≡ d
-same_command words c d a b = let both : Some c ≡ Some d = sym a ∙ b in cc
-
-found_served : {P : Type 0} (call : Call P) (sink : SinkUse) (found : Finding) → CameTo call found → IsServable call sink → WasServed (status_of found)
-found_served call sink found (inl usage) h = let none : Some h.served ≡ None = sym h.given ∙ usage.cause in absurd cc
-found_served call sink found (inr (inl unread)) h =
-    let same : unread.command ≡ h.served = same_command _ unread.command h.served unread.given h.given in
-    let most : most_bytes unread.command ≡ most_script_bytes = ap most_bytes same ∙ most_of_script h.served h.unjudged in
-    let short = subst (λ n. length h.bytes ≤ n) (sym most) (plan_short h.bytes h.plan h.script) in
-    subst (λ (f : Finding). WasServed (status_of f)) (sym unread.finding)
-    (stopped_served call.source h.bytes (most_bytes unread.command) unread.error h.told short h.read unread.taken unread.cause)
-found_served call sink found (inr (inr read)) h =
-    let same : h.served ≡ read.command = same_command _ h.served read.command h.given read.given in
-    let other : read.command ≡ command.Audit → ⊥ = subst (λ (c : Command). c ≡ command.Audit → ⊥) same h.unjudged in
-    let told : IfSome (Some h.bytes) (λ rest. read.bytes ≡ rest) = subst (λ o. IfSome o (λ rest. read.bytes ≡ rest)) h.told read.read.all in
-    let bytes : read.bytes ≡ h.bytes = told in
-    let part : script_in read.command read.bytes ≡ h.bytes = script_of_script read.command read.bytes other ∙ bytes in
-    elim read.comes [
-      | inl served ↦ plan_served read.command served.plan read.bytes found call.left other h.laid served.comes
-      | inr away ↦ away_served read.command read.bytes h.plan found call.left (subst (λ b. HasPlan b h.plan) (sym part) h.script) away
+found_served : {P : Type 0} (call : Call P) (sink : SinkUse) (h : IsServable call sink) (journal : List Entry) (found : Finding) → CameTo (with_journal call journal) found → WasServed (status_of found)
+found_served call sink h journal found came =
+    let short : length h.bytes ≤ most_bytes h.served = subst (λ n. length h.bytes ≤ n) (sym (most_of_script h.served h.unjudged)) (plan_short h.bytes h.plan h.script) in
+    let script : HasPlan (script_in h.served h.bytes) h.plan = subst (λ b. HasPlan b h.plan) (sym (script_of_script h.served h.bytes h.unjudged)) h.script in
+    let left = (with_journal call journal).left in
+    elim (input_comes (with_journal call journal) sink h.served h.bytes (given_with call sink h.served h.bytes h.given journal) found short came) [
+      | inl (inl served) ↦ plan_served h.served served.plan h.bytes found left h.unjudged h.laid served.comes
+      | inl (inr away) ↦ lost_served found (not_away h.served h.bytes h.plan found left script away)
+      | inr lost ↦ lost_served found lost
     ]
 
-pub answer_served : {P : Type 0} (call : Call P) (sink : SinkUse) (answer : Status) → Answers call sink answer → IsServable call sink → WasServed answer
+answer_served : {P : Type 0} (call : Call P) (sink : SinkUse) (answer : Status) → Answers call sink answer → IsServable call sink → WasServed answer
 answer_served call sink answer a h = by a.tells
   where
-    servable : IsServable (with_journal call a.journal) sink
-    servable = record { served = h.served; given = h.given; unjudged = h.unjudged; bytes = h.bytes; told = h.told; plan = h.plan; script = h.script; read = h.read; laid = h.laid; written = h.written }
-
     by : Tells a.finding a.journal call.left.journal sink answer → WasServed answer
-    by (inl whole) = subst WasServed (sym whole.answered) (found_served (with_journal call a.journal) sink a.finding a.came servable)
-    by (inr (inl cut)) = absurd (h.written cut.cause)
+    by (inl whole) = subst WasServed (sym whole.answered) (found_served call sink h a.journal a.finding a.came)
+    by (inr (inl cut)) = absurd (h.given.written cut.cause)
     by (inr (inr lost)) = inr (inr lost.answered)
+
+-- ---- `audit`
+
+audited : {P : Type 0} (plan : Plan) (bytes : List ℕ) (found : Finding) (left : Left P) → AuditComesTo plan bytes found left → (IsToFind plan bytes found) ⊎ (found ≡ finding.OutOfMemory)
+audited plan bytes (finding.Legal entries) left h = inl (legal_journal (record { journal = left.journal; lawful = h.lawful; number = h.number }))
+audited plan bytes (finding.Illegal line) left h = inl (illegal_line h.0)
+audited plan bytes (finding.Refused refusal) left h = inl (too_many_entries h.0)
+audited plan bytes finding.OutOfMemory left h = inr refl
+audited plan bytes finding.Usage left h = elim h [ ]
+audited plan bytes finding.SourceFault left h = elim h [ ]
+audited plan bytes finding.PlantFault left h = elim h [ ]
+audited plan bytes (finding.Checked counts) left h = elim h [ ]
+audited plan bytes (finding.Played failed text) left h = elim h [ ]
+
+-- over a plan of the script nothing else is found than what is to be found by each
+as_to_find : {P : Type 0} (call : Call P) (sink : SinkUse) (found other : Finding) (left : Left P) (h : IsAuditable call sink found) (plan : Plan) → HasPlan (script_in command.Audit h.bytes) plan
+    → (IsToFind plan h.bytes other) ⊎ (other ≡ finding.OutOfMemory) → (other ≡ found) ⊎ (other ≡ finding.OutOfMemory)
+as_to_find call sink found other left h plan script (inl one) = inl (found_alone plan (plan_tells (script_in command.Audit h.bytes) plan script) h.bytes other found one (h.finds plan script))
+as_to_find call sink found other left h plan script (inr lost) = inr lost
+
+found_audited : {P : Type 0} (call : Call P) (sink : SinkUse) (found other : Finding) (h : IsAuditable call sink found) (journal : List Entry) → CameTo (with_journal call journal) other → (other ≡ found) ⊎ (other ≡ finding.OutOfMemory)
+found_audited call sink found other h journal came =
+    let left = (with_journal call journal).left in
+    elim (input_comes (with_journal call journal) sink command.Audit h.bytes (given_with call sink command.Audit h.bytes h.given journal) other h.fits came) [
+      | inl (inl served) ↦ as_to_find call sink found other left h served.plan served.script (audited served.plan h.bytes other left served.comes)
+      | inl (inr away) ↦ inr (not_away command.Audit h.bytes h.plan other left h.script away)
+      | inr lost ↦ inr lost
+    ]
+
+answer_audited : {P : Type 0} (call : Call P) (sink : SinkUse) (found : Finding) (answer : Status) → Answers call sink answer → IsAuditable call sink found → WasTold found sink answer
+answer_audited call sink found answer a h = was_told found a.finding a.journal call.left.journal sink answer h.given.written (found_audited call sink found a.finding h a.journal a.came) a.tells
+
+-- ---- what is refused
+
+-- where memory wasn't wanting, the finding is a refusal
+abbrev IsRefusal : Finding → Type 0
+IsRefusal found = (status_of found ≡ status.Refused) ⊎ (found ≡ finding.OutOfMemory)
+
+refused_away : {P : Type 0} (c : Command) (bytes : List ℕ) (found : Finding) (left : Left P) → IsNotServed c bytes found left → IsRefusal found
+refused_away c bytes (finding.Refused refusal) left h = inl refl
+refused_away c bytes finding.OutOfMemory left h = inr refl
+refused_away c bytes finding.Usage left h = elim h [ ]
+refused_away c bytes finding.SourceFault left h = elim h [ ]
+refused_away c bytes finding.PlantFault left h = elim h [ ]
+refused_away c bytes (finding.Checked counts) left h = elim h [ ]
+refused_away c bytes (finding.Played failed text) left h = elim h [ ]
+refused_away c bytes (finding.Legal entries) left h = elim h [ ]
+refused_away c bytes (finding.Illegal line) left h = elim h [ ]
+
+module _ {P : Type 0} (call : Call P) (sink : SinkUse) (c : Command) (bytes : List ℕ) (given : IsGiven call sink c bytes) (found : Finding) where
+  -- an input that is too long isn't read to its end
+  long_refused : most_bytes c < length bytes → CameTo call found → IsRefusal found
+  long_refused long (inl usage) = let none : Some c ≡ None = sym given.asked ∙ usage.cause in absurd cc
+  long_refused long (inr (inl u)) = by u.error u.finding u.cause
+    where
+      by : (e : ReadError) → found ≡ unread_finding e → HasStopped call.source e → IsRefusal found
+      by error.Fault same cause = absurd (given.read cause)
+      by error.TooLong same cause = inl (ap status_of same)
+      by error.OutOfMemory same cause = inr same
+  long_refused long (inr (inr r)) =
+      let most : most_bytes r.command ≡ most_bytes c = ap most_bytes (one_command call sink c bytes given r.command r.given) in
+      absurd (omega (arith, r.read.fits, long, most, ap length (own_bytes call sink c bytes given found r)))
+
+  script_refused : HoldsRefused c bytes → CameTo call found → IsRefusal found
+  script_refused h came = elim (input_comes call sink c bytes given found h.fits came) [
+    | inl (inl served) ↦ absurd (not_refused (script_in c bytes) served.plan h.refusal served.script h.script)
+    | inl (inr away) ↦ refused_away c bytes found call.left away
+    | inr lost ↦ inr lost
+  ]
+
+found_refused : {P : Type 0} (call : Call P) (sink : SinkUse) (h : IsRefusable call sink) (journal : List Entry) (found : Finding) → CameTo (with_journal call journal) found → IsRefusal found
+found_refused call sink h journal found came =
+    let given = given_with call sink h.served h.bytes h.given journal in
+    elim h.cause [
+      | inl long ↦ long_refused (with_journal call journal) sink h.served h.bytes given found long came
+      | inr holds ↦ script_refused (with_journal call journal) sink h.served h.bytes given found holds came
+    ]
+
+answer_refused : {P : Type 0} (call : Call P) (sink : SinkUse) (answer : Status) → Answers call sink answer → IsRefusable call sink → WasRefused answer
+answer_refused call sink answer a h = by (found_refused call sink h a.journal a.finding a.came) a.tells
+  where
+    by : IsRefusal a.finding → Tells a.finding a.journal call.left.journal sink answer → WasRefused answer
+    by (inl refused) (inl whole) = inl (whole.answered ∙ refused)
+    by (inr lost) (inl whole) = inr (whole.answered ∙ ap status_of lost)
+    by one (inr (inl cut)) = absurd (h.given.written cut.cause)
+    by one (inr (inr lost)) = inr lost.answered
+
+-- ---- all
+
+pub complete : {P : Type 0} (call : Call P) (sink : SinkUse) (answer : Status) → Answers call sink answer → MissesNothing call sink answer
+complete call sink answer a = record { served = answer_served call sink answer a; audited = (λ found. answer_audited call sink found answer a); refused = answer_refused call sink answer a }

@@ -6,3 +6,5 @@ mod Reversed
 mod CallsServed
 mod ToldCalls
 mod WellNamed
+mod PlansOfScripts
+mod FoundAlone

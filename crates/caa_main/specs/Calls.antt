@@ -185,23 +185,3 @@ pub record Answers {P : Type 0} (call : Call P) (sink : SinkUse) (answer : Statu
   pub journal : List Entry
   pub came : CameTo (with_journal call journal) finding
   pub tells : Tells finding journal call.left.journal sink answer
-
--- ---- completeness
-
--- the words are `check`, `sim SEED` or `run`, the source tells the bytes of a script that has a plan, and no count rose: of failed
--- reads, of failed writes, and of refusals to be laid out
-pub record IsServable {P : Type 0} (call : Call P) (sink : SinkUse) : Type 0 where
-  pub served : Command
-  pub given : call.asked ≡ Some served
-  pub unjudged : served ≡ command.Audit → ⊥
-  pub bytes : List ℕ
-  pub told : call.source.left_before ≡ Some bytes
-  pub plan : Plan
-  pub script : HasPlan bytes plan
-  pub read : Rose call.source.faults_before call.source.faults_after → ⊥
-  pub laid : Rose call.left.plant.lay_faults_before call.left.plant.lay_faults_after → ⊥
-  pub written : Rose sink.faults_before sink.faults_after → ⊥
-
--- the command was served, or no memory was found
-abbrev pub WasServed : Status → Type 0
-WasServed answer = (answer ≡ status.Done) ⊎ ((answer ≡ status.SomeFailed) ⊎ (answer ≡ status.OutOfMemory))

@@ -2,7 +2,8 @@ ghost use Rattle.std.specs.Prelude.{◌≡◌, ◌≤◌, [], if◌then◌else�
 ghost use Rattle.caa_main.specs.Commands.{command_of, without_threads};
 ghost use Rattle.caa_main.specs.Findings.{is_played};
 ghost use Rattle.caa_main.specs.OutsideUse.{source_use, sink_use, plant_use, left_of, call_of};
-ghost use Rattle.caa_main.specs.Calls.{Tells, Answers, IsServable, WasServed};
+ghost use Rattle.caa_main.specs.Calls.{Tells, Answers};
+ghost use Rattle.caa_main.specs.Served.{MissesNothing};
 
 use crate::command::{Command, command_of, quiet_command_of};
 use crate::playing::Coming;
@@ -89,12 +90,13 @@ pub fn top_quiet<S: Source, K: Sink, P: Plant>(
         (sink_use ⟦<K as Sink>⟧ sink.old sink.new)
         result.status }
 
-    // Words of a script's command, a script that has a plan, and no fault: the command is served, or memory was wanting.
-    ensures completeness { IsServable
+    // Where nothing outside fails, what can be served is served, an audit tells what is to be found, and what is to be refused is
+    // refused; or memory was wanting.
+    ensures completeness { MissesNothing
         (call_of (without_threads (command_of (map string_bytes words.now)))
         (source_use ⟦<S as Source>⟧ source.old source.new) (left_of (plant_use ⟦<P as Plant>⟧ plant result.plant) result.journal.entries))
         (sink_use ⟦<K as Sink>⟧ sink.old sink.new)
-        → WasServed result.status }
+        result.status }
 
     ensures untouched { without_threads (command_of (map string_bytes words.now)) ≡ None → source.new ≡ source.old }
     ensures room { K.room sink.new ≡ K.room sink.old }
@@ -125,12 +127,13 @@ pub fn top<S: Source, K: Sink, P: Plant + Send, G: Gate + Sync, R: Threads + Wai
         (sink_use ⟦<K as Sink>⟧ sink.old sink.new)
         result.status }
 
-    // Words of a script's command, a script that has a plan, and no fault: the command is served, or memory was wanting.
-    ensures completeness { IsServable
+    // Where nothing outside fails, what can be served is served, an audit tells what is to be found, and what is to be refused is
+    // refused; or memory was wanting.
+    ensures completeness { MissesNothing
         (call_of (command_of (map string_bytes words.now))
         (source_use ⟦<S as Source>⟧ source.old source.new) (left_of (plant_use ⟦<P as Plant>⟧ plant result.plant) result.journal.entries))
         (sink_use ⟦<K as Sink>⟧ sink.old sink.new)
-        → WasServed result.status }
+        result.status }
 
     ensures untouched { command_of (map string_bytes words.now) ≡ None → source.new ≡ source.old }
     ensures room { K.room sink.new ≡ K.room sink.old }

@@ -1,5 +1,5 @@
-use Rattle.std.proofs.Common.{Some, ap, sym, ◌∙◌}
-use Rattle.caa_main.proofs.CallsServed.{answer_served}
+use Rattle.std.proofs.Common.{rules, Some, ap, sym, ◌∙◌}
+use Rattle.caa_main.proofs.CallsServed.{complete}
 use Rattle.caa_main.proofs.ToldCalls.{answered}
 use Rattle.caa_main.proofs.top.top.Goals as goal
 
@@ -9,4 +9,7 @@ returns-in-Some-Run-clause-answer g c =
     answered g.P.Plant _ _ _ c.args.plant _ _ _ _ _ _ _ run c.tell.ensures.plant c.decide_run-coming.ensures.came c.tell.ensures.tells
 
 pub returns-in-Some-Run-clause-completeness : goal.returns-in-Some-Run-clause-completeness
-returns-in-Some-Run-clause-completeness g c = answer_served _ _ _ (returns-in-Some-Run-clause-answer g c)
+returns-in-Some-Run-clause-completeness g c = complete _ _ _ (returns-in-Some-Run-clause-answer g c)
+
+pub returns-in_default-clause-completeness : goal.returns-in_default-clause-completeness
+returns-in_default-clause-completeness g c = complete _ _ _ (search rules)

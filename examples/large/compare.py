@@ -1,0 +1,191 @@
+"""Runs the program on inputs near its limits and with faults outside, and compares what it prints and how it ends.
+
+    python3 examples/large/compare.py PROGRAM
+"""
+
+import os
+import resource
+import subprocess
+import sys
+
+from rules import Action, Play, Role, lines, said
+
+SEED = 2147483647
+CASES = os.path.join(os.path.dirname(os.path.abspath(__file__)), "..", "cases")
+
+# ---- a script of about 100,000 bytes with each kind of line
+
+WALKERS = [f"p{n}" for n in range(8)]
+VALUES = {f"o{n}": 7 * n - 40 for n in range(40)}
+COMMENT = "# " + "-" * 500
+
+UNIT = """graph faults{k}
+exception jam
+exception slip
+exception stop
+cover stop jam
+cover stop slip
+end
+graph told{k}
+exception lost
+end
+action small{k}
+interface told{k}
+use o1 o2
+roles a b
+body a
+read o1
+add o1 1
+put o2 -5
+work 3
+signal lost
+body b
+check above 100 universal
+done
+handler b universal
+read o2
+abort a above 3 lost
+abort b lost
+end
+action other{k}
+interface told{k}
+use o1
+roles a b
+end
+action large{k}
+internal faults{k}
+interface told{k}
+fault jam
+use o3 o2 o1
+roles x y
+nest n small{k} x y
+alternate n other{k}
+map n lost stop
+mapundo n slip
+mapfailure n stop
+body x
+enter n
+raise jam
+body y
+enter n
+check equal 0 slip
+undo
+handler x jam
+put o3 1
+undo
+handler y stop
+read o3
+signal lost
+end
+""" + COMMENT + "\n"
+
+
+def walk(number):
+    """An action that is played: its roles read, mix, add, test and put."""
+    first, second = f"o{3 * number}", f"o{3 * number + 1}"
+    steps = [["read", first], ["work", str(number)], ["check", "below", "-1", "universal"], ["put", second, str(-number)], ["read", first], ["add", first, "3"]]
+    return Action(f"walk{number}", [first, second], [Role("lead", steps), Role("follow", steps[1:3] * 2), Role("last", [], "signal lost")], 1)
+
+
+def all_kinds():
+    """The script, what `check` prints of it, and what `sim` prints."""
+    actions = [walk(number) for number in range(12)]
+    plays = [(action, [WALKERS[(number + turn) % 8] for turn in (0, 3, 5)]) for number, action in enumerate(actions)]
+    script = [f"participant {name}" for name in WALKERS] + [f"object {name} {value}" for name, value in VALUES.items()]
+    script += [f"watch o{n}" for n in range(16)] + [f"drill o{n} 1000" for n in range(40)]
+    script += [line for k in range(79) for line in UNIT.format(k=k).splitlines()]
+    for action in actions:
+        script += said(action, ["interface told0"]) + ["handler lead universal", "work 1", "end"]
+    script += [f"play {action.name} " + " ".join(who) for action, who in plays]
+    counts = f"ok participants 8 objects 40 places {len(plays)} bound {sum(action.bound() for action in actions)}"
+    return lines(script), counts + "\n", Play(WALKERS, VALUES, plays).play(SEED)
+
+
+# ---- a journal of nearly 5,000 entries
+
+def long_journal():
+    """A script, and a play of it."""
+    who = [f"p{n}" for n in range(16)]
+    values = {f"o{n}": n for n in range(16)}
+    plays = []
+    for number, steps in enumerate((256, 48)):
+        roles = []
+        for n in range(16):
+            turn = [["read", f"o{n}"], ["add", f"o{n}", "2"], ["check", "equal", "-1", "universal"], ["work", "1"]]
+            roles.append(Role(f"r{n}", (turn * 64)[:steps]))
+        plays.append((Action(f"long{number}", list(values), roles), who))
+    script = [f"participant {name}" for name in who] + [f"object {name} {value}" for name, value in values.items()]
+    for action, _ in plays:
+        script += said(action) + ["end"]
+    script += [f"play {action.name} " + " ".join(who) for action, who in plays]
+    play = Play(who, values, plays)
+    play.play(SEED)
+    return script, play
+
+
+def with_other_work(entries):
+    """The entries with a wrong result in the last `work`, and the index of that."""
+    index = max(index for index, entry in enumerate(entries) if entry.startswith("work"))
+    return entries[:index] + [entries[index] + "0"] + entries[index + 1:], index
+
+
+def audits():
+    """Inputs of `audit`, with the status and the text that each is to be answered with."""
+    script, play = long_journal()
+    front, many = lines(script), len(play.entries)
+    other, index = with_other_work(play.entries)
+    past = ["arrive 0 p0"] * 5001
+    return [
+        ("a long journal", front + play.text(play.entries), 0, f"legal {many}\n"),
+        ("a wrong entry near its end", front + play.text(other), 7, f"illegal {len(script) + index + 2}\n"),
+        ("without its last line", front + play.text(play.entries)[: -len("outcome 1 long1 commit\n")], 7, f"illegal {front.count(chr(10)) + play.text(play.entries).count(chr(10))}\n"),
+        ("too many entries", front + play.text(past), 4, f"refused {len(script) + 5002} 19 limit\n"),
+    ]
+
+
+# ---- comparing
+
+wrong = []
+
+
+def compare(name, program, words, status, text, **streams):
+    """Runs the program, and compares its status, and its text where one is given."""
+    ended = subprocess.run([program, *words], **{"stdout": subprocess.PIPE, **streams})
+    right = ended.returncode == status and (text is None or ended.stdout == text.encode())
+    print(f"{name}: {'as wanted' if right else f'status {ended.returncode}, not {status}, or another text'}")
+    if not right:
+        wrong.append(name)
+
+
+def large_inputs(program):
+    script, counts, journal = all_kinds()
+    compare(f"check of {len(script)} bytes", program, ["check"], 0, counts, input=script.encode())
+    compare(f"sim {SEED} of it", program, ["sim", str(SEED)], 0, journal, input=script.encode())
+    for name, given, status, text in audits():
+        compare(f"audit: {name}", program, ["audit"], status, text, input=given.encode())
+
+
+def little_memory():
+    resource.setrlimit(resource.RLIMIT_AS, (16 << 20, 16 << 20))
+
+
+def statuses(program):
+    """Each status of the program at its exit. Its device is never refused to be laid out, so 6 isn't among them."""
+    def case(name):
+        return open(os.path.join(CASES, name), "rb")
+
+    long_bound = lines(["participant p", "action a", "roles r", "end"] + ["play a p"] * 60000).encode()
+    compare("status 0", program, ["check"], 0, "ok participants 2 objects 1 places 1 bound 23\n", stdin=case("first_cycle"))
+    compare("status 1", program, ["sim", "1"], 1, None, stdin=case("stuck_valve"))
+    compare("status 2", program, ["check", "1"], 2, None, stdin=case("first_cycle"))
+    compare("status 3, from a folder", program, ["check"], 3, "fault source\n", stdin=os.open(CASES, os.O_RDONLY))
+    compare("status 3, closed", program, ["check"], 3, "fault source\n", preexec_fn=lambda: os.close(0))
+    compare("status 4", program, ["check"], 4, None, stdin=case("two_stops"))
+    compare("status 5", program, ["sim", "1"], 5, None, stdin=case("first_cycle"), stdout=open("/dev/full", "wb"))
+    compare("status 7", program, ["audit"], 7, None, stdin=case("altered_jam"))
+    compare("status 8", program, ["sim", "1"], 8, "", input=long_bound, preexec_fn=little_memory)
+
+
+large_inputs(sys.argv[1])
+statuses(sys.argv[1])
+sys.exit(1 if wrong else 0)
