@@ -1,4 +1,4 @@
-use Rattle.std.proofs.Common.{◌≡◌, ◌∙◌, ap, arith, length}
+use Rattle.std.proofs.Common.{◌∙◌, ap, arith, length}
 use Rattle.action_manager.specs.Managers.{IsSeatIn}
 use Rattle.action_manager.specs.Seats.{participant_of}
 use Rattle.action_manager.proofs.Gathered.{all_more}
