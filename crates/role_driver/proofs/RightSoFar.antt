@@ -1,20 +1,19 @@
 -- The looks of watch after watch are right.
-use Rattle.std.proofs.Common.{◌≡◌, ℕ, ◌+◌, ◌*◌, ◌<◌, ◌≤◌, ◌==◌, nat_lt, nat_le, Bool, true, false, cond, ◌&&◌, ◌||◌, List, [], ◌∷◌, ◌++◌, length, map, Option, None, Some, All, zero, suc, refl, sym, ap, ◌∙◌, subst, arith, append_assoc, append-nil}
-use Rattle.std.specs.Ordering.{int_eq}
+use Rattle.std.proofs.Common.{◌≡◌, ℕ, ◌+◌, ◌<◌, ◌≤◌, nat_lt, nat_le, true, cond, List, [], ◌∷◌, ◌++◌, length, map, Option, None, Some, All, suc, refl, sym, ap, ◌∙◌, subst, arith, append_assoc, append-nil}
 use Rattle.std.proofs.lemmas.Cmp.{int_eq_equiv}
-use Rattle.std.proofs.lemmas.Bool.{and_parts, and_from, or_left, or_right, eq-eqb, ltb-true}
+use Rattle.std.proofs.lemmas.Bool.{and_parts, and_from, or_left, or_right, eq-eqb}
 use Rattle.std.proofs.lemmas.Bool.Decides.{nat_tests}
 use Rattle.std.proofs.lemmas.List.{length-append, length-map}
-use Rattle.std.proofs.lemmas.List.Elements.{All-append, All-nil, All-cons, All-head, All-tail, All-weaker, All-map}
+use Rattle.std.proofs.lemmas.List.Elements.{All-append, All-nil, All-cons, All-head, All-tail, All-weaker}
 use Rattle.std.proofs.Math.Nat.{suc-mul}
 use Rattle.caa_base.specs.declared.entry.Entry.{Entry}
 use Rattle.place_plan.specs.PlanValue.{Plan}
-use Rattle.place_plan.specs.DraftRules.{is_rising, is_rising_above}
+use Rattle.place_plan.specs.DraftRules.{is_rising_above}
 use Rattle.place_plan.specs.Journals.{committed_value}
 use Rattle.journal_text.specs.declared.seens.Seen.{Seen}
 use Rattle.journal_text.specs.Looks.{last_watch}
 use Rattle.journal_text.specs.Text.{watched_object}
-use Rattle.journal_text.specs.Right.{is_committed, follows, is_followed, is_right, is_whole, next_seen, first_wrong_from}
+use Rattle.journal_text.specs.Right.{is_committed, follows, is_followed, is_whole, next_seen, first_wrong_from}
 use Rattle.shared_views.specs.declared.observed.Reading.{Reading}
 use Rattle.role_driver.specs.Records.{ends_rise}
 use Rattle.role_driver.specs.Gathering.{look_of, IsBefore, AreRightSoFar}

@@ -1,5 +1,5 @@
 -- The tasks of the watchers of a plan.
-use Rattle.std.proofs.Common.{◌≡◌, ℕ, ◌<◌, nat_lt, Bool, true, ◌&&◌, List, [], ◌∷◌, length, map, All, refl, sym, ap, ◌∙◌, subst}
+use Rattle.std.proofs.Common.{◌≡◌, ℕ, ◌<◌, nat_lt, true, List, [], ◌∷◌, length, map, All, refl, sym, ap, ◌∙◌, subst}
 use Rattle.std.specs.List.{list_all}
 use Rattle.std.proofs.lemmas.Bool.{and_parts, ltb-true}
 use Rattle.std.proofs.lemmas.List.{length-map}
@@ -12,7 +12,6 @@ use Rattle.place_plan.proofs.DraftKeeps.{keeps_rules}
 use Rattle.caa_base.specs.Limits.{is_value}
 use Rattle.shared_views.specs.Committing.{Committed, Watching}
 use Rattle.role_driver.specs.declared.watch_room.Blank.{Blank}
-use Rattle.role_driver.specs.Watching.{Task}
 use Rattle.role_driver.specs.WatchRooms.{task_with}
 use Rattle.role_driver.specs.Gathering.{task_by}
 

@@ -1,7 +1,5 @@
 -- What is made ready for the watchers before anything is played.
-use Rattle.std.specs.Prelude.{◌≡◌, ◌<◌, ◌*◌, ℕ, ℤ, List, [], length, map, suc, vec_capacity}
-use Rattle.std.specs.List.{All}
-use Rattle.logbook.specs.Pages.{Book}
+use Rattle.std.specs.Prelude.{◌≡◌, ◌*◌, ℕ, [], length, map, suc, vec_capacity}
 use Rattle.place_plan.specs.PlanValue.{Plan}
 use Rattle.shared_views.specs.Committing.{Watching}
 use Rattle.action_manager.specs.declared.manager.Manager.{Manager}

@@ -1,4 +1,4 @@
-use Rattle.std.proofs.Common.{◌≡◌, ◌∙◌, ◌<◌, ap, sym, arith, length, replicate}
+use Rattle.std.proofs.Common.{◌∙◌, ◌<◌, ap, arith, length, replicate}
 use Rattle.shared_views.specs.Committing.{Watching}
 use Rattle.role_driver.specs.declared.watch_room.Blank.{Blank}
 use Rattle.role_driver.specs.Watching.{task_of}

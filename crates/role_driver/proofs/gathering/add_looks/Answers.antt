@@ -1,4 +1,4 @@
-use Rattle.std.proofs.Common.{◌≡◌, ◌≤◌, pos, length, slice_index_or, ap, subst, sym, arith}
+use Rattle.std.proofs.Common.{◌≤◌, pos, length, slice_index_or, ap, subst, sym, arith}
 use Rattle.std.proofs.lemmas.Bool.{lt-ltb}
 use Rattle.caa_base.specs.Limits.{IsValue}
 use Rattle.journal_text.specs.declared.seens.Seen.{Seen}

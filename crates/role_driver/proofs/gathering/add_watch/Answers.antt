@@ -1,18 +1,17 @@
-use Rattle.std.proofs.Common.{◌≡◌, ◌*◌, ◌∙◌, length, reverse, suc, ap, subst, sym, arith, filter, nat_lt}
+use Rattle.std.proofs.Common.{◌≡◌, ◌∙◌, length, reverse, suc, ap, subst, sym, arith, filter, nat_lt}
 use Rattle.std.proofs.lemmas.List.Elements.{All-weaker}
 use Rattle.caa_base.specs.Limits.{IsValue}
 use Rattle.place_plan.specs.Closed.{IsClosed}
 use Rattle.place_plan.specs.Journals.{committed_value}
 use Rattle.place_plan.specs.WellFormed.{AllWellFormed}
 use Rattle.journal_laws.specs.Laws.{Holds, CommitLaw}
-use Rattle.journal_text.specs.declared.seens.Seen.{Seen}
 use Rattle.journal_text.specs.Text.{watched_object}
 use Rattle.journal_text.proofs.CommittedFits.{committed_fits}
 use Rattle.shared_views.specs.declared.observed.Reading.{Reading}
 use Rattle.action_manager.specs.PublishingLaw.{PublishingLaw}
 use Rattle.role_driver.specs.Watching.{Task}
 use Rattle.role_driver.specs.Gathering.{with_last, AreRightSoFar}
-use Rattle.role_driver.proofs.ReadingsKept.{AreGood, are_good, row_fits}
+use Rattle.role_driver.proofs.ReadingsKept.{are_good, row_fits}
 use Rattle.role_driver.proofs.RightSoFar.{next_watch}
 use Rattle.role_driver.proofs.gathering.add_watch.Goals as goal
 
