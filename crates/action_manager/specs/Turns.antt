@@ -15,11 +15,37 @@ terms_of plan base cells book = record { plan = plan; base = base; cells = cells
 
 -- a seat of a participant that has no turn, and has seen these entries
 abbrev pub rested : Terms → ℕ → Journal → View
-rested terms who j = record { seated = true; making = false; terms = terms; who = who; next = 0; holds = false; ticket = 0; has_book = false; book = []; seen = j; taken = [] }
+rested terms who j =
+    record {
+      seated = true;
+      making = false;
+      terms = terms;
+      who = who;
+      next = 0;
+      holds = false;
+      ticket = 0;
+      has_book = false;
+      book = [];
+      seen = j;
+      taken = [];
+    }
 
 -- the maker, which has made n seats
 abbrev pub maker : Terms → ℕ → Journal → View
-maker terms n j = record { seated = false; making = true; terms = terms; who = 0; next = n; holds = false; ticket = 0; has_book = false; book = []; seen = j; taken = [] }
+maker terms n j =
+    record {
+      seated = false;
+      making = true;
+      terms = terms;
+      who = 0;
+      next = n;
+      holds = false;
+      ticket = 0;
+      has_book = false;
+      book = [];
+      seen = j;
+      taken = [];
+    }
 
 abbrev pub no_plan : Plan
 no_plan = record { participants = []; objects = []; graphs = []; actions = []; places = []; plays = []; drills = []; watches = [] }
@@ -28,7 +54,20 @@ abbrev pub no_book : Book
 no_book = record { number = 0; log_name = 0; cells_name = 0 }
 
 abbrev pub spent_view : View
-spent_view = record { seated = false; making = false; terms = terms_of no_plan 0 [] no_book; who = 0; next = 0; holds = false; ticket = 0; has_book = false; book = []; seen = []; taken = [] }
+spent_view =
+    record {
+      seated = false;
+      making = false;
+      terms = terms_of no_plan 0 [] no_book;
+      who = 0;
+      next = 0;
+      holds = false;
+      ticket = 0;
+      has_book = false;
+      book = [];
+      seen = [];
+      taken = [];
+    }
 
 -- one seat takes in another
 abbrev pub both_of : View → View → View

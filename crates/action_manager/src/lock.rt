@@ -56,7 +56,8 @@ impl<H: Home> Lock<H> {
         requires making { making.old.me ≡ (maker (H.terms (plan_at self.now) (home_at self.now)) making.old.me.0.next (H.journal (home_at self.now)), []) }
         requires room { making.old.me.0.next < length (H.terms (plan_at self.now) (home_at self.now)).plan.participants }
         ensures table { (making.new.table_id ≡ making.old.table_id) × (result.table_id ≡ id_of self.now) }
-        ensures making { making.new.me ≡ (maker (H.terms (plan_at self.now) (home_at self.now)) (making.old.me.0.next + 1) (H.journal (home_at self.now)), []) }
+        ensures making { making.new.me
+            ≡ (maker (H.terms (plan_at self.now) (home_at self.now)) (making.old.me.0.next + 1) (H.journal (home_at self.now)), []) }
         ensures seat { result.me ≡ (rested (H.terms (plan_at self.now) (home_at self.now)) making.old.me.0.next (H.journal (home_at self.now)), []) }
     {
         self.table.shared.split_seat::<Making>(making)
@@ -76,7 +77,8 @@ impl<H: Home> Lock<H> {
     /// Drawing a ticket, tried again until it succeeds. At the last number it goes on trying.
     fn draw<R: Wait>(&self, rt: &R, token: &mut Token<H>) -> u64
         requires token { (token.old.table_id ≡ id_of self.now) × (token.old.me.1 ≡ []) }
-        requires idle { (token.old.me.0.holds ≡ false) × (token.old.me.0.has_book ≡ false) × (token.old.me.0.seated ≡ true) × (token.old.me.0.taken ≡ []) }
+        requires idle { (token.old.me.0.holds ≡ false) × (token.old.me.0.has_book ≡ false) × (token.old.me.0.seated ≡ true)
+            × (token.old.me.0.taken ≡ []) }
         ensures token { (token.new.table_id ≡ token.old.table_id) × (token.new.id ≡ token.old.id) }
         ensures view { token.new.me ≡ (record token.old.me.0 { holds = true; ticket = result }, []) }
         ensures room { result + 1 < 2 ^ 64 }
@@ -120,7 +122,11 @@ impl<H: Home> Lock<H> {
     pub fn begin<R: Wait>(&self, rt: &R, token: &mut Token<H>) -> (u64, H)
         requires token { (token.old.table_id ≡ id_of self.now) × IsAtRest (H.terms (plan_at self.now) (home_at self.now)) token.old.me }
         ensures token { (token.new.table_id ≡ token.old.table_id) × (token.new.id ≡ token.old.id) }
-        ensures view { token.new.me ≡ (record token.old.me.0 { holds = true; ticket = result.0; has_book = true; book = H.journal result.1 }, (0, Rattle.std.specs.Prelude.None) ∷ []) }
+        ensures view { token.new.me
+            ≡ (
+              record token.old.me.0 { holds = true; ticket = result.0; has_book = true; book = H.journal result.1 },
+              (0, Rattle.std.specs.Prelude.None) ∷ [],
+            ) }
         ensures room { result.0 + 1 < 2 ^ 64 }
         ensures right { H.right (H.terms (plan_at self.now) (home_at self.now)) result.1 }
         ensures grown { GrowsWithout token.old.me.0.who token.old.me.0.seen (H.journal result.1) }

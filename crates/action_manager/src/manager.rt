@@ -143,7 +143,8 @@ impl<M: Machine> Manager<M> {
         ensures machine { IfOk result (λ r. handed_in r.0 ≡ home.machine) }
         ensures book { IfOk result (λ r. book_in r.0 ≡ book_of home.publishing) }
         ensures plan { IfOk result (λ r. plan_in r.0 ≡ M.plan_of home.machine) }
-        ensures making { IfOk result (λ r. (r.1.table_id ≡ table_of r.0) × (r.1.me ≡ (maker (terms_in M.base_of r.0) 0 (M.journal_of home.machine), []))) }
+        ensures making { IfOk result (λ r.
+            (r.1.table_id ≡ table_of r.0) × (r.1.me ≡ (maker (terms_in M.base_of r.0) 0 (M.journal_of home.machine), []))) }
         ensures refused { IfErr result (λ e. e.machine ≡ home.machine) }
     {
         let participants = home.machine.plan().participants();
@@ -233,7 +234,8 @@ impl<M: Machine> Manager<M> {
         ensures machine { IfOk result (λ o. handed_in o.manager ≡ machine) }
         ensures plan { IfOk result (λ o. plan_in o.manager ≡ M.plan_of machine) }
         ensures order { IfOk result (λ o. map participant_of o.seats.items ≡ range_with_len 0 (length (M.plan_of machine).participants)) }
-        ensures new { IfOk result (λ o. All (λ s. IsNewSeat (table_of o.manager) (terms_in M.base_of o.manager) (M.journal_of machine) s) o.seats.items) }
+        ensures new { IfOk result (λ o.
+            All (λ s. IsNewSeat (table_of o.manager) (terms_in M.base_of o.manager) (M.journal_of machine) s) o.seats.items) }
         ensures observers { IfOk result (λ o. o.observers.items ≡ replicate observers (new_observer (M.plan_of machine) (book_in o.manager))) }
         ensures refused { IfErr result (λ e. e.machine ≡ machine) }
     {

@@ -93,7 +93,8 @@ impl Publishing {
         requires initials { self.old.writer.initials ≡ initials_of (M.plan_of machine.now) }
         ensures room { vec_capacity self.new.changes ≡ vec_capacity self.old.changes }
         ensures book { book_of self.new ≡ book_of self.old }
-        ensures publishes { (past : List JournalEntry) → reverse (M.journal_of machine.now) ≡ entry ∷ past → Publishes (M.plan_of machine.now) past self.old.writer → Publishes (M.plan_of machine.now) (entry ∷ past) self.new.writer }
+        ensures publishes { (past : List JournalEntry) → reverse (M.journal_of machine.now) ≡ entry ∷ past
+            → Publishes (M.plan_of machine.now) past self.old.writer → Publishes (M.plan_of machine.now) (entry ∷ past) self.new.writer }
     {
         is_well_formed(machine.plan());
         if ends_play(machine.plan(), &entry) {

@@ -1,6 +1,7 @@
 //! The judge of a journal.
 
 ghost use Rattle.std.specs.Prelude.{◌≡◌, ◌<◌, ◌≤◌, ◌+◌, ◌^◌, ℕ, List, true, length, IfOk};
+ghost use Rattle.caa_base.specs.Limits.{most_audited};
 ghost use Rattle.place_plan.specs.Journals.{IsLegal, IsComplete};
 ghost use Rattle.journal_text.specs.Text.{text_of};
 ghost use Rattle.journal_text.specs.TextOfJournal.{HasText};
@@ -59,7 +60,7 @@ fn line_of_look(plan: &Plan, journal: &Journal, look: u64) -> u64
 /// Judges what was seen beside a legal and complete journal.
 fn judge_seens(alloc: Global, plan: &Plan, journal: Journal, seens: &Seens) -> Judgement
     requires named { is_well_named plan.now ≡ true }
-    requires fit { HasText plan.now 5000 journal.entries seens.now.seens }
+    requires fit { HasText plan.now most_audited journal.entries seens.now.seens }
     requires legal { IsLegal plan.now journal.entries }
     requires complete { IsComplete plan.now journal.entries }
     requires short { length (text_of plan.now journal.entries seens.now.seens) < 2 ^ 63 }
@@ -77,7 +78,7 @@ fn judge_seens(alloc: Global, plan: &Plan, journal: Journal, seens: &Seens) -> J
 /// Judges a journal, and what was seen beside it.
 fn judge_journal(alloc: Global, plan: &Plan, journal: Journal, seens: &Seens) -> Judgement
     requires named { is_well_named plan.now ≡ true }
-    requires fit { HasText plan.now 5000 journal.entries seens.now.seens }
+    requires fit { HasText plan.now most_audited journal.entries seens.now.seens }
     requires short { length (text_of plan.now journal.entries seens.now.seens) < 2 ^ 63 }
     ensures { (text : List ℕ) → text ≡ text_of plan.now journal.entries seens.now.seens → Judges plan.now text result }
 {

@@ -140,7 +140,9 @@ pub fn decide<S: Source, P: Plant>(
     requires seed { IfSome asked HasSeed }
     requires quiet { without_threads asked ≡ asked }
     ensures came { CameTo
-        (call_of asked (source_use ⟦<S as Source>⟧ source.old source.new) (left_of (plant_use ⟦<P as Plant>⟧ plant result.plant) result.journal.entries))
+        (call_of asked
+        (source_use ⟦<S as Source>⟧ source.old source.new)
+        (left_of (plant_use ⟦<P as Plant>⟧ plant result.plant) result.journal.entries))
         result.finding }
     ensures untouched { asked ≡ None → source.new ≡ source.old }
     ensures count { S.faults source.old ≤ S.faults source.new }
@@ -180,7 +182,9 @@ pub fn decide_run<S: Source, P: Plant + Send, G: Gate + Sync, R: Threads + Wait 
     gate: &G,
 ) -> Coming<P>
     ensures came { CameTo
-        (call_of (Some Command.Run) (source_use ⟦<S as Source>⟧ source.old source.new) (left_of (plant_use ⟦<P as Plant>⟧ plant result.plant) result.journal.entries))
+        (call_of (Some Command.Run)
+        (source_use ⟦<S as Source>⟧ source.old source.new)
+        (left_of (plant_use ⟦<P as Plant>⟧ plant result.plant) result.journal.entries))
         result.finding }
     ensures count { S.faults source.old ≤ S.faults source.new }
 {

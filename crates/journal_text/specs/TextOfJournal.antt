@@ -67,7 +67,8 @@ GivesBack journal seens (Err e) = e ≡ error.OutOfMemory
 
 -- what is read is what was written, or no memory was found
 abbrev pub ReadsBack : Plan → ℕ → List ℕ → Result (Entries × Looks) TextError → Type 0
-ReadsBack plan limit bytes result = (journal : List Entry) (seens : List Seen) → IsText plan limit bytes journal seens → GivesBack journal seens result
+ReadsBack plan limit bytes result =
+    (journal : List Entry) (seens : List Seen) → IsText plan limit bytes journal seens → GivesBack journal seens result
 
 -- two texts that are the same are of one journal and the same looks
 abbrev pub TextsDiffer : Plan → Type 0

@@ -174,4 +174,8 @@ entry_in plan text = option_map (entry_after plan (after_word text)) (kind_in (w
 abbrev pub seen_in : Plan → List ℕ → Seen
 seen_in plan text =
     let rest = after_word text in
-    record { watch = watch_in plan (next_word rest); ends = number_in 18446744073709551615 (next_word (after_next rest)); value = value_in (next_word (after_next (after_next rest))) }
+    record {
+      watch = watch_in plan (next_word rest);
+      ends = number_in 18446744073709551615 (next_word (after_next rest));
+      value = value_in (next_word (after_next (after_next rest)));
+    }

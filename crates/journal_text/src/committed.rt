@@ -111,7 +111,8 @@ fn look_at(
     ensures lowest { result ≡ lowest_after (counts plan.now restored.now object entry.now) (index_of (top_of plan.now entry.now.place) ended.now) lowest }
     ensures size { length values.new ≡ length values.old }
     ensures each { (n : ℕ) → slice_index_or values.new n (pos 0)
-        ≡ value_after (counts plan.now restored.now object entry.now) (index_of (top_of plan.now entry.now.place) ended.now) lowest entry.now n (slice_index_or values.old n (pos 0)) }
+        ≡ value_after (counts plan.now restored.now object entry.now) (index_of (top_of plan.now entry.now.place) ended.now)
+        lowest entry.now n (slice_index_or values.old n (pos 0)) }
 {
     if !counts(plan, restored, object, entry) {
         return lowest;

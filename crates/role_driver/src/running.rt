@@ -56,7 +56,8 @@ fn drive_in_threads<M: Machine + Send, G: Gate + Sync, R: Threads + Wait + Sync>
     requires room { (crew.items ≡ []) × (vec_capacity crew ≡ length seats.items) × (back.items ≡ []) × (vec_capacity back ≡ length seats.items) }
     requires flags { length flags.now ≡ length seats.items }
     requires opened { All (λ s. IsSeatIn M.base_of manager.now s) seats.items }
-    requires watch { (watch.posts.items ≡ []) × (vec_capacity watch.posts ≡ length watch.watchers.items) × (watch.back.items ≡ []) × (vec_capacity watch.back ≡ length watch.watchers.items) }
+    requires watch { (watch.posts.items ≡ []) × (vec_capacity watch.posts ≡ length watch.watchers.items) × (watch.back.items ≡ [])
+        × (vec_capacity watch.back ≡ length watch.watchers.items) }
     requires over { length over.now ≡ length watch.watchers.items }
     ensures opened { All (λ s. IsSeatIn M.base_of manager.now s) result.0.items }
     ensures order { map participant_of result.0.items ≡ map participant_of seats.items }
@@ -74,7 +75,8 @@ fn drive_in_threads<M: Machine + Send, G: Gate + Sync, R: Threads + Wait + Sync>
             requires room { (crew.items ≡ []) × (vec_capacity crew ≡ length seats.items) × (back.items ≡ []) × (vec_capacity back ≡ length seats.items) }
             requires flags { length flags.now ≡ length seats.items }
             requires opened { All (λ s. IsSeatIn M.base_of manager.now s) seats.items }
-            requires watch { (posts.items ≡ []) × (vec_capacity posts ≡ length watchers.items) × (called.items ≡ []) × (vec_capacity called ≡ length watchers.items) }
+            requires watch { (posts.items ≡ []) × (vec_capacity posts ≡ length watchers.items) × (called.items ≡ [])
+                × (vec_capacity called ≡ length watchers.items) }
             requires over { length over.now ≡ length watchers.items }
             ensures opened { All (λ s. IsSeatIn M.base_of manager.entry.now s) result.0.items }
             ensures order { map participant_of result.0.items ≡ map participant_of seats.items }

@@ -98,7 +98,8 @@ with_program role (Some exception) program = record role { handlers = role.handl
 abbrev pub closed_if : SoFar → Option Opening → Verdict → SoFar
 closed_if s None verdict = s
 closed_if s (Some o) verdict = record s {
-  role_rows = slice_set s.role_rows o.role (with_program (slice_index_or s.role_rows o.role no_role) o.exception (record { steps = s.steps; verdict = verdict }));
+  role_rows = slice_set s.role_rows o.role
+      (with_program (slice_index_or s.role_rows o.role no_role) o.exception (record { steps = s.steps; verdict = verdict }));
   opening = None;
   steps = [];
 }
@@ -132,7 +133,8 @@ with_abort s role row = record s { role_rows = slice_set s.role_rows (index_of r
 
 -- a nested use that carries `universal` out whatever happens
 abbrev pub plain_nest : List ℕ → ℕ → List ℕ → ℕ → NestRow
-plain_nest name action roles exceptions = record { name = name; actions = action ∷ []; roles = roles; maps = replicate exceptions 0; undo = 0; failure = 0 }
+plain_nest name action roles exceptions =
+    record { name = name; actions = action ∷ []; roles = roles; maps = replicate exceptions 0; undo = 0; failure = 0 }
 
 -- the row of a nested use is another
 abbrev pub with_nest : SoFar → ℕ → NestRow → SoFar
@@ -145,7 +147,13 @@ with_nest_said s nest row said = record (with_nest s nest row) { nests_said = sl
 -- ---- graphs and actions
 
 abbrev pub with_graph : SoFar → SoFar
-with_graph s = record s { block = block.Top; graphs = s.graphs ++ record { exceptions = s.exceptions; pairs = s.pairs } ∷ []; exceptions = []; pairs = [] }
+with_graph s =
+    record s {
+      block = block.Top;
+      graphs = s.graphs ++ record { exceptions = s.exceptions; pairs = s.pairs } ∷ [];
+      exceptions = [];
+      pairs = [];
+    }
 
 -- an action of which nothing is said yet but its name
 abbrev pub begun : SoFar → ℕ → SoFar
@@ -208,11 +216,20 @@ ended names s block.Action = with_action (without_parts s) (action_row names s)
 -- ---- all lines
 
 abbrev pub with_said : List (List ℕ) → SoFar → Form → SoFar
-with_said names s (form.Participant name) = record s { participants = s.participants ++ name ∷ []; participant_rows = s.participant_rows ++ name_at names name ∷ [] }
-with_said names s (form.Object name value) = record s { objects = s.objects ++ name ∷ []; object_rows = s.object_rows ++ record { name = name_at names name; initial = value } ∷ [] }
+with_said names s (form.Participant name) =
+    record s {
+      participants = s.participants ++ name ∷ [];
+      participant_rows = s.participant_rows ++ name_at names name ∷ [];
+    }
+with_said names s (form.Object name value) =
+    record s {
+      objects = s.objects ++ name ∷ [];
+      object_rows = s.object_rows ++ record { name = name_at names name; initial = value } ∷ [];
+    }
 with_said names s (form.Drill object nth) = record s { drills = s.drills ++ record { object = index_of object s.objects; nth = nth } ∷ [] }
 with_said names s (form.Watch object) = record s { watches = s.watches ++ index_of object s.objects ∷ [] }
-with_said names s (form.Graph name) = record s { graph_names = s.graph_names ++ name ∷ []; block = block.Graph; exceptions = s.universal ∷ []; pairs = [] }
+with_said names s (form.Graph name) =
+    record s { graph_names = s.graph_names ++ name ∷ []; block = block.Graph; exceptions = s.universal ∷ []; pairs = [] }
 with_said names s (form.Action name) = begun s name
 with_said names s (form.Play action who) = record s {
   plays = s.plays ++ record { action = index_of action s.action_names; who = map (λ p. index_of p s.participants) who } ∷ [];
@@ -230,12 +247,15 @@ with_said names s (form.Roles roles) = record s { roles = roles; role_rows = map
 with_said names s (form.Nest nest action roles) = record s {
   nests = s.nests ++ nest ∷ [];
   nest_rows = s.nest_rows
-      ++ plain_nest (name_at names nest) (index_of action s.action_names) (map (λ r. index_of r s.roles) roles) (length (exceptions_at s.graphs (action_of s action).interface)) ∷ [];
+      ++ plain_nest (name_at names nest) (index_of action s.action_names) (map (λ r. index_of r s.roles) roles)
+      (length (exceptions_at s.graphs (action_of s action).interface)) ∷ [];
   nests_said = s.nests_said ++ nothing_said ∷ [];
 }
 with_said names s (form.Map nest lower upper) =
     let number = index_of lower (face s nest) in
-    with_nest_said s nest (record (nest_of s nest) { maps = slice_set (nest_of s nest).maps number (index_of upper (inner s)) }) (record (said_of s nest) { mapped = (said_of s nest).mapped ++ number ∷ [] })
+    with_nest_said s nest
+    (record (nest_of s nest) { maps = slice_set (nest_of s nest).maps number (index_of upper (inner s)) })
+    (record (said_of s nest) { mapped = (said_of s nest).mapped ++ number ∷ [] })
 with_said names s (form.MapUndo nest exception) =
     with_nest_said s nest (record (nest_of s nest) { undo = index_of exception (inner s) }) (record (said_of s nest) { has_undo = true })
 with_said names s (form.MapFailure nest exception) =

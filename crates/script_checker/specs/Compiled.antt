@@ -96,7 +96,8 @@ pub record IsDraftOf (names : List (List ℕ)) (s : SoFar) (draft : Draft) : Typ
 -- where no line of the script has a cause, what is declared makes a draft that breaks no rule
 abbrev pub BreaksNoRule : Script → Type 0
 BreaksNoRule script =
-    AreAccepted script.names (nothing_yet script.names) script.lines → (draft : Draft) → IsDraftOf script.names (declared_after script.names (nothing_yet script.names) script.lines) draft
+    AreAccepted script.names (nothing_yet script.names) script.lines
+    → (draft : Draft) → IsDraftOf script.names (declared_after script.names (nothing_yet script.names) script.lines) draft
     → broken_rule draft ≡ None
 
 -- no line of the script has a cause, and the plan is the unfolding of its draft

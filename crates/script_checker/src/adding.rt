@@ -1,6 +1,7 @@
 //! What a line adds to what is declared.
 
 ghost use Rattle.std.specs.Prelude.{◌≡◌, ◌<◌, ◌≤◌, ◌+◌, ◌++◌, ◌∷◌, [], true, false, length, vec_len, map, slice_index_or, slice_set, replicate, Some, None, OnOk, IfOk};
+ghost use Rattle.caa_base.specs.Limits.{most_roles, most_exceptions};
 ghost use Rattle.caa_base.specs.Lists.{index_of};
 ghost use Rattle.place_plan.specs.Places.{no_role, no_nest};
 ghost use Rattle.script_checker.specs.DeclaredSoFar.{nothing_said};
@@ -78,7 +79,10 @@ fn set_program(
     opening: Opening,
     program: Program,
 ) -> Result<(), AllocError>
-    ensures { OnOk result (roles.new ≡ slice_set roles.old opening.role (with_program (slice_index_or roles.old opening.role no_role) opening.exception program)) }
+    ensures { OnOk result (
+        roles.new
+        ≡ slice_set roles.old opening.role
+        (with_program (slice_index_or roles.old opening.role no_role) opening.exception program)) }
 {
     let role = opening.role as usize;
     if role < roles.len() {
@@ -152,7 +156,7 @@ fn idle_roles(alloc: Global, names: &[Name], roles: &[u32]) -> Result<Vec<RoleRo
 }
 
 fn set_roles(declared: &mut Declared, names: &[Name], roles: &[u32]) -> Result<(), OutOfMemory>
-    requires { length roles.now ≤ 16 }
+    requires { length roles.now ≤ most_roles }
     ensures { OnOk result (so_far declared.new ≡ record (so_far declared.old) { roles = roles.now; role_rows = map (idle_role names.now) roles.now }) }
 {
     let rows = idle_roles(declared.alloc, names, roles)?;
@@ -202,7 +206,9 @@ fn with_number_at(numbers: Rows<u32>, index: u32, number: u32) -> Rows<u32>
 /// Carries an exception out of a nested use as another.
 #[tactic(auto, using(std::proofs::lemmas::List::set_past))]
 fn set_map(alloc: Global, nests: &mut [NestRow], nest: u32, lower: u32, upper: u32)
-    ensures { nests.new ≡ slice_set nests.old nest (record (slice_index_or nests.old nest no_nest) { maps = slice_set (slice_index_or nests.old nest no_nest).maps lower upper }) }
+    ensures { nests.new
+        ≡ slice_set nests.old nest
+        (record (slice_index_or nests.old nest no_nest) { maps = slice_set (slice_index_or nests.old nest no_nest).maps lower upper }) }
 {
     let index = nest as usize;
     if index < nests.len() {
@@ -215,7 +221,10 @@ fn set_map(alloc: Global, nests: &mut [NestRow], nest: u32, lower: u32, upper: u
 /// Says that an exception of a nested use is mapped.
 #[tactic(auto, using(std::proofs::lemmas::List::set_past))]
 fn say_mapped(said: &mut [NestSaid], nest: u32, lower: u32) -> Result<(), AllocError>
-    ensures { OnOk result (said.new ≡ slice_set said.old nest (record (slice_index_or said.old nest nothing_said) { mapped = (slice_index_or said.old nest nothing_said).mapped ++ lower ∷ [] })) }
+    ensures { OnOk result (
+        said.new
+        ≡ slice_set said.old nest
+        (record (slice_index_or said.old nest nothing_said) { mapped = (slice_index_or said.old nest nothing_said).mapped ++ lower ∷ [] })) }
 {
     let index = nest as usize;
     if index < said.len() {
@@ -309,7 +318,10 @@ fn set_alternate(
     nest: u32,
     action: u32,
 ) -> Result<(), AllocError>
-    ensures { OnOk result (nests.new ≡ slice_set nests.old nest (record (slice_index_or nests.old nest no_nest) { actions = (slice_index_or nests.old nest no_nest).actions ++ action ∷ [] })) }
+    ensures { OnOk result (
+        nests.new
+        ≡ slice_set nests.old nest
+        (record (slice_index_or nests.old nest no_nest) { actions = (slice_index_or nests.old nest no_nest).actions ++ action ∷ [] })) }
 {
     let index = nest as usize;
     if index < nests.len() {
@@ -388,7 +400,7 @@ fn add_cover(declared: &mut Declared, upper: u32, lower: u32) -> Result<(), Allo
 }
 
 fn add_exception(declared: &mut Declared, name: u32) -> Result<(), AllocError>
-    requires { length declared.old.exceptions < 128 }
+    requires { length declared.old.exceptions < most_exceptions }
     ensures { OnOk result (so_far declared.new ≡ with_said [] (so_far declared.old) (Form.Exception name)) }
 {
     declared.exceptions.push(name)?;

@@ -2,6 +2,7 @@
 
 ghost use Rattle.std.specs.Prelude.{◌≡◌, ◌≤◌, nat_le, length, map, not, ◌||◌, slice_index_or, IfOk};
 ghost use Rattle.std.specs.List.{list_any, list_all};
+ghost use Rattle.caa_base.specs.Limits.{most_steps};
 ghost use Rattle.caa_base.specs.Lists.{member, index_of};
 ghost use Rattle.place_plan.specs.DraftRules.{roles_enter};
 ghost use Rattle.place_plan.specs.Weights.{counted, at};
@@ -381,7 +382,7 @@ fn count_alternates(declared: &Declared, nest: u32) -> usize
 
 /// Whether a body or handler has as many steps as it may have.
 fn is_full(declared: &Declared) -> bool
-    ensures { result ≡ nat_le 256 (length (so_far declared.now).steps) }
+    ensures { result ≡ nat_le most_steps (length (so_far declared.now).steps) }
 {
     declared.steps.len() >= MOST_STEPS
 }

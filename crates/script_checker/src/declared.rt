@@ -1,4 +1,5 @@
 ghost use Rattle.std.specs.Prelude.{◌≡◌, ◌≤◌, ◌<◌, ◌^◌, true, length, vec_len, codes, All, IfOk};
+ghost use Rattle.caa_base.specs.Limits.{most_roles, most_exceptions};
 ghost use Rattle.script_checker.specs.Blocks.{is_in_graph};
 ghost use Rattle.action_script.specs.NumberedNames.{number_in};
 ghost use Rattle.script_checker.specs.DeclaredSoFar.{plain_graph};
@@ -61,8 +62,8 @@ pub struct Declared {
     pub opening: Option<Opening>,
     /// Its steps.
     pub steps: Vec<Step>,
-    ghost few_roles: { vec_len role_rows ≤ 16 },
-    ghost few_exceptions: { length exceptions ≤ 128 },
+    ghost few_roles: { vec_len role_rows ≤ most_roles },
+    ghost few_exceptions: { length exceptions ≤ most_exceptions },
     ghost some_exceptions: { is_in_graph block ≡ true → 0 < length exceptions },
     ghost pairs_known: { All (λ p. (p.0 < length exceptions) × (p.1 < length exceptions)) pairs.items },
 }

@@ -151,7 +151,9 @@ impl CommittedWriter {
         requires objects { All (λ c. c.0 < length self.old.initials) changes.now }
         ensures initials { self.new.initials ≡ self.old.initials }
         ensures book { self.new.publications.book ≡ self.old.publications.book }
-        ensures published { MatchResult result (λ _. self.new.publications.list ≡ self.old.publications.list ++ changes.now ∷ []) (λ _. self.new.publications ≡ self.old.publications) }
+        ensures published { MatchResult result
+            (λ _. self.new.publications.list ≡ self.old.publications.list ++ changes.now ∷ [])
+            (λ _. self.new.publications ≡ self.old.publications) }
         ensures marked { self.new.is_stale ≡ is_err result }
         ensures stale { (result ≡ Err Stale) ↔ IsTrue self.old.is_stale }
     {
@@ -179,7 +181,9 @@ impl CommittedWriter {
         ensures initials { self.new.initials ≡ self.old.initials }
         ensures fresh { self.new.is_stale ≡ false }
         ensures book { self.new.publications.book ≡ self.old.publications.book }
-        ensures added { MatchResult result (λ _. self.new.publications.list ≡ self.old.publications.list ++ changes.now ∷ []) (λ _. self.new.publications ≡ self.old.publications) }
+        ensures added { MatchResult result
+            (λ _. self.new.publications.list ≡ self.old.publications.list ++ changes.now ∷ [])
+            (λ _. self.new.publications ≡ self.old.publications) }
     {
         let publication = self.prepared(alloc, changes)?;
         match self.writer.append(publication) {
