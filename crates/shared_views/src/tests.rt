@@ -1,14 +1,11 @@
 ghost use Rattle.std.specs.Prelude.{◌≡◌, length};
 
 use super::*;
-use caa_base::name::Name;
-use caa_base::rows::Rows;
-use place_plan::draft::Draft;
-use place_plan::draft_rows::{GraphRow, ObjectRow};
 use place_plan::plan::Plan;
 use std::alloc::Global;
 use std::sync::Wait;
 use std::test::Fail;
+use trial_drafts::draft;
 
 #[test]
 fn notes_meet(rt: HostRuntime) -> Result<(), Fail> {
@@ -24,24 +21,16 @@ fn notes_meet(rt: HostRuntime) -> Result<(), Fail> {
 
 /// A plan of two objects, x of 5 and y of 0.
 fn two_objects(alloc: Global) -> Result<Plan, Fail> {
-    let x = ObjectRow {
-        name: Name::from_bytes(alloc, b"x")?,
-        initial: 5,
-    };
-    let y = ObjectRow {
-        name: Name::from_bytes(alloc, b"y")?,
-        initial: 0,
-    };
-    let draft = Draft {
-        participants: Rows::from_vec(Vec::new(alloc)),
-        objects: Rows::from_vec(vec![in alloc; x, y]?),
-        graphs: Rows::from_vec(vec![in alloc; GraphRow::plain(alloc)?]?),
-        actions: Rows::from_vec(Vec::new(alloc)),
-        plays: Rows::from_vec(Vec::new(alloc)),
-        drills: Rows::from_vec(Vec::new(alloc)),
-        watches: Rows::from_vec(Vec::new(alloc)),
-    };
-    Ok(Plan::close(alloc, draft)?)
+    let made = draft(
+        alloc,
+        &[],
+        &[(b"x".as_slice(), 5), (b"y".as_slice(), 0)],
+        Vec::new(alloc),
+        Vec::new(alloc),
+        Vec::new(alloc),
+        &[],
+    )?;
+    Ok(Plan::close(alloc, made)?)
 }
 
 /// What is read of y in turn: before, between and after two publications, by one that isn't told and by one that is.
