@@ -25,3 +25,4 @@ pub mod AcceptedDraft
 pub mod Unbroken
 pub mod NamesKept
 pub mod NumberTables
+pub mod DrillTables

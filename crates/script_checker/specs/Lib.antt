@@ -6,6 +6,7 @@ pub mod Compiled
 pub mod Graphs
 pub mod Numbers
 pub mod NumberTable
+pub mod DrillTable
 pub mod Rows
 pub mod DeclaredSoFar
 pub mod View

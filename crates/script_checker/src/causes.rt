@@ -97,12 +97,9 @@ pub(crate) fn is_unknown(declared: &Declared, form: &Form) -> bool
 
 /// Whether a put of an object is drilled.
 fn is_drilled(declared: &Declared, object: u32, nth: u32) -> bool
-    ensures { result ≡ list_any (is_drill object nth) declared.now.drills.items }
+    ensures { result ≡ list_any (is_drill object nth) declared.now.drills }
 {
-    declared
-        .drills
-        .iter()
-        .any(|drill| drill.object == object && drill.nth == nth)
+    declared.drills.contains(object, nth)
 }
 
 /// Whether an exception of a nested use is mapped.

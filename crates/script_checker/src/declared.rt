@@ -4,9 +4,9 @@ ghost use Rattle.script_checker.specs.Blocks.{is_in_graph};
 ghost use Rattle.action_script.specs.NumberedNames.{number_in};
 ghost use Rattle.script_checker.specs.DeclaredSoFar.{plain_graph};
 
+use crate::drill_list::DrillList;
 use crate::number_list::NumberList;
 use crate::parts::{Block, DeclaredGraph, NestSaid, Opening};
-use caa_base::entry::Drill;
 use caa_base::name::Name;
 use caa_base::rows::Rows;
 use place_plan::draft_rows::{ActionRow, NestRow, ObjectRow, PlayRow, RoleRow, Step};
@@ -37,7 +37,7 @@ pub struct Declared {
     pub plays: Vec<PlayRow>,
     pub all_places: u64,
     pub whole_bound: u64,
-    pub drills: Vec<Drill>,
+    pub drills: DrillList,
     pub watches: Vec<u32>,
     pub block: Block,
     /// The exceptions of the graph that is being declared.
@@ -122,7 +122,7 @@ impl Declared {
             plays: Vec::new(alloc),
             all_places: 0,
             whole_bound: 0,
-            drills: Vec::new(alloc),
+            drills: DrillList::new(alloc),
             watches: Vec::new(alloc),
             block: Block::Top,
             exceptions: NumberList::new(alloc),

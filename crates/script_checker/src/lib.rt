@@ -6,6 +6,7 @@ mod causes;
 pub mod check_error;
 pub mod compile;
 mod declared;
+mod drill_list;
 mod graphs;
 mod lookups;
 mod number_list;
