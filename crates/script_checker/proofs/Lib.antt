@@ -26,3 +26,4 @@ pub mod Unbroken
 pub mod NamesKept
 pub mod NumberTables
 pub mod DrillTables
+pub mod HandlerTables

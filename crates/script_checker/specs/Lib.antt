@@ -7,6 +7,7 @@ pub mod Graphs
 pub mod Numbers
 pub mod NumberTable
 pub mod DrillTable
+pub mod Handled
 pub mod Rows
 pub mod DeclaredSoFar
 pub mod View

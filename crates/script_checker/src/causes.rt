@@ -174,18 +174,9 @@ fn has_handler(declared: &Declared, role: u32, exception: u32) -> bool
     ensures { result ≡ list_any (handles (index_of exception (inner (so_far declared.now)))) (role_of (so_far declared.now) role).handlers }
 {
     let number = inner_number(declared, exception);
-    match declared
+    declared
         .role_rows
-        .as_slice()
-        .get(declared.roles.find(role) as usize)
-    {
-        Some(row) => row
-            .handlers
-            .as_slice()
-            .iter()
-            .any(|handler| handler.exception == number),
-        None => false,
-    }
+        .handles(declared.roles.find(role), number)
 }
 
 /// Whether the line declares or says again what was declared or said.
@@ -286,7 +277,8 @@ pub(crate) fn enters_otherwise(declared: &Declared, form: &Form) -> bool
 {
     match form {
         Form::End => {
-            is_in_action(declared.block) && !roles_enter(&declared.nest_rows, &declared.role_rows)
+            is_in_action(declared.block)
+                && !roles_enter(&declared.nest_rows, declared.role_rows.as_slice())
         }
         _ => false,
     }

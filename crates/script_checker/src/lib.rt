@@ -12,3 +12,4 @@ mod lookups;
 mod number_list;
 pub mod own_names;
 mod parts;
+mod role_list;
