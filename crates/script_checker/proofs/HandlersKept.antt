@@ -1,5 +1,5 @@
 -- The handlers of a role in an accepted script have different exceptions.
-use Rattle.std.proofs.Common.{◌≡◌, ℕ, ◌==◌, Bool, true, false, not, List, [], ◌∷◌, ◌++◌, map, slice_index_or, Option, Some, None, refl, sym, ◌∙◌, subst}
+use Rattle.std.proofs.Common.{◌≡◌, ℕ, ◌==◌, Bool, true, false, not, List, [], ◌∷◌, ◌++◌, slice_index_or, Option, Some, None, refl, sym, ◌∙◌, subst}
 use Rattle.std.specs.List.{list_all, list_any}
 use Rattle.std.proofs.lemmas.Bool.{and_parts, false≢true, not-true, or_parts}
 use Rattle.caa_base.specs.Lists.{member, index_of}
@@ -21,6 +21,7 @@ use Rattle.script_checker.specs.DeclaredSoFar.{SoFar, outer}
 use Rattle.script_checker.specs.Causes.{handles}
 use Rattle.script_checker.specs.After.{goes_on, closed_if, ended, with_said, with_program, idle_role}
 use Rattle.script_checker.specs.Compiled.{HasNone}
+use Rattle.script_checker.specs.Handled.{exceptions_of}
 use Rattle.script_checker.proofs.Accepted.{IsKept, once}
 use Rattle.script_checker.proofs.ActionsGrow.{closed_actions, said_actions}
 use Rattle.script_checker.proofs.ListsChange.{all_change, all_set, all_mapped}
@@ -35,19 +36,16 @@ eqb_turn_false a b h = by_test (b == a) refl
     by_test false e = e
     by_test true e = absurd (false≢true (sym h ∙ eqb_turn b a e))
 
-abbrev exceptions : List HandlerRow → List ℕ
-exceptions handlers = map (λ (h : HandlerRow). h.exception) handlers
-
-absent_push : (n x : ℕ) (program : Program) (handlers : List HandlerRow) → member n (exceptions handlers) ≡ false → (x == n) ≡ false → member n (exceptions (handlers ++ record { exception = x; program = program } ∷ [])) ≡ false
+absent_push : (n x : ℕ) (program : Program) (handlers : List HandlerRow) → member n (exceptions_of handlers) ≡ false → (x == n) ≡ false → member n (exceptions_of (handlers ++ record { exception = x; program = program } ∷ [])) ≡ false
 absent_push n x program [] h e = rw e refl
 absent_push n x program (k ∷ handlers) h e =
-    let p = or_parts (k.exception == n) (member n (exceptions handlers)) h in
+    let p = or_parts (k.exception == n) (member n (exceptions_of handlers)) h in
     rw (p.0, absent_push n x program handlers p.1 e) refl
 
-differ_push : (x : ℕ) (program : Program) (handlers : List HandlerRow) → all_differ (exceptions handlers) ≡ true → list_any (handles x) handlers ≡ false → all_differ (exceptions (handlers ++ record { exception = x; program = program } ∷ [])) ≡ true
+differ_push : (x : ℕ) (program : Program) (handlers : List HandlerRow) → all_differ (exceptions_of handlers) ≡ true → list_any (handles x) handlers ≡ false → all_differ (exceptions_of (handlers ++ record { exception = x; program = program } ∷ [])) ≡ true
 differ_push x program [] h f = refl
 differ_push x program (k ∷ handlers) h f =
-    let p = and_parts (not (member k.exception (exceptions handlers))) (all_differ (exceptions handlers)) h in
+    let p = and_parts (not (member k.exception (exceptions_of handlers))) (all_differ (exceptions_of handlers)) h in
     let q = or_parts (k.exception == x) (list_any (handles x) handlers) f in
     rw (absent_push k.exception x program handlers (not-true _ p.0) (eqb_turn_false k.exception x q.0), differ_push x program handlers p.1 q.1) refl
 

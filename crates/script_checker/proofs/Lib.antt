@@ -25,3 +25,5 @@ pub mod AcceptedDraft
 pub mod Unbroken
 pub mod NamesKept
 pub mod NumberTables
+pub mod DrillTables
+pub mod HandlerTables

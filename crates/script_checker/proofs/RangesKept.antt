@@ -1,7 +1,7 @@
 -- The numbers in what an accepted script declares are in range, however much is declared later.
-use Rattle.std.proofs.Common.{◌≡◌, ℕ, suc, zero, ◌+◌, ◌<◌, ◌≤◌, nat_lt, Bool, true, false, not, ◌&&◌, is_some, List, [], ◌∷◌, ◌++◌, map, length, replicate, slice_set, Option, Some, None, unwrap_or, refl, sym, arith, length-append}
+use Rattle.std.proofs.Common.{◌≡◌, ℕ, suc, zero, ◌+◌, ◌<◌, ◌≤◌, nat_lt, Bool, true, false, not, ◌&&◌, is_some, List, [], ◌∷◌, ◌++◌, length, replicate, slice_set, Option, Some, None, unwrap_or, refl, sym, arith, length-append}
 use Rattle.std.specs.List.{list_all}
-use Rattle.std.proofs.lemmas.Bool.{and_parts, false≢true, ltb-true, lt-ltb, eqb-true, and_from, not-false, or_parts}
+use Rattle.std.proofs.lemmas.Bool.{and_parts, false≢true, lt-ltb, eqb-true, and_from, not-false, or_parts}
 use Rattle.caa_base.specs.Lists.{member, index_of, is_empty}
 use Rattle.caa_base.specs.declared.entry.Drill.{Drill}
 use Rattle.caa_base.specs.declared.entry.Verdict.{Verdict}

@@ -6,6 +6,8 @@ pub mod Compiled
 pub mod Graphs
 pub mod Numbers
 pub mod NumberTable
+pub mod DrillTable
+pub mod Handled
 pub mod Rows
 pub mod DeclaredSoFar
 pub mod View

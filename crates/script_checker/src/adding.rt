@@ -3,10 +3,10 @@
 ghost use Rattle.std.specs.Prelude.{◌≡◌, ◌<◌, ◌≤◌, ◌+◌, ◌++◌, ◌∷◌, [], true, false, length, vec_len, map, slice_index_or, slice_set, replicate, Some, None, OnOk, IfOk};
 ghost use Rattle.caa_base.specs.Limits.{most_roles, most_exceptions};
 ghost use Rattle.caa_base.specs.Lists.{index_of};
-ghost use Rattle.place_plan.specs.Places.{no_role, no_nest};
+ghost use Rattle.place_plan.specs.Places.{no_nest};
 ghost use Rattle.script_checker.specs.DeclaredSoFar.{nothing_said};
 ghost use Rattle.script_checker.specs.Causes.{is_unknown, is_past_limit};
-ghost use Rattle.script_checker.specs.After.{name_at, step_of, verdict_of, goes_on, is_of_parts, is_of_action, is_outside, settled, with_program, closed, with_step, with_opening, idle_role, with_abort, with_graph, begun, action_row, with_depth, with_places, with_bound, with_action_row, with_action, without_parts, with_said};
+ghost use Rattle.script_checker.specs.After.{name_at, step_of, verdict_of, goes_on, is_of_parts, is_of_action, is_outside, settled, closed, with_step, with_opening, idle_role, with_abort, with_graph, begun, action_row, with_depth, with_places, with_bound, with_action_row, with_action, without_parts, with_said};
 ghost use Rattle.script_checker.specs.View.{so_far};
 
 use crate::causes::{bound_with, places_with};
@@ -17,13 +17,14 @@ use crate::lookups::{
 };
 use crate::number_list::NumberList;
 use crate::parts::{Block, DeclaredGraph, NestSaid, Opening};
+use crate::role_list::RoleList;
 use action_script::form::Form;
 use caa_base::entry::{Drill, OutOfMemory, Verdict};
 use caa_base::name::Name;
 use caa_base::rows::Rows;
 use place_plan::action_size;
 use place_plan::draft_rows::{
-    AbortRow, ActionRow, HandlerRow, NestRow, ObjectRow, PlayRow, Program, RoleRow, Step,
+    AbortRow, ActionRow, NestRow, ObjectRow, PlayRow, Program, RoleRow, Step,
 };
 use std::alloc::{AllocError, Global};
 use std::mem::replace;
@@ -40,57 +41,6 @@ fn name_row(alloc: Global, names: &[Name], number: u32) -> Result<Name, OutOfMem
 
 // ---- bodies and handlers
 
-/// The handlers of a role with one more.
-fn with_handler(
-    handlers: Rows<HandlerRow>,
-    handler: HandlerRow,
-) -> Result<Rows<HandlerRow>, AllocError>
-    ensures { IfOk result (λ all. all ≡ handlers ++ handler ∷ []) }
-{
-    let mut handlers = handlers.into_vec();
-    handlers.push(handler)?;
-    Ok(Rows::from_vec(handlers))
-}
-
-/// A role with this body, or with one more handler.
-fn add_program(
-    alloc: Global,
-    role: &mut RoleRow,
-    exception: Option<u32>,
-    program: Program,
-) -> Result<(), AllocError>
-    ensures { OnOk result (role.new ≡ with_program role.old exception program) }
-{
-    match exception {
-        None => role.body = program,
-        Some(exception) => {
-            let handlers = replace(&mut role.handlers, Rows::from_vec(Vec::new(alloc)));
-            role.handlers = with_handler(handlers, HandlerRow { exception, program })?;
-        }
-    }
-    Ok(())
-}
-
-/// Gives a role this body, or one more handler.
-#[tactic(auto, using(std::proofs::lemmas::List::set_past))]
-fn set_program(
-    alloc: Global,
-    roles: &mut [RoleRow],
-    opening: Opening,
-    program: Program,
-) -> Result<(), AllocError>
-    ensures { OnOk result (
-        roles.new
-        ≡ slice_set roles.old opening.role
-        (with_program (slice_index_or roles.old opening.role no_role) opening.exception program)) }
-{
-    let role = opening.role as usize;
-    if role < roles.len() {
-        add_program(alloc, &mut roles[role], opening.exception, program)?;
-    }
-    Ok(())
-}
-
 /// Ends the body or handler that is being declared, if any, with this verdict.
 pub(crate) fn close(declared: &mut Declared, verdict: Verdict) -> Result<(), AllocError>
     ensures { OnOk result (so_far declared.new ≡ closed (so_far declared.old) verdict) }
@@ -102,12 +52,7 @@ pub(crate) fn close(declared: &mut Declared, verdict: Verdict) -> Result<(), All
             verdict,
         };
         declared.opening = None;
-        set_program(
-            declared.alloc,
-            declared.role_rows.as_mut_slice(),
-            opening,
-            program,
-        )?;
+        declared.role_rows.set_program(opening, program)?;
     }
     Ok(())
 }
@@ -145,10 +90,10 @@ fn idle_role(alloc: Global, names: &[Name], name: u32) -> Result<RoleRow, OutOfM
 }
 
 /// Roles that do nothing.
-fn idle_roles(alloc: Global, names: &[Name], roles: &[u32]) -> Result<Vec<RoleRow>, OutOfMemory>
-    ensures { IfOk result (λ rows. rows.items ≡ map (idle_role names.now) roles.now) }
+fn idle_roles(alloc: Global, names: &[Name], roles: &[u32]) -> Result<RoleList, OutOfMemory>
+    ensures { IfOk result (λ rows. rows ≡ map (idle_role names.now) roles.now) }
 {
-    let mut rows = Vec::new(alloc);
+    let mut rows = RoleList::new(alloc);
     for role in roles {
         rows.push(idle_role(alloc, names, *role)?)?;
     }
@@ -165,22 +110,11 @@ fn set_roles(declared: &mut Declared, names: &[Name], roles: &[u32]) -> Result<(
     Ok(())
 }
 
-/// Says what a role names where its action is aborted.
-#[tactic(auto, using(std::proofs::lemmas::List::set_past))]
-fn set_abort(roles: &mut [RoleRow], role: u32, abort: AbortRow)
-    ensures { roles.new ≡ slice_set roles.old role (record (slice_index_or roles.old role no_role) { abort = abort }) }
-{
-    let index = role as usize;
-    if index < roles.len() {
-        roles[index].abort = abort;
-    }
-}
-
 fn add_abort(declared: &mut Declared, role: u32, abort: AbortRow)
     ensures { so_far declared.new ≡ with_abort (so_far declared.old) role abort }
 {
     let number = declared.roles.find(role);
-    set_abort(declared.role_rows.as_mut_slice(), number, abort);
+    declared.role_rows.set_abort(number, abort);
 }
 
 /// A list with one more number.
@@ -433,7 +367,7 @@ fn begin_action(declared: &mut Declared, name: u32) -> Result<(), AllocError>
     declared.fault = None;
     declared.uses = NumberList::new(declared.alloc);
     declared.roles = NumberList::new(declared.alloc);
-    declared.role_rows.clear();
+    declared.role_rows = RoleList::new(declared.alloc);
     declared.bodies.clear();
     declared.nests = NumberList::new(declared.alloc);
     declared.nest_rows.clear();
@@ -451,7 +385,7 @@ fn take_action(declared: &mut Declared, names: &[Name]) -> Result<ActionRow, Out
     let alloc = declared.alloc;
     let name = name_row(alloc, names, declared.action_name)?;
     let objects = replace(&mut declared.uses, NumberList::new(alloc));
-    let roles = replace(&mut declared.role_rows, Vec::new(alloc));
+    let roles = replace(&mut declared.role_rows, RoleList::new(alloc));
     let nests = replace(&mut declared.nest_rows, Vec::new(alloc));
     Ok(ActionRow {
         name,
@@ -459,7 +393,7 @@ fn take_action(declared: &mut Declared, names: &[Name]) -> Result<ActionRow, Out
         interface: declared.interface.unwrap_or(0),
         fault: declared.fault.unwrap_or(0),
         objects: Rows::from_vec(objects.into_items()),
-        roles: Rows::from_vec(roles),
+        roles: Rows::from_vec(roles.into_vec()),
         nests: Rows::from_vec(nests),
     })
 }

@@ -97,12 +97,9 @@ pub(crate) fn is_unknown(declared: &Declared, form: &Form) -> bool
 
 /// Whether a put of an object is drilled.
 fn is_drilled(declared: &Declared, object: u32, nth: u32) -> bool
-    ensures { result ≡ list_any (is_drill object nth) declared.now.drills.items }
+    ensures { result ≡ list_any (is_drill object nth) declared.now.drills }
 {
-    declared
-        .drills
-        .iter()
-        .any(|drill| drill.object == object && drill.nth == nth)
+    declared.drills.contains(object, nth)
 }
 
 /// Whether an exception of a nested use is mapped.
@@ -177,18 +174,9 @@ fn has_handler(declared: &Declared, role: u32, exception: u32) -> bool
     ensures { result ≡ list_any (handles (index_of exception (inner (so_far declared.now)))) (role_of (so_far declared.now) role).handlers }
 {
     let number = inner_number(declared, exception);
-    match declared
+    declared
         .role_rows
-        .as_slice()
-        .get(declared.roles.find(role) as usize)
-    {
-        Some(row) => row
-            .handlers
-            .as_slice()
-            .iter()
-            .any(|handler| handler.exception == number),
-        None => false,
-    }
+        .handles(declared.roles.find(role), number)
 }
 
 /// Whether the line declares or says again what was declared or said.
@@ -289,7 +277,8 @@ pub(crate) fn enters_otherwise(declared: &Declared, form: &Form) -> bool
 {
     match form {
         Form::End => {
-            is_in_action(declared.block) && !roles_enter(&declared.nest_rows, &declared.role_rows)
+            is_in_action(declared.block)
+                && !roles_enter(&declared.nest_rows, declared.role_rows.as_slice())
         }
         _ => false,
     }

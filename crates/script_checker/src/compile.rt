@@ -145,7 +145,7 @@ fn draft_of(declared: Declared, rows: Vec<GraphRow>) -> Draft
         graphs: Rows::from_vec(rows),
         actions: Rows::from_vec(declared.actions),
         plays: Rows::from_vec(declared.plays),
-        drills: Rows::from_vec(declared.drills),
+        drills: Rows::from_vec(declared.drills.into_vec()),
         watches: Rows::from_vec(declared.watches),
     }
 }

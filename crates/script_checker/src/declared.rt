@@ -1,15 +1,16 @@
-ghost use Rattle.std.specs.Prelude.{◌≡◌, ◌≤◌, ◌<◌, ◌^◌, true, length, vec_len, codes, All, IfOk};
+ghost use Rattle.std.specs.Prelude.{◌≡◌, ◌≤◌, ◌<◌, ◌^◌, true, length, codes, All, IfOk};
 ghost use Rattle.caa_base.specs.Limits.{most_roles, most_exceptions};
 ghost use Rattle.script_checker.specs.Blocks.{is_in_graph};
 ghost use Rattle.action_script.specs.NumberedNames.{number_in};
 ghost use Rattle.script_checker.specs.DeclaredSoFar.{plain_graph};
 
+use crate::drill_list::DrillList;
 use crate::number_list::NumberList;
 use crate::parts::{Block, DeclaredGraph, NestSaid, Opening};
-use caa_base::entry::Drill;
+use crate::role_list::RoleList;
 use caa_base::name::Name;
 use caa_base::rows::Rows;
-use place_plan::draft_rows::{ActionRow, NestRow, ObjectRow, PlayRow, RoleRow, Step};
+use place_plan::draft_rows::{ActionRow, NestRow, ObjectRow, PlayRow, Step};
 use std::alloc::{AllocError, Global};
 
 /// What the lines of a script have declared so far, by the numbers of names.
@@ -37,7 +38,7 @@ pub struct Declared {
     pub plays: Vec<PlayRow>,
     pub all_places: u64,
     pub whole_bound: u64,
-    pub drills: Vec<Drill>,
+    pub drills: DrillList,
     pub watches: Vec<u32>,
     pub block: Block,
     /// The exceptions of the graph that is being declared.
@@ -51,7 +52,7 @@ pub struct Declared {
     pub fault: Option<u32>,
     pub uses: NumberList,
     pub roles: NumberList,
-    pub role_rows: Vec<RoleRow>,
+    pub role_rows: RoleList,
     /// Those of its roles that have a body.
     pub bodies: Vec<u32>,
     pub nests: NumberList,
@@ -62,7 +63,7 @@ pub struct Declared {
     pub opening: Option<Opening>,
     /// Its steps.
     pub steps: Vec<Step>,
-    ghost few_roles: { vec_len role_rows ≤ most_roles },
+    ghost few_roles: { length role_rows ≤ most_roles },
     ghost few_exceptions: { length exceptions ≤ most_exceptions },
     ghost some_exceptions: { is_in_graph block ≡ true → 0 < length exceptions },
     ghost pairs_known: { All (λ p. (p.0 < length exceptions) × (p.1 < length exceptions)) pairs.items },
@@ -122,7 +123,7 @@ impl Declared {
             plays: Vec::new(alloc),
             all_places: 0,
             whole_bound: 0,
-            drills: Vec::new(alloc),
+            drills: DrillList::new(alloc),
             watches: Vec::new(alloc),
             block: Block::Top,
             exceptions: NumberList::new(alloc),
@@ -133,7 +134,7 @@ impl Declared {
             fault: None,
             uses: NumberList::new(alloc),
             roles: NumberList::new(alloc),
-            role_rows: Vec::new(alloc),
+            role_rows: RoleList::new(alloc),
             bodies: Vec::new(alloc),
             nests: NumberList::new(alloc),
             nest_rows: Vec::new(alloc),
