@@ -1,6 +1,6 @@
 //! What a line adds to what is declared.
 
-ghost use Rattle.std.specs.Prelude.{◌≡◌, ◌<◌, ◌≤◌, ◌+◌, ◌++◌, ◌∷◌, [], true, false, length, vec_len, map, slice_index_or, slice_set, replicate, Some, None, OnOk, IfOk};
+ghost use Rattle.std.specs.Prelude.{◌≡◌, ◌<◌, ◌≤◌, ◌+◌, ◌++◌, ◌∷◌, [], true, false, length, map, slice_index_or, slice_set, replicate, Some, None, OnOk, IfOk};
 ghost use Rattle.caa_base.specs.Limits.{most_roles, most_exceptions};
 ghost use Rattle.caa_base.specs.Lists.{index_of};
 ghost use Rattle.place_plan.specs.Places.{no_nest};
