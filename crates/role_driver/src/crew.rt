@@ -110,7 +110,7 @@ pub fn start_all<'s, E, M: Machine + Send, G: Gate + Sync, R: Threads + Wait + S
 }
 
 /// One turn of a seat, with its mixing work, and whether its participant is over.
-fn go_on<M: Machine, G: Gate, R: Wait>(
+pub fn go_on<M: Machine, G: Gate, R: Wait>(
     rt: &R,
     manager: &Manager<M>,
     seat: &mut Seat<M>,

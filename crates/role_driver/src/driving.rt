@@ -19,11 +19,7 @@ use std::sync::Wait;
 /// Takes the note of a Handle out of the seat and asks the cell of its place with it: the cell gives the exception that is handled.
 ///
 /// Only where the cell refused the announcement there is no note to ask with.
-pub(crate) fn ask<M: Machine>(
-    manager: &Manager<M>,
-    seat: &mut Seat<M>,
-    handle: Entry,
-) -> Option<Exception>
+fn ask<M: Machine>(manager: &Manager<M>, seat: &mut Seat<M>, handle: Entry) -> Option<Exception>
     requires opened { IsSeatIn M.base_of manager.now seat.old }
     requires told { IsTold (cells_in manager.now) handle.place handle.arg (told_to seat.old) }
     ensures opened { IsSeatIn M.base_of manager.now seat.new }
