@@ -1,4 +1,4 @@
-"""Runs the program on inputs near its limits and with faults outside, and compares what it prints and how it ends.
+"""Runs the program on inputs near its limits, with a watch, and with faults outside, and compares what it prints and how it ends.
 
     python3 examples/large/compare.py PROGRAM
 """
@@ -149,9 +149,10 @@ wrong = []
 
 
 def compare(name, program, words, status, text, **streams):
-    """Runs the program, and compares its status, and its text where one is given."""
+    """Runs the program, and compares its status, and its text where one or several that it may be are given."""
     ended = subprocess.run([program, *words], **{"stdout": subprocess.PIPE, **streams})
-    right = ended.returncode == status and (text is None or ended.stdout == text.encode())
+    texts = [text] if isinstance(text, str) else text
+    right = ended.returncode == status and (texts is None or ended.stdout.decode() in texts)
     print(f"{name}: {'as wanted' if right else f'status {ended.returncode}, not {status}, or another text'}")
     if not right:
         wrong.append(name)
@@ -163,6 +164,18 @@ def large_inputs(program):
     compare(f"sim {SEED} of it", program, ["sim", str(SEED)], 0, journal, input=script.encode())
     for name, given, status, text in audits():
         compare(f"audit: {name}", program, ["audit"], status, text, input=given.encode())
+
+
+def watched_run(program):
+    """A run with a watch: what is seen before both plays have ended depends on when threads run."""
+    def text(name):
+        with open(os.path.join(CASES, name)) as file:
+            return file.read()
+
+    looks = ["", "seen count 0 0\n", "seen count 1 1\n", "seen count 0 0\nseen count 1 1\n"]
+    texts = [text("counted_pieces.stdout") + earlier + "seen count 2 2\n" for earlier in looks]
+    for _ in range(20):
+        compare("run with a watch", program, ["run"], 0, texts, input=(text("counted_pieces") + "watch count\n").encode())
 
 
 def little_memory():
@@ -187,5 +200,6 @@ def statuses(program):
 
 
 large_inputs(sys.argv[1])
+watched_run(sys.argv[1])
 statuses(sys.argv[1])
 sys.exit(1 if wrong else 0)
