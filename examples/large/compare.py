@@ -182,6 +182,13 @@ def little_memory():
     resource.setrlimit(resource.RLIMIT_AS, (16 << 20, 16 << 20))
 
 
+def closed_input():
+    try:
+        os.close(0)
+    except OSError:
+        pass  # it is closed already
+
+
 def statuses(program):
     """Each status of the program at its exit. Its device is never refused to be laid out, so 6 isn't among them."""
     def case(name):
@@ -192,7 +199,7 @@ def statuses(program):
     compare("status 1", program, ["sim", "1"], 1, None, stdin=case("stuck_valve"))
     compare("status 2", program, ["check", "1"], 2, None, stdin=case("first_cycle"))
     compare("status 3, from a folder", program, ["check"], 3, "fault source\n", stdin=os.open(CASES, os.O_RDONLY))
-    compare("status 3, closed", program, ["check"], 3, "fault source\n", preexec_fn=lambda: os.close(0))
+    compare("status 3, closed", program, ["check"], 3, "fault source\n", preexec_fn=closed_input)
     compare("status 4", program, ["check"], 4, None, stdin=case("two_stops"))
     compare("status 5", program, ["sim", "1"], 5, None, stdin=case("first_cycle"), stdout=open("/dev/full", "wb"))
     compare("status 7", program, ["audit"], 7, None, stdin=case("altered_jam"))
