@@ -3,7 +3,7 @@ ghost use Rattle.std.specs.Ordering.{int_eq};
 ghost use Rattle.caa_base.specs.declared.entry.Kind.TheVariants as kind;
 ghost use Rattle.place_plan.specs.Places.{parent};
 ghost use Rattle.place_plan.specs.Entries.{is_of};
-ghost use Rattle.place_plan.specs.Journals.{plays_ended, committed_value};
+ghost use Rattle.place_plan.specs.Journals.{plays_ended};
 ghost use Rattle.journal_text.specs.Looks.{AreOfPlan};
 ghost use Rattle.journal_text.specs.Naming.{is_well_named};
 ghost use Rattle.journal_text.specs.Text.{watched_object};
@@ -122,14 +122,12 @@ fn is_whole(plan: &Plan, last: Option<Seen>) -> bool
 
 /// Whether a look shows the value that its object had by the plays that had ended.
 ///
-/// The tables have the values of each watch, so plan and entries are named by the contract alone.
-fn is_committed(plan: &Plan, entries: &[Entry], tables: &[Rows<i64>], seen: &Seen) -> bool
-    requires watch { seen.now.watch < length plan.now.watches }
-    requires tables { HasWatched plan.now (plays_ended plan.now (reverse entries.now)) (reverse entries.now) tables.now (length plan.now.watches) }
-    ensures { result ≡ is_committed plan.now (reverse entries.now) seen.now }
+/// The tables have the values of each watch, so plan and entries are there for the contract alone.
+fn is_committed(_plan: &Plan, _entries: &[Entry], tables: &[Rows<i64>], seen: &Seen) -> bool
+    requires watch { seen.now.watch < length _plan.now.watches }
+    requires tables { HasWatched _plan.now (plays_ended _plan.now (reverse _entries.now)) (reverse _entries.now) tables.now (length _plan.now.watches) }
+    ensures { result ≡ is_committed _plan.now (reverse _entries.now) seen.now }
 {
-    let _ = plan;
-    let _ = entries;
     shows_value(tables, seen)
 }
 
@@ -140,20 +138,6 @@ fn shows_value(tables: &[Rows<i64>], seen: &Seen) -> bool
     ensures { result ≡ int_eq seen.now.value (value_by (slice_index_or tables.now seen.now.watch []) seen.now.ends) }
 {
     seen.value == value_by(tables[seen.watch as usize].as_slice(), seen.ends)
-}
-
-/// The value of an object by the first so many plays that ended.
-///
-/// The values are those by the first 0, 1, 2 and so on, so plan, entries and object are named by the contract alone.
-#[tactic(auto, using(crate::proofs::CommittedLemmas::value_by_is))]
-fn committed_by(plan: &Plan, entries: &[Entry], object: Object, values: &[i64], ends: u64) -> i64
-    requires { HasCommitted plan.now (plays_ended plan.now (reverse entries.now)) (reverse entries.now) object values.now }
-    ensures { result ≡ committed_value plan.now (reverse entries.now) ends object }
-{
-    let _ = plan;
-    let _ = entries;
-    let _ = object;
-    value_by(values, ends)
 }
 
 /// The value by so many plays that ended; by all where there are fewer.
