@@ -1,6 +1,6 @@
 """The rules of plays in which nothing is nested and nothing is raised, for inputs too large to work out by hand.
 
-It is written from docs/journal.md and docs/program.md alone, and shares nothing with the program.
+All of them stand in docs/journal.md, docs/program.md and docs/script.md. It shares nothing with the program.
 """
 
 MODULUS = 2147483648
