@@ -48,7 +48,7 @@ pub record Accounts {M : Type 0} (journal : Journal) (seat : Seat M) : Type 0 wh
   pub begins : IsPrefix (seen_by seat) journal
   pub alone : entries_by seat.participant journal ≡ entries_by seat.participant (seen_by seat)
 
--- the seat is new: it has seen the journal that the machine had when it was handed in
+-- the seat is new: what it has seen is the journal of the machine as it was handed in
 pub record IsNewSeat {M : Type 0} (table : TableId) (terms : Terms) (journal : Journal) (seat : Seat M) : Type 0 where
   pub opened : IsSeatOf table terms seat
   pub seen : seen_by seat ≡ journal

@@ -111,7 +111,7 @@ module _ {M : Type 0} (terms : Terms) (its_journal : Journal) (Right : Terms →
   abbrev pub Later : ℕ → Journal → Type 0
   Later made book = (t : ℕ) → made ≤ t → entries_by t book ≡ entries_by t its_journal
 
-  -- nobody has the turn: the slot holds a machine of the same plan and base
+  -- nobody has the turn: what was handed in lies in the slot, of the same terms, and its journal goes on from the one it had
   pub record AtHome (made : ℕ) (s : State (Option M) View) : Type 0 where
     pub machine : M
     pub lies : get_elem? s.homes 0 ≡ some (some (Some machine))

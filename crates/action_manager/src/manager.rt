@@ -282,8 +282,8 @@ impl<M: Machine> Manager<M> {
     /// One turn of the seat's participant: the machine's answer, on a journal that begins with what the seat had seen.
     ///
     /// The seat has then seen the journal that the machine left. After a Resolve or a Handle it has the note of that place, to be
-    /// taken. The end of a play is published in the same turn, with the allocator that `open` was given. An announcement or a
-    /// publication that is refused leaves the entry made. It may wait, and need not return.
+    /// taken. Where the turn ended a play, it also published its values, by the allocator that `open` was given. The entry stands
+    /// whether or not memory was found for what is told of it. It may wait, and need not return.
     pub fn step<R: Wait>(&self, rt: &R, seat: &mut Seat<M>, hint: Option<WorkDone>) -> Answer
         requires opened { IsSeatIn M.base_of self.now seat.old }
         ensures opened { IsSeatIn M.base_of self.now seat.new }

@@ -5,7 +5,7 @@ use Rattle.caa_base.specs.Lists.{is_empty}
 
 -- ---- lines
 
--- a last piece that is empty is no line
+-- a text that ends with a line feed has no further line behind it
 abbrev pub without_empty_last : List (List ℕ) → List (List ℕ)
 without_empty_last [] = []
 without_empty_last (piece ∷ []) = if is_empty piece then [] else piece ∷ []
@@ -25,7 +25,7 @@ is_blank b = (b == 32) || ((b == 9) || (b == 13))
 abbrev pub is_plain : ℕ → Bool
 is_plain b = is_blank b || (nat_le 33 b && nat_le b 126)
 
--- the longest pieces without blanks
+-- what stands between blanks, where anything does
 abbrev pub words_of : List ℕ → List (List ℕ)
 words_of line = filter (λ word. not (is_empty word)) (slice_split is_blank line)
 

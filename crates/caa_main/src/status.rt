@@ -5,7 +5,7 @@ use caa_base::journal::Journal;
 pub enum Status {
     /// The command was served.
     Done,
-    /// A play ended as failed: the device refused an undo.
+    /// A play ended as failed: the device refused a restore.
     SomeFailed,
     /// The words are no command.
     Usage,
@@ -29,6 +29,6 @@ pub struct Ended<P> {
     pub status: Status,
     /// The plant that was handed in.
     pub plant: P,
-    /// The journal that was played, or an empty one.
+    /// The journal that was played, or the one that was judged legal, or else an empty one.
     pub journal: Journal,
 }

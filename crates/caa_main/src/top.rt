@@ -110,8 +110,8 @@ pub fn top_quiet<S: Source, K: Sink, P: Plant>(
 /// Serves the command of the words, `run` among them, from a source to a sink, over a device.
 ///
 /// `run` reads a script and plays it to its end, each participant in a thread of its own, which calls the gate before each piece of
-/// work, and writes the text of the journal. Things are tried in the same order as for `sim`, and what is handed back is the same.
-/// For `run` the call need not return; all other words are those of [`top_quiet`].
+/// work, and writes the text of the journal with what was seen. Things are tried in the same order as for `sim`, and what is handed
+/// back is the same. For `run` the call need not return; all other words are those of [`top_quiet`].
 pub fn top<S: Source, K: Sink, P: Plant + Send, G: Gate + Sync, R: Threads + Wait + Sync>(
     rt: &R,
     alloc: Global,

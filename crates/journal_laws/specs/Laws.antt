@@ -194,7 +194,7 @@ touches_object _ = false
 
 -- no two places that go on side by side have one object
 pub record IsolationLaw (plan : Plan) (past : List Entry) : Type 0 where
-  -- of two places that use one object and are live at one moment, one encloses the other
+  -- where two places that are live together share an object, one lies within the other
   pub nested : (later before : List Entry) (p q o : ℕ) → past ≡ later ++ before
       → is_live before p ≡ true → is_live before q ≡ true → uses plan p o ≡ true → uses plan q o ≡ true
       → is_within plan p q || is_within plan q p ≡ true

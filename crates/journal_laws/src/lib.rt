@@ -14,7 +14,7 @@ pub fn due_is_right(plan: &Plan)
     plan.is_closed();
 }
 
-/// A participant has at most one legal entry, the device's answer aside.
+/// No participant has a choice: one entry at most may be its next, or one of two between which the device decides.
 pub fn at_most_one(plan: &Plan)
     ensures { Holds AtMostOne plan.now }
 {

@@ -7,7 +7,7 @@ pub enum Due {
     Now(Entry),
     /// It puts a value; it makes `well` where the device takes the put, and `fault` where it refuses.
     Put { well: Entry, fault: Entry },
-    /// It has no entry now, and will have one.
+    /// It has no entry now, and isn't over.
     NotYet,
     /// It has left its last play, or has none.
     Over,

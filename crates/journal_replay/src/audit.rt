@@ -60,8 +60,8 @@ pub(crate) fn all_are_over(plan: &Plan, journal: &[Entry]) -> bool
 
 /// Whether a journal is legal for a plan, and complete. It takes no memory.
 ///
-/// The entries may say anything, also of places and participants that the plan doesn't have. `Illegal` names the first entry that
-/// isn't legal after those before it, or the length where all are legal and somebody isn't over.
+/// The entries may say anything, also of places and participants that the plan doesn't have. `Illegal` counts how many entries may
+/// stand: those before the first that the rules refuse there, or all, where none is refused and somebody isn't over yet.
 pub fn audit(plan: &Plan, journal: &Journal) -> Result<(), Illegal>
     ensures { Audited plan.now journal.now.entries result }
 {

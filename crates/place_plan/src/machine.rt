@@ -21,7 +21,7 @@ pub enum Answer {
         rounds: u32,
         from: i64,
     },
-    /// It has no entry now, and will have one.
+    /// It has no entry now, and isn't over.
     NotYet,
     /// It has left its last play, or has none.
     Over,

@@ -142,13 +142,19 @@ fn handler_in(handlers: &[HandlerRow], exception: Exception) -> Option<&Program>
 impl Plan {
     /// The plan into which a draft unfolds.
     ///
-    /// `BadPart` names the least rule that the draft breaks. The rules, by number: 1, there are no more parts than the limits allow,
-    /// each action has a role, and each nested use an action; 2, graph 0 has one exception alone, and each graph a name for each of
-    /// its own; 3, all numbers are in range, and the objects of an action are in ascending order; 4, a nested use names actions of
-    /// smaller numbers; 5, a nested use or a play has one for each role, and nobody twice; 6, a body enters just the uses that its
-    /// role fills, in order, and a handler none; 7, the objects of a step or of a nested action are among the action's; 8, no action
-    /// is deeper than 8; 9, the handlers of a role have different exceptions and each exception of a nested use is mapped; 10, there
-    /// are at most 65,536 places and the bound is at most 1,000,000; 11, the actions of a use have one interface graph.
+    /// `BadPart` names the least rule that the draft breaks. The rules, by number:
+    ///
+    /// 1. No list has more rows than its limit. No action is without roles, and no nested use without actions.
+    /// 2. The first graph is the plain one, of a single exception. Every exception of a graph is named.
+    /// 3. Each number names something that is there. An action lists its objects from the least number up.
+    /// 4. What an action nests was declared before it.
+    /// 5. Every role of what is nested or played is filled by somebody, and nobody fills two.
+    /// 6. A body goes once through each use in which its role takes part, in the order of the uses; a handler through none.
+    /// 7. An action owns all objects that its steps, and the actions nested in it, touch.
+    /// 8. Actions are nested at most 8 deep.
+    /// 9. A role handles an exception in one way, and whatever a nested use may tell is mapped.
+    /// 10. It unfolds into no more than 65,536 places, and its bound is no more than 1,000,000.
+    /// 11. All actions of a use tell the same exceptions outside.
     ///
     /// The places are counted before memory is taken for them, and so it is only asked for where the draft breaks no rule.
     pub fn close(alloc: Global, draft: Draft) -> Result<Plan, PlanError>
