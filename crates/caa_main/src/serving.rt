@@ -16,7 +16,7 @@ use crate::judging::{Judgement, judge};
 use crate::playing::{Coming, run_plan, simulate};
 use crate::scripts::{NoPlan, plan_of};
 use caa_base::gate::Gate;
-use caa_base::limits::{MOST_AUDIT_BYTES, MOST_SCRIPT_BYTES};
+use caa_base::limits::{MOST_AUDIT_BYTES, MOST_AUDITED, MOST_SCRIPT_BYTES};
 use caa_base::plant::Plant;
 use caa_base::reading::{ReadError, read_all};
 use caa_base::source::Source;
@@ -52,7 +52,7 @@ fn judge_after<P: Plant>(alloc: Global, plan: &Plan, bytes: &[u8], plant: P) -> 
         }
         Judgement::TooMany => {
             let refusal = Refusal {
-                line: start.lines + 5_002,
+                line: start.lines + (MOST_AUDITED + 2),
                 fault: Fault::Limit,
             };
             Coming::idle(alloc, Finding::Refused(refusal), plant)
