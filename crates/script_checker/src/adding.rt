@@ -368,7 +368,7 @@ fn begin_action(declared: &mut Declared, name: u32) -> Result<(), AllocError>
     declared.uses = NumberList::new(declared.alloc);
     declared.roles = NumberList::new(declared.alloc);
     declared.role_rows = RoleList::new(declared.alloc);
-    declared.bodies.clear();
+    declared.bodies = NumberList::new(declared.alloc);
     declared.nests = NumberList::new(declared.alloc);
     declared.nest_rows.clear();
     declared.nests_said.clear();

@@ -15,7 +15,7 @@ ghost use Rattle.script_checker.specs.View.{so_far};
 use crate::declared::Declared;
 use crate::lookups::{
     are_among, are_members, count_roles, exception_in, face_of, has_exception, has_twice,
-    inner_number, interface_at, is_inner, is_member, is_outer,
+    inner_number, interface_at, is_inner, is_outer,
 };
 use crate::parts::Block;
 use action_script::form::Form;
@@ -187,7 +187,7 @@ pub(crate) fn is_twice(declared: &Declared, form: &Form) -> Result<bool, AllocEr
         Form::Participant(name) => declared.participants.contains(*name),
         Form::Object(name, _) => declared.objects.contains(*name),
         Form::Drill(object, nth) => is_drilled(declared, declared.objects.find(*object), *nth),
-        Form::Watch(object) => is_member(declared.objects.find(*object), &declared.watches),
+        Form::Watch(object) => declared.watches.contains(declared.objects.find(*object)),
         Form::Graph(name) => declared.graph_names.contains(*name),
         Form::Action(name) => declared.action_names.contains(*name),
         Form::Exception(name) => declared.exceptions.contains(*name),
@@ -205,7 +205,7 @@ pub(crate) fn is_twice(declared: &Declared, form: &Form) -> Result<bool, AllocEr
         Form::MapUndo(nest, _) => has_undo(declared, *nest),
         Form::MapFailure(nest, _) => has_failure(declared, *nest),
         Form::Abort(role, _) | Form::AbortTest(role, _, _, _) => has_abort(declared, *role),
-        Form::Body(role) => is_member(declared.roles.find(*role), &declared.bodies),
+        Form::Body(role) => declared.bodies.contains(declared.roles.find(*role)),
         Form::Handler(role, exception) => has_handler(declared, *role, *exception),
         _ => false,
     };
@@ -384,7 +384,7 @@ pub(crate) fn is_past_limit(declared: &Declared, form: &Form) -> bool
         Form::Participant(_) => declared.participants.len() as usize >= MOST_PARTICIPANTS,
         Form::Object(_, _) => declared.objects.len() as usize >= MOST_OBJECTS,
         Form::Drill(_, _) => declared.drills.len() >= MOST_DRILLS,
-        Form::Watch(_) => declared.watches.len() >= MOST_WATCHES,
+        Form::Watch(_) => declared.watches.len() as usize >= MOST_WATCHES,
         Form::Graph(_) => declared.graph_names.len() as usize >= MOST_GRAPHS,
         Form::Action(_) => declared.action_names.len() as usize >= MOST_ACTIONS,
         Form::Play(action, _) => places_with(declared, *action) > MOST_PLACES as u64,

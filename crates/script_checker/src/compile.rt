@@ -146,7 +146,7 @@ fn draft_of(declared: Declared, rows: Vec<GraphRow>) -> Draft
         actions: Rows::from_vec(declared.actions),
         plays: Rows::from_vec(declared.plays),
         drills: Rows::from_vec(declared.drills.into_vec()),
-        watches: Rows::from_vec(declared.watches),
+        watches: Rows::from_vec(declared.watches.into_items()),
     }
 }
 

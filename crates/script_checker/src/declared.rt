@@ -39,7 +39,7 @@ pub struct Declared {
     pub all_places: u64,
     pub whole_bound: u64,
     pub drills: DrillList,
-    pub watches: Vec<u32>,
+    pub watches: NumberList,
     pub block: Block,
     /// The exceptions of the graph that is being declared.
     pub exceptions: NumberList,
@@ -54,7 +54,7 @@ pub struct Declared {
     pub roles: NumberList,
     pub role_rows: RoleList,
     /// Those of its roles that have a body.
-    pub bodies: Vec<u32>,
+    pub bodies: NumberList,
     pub nests: NumberList,
     pub nest_rows: Vec<NestRow>,
     /// What was said of each of these.
@@ -124,7 +124,7 @@ impl Declared {
             all_places: 0,
             whole_bound: 0,
             drills: DrillList::new(alloc),
-            watches: Vec::new(alloc),
+            watches: NumberList::new(alloc),
             block: Block::Top,
             exceptions: NumberList::new(alloc),
             pairs: Vec::new(alloc),
@@ -135,7 +135,7 @@ impl Declared {
             uses: NumberList::new(alloc),
             roles: NumberList::new(alloc),
             role_rows: RoleList::new(alloc),
-            bodies: Vec::new(alloc),
+            bodies: NumberList::new(alloc),
             nests: NumberList::new(alloc),
             nest_rows: Vec::new(alloc),
             nests_said: Vec::new(alloc),

@@ -12,13 +12,6 @@ use crate::declared::Declared;
 use crate::number_list::NumberList;
 use std::alloc::{AllocError, Global};
 
-/// Whether a number is in a list, which is a short one.
-pub(crate) fn is_member(number: u32, list: &[u32]) -> bool
-    ensures { result ≡ member number list.now }
-{
-    list.iter().any(|item| *item == number)
-}
-
 /// Whether each of some names is among those.
 pub(crate) fn are_among(names: &NumberList, some: &[u32]) -> bool
     ensures { result ≡ list_all (is_among names.now) some.now }
