@@ -86,6 +86,13 @@ pub fn start<'s, E, M: Machine + Send, G: Gate + Sync, R: Threads + Wait + Sync>
 /// A thread that drives a seat, or the seat where none could be started.
 pub type Member<M> = Result<PromisedHandle<Seat<M>, Belongs<M>>, Seat<M>>;
 
+/// Seats, with room for the members that drive them, and for the seats when they come back.
+pub struct Crew<M> {
+    pub seats: Vec<Seat<M>>,
+    pub members: Vec<Member<M>>,
+    pub back: Vec<Seat<M>>,
+}
+
 /// Starts a thread for each seat.
 pub fn start_all<'s, E, M: Machine + Send, G: Gate + Sync, R: Threads + Wait + Sync>(
     scope: &'s Scope<'s, E>,

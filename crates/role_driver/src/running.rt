@@ -13,10 +13,11 @@ ghost use Rattle.role_driver.specs.Gathering.{task_by};
 
 use crate::all_seats::{close_done, drive_each};
 use crate::assigning::assigned;
-use crate::crew::{Member, drive_handed_back, join_all, start_all};
+use crate::crew::{Crew, drive_handed_back, join_all, start_all};
+use crate::crew_room::CrewRoom;
 use crate::gathering::gather;
 use crate::posts::{Watch, call_all_back, post_all, raise};
-use crate::watch_room::{WatchRoom, lowered};
+use crate::watch_room::WatchRoom;
 use crate::watcher::Watcher;
 use action_manager::{Closed, Manager, ManagerError, Opened, Seat};
 use caa_base::gate::Gate;
@@ -45,24 +46,28 @@ pub struct RunError<M> {
 fn drive_in_threads<M: Machine + Send, G: Gate + Sync, R: Threads + Wait + Sync>(
     rt: &R,
     manager: &Manager<M>,
-    seats: Vec<Seat<M>>,
-    crew: Vec<Member<M>>,
-    back: Vec<Seat<M>>,
-    flags: &[AtomicBool],
+    crew: Crew<M>,
+    handed_back: &[AtomicBool],
     watch: Watch,
     over: &[AtomicBool],
     gate: &G,
 ) -> (Vec<Seat<M>>, Vec<Watcher>)
-    requires room { (crew.items ≡ []) × (vec_capacity crew ≡ length seats.items) × (back.items ≡ []) × (vec_capacity back ≡ length seats.items) }
-    requires flags { length flags.now ≡ length seats.items }
-    requires opened { All (λ s. IsSeatIn M.base_of manager.now s) seats.items }
+    requires room { (crew.members.items ≡ []) × (vec_capacity crew.members ≡ length crew.seats.items) × (crew.back.items ≡ [])
+        × (vec_capacity crew.back ≡ length crew.seats.items) }
+    requires flags { length handed_back.now ≡ length crew.seats.items }
+    requires opened { All (λ s. IsSeatIn M.base_of manager.now s) crew.seats.items }
     requires watch { (watch.posts.items ≡ []) × (vec_capacity watch.posts ≡ length watch.watchers.items) × (watch.back.items ≡ [])
         × (vec_capacity watch.back ≡ length watch.watchers.items) }
     requires over { length over.now ≡ length watch.watchers.items }
     ensures opened { All (λ s. IsSeatIn M.base_of manager.now s) result.0.items }
-    ensures order { map participant_of result.0.items ≡ map participant_of seats.items }
+    ensures order { map participant_of result.0.items ≡ map participant_of crew.seats.items }
     ensures tasks { map task_of result.1.items ≡ map task_of watch.watchers.items }
 {
+    let Crew {
+        seats,
+        members,
+        back,
+    } = crew;
     let Watch {
         watchers,
         posts,
@@ -72,8 +77,9 @@ fn drive_in_threads<M: Machine + Send, G: Gate + Sync, R: Threads + Wait + Sync>
         thread::scope_env(),
         rt,
         |scope| -> (Vec<Seat<M>>, Vec<Watcher>)
-            requires room { (crew.items ≡ []) × (vec_capacity crew ≡ length seats.items) × (back.items ≡ []) × (vec_capacity back ≡ length seats.items) }
-            requires flags { length flags.now ≡ length seats.items }
+            requires room { (members.items ≡ []) × (vec_capacity members ≡ length seats.items) × (back.items ≡ [])
+                × (vec_capacity back ≡ length seats.items) }
+            requires flags { length handed_back.now ≡ length seats.items }
             requires opened { All (λ s. IsSeatIn M.base_of manager.now s) seats.items }
             requires watch { (posts.items ≡ []) × (vec_capacity posts ≡ length watchers.items) × (called.items ≡ [])
                 × (vec_capacity called ≡ length watchers.items) }
@@ -83,9 +89,9 @@ fn drive_in_threads<M: Machine + Send, G: Gate + Sync, R: Threads + Wait + Sync>
             ensures tasks { map task_of result.1.items ≡ map task_of watchers.items }
         {
             let posts = post_all(scope, rt, watchers, posts, over);
-            let mut crew = start_all(scope, rt, manager, seats, crew, flags, gate);
-            drive_handed_back(rt, manager, &mut crew, gate);
-            let seats = join_all(rt, manager, crew, back, gate);
+            let mut members = start_all(scope, rt, manager, seats, members, handed_back, gate);
+            drive_handed_back(rt, manager, &mut members, gate);
+            let seats = join_all(rt, manager, members, back, gate);
             raise(over);
             (seats, call_all_back(rt, posts, called))
         },
@@ -118,9 +124,9 @@ fn seens_of<M: Machine>(
 ///
 /// In its journal nothing may be resolved yet, and no play may have ended. The machine comes back complete, with the same plan and
 /// base, and with a legal journal that begins with the old one. With it comes what was seen, right looks of that journal, unless no
-/// memory was found for a publication. A participant whose thread can't be started is driven by the caller, in turn with others of
-/// its kind; a watcher whose thread can't be started takes a last look alone. At `Err` no memory was found before the first entry,
-/// and the machine is as it was. It need not return.
+/// memory was found for a publication. The caller itself takes the turns of participants for whom no thread can be started, round by
+/// round; a watcher without a thread looks once, at the end. At `Err` no memory was found before the first entry, and the machine is
+/// as it was. It need not return.
 pub fn run<M: Machine + Send, G: Gate + Sync, R: Threads + Wait + Sync>(
     rt: &R,
     alloc: Global,
@@ -141,19 +147,10 @@ pub fn run<M: Machine + Send, G: Gate + Sync, R: Threads + Wait + Sync>(
     let count = machine.plan().participants() as usize;
     let watches = machine.plan().watches();
     machine.plan().is_closed();
-    let Ok(flags) = lowered(alloc, count) else {
+    let Ok(crew_room) = CrewRoom::take(alloc, count) else {
         return Err(RunError { machine });
     };
-    let Ok(crew) = Vec::with_capacity(alloc, count) else {
-        return Err(RunError { machine });
-    };
-    let Ok(back) = Vec::with_capacity(alloc, count) else {
-        return Err(RunError { machine });
-    };
-    let Ok(driven) = Vec::with_capacity(alloc, count) else {
-        return Err(RunError { machine });
-    };
-    let Ok(room) = WatchRoom::take(alloc, machine.plan()) else {
+    let Ok(watch_room) = WatchRoom::take(alloc, machine.plan()) else {
         return Err(RunError { machine });
     };
     match Manager::open(rt, alloc, machine, watches) {
@@ -163,29 +160,38 @@ pub fn run<M: Machine + Send, G: Gate + Sync, R: Threads + Wait + Sync>(
                 seats,
                 observers,
             } = opened;
+            let crew = Crew {
+                seats,
+                members: crew_room.members,
+                back: crew_room.back,
+            };
             let watch = Watch {
-                watchers: assigned(&manager, room.blanks, observers, room.watchers),
-                posts: room.posts,
-                back: room.back,
+                watchers: assigned(&manager, watch_room.blanks, observers, watch_room.watchers),
+                posts: watch_room.posts,
+                back: watch_room.back,
             };
             let (seats, mut watchers) = drive_in_threads(
                 rt,
                 &manager,
-                seats,
                 crew,
-                back,
-                flags.as_slice(),
+                crew_room.handed_back.as_slice(),
                 watch,
-                room.over.as_slice(),
+                watch_room.over.as_slice(),
                 gate,
             );
-            let seats = drive_each(rt, &manager, seats, driven, gate);
+            let seats = drive_each(rt, &manager, seats, crew_room.driven, gate);
             let Closed {
                 machine,
                 mut writer,
                 stale,
             } = close_done(manager, seats);
-            let seens = seens_of(&machine, &mut writer, stale, &mut watchers, room.seens);
+            let seens = seens_of(
+                &machine,
+                &mut writer,
+                stale,
+                &mut watchers,
+                watch_room.seens,
+            );
             writer.end(rt);
             Ok(Finished { machine, seens })
         }

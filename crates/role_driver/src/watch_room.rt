@@ -1,5 +1,6 @@
 ghost use Rattle.std.specs.Prelude.{◌≡◌, length, IfOk};
 
+use crate::crew_room::lowered;
 use crate::posts::Post;
 use crate::watcher::Watcher;
 use caa_base::entry::{Object, OutOfMemory};
@@ -25,17 +26,6 @@ pub struct WatchRoom {
     pub back: Vec<Watcher>,
     pub over: Vec<AtomicBool>,
     pub seens: Seens,
-}
-
-/// Flags that aren't raised.
-pub fn lowered(alloc: Global, count: usize) -> Result<Vec<AtomicBool>, AllocError>
-    ensures { IfOk result (λ flags. length flags.items ≡ count) }
-{
-    let mut flags = Vec::new(alloc);
-    for _made in 0..count {
-        flags.push(AtomicBool::new(false))?;
-    }
-    Ok(flags)
 }
 
 impl WatchRoom {
