@@ -1,64 +1,154 @@
-ghost use Rattle.std.specs.Prelude.{◌≡◌, [], All, IfOk};
+//! Machines that are run, and what seats and observers of one manager are told.
+
+ghost use Rattle.std.specs.Prelude.{◌≡◌, [], All, IfOk, replicate};
 ghost use Rattle.journal_replay.specs.Hall.{journal_in};
-ghost use Rattle.action_manager.specs.Managers.{IsSeatIn};
+ghost use Rattle.action_manager.specs.Managers.{IsSeatIn, book_in};
+ghost use Rattle.action_manager.specs.Publishing.{new_observer};
 
 use crate::crew::go_on;
 use crate::running::{Finished, RunError, run};
 use action_manager::{Closed, Manager, ManagerError, Opened, Seat};
-use caa_base::entry::Verdict;
+use caa_base::entry::{Exception, Kind, Verdict};
 use caa_base::gate::EmptyGate;
 use caa_base::memory::SurePlant;
 use journal_replay::hall::PlainHall;
-use place_plan::draft_rows::{AbortRow, RoleRow, Step};
-use place_plan::machine::Machine;
+use place_plan::draft_rows::{AbortRow, ActionRow, GraphRow, HandlerRow, PlayRow, RoleRow, Step};
+use place_plan::machine::{Answer, Machine};
 use place_plan::plan::Plan;
+use shared_views::Reading;
 use std::alloc::Global;
 use std::sync::Wait;
 use std::test::Fail;
-use trial_drafts::{Exceptions, action, draft, play, program, role};
+use trial_drafts::{Exceptions, action, draft, graph, play, program, role};
 
-fn role_of(alloc: Global, name: &[u8], step: Step) -> Result<RoleRow, Fail> {
-    let body = program(alloc, &[step], Verdict::Done)?;
+const PLAIN: Exceptions = Exceptions {
+    internal: 0,
+    interface: 0,
+    fault: 0,
+};
+
+/// The exception over `left` and `right`, which are 2 and 3.
+const MID: Exception = 1;
+
+fn role_of(alloc: Global, name: &[u8], steps: &[Step]) -> Result<RoleRow, Fail> {
+    let body = program(alloc, steps, Verdict::Done)?;
     Ok(role(alloc, name, body, Vec::new(alloc), AbortRow::Never)?)
 }
 
-/// Role a reads x, and role b works; ann and bob play that action once.
-fn look(alloc: Global) -> Result<Plan, Fail> {
-    let plain = Exceptions {
-        internal: 0,
-        interface: 0,
-        fault: 0,
+/// A role that raises an exception, and puts a value in an object where `mid` is handled.
+fn sibling(alloc: Global, name: &[u8], raised: Exception, put: Step) -> Result<RoleRow, Fail> {
+    let handler = HandlerRow {
+        exception: MID,
+        program: program(alloc, &[put], Verdict::Done)?,
     };
-    let mut roles = Vec::new(alloc);
-    roles.push(role_of(alloc, b"a", Step::Read(0))?)?;
-    roles.push(role_of(alloc, b"b", Step::Work(2))?)?;
-    let actions = vec![in alloc; action(alloc, b"look", plain, &[0], roles, Vec::new(alloc))?]?;
-    let plays = vec![in alloc; play(alloc, 0, &[0, 1])?]?;
+    let body = program(alloc, &[Step::Raise(raised)], Verdict::Done)?;
+    Ok(role(alloc, name, body, vec![in alloc; handler]?, AbortRow::Never)?)
+}
+
+/// A plan of ann and bob, who play this action.
+fn plan_of(
+    alloc: Global,
+    values: &[(&[u8], i64)],
+    graphs: Vec<GraphRow>,
+    played: ActionRow,
+    plays: Vec<PlayRow>,
+) -> Result<Plan, Fail> {
     let made = draft(
         alloc,
         &[b"ann".as_slice(), b"bob".as_slice()],
-        &[(b"x".as_slice(), 5)],
-        Vec::new(alloc),
-        actions,
+        values,
+        graphs,
+        vec![in alloc; played]?,
         plays,
         &[],
     )?;
     Ok(Plan::close(alloc, made)?)
 }
 
-fn look_hall(alloc: Global) -> Result<PlainHall<SurePlant>, Fail>
+/// Role a reads x, and role b works; ann and bob play that action once.
+fn look(alloc: Global) -> Result<Plan, Fail> {
+    let mut roles = Vec::new(alloc);
+    roles.push(role_of(alloc, b"a", &[Step::Read(0)])?)?;
+    roles.push(role_of(alloc, b"b", &[Step::Work(2)])?)?;
+    let looks = action(alloc, b"look", PLAIN, &[0], roles, Vec::new(alloc))?;
+    let plays = vec![in alloc; play(alloc, 0, &[0, 1])?]?;
+    plan_of(
+        alloc,
+        &[(b"x".as_slice(), 5)],
+        Vec::new(alloc),
+        looks,
+        plays,
+    )
+}
+
+/// Role r reads x and adds 1 to it; ann plays that once, and bob once.
+fn two_plays(alloc: Global) -> Result<Plan, Fail> {
+    let adds = role_of(alloc, b"r", &[Step::Read(0), Step::Add(0, 1)])?;
+    let roles = vec![in alloc; adds]?;
+    let writes = action(alloc, b"w", PLAIN, &[0], roles, Vec::new(alloc))?;
+    let plays = vec![in alloc; play(alloc, 0, &[0])?, play(alloc, 0, &[1])?]?;
+    plan_of(
+        alloc,
+        &[(b"x".as_slice(), 0)],
+        Vec::new(alloc),
+        writes,
+        plays,
+    )
+}
+
+/// Role a raises `left`, and role b `right`, both below `mid`, for which each has a handler; ann and bob play that once.
+fn two_siblings(alloc: Global) -> Result<Plan, Fail> {
+    let names = [
+        b"universal".as_slice(),
+        b"mid".as_slice(),
+        b"left".as_slice(),
+        b"right".as_slice(),
+    ];
+    let tree = graph(alloc, names.as_slice(), &[(MID, 2), (MID, 3)])?;
+    let mut roles = Vec::new(alloc);
+    roles.push(sibling(alloc, b"a", 2, Step::Put(0, 1))?)?;
+    roles.push(sibling(alloc, b"b", 3, Step::Put(1, 2))?)?;
+    let raising = Exceptions {
+        internal: 1,
+        ..PLAIN
+    };
+    let duo = action(alloc, b"duo", raising, &[0, 1], roles, Vec::new(alloc))?;
+    let values = [(b"x".as_slice(), 5), (b"y".as_slice(), 0)];
+    let plays = vec![in alloc; play(alloc, 0, &[0, 1])?]?;
+    plan_of(alloc, values.as_slice(), vec![in alloc; tree]?, duo, plays)
+}
+
+/// A hall over a plan, by a device that refuses nothing.
+fn hall_of(alloc: Global, plan: Plan) -> Result<PlainHall<SurePlant>, Fail>
     ensures { IfOk result (λ hall. journal_in hall ≡ []) }
 {
-    match PlainHall::open(alloc, look(alloc)?, SurePlant::new()) {
+    match PlainHall::open(alloc, plan, SurePlant::new()) {
         Ok(hall) => Ok(hall),
         Err(error) => Err(Fail::from(error.cause)),
+    }
+}
+
+/// A manager of a machine that has no entry yet, with its seats, and with so many observers.
+fn opened<M: Machine + Drop, R: Wait>(
+    rt: &R,
+    alloc: Global,
+    machine: M,
+    observers: u32,
+) -> Result<Opened<M>, Fail>
+    requires none { M.journal_of machine ≡ [] }
+    ensures seats { IfOk result (λ o. All (λ s. IsSeatIn M.base_of o.manager s) o.seats.items) }
+    ensures observers { IfOk result (λ o. o.observers.items ≡ replicate observers (new_observer (M.plan_of machine) (book_in o.manager))) }
+{
+    match Manager::open(rt, alloc, machine, observers) {
+        Ok(opened) => Ok(opened),
+        Err(ManagerError { machine: _ }) => Err(Fail::from("no memory")),
     }
 }
 
 #[test]
 fn participants_play_in_threads(rt: HostRuntime) -> Result<(), Fail> {
     for _ in 0..20u32 {
-        let hall = look_hall(rt.alloc())?;
+        let hall = hall_of(rt.alloc(), look(rt.alloc())?)?;
         match run(&rt, rt.alloc(), hall, &EmptyGate) {
             Ok(Finished { machine, seens: _ }) => {
                 assert!(rt; machine.complete());
@@ -97,30 +187,122 @@ fn go_rounds<M: Machine, R: Wait>(
 
 #[test]
 fn the_end_of_a_play_is_published(rt: HostRuntime) -> Result<(), Fail> {
-    let hall = look_hall(rt.alloc())?;
-    let opened = match Manager::open(&rt, rt.alloc(), hall, 1) {
-        Ok(opened) => opened,
-        Err(ManagerError { machine: _ }) => panic!(rt; "no memory"),
-    };
+    let hall = hall_of(rt.alloc(), look(rt.alloc())?)?;
     let Opened {
         manager,
         mut seats,
         observers: _,
-    } = opened;
+    } = opened(&rt, rt.alloc(), hall, 1)?;
     go_rounds(&rt, &manager, &mut seats, 20);
-    match manager.close(seats) {
-        Ok(closed) => {
-            let Closed {
-                machine,
-                mut writer,
-                stale,
-            } = closed;
-            let published = writer.tell().ends();
-            writer.end(&rt);
-            assert!(rt; machine.complete() && !stale);
-            assert_eq!(rt; published, 1);
-        }
+    let Closed {
+        machine,
+        mut writer,
+        stale,
+    } = match manager.close(seats) {
+        Ok(closed) => closed,
         Err(_missing) => panic!(rt; "a seat is missing"),
+    };
+    let published = writer.tell().ends();
+    writer.end(&rt);
+    assert!(rt; machine.complete() && !stale);
+    assert_eq!(rt; published, 1);
+    Ok(())
+}
+
+#[test]
+fn observer_reads(rt: HostRuntime) -> Result<(), Fail> {
+    let hall = hall_of(rt.alloc(), two_plays(rt.alloc())?)?;
+    assert_eq!(rt; hall.plan().objects(), 1);
+    let Opened {
+        manager,
+        mut seats,
+        mut observers,
+    } = opened(&rt, rt.alloc(), hall, 1)?;
+    let Some(mut observer) = observers.pop() else {
+        panic!(rt; "no observer");
+    };
+    assert_eq!(rt; observer.read(0), Ok(Reading { ends: 0, value: 0 }));
+    go_rounds(&rt, &manager, &mut seats, 20);
+    let Closed {
+        machine,
+        mut writer,
+        stale,
+    } = match manager.close(seats) {
+        Ok(closed) => closed,
+        Err(_missing) => panic!(rt; "a seat is missing"),
+    };
+    observer.learn(writer.tell());
+    let last = observer.read(0);
+    writer.end(&rt);
+    assert!(rt; machine.complete() && !stale);
+    assert_eq!(rt; last, Ok(Reading { ends: 2, value: 2 }));
+    Ok(())
+}
+
+/// The kind of the entry that a turn made, if it made one, and the exception that the note of this turn gives, if there is one.
+type Noted = Option<(Kind, Option<Exception>)>;
+
+/// One turn of a seat, and what is noted of it.
+fn noted<M: Machine, R: Wait>(rt: &R, manager: &Manager<M>, seat: &mut Seat<M>) -> Noted
+    requires { IsSeatIn M.base_of manager.now seat.old }
+    ensures { IsSeatIn M.base_of manager.now seat.new }
+{
+    let Answer::Did(entry) = manager.step(rt, seat, None) else {
+        return None;
+    };
+    let known = match seat.take_note() {
+        Ok(mut note) => manager.cells().resolved(&mut note),
+        Err(_) => None,
+    };
+    Some((entry.kind, known))
+}
+
+/// The same for the seat at this index; nothing where there is none.
+fn noted_at<M: Machine, R: Wait>(
+    rt: &R,
+    manager: &Manager<M>,
+    seats: &mut Vec<Seat<M>>,
+    index: usize,
+) -> Noted
+    requires { All (λ s. IsSeatIn M.base_of manager.now s) seats.old.items }
+    ensures { All (λ s. IsSeatIn M.base_of manager.now s) seats.new.items }
+{
+    if index < seats.len() {
+        noted(rt, manager, &mut seats[index])
+    } else {
+        None
     }
+}
+
+#[test]
+fn notes_handed_out(rt: HostRuntime) -> Result<(), Fail> {
+    let hall = hall_of(rt.alloc(), two_siblings(rt.alloc())?)?;
+    let Opened {
+        manager,
+        mut seats,
+        observers: _,
+    } = opened(&rt, rt.alloc(), hall, 0)?;
+    for (index, kind, exception) in [
+        (0, Kind::Arrive, None),
+        (1, Kind::Arrive, None),
+        (1, Kind::Start, None),
+        (1, Kind::Raise, None),
+        (0, Kind::Raise, None),
+        (1, Kind::Resolve, Some(MID)),
+        (0, Kind::Handle, Some(MID)),
+        (1, Kind::Handle, Some(MID)),
+    ] {
+        let noted = noted_at(&rt, &manager, &mut seats, index);
+        assert_eq!(rt; noted, Some((kind, exception)));
+    }
+    let Closed {
+        machine: _,
+        writer,
+        stale: _,
+    } = match manager.close(seats) {
+        Ok(closed) => closed,
+        Err(_missing) => panic!(rt; "a seat is missing"),
+    };
+    writer.end(&rt);
     Ok(())
 }
