@@ -52,10 +52,6 @@ most_actions = 256
 abbrev pub most_graphs : ℕ
 most_graphs = 256
 
--- exceptions of a graph, `universal` among them
-abbrev pub most_exceptions : ℕ
-most_exceptions = 128
-
 -- roles of an action
 abbrev pub most_roles : ℕ
 most_roles = 16

@@ -38,9 +38,6 @@ pub const MOST_ACTIONS: usize = 256;
 /// Graphs that a script declares.
 pub const MOST_GRAPHS: usize = 256;
 
-/// Exceptions of a graph, `universal` among them.
-pub const MOST_EXCEPTIONS: usize = 128;
-
 /// Roles of an action.
 pub const MOST_ROLES: usize = 16;
 

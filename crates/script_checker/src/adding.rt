@@ -1,7 +1,8 @@
 //! What a line adds to what is declared.
 
 ghost use Rattle.std.specs.Prelude.{◌≡◌, ◌<◌, ◌≤◌, ◌+◌, ◌++◌, ◌∷◌, [], true, false, length, map, slice_index_or, slice_set, replicate, Some, None, OnOk, IfOk};
-ghost use Rattle.caa_base.specs.Limits.{most_roles, most_exceptions};
+ghost use Rattle.caa_base.specs.Limits.{most_roles};
+ghost use Rattle.cover_table.specs.Cover.{most_exceptions};
 ghost use Rattle.caa_base.specs.Lists.{index_of};
 ghost use Rattle.place_plan.specs.Places.{no_nest};
 ghost use Rattle.script_checker.specs.DeclaredSoFar.{nothing_said};

@@ -20,9 +20,10 @@ use crate::lookups::{
 use crate::parts::Block;
 use action_script::form::Form;
 use caa_base::limits::{
-    MOST_ACTIONS, MOST_DEPTH, MOST_DRILLS, MOST_ENTRIES, MOST_EXCEPTIONS, MOST_GRAPHS, MOST_NESTS,
-    MOST_OBJECTS, MOST_PARTICIPANTS, MOST_PLACES, MOST_ROLES, MOST_STEPS, MOST_WATCHES,
+    MOST_ACTIONS, MOST_DEPTH, MOST_DRILLS, MOST_ENTRIES, MOST_GRAPHS, MOST_NESTS, MOST_OBJECTS,
+    MOST_PARTICIPANTS, MOST_PLACES, MOST_ROLES, MOST_STEPS, MOST_WATCHES,
 };
+use cover_table::MOST_EXCEPTIONS;
 use place_plan::draft_rows::AbortRow;
 use place_plan::tables::{counted_sum, number_at};
 use place_plan::uses::roles_enter;

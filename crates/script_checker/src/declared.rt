@@ -1,5 +1,6 @@
 ghost use Rattle.std.specs.Prelude.{◌≡◌, ◌≤◌, ◌<◌, ◌^◌, true, length, codes, All, IfOk};
-ghost use Rattle.caa_base.specs.Limits.{most_roles, most_exceptions};
+ghost use Rattle.caa_base.specs.Limits.{most_roles};
+ghost use Rattle.cover_table.specs.Cover.{most_exceptions};
 ghost use Rattle.script_checker.specs.Blocks.{is_in_graph};
 ghost use Rattle.action_script.specs.NumberedNames.{number_in};
 ghost use Rattle.script_checker.specs.DeclaredSoFar.{plain_graph};
