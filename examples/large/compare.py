@@ -198,6 +198,7 @@ def statuses(program):
     compare("status 0", program, ["check"], 0, "ok participants 2 objects 1 places 1 bound 23\n", stdin=case("first_cycle"))
     compare("status 1", program, ["sim", "1"], 1, None, stdin=case("stuck_valve"))
     compare("status 2", program, ["check", "1"], 2, None, stdin=case("first_cycle"))
+    compare("status 2, words that are no text", program, [b"sim", b"\xff1"], 2, None, stdin=case("first_cycle"))
     compare("status 3, from a folder", program, ["check"], 3, "fault source\n", stdin=os.open(CASES, os.O_RDONLY))
     compare("status 3, closed", program, ["check"], 3, "fault source\n", preexec_fn=closed_input)
     compare("status 4", program, ["check"], 4, None, stdin=case("two_stops"))
