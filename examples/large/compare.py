@@ -190,7 +190,7 @@ def closed_input():
 
 
 def statuses(program):
-    """Each status of the program at its exit. Its device is never refused to be laid out, so 6 isn't among them."""
+    """Each status of the program at its exit, but for 6: its device can always be laid out."""
     def case(name):
         return open(os.path.join(CASES, name), "rb")
 

@@ -3,6 +3,7 @@
 #![tactic(auto)]
 
 mod asked;
+pub mod cuts;
 mod field;
 pub mod form;
 mod kind;

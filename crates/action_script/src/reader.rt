@@ -1,4 +1,4 @@
-ghost use Rattle.std.specs.Prelude.{◌≡◌, ◌≢◌, ◌+◌, ◌-◌, ◌<◌, ◌≤◌, ◌^◌, ◌==◌, ◌∷◌, [], length, position, Ok, Err, IfOk, IfErr, IfSome, OnOk, IsTrue};
+ghost use Rattle.std.specs.Prelude.{◌≡◌, ◌≢◌, ◌+◌, ◌-◌, ◌<◌, ◌≤◌, ◌^◌, ◌∷◌, [], length, Ok, Err, IfOk, IfErr, OnOk, IsTrue};
 ghost use Rattle.caa_base.specs.Limits.{most_script_bytes};
 ghost use Rattle.action_script.specs.CutLines.{lines_of};
 ghost use Rattle.action_script.specs.Kinds.{takes};
@@ -8,6 +8,7 @@ ghost use Rattle.action_script.specs.declared.script_error.ScriptCause.TheVarian
 ghost use Rattle.action_script.specs.declared.kind.Section.TheVariants as section;
 
 use crate::asked::{add_names, fields_of};
+use crate::cuts::find_line_feed;
 use crate::form::Form;
 use crate::kind::Section;
 use crate::names::NameTable;
@@ -25,14 +26,6 @@ struct Reader<'a> {
     section: Section,
     names: NameTable<'a>,
     lines: Vec<Line>,
-}
-
-/// Where the first line feed of a text stands.
-fn find_line_feed(text: &[u8]) -> Option<usize>
-    ensures place { result ≡ position (λ b. b == 10) text.now }
-    ensures within { IfSome result (λ place. place < length text.now) }
-{
-    text.iter().position(|byte| *byte == b'\n')
 }
 
 /// The first line of a text, and what stands after its line feed, if anything.
@@ -151,8 +144,9 @@ pub fn read(alloc: Global, bytes: &[u8]) -> Result<Script, ScriptError>
             cause: ScriptCause::BadLine,
         });
     }
+    let universal = reader.names.number(b"universal");
     match reader.names.to_names(alloc) {
-        Ok(names) => Ok(Script::from_parts(reader.lines, names)),
+        Ok(names) => Ok(Script::from_parts(reader.lines, names, universal)),
         Err(cause) => Err(ScriptError {
             line: reader.line,
             cause,

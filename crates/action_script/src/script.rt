@@ -1,5 +1,6 @@
-ghost use Rattle.std.specs.Prelude.{◌≡◌, ◌↔◌, ◌<◌, ◌^◌, [], length, slice_get, Some, IfOk, IsTrue};
+ghost use Rattle.std.specs.Prelude.{◌≡◌, ◌↔◌, ◌<◌, ◌^◌, [], length, codes, slice_get, Some, IfOk, IsTrue};
 ghost use Rattle.std.specs.Option.{option_map};
+ghost use Rattle.action_script.specs.NumberedNames.{number_in};
 ghost use Rattle.action_script.specs.Forms.{numbers_of};
 ghost use Rattle.action_script.specs.Printing.{AreScript, AreBelow, is_sound, forms_of, numbered_from};
 
@@ -23,27 +24,36 @@ pub struct Line {
 pub struct Script {
     lines: Vec<Line>,
     names: Vec<Name>,
+    /// The number of the name `universal`, which each graph has, or how many names there are.
+    universal: u32,
 }
 
 impl Model for Script {
+    ghost use Rattle.std.specs.Prelude.{◌≡◌, codes};
     ghost use Rattle.action_script.specs.ScriptValue.{Script as ScriptLines};
+    ghost use Rattle.action_script.specs.NumberedNames.{number_in};
     ghost use Rattle.action_script.specs.Printing.{AreScript, forms_of};
 
     ghost Value = { ScriptLines };
 
     ghost view = { λ s. record { lines = s.lines.items; names = s.names.items } };
 
-    ghost invariant = { λ s. AreScript s.names.items (forms_of s.lines.items) };
+    ghost invariant = { λ s. AreScript s.names.items (forms_of s.lines.items) × (s.universal ≡ number_in s.names.items (codes "universal")) };
 }
 
 impl Script {
-    /// The script of these lines and names.
-    pub(crate) fn from_parts(lines: Vec<Line>, names: Vec<Name>) -> Script
-        requires { AreScript names.items (forms_of lines.items) }
+    /// The script of these lines and names, and of the number that the name `universal` has among them.
+    pub(crate) fn from_parts(lines: Vec<Line>, names: Vec<Name>, universal: u32) -> Script
+        requires whole { AreScript names.items (forms_of lines.items) }
+        requires found { universal ≡ number_in names.items (codes "universal") }
         ensures lines { result.lines ≡ lines.items }
         ensures names { result.names ≡ names.items }
     {
-        Script { lines, names }
+        Script {
+            lines,
+            names,
+            universal,
+        }
     }
 
     /// The script of these names and forms, with the line numbers 1, 2, 3 and so on.
@@ -61,7 +71,8 @@ impl Script {
         ensures names { IfOk result (λ script. script.names ≡ names.items) }
     {
         let lines = numbered(alloc, forms)?;
-        Ok(Script::from_parts(lines, names))
+        let universal = universal_in(names.as_slice());
+        Ok(Script::from_parts(lines, names, universal))
     }
 
     /// How many lines say something.
@@ -104,6 +115,13 @@ impl Script {
         self.names[number as usize].bytes()
     }
 
+    /// The number of the name `universal`; where it isn't there, the count of names.
+    pub fn universal(&self) -> u32
+        ensures { result ≡ number_in self.now.names (codes "universal") }
+    {
+        self.universal
+    }
+
     /// All lines, in order.
     pub fn lines(&self) -> &[Line]
         ensures { result.now ≡ self.now.lines }
@@ -125,6 +143,19 @@ impl Script {
     {
         let _ = &self.lines;
     }
+}
+
+/// The number of the name `universal` among these, or how many names there are.
+fn universal_in(names: &[Name]) -> u32
+    requires { length names.now < 2 ^ 32 }
+    ensures { result ≡ number_in names.now (codes "universal") }
+{
+    for (number, name) in names.iter().enumerate() {
+        if b"universal".as_slice() == name.bytes() {
+            return number as u32;
+        }
+    }
+    names.len() as u32
 }
 
 /// The forms on lines of their own, numbered from 1.

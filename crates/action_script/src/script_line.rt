@@ -6,6 +6,7 @@ ghost use Rattle.action_script.specs.Spelling.{asked_of, is_here, kind_here, by_
 ghost use Rattle.action_script.specs.declared.script_error.ScriptCause.TheVariants as cause;
 
 use crate::asked::{Asked, asked_of, check_words};
+use crate::cuts::is_blank;
 use crate::kind::{KINDS, LineKind, Section};
 use crate::script_error::ScriptCause;
 use caa_base::limits::MOST_LINE_BYTES;
@@ -41,12 +42,6 @@ impl<'a> Said<'a> {
     {
         self.asked.as_slice()
     }
-}
-
-fn is_blank(byte: u8) -> bool
-    ensures { result ≡ is_blank byte }
-{
-    byte == b' ' || byte == b'\t' || byte == b'\r'
 }
 
 fn is_plain(byte: u8) -> bool

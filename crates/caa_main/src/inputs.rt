@@ -1,9 +1,11 @@
 //! The input of an audit: a script, and the text of a journal after it.
 
-ghost use Rattle.std.specs.Prelude.{◌≡◌, ◌≤◌, ◌<◌, ◌+◌, ◌-◌, ◌∷◌, ◌==◌, ℕ, suc, length, drop, position, IfSome};
+ghost use Rattle.std.specs.Prelude.{◌≡◌, ◌≤◌, ◌<◌, ◌+◌, ◌-◌, ◌∷◌, ℕ, suc, length, drop};
 ghost use Rattle.std.specs.List.{list_all};
 ghost use Rattle.action_script.specs.CutLines.{is_blank, lines_of};
 ghost use Rattle.caa_main.specs.Inputs.{without_blanks, begins_journal, is_journal_line, after_lines, script_lines, journal_part};
+
+use action_script::cuts::{find_line_feed, is_blank};
 
 /// Where the text of the journal begins in an input.
 #[derive(Clone, Copy, Debug, PartialEq, Eq)]
@@ -12,12 +14,6 @@ pub struct JournalStart {
     pub place: usize,
     /// The number of lines before it.
     pub lines: u64,
-}
-
-fn is_blank(byte: u8) -> bool
-    ensures { result ≡ is_blank byte }
-{
-    byte == b' ' || byte == b'\t' || byte == b'\r'
 }
 
 /// The line without the blanks that it begins with.
@@ -48,14 +44,6 @@ fn begins_journal(text: &[u8]) -> bool
         return false;
     }
     &text[..7] == b"journal".as_slice() && are_blank(&text[7..])
-}
-
-/// Where the first line feed of a text stands.
-fn find_line_feed(text: &[u8]) -> Option<usize>
-    ensures place { result ≡ position (λ b. b == 10) text.now }
-    ensures within { IfSome result (λ place. place < length text.now) }
-{
-    text.iter().position(|byte| *byte == b'\n')
 }
 
 /// The first line of a text, and what stands after its line feed, if anything.

@@ -1,3 +1,4 @@
+pub mod Fronts
 pub mod TextLemmas
 pub mod LooksLemmas
 pub mod ValueLemmas

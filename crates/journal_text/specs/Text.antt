@@ -142,11 +142,17 @@ ending_words plan p (Some outcome) = outcome_words plan p outcome
 abbrev pub outcome_line : Plan → List Entry → ℕ → List ℕ
 outcome_line plan past p = line (codes "outcome") (decimal p ∷ action_name plan p ∷ ending_words plan p (last_outcome past p))
 
--- the lines that follow from the entries: one for each object, and one for each place
+-- one line for each object
+abbrev pub object_lines : Plan → List Entry → List ℕ
+object_lines plan past = flat_map (object_line plan past) (range_with_len 0 (length plan.objects))
+
+-- one line for each place
+abbrev pub outcome_lines : Plan → List Entry → List ℕ
+outcome_lines plan past = flat_map (outcome_line plan past) (range_with_len 0 (length plan.places))
+
+-- the lines that follow from the entries
 abbrev pub closing_lines : Plan → List Entry → List ℕ
-closing_lines plan past =
-    flat_map (object_line plan past) (range_with_len 0 (length plan.objects))
-    ++ flat_map (outcome_line plan past) (range_with_len 0 (length plan.places))
+closing_lines plan past = object_lines plan past ++ outcome_lines plan past
 
 -- ---- what was seen
 

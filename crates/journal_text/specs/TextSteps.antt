@@ -1,5 +1,5 @@
 -- What each step of reading a text finds.
-use Rattle.std.specs.Prelude.{◌≡◌, ◌≤◌, ◌<◌, ◌+◌, ℕ, suc, List, ◌++◌, length, Option, Some, None}
+use Rattle.std.specs.Prelude.{◌≡◌, ◌≤◌, ◌<◌, ◌+◌, ℕ, suc, List, ◌++◌, length, Option, Some, None, MatchOption}
 use Rattle.std.specs.List.{flat_map}
 use Rattle.caa_base.specs.declared.entry.Entry.{Entry}
 use Rattle.place_plan.specs.PlanValue.{Plan}
@@ -11,6 +11,10 @@ use Rattle.journal_text.specs.declared.text_reader.TextError.TheVariants as erro
 use Rattle.journal_text.specs.Looks.{IsOfPlan, AreOfPlan, AreInOrder, last_watch}
 use Rattle.journal_text.specs.Text.{entry_line, seen_line}
 use Rattle.journal_text.specs.TextOfJournal.{lines_shared}
+
+-- what a text is left as after this front, where it begins with that
+abbrev pub IsAfter : {R : Type 0} → (R → List ℕ) → List ℕ → List ℕ → Option R → Type 0
+IsAfter now front text after = MatchOption after ((rest : List ℕ) → text ≡ front ++ rest → ⊥) (λ rest. text ≡ front ++ now rest)
 
 -- the text doesn't begin with the line of a well-formed entry
 abbrev pub BeginsNoEntry : Plan → List ℕ → Type 0

@@ -1,16 +1,16 @@
-ghost use Rattle.std.specs.Prelude.{◌≡◌, ◌≤◌, ◌∷◌, ◌++◌, [], true, suc, ◌<◌, ℕ, List, length, option_map, IfOk, IfErr, MatchOption};
+ghost use Rattle.std.specs.Prelude.{◌≡◌, ◌≤◌, ◌∷◌, ◌++◌, [], true, suc, ◌<◌, ℕ, List, length, reverse, option_map, IfOk, IfErr};
 ghost use Rattle.caa_base.specs.declared.entry.OutOfMemory.{OutOfMemory};
 ghost use Rattle.place_plan.specs.WellFormed.{IsWellFormed, AllWellFormed};
 ghost use Rattle.journal_text.specs.Naming.{is_well_named};
-ghost use Rattle.journal_text.specs.Text.{entry_line, seen_line, first_line, text_of};
+ghost use Rattle.journal_text.specs.Text.{entry_line, object_lines, outcome_lines, closing_lines, seen_line, first_line, text_of};
 ghost use Rattle.journal_text.specs.Looks.{AreOfPlan};
 ghost use Rattle.journal_text.specs.TextOfJournal.{lines_shared, Reads, ReadsBack, TextsDiffer};
-ghost use Rattle.journal_text.specs.TextSteps.{BeginsNoEntry, BeginsNoSeen, MayCome, EntryFound, SeenFound, EntriesRead, SeensRead, StopsEntries, RefusesAfter};
+ghost use Rattle.journal_text.specs.TextSteps.{IsAfter, BeginsNoEntry, BeginsNoSeen, MayCome, EntryFound, SeenFound, EntriesRead, SeensRead, StopsEntries, RefusesAfter};
 
 use crate::entry_line::entry_in;
 use crate::seen_line::{may_stand, seen_in};
 use crate::seens::{Seen, Seens};
-use crate::writing::{push_entry, push_seen, write_closing, write_text};
+use crate::writing::{push_entry, push_objects, push_outcomes, push_seen, write_text};
 use caa_base::entry::{Entry, OutOfMemory};
 use caa_base::journal::Journal;
 use caa_base::line::in_memory;
@@ -66,18 +66,14 @@ impl From<OutOfMemory> for TextError {
 
 /// What a text is left as after this front, where it begins with that.
 fn after_front<'a>(text: &'a [u8], front: &[u8]) -> Option<&'a [u8]>
-    ensures { MatchOption result
-        ((rest : List ℕ) → text.now ≡ front.now ++ rest → ⊥)
-        (λ rest. text.now ≡ front.now ++ rest.now) }
+    ensures { IsAfter (λ r. r.now) front.now text.now result }
 {
     text.strip_prefix(front)
 }
 
 /// What bytes are left as after the first line of a text, where they begin with that.
 fn after_first_line(bytes: &[u8]) -> Option<&[u8]>
-    ensures { MatchOption result
-        ((rest : List ℕ) → bytes.now ≡ first_line ++ rest → ⊥)
-        (λ rest. bytes.now ≡ first_line ++ rest.now) }
+    ensures { IsAfter (λ r. r.now) first_line bytes.now result }
 {
     after_front(bytes, b"journal\n")
 }
@@ -90,9 +86,7 @@ fn after_entry<'a>(
     entry: &Entry,
 ) -> Result<Option<&'a [u8]>, OutOfMemory>
     requires { IsWellFormed plan.now entry.now }
-    ensures { IfOk result (λ after. MatchOption after
-        ((rest : List ℕ) → text.now ≡ entry_line plan.now entry.now ++ rest → ⊥)
-        (λ rest. text.now ≡ entry_line plan.now entry.now ++ rest.now)) }
+    ensures { IfOk result (λ after. IsAfter (λ r. r.now) (entry_line plan.now entry.now) text.now after) }
 {
     let mut line = Vec::new(alloc);
     in_memory(push_entry(&mut line, plan, entry))?;
@@ -107,13 +101,58 @@ fn after_seen<'a>(
     seen: &Seen,
 ) -> Result<Option<&'a [u8]>, OutOfMemory>
     requires { seen.now.watch < length plan.now.watches }
-    ensures { IfOk result (λ after. MatchOption after
-        ((rest : List ℕ) → text.now ≡ seen_line plan.now seen.now ++ rest → ⊥)
-        (λ rest. text.now ≡ seen_line plan.now seen.now ++ rest.now)) }
+    ensures { IfOk result (λ after. IsAfter (λ r. r.now) (seen_line plan.now seen.now) text.now after) }
 {
     let mut line = Vec::new(alloc);
     in_memory(push_seen(&mut line, plan, seen))?;
     Ok(after_front(text, line.as_slice()))
+}
+
+/// What a text is left as after the lines of all objects, where it begins with those.
+fn after_objects<'a>(
+    alloc: Global,
+    plan: &Plan,
+    text: &'a [u8],
+    entries: &[Entry],
+) -> Result<Option<&'a [u8]>, OutOfMemory>
+    requires { AllWellFormed plan.now entries.now }
+    ensures { IfOk result (λ after. IsAfter (λ r. r.now) (object_lines plan.now (reverse entries.now)) text.now after) }
+{
+    let mut objects = Vec::new(alloc);
+    in_memory(push_objects(alloc, &mut objects, plan, entries))?;
+    Ok(after_front(text, objects.as_slice()))
+}
+
+/// What a text is left as after the lines of all outcomes, where it begins with those.
+fn after_outcomes<'a>(
+    alloc: Global,
+    plan: &Plan,
+    text: &'a [u8],
+    entries: &[Entry],
+) -> Result<Option<&'a [u8]>, OutOfMemory>
+    requires { AllWellFormed plan.now entries.now }
+    ensures { IfOk result (λ after. IsAfter (λ r. r.now) (outcome_lines plan.now (reverse entries.now)) text.now after) }
+{
+    let mut outcomes = Vec::new(alloc);
+    in_memory(push_outcomes(alloc, &mut outcomes, plan, entries))?;
+    Ok(after_front(text, outcomes.as_slice()))
+}
+
+/// What a text is left as after the lines that follow from these entries, where it begins with those.
+fn after_closing<'a>(
+    alloc: Global,
+    plan: &Plan,
+    text: &'a [u8],
+    entries: &[Entry],
+) -> Result<Option<&'a [u8]>, OutOfMemory>
+    requires { AllWellFormed plan.now entries.now }
+    ensures { IfOk result (λ after. IsAfter (λ r. r.now) (closing_lines plan.now (reverse entries.now)) text.now after) }
+{
+    match after_objects(alloc, plan, text, entries) {
+        Ok(Some(rest)) => after_outcomes(alloc, plan, rest, entries),
+        Ok(None) => Ok(None),
+        Err(error) => Err(error),
+    }
 }
 
 /// The well-formed entry whose line a text begins with, and the rest of the text.
@@ -275,8 +314,8 @@ fn read_text(
         return Err(refused_after(alloc, plan, bytes, &[], &[]));
     };
     let (entries, text) = read_entries(alloc, plan, text, limit)?;
-    let closing = write_closing(alloc, plan, &entries)?;
-    let Some(text) = after_front(text, closing.as_slice()) else {
+    let left = after_closing(alloc, plan, text, &entries)?;
+    let Some(text) = left else {
         return Err(refused_after(alloc, plan, bytes, &entries, &[]));
     };
     let (seens, text) = read_seens(alloc, plan, text)?;

@@ -6,7 +6,7 @@ ghost use Rattle.place_plan.specs.Places.{parent};
 ghost use Rattle.place_plan.specs.Entries.{is_of};
 ghost use Rattle.place_plan.specs.Roles.{verdict_at};
 ghost use Rattle.place_plan.specs.WellFormed.{IsWellFormed, AllWellFormed};
-ghost use Rattle.journal_text.specs.Text.{action_name, object_name, internal_name, interface_name, kind_word, object_words, restore_word, verdict_words, outcome_at, outcome_words, abort_words, leave_words, field_words, entry_line, object_line, last_outcome, ending_words, outcome_line, closing_lines, seen_line, watched_object, first_line, text_of};
+ghost use Rattle.journal_text.specs.Text.{action_name, object_name, internal_name, interface_name, kind_word, object_words, restore_word, verdict_words, outcome_at, outcome_words, abort_words, leave_words, field_words, entry_line, object_lines, last_outcome, ending_words, outcome_lines, closing_lines, seen_line, watched_object, first_line, text_of};
 ghost use Rattle.journal_text.specs.KnownValues.{value_found};
 ghost use Rattle.journal_text.specs.Looks.{AreOfPlan};
 
@@ -48,20 +48,6 @@ pub(crate) fn write_text(
 {
     let mut text = Vec::new(alloc);
     in_memory(push_text(alloc, &mut text, plan, entries, seens))?;
-    Ok(text)
-}
-
-/// The lines that follow from these entries.
-pub(crate) fn write_closing(
-    alloc: Global,
-    plan: &Plan,
-    entries: &[Entry],
-) -> Result<Vec<u8>, OutOfMemory>
-    requires { AllWellFormed plan.now entries.now }
-    ensures { IfOk result (λ text. text.items ≡ closing_lines plan.now (reverse entries.now)) }
-{
-    let mut text = Vec::new(alloc);
-    in_memory(push_closing(alloc, &mut text, plan, entries))?;
     Ok(text)
 }
 
@@ -116,10 +102,14 @@ fn push_seens(text: &mut Vec<u8>, plan: &Plan, seens: &[Seen]) -> io::Result<()>
 
 /// Adds a line for each object, with its value after the entries.
 #[tactic(auto, using(crate::proofs::TextLemmas::lines_more))]
-fn push_objects(alloc: Global, text: &mut Vec<u8>, plan: &Plan, entries: &[Entry]) -> io::Result<()>
+pub(crate) fn push_objects(
+    alloc: Global,
+    text: &mut Vec<u8>,
+    plan: &Plan,
+    entries: &[Entry],
+) -> io::Result<()>
     requires { AllWellFormed plan.now entries.now }
-    ensures { OnOk result (text.new.items
-        ≡ text.old.items ++ flat_map (object_line plan.now (reverse entries.now)) (range_with_len 0 (length plan.now.objects))) }
+    ensures { OnOk result (text.new.items ≡ text.old.items ++ object_lines plan.now (reverse entries.now)) }
 {
     let found = last_values(alloc, plan, entries)?;
     for object in 0..plan.objects() {
@@ -130,15 +120,14 @@ fn push_objects(alloc: Global, text: &mut Vec<u8>, plan: &Plan, entries: &[Entry
 
 /// Adds a line for each place, with its outcome after the entries.
 #[tactic(auto, using(crate::proofs::TextLemmas::lines_more))]
-fn push_outcomes(
+pub(crate) fn push_outcomes(
     alloc: Global,
     text: &mut Vec<u8>,
     plan: &Plan,
     entries: &[Entry],
 ) -> io::Result<()>
     requires { AllWellFormed plan.now entries.now }
-    ensures { OnOk result (text.new.items
-        ≡ text.old.items ++ flat_map (outcome_line plan.now (reverse entries.now)) (range_with_len 0 (length plan.now.places))) }
+    ensures { OnOk result (text.new.items ≡ text.old.items ++ outcome_lines plan.now (reverse entries.now)) }
 {
     let outcomes = last_outcomes(alloc, plan, entries)?;
     for place in 0..plan.places() {

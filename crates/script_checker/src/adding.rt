@@ -13,8 +13,8 @@ ghost use Rattle.script_checker.specs.View.{so_far};
 use crate::causes::{bound_with, places_with};
 use crate::declared::Declared;
 use crate::lookups::{
-    chosen, count_exceptions, exception_in, face_of, inner_number, interface_at, outer_number,
-    places_of,
+    count_exceptions, exception_in, face_of, inner_number, interface_at, outer_number,
+    places_in_order, places_of,
 };
 use crate::number_list::NumberList;
 use crate::parts::{Block, DeclaredGraph, NestSaid, Opening};
@@ -509,8 +509,7 @@ fn add_play(declared: &mut Declared, action: u32, who: &[u32]) -> Result<(), All
 fn add_uses(declared: &mut Declared, objects: &[u32]) -> Result<(), AllocError>
     ensures { OnOk result (so_far declared.new ≡ with_said [] (so_far declared.old) (Form.Uses objects.now)) }
 {
-    let used = NumberList::from_slice(declared.alloc, objects)?;
-    declared.uses = chosen(declared.alloc, &used, &declared.objects)?;
+    declared.uses = places_in_order(declared.alloc, &declared.objects, objects)?;
     Ok(())
 }
 

@@ -187,7 +187,7 @@ pub fn compile(alloc: Global, script: &Script) -> Result<Plan, CheckError>
     script.are_script();
     breaks_no_rule(script);
     let names = script.names();
-    let Ok(mut declared) = Declared::new(alloc, names) else {
+    let Ok(mut declared) = Declared::new(alloc, script) else {
         return Err(wanting());
     };
     let Ok(mut rows) = plain_rows(alloc, names) else {

@@ -1,14 +1,14 @@
-ghost use Rattle.std.specs.Prelude.{◌≡◌, ◌≤◌, ◌<◌, ◌^◌, true, length, codes, All, IfOk};
+ghost use Rattle.std.specs.Prelude.{◌≡◌, ◌≤◌, ◌<◌, true, length, All, IfOk};
 ghost use Rattle.caa_base.specs.Limits.{most_roles};
 ghost use Rattle.cover_table.specs.Cover.{most_exceptions};
 ghost use Rattle.script_checker.specs.Blocks.{is_in_graph};
-ghost use Rattle.action_script.specs.NumberedNames.{number_in};
 ghost use Rattle.script_checker.specs.DeclaredSoFar.{plain_graph};
 
 use crate::drill_list::DrillList;
 use crate::number_list::NumberList;
 use crate::parts::{Block, DeclaredGraph, NestSaid, Opening};
 use crate::role_list::RoleList;
+use action_script::script::Script;
 use caa_base::name::Name;
 use caa_base::rows::Rows;
 use place_plan::draft_rows::{ActionRow, NestRow, ObjectRow, PlayRow, Step};
@@ -70,19 +70,6 @@ pub struct Declared {
     ghost pairs_known: { All (λ p. (p.0 < length exceptions) × (p.1 < length exceptions)) pairs.items },
 }
 
-/// The number of the name `universal` among these, or how many names there are.
-fn universal_in(names: &[Name]) -> usize
-    ensures number { result ≡ number_in names.now (codes "universal") }
-    ensures within { result ≤ length names.now }
-{
-    for (number, name) in names.iter().enumerate() {
-        if b"universal".as_slice() == name.bytes() {
-            return number;
-        }
-    }
-    names.len()
-}
-
 /// The plain graph, which has `universal` alone.
 fn plain_graph(alloc: Global, universal: u32) -> Result<DeclaredGraph, AllocError>
     ensures { IfOk result (λ graph. graph ≡ plain_graph universal) }
@@ -96,16 +83,15 @@ fn plain_graph(alloc: Global, universal: u32) -> Result<DeclaredGraph, AllocErro
 }
 
 impl Declared {
-    ghost use Rattle.std.specs.Prelude.{◌≡◌, ◌<◌, ◌^◌, length, IfOk};
+    ghost use Rattle.std.specs.Prelude.{◌≡◌, IfOk};
     ghost use Rattle.script_checker.specs.DeclaredSoFar.{nothing_yet};
     ghost use Rattle.script_checker.specs.View.{so_far};
 
-    /// What is declared before the first line of a script of these names.
-    pub fn new(alloc: Global, names: &[Name]) -> Result<Declared, AllocError>
-        requires { length names.now < 2 ^ 32 }
-        ensures { IfOk result (λ declared. so_far declared ≡ nothing_yet names.now) }
+    /// What is declared before the first line of a script.
+    pub fn new(alloc: Global, script: &Script) -> Result<Declared, AllocError>
+        ensures { IfOk result (λ declared. so_far declared ≡ nothing_yet script.now.names) }
     {
-        let universal = universal_in(names) as u32;
+        let universal = script.universal();
         let graphs = vec![in alloc; plain_graph(alloc, universal)?]?;
         Ok(Declared {
             alloc,

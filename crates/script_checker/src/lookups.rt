@@ -4,13 +4,14 @@ ghost use Rattle.std.specs.Prelude.{◌≡◌, length, map, slice_index_or, IfOk
 ghost use Rattle.std.specs.List.{list_all};
 ghost use Rattle.caa_base.specs.Lists.{member, index_of};
 ghost use Rattle.place_plan.specs.Places.{no_action};
-ghost use Rattle.script_checker.specs.Numbers.{is_among, has_twice, chosen_from};
+ghost use Rattle.script_checker.specs.Numbers.{is_among, has_twice, in_order};
 ghost use Rattle.script_checker.specs.DeclaredSoFar.{no_graph, exceptions_at, inner, outer, action_of, nest_of, face_of, face, role_of};
 ghost use Rattle.script_checker.specs.View.{so_far};
 
 use crate::declared::Declared;
 use crate::number_list::NumberList;
 use std::alloc::{AllocError, Global};
+use std::collections::BTreeSet;
 
 /// Whether each of some names is among those.
 pub(crate) fn are_among(names: &NumberList, some: &[u32]) -> bool
@@ -51,6 +52,34 @@ pub(crate) fn places_of(
     ensures { IfOk result (λ places. places.items ≡ map (λ n. index_of n names.now) some.now) }
 {
     some.iter().map(|name| names.find(*name)).collect(alloc)
+}
+
+/// The numbers of some names among those, in a set that is in order.
+fn set_of_places(
+    alloc: Global,
+    names: &NumberList,
+    some: &[u32],
+) -> Result<BTreeSet<u32>, AllocError>
+    ensures { IfOk result (λ places. places.keys ≡ in_order (map (λ n. index_of n names.now) some.now)) }
+{
+    let mut places = BTreeSet::new(alloc);
+    for name in some {
+        places.insert(names.find(*name))?;
+    }
+    Ok(places)
+}
+
+/// The numbers of some names among those, in rising order.
+pub(crate) fn places_in_order(
+    alloc: Global,
+    names: &NumberList,
+    some: &[u32],
+) -> Result<NumberList, AllocError>
+    ensures { IfOk result (λ places. places ≡ in_order (map (λ n. index_of n names.now) some.now)) }
+{
+    let places = set_of_places(alloc, names, some)?;
+    let places: Vec<u32> = places.into_iter().collect(alloc)?;
+    NumberList::from_slice(alloc, places.as_slice())
 }
 
 // ---- exceptions
@@ -164,23 +193,4 @@ pub(crate) fn face_of(declared: &Declared, nest: u32) -> u32
     ensures { result ≡ face_of (so_far declared.now) nest }
 {
     interface_at(declared, first_action(declared, nest))
-}
-
-/// The numbers of those names that are among some others, in order.
-pub(crate) fn chosen(
-    alloc: Global,
-    some: &NumberList,
-    names: &NumberList,
-) -> Result<NumberList, AllocError>
-    ensures { IfOk result (λ numbers. numbers ≡ chosen_from 0 some.now names.now) }
-{
-    let mut numbers = NumberList::new(alloc);
-    let items = names.items();
-    let count = names.len();
-    for number in 0..count {
-        if some.contains(items[number as usize]) {
-            numbers.push(number)?;
-        }
-    }
-    Ok(numbers)
 }

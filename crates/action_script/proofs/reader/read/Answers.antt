@@ -15,8 +15,8 @@ returns-in-Ok-to_names-clause-read c =
 pub returns-in-Err-clause-refused : goal.returns-in-Err-clause-refused
 returns-in-Err-clause-refused c = λ known. reading_of-refused c.args.bytes.now c.in-Err.error (omega arith) (c.in-Err.ensures.refused known)
 
-pub from_parts-requires : goal.from_parts-requires
-from_parts-requires c =
+pub from_parts-requires-clause-whole : goal.from_parts-requires-clause-whole
+from_parts-requires-clause-whole c =
     let script : Script = record { lines = c.in-Ok.reader.lines.items; names = c.in-Ok-to_names.names.items } in
     let whole = reading_of-read c.args.bytes.now (so_far c.in-Ok.reader) script (omega arith) c.in-Ok.ensures.read (sym c.at_top.ensures ∙ c.if-not-at_top.false) refl c.in-Ok-to_names.ensures.names in
     well_read c.args.bytes.now script whole (omega (arith, c.in-Ok.ensures.few_names, ap length c.in-Ok-to_names.ensures.names)) c.in-Ok.ensures.few_lines
