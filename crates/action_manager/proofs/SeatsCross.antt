@@ -1,4 +1,4 @@
--- Where a machine may go to another thread, so may a seat, and threads may share its manager.
+-- Where a machine may go to another thread, so may a seat and its manager, and threads may share the manager.
 use Rattle.std.proofs.Crossing.{crosses}
 use denote.RattleType.{RattleType}
 use denote.Param.Send.{IsSend, IsSync, struct_send, struct_sync, recorded_send, sendable}
@@ -40,3 +40,7 @@ module _ (M : RattleType) (s : IsSend M) where
   pub manager_sync : (g : machine.Ghosts M.Denot) → IsSync (Struct (shape (manager.the_type M g)))
   manager_sync g = struct_sync (shape (manager.the_type M g))
       (lock_crosses.the_field_sync (housed.the_row M) (home.ghosts M g home.no_dict) housed_row_send, (search sendable, (cells_cross.the_sync, (handed_crosses.the_field_sync, tt))))
+
+  pub manager_send : (g : machine.Ghosts M.Denot) → IsSend (Struct (shape (manager.the_type M g)))
+  manager_send g = struct_send (shape (manager.the_type M g))
+      (lock_crosses.the_field_send (housed.the_row M) (home.ghosts M g home.no_dict) housed_row_send, (search sendable, (cells_cross.the_send, (handed_crosses.the_field_send, tt))))

@@ -6,8 +6,9 @@ fn may_cross<T: Send>(_x: &T) {}
 
 fn may_share<T: Sync>(_x: &T) {}
 
-/// Where a machine may go to another thread, so may a seat, and threads may share the manager.
+/// Where a machine may go to another thread, so may a seat and the manager, and threads may share the manager.
 pub fn crosses_threads<M: Machine + Send>(seat: &Seat<M>, manager: &Manager<M>) {
     may_cross(seat);
+    may_cross(manager);
     may_share(manager);
 }

@@ -229,7 +229,7 @@ impl<M: Machine> Manager<M> {
         machine: M,
         observers: u32,
     ) -> Result<Opened<M>, ManagerError<M>>
-        requires early { IsUnresolved (reverse (M.journal_of machine)) }
+        requires unresolved { IsUnresolved (reverse (M.journal_of machine)) }
         requires none_ended { plays_ended (M.plan_of machine) (reverse (M.journal_of machine)) ≡ [] }
         ensures machine { IfOk result (λ o. handed_in o.manager ≡ machine) }
         ensures plan { IfOk result (λ o. plan_in o.manager ≡ M.plan_of machine) }

@@ -1,5 +1,5 @@
 -- How a call of the program used the source, the sink and the device that it was handed.
-use Rattle.std.specs.Prelude.{◌≡◌, ℕ, List, [], Option}
+use Rattle.std.specs.Prelude.{◌≡◌, ◌⊎◌, ℕ, List, [], Option}
 use Rattle.caa_base.specs.PlantState.{PlantState, Drilling}
 use Rattle.caa_base.specs.declared.entry.Entry.{Entry}
 use Rattle.caa_base.specs.declared.source.Source.{Ghosts as SourceGhosts}
@@ -87,7 +87,12 @@ pub record IsIdle {P : Type 0} (left : Left P) : Type 0 where
   pub unplayed : left.journal ≡ []
   pub plant : left.plant.after ≡ left.plant.before
 
--- nothing was played, and the device refused no put
+-- the device was asked for no put: it was just laid out, or has the calls that it had
+abbrev pub IsUnasked : {P : Type 0} → PlantUse P → Type 0
+IsUnasked plant = (plant.calls_after ≡ 0) ⊎ (plant.calls_after ≡ plant.calls_before)
+
+-- nothing was played, and the device was asked for no put, and so refused none
 pub record IsUnplayed {P : Type 0} (left : Left P) : Type 0 where
   pub unplayed : left.journal ≡ []
-  pub unasked : left.plant.faults_after ≡ left.plant.faults_before
+  pub unasked : IsUnasked left.plant
+  pub unrefused : left.plant.faults_after ≡ left.plant.faults_before

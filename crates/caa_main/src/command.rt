@@ -50,7 +50,7 @@ fn alone(command: Command, words: &[String]) -> Option<Command>
     }
 }
 
-/// The command of these words, where they are those of a command that is built.
+/// The command of these words, where they are those of one that is served.
 pub fn command_of(words: &[String]) -> Option<Command>
     ensures command { result ≡ command_of (map string_bytes words.now) }
     ensures seed { IfSome result HasSeed }

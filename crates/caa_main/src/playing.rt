@@ -5,6 +5,7 @@ ghost use Rattle.place_plan.specs.WellFormed.{AllWellFormed};
 ghost use Rattle.journal_text.specs.Looks.{AreOfPlan};
 ghost use Rattle.journal_text.specs.Naming.{is_well_named};
 ghost use Rattle.journal_replay.specs.Hall.{plan_in, plant_in, journal_in, base_in};
+ghost use Rattle.journal_replay.specs.Device.{attempts_in};
 ghost use Rattle.caa_main.specs.declared.finding.Finding.{Finding};
 ghost use Rattle.caa_main.specs.FailedPlays.{is_failed_play, has_failed_play};
 ghost use Rattle.caa_main.specs.OutsideUse.{plant_use, left_of, IsIdle};
@@ -138,6 +139,7 @@ fn unplayed<P: Plant>(hall: PlainHall<P>) -> Coming<P>
     ensures finding { result.finding ≡ Finding.OutOfMemory }
     ensures plant { result.plant ≡ plant_in hall }
     ensures journal { result.journal.entries ≡ journal_in hall }
+    ensures calls { P.calls result.plant ≡ attempts_in (journal_in hall) }
 {
     let (_, plant, journal) = hall.into_parts();
     Coming {

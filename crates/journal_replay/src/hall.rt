@@ -1,4 +1,4 @@
-ghost use Rattle.std.specs.Prelude.{◌≡◌, ◌<◌, ◌≤◌, ◌+◌, ◌-◌, ◌^◌, ◌∷◌, ◌++◌, [], map, length, reverse, true, false, is_some, IfOk, IfErr, IfSome, OnOk, IsTrue, ◌↔◌, ◌⊎◌, if◌then◌else◌};
+ghost use Rattle.std.specs.Prelude.{◌≡◌, ◌<◌, ◌≤◌, ◌+◌, ◌-◌, ◌^◌, ◌∷◌, ◌++◌, [], map, length, reverse, true, false, is_some, IfOk, IfErr, IfSome, OnOk, OnErr, IsTrue, ◌↔◌, ◌⊎◌, if◌then◌else◌};
 ghost use Rattle.caa_base.specs.Counts.{CountsFault, Rose};
 ghost use Rattle.caa_base.specs.declared.entry.Entry.{Entry as JournalEntry};
 ghost use Rattle.place_plan.specs.Bound.{bound};
@@ -6,7 +6,7 @@ ghost use Rattle.place_plan.specs.Rules.{MayFollow};
 ghost use Rattle.place_plan.specs.Journals.{LegalPast, IsLegal, is_fault, faults_in};
 ghost use Rattle.place_plan.specs.Machine.{Answers};
 ghost use Rattle.place_plan.proofs.LegalProp.{LegalPast-prop};
-ghost use Rattle.journal_replay.specs.Device.{FitsJournal, HasValues, HasDrills, has_asked};
+ghost use Rattle.journal_replay.specs.Device.{FitsJournal, HasValues, HasDrills, has_asked, attempts_in};
 ghost use Rattle.caa_base.specs.PlantState.{is_refused, is_drilled, after_put, after_try};
 ghost use Rattle.journal_replay.specs.Opening.{is_plant_fault};
 ghost use Rattle.std.proofs.Math.Nat.{le_of_eq};
@@ -115,6 +115,7 @@ fn lay_out<P: Plant>(alloc: Global, plan: &Plan, plant: &mut P) -> Result<(), Pl
       state = P.state plant.new;
       drilling = P.drilling plant.new;
     })) }
+    ensures unasked { OnErr result (P.calls plant.new ≡ P.calls plant.old) }
     ensures tells_state { is_some (P.state plant.new) ≡ is_some (P.state plant.old) }
     ensures tells_drilling { is_some (P.drilling plant.new) ≡ is_some (P.drilling plant.old) }
     ensures lay_faults { CountsFault (is_refused result) (P.lay_faults plant.old) (P.lay_faults plant.new) }
@@ -164,7 +165,7 @@ impl<P: Plant> PlainHall<P> {
     ///
     /// All its memory is taken here: the journal has room for as many entries as the plan allows, and the plant is laid out with the
     /// initial values, the plan's drills and room for as many puts. `PlantFault` comes only where the plant refused to be laid
-    /// out, and its count of that rose. Both errors hand the plant back.
+    /// out, and its count of that rose. Both errors hand the plant back, which was asked for no put.
     pub fn open(alloc: Global, plan: Plan, plant: P) -> Result<PlainHall<P>, OpenError<P>>
         ensures plan { IfOk result (λ hall. plan_in hall ≡ plan) }
         ensures journal { IfOk result (λ hall. journal_in hall ≡ []) }
@@ -176,6 +177,7 @@ impl<P: Plant> PlainHall<P> {
         ensures room { IfOk result (λ hall. room_in hall ≡ bound plan) }
         ensures cause { IfErr result (λ error. CountsFault (is_plant_fault error.cause) (P.lay_faults plant) (P.lay_faults error.plant)) }
         ensures kept { IfErr result (λ error. P.faults error.plant ≡ P.faults plant) }
+        ensures unasked { IfErr result (λ error. P.calls error.plant ≡ P.calls plant) }
     {
         let mut plant = plant;
         let base = plant.faults();
@@ -204,14 +206,15 @@ impl<P: Plant> PlainHall<P> {
 
     /// The plan, the plant and the journal, which is legal for the plan. It takes no memory.
     ///
-    /// The plant has counted one fault more for each refused put and restore of the journal, as long as its count doesn't stand at its
-    /// end. Where it tells its values they are those by the journal, and where it tells its drills it refused just what they name.
+    /// The plant was asked as often since it was laid out as the journal has writes, refused puts and restores. It has counted one fault
+    /// more for each refused put and restore of the journal, as long as its count doesn't stand at its end. Where it tells its values they are those by the journal, and where it tells its drills it refused just what they name.
     pub fn into_parts(self) -> (Plan, P, Journal)
         ensures plan { result.0 ≡ plan_in self }
         ensures plant { result.1 ≡ plant_in self }
         ensures journal { result.2.entries ≡ journal_in self }
         ensures legal { IsLegal result.0 result.2.entries }
         ensures faults { P.faults result.1 < 2 ^ 64 - 1 → P.faults result.1 ≡ base_in self + faults_in result.2.entries }
+        ensures calls { P.calls result.1 ≡ attempts_in result.2.entries }
         ensures state { IfSome (P.state result.1) (HasValues result.0 result.2.entries) }
         ensures drilling { IfSome (P.drilling result.1) (HasDrills result.0 result.2.entries) }
     {

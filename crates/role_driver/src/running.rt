@@ -133,7 +133,7 @@ pub fn run<M: Machine + Send, G: Gate + Sync, R: Threads + Wait + Sync>(
     machine: M,
     gate: &G,
 ) -> Result<Finished<M>, RunError<M>>
-    requires early { IsUnresolved (reverse (M.journal_of machine)) }
+    requires unresolved { IsUnresolved (reverse (M.journal_of machine)) }
     requires none_ended { plays_ended (M.plan_of machine) (reverse (M.journal_of machine)) ≡ [] }
     ensures plan { IfOk result (λ f. M.plan_of f.machine ≡ M.plan_of machine) }
     ensures base { IfOk result (λ f. M.base_of f.machine ≡ M.base_of machine) }

@@ -1,20 +1,55 @@
-ghost use Rattle.std.specs.Prelude.{◌≡◌, length};
+ghost use Rattle.std.specs.Prelude.{◌≡◌, length, replicate, true};
 
 use super::*;
 use place_plan::plan::Plan;
 use std::alloc::Global;
 use std::sync::Wait;
 use std::test::Fail;
+use std::thread;
+use std::thread::Threads;
 use trial_drafts::draft;
+
+/// Announces in a thread of its own that place 1 was resolved to the exception 7, and says whether that was done.
+fn announce_elsewhere<R: Threads + Wait + Sync>(
+    rt: &R,
+    cells: &ResolutionCells,
+    announcer: Announcer,
+) -> bool
+    requires { (length cells.now ≡ 3) × (announcer ≡ replicate 3 true) }
+{
+    thread::scope(
+        thread::scope_env(),
+        rt,
+        |scope| -> bool
+            requires { (length cells.now ≡ 3) × (announcer ≡ replicate 3 true) }
+        {
+            let child = scope.spawn(
+                move || -> bool
+                    requires { (length cells.now ≡ 3) × (announcer ≡ replicate 3 true) }
+                {
+                    let mut announcer = announcer;
+                    let mut note = cells.note(1);
+                    cells.announce(&mut announcer, &mut note, 7).is_ok()
+                },
+            );
+            match child {
+                Ok(child) => child.join(rt),
+                Err(_) => false,
+            }
+        },
+    )
+}
 
 #[test]
 fn notes_meet(rt: HostRuntime) -> Result<(), Fail> {
-    let (cells, mut announcer) = ResolutionCells::open(rt.alloc(), 3)?;
-    let mut note = cells.note(1);
-    let told = cells.announce(&mut announcer, &mut note, 7);
-    let mut other = cells.note(1);
-    assert!(rt; told.is_ok() && cells.resolved(&mut other) == Some(7));
-    cells.agree(&mut note, &mut other);
+    let (cells, announcer) = ResolutionCells::open(rt.alloc(), 3)?;
+    let mut first = cells.note(1);
+    assert!(rt; cells.resolved(&mut first).is_none());
+    assert!(rt; announce_elsewhere(&rt, &cells, announcer));
+    let mut second = cells.note(1);
+    assert_eq!(rt; cells.resolved(&mut second), Some(7));
+    assert_eq!(rt; cells.resolved(&mut first), Some(7));
+    cells.agree(&mut first, &mut second);
     assert!(rt; cells.resolved(&mut cells.note(2)).is_none());
     Ok(())
 }

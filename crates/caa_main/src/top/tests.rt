@@ -271,7 +271,7 @@ fn audit_of(alloc: Global, script: &[u8], text: &[u8]) -> Result<Status, Fail> {
 }
 
 #[test]
-fn threads_meet_at_their_work(rt: HostRuntime) -> Result<(), Fail> {
+fn run_overlaps(rt: HostRuntime) -> Result<(), Fail> {
     let script =
         b"participant ann\nparticipant bob\naction w\nroles r\nbody r\nwork 1\nend\nplay w ann\nplay w bob\n".as_slice();
     let gate = Meeting::new();
@@ -304,6 +304,30 @@ fn a_run_tells_of_its_watches(rt: HostRuntime) -> Result<(), Fail> {
     assert!(rt; SEEN.iter().any(|ending| text.as_slice().ends_with(ending)));
     assert_eq!(rt;
         audit_of(rt.alloc(), script, text.as_slice())?,
+        Status::Done
+    );
+    Ok(())
+}
+
+/// A script whose third put the device refuses, with a watch, and the text of its play but for what is seen.
+const THIRD_PUT_FAILS: &[u8] =
+    b"participant ann\nobject x 0\ndrill x 3\nwatch x\ngraph g\nexception broken\nend\naction tri\ninternal g\nfault broken\nuse x\nroles r\nbody r\nput x 1\nput x 2\nput x 3\nhandler r broken\nput x 4\nend\nplay tri ann\n";
+
+const THIRD_PUT_FAILS_TEXT: &[u8] =
+    b"journal\narrive 0 ann\nstart 0 ann\nwrite 0 ann x 1\nwrite 0 ann x 2\nputfault 0 ann x 3\nresolve 0 ann broken\nhandle 0 ann broken\nwrite 0 ann x 4\nverdict 0 ann done\nend 0 ann commit\nleave 0 ann\nobject x 4\noutcome 0 tri commit\n";
+
+#[test]
+fn run_with_watch(rt: HostRuntime) -> Result<(), Fail> {
+    let (status, text) = run_over(&rt, rt.alloc(), THIRD_PUT_FAILS, &EmptyGate)?;
+    assert_eq!(rt; status, Status::Done);
+    let Some(seen) = text.as_slice().strip_prefix(THIRD_PUT_FAILS_TEXT) else {
+        panic!(rt; "another text");
+    };
+    assert!(rt;
+        seen == b"seen x 1 4\n".as_slice() || seen == b"seen x 0 0\nseen x 1 4\n".as_slice()
+    );
+    assert_eq!(rt;
+        audit_of(rt.alloc(), THIRD_PUT_FAILS, text.as_slice())?,
         Status::Done
     );
     Ok(())
