@@ -1,11 +1,13 @@
 -- The device isn't asked for an entry that is the only one that may follow.
-use Rattle.std.proofs.Common.{◌≡◌, ℕ, ◌==◌, ◌||◌, true, false, List, refl, arith, ap, inl, inr}
+use Rattle.std.proofs.Common.{◌≡◌, ℕ, ◌==◌, ◌||◌, ◌&&◌, Bool, true, false, List, refl, arith, ap, inl, inr}
 use Rattle.std.proofs.lemmas.Bool.{eqb-true, or_cases}
 use Rattle.caa_base.specs.declared.entry.Entry.{Entry}
 use Rattle.caa_base.specs.declared.entry.Kind.{Kind}
 use Rattle.caa_base.specs.declared.entry.Kind.TheVariants as kind
 use Rattle.place_plan.specs.PlanValue.{Plan}
+use Rattle.place_plan.specs.Entries.{is_of}
 use Rattle.place_plan.specs.Rules.{MayPut, MayRestore}
+use Rattle.place_plan.specs.Journals.{is_fault}
 use Rattle.place_plan.proofs.EntryKinds.{of_kind}
 use Rattle.journal_replay.specs.Device.{has_asked}
 use Rattle.journal_replay.specs.IsDue.{IsTheEntry}
@@ -44,3 +46,13 @@ module _ (plan : Plan) (past : List Entry) where
 
   pub unasked : (e : Entry) (t : ℕ) → IsTheEntry plan past t e → has_asked e ≡ false
   unasked e t h = unasked_by e.kind e t h
+
+-- where the device wasn't asked, it refused nothing
+pub unasked_unrefused : (e : Entry) → has_asked e ≡ false → is_fault e ≡ false
+unasked_unrefused e h = unrefused (is_of kind.Write e) (is_of kind.PutFault e) (is_of kind.Restore e) h
+  where
+    unrefused : (w p r : Bool) → w || (p || r) ≡ false → p || (r && (e.mark == 1)) ≡ false
+    unrefused false false false h = refl
+    unrefused false false true h = absurd cc
+    unrefused false true r h = absurd cc
+    unrefused true p r h = absurd cc

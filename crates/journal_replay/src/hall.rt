@@ -1,10 +1,9 @@
 ghost use Rattle.std.specs.Prelude.{◌≡◌, ◌<◌, ◌≤◌, ◌+◌, ◌-◌, ◌^◌, ◌∷◌, ◌++◌, [], map, length, reverse, true, false, is_some, IfOk, IfErr, IfSome, OnOk, OnErr, IsTrue, ◌↔◌, ◌⊎◌, if◌then◌else◌};
-ghost use Rattle.caa_base.specs.Counts.{CountsFault, Rose};
-ghost use Rattle.caa_base.specs.declared.entry.Entry.{Entry as JournalEntry};
+ghost use Rattle.caa_base.specs.Counts.{CountsFault};
 ghost use Rattle.place_plan.specs.Bound.{bound};
 ghost use Rattle.place_plan.specs.Rules.{MayFollow};
 ghost use Rattle.place_plan.specs.Journals.{LegalPast, IsLegal, is_fault, faults_in};
-ghost use Rattle.place_plan.specs.Machine.{Answers};
+ghost use Rattle.place_plan.specs.Machine.{Answers, made_fault};
 ghost use Rattle.place_plan.proofs.LegalProp.{LegalPast-prop};
 ghost use Rattle.journal_replay.specs.Device.{FitsJournal, HasValues, HasDrills, has_asked, attempts_in};
 ghost use Rattle.caa_base.specs.PlantState.{is_refused, is_drilled, after_put, after_try};
@@ -207,7 +206,8 @@ impl<P: Plant> PlainHall<P> {
     /// The plan, the plant and the journal, which is legal for the plan. It takes no memory.
     ///
     /// The plant was asked as often since it was laid out as the journal has writes, refused puts and restores. It has counted one fault
-    /// more for each refused put and restore of the journal, as long as its count doesn't stand at its end. Where it tells its values they are those by the journal, and where it tells its drills it refused just what they name.
+    /// more for each refused put and restore of the journal, as long as its count doesn't stand at its end. Where it tells its values
+    /// they are those by the journal, and where it tells its drills it refused just what they name.
     pub fn into_parts(self) -> (Plan, P, Journal)
         ensures plan { result.0 ≡ plan_in self }
         ensures plant { result.1 ≡ plant_in self }
@@ -264,6 +264,7 @@ impl<P: Plant> PlainHall<P> {
         ensures plan { plan_in self.new ≡ plan_in self.old }
         ensures base { base_in self.new ≡ base_in self.old }
         ensures plant { plant_in self.new ≡ plant_in self.old }
+        ensures unrefused { made_fault result ≡ false }
         ensures answer { Answers (plan_in self.old) (journal_in self.old) (journal_in self.new) by hint result }
     {
         match hint {
@@ -307,9 +308,7 @@ impl<P: Plant> Machine for PlainHall<P> {
         requires { by < length (plan_in self.old).participants }
         ensures plan { plan_in self.new ≡ plan_in self.old }
         ensures base { base_in self.new ≡ base_in self.old }
-        ensures count { P.faults (plant_in self.old) ≤ P.faults (plant_in self.new) }
-        ensures fault { (e : JournalEntry) → result ≡ Answer.Did e → is_fault e ≡ true →
-            Rose (P.faults (plant_in self.old)) (P.faults (plant_in self.new)) }
+        ensures count { CountsFault (made_fault result) (P.faults (plant_in self.old)) (P.faults (plant_in self.new)) }
         ensures answer { Answers (plan_in self.old) (journal_in self.old) (journal_in self.new) by hint result }
     {
         if let Some(work) = work_due(&self.plan, self.journal.as_slice(), by) {

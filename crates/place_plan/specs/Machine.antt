@@ -1,12 +1,12 @@
 -- What a call of a machine answers, and what it leaves.
-use Rattle.std.specs.Prelude.{◌≡◌, ℕ, ℤ, true, false, List, [], ◌∷◌, ◌++◌, reverse, Option, Some, None}
+use Rattle.std.specs.Prelude.{◌≡◌, ℕ, ℤ, Bool, true, false, List, [], ◌∷◌, ◌++◌, reverse, Option, Some, None}
 use Rattle.caa_base.specs.Mixing.{mix, Worked}
 use Rattle.caa_base.specs.declared.entry.Entry.{Entry}
 use Rattle.caa_base.specs.declared.entry.Kind.TheVariants as kind
 use Rattle.place_plan.specs.PlanValue.{Plan}
 use Rattle.place_plan.specs.Roles.{is_over, register}
 use Rattle.place_plan.specs.Rules.{MayFollow}
-use Rattle.place_plan.specs.Journals.{Silent}
+use Rattle.place_plan.specs.Journals.{Silent, is_fault}
 use Rattle.place_plan.specs.declared.machine.Answer.{Answer}
 use Rattle.place_plan.specs.declared.machine.Answer.TheVariants as answer
 
@@ -44,3 +44,8 @@ Answers plan old new t hint (answer.Did e) = Did plan old new t hint e
 Answers plan old new t hint (answer.Work p rounds from) = AsksForWork plan old new t hint p rounds from
 Answers plan old new t hint answer.NotYet = IsSilent plan old new t × (is_over plan (reverse old) t ≡ false)
 Answers plan old new t hint answer.Over = IsSilent plan old new t × (is_over plan (reverse old) t ≡ true)
+
+-- it made the entry of a put or restore that the device refused
+abbrev pub made_fault : Answer → Bool
+made_fault (answer.Did e) = is_fault e
+made_fault _ = false

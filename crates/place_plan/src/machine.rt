@@ -1,10 +1,10 @@
-ghost use Rattle.std.specs.Prelude.{◌≡◌, ◌<◌, ◌≤◌, ◌+◌, ◌-◌, ◌^◌, ℕ, List, length, slice_index_or, reverse, IsTrue, ◌↔◌, true};
+ghost use Rattle.std.specs.Prelude.{◌≡◌, ◌<◌, ◌≤◌, ◌+◌, ◌-◌, ◌^◌, ℕ, List, length, slice_index_or, reverse, IsTrue, ◌↔◌};
 ghost use Rattle.caa_base.specs.declared.entry.Entry.{Entry as JournalEntry};
 ghost use Rattle.place_plan.specs.PlanValue.{Plan as PlanValue};
 ghost use Rattle.place_plan.specs.Objects.{value_of};
-ghost use Rattle.place_plan.specs.Journals.{LegalPast, IsComplete, is_fault, faults_in};
-ghost use Rattle.caa_base.specs.Counts.{Rose};
-ghost use Rattle.place_plan.specs.Machine.{Answers};
+ghost use Rattle.place_plan.specs.Journals.{LegalPast, IsComplete, faults_in};
+ghost use Rattle.caa_base.specs.Counts.{CountsFault};
+ghost use Rattle.place_plan.specs.Machine.{Answers, made_fault};
 
 use crate::plan::Plan;
 use caa_base::entry::{Entry, Object, Participant, Place};
@@ -30,7 +30,8 @@ pub enum Answer {
 /// A plan that is played entry by entry.
 ///
 /// A machine is seen as four things: its plan, its journal, which is legal, the device's count of faults before the play, and the
-/// device's count of faults now. No call changes the plan or the first count, and the second never falls. No call takes memory.
+/// device's count of faults now. No call changes the plan or the first count, and the second rises by one with each entry of a put
+/// or restore that the device refused, and else not. No call takes memory.
 pub trait Machine {
     ghost plan_of: { Self → PlanValue };
 
@@ -52,10 +53,9 @@ pub trait Machine {
         requires { by < length (plan_of self.old).participants }
         ensures plan { plan_of self.new ≡ plan_of self.old }
         ensures base { base_of self.new ≡ base_of self.old }
-        ensures count { count_of self.old ≤ count_of self.new }
 
-        // An entry of a refused put or restore is made only where the device refused in this call.
-        ensures fault { (e : JournalEntry) → result ≡ Answer.Did e → is_fault e ≡ true → Rose (count_of self.old) (count_of self.new) }
+        // The device counts a fault in this call just where the entry of a refused put or restore is made.
+        ensures count { CountsFault (made_fault result) (count_of self.old) (count_of self.new) }
         ensures answer { Answers (plan_of self.old) (journal_of self.old) (journal_of self.new) by hint result };
 
     /// How many entries the journal has.
