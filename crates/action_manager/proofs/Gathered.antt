@@ -14,10 +14,7 @@ use Rattle.action_manager.specs.Seats.{stand, seen_by, has_seat, Accounts}
 use Rattle.action_manager.proofs.LockSteps.{held_both}
 use Rattle.std.proofs.lemmas.List.Elements.{All-append}
 use Rattle.std.specs.List.{range_with_len}
-
-range_more : (a n : ℕ) → range_with_len a (n + 1) ≡ range_with_len a n ++ (a + n) ∷ []
-range_more a zero = grind arith
-range_more a (suc n) = let more = range_more (a + 1) n in grind arith
+use Rattle.caa_base.proofs.ListLemmas.{range_more}
 
 pub all_one : {X : Type 0} (P : X → Type 0) (x : X) → P x → All P (x ∷ [])
 all_one P x p zero d low = p

@@ -7,7 +7,8 @@ use Rattle.std.proofs.lemmas.Bool.Decides.{nat_tests}
 use Rattle.std.proofs.lemmas.List.{append-nil}
 use Rattle.std.proofs.lemmas.List.Folds.{list_all-append}
 use Rattle.std.proofs.lemmas.List.Splits.{slice_split_at, slice_split_none}
-use Rattle.action_script.specs.CutLines.{is_blank, is_plain, words_of, spaced, lines_of, without_empty_last}
+use Rattle.action_script.specs.CutLines.{is_blank, is_plain, words_of, lines_of, without_empty_last}
+use Rattle.caa_base.specs.Lines.{spaced}
 use Rattle.action_script.proofs.LineCuts.{some_piece, without_empty_last-cons}
 use Rattle.action_script.proofs.Cutting.{filled}
 use Rattle.action_script.proofs.Inky.{is_inky, IsWord}

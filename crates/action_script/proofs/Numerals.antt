@@ -6,9 +6,10 @@ use Rattle.std.proofs.lemmas.Bool.{and_parts, le-leb, leb-true}
 use Rattle.std.proofs.lemmas.Bool.Decides.{nat_tests}
 use Rattle.std.proofs.lemmas.Fmt.{decimal_digit, first_decimal, decimal_nonempty, digits_decimal, digits_value-decimal, decimal-digits_value}
 use Rattle.std.proofs.lemmas.Str.Parse.{IsNumeralModel, numerals_by_fold}
-use Rattle.action_script.specs.ScriptWords.{digits_after, leads_well, natural_of, at_most, at_least_one, negative_of, value_of, count_of, rounds_of}
+use Rattle.action_script.specs.ScriptWords.{leads_well, natural_of, at_most, at_least_one, negative_of, value_of, count_of, rounds_of}
 use Rattle.caa_base.specs.Names.{is_digit}
 use Rattle.action_script.specs.Printing.{is_value}
+use Rattle.caa_base.specs.Lines.{digits_after}
 
 own : IsNumeralModel (λ ds. list_all is_digit ds ≡ true) (digits_after 0)
 own = numerals_by_fold _ (search rules) digits_after (search rules)
@@ -104,7 +105,7 @@ value_of-decimal (negsuc n) h =
     ap (λ o. negative_of (at_most 1000000000000 o)) (natural_of-decimal (suc n) (omega arith))
     ∙ ap negative_of (at_most-within 1000000000000 (suc n) (omega arith))
 
--- a word that is a value: its digits, and a `-` before them where it is negative
+-- a word that is a value, written with a sign if it is below 0
 pub record IsValueWord (word : List ℕ) (v : ℤ) : Type 0 where
   pub written : signed_decimal v ≡ word
   pub within : is_value v ≡ true

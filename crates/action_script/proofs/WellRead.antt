@@ -15,7 +15,8 @@ use Rattle.action_script.specs.declared.kind.Section.{Section}
 use Rattle.action_script.specs.declared.kind.Section.TheVariants as section
 use Rattle.caa_base.specs.Lists.{is_empty}
 use Rattle.caa_base.specs.Limits.{most_script_bytes, most_line_bytes}
-use Rattle.action_script.specs.CutLines.{lines_of, words_of, is_blank, spaced}
+use Rattle.action_script.specs.CutLines.{lines_of, words_of, is_blank}
+use Rattle.caa_base.specs.Lines.{spaced}
 use Rattle.action_script.specs.Asked.{Asked, Said}
 use Rattle.action_script.specs.Kinds.{word_of, parts_of, takes, stands_in, goes_to, at_top}
 use Rattle.action_script.specs.NumberedNames.{is_among, with_names}
@@ -67,10 +68,6 @@ joined_short : (line first : List ℕ) (words : List (List ℕ)) → words_of li
 joined_short line first words cut = omega (arith, length-append first (spaced words), weight-spaced words, ap weight cut, weight-filled (slice_split is_blank line), weight-split line)
 
 -- ---- words that were tried
-
-not_false : (b : Bool) → not b ≡ false → b ≡ true
-not_false true h = refl
-not_false false h = cc
 
 right_all : (asked : List Asked) → find (λ a. not (is_right a)) asked ≡ None → list_all is_right asked ≡ true
 right_all [] h = refl

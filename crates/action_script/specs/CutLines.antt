@@ -1,5 +1,5 @@
 -- How the bytes of a script are cut into lines, and a line into words.
-use Rattle.std.specs.Prelude.{ℕ, ◌==◌, nat_le, if◌then◌else◌, Bool, false, not, ◌&&◌, ◌||◌, List, [], ◌∷◌, ◌++◌, filter}
+use Rattle.std.specs.Prelude.{ℕ, ◌==◌, nat_le, if◌then◌else◌, Bool, false, not, ◌&&◌, ◌||◌, List, [], ◌∷◌, filter}
 use Rattle.std.specs.List.{slice_split}
 use Rattle.caa_base.specs.Lists.{is_empty}
 
@@ -17,7 +17,7 @@ lines_of bytes = without_empty_last (slice_split (λ b. b == 10) bytes)
 
 -- ---- words
 
--- the space, the tab and the carriage return
+-- a byte that parts words: a space, a tab, or the carriage return that some editors put before a line feed
 abbrev pub is_blank : ℕ → Bool
 is_blank b = (b == 32) || ((b == 9) || (b == 13))
 
@@ -33,10 +33,3 @@ words_of line = filter (λ word. not (is_empty word)) (slice_split is_blank line
 abbrev pub begins_comment : List ℕ → Bool
 begins_comment [] = false
 begins_comment (b ∷ rest) = b == 35
-
--- ---- the other way round
-
--- each of these words after a space
-abbrev pub spaced : List (List ℕ) → List ℕ
-spaced [] = []
-spaced (word ∷ words) = 32 ∷ word ++ spaced words

@@ -99,33 +99,39 @@ numbers_of f = numbers_in (fields_of f)
 
 -- ---- the form of a kind and its fields; a field that isn't there, or is none of what is asked for, is never looked at
 
--- what one field says: a name, a value, a count or a test
+-- the name that a field says
 abbrev pub name_in : Option Field → ℕ
 name_in (Some (field.Name n)) = n
 name_in _ = 0
 
+-- the value that a field says
 abbrev pub value_in : Option Field → ℤ
 value_in (Some (field.Value v)) = v
 value_in _ = pos 0
 
+-- the count that a field says
 abbrev pub count_in : Option Field → ℕ
 count_in (Some (field.Count k)) = k
 count_in _ = 0
 
+-- the test that a field says
 abbrev pub test_in : Option Field → Test
 test_in (Some (field.Test t)) = t
 test_in _ = test.Below
 
--- what the field at a place says
+-- the name that the field at a place says
 abbrev pub name_at : List Field → ℕ → ℕ
 name_at fields i = name_in (slice_get fields i)
 
+-- the value that the field at a place says
 abbrev pub value_at : List Field → ℕ → ℤ
 value_at fields i = value_in (slice_get fields i)
 
+-- the count that the field at a place says
 abbrev pub count_at : List Field → ℕ → ℕ
 count_at fields i = count_in (slice_get fields i)
 
+-- the test that the field at a place says
 abbrev pub test_at : List Field → ℕ → Test
 test_at fields i = test_in (slice_get fields i)
 

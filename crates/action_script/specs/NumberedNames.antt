@@ -1,4 +1,4 @@
--- How the names of a script are numbered: in the order in which they first appear.
+-- How the names of a script are numbered: one that is new where it stands goes behind those that came before it.
 use Rattle.std.specs.Prelude.{ℕ, ◌+◌, Bool, if◌then◌else◌, List, [], ◌∷◌, ◌++◌, bytes_eq}
 use Rattle.std.specs.List.{list_any}
 

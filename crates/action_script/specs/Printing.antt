@@ -12,8 +12,8 @@ use Rattle.action_script.specs.declared.kind.Section.TheVariants as section
 use Rattle.action_script.specs.declared.script.Line.{Line}
 use Rattle.action_script.specs.ScriptWords.{test_word}
 use Rattle.caa_base.specs.Names.{is_name}
-use Rattle.caa_base.specs.Limits.{most_line_bytes, most_value, most_rounds}
-use Rattle.action_script.specs.CutLines.{spaced}
+use Rattle.caa_base.specs.Limits.{most_line_bytes, most_value, most_count}
+use Rattle.caa_base.specs.Lines.{spaced}
 use Rattle.action_script.specs.Asked.{Said}
 use Rattle.action_script.specs.Kinds.{word_of, parts_of, takes, stands_in, goes_to, at_top}
 use Rattle.action_script.specs.Forms.{kind_of, fields_of}
@@ -34,7 +34,7 @@ field_word names (field.Test t) = test_word t
 abbrev pub words_after : List (List ℕ) → Form → List (List ℕ)
 words_after names form = map (field_word names) (fields_of form)
 
--- the line of a form: its words, parted by one space each
+-- the line of a form: one space before each word but the first
 abbrev pub form_line : List (List ℕ) → Form → List ℕ
 form_line names form = word_of (kind_of form) ++ spaced (words_after names form)
 
@@ -57,8 +57,8 @@ is_value (negsuc n) = nat_le (n + 1) most_value
 abbrev pub fits_part : List (List ℕ) → Part → Field → Bool
 fits_part names part.Name (field.Name n) = is_name (slice_index_or names n [])
 fits_part names part.Value (field.Value v) = is_value v
-fits_part names part.Count (field.Count k) = nat_le 1 k && nat_le k most_rounds
-fits_part names part.Rounds (field.Count k) = nat_le k most_rounds
+fits_part names part.Count (field.Count k) = nat_le 1 k && nat_le k most_count
+fits_part names part.Rounds (field.Count k) = nat_le k most_count
 fits_part names part.Test (field.Test t) = true
 fits_part names _ _ = false
 
@@ -114,6 +114,6 @@ abbrev pub numbered_from : ℕ → List Form → List Line
 numbered_from number [] = []
 numbered_from number (form ∷ forms) = record { number = number; form = form } ∷ numbered_from (number + 1) forms
 
--- the script with the line numbers 1, 2, 3 and so on
+-- the script as its text reads back: each line has the number after that of the line before it, the first of them 1
 abbrev pub reread_of : Script → Script
 reread_of script = record { lines = numbered_from 1 (forms_of script.lines); names = script.names }

@@ -2,7 +2,7 @@
 use Rattle.std.specs.Prelude.{ℕ, List}
 use Rattle.action_script.specs.declared.script.Line.{Line}
 
--- its lines in order, each with its number and its form, and its names in the order in which they first appear
+-- the lines that say something, as they follow one another, and the names, a new one behind those that came before it
 pub record Script : Type 0 where
   pub lines : List Line
   pub names : List (List ℕ)

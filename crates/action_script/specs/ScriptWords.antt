@@ -1,18 +1,14 @@
 -- The words of a script: names, numbers and tests.
-use Rattle.std.specs.Prelude.{ℕ, ℤ, pos, negsuc, zero, suc, ◌+◌, ◌-◌, ◌*◌, ◌==◌, nat_le, if◌then◌else◌, Bool, false, not, ◌&&◌, ◌||◌, List, [], ◌∷◌, Option, Some, None, option_map, bytes_eq, codes}
+use Rattle.std.specs.Prelude.{ℕ, ℤ, pos, negsuc, zero, suc, ◌==◌, nat_le, if◌then◌else◌, Bool, false, not, ◌&&◌, ◌||◌, List, [], ◌∷◌, Option, Some, None, option_map, bytes_eq, codes}
 use Rattle.std.specs.List.{list_all}
 use Rattle.caa_base.specs.Lists.{is_empty}
 use Rattle.caa_base.specs.Names.{is_digit}
-use Rattle.caa_base.specs.Limits.{most_value, most_rounds}
+use Rattle.caa_base.specs.Limits.{most_value, most_count}
 use Rattle.caa_base.specs.declared.entry.Test.{Test}
 use Rattle.caa_base.specs.declared.entry.Test.TheVariants as test
+use Rattle.caa_base.specs.Lines.{digits_after}
 
 -- ---- numbers
-
--- digits after a number that is read already
-abbrev pub digits_after : ℕ → List ℕ → ℕ
-digits_after n [] = n
-digits_after n (b ∷ rest) = digits_after (10 * n + (b - 48)) rest
 
 -- the digit 0 leads no others
 abbrev pub leads_well : List ℕ → Bool
@@ -48,7 +44,7 @@ value_of (b ∷ rest) =
 
 -- a number of rounds
 abbrev pub rounds_of : List ℕ → Option ℕ
-rounds_of word = at_most most_rounds (natural_of word)
+rounds_of word = at_most most_count (natural_of word)
 
 -- a count: from 1 to the same number
 abbrev pub count_of : List ℕ → Option ℕ

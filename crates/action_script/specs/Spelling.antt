@@ -98,7 +98,8 @@ by_first_wrong (Some wrong) = Err (cause_of wrong.part)
 
 -- the words after the first are tried: all tests first, and then each word
 abbrev pub trial_of : List Asked → Result (Unit {0}) ScriptCause
-trial_of asked = if list_all (λ a. not (is_wrong_test a)) asked then by_first_wrong (find (λ a. not (is_right a)) asked) else Err cause.BadLine
+trial_of asked =
+    if list_all (λ a. not (is_wrong_test a)) asked then by_first_wrong (find (λ a. not (is_right a)) asked) else Err cause.BadLine
 
 -- a line whose words were tried
 abbrev pub by_check : Said → Result (Unit {0}) ScriptCause → Result (Option Said) ScriptCause
@@ -108,9 +109,10 @@ by_check said (Err c) = Err c
 -- a line of a kind says its words, where they are right; one of no kind is a bad line
 abbrev pub by_kind : List (List ℕ) → Option LineKind → Result (Option Said) ScriptCause
 by_kind words None = Err cause.BadLine
-by_kind words (Some kind) = by_check (record { kind = kind; asked = asked_of (parts_of kind) words }) (trial_of (asked_of (parts_of kind) words))
+by_kind words (Some kind) =
+    by_check (record { kind = kind; asked = asked_of (parts_of kind) words }) (trial_of (asked_of (parts_of kind) words))
 
--- a line without words, and a comment, says nothing; another one has plain bytes alone and is of some kind
+-- an empty line says nothing, nor does a comment; any other has plain bytes alone and is of some kind
 abbrev pub line_by_words : Section → Bool → List (List ℕ) → Result (Option Said) ScriptCause
 line_by_words s plain [] = Ok None
 line_by_words s plain (word ∷ words) =
@@ -150,7 +152,7 @@ said_from number s (line ∷ lines) = with_line number s (λ t. said_from (numbe
 
 -- ---- the script
 
--- the names of some lines, each once, in the order in which they first appear
+-- the names of some lines, each where it stands first
 abbrev pub script_names : List Numbered → List (List ℕ)
 script_names lines = with_names [] (flat_map (λ l. names_of l.said.asked) lines)
 

@@ -1,4 +1,4 @@
-ghost use Rattle.std.specs.Prelude.{◌≡◌, ◌≢◌, ◌<◌, ◌^◌, ◌∷◌, [], not, find, option_copied, map, length, Ok, Err, Some, IfOk, IfErr, OnOk};
+ghost use Rattle.std.specs.Prelude.{◌≡◌, ◌<◌, ◌^◌, not, find, option_copied, map, length, Ok, Err, Some, IfOk, IfErr, OnOk};
 ghost use Rattle.std.specs.List.{list_all};
 ghost use Rattle.action_script.specs.NumberedNames.{with_names};
 ghost use Rattle.action_script.specs.Spelling.{asked_of, is_part, is_test, is_wrong_test, is_right, cause_of, names_of, field_by, field_of, trial_of};

@@ -5,11 +5,11 @@ use caa_base::entry::Test;
 pub enum Part {
     /// A name.
     Name,
-    /// A number from -1000000000000 to 1000000000000.
+    /// A number between `MOST_VALUE` below 0 and `MOST_VALUE` above.
     Value,
-    /// A number from 1 to 1000000.
+    /// A number from 1 to `MOST_COUNT`.
     Count,
-    /// A number from 0 to 1000000.
+    /// A number from 0 to `MOST_COUNT`.
     Rounds,
     /// One of the words `below`, `above` and `equal`.
     Test,

@@ -13,9 +13,9 @@ use std::alloc::{AllocError, Global};
 pub enum Form {
     /// A participant of this name.
     Participant(u32),
-    /// An object of this name, and its initial value, from -1000000000000 to 1000000000000.
+    /// An object of this name, and its initial value.
     Object(u32, i64),
-    /// The device refuses that put of this object which is the so-many-th, counted from 1; the count is at most 1000000.
+    /// The device refuses that put of this object which has this number, counted from 1.
     Drill(u32, u32),
     /// This object is watched.
     Watch(u32),
@@ -65,7 +65,7 @@ pub enum Form {
     PutStep(u32, i64),
     /// The role puts its register plus this value into this object.
     AddStep(u32, i64),
-    /// The role mixes its register for so many rounds, at most 1000000.
+    /// The role mixes its register for so many rounds.
     WorkStep(u32),
     /// The role raises this exception where its register meets the test.
     CheckStep(Test, i64, u32),

@@ -1,4 +1,4 @@
-ghost use Rattle.std.specs.Prelude.{◌≡◌, length};
+ghost use Rattle.std.specs.Prelude.{◌≡◌};
 ghost use Rattle.action_script.specs.Kinds.{word_of, parts_of, may_go_on, takes, at_top, in_graph, in_action, in_program, in_body, stands_in, goes_to};
 
 use crate::field::Part;

@@ -1,4 +1,4 @@
-ghost use Rattle.std.specs.Prelude.{◌≡◌, ◌+◌, ◌<◌, ◌≤◌, ◌^◌, length, [], IfOk, IfErr, OnOk};
+ghost use Rattle.std.specs.Prelude.{◌≡◌, ◌<◌, ◌^◌, length, [], IfOk, IfErr, OnOk};
 ghost use Rattle.action_script.specs.NumberedNames.{with_name, number_in};
 ghost use Rattle.action_script.specs.declared.script_error.ScriptCause.TheVariants as cause;
 
@@ -8,7 +8,7 @@ use indexmap::IndexSet;
 use std::alloc::Global;
 use std::marker::Model;
 
-/// The names of a script, each once, in the order in which they first appear; seen as their list.
+/// The names of a script, seen as their list: a name that is new goes behind those that came before it.
 #[derive(Drop)]
 pub struct NameTable<'a> {
     names: IndexSet<&'a [u8]>,

@@ -1,12 +1,11 @@
 ghost use Rattle.std.specs.Prelude.{◌≡◌, ◌≤◌, ◌∷◌, ◌++◌, [], length, map, Ok, OnOk, IfOk, slice_index_or};
 ghost use Rattle.std.specs.List.{flat_map};
 ghost use Rattle.caa_base.specs.Limits.{most_script_bytes};
-ghost use Rattle.action_script.specs.CutLines.{spaced};
+ghost use Rattle.caa_base.specs.Lines.{spaced};
 ghost use Rattle.action_script.specs.Spelling.{Spells};
-ghost use Rattle.action_script.specs.Printing.{reread_of, field_word, words_after, form_line, line_text, text_of};
+ghost use Rattle.action_script.specs.Printing.{reread_of, field_word, line_text, text_of};
 
 use crate::field::Field;
-use crate::form::Form;
 use crate::script::{Line, Script};
 use crate::word::test_word;
 use caa_base::entry::OutOfMemory;
@@ -71,10 +70,10 @@ fn push_lines(alloc: Global, text: &mut Vec<u8>, names: &[Name], lines: &[Line])
     Ok(())
 }
 
-/// The text of a script: one line for each form, words parted by one space, each line ended by a line feed.
+/// The text of a script. Its lines are those that say something; comments, empty lines and further spaces are lost.
 pub fn print(alloc: Global, script: &Script) -> Result<Vec<u8>, OutOfMemory>
     ensures text { IfOk result (λ text. text.items ≡ text_of script.now) }
-    // Where it isn't longer than a script may be, it reads back, on the lines 1, 2, 3 and so on.
+    // As long as a script may have so many bytes, the text reads back; there, no line number is passed over.
     ensures reads_back { IfOk result (λ text. length text.items ≤ most_script_bytes → Spells text.items (reread_of script.now)) }
 {
     script.are_script();

@@ -3,7 +3,7 @@ ghost use Rattle.caa_base.specs.Limits.{most_script_bytes};
 ghost use Rattle.action_script.specs.CutLines.{lines_of};
 ghost use Rattle.action_script.specs.Kinds.{takes};
 ghost use Rattle.action_script.specs.Spelling.{line_of, said_from, Spells, HasFirstFault};
-ghost use Rattle.action_script.specs.SoFar.{so_far, TookSaid, TookLine, Took, HasRead};
+ghost use Rattle.action_script.specs.SoFar.{so_far, TookSaid, Took, HasRead};
 ghost use Rattle.action_script.specs.declared.script_error.ScriptCause.TheVariants as cause;
 ghost use Rattle.action_script.specs.declared.kind.Section.TheVariants as section;
 
@@ -118,12 +118,13 @@ fn read_lines(alloc: Global, bytes: &[u8]) -> Result<Reader<'_>, ScriptError>
     Ok(reader)
 }
 
-/// Reads a script: its lines that say something, each with its number, and its names in the order in which they first appear.
+/// Reads a script, which keeps the lines that say something and the names that stand in them.
 ///
-/// The error is the first fault of the text. A script past its limit of bytes is `TooLong` at line 0. Else the first line with a
-/// fault is named, and on one line the faults come in this order: the line is too long; it has a byte that no line may have, or
-/// is of no kind that may stand there, or a word isn't the test that is asked for; the first word that isn't the name or number
-/// that is asked for. A script that ends inside a graph or an action is at fault at the number after its last line.
+/// The error names the first fault and its line, counted from 1. A text that is too long as a whole has its fault on line 0,
+/// whatever its lines are. Otherwise the lines are judged from the first on, and each in three steps: is it short enough; are its
+/// bytes allowed, is it of a kind that may stand there, and are its tests tests; is each further word, from the first on, the
+/// name or the number that it should be. A text that stops within a graph or an action has its fault on the line that would come
+/// next.
 pub fn read(alloc: Global, bytes: &[u8]) -> Result<Script, ScriptError>
     ensures read { IfOk result (λ script. Spells bytes.now script) }
     ensures refused { IfErr result (λ e. e.cause ≢ cause.OutOfMemory → HasFirstFault bytes.now e) }

@@ -18,8 +18,8 @@ pub struct Line {
     pub form: Form,
 }
 
-/// A script, seen as the list of its lines, each with its number and its form, and the list of its names, each once, in the
-/// order in which they first appear.
+/// A script, seen as two lists: the lines that say something, and the names that stand in them. A name is in the list once, and
+/// its number is its place there.
 #[derive(Drop)]
 pub struct Script {
     lines: Vec<Line>,
@@ -38,7 +38,8 @@ impl Model for Script {
 
     ghost view = { λ s. record { lines = s.lines.items; names = s.names.items } };
 
-    ghost invariant = { λ s. AreScript s.names.items (forms_of s.lines.items) × (s.universal ≡ number_in s.names.items (codes "universal")) };
+    ghost invariant = { λ s. AreScript s.names.items (forms_of s.lines.items)
+        × (s.universal ≡ number_in s.names.items (codes "universal")) };
 }
 
 impl Script {
@@ -56,11 +57,11 @@ impl Script {
         }
     }
 
-    /// The script of these names and forms, with the line numbers 1, 2, 3 and so on.
+    /// The script that has these forms on its lines, from line 1 on without a gap, and these names.
     ///
-    /// There are fewer than 2^32 of both. The forms may follow one another from the top back to the top; their lists aren't
-    /// empty, their values are in their ranges, and the line of each has at most 16,384 bytes. The names are names by the
-    /// grammar, and stand in the order in which the lines of the forms first have them, each once.
+    /// It has to be one that a text can spell: graphs and actions begin and end as they do in a text, each field is within its
+    /// limits, no list of a form is without members, and no line is longer than `MOST_LINE_BYTES`. The names are those that the
+    /// lines have and no others, each once, and in front of those that come up only later. Both lists are shorter than 2^32.
     pub fn of_forms(
         alloc: Global,
         names: Vec<Name>,

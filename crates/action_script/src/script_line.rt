@@ -1,7 +1,6 @@
-ghost use Rattle.std.specs.Prelude.{◌≡◌, ◌≢◌, ◌==◌, ◌<◌, ◌^◌, ◌∷◌, ◌&&◌, not, map, filter, length, find, option_copied, Ok, Err, Some, None, IfOk, IfErr, OnOk};
+ghost use Rattle.std.specs.Prelude.{◌≡◌, ◌≢◌, ◌==◌, ◌<◌, ◌&&◌, map, find, Ok, Err, Some, None, IfOk, IfErr};
 ghost use Rattle.std.specs.List.{list_all, slice_split};
 ghost use Rattle.action_script.specs.CutLines.{is_blank, is_plain, words_of, begins_comment};
-ghost use Rattle.action_script.specs.Kinds.{parts_of, kinds};
 ghost use Rattle.action_script.specs.Spelling.{asked_of, is_here, kind_here, by_kind, line_by_words, line_of};
 ghost use Rattle.action_script.specs.declared.script_error.ScriptCause.TheVariants as cause;
 
@@ -126,7 +125,8 @@ fn read_words<'a>(
     words: &[&'a [u8]],
 ) -> Result<Option<Said<'a>>, ScriptCause>
     ensures said { IfOk result (λ said. line_by_words section plain (map (λ w. w.now) words.now) ≡ Ok said) }
-    ensures refused { IfErr result (λ e. e ≢ cause.OutOfMemory → line_by_words section plain (map (λ w. w.now) words.now) ≡ Err e) }
+    ensures refused { IfErr result (λ e.
+        e ≢ cause.OutOfMemory → line_by_words section plain (map (λ w. w.now) words.now) ≡ Err e) }
 {
     let Some((word, more)) = words.split_first() else {
         return Ok(None);

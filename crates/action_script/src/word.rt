@@ -1,8 +1,10 @@
-ghost use Rattle.std.specs.Prelude.{◌≡◌, ◌≤◌, ◌&&◌, ◌<◌, ◌^◌, Some, IfSome, option_map, pos};
+ghost use Rattle.std.specs.Prelude.{◌≡◌, ◌≤◌, ◌&&◌, ◌<◌, Some, IfSome, option_map, pos};
 ghost use Rattle.std.specs.Option.{ForSome};
 ghost use Rattle.std.specs.List.{list_all};
-ghost use Rattle.action_script.specs.ScriptWords.{leads_well, digits_after, natural_of, at_most, at_least_one, negative_of, value_of, count_of, rounds_of, test_of, test_word};
-ghost use Rattle.caa_base.specs.Names.{is_letter, is_digit, is_name_byte, begins_with_letter, is_name};
+ghost use Rattle.action_script.specs.ScriptWords.{leads_well, natural_of, at_most, negative_of, value_of, count_of, rounds_of, test_of, test_word};
+ghost use Rattle.caa_base.specs.Limits.{most_value};
+ghost use Rattle.caa_base.specs.Lines.{digits_after};
+ghost use Rattle.caa_base.specs.Names.{is_digit};
 
 use caa_base::entry::Test;
 use caa_base::limits;
@@ -12,7 +14,7 @@ use caa_base::name::is_digit;
 const MOST_VALUE: u64 = limits::MOST_VALUE as u64;
 
 /// The greatest count, and the greatest number of rounds.
-const MOST_COUNT: u64 = limits::MOST_ROUNDS as u64;
+const MOST_COUNT: u64 = limits::MOST_COUNT as u64;
 
 fn leads_well(word: &[u8]) -> bool
     ensures { result ≡ leads_well word.now }
@@ -31,7 +33,7 @@ fn are_digits(word: &[u8]) -> bool
 
 /// The number of these digits, where it is at most `most`.
 fn digits_within(digits: &[u8], most: u64) -> Option<u64>
-    requires { most ≤ 1000000000000 }
+    requires { most ≤ most_value }
     ensures value { result ≡ at_most most (Some (digits_after 0 digits.now)) }
     ensures small { IfSome result (λ number. number ≤ most) }
 {
@@ -50,7 +52,7 @@ fn digits_within(digits: &[u8], most: u64) -> Option<u64>
 
 /// The number that a word writes without a sign, where there is one and it is at most `most`.
 fn natural_of(word: &[u8], most: u64) -> Option<u64>
-    requires { most ≤ 1000000000000 }
+    requires { most ≤ most_value }
     ensures value { result ≡ at_most most (natural_of word.now) }
     ensures small { IfSome result (λ number. number ≤ most) }
 {
@@ -62,7 +64,7 @@ fn natural_of(word: &[u8], most: u64) -> Option<u64>
 }
 
 fn negative_of(number: Option<u64>) -> Option<i64>
-    requires { ForSome number (λ n. n ≤ 1000000000000) }
+    requires { ForSome number (λ n. n ≤ most_value) }
     ensures { result ≡ negative_of number }
 {
     match number {
@@ -72,7 +74,7 @@ fn negative_of(number: Option<u64>) -> Option<i64>
 }
 
 fn positive_of(number: Option<u64>) -> Option<i64>
-    requires { ForSome number (λ n. n ≤ 1000000000000) }
+    requires { ForSome number (λ n. n ≤ most_value) }
     ensures { result ≡ option_map pos number }
 {
     match number {

@@ -15,7 +15,7 @@ counted_up-exact before after h l = by_test (nat_lt before (2 ^ 64 - 1)) before 
 pub counted_up-rose : (before after : ℕ) → after ≡ counted_up before → Rose before after
 counted_up-rose before after h = λ l. omega (arith, counted_up-exact before after h l)
 
--- and didn't fall
+-- and did not fall
 pub counted_up-grows : (before after : ℕ) → after ≡ counted_up before → before ≤ after
 counted_up-grows before after h = grows (nat_lt before (2 ^ 64 - 1)) h
   where

@@ -1,4 +1,5 @@
 pub mod Counting
 pub mod KnownBytes
 pub mod ListLemmas
+pub mod ReadDigits
 pub mod ValueRange

@@ -1,9 +1,7 @@
 -- Lemmas on tests, options and lists.
-use Rattle.std.proofs.Common.{◌≡◌, ℕ, ◌==◌, ◌<◌, ◌≤◌, Bool, true, false, cond, ◌&&◌, ◌||◌, not, ◌+◌, List, [], ◌∷◌, length, slice_index_or, All, Some, None, Option, refl, ap, subst, arith, zero, suc, inl, inr, ◌⊎◌}
-use Rattle.std.specs.List.{list_all, list_any, position_or_len}
+use Rattle.std.proofs.Common.{◌≡◌, ℕ, ◌==◌, ◌<◌, ◌≤◌, Bool, true, false, cond, ◌&&◌, ◌+◌, List, [], ◌∷◌, ◌++◌, length, slice_index_or, Some, None, Option, refl, ap, subst, arith, zero, suc, inl, inr, ◌⊎◌}
+use Rattle.std.specs.List.{list_all, range_with_len}
 use Rattle.std.proofs.lemmas.Bool.{and_parts, and_from, or_cases, or_left, or_right, eqb-true, eq-eqb, false≢true}
-use Rattle.std.proofs.lemmas.List.Elements.{All-weaker}
-use Rattle.std.proofs.lemmas.List.Sums.{list_all-from_AllPass}
 use Rattle.std.proofs.lemmas.Option.{none-some}
 use Rattle.caa_base.specs.Lists.{member, index_of, is_at, is_empty, Rises, first_not, last_or, last_of}
 
@@ -14,11 +12,6 @@ pub chosen : {A : Type 0} (b : Bool) (x y z : A) → cond b x y ≡ z → ((b �
 chosen true x y z h = inl (refl, h)
 chosen false x y z h = inr (refl, h)
 
--- what is so both ways is so of the one that was chosen
-pub either : {A : Type 0} (P : A → Type 0) (b : Bool) (x y : A) → P x → P y → P (cond b x y)
-either P true x y h k = h
-either P false x y h k = k
-
 -- where something came, the test passed
 pub passed : {A : Type 0} (b : Bool) (o : Option A) (a : A) → cond b o None ≡ Some a → (b ≡ true) × (o ≡ Some a)
 passed true o a h = (refl, h)
@@ -28,10 +21,6 @@ passed false o a h = absurd (none-some a h)
 pub failed : {A : Type 0} (b : Bool) (a : A) → cond b (Some a) None ≡ None → b ≡ false
 failed true a h = absurd (cc)
 failed false a h = refl
-
--- where there was nothing, nothing comes
-pub none_anyway : {A : Type 0} (b : Bool) → cond {A = Option A} b None None ≡ None
-none_anyway b = either (λ o. o ≡ None) b None None refl refl
 
 -- ---- what all elements of a list pass
 
@@ -62,10 +51,6 @@ all_both f g (x ∷ xs) h k =
     let b = and_parts (g x) (list_all g xs) k in
     rw (a.0, b.0) (all_both f g xs a.1 b.1)
 
--- where a fact of each leads to the test, all pass
-pub all_by : {A : Type 0} (P : A → Type 0) (test : A → Bool) (xs : List A) → ((x : A) → P x → test x ≡ true) → All P xs → list_all test xs ≡ true
-all_by P test xs f h = list_all-from_AllPass test xs (All-weaker P _ f xs h)
-
 -- ---- lists with and without elements
 
 -- a list without elements
@@ -74,21 +59,10 @@ empty_is [] h = refl
 empty_is (x ∷ xs) h = absurd (false≢true h)
 
 -- a list that is as long as one with elements has some
-pub filled_by : {A B : Type 0} (xs : List A) (ys : List B) → length xs ≡ length ys → is_empty ys ≡ false → is_empty xs ≡ false
-filled_by [] [] e h = h
-filled_by [] (y ∷ ys) e h = absurd (omega (arith, e))
-filled_by (x ∷ xs) ys e h = refl
-
--- ---- the first element that passes a test
-
--- where one passes, the first that does is in the list
-pub first_below : {A : Type 0} (test : A → Bool) (xs : List A) → list_any test xs ≡ true → position_or_len test xs < length xs
-first_below test [] h = absurd (false≢true h)
-first_below test (x ∷ xs) h = by_test (test x) (first_below test xs) h
-  where
-    by_test : (b : Bool) → (list_any test xs ≡ true → position_or_len test xs < length xs) → (b || list_any test xs) ≡ true → cond (not b) (1 + position_or_len test xs) 0 < suc (length xs)
-    by_test true later g = omega arith
-    by_test false later g = omega (arith, later g)
+pub as_filled : {A B : Type 0} (xs : List A) (ys : List B) → length xs ≡ length ys → is_empty ys ≡ false → is_empty xs ≡ false
+as_filled [] [] e h = h
+as_filled [] (y ∷ ys) e h = absurd (omega (arith, e))
+as_filled (x ∷ xs) ys e h = refl
 
 -- ---- members
 
@@ -208,3 +182,8 @@ index_within n (x ∷ xs) = by_test (x == n) (index_within n xs)
     by_test : (b : Bool) → index_of n xs ≤ length xs → cond b 0 (suc (index_of n xs)) ≤ suc (length xs)
     by_test true h = omega arith
     by_test false h = omega arith
+
+-- the numbers from a on, and one more
+pub range_more : (a n : ℕ) → range_with_len a (n + 1) ≡ range_with_len a n ++ (a + n) ∷ []
+range_more a zero = grind arith
+range_more a (suc n) = let more = range_more (a + 1) n in grind arith

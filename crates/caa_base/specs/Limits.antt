@@ -1,4 +1,4 @@
--- How much of each thing there may be at most, and which numbers values and rounds may be.
+-- How much of each thing there may be at most, and which numbers values and counts may be.
 use Rattle.std.specs.Prelude.{ℕ, ℤ, pos, neg_ℤ, ◌≤ℤ◌, int_lt, not, ◌&&◌, Bool}
 
 -- ---- numbers
@@ -7,22 +7,21 @@ use Rattle.std.specs.Prelude.{ℕ, ℤ, pos, neg_ℤ, ◌≤ℤ◌, int_lt, not,
 abbrev pub most_value : ℕ
 most_value = 1000000000000
 
+-- a value is within the limit on both sides of 0
 abbrev pub IsValue : ℤ → Type 0
 IsValue v = (neg_ℤ (pos most_value) ≤ℤ v) × (v ≤ℤ pos most_value)
 
+-- the same as a test
 abbrev pub is_value : ℤ → Bool
 is_value v = not (int_lt v (neg_ℤ (pos most_value))) && not (int_lt (pos most_value) v)
 
--- rounds of one piece of work
-abbrev pub most_rounds : ℕ
-most_rounds = 1000000
-
--- the number of the put that a drill refuses
-abbrev pub most_puts : ℕ
-most_puts = 1000000
+-- a count in a line of a script: rounds of one piece of work, or the number of the put that a drill refuses
+abbrev pub most_count : ℕ
+most_count = 1000000
 
 -- ---- texts, in bytes
 
+-- a script
 abbrev pub most_script_bytes : ℕ
 most_script_bytes = 1048576
 
@@ -34,17 +33,21 @@ most_audit_bytes = 268435456
 abbrev pub most_line_bytes : ℕ
 most_line_bytes = 16384
 
+-- a name
 abbrev pub most_name_bytes : ℕ
 most_name_bytes = 32
 
 -- ---- parts of a script
 
+-- participants of a script
 abbrev pub most_participants : ℕ
 most_participants = 64
 
+-- objects of a script
 abbrev pub most_objects : ℕ
 most_objects = 256
 
+-- actions that a script declares
 abbrev pub most_actions : ℕ
 most_actions = 256
 
@@ -68,9 +71,11 @@ most_alternates = 4
 abbrev pub most_steps : ℕ
 most_steps = 256
 
+-- watches of a script
 abbrev pub most_watches : ℕ
 most_watches = 16
 
+-- drills of a script
 abbrev pub most_drills : ℕ
 most_drills = 1000
 
@@ -80,9 +85,11 @@ most_drills = 1000
 abbrev pub most_depth : ℕ
 most_depth = 8
 
+-- places of a plan
 abbrev pub most_places : ℕ
 most_places = 65536
 
+-- entries of a journal
 abbrev pub most_entries : ℕ
 most_entries = 1000000
 

@@ -1,7 +1,7 @@
 -- The work that roles do: mixing a number.
 use Rattle.std.specs.Prelude.{ℕ, ℤ, pos, negsuc, ◌+◌, ◌*◌, ◌-◌, ◌%◌, ◌^◌, zero, suc}
 
--- the least non-negative residue of a number modulo m
+-- a number modulo m: from 0 to m - 1 also where it is negative
 abbrev pub residue : ℤ → ℕ → ℕ
 residue (pos n) m = n % m
 residue (negsuc n) m = (m - 1) - n % m

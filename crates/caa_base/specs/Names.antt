@@ -3,9 +3,11 @@ use Rattle.std.specs.Prelude.{ℕ, ◌==◌, nat_le, Bool, false, ◌&&◌, ◌|
 use Rattle.std.specs.List.{list_all}
 use Rattle.caa_base.specs.Limits.{most_name_bytes}
 
+-- `A` to `Z`, or `a` to `z`
 abbrev pub is_letter : ℕ → Bool
 is_letter b = (nat_le 65 b && nat_le b 90) || (nat_le 97 b && nat_le b 122)
 
+-- `0` to `9`
 abbrev pub is_digit : ℕ → Bool
 is_digit b = nat_le 48 b && nat_le b 57
 
@@ -13,10 +15,11 @@ is_digit b = nat_le 48 b && nat_le b 57
 abbrev pub is_name_byte : ℕ → Bool
 is_name_byte b = is_letter b || (is_digit b || ((b == 95) || (b == 45)))
 
+-- the first byte is a letter
 abbrev pub begins_with_letter : List ℕ → Bool
 begins_with_letter [] = false
 begins_with_letter (b ∷ rest) = is_letter b
 
--- a name has 1 to 32 such characters, the first a letter
+-- a name begins with a letter, and has such characters up to the limit
 abbrev pub is_name : List ℕ → Bool
 is_name word = begins_with_letter word && (nat_le (length word) most_name_bytes && list_all is_name_byte word)

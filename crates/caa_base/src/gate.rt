@@ -1,6 +1,6 @@
 use crate::entry::{Participant, Place};
 
-/// What is called before each piece of mixing work begins.
+/// What is called whenever mixing work is about to begin.
 pub trait Gate {
     /// This participant is about to work in this place.
     fn work(&self, by: Participant, place: Place);

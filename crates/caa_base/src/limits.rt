@@ -8,11 +8,8 @@ ghost use Rattle.caa_base.specs.Limits.{is_value, IsValue};
 /// The value of an object or a register lies between this number below 0 and this number above.
 pub const MOST_VALUE: i64 = 1_000_000_000_000;
 
-/// Rounds of one piece of work.
-pub const MOST_ROUNDS: u32 = 1_000_000;
-
-/// The number of the put that a drill refuses.
-pub const MOST_PUTS: u32 = 1_000_000;
+/// A count in a line of a script: rounds of one piece of work, or the number of the put that a drill refuses.
+pub const MOST_COUNT: u32 = 1_000_000;
 
 /// Bytes of a script.
 pub const MOST_SCRIPT_BYTES: u64 = 1_048_576;

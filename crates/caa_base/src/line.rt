@@ -1,4 +1,4 @@
-//! Lines of text: words parted by one space each, and a line feed. Where no memory is found a part may have been added.
+//! Lines of text: words with one space between each two, and a line feed. Where no memory is found a part may have been added.
 
 ghost use Rattle.std.specs.Prelude.{◌≡◌, ◌∷◌, ◌++◌, [], decimal, is_ok, OnOk};
 ghost use Rattle.std.specs.Fmt.{signed_decimal};

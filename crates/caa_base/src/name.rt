@@ -72,7 +72,7 @@ fn are_name_bytes(word: &[u8]) -> bool
     word.iter().all(|byte| is_name_byte(*byte))
 }
 
-/// Whether a word is a name: 1 to 32 letters, digits, `_` and `-`, the first of them a letter.
+/// Whether a word is a name: it begins with a letter, and goes on with at most 31 letters, digits, `_` and `-`.
 pub fn is_name(word: &[u8]) -> bool
     ensures { result ≡ is_name word.now }
 {

@@ -27,7 +27,7 @@ impl Model for OneByteSource {
 }
 
 impl OneByteSource {
-    /// A source of these bytes. The n-th read, counted from 1, fails where n is in `fail`.
+    /// A source of these bytes. `fail` lists the reads that fail, by their numbers: 1 is the first that comes.
     pub fn new(alloc: Global, bytes: &[u8], fail: &[u64]) -> Result<Self, OutOfMemory>
         ensures left { IfOk result (λ s. s.left ≡ bytes.now) }
         ensures failures { IfOk result (λ s. s.failures ≡ record { at = fail.now; calls = 0; faults = 0 }) }
@@ -82,9 +82,9 @@ impl Model for OneByteSink {
 }
 
 impl OneByteSink {
-    /// A sink that holds nothing yet, and can hold `room` bytes. Its memory is taken here.
+    /// An empty sink, with memory for `room` bytes.
     ///
-    /// The n-th write, counted from 1, fails where n is in `fail`, and where the sink is full.
+    /// `fail` lists the writes that fail, by their numbers: 1 is the first that comes. Once the sink is full, each write fails.
     pub fn new(alloc: Global, room: u64, fail: &[u64]) -> Result<Self, OutOfMemory>
         ensures held { IfOk result (λ s. s.held ≡ []) }
         ensures room { IfOk result (λ s. s.room ≡ room) }

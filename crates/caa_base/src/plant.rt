@@ -75,8 +75,8 @@ pub trait Plant {
 
     /// Sets the value of an object. A put that fails is counted, and leaves the value.
     ///
-    /// A plant that tells its drilling fails exactly where a drill has this object and the number
-    /// of this try; a try counts whatever is answered.
+    /// Each call is a try of its object, whatever comes of it. Where a plant tells its drilling, the tries that fail are just
+    /// those that a drill names.
     fn put(&mut self, object: Object, value: i64) -> Result<(), Failed>
         requires room { calls self.old < room self.old }
         requires laid { object < objects self.old }

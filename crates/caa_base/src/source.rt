@@ -12,7 +12,7 @@ pub trait Source {
     /// The bytes that are left to be read, where the source tells them.
     ghost left: { Self → Option (List ℕ) };
 
-    /// Reads some bytes into the front of the buffer, and says how many. None is the end of the input.
+    /// Reads some bytes into the front of the buffer, and says how many. Where it is none, the input has ended.
     ///
     /// A read that fails is counted, and takes nothing.
     fn read(&mut self, buf: &mut [u8]) -> Result<usize, Failed>

@@ -5,8 +5,8 @@ use std::marker::Model;
 
 /// A piece of mixing work that was done, with its result.
 ///
-/// Mixing stands for the computation of a role: it begins at the least non-negative residue of a
-/// number modulo 2^31, and each round replaces the state by `(1103515245 * state + 12345) mod 2^31`.
+/// Mixing stands for what a role computes. The state begins at a number modulo 2^31, and a round makes `1103515245 * state + 12345`
+/// of it, modulo 2^31.
 #[derive(Debug, Drop)]
 pub struct WorkDone {
     from: i64,

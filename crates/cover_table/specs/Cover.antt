@@ -1,4 +1,4 @@
--- The order of exceptions, and the least one that covers several.
+-- Which exceptions cover which, and what covers several of them most closely.
 use Rattle.std.specs.Prelude.{◌≡◌, ℕ, ◌==◌, ◌/◌, ◌%◌, ◌^◌, ◌<◌, ◌⊎◌, Bool, true, List, [], ◌∷◌, length, take, slice_index, All}
 use Rattle.std.specs.List.{list_all}
 

@@ -2,7 +2,7 @@
 use Rattle.std.specs.Prelude.{ℕ, ◌<◌, ◌≤◌, List, [], ◌∷◌, slice_index, slice_index_or, nat_le, if◌then◌else◌}
 use Rattle.cover_table.specs.Cover.{most_exceptions, order_of, IsLeastCover, IsOrder}
 
--- row a of `joins` has at b the least cover of a and b, for the order on the first `count` of `width` numbers
+-- `joins` has in row a, at b, the least cover of the two, for the order on the first `count` of `width` numbers
 pub record HoldsJoins (width count : ℕ) (rows : List ℕ) (joins : List (List ℕ)) : Type 0 where
   pub fits : count ≤ width
   pub within : width ≤ most_exceptions

@@ -1,4 +1,4 @@
-ghost use Rattle.std.specs.Prelude.{◌≡◌, ◌<◌, ◌≤◌, ◌↔◌, ℕ, ◌∷◌, [], length, take, All, IfOk, OnOk, IsErrOf};
+ghost use Rattle.std.specs.Prelude.{◌≡◌, ◌<◌, ◌≤◌, ◌↔◌, ℕ, ◌∷◌, [], length, All, IfOk, OnOk, IsErrOf};
 ghost use Rattle.cover_table.specs.Cover.{covers, order_of, order_of_rows, IsLeastCover, IsOrder, IsSound, IsFirstWithoutLeast, most_exceptions};
 ghost use Rattle.cover_table.specs.Joins.{least_size};
 
@@ -95,7 +95,8 @@ fn table_of<const N: usize>(rows: &[Row]) -> Result<JoinTable<N>, NoLeast>
     requires order { IsOrder (order_of_rows rows.now) }
     ensures same { IfOk result (λ table. table ≡ order_of_rows rows.now) }
     ensures sound { OnOk result (IsSound (order_of_rows rows.now)) }
-    ensures no_least { (a b : ℕ) → IsErrOf result (record { a = a; b = b }) ↔ IsFirstWithoutLeast (order_of_rows rows.now) a b }
+    ensures no_least { (a b : ℕ) →
+        IsErrOf result (record { a = a; b = b }) ↔ IsFirstWithoutLeast (order_of_rows rows.now) a b }
 {
     JoinTable::from_order(&padded(rows))
 }
@@ -110,7 +111,8 @@ impl AnyTable {
         requires order { IsOrder (order_of_rows rows.now) }
         ensures same { IfOk result (λ table. table ≡ order_of_rows rows.now) }
         ensures sound { OnOk result (IsSound (order_of_rows rows.now)) }
-        ensures no_least { (a b : ℕ) → IsErrOf result (record { a = a; b = b }) ↔ IsFirstWithoutLeast (order_of_rows rows.now) a b }
+        ensures no_least { (a b : ℕ) →
+            IsErrOf result (record { a = a; b = b }) ↔ IsFirstWithoutLeast (order_of_rows rows.now) a b }
     {
         Ok(AnyTable {
             sized: sizes!(fitting count, rows),

@@ -1,7 +1,7 @@
-ghost use Rattle.std.specs.Prelude.{◌≡◌, ◌==◌, ◌&&◌, ◌||◌, ◌<◌, ◌≤◌, ◌⊎◌, ℕ, List, length, true, All, Contains};
-ghost use Rattle.cover_table.specs.Cover.{has_bit, order_of_rows, most_exceptions, tells};
+ghost use Rattle.std.specs.Prelude.{◌≡◌, ◌==◌, ◌&&◌, ◌||◌, ◌<◌, ◌≤◌, ℕ, List, length, All};
+ghost use Rattle.cover_table.specs.Cover.{has_bit, order_of_rows, most_exceptions};
 ghost use Rattle.exception_graph.specs.Chains.{IsOrderOf};
-ghost use Rattle.exception_graph.specs.Closing.{AddsPair, AddsPairs, AreBare, AreClosedOver, AreExtended, TellChains, TellDeclared, TellMore};
+ghost use Rattle.exception_graph.specs.Closing.{AddsPair, AddsPairs, AreBare, AreClosedOver, AreExtended, TellChains, TellMore};
 
 use cover_table::{Row, has_bit, with_bit};
 
@@ -31,7 +31,8 @@ fn close(rows: &mut [Row])
     ensures as_many { length rows.new ≡ length rows.old }
     ensures more { TellMore rows.old rows.new }
     ensures closed { AreClosedOver rows.new (length rows.new) }
-    ensures chains { (pairs : List (ℕ × ℕ)) → TellChains (length rows.old) pairs rows.old → TellChains (length rows.old) pairs rows.new }
+    ensures chains { (pairs : List (ℕ × ℕ)) →
+        TellChains (length rows.old) pairs rows.old → TellChains (length rows.old) pairs rows.new }
 {
     for over in 0..rows.len() as u32 {
         extend_over(rows, over);

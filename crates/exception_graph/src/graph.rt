@@ -1,5 +1,5 @@
-ghost use Rattle.std.specs.Prelude.{◌≡◌, ◌<◌, ◌≤◌, ◌↔◌, ◌∷◌, [], ℕ, length, All, IfOk, IfErr, OnOk, IsErrOf, IsOkUnless};
-ghost use Rattle.cover_table.specs.Cover.{IsLeastCover, IsSound, SetsHaveLeastCovers, covers, order_of_rows, most_exceptions};
+ghost use Rattle.std.specs.Prelude.{◌≡◌, ◌<◌, ◌≤◌, ◌↔◌, ℕ, length, All, IfOk, IfErr, OnOk, IsErrOf, IsOkUnless};
+ghost use Rattle.cover_table.specs.Cover.{IsLeastCover, IsSound, SetsHaveLeastCovers, covers, most_exceptions};
 ghost use Rattle.exception_graph.specs.Chains.{IsFirstInCycle, IsFirstUnjoined, IsOrderOf, IsSoundGraph};
 ghost use Rattle.exception_graph.specs.Graph.{HasUniversal, IsRefusal};
 
@@ -68,8 +68,10 @@ impl Graph {
         requires in_range { All (λ p. (p.0 < count) × (p.1 < count)) pairs.now }
         ensures built { IfOk result (λ graph. IsOrderOf count pairs.now graph) }
         ensures sound { OnOk result (IsSoundGraph count pairs.now) }
-        ensures too_many { (number : ℕ) → IsErrOf result (GraphError.TooMany number) ↔ ((most_exceptions < count) × (number ≡ count)) }
-        ensures cycle { (at : ℕ) → IsErrOf result (GraphError.Cycle at) ↔ ((count ≤ most_exceptions) × IsFirstInCycle count pairs.now at) }
+        ensures too_many { (number : ℕ) →
+            IsErrOf result (GraphError.TooMany number) ↔ ((most_exceptions < count) × (number ≡ count)) }
+        ensures cycle { (at : ℕ) →
+            IsErrOf result (GraphError.Cycle at) ↔ ((count ≤ most_exceptions) × IsFirstInCycle count pairs.now at) }
         ensures no_least { (a b : ℕ) →
             IsErrOf result (GraphError.NoLeast a b) ↔ ((count ≤ most_exceptions) × IsFirstUnjoined count pairs.now a b) }
         ensures accepted { IsSoundGraph count pairs.now → IsOkUnless result GraphError.OutOfMemory }

@@ -9,13 +9,13 @@ use Rattle.place_plan.specs.PlanValue.{Plan}
 use Rattle.caa_base.specs.Lists.{member, is_empty, first_of}
 use Rattle.place_plan.specs.Places.{around, parent, roles_of, plays_of}
 use Rattle.place_plan.specs.Entries.{is_in, is_by, has, has_by}
-use Rattle.place_plan.specs.Whereabouts.{inside, is_inside, has_started, has_ended, is_undoing, is_live, is_going}
+use Rattle.place_plan.specs.Whereabouts.{inside, has_started, has_ended, is_undoing, is_live, is_going}
 use Rattle.place_plan.specs.Raising.{raises_in, exceptions_raised, is_raised, is_doomed, is_calm, is_hot}
 use Rattle.place_plan.specs.Roles.{has_given_after, has_given, all_have_given, is_in_handler, is_able, has_aborted, all_have_aborted, next_play}
-use Rattle.place_plan.specs.Rules.{Row, MayArrive, MayAbort, AskForUndo, HaveAgreed, EndsAgreed, MayEnd, arrival}
+use Rattle.place_plan.specs.Rules.{Row, MayArrive, AskForUndo, HaveAgreed, EndsAgreed, MayEnd, arrival}
 use Rattle.place_plan.specs.Journals.{LegalPast}
 use Rattle.journal_laws.proofs.Playable.{IsTree}
-use Rattle.caa_base.proofs.ListLemmas.{all_at, at_same, chosen, first_not_fails}
+use Rattle.caa_base.proofs.ListLemmas.{all_at, chosen, first_not_fails}
 use Rattle.place_plan.proofs.PlaysRise.{plays_in}
 use Rattle.place_plan.proofs.EntryKinds.{of_kind}
 use Rattle.journal_laws.proofs.Tree.{arrives_in}
@@ -230,7 +230,3 @@ module _ (plan : Plan) (tree : IsTree plan) where
   pub all_busy : (past : List Entry) → LegalPast plan past → (t : ℕ) → AllBusy plan t past (inside plan past t)
   all_busy [] h t = tt
   all_busy (e ∷ past) h t = busy_by past e.kind e t h.0 (all_busy past h.0 t) h.1
-
-  -- so an abort finds no live place inside: who is inside it would be a role that is not there
-  pub abort_finds_none : (past : List Entry) (e : Entry) → LegalPast plan past → MayAbort plan past e → (t : ℕ) → member t (roles_of plan e.place) ≡ true → inside plan past t ≡ Some e.place
-  abort_finds_none past e legal h t m = at_same _ _ (all_at (is_inside plan past e.place) (roles_of plan e.place) t h.together m)

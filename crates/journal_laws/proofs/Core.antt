@@ -21,7 +21,7 @@ pub record Raises (plan : Plan) (past : List Entry) : Type 0 where
   pub halts : (p t : ℕ) → is_halted plan past p t ≡ true → is_raised plan past p ≡ true
   -- who is in a place within p is neither halted in p nor handles there
   pub away : (p t q : ℕ) → inside plan past t ≡ Some q → member p (around plan q) ≡ true → (is_halted plan past p t ≡ false) × (has_handled past p t ≡ false)
-  -- a place is resolved once all are halted, to the least cover of all that is raised in it, then and later
+  -- a place is resolved once all are halted, to the least cover of whatever is raised in it, then and later
   pub resolves : (p x : ℕ) → exception_resolved past p ≡ Some x → (all_are_halted plan past p ≡ true) × (is_raised plan past p ≡ true) × IsLeastCover (internal_of plan p) (exceptions_raised plan past p) x
   -- who handles an exception handles the resolved one, and has a handler for it
   pub handles : (p t x : ℕ) → exception_handled past p t ≡ Some x → (exception_resolved past p ≡ Some x) × (is_none (handler_of plan p t x) ≡ false)

@@ -199,7 +199,7 @@ module _ (plan : Plan) (playable : IsPlayable plan) (core : Holds Core plan) (pa
 
   -- ---- agreements
 
-  -- the least cover of what was signalled
+  -- the End after verdicts with and without signals
   end_due : (e : Entry) (xs : List ℕ) → SignalsLeast plan (of_kind kind.End e) xs → e.value ≡ pos 0 → due_end plan e.place e.by xs ≡ Some (of_kind kind.End e)
   end_due e [] h v = made kind.End e 0 0 (pos 0) h.0 h.1 v
   end_due e (x ∷ xs) h v = rw (least_found (interface_of plan e.place) (x ∷ xs) e.arg (playable.sound e.place).2 h.1) (made kind.End e 1 e.arg (pos 0) h.0 refl v)

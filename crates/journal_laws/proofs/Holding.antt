@@ -1,4 +1,4 @@
--- In a tree of places, the holder of an object is the innermost live place that uses it, and objects are touched only there.
+-- In a tree of places, an object is held by a live place inside all others that use it, and objects are touched only there.
 use Rattle.std.proofs.Common.{◌≡◌, ℕ, ◌==◌, Bool, true, false, not, cond, ◌&&◌, ◌||◌, List, [], ◌∷◌, Some, None, Option, refl, sym, ap, ◌∙◌, subst, inl, inr, MatchBool}
 use Rattle.std.proofs.lemmas.Bool.{and_parts, and_from, or_cases, or_right, eqb-true, false≢true, cases_Bool, false_from_ne_true, both_ways}
 use Rattle.caa_base.specs.declared.entry.Entry.{Entry}

@@ -1,4 +1,4 @@
--- Each abort of a place stands after the End of each place inside it that starts at any time.
+-- A place is given up only once all that ever starts inside it has ended.
 use Rattle.std.proofs.Common.{◌≡◌, ℕ, ◌==◌, true, List, [], ◌∷◌, ◌++◌, Some, refl, sym, ap, ◌∙◌, subst, arith, inl, inr}
 use Rattle.std.specs.List.{list_any, list_all}
 use Rattle.std.proofs.lemmas.Bool.{or_cases, or_left, or_right, eqb-true, eq-eqb, false≢true, both_ways, true_from_ne_false}
@@ -109,6 +109,6 @@ module _ (plan : Plan) (tree : IsTree plan) where
         | inr x ↦ (let l = tree.above q p m in let k = tree.above p q x in omega arith)
       ])
 
--- an abort stands after the End of each place inside that starts at any time
+-- the law itself
 pub inner_first : (plan : Plan) → IsTree plan → Holds InnerFirstLaw plan
 inner_first plan tree past legal = aborts_inner_first plan tree past legal

@@ -1,5 +1,5 @@
--- In a tree of places, what is computed along the entries is what its plain words say: the place that a participant is in is the
--- innermost in which it stays, and the holder of an object the innermost live place that uses it.
+-- In a tree of places, what is computed along the entries is what its plain words say: no place in which a participant stays is
+-- further in than where it is, and no live place that uses an object is further in than its holder.
 use Rattle.std.proofs.Common.{◌≡◌, ℕ, ◌==◌, Bool, true, false, cond, ◌&&◌, ◌||◌, List, [], ◌∷◌, Some, None, Option, refl, sym, ap, ◌∙◌, subst, arith, inl, inr}
 use Rattle.std.proofs.lemmas.Bool.{or_cases, or_left, eqb-true, eq-eqb, cases_Bool, false_from_ne_true, both_ways}
 use Rattle.caa_base.specs.declared.entry.Entry.{Entry}

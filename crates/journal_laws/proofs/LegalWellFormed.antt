@@ -1,7 +1,5 @@
 -- Each entry of a legal journal of a playable plan is well formed.
-use Rattle.std.proofs.Common.{◌≡◌, ℕ, pos, ◌-◌, ◌⊎◌, Bool, true, false, cond, List, [], ◌∷◌, Option, Some, None, refl, sym, subst, arith, inl, inr, length, get_or, reverse, MatchBool}
-use Rattle.std.specs.List.{All}
-use Rattle.std.proofs.lemmas.List.{reverse-reverse, length-reverse, get_or-reverse}
+use Rattle.std.proofs.Common.{◌≡◌, ℕ, pos, ◌-◌, ◌⊎◌, Bool, true, false, cond, List, [], ◌∷◌, Option, Some, None, refl, sym, subst, arith, inl, inr, MatchBool}
 use Rattle.std.proofs.lemmas.List.Elements.{All-nil, All-cons}
 use Rattle.std.proofs.lemmas.Bool.{ltb-true, leb-true}
 use Rattle.caa_base.specs.declared.entry.Entry.{Entry}
@@ -15,7 +13,7 @@ use Rattle.place_plan.specs.Whereabouts.{is_undoing}
 use Rattle.place_plan.specs.Objects.{before_start, is_tried}
 use Rattle.place_plan.specs.Roles.{register, signals}
 use Rattle.place_plan.specs.Rules.{Row, MayFollow, MayEnd, MayLeave, EndsUndone, EndsAgreed, SignalsLeast, abort_of, exception_carried}
-use Rattle.place_plan.specs.Journals.{LegalPast, IsLegal}
+use Rattle.place_plan.specs.Journals.{LegalPast}
 use Rattle.place_plan.specs.WellFormed.{FieldsFit, MayShowException, MayCarry, IsWellFormed, AllWellFormed}
 use Rattle.caa_base.specs.Limits.{IsValue}
 use Rattle.journal_laws.specs.Laws.{Holds}
@@ -107,15 +105,3 @@ module _ (plan : Plan) (playable : IsPlayable plan) (core : Holds Core plan) whe
 -- each entry of a legal past is well formed
 pub all_well_formed : (plan : Plan) → IsPlayable plan → Holds Core plan → Holds AllWellFormed plan
 all_well_formed plan playable core past legal = well_formed plan playable core past legal
-
--- what holds of each entry of a list holds of each of the reversed list
-all_reversed : (P : Entry → Type 0) (es : List Entry) → All P (reverse es) → All P es
-all_reversed P es h k d l =
-    let n : ℕ = length (reverse es) in
-    let same_length : n ≡ length es = length-reverse es in
-    let there : get_or es k d ≡ get_or (reverse es) (n - 1 - k) d = rw reverse-reverse at (get_or-reverse (reverse es) k d (omega arith)) in
-    subst P (sym there) (h (n - 1 - k) d (omega arith))
-
--- and each entry of a legal journal
-pub legal_well_formed : (plan : Plan) → IsPlayable plan → Holds Core plan → (journal : List Entry) → IsLegal plan journal → AllWellFormed plan journal
-legal_well_formed plan playable core journal legal = all_reversed (IsWellFormed plan) journal (all_well_formed plan playable core (reverse journal) legal)

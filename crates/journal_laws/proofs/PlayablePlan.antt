@@ -20,8 +20,8 @@ use Rattle.caa_base.specs.Limits.{IsValue, is_value}
 use Rattle.place_plan.specs.Unfolding.{plan_of, cast_of}
 use Rattle.place_plan.specs.DraftRules.{KeepsParts, all_below, exceptions_of, graphs_in_range, objects_in_range, parts_in_range, nest_in_range, role_in_range, program_in_range, handler_in_range, verdict_in_range, abort_in_range, step_in_range, is_rising, play_in_range, nest_fits, roles_enter, entered_by, filled_by, step_held, role_held, nest_held, action_held}
 use Rattle.place_plan.specs.Closed.{IsClosed, AreSound}
-use Rattle.caa_base.proofs.ListLemmas.{all_at, get_passes, at_row, all_imply}
-use Rattle.place_plan.proofs.Passing.{past_end, below_or_not, as_filled}
+use Rattle.caa_base.proofs.ListLemmas.{all_at, get_passes, at_row, all_imply, as_filled}
+use Rattle.place_plan.proofs.Passing.{past_end, below_or_not}
 use Rattle.place_plan.proofs.DraftKeeps.{initials_range, graphs_range, objects_range, parts_range, plays_range, has_roles, all_nests_fit}
 use Rattle.caa_base.proofs.ValueRange.{value_from}
 use Rattle.place_plan.proofs.Subtrees.{IsPlaced, IsKnown, use_of}

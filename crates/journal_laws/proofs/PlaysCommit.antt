@@ -117,7 +117,7 @@ module _ (plan : Plan) (playable : IsPlayable plan) where
 
   -- ---- what is committed stays
 
-  -- the value of o by the entries of these plays
+  -- the value that o has by these plays alone
   abbrev value_by : List ℕ → List Entry → ℕ → ℤ
   value_by ps past o = value_of plan (filter (λ e. member (top_of plan e.place) ps) past) o
 

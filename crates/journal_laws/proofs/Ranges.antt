@@ -5,7 +5,7 @@ use Rattle.std.proofs.Math.Nat.{mod-lt}
 use Rattle.std.proofs.lemmas.Int.{ints}
 use Rattle.std.proofs.lemmas.List.Elements.{All-nil, All-cons, All-append}
 use Rattle.std.proofs.lemmas.Option.{some_pair_parts}
-use Rattle.std.proofs.lemmas.Bool.{and_parts, eqb-true, ltb-true, false≢true, not-true, cases_Bool}
+use Rattle.std.proofs.lemmas.Bool.{and_parts, eqb-true, ltb-true, false≢true, cases_Bool}
 use Rattle.caa_base.specs.Mixing.{mix, residue, state_after}
 use Rattle.caa_base.specs.declared.entry.Entry.{Entry}
 use Rattle.caa_base.specs.declared.entry.Kind.{Kind}
@@ -33,17 +33,11 @@ use Rattle.place_plan.specs.WellFormed.{MayShowException}
 use Rattle.cover_table.specs.Cover.{CoverOrder}
 use Rattle.journal_laws.proofs.Playable.{IsPlayable}
 use Rattle.caa_base.proofs.ListLemmas.{chosen, at_same}
+use Rattle.caa_base.proofs.ValueRange.{value_from}
 use Rattle.place_plan.proofs.EntryKinds.{of_kind}
 use Rattle.journal_laws.proofs.Makers.{maker_role}
 
 -- ---- values
-
-pub value_from : (v : ℤ) → is_value v ≡ true → IsValue v
-value_from v h =
-    let a = and_parts (not (int_lt v (negsuc 999999999999))) (not (int_lt (pos 1000000000000) v)) h in
-    let low : int_lt v (negsuc 999999999999) ≡ false = not-true _ a.0 in
-    let high : int_lt (pos 1000000000000) v ≡ false = not-true _ a.1 in
-    (grind (arith, ints), grind (arith, ints))
 
 clamped_in_range : (v : ℤ) → IsValue (clamped v)
 clamped_in_range v = elim (cases_Bool (int_lt (pos 1000000000000) v)) [

@@ -1,4 +1,4 @@
--- Resolution law: what is handled is the least cover of all that is raised, and each role of a place that ended without aborts answered.
+-- Resolution law: handled is the least cover of whatever is raised, and each role of a place that ended without aborts answered.
 use Rattle.std.proofs.Common.{◌≡◌, ℕ, ◌==◌, Bool, true, false, cond, ◌&&◌, ◌||◌, List, [], ◌∷◌, ◌++◌, Some, None, refl, sym, ◌∙◌, subst, inl, inr, is_none}
 use Rattle.std.specs.List.{list_any}
 use Rattle.std.proofs.lemmas.Bool.{and_from, or_left, eqb-true, eq-eqb, cases_Bool, false_from_ne_true, both_ways}

@@ -82,11 +82,12 @@ due_doomed plan past p t =
     else (if all_are_inside plan past p then Some (naming kind.Abort p t (abort_of (abort_row plan p t) (register plan past p t)))
     else None)
 
--- the End that tells the least cover of what was signalled, or a commit where nothing was
+-- the End of a signal
 abbrev pub due_signal : ℕ → ℕ → Option ℕ → Option Entry
 due_signal p t None = None
 due_signal p t (Some x) = Some (marked kind.End p t 1 x)
 
+-- the End of p by what its roles signalled: a commit if they signalled nothing, else a signal of the least cover
 abbrev pub due_end : Plan → ℕ → ℕ → List ℕ → Option Entry
 due_end plan p t [] = Some (plainly kind.End p t)
 due_end plan p t (x ∷ xs) = due_signal p t (least_of (interface_of plan p) (x ∷ xs))
@@ -128,35 +129,38 @@ abbrev pub due_handler : Plan → List Entry → ℕ → ℕ → Option Entry
 due_handler plan past p t =
     if breaks_off plan past p t then Some (verdict_entry p t verdict.Undo) else due_step plan past p t (next_step plan past p t)
 
--- a role begins its handler for the resolved exception, or asks for undo where it has none
+-- a role with a handler for x begins it; any other one asks for undo
 abbrev pub due_answer : Plan → ℕ → ℕ → ℕ → Option Entry
 due_answer plan p t x = if is_none (handler_of plan p t x) then Some (verdict_entry p t verdict.Undo) else Some (marked kind.Handle p t 0 x)
 
--- in a place that is resolved to x
+-- in a place for which x is resolved: first the handlers, then what their verdicts come to
 abbrev pub due_resolved : Plan → List Entry → ℕ → ℕ → ℕ → Option Entry
 due_resolved plan past p t x =
     if has_given plan past p t then due_agreed plan past p t
     else (if has_handled past p t then due_handler plan past p t
     else due_answer plan p t x)
 
--- once all are halted, the place is resolved to the least cover of what was raised
+-- the Resolve of an exception
 abbrev pub due_resolve : ℕ → ℕ → Option ℕ → Option Entry
 due_resolve p t None = None
 due_resolve p t (Some x) = Some (marked kind.Resolve p t 0 x)
 
+-- who is halted goes on once something is resolved; to begin with, all have to be halted, and then somebody resolves
 abbrev pub due_halted : Plan → List Entry → ℕ → ℕ → Option ℕ → Option Entry
 due_halted plan past p t (Some x) = due_resolved plan past p t x
 due_halted plan past p t None =
     if all_are_halted plan past p then due_resolve p t (least_of (internal_of plan p) (exceptions_raised plan past p)) else None
 
--- who isn't halted in a hot place raises, or is informed
+-- who isn't halted raises what its next step raises, or is informed
 abbrev pub due_running : ℕ → ℕ → Option ℕ → Option Entry
 due_running p t (Some x) = Some (marked kind.Raise p t 0 x)
 due_running p t None = Some (plainly kind.Inform p t)
 
+-- in a place where something was raised
 abbrev pub due_hot : Plan → List Entry → ℕ → ℕ → Option Entry
 due_hot plan past p t =
-    if not (is_halted plan past p t) then due_running p t (next_raise plan past p t) else due_halted plan past p t (exception_resolved past p)
+    if not (is_halted plan past p t) then due_running p t (next_raise plan past p t)
+    else due_halted plan past p t (exception_resolved past p)
 
 -- in a calm place the participant goes on until all have agreed
 abbrev pub due_calm : Plan → List Entry → ℕ → ℕ → Option Entry
@@ -170,13 +174,14 @@ due_live plan past p t =
     else (if is_raised plan past p then due_hot plan past p t
     else due_calm plan past p t))
 
--- a place that has ended is left
+-- for a participant that is in p: after the End it leaves, before the Start it waits
 abbrev pub due_inside : Plan → List Entry → ℕ → ℕ → Option Entry
 due_inside plan past p t =
     if has_ended past p then Some (naming kind.Leave p t (exception_carried plan past p t))
     else (if has_started past p then due_live plan past p t
     else due_waiting plan past p t)
 
+-- by where the participant is; who is nowhere arrives in its next play
 abbrev pub due_at : Plan → List Entry → ℕ → Option ℕ → Option Entry
 due_at plan past t None = due_arrival t (next_play plan past t)
 due_at plan past t (Some p) = due_inside plan past p t
@@ -193,6 +198,7 @@ as_refused kind.Write e = record e { kind = kind.PutFault }
 as_refused kind.Restore e = record e { mark = 1 }
 as_refused _ e = e
 
+-- what is computed for a participant is all that the rules let it do, as the device answers
 pub record DueIsRight (plan : Plan) (past : List Entry) : Type 0 where
   -- what is computed may follow
   pub may : (t : ℕ) (e : Entry) → due_of plan past t ≡ Some e → MayFollow plan past e × (e.by ≡ t)

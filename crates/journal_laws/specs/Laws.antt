@@ -32,7 +32,7 @@ InsideIsInnermost plan past =
     (t p : ℕ) → (inside plan past t ≡ Some p)
     ↔ ((stays past p t ≡ true) × ((q : ℕ) → stays past q t ≡ true → is_within plan p q ≡ true))
 
--- the holder of an object is the innermost of the live places that use it
+-- an object is held by a live place that uses it, and each other such place is round that one
 abbrev pub HolderIsInnermost : Plan → List Entry → Type 0
 HolderIsInnermost plan past =
     (o p : ℕ) → (holder_of plan past o ≡ Some p)
@@ -67,7 +67,7 @@ IsBounded plan past = length past ≤ bound plan
 
 -- ---- resolution law
 
--- each who handles in p handles the least cover of all that is raised there in the whole journal, and all handle one exception
+-- whoever handles something in p handles the least cover of whatever the journal raises there; all handle the same
 pub record HandlesLeast (plan : Plan) (past : List Entry) (p : ℕ) : Type 0 where
   pub least : (later before : List Entry) (e : Entry) → Splits past later e before → is_in kind.Handle p e ≡ true
       → IsLeastCover (internal_of plan p) (exceptions_raised plan past p) e.arg
@@ -84,7 +84,7 @@ pub record AskedForUndo (past : List Entry) (p t : ℕ) : Type 0 where
   pub undo : entry.mark ≡ 2
   pub resolution : has kind.Resolve before p ≡ true
 
--- t handled x in p, or has no handler for it and asked for undo
+-- t handled x in p, or asked for undo since there is nothing in its role to handle it
 abbrev pub Answered : Plan → List Entry → ℕ → ℕ → ℕ → Type 0
 Answered plan past p x t =
     (list_any (λ e. is_by kind.Handle p t e && (e.arg == x)) past ≡ true)
@@ -96,7 +96,7 @@ pub record IsAnswered (plan : Plan) (past : List Entry) (p : ℕ) : Type 0 where
   pub resolution : exception_resolved past p ≡ Some exception
   pub each : (t : ℕ) → member t (roles_of plan p) ≡ true → Answered plan past p exception t
 
--- what is handled is the least cover of all that is raised, and a place that ended without aborts answered what was raised in it
+-- handled is the least cover of whatever is raised, and no place ends without aborts before it answered what was raised in it
 pub record ResolutionLaw (plan : Plan) (past : List Entry) : Type 0 where
   pub handles : (p : ℕ) → HandlesLeast plan past p
   -- a place in which something was raised, and which ended without aborts, was resolved and answered
@@ -148,7 +148,7 @@ is_kept_mark (Some e) = (e.mark == 0) || (e.mark == 1)
 abbrev pub is_kept : Plan → List Entry → ℕ → Bool
 is_kept plan past p = list_all (λ q. is_kept_mark (newest (is_in kind.End q) past)) (p ∷ around plan p)
 
--- the value of the last write of o that passes a test, else the initial one
+-- the newest write of o that passes a test gives the value; where there is none, it is the initial one
 abbrev pub last_write : Plan → List Entry → ℕ → (Entry → Bool) → ℤ
 last_write plan [] o test = initial_of plan o
 last_write plan (e ∷ past) o test = if writes o e && test e then e.value else last_write plan past o test
@@ -176,7 +176,7 @@ DeviceLaw plan past = (o : ℕ) → last_put plan past o ≡ value_of plan past 
 
 -- ---- inner-first law
 
--- an abort stands after the End of each place inside that starts at any time
+-- no role gives up a place while one inside it has started and not ended, nor does one start there later
 abbrev pub InnerFirstLaw : Plan → List Entry → Type 0
 InnerFirstLaw plan past =
     (p q : ℕ) (later before : List Entry) (e : Entry) → Splits past later e before → is_in kind.Abort p e ≡ true
@@ -198,13 +198,13 @@ pub record IsolationLaw (plan : Plan) (past : List Entry) : Type 0 where
   pub nested : (later before : List Entry) (p q o : ℕ) → past ≡ later ++ before
       → is_live before p ≡ true → is_live before q ≡ true → uses plan p o ≡ true → uses plan q o ≡ true
       → is_within plan p q || is_within plan q p ≡ true
-  -- an object is touched only in the place that holds it at that moment
+  -- whoever touches an object is in the place that is its holder just then
   pub held : (later before : List Entry) (e : Entry) → Splits past later e before → touches_object e.kind ≡ true
       → holder_of plan before e.arg ≡ Some e.place
 
 -- ---- commit law
 
--- what is committed stays, and the end of a play commits the values of its objects
+-- each play commits its objects as it ends, and no later entry changes what was committed
 pub record CommitLaw (plan : Plan) (past : List Entry) : Type 0 where
   -- the values by the first plays that ended are the same as the journal goes on
   pub stays : (later before : List Entry) (n o : ℕ) → past ≡ later ++ before → n ≤ length (plays_ended plan before)
@@ -219,6 +219,7 @@ pub record CommitLaw (plan : Plan) (past : List Entry) : Type 0 where
 
 -- ---- all laws of one journal
 
+-- six of the laws at once
 pub record KeepsLaws (plan : Plan) (past : List Entry) : Type 0 where
   pub resolution : ResolutionLaw plan past
   pub exits : ExitLaw plan past

@@ -14,14 +14,15 @@ pub fn due_is_right(plan: &Plan)
     plan.is_closed();
 }
 
-/// No participant has a choice: one entry at most may be its next, or one of two between which the device decides.
+/// No participant has a choice: at most one entry may be its next. Where it asks the device, that is one of two, and
+/// the device picks.
 pub fn at_most_one(plan: &Plan)
     ensures { Holds AtMostOne plan.now }
 {
     plan.is_closed();
 }
 
-/// Progress law: where a participant isn't over, some participant has a legal entry.
+/// Progress law: as long as not all participants are over, the rules let some participant make an entry.
 pub fn goes_on(plan: &Plan)
     ensures { Holds GoesOn plan.now }
 {
@@ -49,7 +50,7 @@ pub fn inside_is_innermost(plan: &Plan)
     plan.is_closed();
 }
 
-/// Who holds an object by the starts and ends is the innermost of the live places that use it.
+/// What holds an object by the starts and ends is a live place that uses it, and each other such place is round that one.
 pub fn holder_is_innermost(plan: &Plan)
     ensures { Holds HolderIsInnermost plan.now }
 {

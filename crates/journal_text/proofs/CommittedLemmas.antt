@@ -9,12 +9,11 @@ use Rattle.caa_base.specs.declared.entry.Entry.{Entry}
 use Rattle.place_plan.specs.PlanValue.{Plan}
 use Rattle.caa_base.specs.Lists.{member, index_of, last_or}
 use Rattle.place_plan.specs.Places.{around, top_of, is_within, initial_of}
-use Rattle.place_plan.specs.Objects.{restores, writes, is_within_any, value_of, value_outside}
+use Rattle.place_plan.specs.Objects.{restores, writes, is_within_any, value_of, value_outside, places_restoring}
 use Rattle.place_plan.specs.Journals.{plays_ended, committed_value}
 use Rattle.journal_text.specs.declared.seens.Seen.{Seen}
 use Rattle.journal_text.specs.Text.{watched_object}
 use Rattle.journal_text.specs.Right.{is_committed}
-use Rattle.journal_text.specs.KnownValues.{places_restoring}
 use Rattle.journal_text.specs.CommittedValues.{is_of_first, value_by_first, value_left_by_first, counts, Notes, lowest_after, value_after, TellsRestored, KnowsAbove, HasCommitted, value_by, HasWatched}
 use Rattle.journal_text.proofs.ValueLemmas.{within_any, any-same}
 

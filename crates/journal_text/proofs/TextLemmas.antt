@@ -1,5 +1,5 @@
 -- Lemmas on the text of a journal.
-use Rattle.std.proofs.Common.{◌≡◌, ℕ, ◌+◌, ◌==◌, zero, suc, true, false, if◌then◌else◌, List, [], ◌∷◌, ◌++◌, Some, arith, zero-add}
+use Rattle.std.proofs.Common.{◌≡◌, ℕ, ◌+◌, ◌==◌, true, false, if◌then◌else◌, List, ◌∷◌, ◌++◌, Some, arith, zero-add}
 use Rattle.std.specs.List.{flat_map, range_with_len}
 use Rattle.std.proofs.lemmas.List.{flat_map_more}
 use Rattle.std.proofs.lemmas.Bool.Decides.{nat_tests}
@@ -7,11 +7,7 @@ use Rattle.caa_base.specs.declared.entry.Entry.{Entry}
 use Rattle.caa_base.specs.declared.entry.Kind.TheVariants as kind
 use Rattle.place_plan.specs.Entries.{is_of}
 use Rattle.journal_text.specs.Text.{outcome_at, last_outcome}
-
--- one number more
-range_more : (a n : ℕ) → range_with_len a (n + 1) ≡ range_with_len a n ++ (a + n) ∷ []
-range_more a zero = grind arith
-range_more a (suc n) = let more = range_more (a + 1) n in grind arith
+use Rattle.caa_base.proofs.ListLemmas.{range_more}
 
 -- the line of one number more
 pub lines_more : (line_of : ℕ → List ℕ) (text : List ℕ) (n : ℕ) → (text ++ flat_map line_of (range_with_len 0 n)) ++ line_of n ≡ text ++ flat_map line_of (range_with_len 0 (n + 1))

@@ -13,9 +13,9 @@ use Rattle.caa_base.specs.declared.entry.Kind.TheVariants as kind
 use Rattle.place_plan.specs.PlanValue.{Plan}
 use Rattle.caa_base.specs.Lists.{member}
 use Rattle.place_plan.specs.Places.{around}
-use Rattle.place_plan.specs.Objects.{restores, writes, is_within_any, places_undone, value_outside}
+use Rattle.place_plan.specs.Objects.{restores, writes, is_within_any, places_undone, value_outside, places_restoring}
 use Rattle.place_plan.specs.WellFormed.{IsWellFormed, AllWellFormed, FieldsFit}
-use Rattle.journal_text.specs.KnownValues.{places_restoring, was_restored, was_undone, value_left, found_after, found_after_write, restored_after, restored_after_restore, LooksBack, HasValues}
+use Rattle.journal_text.specs.KnownValues.{was_restored, was_undone, value_left, found_after, found_after_write, restored_after, restored_after_restore, LooksBack, HasValues}
 
 -- ---- tests of lists
 

@@ -1,5 +1,5 @@
 -- Words, numbers and names that were written are taken out of a line again.
-use Rattle.std.proofs.Common.{◌≡◌, ℕ, ℤ, pos, negsuc, ◌<◌, ◌≤◌, ◌+◌, ◌-◌, ◌*◌, ◌%◌, ◌^◌, Bool, true, false, not, List, [], ◌∷◌, ◌++◌, nat_le, bytes_eq, decimal, refl, sym, ap, ◌∙◌, arith, rules, suc, add-one, append_assoc}
+use Rattle.std.proofs.Common.{◌≡◌, ℕ, ℤ, pos, negsuc, ◌<◌, ◌≤◌, ◌+◌, ◌-◌, ◌%◌, ◌^◌, Bool, true, false, not, List, [], ◌∷◌, ◌++◌, nat_le, bytes_eq, decimal, refl, sym, ap, ◌∙◌, arith, rules, suc, add-one, append_assoc}
 use Rattle.std.specs.List.{list_all}
 use Rattle.std.specs.Fmt.{signed_decimal}
 use Rattle.std.specs.Str.Parse.{AllDigits}
@@ -8,9 +8,10 @@ use Rattle.std.proofs.lemmas.Bool.Decides.{nat_tests}
 use Rattle.std.proofs.lemmas.Fmt.{decimal_by_steps, digits_value-decimal}
 use Rattle.std.proofs.lemmas.Str.Parse.{IsNumeralModel, numerals_by_fold, tells_digits}
 use Rattle.std.proofs.lemmas.Int.{ints}
-use Rattle.caa_base.specs.Lines.{spaced}
+use Rattle.caa_base.specs.Lines.{spaced, digits_after}
 use Rattle.caa_base.specs.Limits.{IsValue}
-use Rattle.journal_text.specs.Words.{is_gap, word_in, after_word, next_word, after_next, digits_after, number_in, index_among}
+use Rattle.journal_text.specs.Words.{is_gap, word_in, after_word, next_word, after_next, number_in, index_among}
+use Rattle.caa_base.proofs.ReadDigits.{digits_after-ge}
 
 -- ---- words
 
@@ -74,11 +75,6 @@ pub number_in-decimal : (most n : ℕ) → n ≤ most → n < 2 ^ 64 → number_
 number_in-decimal most n fits small =
     let is : digits_after 0 (decimal n) ≡ n = digits_value-decimal own n small in
     rw is (cond-true (nat_le n most) n 0 (le-leb n most fits))
-
--- more digits never make a number less
-digits_after-ge : (n : ℕ) (digits : List ℕ) → n ≤ digits_after n digits
-digits_after-ge n [] = omega arith
-digits_after-ge n (b ∷ rest) = omega (arith, digits_after-ge (10 * n + (b - 48)) rest)
 
 -- a number past the most is none, whatever digits follow
 pub number_in-past : (most n : ℕ) (word rest : List ℕ) → most < n → digits_after n rest ≡ digits_after 0 word → 0 ≡ number_in most word

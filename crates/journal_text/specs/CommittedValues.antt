@@ -7,9 +7,8 @@ use Rattle.caa_base.specs.declared.entry.Entry.{Entry}
 use Rattle.place_plan.specs.PlanValue.{Plan}
 use Rattle.caa_base.specs.Lists.{member, index_of}
 use Rattle.place_plan.specs.Places.{around, top_of, initial_of}
-use Rattle.place_plan.specs.Objects.{restores, writes, value_of, value_outside}
+use Rattle.place_plan.specs.Objects.{restores, writes, value_of, value_outside, places_restoring}
 use Rattle.journal_text.specs.Text.{watched_object}
-use Rattle.journal_text.specs.KnownValues.{places_restoring}
 
 -- the entry is of one of the first n of these plays, or of a place inside one
 abbrev pub is_of_first : Plan → List ℕ → ℕ → Entry → Bool

@@ -1,5 +1,5 @@
 -- What a pass over a journal, from its newest entry back, knows of the values of objects.
-use Rattle.std.specs.Prelude.{◌≡◌, ℕ, ℤ, ◌<◌, ◌*◌, ◌+◌, nat_lt, Bool, true, false, ◌&&◌, ◌||◌, List, [], ◌∷◌, length, slice_index_or, slice_set, Option, None, Some, is_none, unwrap_or, not, ◌==◌, if◌then◌else◌}
+use Rattle.std.specs.Prelude.{◌≡◌, ℕ, ℤ, ◌<◌, ◌*◌, ◌+◌, nat_lt, Bool, true, false, ◌&&◌, ◌||◌, List, length, slice_index_or, slice_set, Option, None, Some, is_none, unwrap_or, not, ◌==◌, if◌then◌else◌}
 use Rattle.std.specs.List.{list_any}
 use Rattle.caa_base.specs.declared.entry.Entry.{Entry}
 use Rattle.caa_base.specs.declared.entry.Kind.{Kind}
@@ -7,12 +7,7 @@ use Rattle.caa_base.specs.declared.entry.Kind.TheVariants as kind
 use Rattle.place_plan.specs.PlanValue.{Plan}
 use Rattle.caa_base.specs.Lists.{member}
 use Rattle.place_plan.specs.Places.{around, initial_of}
-use Rattle.place_plan.specs.Objects.{value_of, value_outside, places_undone}
-
--- the places in which these entries, the oldest first, restore o
-abbrev pub places_restoring : ℕ → List Entry → List ℕ
-places_restoring o [] = []
-places_restoring o (e ∷ later) = places_undone o e (places_restoring o later)
+use Rattle.place_plan.specs.Objects.{value_of, value_outside, places_restoring}
 
 -- the table of all objects and places says that o was restored in p
 abbrev pub was_restored : Plan → List Bool → ℕ → ℕ → Bool

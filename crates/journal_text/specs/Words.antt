@@ -1,6 +1,6 @@
 -- How a line of a text is taken apart without regard to whether it is well written: what was taken is written again and compared.
-use Rattle.std.specs.Prelude.{ℕ, ℤ, pos, neg_ℤ, zero, suc, ◌+◌, ◌-◌, ◌*◌, ◌==◌, nat_le, if◌then◌else◌, Bool, false, ◌||◌, List, [], ◌∷◌, length, drop, Option, Some, None, option_map, bytes_eq, codes}
-use Rattle.caa_base.specs.Limits.{most_value, most_rounds}
+use Rattle.std.specs.Prelude.{ℕ, ℤ, pos, neg_ℤ, zero, suc, ◌==◌, nat_le, if◌then◌else◌, Bool, false, ◌||◌, List, [], ◌∷◌, length, drop, Option, Some, None, option_map, bytes_eq, codes}
+use Rattle.caa_base.specs.Limits.{most_value, most_count}
 use Rattle.caa_base.specs.declared.entry.Entry.{Entry}
 use Rattle.caa_base.specs.declared.entry.Kind.{Kind}
 use Rattle.caa_base.specs.declared.entry.Kind.TheVariants as kind
@@ -9,6 +9,7 @@ use Rattle.place_plan.specs.Places.{action_at, parent, graph_at, exception_name}
 use Rattle.journal_text.specs.declared.seens.Seen.{Seen}
 use Rattle.journal_text.specs.declared.entry_line.Fields.{Fields}
 use Rattle.journal_text.specs.Text.{participant_name, object_name, watched_object}
+use Rattle.caa_base.specs.Lines.{digits_after}
 
 -- ---- words
 
@@ -39,11 +40,6 @@ goes_on [] = false
 goes_on (b ∷ text) = b == 32
 
 -- ---- numbers
-
--- digits after a number that is read already
-abbrev pub digits_after : ℕ → List ℕ → ℕ
-digits_after n [] = n
-digits_after n (b ∷ rest) = digits_after (10 * n + (b - 48)) rest
 
 -- the number of these digits, and 0 past the most
 abbrev pub number_in : ℕ → List ℕ → ℕ
@@ -114,7 +110,7 @@ abbrev pub object_fields : Plan → List ℕ → ℕ → Fields
 object_fields plan rest mark = record { arg = object_in plan (next_word rest); mark = mark; value = value_in (next_word (after_next rest)) }
 
 abbrev pub work_fields : List ℕ → Fields
-work_fields rest = record { arg = number_in most_rounds (next_word rest); mark = 0; value = value_in (next_word (after_next rest)) }
+work_fields rest = record { arg = number_in most_count (next_word rest); mark = 0; value = value_in (next_word (after_next rest)) }
 
 abbrev pub restore_mark : List ℕ → ℕ
 restore_mark word = if bytes_eq word (codes "well") then 0 else 1

@@ -4,7 +4,7 @@ ghost use Rattle.journal_text.specs.Words.{participant_in, object_in, exception_
 
 use crate::words::{goes_on, next_word, number_in, split_word, value_in};
 use caa_base::entry::{Entry, Exception, Kind, Object, Participant, Place};
-use caa_base::limits::MOST_ROUNDS;
+use caa_base::limits::MOST_COUNT;
 use place_plan::plan::Plan;
 
 /// What an entry says beside its kind, its place and its maker.
@@ -110,7 +110,7 @@ fn work_fields(rest: &[u8]) -> Fields
     let (rounds, rest) = next_word(rest);
     let (value, _) = next_word(rest);
     Fields {
-        arg: number_in(rounds, u64::from(MOST_ROUNDS)) as u32,
+        arg: number_in(rounds, u64::from(MOST_COUNT)) as u32,
         mark: 0,
         value: value_in(value),
     }

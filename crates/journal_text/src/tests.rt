@@ -7,15 +7,14 @@ use crate::right::first_wrong;
 use crate::seens::Seens;
 use crate::text_reader::{TextError, read};
 use crate::writing::write;
-use caa_base::entry::{Entry, Kind, Participant, Verdict};
+use caa_base::entry::{Entry, Kind, Participant};
 use caa_base::journal::Journal;
-use place_plan::draft_rows::{AbortRow, ActionRow, RoleRow, Step};
 use place_plan::plan::Plan;
 use place_plan::well_formed::is_well_formed;
 use std::alloc::Global;
 use std::process::Abort;
 use std::test::Fail;
-use trial_drafts::{Exceptions, action, draft, numbers, play, program, role};
+use trial_drafts::{draft, look, numbers, play};
 
 const FIRST_PATH: &str = "journal
 arrive 0 ann
@@ -33,26 +32,7 @@ object y 0
 outcome 0 look commit
 ";
 
-/// A role whose body has one step.
-fn one_step(alloc: Global, name: &[u8], step: Step) -> Result<RoleRow, Fail> {
-    let body = program(alloc, &[step], Verdict::Done)?;
-    Ok(role(alloc, name, body, Vec::new(alloc), AbortRow::Never)?)
-}
-
-/// An action in which one role reads `x` and the other works.
-fn look(alloc: Global) -> Result<ActionRow, Fail> {
-    let mut roles = Vec::new(alloc);
-    roles.push(one_step(alloc, b"a", Step::Read(0))?)?;
-    roles.push(one_step(alloc, b"b", Step::Work(2))?)?;
-    let plain = Exceptions {
-        internal: 0,
-        interface: 0,
-        fault: 0,
-    };
-    Ok(action(alloc, b"look", plain, &[0], roles, Vec::new(alloc))?)
-}
-
-/// The plan in which `ann` and `bob` play that action once, and `x`, which is 5 at first, and `y` are watched.
+/// The plan in which `ann` and `bob` play `look` once, and `x`, which is 5 at first and which `ann` reads, and `y` are watched.
 fn plan(rt: &impl Abort, alloc: Global) -> Result<Plan, Fail>
     ensures { IfOk result (λ plan. is_well_named plan ≡ true) }
 {

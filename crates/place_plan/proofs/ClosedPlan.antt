@@ -146,14 +146,6 @@ other_index n (x ∷ xs) h = either (x == n) h (other_index n xs)
     either true h next = absurd cc
     either false h next = ap suc (next h)
 
-pub index_within : (n : ℕ) (xs : List ℕ) → index_of n xs ≤ length xs
-index_within n [] = omega arith
-index_within n (x ∷ xs) = either (x == n) (index_within n xs)
-  where
-    either : (b : Bool) → index_of n xs ≤ length xs → cond b 0 (suc (index_of n xs)) ≤ suc (length xs)
-    either true h = omega arith
-    either false h = omega arith
-
 -- so who is no player has no role
 pub no_player : (plan : Plan) → IsClosed plan → (p t : ℕ) → member t (roles_of plan p) ≡ false → role_row plan p t ≡ no_role
 no_player plan closed p t h = past_end (action_at plan p).roles (index_of t (roles_of plan p)) no_role (omega (arith, other_index t (roles_of plan p) h, all_played plan closed p))

@@ -1,5 +1,5 @@
 -- What a draft keeps that breaks none of the rules 1 to 9, action by action.
-use Rattle.std.proofs.Common.{◌≡◌, ℕ, ◌<◌, ◌≤◌, ◌+◌, nat_lt, nat_le, Bool, true, false, not, List, [], ◌∷◌, length, slice_index_or, Option, None, Some, refl, arith}
+use Rattle.std.proofs.Common.{◌≡◌, ℕ, ◌<◌, ◌≤◌, ◌+◌, nat_lt, nat_le, Bool, true, false, not, List, [], ◌∷◌, length, slice_index_or, Option, None, refl, arith}
 use Rattle.std.specs.List.{list_all}
 use Rattle.std.proofs.lemmas.Bool.Decides.{nat_tests}
 use Rattle.std.proofs.lemmas.Bool.{and_parts, false≢true, ltb-true, leb-true, not-true}
@@ -57,13 +57,7 @@ keeps_rules draft whole =
     let j = rule_passes (bound_rule draft) 10 _ i.1 in
     (record { sizes = a.0; graphs = b.0; ranges = c.0; order = d.0; fillings = e.0; enters = f.0; objects = g.0; depths = h.0; handlers = i.0 }, j.0)
 
--- a draft that keeps the rules 1 to 9 breaks rule 10, or rule 11, or none
-pub breaks_bound : (draft : Draft) → KeepsParts draft → bound_rule draft ≡ false → broken_rule draft ≡ Some 10
-breaks_bound draft k b = rw (k.sizes, k.graphs, k.ranges, k.order, k.fillings, k.enters, k.objects, k.depths, k.handlers, b) refl
-
-pub breaks_face : (draft : Draft) → KeepsParts draft → bound_rule draft ≡ true → face_rule draft ≡ false → broken_rule draft ≡ Some 11
-breaks_face draft k b f = rw (k.sizes, k.graphs, k.ranges, k.order, k.fillings, k.enters, k.objects, k.depths, k.handlers, b, f) refl
-
+-- a draft that keeps the rules 1 to 9, and both of 10 and 11, breaks none
 pub breaks_none : (draft : Draft) → KeepsParts draft → bound_rule draft ≡ true → face_rule draft ≡ true → broken_rule draft ≡ None
 breaks_none draft k b f = rw (k.sizes, k.graphs, k.ranges, k.order, k.fillings, k.enters, k.objects, k.depths, k.handlers, b, f) refl
 

@@ -1,12 +1,5 @@
--- Lists all of whose members pass a test, and their rows.
-use Rattle.std.proofs.Common.{◌≡◌, ℕ, ◌<◌, ◌≤◌, false, List, [], ◌∷◌, length, slice_index_or, zero, suc, refl, inl, inr, ◌⊎◌, arith}
-use Rattle.caa_base.specs.Lists.{is_empty}
-
--- a list as long as one that is not empty is not empty
-pub as_filled : {A B : Type 0} (xs : List A) (ys : List B) → length xs ≡ length ys → is_empty ys ≡ false → is_empty xs ≡ false
-as_filled [] [] e h = h
-as_filled [] (y ∷ ys) e h = absurd (omega (arith, e))
-as_filled (x ∷ xs) ys e h = refl
+-- Places in a list, and past its end.
+use Rattle.std.proofs.Common.{◌≡◌, ℕ, ◌<◌, ◌≤◌, List, [], ◌∷◌, length, slice_index_or, zero, suc, refl, inl, inr, ◌⊎◌, arith}
 
 -- past the end of a list is the default
 pub past_end : {A : Type 0} (xs : List A) (i : ℕ) (d : A) → length xs ≤ i → slice_index_or xs i d ≡ d

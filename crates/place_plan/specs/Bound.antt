@@ -12,6 +12,7 @@ abbrev pub longest_body : List RoleRow → ℕ
 longest_body [] = 0
 longest_body (r ∷ rs) = max (length r.body.steps) (longest_body rs)
 
+-- the steps of the longest of these handlers
 abbrev pub longest_of : List HandlerRow → ℕ
 longest_of [] = 0
 longest_of (h ∷ hs) = max (length h.program.steps) (longest_of hs)

@@ -1,7 +1,7 @@
 -- The rules that a draft has to keep, each with its number.
 use Rattle.std.specs.Prelude.{◌≡◌, ℕ, ◌==◌, nat_lt, nat_le, max, if◌then◌else◌, Bool, true, false, not, ◌&&◌, List, [], ◌∷◌, map, length, slice_index_or, Option, Some, None, zero, suc}
 use Rattle.std.specs.List.{list_all}
-use Rattle.caa_base.specs.Limits.{is_value, most_rounds, most_participants, most_objects, most_graphs, most_actions, most_roles, most_nests, most_alternates, most_steps, most_watches, most_drills, most_depth, most_places, most_entries}
+use Rattle.caa_base.specs.Limits.{is_value, most_count, most_participants, most_objects, most_graphs, most_actions, most_roles, most_nests, most_alternates, most_steps, most_watches, most_drills, most_depth, most_places, most_entries}
 use Rattle.caa_base.specs.declared.entry.Drill.{Drill}
 use Rattle.caa_base.specs.declared.entry.Verdict.{Verdict}
 use Rattle.caa_base.specs.declared.entry.Verdict.TheVariants as verdict
@@ -22,11 +22,13 @@ use Rattle.place_plan.specs.Places.{graph_at, no_action}
 use Rattle.place_plan.specs.Unfolding.{plan_of}
 use Rattle.place_plan.specs.Bound.{bound}
 
--- ---- 1: no more parts than the limits allow; each action has a role, and each nested use an action
+-- ---- 1: no list is longer than its limit; nothing is without roles, and nothing nests without an action
 
+-- a body or a handler is no longer than the limit
 abbrev pub program_fits : Program → Bool
 program_fits program = nat_le (length program.steps) most_steps
 
+-- so is each program of a role
 abbrev pub role_fits : RoleRow → Bool
 role_fits role = program_fits role.body && list_all (λ h. program_fits h.program) role.handlers
 
@@ -34,12 +36,14 @@ role_fits role = program_fits role.body && list_all (λ h. program_fits h.progra
 abbrev pub nest_fits : NestRow → Bool
 nest_fits nest = not (is_empty nest.actions) && nat_le (length nest.actions) most_alternates
 
+-- an action has roles and nested uses within the limits, and at least one role
 abbrev pub action_fits : ActionRow → Bool
 action_fits action =
     not (is_empty action.roles)
     && (nat_le (length action.roles) most_roles && (nat_le (length action.nests) most_nests
     && (list_all role_fits action.roles && list_all nest_fits action.nests)))
 
+-- each action is so, and no list of the draft is too long; the plain graph comes on top of those that a script may declare
 abbrev pub size_rule : Draft → Bool
 size_rule draft =
     nat_le (length draft.participants) most_participants && (nat_le (length draft.objects) most_objects
@@ -49,13 +53,16 @@ size_rule draft =
 
 -- ---- 2: graph 0 has one exception alone, and each graph has as many names as exceptions
 
+-- the first graph has one exception
 abbrev pub first_is_plain : List GraphRow → Bool
 first_is_plain [] = false
 first_is_plain (row ∷ rows) = row.graph.count == 1
 
+-- a graph has a name for each exception
 abbrev pub is_named : GraphRow → Bool
 is_named row = length row.names == row.graph.count
 
+-- both hold of the graphs of the draft
 abbrev pub graph_rule : Draft → Bool
 graph_rule draft = first_is_plain draft.graphs && list_all is_named draft.graphs
 
@@ -66,26 +73,31 @@ abbrev pub is_rising_above : ℕ → List ℕ → Bool
 is_rising_above low [] = true
 is_rising_above low (x ∷ xs) = nat_lt low x && is_rising_above x xs
 
+-- the numbers rise, from whatever the first is
 abbrev pub is_rising : List ℕ → Bool
 is_rising [] = true
 is_rising (x ∷ xs) = is_rising_above x xs
 
+-- all numbers are below this one
 abbrev pub all_below : ℕ → List ℕ → Bool
 all_below count numbers = list_all (λ n. nat_lt n count) numbers
 
+-- a step names objects and exceptions that are there, and its other numbers are within the limits
 abbrev pub step_in_range : ℕ → ℕ → Step → Bool
 step_in_range objects exceptions (step.Read o) = nat_lt o objects
 step_in_range objects exceptions (step.Put o v) = nat_lt o objects && is_value v
 step_in_range objects exceptions (step.Add o v) = nat_lt o objects && is_value v
-step_in_range objects exceptions (step.Work k) = nat_le k most_rounds
+step_in_range objects exceptions (step.Work k) = nat_le k most_count
 step_in_range objects exceptions (step.Check test v x) = is_value v && nat_lt x exceptions
 step_in_range objects exceptions (step.Raise x) = nat_lt x exceptions
 step_in_range objects exceptions (step.Enter n) = true
 
+-- a verdict signals an exception that is there
 abbrev pub verdict_in_range : ℕ → Verdict → Bool
 verdict_in_range exceptions (verdict.Signal x) = nat_lt x exceptions
 verdict_in_range exceptions _ = true
 
+-- an abort names an exception that is there, at a value within the limit
 abbrev pub abort_in_range : ℕ → AbortRow → Bool
 abort_in_range exceptions abort.Never = true
 abort_in_range exceptions (abort.Always x) = nat_lt x exceptions
@@ -96,14 +108,17 @@ abbrev pub program_in_range : ℕ → ℕ → ℕ → Program → Bool
 program_in_range objects internal interface program =
     list_all (step_in_range objects internal) program.steps && verdict_in_range interface program.verdict
 
+-- a handler is for an exception that is there, and its program is in range
 abbrev pub handler_in_range : ℕ → ℕ → ℕ → HandlerRow → Bool
 handler_in_range objects internal interface h = nat_lt h.exception internal && program_in_range objects internal interface h.program
 
+-- the programs and the abort of a role are in range
 abbrev pub role_in_range : ℕ → ℕ → ℕ → RoleRow → Bool
 role_in_range objects internal interface role =
     program_in_range objects internal interface role.body
     && (list_all (handler_in_range objects internal interface) role.handlers && abort_in_range interface role.abort)
 
+-- a nested use names actions, roles and exceptions that are there
 abbrev pub nest_in_range : ℕ → ℕ → ℕ → NestRow → Bool
 nest_in_range actions roles internal nest =
     all_below actions nest.actions && (all_below roles nest.roles && (all_below internal nest.maps
@@ -123,21 +138,26 @@ graphs_in_range draft action =
 abbrev pub objects_in_range : Draft → ActionRow → Bool
 objects_in_range draft action = is_rising action.objects && all_below (length draft.objects) action.objects
 
+-- the roles and the nested uses of an action
 abbrev pub parts_in_range : Draft → ActionRow → Bool
 parts_in_range draft action =
     let internal = exceptions_of draft action.internal in
     list_all (role_in_range (length draft.objects) internal (exceptions_of draft action.interface)) action.roles
     && list_all (nest_in_range (length draft.actions) (length action.roles) internal) action.nests
 
+-- all that an action names is there
 abbrev pub action_in_range : Draft → ActionRow → Bool
 action_in_range draft action = graphs_in_range draft action && (objects_in_range draft action && parts_in_range draft action)
 
+-- a play is of an action that is there, by participants who are there
 abbrev pub play_in_range : Draft → PlayRow → Bool
 play_in_range draft play = nat_lt play.action (length draft.actions) && all_below (length draft.participants) play.who
 
+-- a drill is of an object that is there
 abbrev pub drill_in_range : Draft → Drill → Bool
 drill_in_range draft drill = nat_lt drill.object (length draft.objects)
 
+-- all that a draft names is there, and its initial values are within the limit
 abbrev pub range_rule : Draft → Bool
 range_rule draft =
     list_all (λ o. is_value o.initial) draft.objects && (list_all (action_in_range draft) draft.actions
@@ -146,15 +166,18 @@ range_rule draft =
 
 -- ---- 4: what an action nests was declared before it
 
+-- the actions from number n on nest only such as stand before them
 abbrev pub nests_below : ℕ → List ActionRow → Bool
 nests_below n [] = true
 nests_below n (action ∷ actions) = list_all (λ nest. all_below n nest.actions) action.nests && nests_below (suc n) actions
 
+-- all actions of the draft do so
 abbrev pub order_rule : Draft → Bool
 order_rule draft = nests_below 0 draft.actions
 
 -- ---- 5: every role of what is nested or played is filled by somebody, and nobody fills two
 
+-- no two of the numbers are the same
 abbrev pub all_differ : List ℕ → Bool
 all_differ [] = true
 all_differ (x ∷ xs) = not (member x xs) && all_differ xs
@@ -167,6 +190,7 @@ fills draft action who = (length who == length (slice_index_or draft.actions act
 abbrev pub nest_fills : Draft → NestRow → Bool
 nest_fills draft nest = list_all (λ action. fills draft action nest.roles) nest.actions
 
+-- the roles of all nested uses and plays are filled
 abbrev pub fill_rule : Draft → Bool
 fill_rule draft =
     list_all (λ action. list_all (nest_fills draft) action.nests) draft.actions
@@ -174,6 +198,7 @@ fill_rule draft =
 
 -- ---- 6: a body goes once through each use in which its role takes part, in the order of the uses; a handler through none
 
+-- the uses that these steps enter, in their order
 abbrev pub entered_by : List Step → List ℕ
 entered_by [] = []
 entered_by (step.Enter n ∷ steps) = n ∷ entered_by steps
@@ -184,44 +209,52 @@ abbrev pub filled_by : ℕ → ℕ → List NestRow → List ℕ
 filled_by role n [] = []
 filled_by role n (nest ∷ nests) = if member role nest.roles then n ∷ filled_by role (suc n) nests else filled_by role (suc n) nests
 
+-- the lists are one
 abbrev pub same_numbers : List ℕ → List ℕ → Bool
 same_numbers [] [] = true
 same_numbers [] (y ∷ ys) = false
 same_numbers (x ∷ xs) [] = false
 same_numbers (x ∷ xs) (y ∷ ys) = (x == y) && same_numbers xs ys
 
+-- the roles from number n on enter what they fill, and their handlers nothing
 abbrev pub roles_enter : List NestRow → ℕ → List RoleRow → Bool
 roles_enter nests n [] = true
 roles_enter nests n (role ∷ roles) =
     same_numbers (entered_by role.body.steps) (filled_by n 0 nests)
     && (list_all (λ h. is_empty (entered_by h.program.steps)) role.handlers && roles_enter nests (suc n) roles)
 
+-- the roles of all actions do so
 abbrev pub enter_rule : Draft → Bool
 enter_rule draft = list_all (λ action. roles_enter action.nests 0 action.roles) draft.actions
 
 -- ---- 7: an action owns all objects that its steps, and the actions nested in it, touch
 
+-- a step touches one of these objects, or none at all
 abbrev pub step_held : List ℕ → Step → Bool
 step_held objects (step.Read o) = member o objects
 step_held objects (step.Put o v) = member o objects
 step_held objects (step.Add o v) = member o objects
 step_held objects _ = true
 
+-- so does each step of a role
 abbrev pub role_held : List ℕ → RoleRow → Bool
 role_held objects role =
     list_all (step_held objects) role.body.steps && list_all (λ h. list_all (step_held objects) h.program.steps) role.handlers
 
+-- the actions of a nested use own none but these objects
 abbrev pub nest_held : Draft → List ℕ → NestRow → Bool
 nest_held draft objects nest =
     list_all (λ action. list_all (λ o. member o objects) (slice_index_or draft.actions action no_action).objects) nest.actions
 
+-- an action owns what its roles and its nested uses touch
 abbrev pub action_held : Draft → ActionRow → Bool
 action_held draft action = list_all (role_held action.objects) action.roles && list_all (nest_held draft action.objects) action.nests
 
+-- so does each action of the draft
 abbrev pub object_rule : Draft → Bool
 object_rule draft = list_all (action_held draft) draft.actions
 
--- ---- 8: no action is deeper than the most; one without nested uses has depth 1
+-- ---- 8: no action is deeper than the most; what nests nothing has depth 1
 
 -- the greatest depth of these actions
 abbrev pub deepest_of : (ℕ → ℕ) → List ℕ → ℕ
@@ -238,15 +271,18 @@ unfoldable pub depth_within : ℕ → List ActionRow → ℕ → ℕ
 depth_within zero actions a = 0
 depth_within (suc most) actions a = suc (deepest (depth_within most actions) (slice_index_or actions a no_action).nests)
 
+-- the actions from number n on are no deeper than the most
 abbrev pub depths_fit : ℕ → List ActionRow → List ActionRow → Bool
 depths_fit n actions [] = true
 depths_fit n actions (a ∷ rest) = nat_le (depth_within (suc most_depth) actions n) most_depth && depths_fit (suc n) actions rest
 
+-- all actions of the draft are so
 abbrev pub depth_rule : Draft → Bool
 depth_rule draft = depths_fit 0 draft.actions draft.actions
 
--- ---- 9: the handlers of a role have different exceptions, and each exception of a nested use is mapped
+-- ---- 9: a role handles no exception twice, and whatever a nested use tells is mapped
 
+-- no two handlers of a role are for the same exception
 abbrev pub handlers_differ : RoleRow → Bool
 handlers_differ role = all_differ (map (λ (h : HandlerRow). h.exception) role.handlers)
 
@@ -254,27 +290,33 @@ handlers_differ role = all_differ (map (λ (h : HandlerRow). h.exception) role.h
 abbrev pub face_of : Draft → NestRow → ℕ
 face_of draft nest = (slice_index_or draft.actions (slice_index_or nest.actions 0 0) no_action).interface
 
+-- a nested use maps as many exceptions as its first action can tell
 abbrev pub nest_mapped : Draft → NestRow → Bool
 nest_mapped draft nest = length nest.maps == exceptions_of draft (face_of draft nest)
 
+-- both hold of all actions of the draft
 abbrev pub handler_rule : Draft → Bool
 handler_rule draft = list_all (λ action. list_all handlers_differ action.roles && list_all (nest_mapped draft) action.nests) draft.actions
 
 -- ---- 10: the places and the bound are within the limits
 
+-- what the draft unfolds into is small enough
 abbrev pub bound_rule : Draft → Bool
 bound_rule draft = nat_le (length (plan_of draft).places) most_places && nat_le (bound (plan_of draft)) most_entries
 
 -- ---- 11: all actions of a use tell the same exceptions outside
 
+-- all actions of a use have the interface graph of its first
 abbrev pub has_one_face : Draft → NestRow → Bool
 has_one_face draft nest = list_all (λ action. (slice_index_or draft.actions action no_action).interface == face_of draft nest) nest.actions
 
+-- so have those of each use of the draft
 abbrev pub face_rule : Draft → Bool
 face_rule draft = list_all (λ action. list_all (has_one_face draft) action.nests) draft.actions
 
 -- ---- all rules
 
+-- this rule, where it is broken, else the next one that is
 abbrev pub broken_if : Bool → ℕ → Option ℕ → Option ℕ
 broken_if true rule next = next
 broken_if false rule next = Some rule

@@ -19,7 +19,7 @@ LegalPast plan (e ∷ past) = LegalPast plan past × MayFollow plan past e
 abbrev pub IsLegal : Plan → List Entry → Type 0
 IsLegal plan journal = LegalPast plan (reverse journal)
 
--- each participant has left its last play, or has none
+-- each participant is through with all its plays
 abbrev pub AllOver : Plan → List Entry → Type 0
 AllOver plan past = (t : ℕ) → t < length plan.participants → is_over plan past t ≡ true
 
@@ -62,6 +62,6 @@ plays_ended plan [] = []
 plays_ended plan (e ∷ past) =
     if is_of kind.End e && is_none (parent plan e.place) then plays_ended plan past ++ e.place ∷ [] else plays_ended plan past
 
--- the value of o by the entries of the first n plays that ended, and of the places inside them
+-- the value that o has by the n plays that ended first: only their entries are looked at, and those of the places inside
 abbrev pub committed_value : Plan → List Entry → ℕ → ℕ → ℤ
 committed_value plan past n o = value_of plan (filter (λ e. member (top_of plan e.place) (take n (plays_ended plan past))) past) o

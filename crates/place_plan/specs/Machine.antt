@@ -14,7 +14,7 @@ use Rattle.place_plan.specs.declared.machine.Answer.TheVariants as answer
 abbrev pub work_entry : ℕ → ℕ → ℕ → ℤ → Entry
 work_entry p t rounds from = record { kind = kind.Work; place = p; by = t; arg = rounds; mark = 0; value = mix from rounds }
 
--- the hint is of these rounds and this start
+-- the hint is of just this work: as many rounds, from the same start
 abbrev pub Fits : Option Worked → ℕ → ℤ → Type 0
 Fits None rounds from = ⊥
 Fits (Some worked) rounds from = (worked.rounds ≡ rounds) × (worked.from ≡ from)

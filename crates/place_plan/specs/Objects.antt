@@ -17,7 +17,7 @@ holder_after plan kind.Start p o was = if uses plan p o then Some p else was
 holder_after plan kind.End p o was = if uses plan p o then parent plan p else was
 holder_after plan _ p o was = was
 
--- the innermost live place that uses o
+-- the place that has o at its disposal: of the live places that use it the innermost
 abbrev pub holder_of : Plan → List Entry → ℕ → Option ℕ
 holder_of plan [] o = None
 holder_of plan (e ∷ past) o = holder_after plan e.kind e.place o (holder_of plan past o)
@@ -44,16 +44,20 @@ is_within_any plan p qs = list_any (is_within plan p) qs
 abbrev pub places_undone : ℕ → Entry → List ℕ → List ℕ
 places_undone o e undone = if restores o e then e.place ∷ undone else undone
 
--- the value of the last write of o that was made neither in nor inside a place that has restored o since, else the initial value;
--- `undone` are the places whose restores stand after `past`
+-- the places in which these entries, the oldest first, restore o
+abbrev pub places_restoring : ℕ → List Entry → List ℕ
+places_restoring o [] = []
+places_restoring o (e ∷ later) = places_undone o e (places_restoring o later)
+
+-- the newest write of o counts that was made neither in a place which has restored o since, nor inside one; where no write counts,
+-- o has its initial value. `undone` are the places that restore o later than all of `past`
 abbrev pub value_outside : Plan → List Entry → ℕ → List ℕ → ℤ
 value_outside plan [] o undone = initial_of plan o
 value_outside plan (e ∷ past) o undone =
     if writes o e && not (is_within_any plan e.place undone) then e.value
     else value_outside plan past o (places_undone o e undone)
 
--- the value of o: that of its last write for which neither its place nor a place round it has a later restore of o that the
--- device took, else the initial value
+-- the value of o: a restore that the device took makes the older writes of its place, and of all places inside, count no more
 abbrev pub value_of : Plan → List Entry → ℕ → ℤ
 value_of plan past o = value_outside plan past o []
 

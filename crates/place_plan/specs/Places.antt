@@ -17,24 +17,31 @@ use Rattle.caa_base.specs.Lists.{member, index_of, first_of, last_or, next_after
 
 -- ---- past the end of a table: nobody has a role there, and nothing is done
 
+-- no steps, and a verdict without a signal
 abbrev pub idle : Program
 idle = record { steps = []; verdict = verdict.Done }
 
+-- a role that does nothing
 abbrev pub no_role : RoleRow
 no_role = record { name = []; body = idle; handlers = []; abort = abort.Never }
 
+-- an action that nobody plays
 abbrev pub no_action : ActionRow
 no_action = record { name = []; internal = 0; interface = 0; fault = 0; objects = []; roles = []; nests = [] }
 
+-- a place where nobody is
 abbrev pub no_place : PlaceRow
 no_place = record { around = []; nest = 0; action = 0; roles = []; children = [] }
 
+-- a nested use without actions
 abbrev pub no_nest : NestRow
 no_nest = record { name = []; actions = []; roles = []; maps = []; undo = 0; failure = 0 }
 
+-- a graph without exceptions
 abbrev pub no_graph : GraphRow
 no_graph = record { graph = record { count = 0; rows = [] }; names = [] }
 
+-- an object that stays 0
 abbrev pub no_object : ObjectRow
 no_object = record { name = []; initial = pos 0 }
 
@@ -83,7 +90,7 @@ uses plan p o = member o (objects_of plan p)
 
 -- ---- nested uses and their alternates
 
--- the places of the nested use of this number in p, one for each of its actions, in the order in which they are tried
+-- the places of the nested use of this number in p, one for each of its actions: the first is tried first
 abbrev pub alternates_of : Plan → ℕ → ℕ → List ℕ
 alternates_of plan p nest = slice_index_or (place_at plan p).children nest []
 
@@ -95,12 +102,12 @@ child plan p nest alternate = slice_get (alternates_of plan p nest) alternate
 abbrev pub nest_number : Plan → ℕ → ℕ
 nest_number plan p = (place_at plan p).nest
 
--- the place of the next action of the use of q that p is of
+-- the alternate that is tried after p in a use of q
 abbrev pub next_in : Plan → ℕ → Option ℕ → Option ℕ
 next_in plan p None = None
 next_in plan p (Some q) = next_after p (alternates_of plan q (nest_number plan p))
 
--- the place of the next action of the same use; none for a play, and for the last action of a use
+-- the alternate that is tried after p: a play has none, nor has the last of its use
 abbrev pub next_alternate : Plan → ℕ → Option ℕ
 next_alternate plan p = next_in plan p (parent plan p)
 

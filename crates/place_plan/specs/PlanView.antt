@@ -5,6 +5,7 @@ use Rattle.place_plan.specs.Bound.{bound}
 use Rattle.place_plan.specs.Closed.{IsClosed}
 use Rattle.place_plan.specs.declared.plan.Plan.TheInside.{Inside}
 
+-- a plan has the lists that the fields keep; the bound is no part of it
 abbrev pub plan_view : Inside → Plan
 plan_view p = record {
   participants = p.participants;

@@ -66,7 +66,7 @@ program_in plan p t (Some x) = or_idle (handler_of plan p t x)
 abbrev pub program_of : Plan → List Entry → ℕ → ℕ → Program
 program_of plan past p t = program_in plan p t (exception_handled past p t)
 
--- the next step of t in p, or none at the end
+-- what t does next in p; nothing at the end of its program
 abbrev pub next_step : Plan → List Entry → ℕ → ℕ → Option Step
 next_step plan past p t = slice_get (program_of plan past p t).steps (position plan past p t)
 
@@ -86,20 +86,20 @@ raise_of (Some (step.Raise x)) r = Some x
 raise_of (Some (step.Check test bound x)) r = if meets test bound r then Some x else None
 raise_of _ r = None
 
--- the exception that the next step of t in p raises
+-- what t raises in p by its next step
 abbrev pub next_raise : Plan → List Entry → ℕ → ℕ → Option ℕ
 next_raise plan past p t = raise_of (next_step plan past p t) (register plan past p t)
 
 -- ---- verdicts
 
--- t has a verdict in p that stands after the Resolve of p
+-- t has given a verdict in p since p was resolved
 abbrev pub has_given_after : List Entry → ℕ → ℕ → Bool
 has_given_after [] p t = false
 has_given_after (e ∷ past) p t =
     if is_in kind.Resolve p e then false
     else (if is_by kind.Verdict p t e then has kind.Resolve past p else has_given_after past p t)
 
--- t has given its verdict in p: where something was raised there, only one after the Resolve counts
+-- t has said its verdict in p; once something is raised there, only what it says after the resolution counts
 abbrev pub has_given : Plan → List Entry → ℕ → ℕ → Bool
 has_given plan past p t = if is_raised plan past p then has_given_after past p t else has_by kind.Verdict past p t
 
@@ -176,6 +176,6 @@ abbrev pub is_over_after : List Entry → ℕ → Option ℕ → Bool
 is_over_after past t None = true
 is_over_after past t (Some p) = has_by kind.Leave past p t
 
--- t has left its last play, or has none
+-- t is through with all its plays
 abbrev pub is_over : Plan → List Entry → ℕ → Bool
 is_over plan past t = is_over_after past t (last_of (plays_of plan t))

@@ -52,6 +52,7 @@ abbrev pub arrival : Plan → List Entry → ℕ → Option ℕ → Option ℕ
 arrival plan past t None = next_play plan past t
 arrival plan past t (Some q) = if is_calm plan past q && is_able plan past q t then place_entered plan past q t (next_step plan past q t) else None
 
+-- a role arrives where its way leads next
 pub record MayArrive (plan : Plan) (past : List Entry) (e : Entry) : Type 0 where
   pub leads : arrival plan past e.by (inside plan past e.by) ≡ Some e.place
   pub plain : IsPlain e
@@ -63,7 +64,7 @@ pub record MayWithdraw (plan : Plan) (past : List Entry) (e : Entry) : Type 0 wh
   pub doom : is_doomed plan past e.place ≡ true
   pub plain : IsPlain e
 
--- a place starts once each role is in it and each of its objects has come back to the place round it, or is free for a play
+-- a place starts once each role is in it and the place round it has all of its objects; for a play they have to be free
 pub record MayStart (plan : Plan) (past : List Entry) (e : Entry) : Type 0 where
   pub here : inside plan past e.by ≡ Some e.place
   pub waits : has_started past e.place ≡ false
@@ -91,7 +92,7 @@ pub record MayWork (plan : Plan) (past : List Entry) (e : Entry) : Type 0 where
   pub value : e.value ≡ mix (register plan past e.place e.by) e.arg
   pub mark : e.mark ≡ 0
 
--- brought to the nearer end of the range of values
+-- a number outside the values becomes the least of them or the greatest, whichever is nearer
 abbrev pub clamped : ℤ → ℤ
 clamped v =
     if int_lt (pos most_value) v then pos most_value
@@ -126,7 +127,7 @@ pub record MayCheck (plan : Plan) (past : List Entry) (e : Entry) : Type 0 where
 
 -- ---- raising, and recovering together
 
--- a role whose next step raises does so, also once others have, as long as it isn't halted and has given no verdict
+-- what the next step of a role raises, the role raises, also once others have, as long as it isn't halted and has given no verdict
 pub record MayRaise (plan : Plan) (past : List Entry) (e : Entry) : Type 0 where
   pub here : inside plan past e.by ≡ Some e.place
   pub when : is_calm plan past e.place || is_hot plan past e.place ≡ true
@@ -136,7 +137,7 @@ pub record MayRaise (plan : Plan) (past : List Entry) (e : Entry) : Type 0 where
   pub mark : e.mark ≡ 0
   pub value : e.value ≡ pos 0
 
--- in a hot place each role that isn't halted and whose next step doesn't raise is informed, also after its verdict
+-- in a hot place a role that isn't halted is informed, also after its verdict, unless it is about to raise something itself
 pub record MayInform (plan : Plan) (past : List Entry) (e : Entry) : Type 0 where
   pub here : inside plan past e.by ≡ Some e.place
   pub when : is_hot plan past e.place ≡ true
@@ -170,7 +171,7 @@ pub record MayHandle (plan : Plan) (past : List Entry) (e : Entry) : Type 0 wher
 abbrev pub final_verdict : Plan → List Entry → ℕ → ℕ → Option Verdict
 final_verdict plan past p t = if is_none (next_step plan past p t) then Some (program_of plan past p t).verdict else None
 
--- a role without a handler for the resolved exception asks for undo
+-- where something is resolved for which t has nothing to run, t asks for undo
 abbrev pub unhandled_verdict : Plan → ℕ → ℕ → Option ℕ → Option Verdict
 unhandled_verdict plan p t None = None
 unhandled_verdict plan p t (Some x) = if is_none (handler_of plan p t x) then Some verdict.Undo else None
@@ -206,7 +207,7 @@ abort_of abort.Never r = None
 abort_of (abort.Always x) r = Some x
 abort_of (abort.Where test bound x) r = if meets test bound r then Some x else None
 
--- in a doomed place that goes on, once all roles have come back into it, each gives up
+-- in a doomed place that goes on each role gives up, once no role is further in
 pub record MayAbort (plan : Plan) (past : List Entry) (e : Entry) : Type 0 where
   pub here : inside plan past e.by ≡ Some e.place
   pub when : is_going past e.place ≡ true
@@ -216,7 +217,7 @@ pub record MayAbort (plan : Plan) (past : List Entry) (e : Entry) : Type 0 where
   pub names : Names e (abort_of (abort_row plan e.place e.by) (register plan past e.place e.by))
   pub value : e.value ≡ pos 0
 
--- the roles of a spared place have all given their verdicts, and one is undo
+-- the place is spared, each role has a verdict there, and some verdict is undo
 pub record AskForUndo (plan : Plan) (past : List Entry) (p : ℕ) : Type 0 where
   pub spared : is_doomed plan past p ≡ false
   pub agreed : all_have_given plan past p ≡ true
@@ -260,7 +261,7 @@ pub record EndsUndone (plan : Plan) (past : List Entry) (e : Entry) : Type 0 whe
   pub mark : e.mark ≡ undone_mark past e.place
   pub arg : e.arg ≡ 0
 
--- a spared place ends once all roles have given their verdicts, where none is undo
+-- a spared place ends by its verdicts once each role has one, and none is undo
 pub record EndsAgreed (plan : Plan) (past : List Entry) (e : Entry) : Type 0 where
   pub goes : is_going past e.place ≡ true
   pub spared : is_doomed plan past e.place ≡ false

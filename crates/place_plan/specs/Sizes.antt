@@ -1,5 +1,6 @@
 -- How large an action may be.
 use Rattle.std.specs.Prelude.{◌≡◌, ℕ, ◌<◌, ◌≤◌, true, List, length, slice_index_or}
+use Rattle.caa_base.specs.Limits.{most_roles, most_objects}
 use Rattle.place_plan.specs.declared.draft_rows.ActionRow.{ActionRow}
 use Rattle.place_plan.specs.Places.{no_action}
 use Rattle.place_plan.specs.DraftRules.{action_fits}
@@ -7,8 +8,8 @@ use Rattle.place_plan.specs.DraftRules.{action_fits}
 -- an action within the limits, played by so many roles
 pub record HasSizes (action : ActionRow) (played : ℕ) : Type 0 where
   pub parts : action_fits action ≡ true
-  pub roles : played ≤ 16
-  pub objects : length action.objects ≤ 256
+  pub roles : played ≤ most_roles
+  pub objects : length action.objects ≤ most_objects
 
 -- each action is within the limits, played by its roles
 abbrev pub AllHaveSizes : List ActionRow → Type 0

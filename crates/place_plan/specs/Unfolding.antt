@@ -64,7 +64,7 @@ unfold_at (suc depth) actions a who around i n =
     }
     ∷ uses_from (unfold_at depth actions) who (n ∷ around) 0 (n + 1) nests
 
--- the plays in order, each with its whole subtree
+-- the plays, the first first, and behind each the places inside it
 abbrev pub plays_from : Unfolding → ℕ → List PlayRow → List PlaceRow
 plays_from unfold_one n [] = []
 plays_from unfold_one n (play ∷ plays) =

@@ -7,9 +7,13 @@ use Rattle.std.specs.List.{list_all}
 use Rattle.place_plan.specs.Places.{no_action}
 use Rattle.place_plan.specs.DraftRules.{all_below}
 
+-- the greatest number that is counted
+abbrev pub most_counted : ℕ
+most_counted = 4000000000
+
 -- a number, or the most that is counted where it is greater
 abbrev pub counted : ℕ → ℕ
-counted n = min 4000000000 n
+counted n = min most_counted n
 
 -- a table as a function; past its end it has 0
 abbrev pub at : List ℕ → ℕ → ℕ

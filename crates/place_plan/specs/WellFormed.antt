@@ -2,7 +2,7 @@
 use Rattle.std.specs.Prelude.{◌≡◌, ℕ, pos, ◌<◌, ◌≤◌, List, length, Option, Some, None}
 use Rattle.std.specs.List.{All}
 use Rattle.cover_table.specs.Cover.{CoverOrder}
-use Rattle.caa_base.specs.Limits.{IsValue, most_rounds}
+use Rattle.caa_base.specs.Limits.{IsValue, most_count}
 use Rattle.caa_base.specs.declared.entry.Entry.{Entry}
 use Rattle.caa_base.specs.declared.entry.Kind.{Kind}
 use Rattle.caa_base.specs.declared.entry.Kind.TheVariants as kind
@@ -33,12 +33,13 @@ abbrev pub MayCarry : Plan → Option ℕ → Entry → Type 0
 MayCarry plan None e = IsPlain e
 MayCarry plan (Some q) e = MayShowException (internal_of plan q) 1 2 e
 
+-- what an entry of each kind has as its number, its mark and its value
 abbrev pub FieldsFit : Kind → Plan → Entry → Type 0
 FieldsFit kind.Arrive plan e = IsPlain e
 FieldsFit kind.Withdraw plan e = IsPlain e
 FieldsFit kind.Start plan e = IsPlain e
 FieldsFit kind.Read plan e = ShowsObject plan e × (e.mark ≡ 0)
-FieldsFit kind.Work plan e = (e.arg ≤ most_rounds) × (e.mark ≡ 0) × IsValue e.value
+FieldsFit kind.Work plan e = (e.arg ≤ most_count) × (e.mark ≡ 0) × IsValue e.value
 FieldsFit kind.Write plan e = ShowsObject plan e × (e.mark ≡ 0)
 FieldsFit kind.Check plan e = IsPlain e
 FieldsFit kind.PutFault plan e = ShowsObject plan e × (e.mark ≡ 0)

@@ -63,7 +63,7 @@ abbrev pub is_undone : Option Entry → Bool
 is_undone None = false
 is_undone (Some e) = e.mark == 2
 
--- p was undone, and its use has a next alternate: its roles leave it in silence and enter that one
+-- p was undone, but another alternate is left to be tried: nothing is said of p, and its roles go there
 abbrev pub is_left_in_silence : Plan → List Entry → ℕ → Bool
 is_left_in_silence plan past p = is_undone (newest (is_in kind.End p) past) && not (is_none (next_alternate plan p))
 

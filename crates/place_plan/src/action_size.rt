@@ -46,7 +46,8 @@ fn own_bound(action: &ActionRow) -> u64
 
 /// How many entries an instance of an action may have with all that is nested in it, by those of the actions before it.
 pub fn bound_with(action: &ActionRow, bounds: &[u64]) -> u64
-    ensures { result ≡ counted (action_bound action.now (length action.now.roles) + nested_weight (at bounds.now) action.now.nests) }
+    ensures { result
+        ≡ counted (action_bound action.now (length action.now.roles) + nested_weight (at bounds.now) action.now.nests) }
 {
     counted_sum(
         own_bound(action),

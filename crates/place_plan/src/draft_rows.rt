@@ -19,7 +19,7 @@ pub enum Step {
     Add(Object, i64),
     /// The register is mixed for this many rounds.
     Work(u32),
-    /// The exception is raised where the register meets the test.
+    /// The exception is raised if the register passes this test.
     Check {
         test: Test,
         value: i64,
@@ -52,7 +52,7 @@ pub enum AbortRow {
     Never,
     /// This one.
     Always(Exception),
-    /// This one, where the register meets the test.
+    /// This one, if the register passes this test.
     Where {
         test: Test,
         value: i64,
@@ -81,7 +81,7 @@ pub struct NestRow {
     pub actions: Rows<u32>,
     /// Which roles of the enclosing action play the roles of its actions.
     pub roles: Rows<u32>,
-    /// What each exception of the interface graph of its actions is in the enclosing action.
+    /// What each exception that its actions can tell is in the enclosing action.
     pub maps: Rows<Exception>,
     /// What the undo of its last action is in the enclosing action.
     pub undo: Exception,
@@ -124,7 +124,7 @@ fn universal_alone(alloc: Global) -> Result<Rows<Name>, OutOfMemory>
 }
 
 impl GraphRow {
-    /// The plain graph: it has `universal` alone, and is graph 0 of each plan.
+    /// The plain graph, whose one exception is `universal`. It stands first in each plan.
     pub fn plain(alloc: Global) -> Result<GraphRow, OutOfMemory>
         ensures names { IfOk result (λ row. row.names ≡ codes "universal" ∷ []) }
         ensures order { IfOk result (λ row. IsOrderOf 1 [] row.graph) }

@@ -68,7 +68,7 @@ fn actions_fit(draft: &Draft) -> bool
         .all(|action| action_fits(action))
 }
 
-/// Whether there are no more parts than the limits allow, each action has a role, and each nested use an action.
+/// Whether no list is longer than its limit, nothing is without roles, and nothing nests without an action.
 pub(crate) fn keeps_sizes(draft: &Draft) -> bool
     ensures { result ≡ size_rule draft.now }
 {

@@ -1,6 +1,5 @@
-ghost use Rattle.std.specs.Prelude.{◌≡◌, ◌<◌, ℕ, List, [], length, map, slice_index_or, Option, Some, None, IfOk, IfSome, unwrap_or, option_copied};
-ghost use Rattle.std.specs.List.{range_with_len};
-ghost use Rattle.caa_base.specs.Lists.{member, index_of, last_or, next_after};
+ghost use Rattle.std.specs.Prelude.{◌≡◌, ◌<◌, ℕ, [], length, slice_index_or, Option, Some, None, IfOk, IfSome, unwrap_or, option_copied};
+ghost use Rattle.caa_base.specs.Lists.{index_of, last_or, next_after};
 ghost use Rattle.place_plan.specs.Places.{place_at, around, action_at, role_at, role_row, role_of, roles_of, objects_of, uses, parent, alternates_of, child, next_alternate, nest_of, map_signal, top_of, is_within, fault_of, graph_at, internal_of, interface_of, exception_name, handler_in, initial_of, no_object, no_action, no_role, no_nest};
 ghost use Rattle.place_plan.specs.Bound.{bound};
 ghost use Rattle.place_plan.specs.Unfolding.{plan_of};
@@ -342,7 +341,7 @@ impl Plan {
         }
     }
 
-    /// The play that a place belongs to.
+    /// The play that a place is part of.
     pub fn top_of(&self, place: Place) -> Place
         ensures { result ≡ top_of self.now place }
     {
@@ -465,7 +464,7 @@ impl Plan {
         }
     }
 
-    /// The places of a nested use of the action of a place, one for each of its actions, in the order in which they are tried.
+    /// The places of a nested use of the action of a place, one for each of its actions: the first is tried first.
     pub fn alternates_of(&self, place: Place, nest: u32) -> &[Place]
         ensures { result.now ≡ alternates_of self.now place nest }
     {
@@ -494,7 +493,7 @@ impl Plan {
         self.alternates_of(place, nest)[alternate as usize]
     }
 
-    /// The place of the next action of the same use; none for a play and for the last action of a use.
+    /// The alternate that is tried after this place: a play has none, nor has the last of its use.
     pub fn next_alternate(&self, place: Place) -> Option<Place>
         ensures { result ≡ next_alternate self.now place }
     {

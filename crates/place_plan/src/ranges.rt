@@ -1,6 +1,6 @@
-ghost use Rattle.std.specs.Prelude.{◌≡◌, List, length};
+ghost use Rattle.std.specs.Prelude.{◌≡◌, length};
 ghost use Rattle.std.specs.List.{list_all};
-ghost use Rattle.place_plan.specs.DraftRules.{is_rising, is_rising_above, all_below, step_in_range, verdict_in_range, abort_in_range, program_in_range, handler_in_range, role_in_range, nest_in_range, exceptions_of, graphs_in_range, objects_in_range, parts_in_range, action_in_range, play_in_range, drill_in_range, range_rule};
+ghost use Rattle.place_plan.specs.DraftRules.{is_rising, all_below, step_in_range, verdict_in_range, abort_in_range, program_in_range, handler_in_range, role_in_range, nest_in_range, exceptions_of, graphs_in_range, objects_in_range, parts_in_range, action_in_range, play_in_range, drill_in_range, range_rule};
 ghost use Rattle.caa_base.specs.Limits.{is_value};
 
 use crate::draft::Draft;
@@ -8,7 +8,7 @@ use crate::draft_rows::{
     AbortRow, ActionRow, HandlerRow, NestRow, PlayRow, Program, RoleRow, Step,
 };
 use caa_base::entry::{Drill, Verdict};
-use caa_base::limits::{MOST_ROUNDS, is_value};
+use caa_base::limits::{MOST_COUNT, is_value};
 
 pub(crate) fn all_below(count: usize, numbers: &[u32]) -> bool
     ensures { result ≡ all_below count numbers.now }
@@ -24,7 +24,7 @@ fn step_in_range(step: &Step, objects: usize, exceptions: u32) -> bool
         Step::Put(object, value) | Step::Add(object, value) => {
             (*object as usize) < objects && is_value(*value)
         }
-        Step::Work(rounds) => *rounds <= MOST_ROUNDS,
+        Step::Work(rounds) => *rounds <= MOST_COUNT,
         Step::Check {
             test: _,
             value,

@@ -1,6 +1,5 @@
-ghost use Rattle.std.specs.Prelude.{◌≡◌, ◌≤◌, ◌+◌, ℕ, ◌<◌, true, List, length, slice_index_or, sum_by};
-ghost use Rattle.std.specs.List.{list_all};
-ghost use Rattle.caa_base.specs.Limits.{most_actions};
+ghost use Rattle.std.specs.Prelude.{◌≡◌, ◌≤◌, ◌+◌, ℕ, ◌<◌, true, length, slice_index_or, sum_by};
+ghost use Rattle.caa_base.specs.Limits.{most_actions, most_depth};
 ghost use Rattle.place_plan.specs.Places.{no_action};
 ghost use Rattle.place_plan.specs.Bound.{bound, action_bound};
 ghost use Rattle.place_plan.specs.Sizes.{AllHaveSizes};
@@ -17,9 +16,9 @@ use caa_base::limits::{MOST_ACTIONS, MOST_DEPTH};
 /// How much a draft unfolds into.
 #[derive(Clone, Copy, Debug, PartialEq, Eq)]
 pub struct Size {
-    /// How many places the plan has; 4,000,000,000 where it has more.
+    /// How many places the plan has, as far as they are counted: no further than `MOST_COUNTED`.
     pub places: u64,
-    /// How many entries a journal of the plan has at most; 4,000,000,000 where that is more.
+    /// How many entries a journal of the plan has at most, counted in the same way.
     pub bound: u64,
 }
 
@@ -63,7 +62,7 @@ fn one_level_deeper(actions: &[ActionRow], own: &[u64], weights: &[u64]) -> Tabl
 fn weights_of(actions: &[ActionRow], own: &[u64]) -> Table
     requires few { length actions.now ≤ most_actions }
     requires known { nests_known actions.now ≡ true }
-    ensures { Tells actions.now result (weight own.now 8 actions.now) }
+    ensures { Tells actions.now result (weight own.now most_depth actions.now) }
 {
     let mut table = [0; MOST_ACTIONS];
     for level in 0..MOST_DEPTH {
@@ -88,7 +87,8 @@ fn own_bounds(actions: &[ActionRow]) -> Table
     requires few { length actions.now ≤ most_actions }
     requires sizes { AllHaveSizes actions.now }
     ensures { (a : ℕ) → a < length actions.now →
-        at result a ≡ action_bound (slice_index_or actions.now a no_action) (length (slice_index_or actions.now a no_action).roles) }
+        at result a
+        ≡ action_bound (slice_index_or actions.now a no_action) (length (slice_index_or actions.now a no_action).roles) }
 {
     let mut table = [0; MOST_ACTIONS];
     for (number, action) in actions.iter().enumerate() {

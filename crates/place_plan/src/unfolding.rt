@@ -1,4 +1,4 @@
-ghost use Rattle.std.specs.Prelude.{◌≡◌, ◌≤◌, ◌+◌, ◌++◌, ◌∷◌, true, List, length, slice_index_or, IfOk};
+ghost use Rattle.std.specs.Prelude.{◌≡◌, ◌≤◌, ◌+◌, ◌++◌, ◌∷◌, true, length, slice_index_or, IfOk};
 ghost use Rattle.std.specs.List.{list_all};
 ghost use Rattle.caa_base.specs.Limits.{most_actions, most_places};
 ghost use Rattle.place_plan.specs.Places.{no_action};
@@ -6,7 +6,7 @@ ghost use Rattle.place_plan.specs.DraftRules.{action_fits};
 ghost use Rattle.place_plan.specs.Unfolding.{unfold_at, use_from, numbers_from, cast_of, bare_place, plan_of, IsMade};
 
 use crate::draft::Draft;
-use crate::draft_rows::{ActionRow, NestRow, PlaceRow, PlayRow};
+use crate::draft_rows::{ActionRow, NestRow, PlaceRow};
 use caa_base::entry::{Participant, Place};
 use caa_base::limits::MOST_DEPTH;
 use caa_base::rows::Rows;
@@ -95,10 +95,12 @@ fn unfold(
     places: &mut Vec<PlaceRow>,
 ) -> Result<(), AllocError>
     requires fit { list_all action_fits actions.now ≡ true }
-    requires few { length places.old.items + length (unfold_at depth actions.now action who.now around.now nest (length places.old.items))
+    requires few { length places.old.items
+        + length (unfold_at depth actions.now action who.now around.now nest (length places.old.items))
         ≤ most_places }
     ensures { IfOk result (λ _.
-        places.new.items ≡ places.old.items ++ unfold_at depth actions.now action who.now around.now nest (length places.old.items)) }
+        places.new.items
+        ≡ places.old.items ++ unfold_at depth actions.now action who.now around.now nest (length places.old.items)) }
 {
     if depth == 0 {
         return Ok(());
@@ -137,13 +139,16 @@ fn unfold_use(
     places: &mut Vec<PlaceRow>,
 ) -> Result<Rows<Place>, AllocError>
     requires fit { list_all action_fits actions.now ≡ true }
-    requires few { length places.old.items + length (use_from (unfold_at depth actions.now) who.now around.now nest (length places.old.items) used.now)
+    requires few { length places.old.items
+        + length (use_from (unfold_at depth actions.now) who.now around.now nest (length places.old.items) used.now)
         ≤ most_places }
     ensures places { IfOk result (λ _.
         places.new.items
         ≡ places.old.items ++ use_from (unfold_at depth actions.now) who.now around.now nest (length places.old.items) used.now) }
     ensures numbers { IfOk result (λ row.
-        row ≡ numbers_from (unfold_at depth actions.now) (cast_of who.now used.now) around.now nest (length places.old.items) used.now.actions) }
+        row
+        ≡ numbers_from (unfold_at depth actions.now) (cast_of who.now used.now) around.now nest (length places.old.items)
+        used.now.actions) }
 {
     let cast = cast_of(alloc, who, used)?;
     let mut numbers = Vec::new(alloc);

@@ -6,7 +6,7 @@ ghost use Rattle.caa_base.specs.Lists.{is_empty, member};
 ghost use Rattle.place_plan.specs.DraftRules.{all_below, nests_below, order_rule, all_differ, fills, nest_fills, fill_rule, action_fits, entered_by, filled_by, same_numbers, roles_enter, enter_rule, step_held, role_held, nest_held, action_held, object_rule, handlers_differ, face_of, nest_mapped, handler_rule, has_one_face, face_rule};
 
 use crate::draft::Draft;
-use crate::draft_rows::{ActionRow, HandlerRow, NestRow, PlayRow, Program, RoleRow, Step};
+use crate::draft_rows::{ActionRow, HandlerRow, NestRow, Program, RoleRow, Step};
 use crate::member::is_member;
 use crate::ranges::{all_below, exceptions_of};
 use caa_base::entry::{Exception, Object};
@@ -122,7 +122,7 @@ fn next_enter(steps: &[Step]) -> Option<(u32, &[Step])>
     None
 }
 
-/// Whether these steps enter just the uses that the role of this number fills, in their order.
+/// Whether these steps enter what the role of this number fills, in their order, and nothing else.
 fn enters_its_uses(steps: &[Step], role: u32, nests: &[NestRow]) -> bool
     ensures { result ≡ same_numbers (entered_by steps.now) (filled_by role 0 nests.now) }
 {
@@ -154,7 +154,7 @@ fn handlers_enter_nothing(role: &RoleRow) -> bool
         .all(|handler| enters_nothing(handler))
 }
 
-/// Whether the body of each role enters just the uses that the role fills, each once and in order, and no handler enters any.
+/// Whether each body goes once through all uses in which its role takes part, in their order, and handlers go through none.
 pub fn roles_enter(nests: &[NestRow], roles: &[RoleRow]) -> bool
     requires { length roles.now ≤ most_roles }
     ensures { result ≡ roles_enter nests.now 0 roles.now }
@@ -272,7 +272,7 @@ fn action_held(draft: &Draft, action: &ActionRow) -> bool
     roles_held(action) && nests_held(draft, action)
 }
 
-/// Whether the objects of each step and of each nested action are among the action's.
+/// Whether each action owns all objects that its steps, and the actions nested in it, touch.
 pub(crate) fn keeps_objects(draft: &Draft) -> bool
     ensures { result ≡ object_rule draft.now }
 {

@@ -1,4 +1,4 @@
-ghost use Rattle.std.specs.Prelude.{◌≡◌, ◌<◌, ◌&&◌, List, length, reverse};
+ghost use Rattle.std.specs.Prelude.{◌≡◌, ◌<◌, ◌&&◌, length, reverse};
 ghost use Rattle.std.specs.List.{list_any};
 ghost use Rattle.place_plan.specs.Places.{is_within};
 ghost use Rattle.place_plan.specs.Objects.{restores, writes, value_of};

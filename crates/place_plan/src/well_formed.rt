@@ -1,12 +1,11 @@
-ghost use Rattle.std.specs.Prelude.{◌↔◌, ◌≡◌, ◌<◌, ℕ, length, IsTrue};
+ghost use Rattle.std.specs.Prelude.{◌↔◌, ◌<◌, IsTrue};
 ghost use Rattle.place_plan.specs.Places.{graph_at};
 ghost use Rattle.place_plan.specs.Rules.{IsPlain};
 ghost use Rattle.place_plan.specs.WellFormed.{ShowsObject, ShowsException, MayShowException, MayCarry, FieldsFit, IsWellFormed};
-ghost use Rattle.caa_base.specs.Limits.{IsValue};
 
 use crate::plan::Plan;
-use caa_base::entry::{Entry, Exception, Kind, Place};
-use caa_base::limits::{MOST_ROUNDS, is_value};
+use caa_base::entry::{Entry, Kind, Place};
+use caa_base::limits::{MOST_COUNT, is_value};
 
 /// Whether an entry is well formed: its place and its maker are of the plan, and its other fields fit its kind.
 pub fn is_well_formed(plan: &Plan, entry: &Entry) -> bool
@@ -21,7 +20,7 @@ fn fields_fit(plan: &Plan, entry: &Entry) -> bool
 {
     match entry.kind {
         Kind::Read | Kind::Write | Kind::PutFault => shows_object(plan, entry) && entry.mark == 0,
-        Kind::Work => entry.arg <= MOST_ROUNDS && entry.mark == 0 && is_value(entry.value),
+        Kind::Work => entry.arg <= MOST_COUNT && entry.mark == 0 && is_value(entry.value),
         Kind::Raise | Kind::Resolve | Kind::Handle => {
             shows_exception(plan, plan.internal_number(entry.place), entry)
         },

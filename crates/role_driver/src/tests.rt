@@ -19,21 +19,10 @@ use shared_views::Reading;
 use std::alloc::Global;
 use std::sync::Wait;
 use std::test::Fail;
-use trial_drafts::{Exceptions, action, draft, graph, play, program, role};
-
-const PLAIN: Exceptions = Exceptions {
-    internal: 0,
-    interface: 0,
-    fault: 0,
-};
+use trial_drafts::{Exceptions, PLAIN, action, draft, graph, plain_role, play, program, role};
 
 /// The exception over `left` and `right`, which are 2 and 3.
 const MID: Exception = 1;
-
-fn role_of(alloc: Global, name: &[u8], steps: &[Step]) -> Result<RoleRow, Fail> {
-    let body = program(alloc, steps, Verdict::Done)?;
-    Ok(role(alloc, name, body, Vec::new(alloc), AbortRow::Never)?)
-}
 
 /// A role that raises an exception, and puts a value in an object where `mid` is handled.
 fn sibling(alloc: Global, name: &[u8], raised: Exception, put: Step) -> Result<RoleRow, Fail> {
@@ -67,10 +56,7 @@ fn plan_of(
 
 /// Role a reads x, and role b works; ann and bob play that action once.
 fn look(alloc: Global) -> Result<Plan, Fail> {
-    let mut roles = Vec::new(alloc);
-    roles.push(role_of(alloc, b"a", &[Step::Read(0)])?)?;
-    roles.push(role_of(alloc, b"b", &[Step::Work(2)])?)?;
-    let looks = action(alloc, b"look", PLAIN, &[0], roles, Vec::new(alloc))?;
+    let looks = trial_drafts::look(alloc)?;
     let plays = vec![in alloc; play(alloc, 0, &[0, 1])?]?;
     plan_of(
         alloc,
@@ -83,7 +69,7 @@ fn look(alloc: Global) -> Result<Plan, Fail> {
 
 /// Role r reads x and adds 1 to it; ann plays that once, and bob once.
 fn two_plays(alloc: Global) -> Result<Plan, Fail> {
-    let adds = role_of(alloc, b"r", &[Step::Read(0), Step::Add(0, 1)])?;
+    let adds = plain_role(alloc, b"r", &[Step::Read(0), Step::Add(0, 1)], Verdict::Done)?;
     let roles = vec![in alloc; adds]?;
     let writes = action(alloc, b"w", PLAIN, &[0], roles, Vec::new(alloc))?;
     let plays = vec![in alloc; play(alloc, 0, &[0])?, play(alloc, 0, &[1])?]?;

@@ -21,7 +21,7 @@ use Rattle.script_checker.specs.declared.parts.Opening.{Opening}
 use Rattle.script_checker.specs.DeclaredSoFar.{SoFar, outer, nest_of, action_of, exceptions_at}
 use Rattle.script_checker.specs.Causes.{is_past_limit, is_unfilled}
 use Rattle.script_checker.specs.After.{closed_if, ended, with_said, with_program, idle_role, with_nest, plain_nest, name_at, action_row}
-use Rattle.caa_base.proofs.ListLemmas.{filled_by}
+use Rattle.caa_base.proofs.ListLemmas.{as_filled}
 use Rattle.script_checker.specs.Blocks.{is_in_action}
 use Rattle.script_checker.proofs.Choosing.{within}
 use Rattle.script_checker.proofs.Accepted.{IsKept, filled}
@@ -162,7 +162,7 @@ has_roles s f e u = absurd (false≢true e)
 
 end_fits : (names : List (List ℕ)) (s : SoFar) → ActionsFit s → is_in_action s.block ≡ true → is_empty s.roles ≡ false → action_fits (action_row names s) ≡ true
 end_fits names s h e u =
-    let some : is_empty s.role_rows ≡ false = filled_by s.role_rows s.roles (h.roles.1 e) u in
+    let some : is_empty s.role_rows ≡ false = as_filled s.role_rows s.roles (h.roles.1 e) u in
     let few : length s.nest_rows ≤ most_nests = omega (arith, h.nests.0, h.nests.1) in
     rw (some, le-leb (length s.role_rows) most_roles h.roles.0, le-leb (length s.nest_rows) most_nests few, h.programs.1, h.nests.2) refl
 

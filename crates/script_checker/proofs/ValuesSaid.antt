@@ -2,7 +2,7 @@
 use Rattle.std.proofs.Common.{◌≡◌, ℕ, ℤ, pos, negsuc, int_lt, ◌+◌, ◌≤◌, nat_le, Bool, true, false, not, ◌&&◌, List, length, ap, arith}
 use Rattle.std.proofs.lemmas.Int.{ints}
 use Rattle.std.proofs.lemmas.Bool.{and_parts, leb-true, false_from_ne_true, and_from}
-use Rattle.caa_base.specs.Limits.{is_value, most_rounds}
+use Rattle.caa_base.specs.Limits.{is_value, most_count}
 use Rattle.action_script.specs.declared.form.Form.{Form}
 use Rattle.action_script.specs.Kinds.{takes, parts_of}
 use Rattle.action_script.specs.Forms.{kind_of, fields_of}
@@ -31,5 +31,5 @@ value_first v more h = value_said v (and_parts (is_said_value v) more h).0
 pub value_second : (named : Bool) (v : ℤ) (more : Bool) → (named && (is_said_value v && more)) ≡ true → is_value v ≡ true
 value_second named v more h = value_first v more (and_parts named _ h).1
 
-pub rounds_alone : (k : ℕ) → (nat_le k most_rounds && true) ≡ true → nat_le k most_rounds ≡ true
-rounds_alone k h = (and_parts (nat_le k most_rounds) true h).0
+pub rounds_alone : (k : ℕ) → (nat_le k most_count && true) ≡ true → nat_le k most_count ≡ true
+rounds_alone k h = (and_parts (nat_le k most_count) true h).0

@@ -1,7 +1,7 @@
 //! Drafts of plans, part by part, for the tests of several crates.
 #![tactic(auto)]
 
-ghost use Rattle.std.specs.Prelude.{◌≡◌, ◌<◌, map, IsTrue, All, IfOk};
+ghost use Rattle.std.specs.Prelude.{◌≡◌, ◌<◌, [], ◌∷◌, codes, map, IsTrue, All, IfOk};
 
 use caa_base::entry::{Drill, Exception, Object, OutOfMemory, Participant, Verdict};
 use caa_base::name::Name;
@@ -87,6 +87,24 @@ pub fn role(
     })
 }
 
+/// A role that does these steps and gives this verdict, whatever is raised: it has no handler, and names nothing when it gives up.
+pub fn plain_role(
+    alloc: Global,
+    name: &[u8],
+    steps: &[Step],
+    verdict: Verdict,
+) -> Result<RoleRow, TrialError>
+    ensures { IfOk result (λ role. role ≡ record {
+      name = name.now;
+      body = record { steps = steps.now; verdict = verdict };
+      handlers = [];
+      abort = AbortRow.Never;
+    }) }
+{
+    let body = program(alloc, steps, verdict)?;
+    role(alloc, name, body, Vec::new(alloc), AbortRow::Never)
+}
+
 /// A graph of exceptions with these names, `universal` first, where each pair declares its first over its second.
 pub fn graph(alloc: Global, texts: &[&[u8]], pairs: &[(u32, u32)]) -> Result<GraphRow, TrialError>
     ensures { IfOk result (λ row. row.names ≡ map (λ text. text.now) texts.now) }
@@ -124,6 +142,13 @@ pub struct Exceptions {
     pub fault: Exception,
 }
 
+/// Those of an action whose graphs are both the plain one.
+pub const PLAIN: Exceptions = Exceptions {
+    internal: 0,
+    interface: 0,
+    fault: 0,
+};
+
 /// An action over these objects.
 pub fn action(
     alloc: Global,
@@ -152,6 +177,21 @@ pub fn action(
         roles: Rows::from_vec(roles),
         nests: Rows::from_vec(nests),
     })
+}
+
+/// The action `look`: role `a` reads object 0, and role `b` works for two rounds.
+pub fn look(alloc: Global) -> Result<ActionRow, TrialError>
+    ensures name { IfOk result (λ action. action.name ≡ codes "look") }
+    ensures objects { IfOk result (λ action. action.objects ≡ 0 ∷ []) }
+    ensures roles { IfOk result (λ action. map (λ (role : RoleRow). role.name) action.roles ≡ codes "a" ∷ codes "b" ∷ []) }
+    ensures bodies { IfOk result (λ action.
+        map (λ (role : RoleRow). role.body.steps) action.roles ≡ (Step.Read 0 ∷ []) ∷ (Step.Work 2 ∷ []) ∷ []) }
+    ensures nests { IfOk result (λ action. action.nests ≡ []) }
+{
+    let mut roles = Vec::new(alloc);
+    roles.push(plain_role(alloc, b"a", &[Step::Read(0)], Verdict::Done)?)?;
+    roles.push(plain_role(alloc, b"b", &[Step::Work(2)], Verdict::Done)?)?;
+    action(alloc, b"look", PLAIN, &[0], roles, Vec::new(alloc))
 }
 
 /// What a nested use maps: each exception that its actions tell outside, their undo and their failure.

@@ -1,6 +1,6 @@
 //! Drafts of one action that nests nothing: what its plan reads, and which rule a wrong draft breaks.
 
-use crate::{Exceptions, action, draft, numbers, play, program, role};
+use crate::{PLAIN, action, draft, numbers, plain_role, play};
 use caa_base::entry::{Drill, Entry, Kind, Object, Participant, Verdict};
 use caa_base::rows::Rows;
 use place_plan::draft::Draft;
@@ -40,16 +40,11 @@ const FIRST_PATH: Parts<'static> = Parts {
     plays: 1,
 };
 
-fn role_of(alloc: Global, name: &[u8], step: Step) -> Result<RoleRow, Fail> {
-    let body = program(alloc, &[step], Verdict::Done)?;
-    Ok(role(alloc, name, body, Vec::new(alloc), AbortRow::Never)?)
-}
-
 fn roles(alloc: Global, parts: Parts) -> Result<Vec<RoleRow>, Fail> {
     let mut roles = Vec::new(alloc);
     if parts.has_roles {
-        roles.push(role_of(alloc, b"a", Step::Read(parts.read))?)?;
-        roles.push(role_of(alloc, b"b", Step::Work(2))?)?;
+        roles.push(plain_role(alloc, b"a", &[Step::Read(parts.read)], Verdict::Done)?)?;
+        roles.push(plain_role(alloc, b"b", &[Step::Work(2)], Verdict::Done)?)?;
     }
     Ok(roles)
 }
@@ -78,16 +73,11 @@ fn plays(alloc: Global, parts: Parts) -> Result<Vec<PlayRow>, Fail> {
     Ok(plays)
 }
 
-fn look(alloc: Global, parts: Parts) -> Result<ActionRow, Fail> {
-    let plain = Exceptions {
-        internal: 0,
-        interface: 0,
-        fault: 0,
-    };
+fn look_of(alloc: Global, parts: Parts) -> Result<ActionRow, Fail> {
     Ok(action(
         alloc,
         b"look",
-        plain,
+        PLAIN,
         parts.uses,
         roles(alloc, parts)?,
         Vec::new(alloc),
@@ -100,7 +90,7 @@ fn draft_of(alloc: Global, parts: Parts) -> Result<Draft, Fail> {
         &[b"ann".as_slice(), b"bob".as_slice()],
         values(alloc, parts.initials)?.as_slice(),
         Vec::new(alloc),
-        vec![in alloc; look(alloc, parts)?]?,
+        vec![in alloc; look_of(alloc, parts)?]?,
         plays(alloc, parts)?,
         &[Drill { object: 0, nth: 3 }],
     )?;

@@ -4,7 +4,7 @@ ghost use Rattle.caa_base.specs.Counts.{counted_up, faults_after};
 ghost use Rattle.caa_base.specs.Memory.{empty_plant};
 
 use crate::count::counted_up;
-use crate::entry::{Drill, Failed, Object, OutOfMemory};
+use crate::entry::{Drill, Failed, Object};
 use crate::memory::drills::Drills;
 use crate::memory::sure_plant::SurePlant;
 use crate::plant::{Plant, PlantError};
@@ -107,7 +107,8 @@ impl Plant for MemPlant {
         ensures tries { OnOk result (self.new.drilling.tries ≡ replicate (length values.now) 0) }
         ensures kept { OnErr result (self.new.plant ≡ self.old.plant) }
         ensures drilling_kept { OnErr result (self.new.drilling ≡ self.old.drilling) }
-        ensures lay_faults { self.new.lay_faults ≡ (if self.old.fail_lay then counted_up self.old.lay_faults else self.old.lay_faults) }
+        ensures lay_faults { self.new.lay_faults ≡
+            (if self.old.fail_lay then counted_up self.old.lay_faults else self.old.lay_faults) }
         ensures faults { self.new.faults ≡ self.old.faults }
         ensures fail_lay { self.new.fail_lay ≡ self.old.fail_lay }
     {

@@ -24,9 +24,9 @@ impl Model for MemSink {
 }
 
 impl MemSink {
-    /// A sink that holds nothing yet, and can hold `room` bytes. Its memory is taken here.
+    /// An empty sink, with memory for `room` bytes.
     ///
-    /// The n-th write, counted from 1, fails where n is in `fail`.
+    /// `fail` lists the writes that fail, by their numbers: 1 is the first that comes. Once the sink is full, each write fails.
     pub fn new(alloc: Global, room: u64, fail: &[u64]) -> Result<Self, OutOfMemory>
         ensures held { IfOk result (λ s. s.held ≡ []) }
         ensures room { IfOk result (λ s. s.room ≡ room) }

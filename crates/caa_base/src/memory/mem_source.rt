@@ -24,7 +24,7 @@ impl Model for MemSource {
 }
 
 impl MemSource {
-    /// A source of these bytes. The n-th read, counted from 1, fails where n is in `fail`.
+    /// A source of these bytes. `fail` lists the reads that fail, by their numbers: 1 is the first that comes.
     pub fn new(alloc: Global, bytes: &[u8], fail: &[u64]) -> Result<Self, OutOfMemory>
         ensures left { IfOk result (λ s. s.left ≡ bytes.now) }
         ensures failures { IfOk result (λ s. s.failures ≡ record { at = fail.now; calls = 0; faults = 0 }) }

@@ -1,4 +1,4 @@
-ghost use Rattle.std.specs.Prelude.{◌≡◌, ◌<◌, ◌+◌, ◌^◌, [], length, slice_index_or, Some, OnOk, OnErr, IfOk};
+ghost use Rattle.std.specs.Prelude.{◌≡◌, ◌<◌, ◌+◌, ◌^◌, [], length, slice_index_or, Some, OnOk, OnErr};
 ghost use Rattle.caa_base.specs.Memory.{empty_plant};
 ghost use Rattle.caa_base.specs.PlantState.{after_put};
 

@@ -1,4 +1,4 @@
-ghost use Rattle.std.specs.Prelude.{◌≡◌, ◌<◌, ◌≤◌, ◌-◌, ◌++◌, ◌↔◌, [], min, length, take, Some, IsTrue, IsErr, IfOk, OnOk, OnErr};
+ghost use Rattle.std.specs.Prelude.{◌≡◌, ◌<◌, ◌≤◌, ◌-◌, ◌++◌, ◌↔◌, [], min, length, take, Some, IsTrue, IsErr, IfOk, OnErr};
 ghost use Rattle.caa_base.specs.Counts.{faults_after};
 ghost use Rattle.caa_base.specs.Memory.{refused_by};
 
@@ -59,7 +59,7 @@ impl SureSink {
         self.bytes.len() as u64 >= self.room
     }
 
-    /// Appends as much of the front of the piece as fits the room, and says how much.
+    /// Appends the front of the piece, as long as there is room, and says how much that was.
     pub(super) fn append(&mut self, piece: &[u8]) -> usize
         ensures most { result ≡ min (length piece.now) (self.old.room - length self.old.held) }
         ensures held { self.new.held ≡ self.old.held ++ take result piece.now }

@@ -1,4 +1,4 @@
-ghost use Rattle.std.specs.Prelude.{◌≡◌, ◌<◌, ◌++◌, min, length, take, drop, Some, IsOk, IfOk};
+ghost use Rattle.std.specs.Prelude.{◌≡◌, ◌<◌, ◌++◌, min, length, take, drop, Some, IfOk};
 
 use crate::entry::{Failed, OutOfMemory};
 use crate::source::Source;

@@ -1,9 +1,8 @@
 use Rattle.std.proofs.Common.{◌≡◌, reverse, take, drop}
-use Rattle.place_plan.specs.Objects.{value_of, value_outside}
-use Rattle.place_plan.proofs.LatestValues.{restored_in}
+use Rattle.place_plan.specs.Objects.{value_of, value_outside, places_restoring}
 use Rattle.place_plan.proofs.value.value_at.Given as goal
 
 abbrev pub invariant-loop-index : goal.invariant-loop-index
 invariant-loop-index l =
     value_of l.plan (reverse l.entries) l.object
-    ≡ value_outside l.plan (reverse (take l.index l.entries)) l.object (restored_in l.object (drop l.index l.entries))
+    ≡ value_outside l.plan (reverse (take l.index l.entries)) l.object (places_restoring l.object (drop l.index l.entries))
