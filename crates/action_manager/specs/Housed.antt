@@ -3,7 +3,7 @@ use Rattle.std.specs.Prelude.{◌≡◌, ℕ, List, length, reverse, vec_capacit
 use Rattle.caa_base.specs.declared.entry.Entry.{Entry}
 use Rattle.place_plan.specs.PlanValue.{Plan}
 use Rattle.shared_views.specs.Telling.{cells_of, KeepsUp}
-use Rattle.action_manager.specs.declared.view.Terms.{Terms}
+use Rattle.action_manager.specs.declared.lock_view.Terms.{Terms}
 use Rattle.action_manager.specs.declared.housed.Housed.{Housed}
 use Rattle.action_manager.specs.Publishing.{Publishes, HasRoom, book_of}
 

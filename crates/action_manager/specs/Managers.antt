@@ -4,7 +4,7 @@ use Rattle.atomic_table.specs.Seated.{TableId}
 use Rattle.place_plan.specs.PlanValue.{Plan}
 use Rattle.logbook.specs.Pages.{Book}
 use Rattle.shared_views.specs.Telling.{cells_of}
-use Rattle.action_manager.specs.declared.view.Terms.{Terms}
+use Rattle.action_manager.specs.declared.lock_view.Terms.{Terms}
 use Rattle.action_manager.specs.declared.manager.Manager.{Manager}
 use Rattle.action_manager.specs.Publishing.{book_of}
 use Rattle.action_manager.specs.Turns.{terms_of}

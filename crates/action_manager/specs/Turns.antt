@@ -7,8 +7,8 @@ use Rattle.atomic_table.specs.Table.{State, Me, Step}
 use Rattle.logbook.specs.Pages.{Book}
 use Rattle.place_plan.specs.PlanValue.{Plan}
 use Rattle.action_manager.specs.OwnEntries.{Journal, entries_by}
-use Rattle.action_manager.specs.declared.view.View.{View}
-use Rattle.action_manager.specs.declared.view.Terms.{Terms}
+use Rattle.action_manager.specs.declared.lock_view.View.{View}
+use Rattle.action_manager.specs.declared.lock_view.Terms.{Terms}
 
 abbrev pub terms_of : Plan → ℕ → List ℕ → Book → Terms
 terms_of plan base cells book = record { plan = plan; base = base; cells = cells; book = book }

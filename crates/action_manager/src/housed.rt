@@ -65,7 +65,8 @@ impl<M: Machine> Housed<M> {
         ensures cells { cells_of self.new.bulletin ≡ cells_of self.old.bulletin }
         ensures book { book_of self.new.publishing ≡ book_of self.old.publishing }
         ensures kept { IsKept M.plan_of M.journal_of self.new }
-        ensures answer { Answers (M.plan_of self.old.machine) (M.journal_of self.old.machine) (M.journal_of self.new.machine) by hint result.0 }
+        ensures answer { Answers (M.plan_of self.old.machine) (M.journal_of self.old.machine) (M.journal_of self.new.machine)
+            by hint result.0 }
         ensures told { TellsAfter cells.now result.0 result.1 }
     {
         let answer = self.machine.next(by, hint);

@@ -11,7 +11,7 @@ mod publishing;
 mod publishing_law;
 mod seat;
 mod turns;
-mod view;
+mod lock_view;
 
 pub use crossing::crosses_threads;
 pub use manager::{Closed, Manager, ManagerError, Opened, StillOut};

@@ -1,7 +1,7 @@
 //! The text of a journal, both ways, and what watchers saw while it was made.
 #![tactic(auto)]
 
-mod committed;
+mod play_values;
 mod entry_line;
 pub mod naming;
 pub mod right;
@@ -12,4 +12,4 @@ mod tests;
 pub mod text_reader;
 mod values;
 mod words;
-pub mod writing;
+pub mod text_writer;

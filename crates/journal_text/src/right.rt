@@ -10,7 +10,7 @@ ghost use Rattle.journal_text.specs.Text.{watched_object};
 ghost use Rattle.journal_text.specs.CommittedValues.{value_by, HasCommitted, HasWatched};
 ghost use Rattle.journal_text.specs.Right.{is_committed, follows, is_followed, is_right, is_whole, first_wrong};
 
-use crate::committed::{committed_values, ranks_of};
+use crate::play_values::{committed_values, ranks_of};
 use crate::seens::{Seen, Seens};
 use caa_base::entry::{Entry, Kind, Object, OutOfMemory, Place};
 use caa_base::journal::Journal;
@@ -125,7 +125,8 @@ fn is_whole(plan: &Plan, last: Option<Seen>) -> bool
 /// The tables have the values of each watch, so plan and entries are there for the contract alone.
 fn is_committed(_plan: &Plan, _entries: &[Entry], tables: &[Rows<i64>], seen: &Seen) -> bool
     requires watch { seen.now.watch < length _plan.now.watches }
-    requires tables { HasWatched _plan.now (plays_ended _plan.now (reverse _entries.now)) (reverse _entries.now) tables.now (length _plan.now.watches) }
+    requires tables { HasWatched _plan.now (plays_ended _plan.now (reverse _entries.now)) (reverse _entries.now)
+        tables.now (length _plan.now.watches) }
     ensures { result ≡ is_committed _plan.now (reverse _entries.now) seen.now }
 {
     shows_value(tables, seen)

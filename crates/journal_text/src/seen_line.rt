@@ -6,7 +6,7 @@ ghost use Rattle.journal_text.specs.TextSteps.{MayStand};
 
 use crate::seens::Seen;
 use crate::words::{next_word, number_in, split_word, value_in};
-use crate::writing::object_name;
+use crate::text_writer::object_name;
 use caa_base::limits::is_value;
 use place_plan::plan::Plan;
 

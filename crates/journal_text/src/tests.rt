@@ -6,7 +6,7 @@ use crate::naming::is_well_named;
 use crate::right::first_wrong;
 use crate::seens::Seens;
 use crate::text_reader::{TextError, read};
-use crate::writing::write;
+use crate::text_writer::write;
 use caa_base::entry::{Entry, Kind, Participant, Verdict};
 use caa_base::journal::Journal;
 use place_plan::draft_rows::{AbortRow, ActionRow, RoleRow, Step};

@@ -10,7 +10,7 @@ ghost use Rattle.journal_text.specs.TextSteps.{IsAfter, BeginsNoEntry, BeginsNoS
 use crate::entry_line::entry_in;
 use crate::seen_line::{may_stand, seen_in};
 use crate::seens::{Seen, Seens};
-use crate::writing::{push_entry, push_objects, push_outcomes, push_seen, write_text};
+use crate::text_writer::{push_entry, push_objects, push_outcomes, push_seen, write_text};
 use caa_base::entry::{Entry, OutOfMemory};
 use caa_base::journal::Journal;
 use caa_base::line::in_memory;

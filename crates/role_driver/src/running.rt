@@ -110,7 +110,8 @@ fn seens_of<M: Machine>(
     requires published { Publishes (M.plan_of machine.now) (reverse (M.journal_of machine.now)) writer.old }
     requires complete { IsComplete (M.plan_of machine.now) (M.journal_of machine.now) }
     requires tasks { map task_of watchers.old.items ≡ map (task_by writer.old) (M.plan_of machine.now).watches }
-    requires seens { (seens.seens ≡ []) × (seens.room ≡ length (M.plan_of machine.now).watches * suc (length (M.plan_of machine.now).plays)) }
+    requires seens { (seens.seens ≡ [])
+        × (seens.room ≡ length (M.plan_of machine.now).watches * suc (length (M.plan_of machine.now).plays)) }
     ensures of_plan { IfSome result (λ s. AreOfPlan (M.plan_of machine.now) s.seens) }
     ensures right { IfSome result (λ s. first_wrong (M.plan_of machine.now) (M.journal_of machine.now) s.seens ≡ None) }
 {
@@ -141,7 +142,8 @@ pub fn run<M: Machine + Send, G: Gate + Sync, R: Threads + Wait + Sync>(
     ensures legal { IfOk result (λ f. IsLegal (M.plan_of machine) (M.journal_of f.machine)) }
     ensures complete { IfOk result (λ f. IsComplete (M.plan_of machine) (M.journal_of f.machine)) }
     ensures of_plan { IfOk result (λ f. IfSome f.seens (λ s. AreOfPlan (M.plan_of machine) s.seens)) }
-    ensures right { IfOk result (λ f. IfSome f.seens (λ s. first_wrong (M.plan_of machine) (M.journal_of f.machine) s.seens ≡ None)) }
+    ensures right { IfOk result (λ f.
+        IfSome f.seens (λ s. first_wrong (M.plan_of machine) (M.journal_of f.machine) s.seens ≡ None)) }
     ensures refused { IfErr result (λ e. e.machine ≡ machine) }
 {
     let count = machine.plan().participants() as usize;

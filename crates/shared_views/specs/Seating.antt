@@ -6,7 +6,7 @@ use Rattle.shared_views.specs.Publications.{Known}
 use Rattle.shared_views.specs.Chronicles.{head_of}
 use Rattle.shared_views.specs.Boards.{IsRight}
 use Rattle.shared_views.specs.Committing.{Committed, Watching}
-use Rattle.shared_views.specs.declared.committed.CommittedWriter.TheInside.{Inside as WriterInside}
+use Rattle.shared_views.specs.declared.committed_writer.CommittedWriter.TheInside.{Inside as WriterInside}
 use Rattle.shared_views.specs.declared.observer.Observer.TheInside.{Inside as ObserverInside}
 
 abbrev pub committed : WriterInside → Committed

@@ -58,7 +58,8 @@ impl Bulletin {
         requires fresh { slice_index_or self.old.announcer place false ≡ true }
         ensures cells { cells_of self.new ≡ cells.now }
         ensures used { self.new.announcer ≡ slice_set self.old.announcer place false }
-        ensures told { (t : Told) × (self.new.told.items ≡ slice_set self.old.told.items place t) × IsTold cells.now place exception t }
+        ensures told { (t : Told)
+            × (self.new.told.items ≡ slice_set self.old.told.items place t) × IsTold cells.now place exception t }
     {
         let mut note = cells.note(place);
         let told = match cells.announce(&mut self.announcer, &mut note, exception) {
@@ -88,7 +89,8 @@ impl Bulletin {
         requires ours { cells_of self.old ≡ cells.now }
         requires follows { (past : List JournalEntry) × KeepsUp past self.old × Suits cells.now past entry }
         ensures cells { cells_of self.new ≡ cells.now }
-        ensures keeps_up { (past : List JournalEntry) → KeepsUp past self.old → Suits cells.now past entry → KeepsUp (entry ∷ past) self.new }
+        ensures keeps_up { (past : List JournalEntry)
+            → KeepsUp past self.old → Suits cells.now past entry → KeepsUp (entry ∷ past) self.new }
         ensures told { TellsOf entry.kind cells.now entry result }
     {
         match entry.kind {
