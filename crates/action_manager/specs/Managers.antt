@@ -36,6 +36,6 @@ book_in manager = book_of (home_at manager.lock).publishing
 abbrev pub terms_in : {M : Type 0} → (M → ℕ) → Manager M → Terms
 terms_in base_of manager = terms_of (plan_in manager) (base_of (handed_in manager)) (cells_in manager) (book_in manager)
 
--- the seat was opened by this manager, and is at rest
+-- the seat is one of this manager's, and is at rest
 abbrev pub IsSeatIn : {M : Type 0} → (M → ℕ) → Manager M → Seat M → Type 0
 IsSeatIn base_of manager seat = IsSeatOf (table_of manager) (terms_in base_of manager) seat

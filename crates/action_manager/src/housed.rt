@@ -49,7 +49,7 @@ impl<M: Machine> Housed<M> {
     ghost use Rattle.action_manager.specs.Housed.{IsKept};
     ghost use Rattle.action_manager.specs.Tidings.{TellsAfter};
 
-    /// Makes the entry of a participant, and takes it in: a Resolve is announced, and the end of a play is published.
+    /// Makes the entry of a participant, and takes it in: it announces a Resolve, and publishes where a play ends.
     pub fn next<R: Wait>(
         &mut self,
         rt: &R,

@@ -59,8 +59,11 @@ impl<H: Home> Lock<H> {
         requires room { making.old.me.0.next < length (H.terms (plan_at self.now) (home_at self.now)).plan.participants }
         ensures table { (making.new.table_id ≡ making.old.table_id) × (result.table_id ≡ id_of self.now) }
         ensures making { making.new.me
-            ≡ (maker (H.terms (plan_at self.now) (home_at self.now)) (making.old.me.0.next + 1)
-            (H.journal (home_at self.now)), []) }
+            ≡ (
+              maker (H.terms (plan_at self.now) (home_at self.now)) (making.old.me.0.next + 1)
+                  (H.journal (home_at self.now)),
+              [],
+            ) }
         ensures seat { result.me
             ≡ (rested (H.terms (plan_at self.now) (home_at self.now)) making.old.me.0.next (H.journal (home_at self.now)), []) }
     {
@@ -78,7 +81,8 @@ impl<H: Home> Lock<H> {
         self.table.shared.join_seat::<TakesIn>(kept, other);
     }
 
-    /// Drawing a ticket, tried again until it succeeds. At the last number it goes on trying.
+    /// Draws a ticket: tries to count the next number up, and where another seat was first, tries again. At the last number it
+    /// goes on trying.
     fn draw<R: Wait>(&self, rt: &R, token: &mut Token<H>) -> u64
         requires token { (token.old.table_id ≡ id_of self.now) × (token.old.me.1 ≡ []) }
         requires idle { (token.old.me.0.holds ≡ false) × (token.old.me.0.has_book ≡ false) × (token.old.me.0.seated ≡ true)

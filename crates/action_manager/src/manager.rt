@@ -1,4 +1,4 @@
-ghost use Rattle.std.specs.Prelude.{ℕ, ◌≡◌, ◌+◌, ◌<◌, [], ◌∷◌, length, map, replicate, reverse, All, true, false, IsTrue, ◌↔◌, IfOk, IfErr, OnOk, IfSome, IfNone, vec_capacity};
+ghost use Rattle.std.specs.Prelude.{ℕ, ◌≡◌, ◌+◌, ◌<◌, [], ◌∷◌, length, map, replicate, reverse, All, false, IsTrue, ◌↔◌, IfOk, IfErr, OnOk, IfSome, IfNone, vec_capacity};
 ghost use mathlib.Core.List.{IsPrefix};
 ghost use Rattle.std.specs.List.{range_with_len};
 ghost use Rattle.place_plan.specs.Journals.{plays_ended};
@@ -226,8 +226,8 @@ impl<M: Machine> Manager<M> {
 
     /// A manager round a machine, a seat for each participant, in order, and so many observers.
     ///
-    /// Each seat has seen the journal that the machine has, in which nothing is resolved yet and no play has ended. At `Err` no memory
-    /// was found, and the machine comes back as it was.
+    /// Each seat has seen the journal that the machine has, in which nothing is resolved yet and no play has ended. At `Err` no
+    /// memory was found, and the machine comes back as it was.
     pub fn open<R: Wait>(
         rt: &R,
         alloc: Global,

@@ -87,7 +87,7 @@ impl Publishing {
         }
     }
 
-    /// Takes in the entry that a machine made last: the end of a play is published.
+    /// Takes in the entry that a machine made last, and publishes where it ends a play.
     pub fn take_in<M: Machine, R: Wait>(&mut self, rt: &R, machine: &M, entry: Entry)
         requires last { (past : List JournalEntry) × (reverse (M.journal_of machine.now) ≡ entry ∷ past) }
         requires room { HasRoom (M.plan_of machine.now) (vec_capacity self.old.changes) }

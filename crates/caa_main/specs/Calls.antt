@@ -51,6 +51,7 @@ pub record IsSimulated {P : Type 0} (plan : Plan) (seed : ℕ) (found : Finding)
   pub schedule : GrewBy (first_of_seed seed) plan [] left.journal
   pub ends : EndsAs plan left.journal [] found
 
+-- `sim` plays, or no play begins
 abbrev pub SimComesTo : {P : Type 0} → Plan → ℕ → Finding → Left P → Type 0
 SimComesTo plan seed found left = IsSimulated plan seed found left ⊎ DoesNotBegin found left
 
@@ -61,6 +62,7 @@ pub record IsRun {P : Type 0} (plan : Plan) (found : Finding) (left : Left P) : 
   pub right : is_played found ≡ true → first_wrong plan left.journal seens ≡ None
   pub ends : EndsAs plan left.journal seens found
 
+-- `run` plays, or no play begins
 abbrev pub RunComesTo : {P : Type 0} → Plan → Finding → Left P → Type 0
 RunComesTo plan found left = IsRun plan found left ⊎ DoesNotBegin found left
 
@@ -78,6 +80,7 @@ AuditComesTo plan bytes (finding.Refused refusal) left = HasTooManyEntries plan 
 AuditComesTo plan bytes finding.OutOfMemory left = IsIdle left
 AuditComesTo plan bytes _ left = ⊥
 
+-- what each command comes to over a plan
 abbrev pub PlanComesTo : {P : Type 0} → Command → Plan → List ℕ → Finding → Left P → Type 0
 PlanComesTo command.Check plan bytes found left = CheckComesTo plan found left
 PlanComesTo (command.Sim seed) plan bytes found left = SimComesTo plan seed found left
@@ -98,6 +101,7 @@ IsNotServed command bytes (finding.Refused refusal) left = IsRefusedScript (scri
 IsNotServed command bytes finding.OutOfMemory left = IsIdle left
 IsNotServed command bytes _ left = ⊥
 
+-- the script is served, or it isn't
 abbrev pub InputComesTo : {P : Type 0} → Command → List ℕ → Finding → Left P → Type 0
 InputComesTo command bytes found left = IsServed command bytes found left ⊎ IsNotServed command bytes found left
 
@@ -115,11 +119,13 @@ abbrev pub HasStopped : SourceUse → ReadError → Type 0
 HasStopped source error.Fault = Rose source.faults_before source.faults_after
 HasStopped source _ = Unit {0}
 
+-- what is found where the input wasn't read to its end
 abbrev pub unread_finding : ReadError → Finding
 unread_finding error.Fault = finding.SourceFault
 unread_finding error.TooLong = finding.Refused (record { line = 0; fault = fault.TooLong })
 unread_finding error.OutOfMemory = finding.OutOfMemory
 
+-- the input wasn't read to its end: what was taken of it, and why
 pub record IsUnread {P : Type 0} (call : Call P) (found : Finding) : Type 0 where
   pub command : Command
   pub given : call.asked ≡ Some command
@@ -129,12 +135,13 @@ pub record IsUnread {P : Type 0} (call : Call P) (found : Finding) : Type 0 wher
   pub cause : HasStopped call.source error
   pub idle : IsIdle call.left
 
--- the source was read to its end, and these were its bytes, no more than the input of the command may have
+-- the reading came to the end of the source; the bytes are all that it had left, no more than the input of the command may have
 pub record WasRead (source : SourceUse) (most : ℕ) (bytes : List ℕ) : Type 0 where
   pub all : IfSome source.left_before (λ rest. bytes ≡ rest)
   pub fits : length bytes ≤ most
   pub ended : source.left_after ≡ emptied source.left_before
 
+-- the input was read, and this is what the command comes to over it
 pub record IsRead {P : Type 0} (call : Call P) (found : Finding) : Type 0 where
   pub command : Command
   pub given : call.asked ≡ Some command
@@ -142,6 +149,7 @@ pub record IsRead {P : Type 0} (call : Call P) (found : Finding) : Type 0 where
   pub read : WasRead call.source (most_bytes command) bytes
   pub comes : InputComesTo command bytes found call.left
 
+-- words that are no command, or an input that wasn't read, or one that was
 abbrev pub CameTo : {P : Type 0} → Call P → Finding → Type 0
 CameTo call found = IsUsage call found ⊎ (IsUnread call found ⊎ IsRead call found)
 
@@ -180,6 +188,7 @@ abbrev pub Tells : Finding → List Entry → List Entry → SinkUse → Status 
 Tells found journal handed sink answer =
     WroteAll found journal handed sink answer ⊎ (WasCutOff found journal handed sink answer ⊎ WasLost found handed sink answer)
 
+-- a call answers by what it came to: that is found with some journal, and told
 pub record Answers {P : Type 0} (call : Call P) (sink : SinkUse) (answer : Status) : Type 0 where
   pub finding : Finding
   pub journal : List Entry

@@ -153,8 +153,8 @@ fn unplayed<P: Plant>(hall: PlainHall<P>) -> Decision<P>
     }
 }
 
-/// Plays a plan to its end, each participant in a thread of its own, and writes the text of its journal with what the watchers saw.
-/// It need not return.
+/// Plays a plan to its end, each participant in a thread of its own, and writes the text of its journal with what the watchers
+/// saw. It need not return.
 pub fn run_plan<P: Plant + Send, G: Gate + Sync, R: Threads + Wait + Sync>(
     rt: &R,
     alloc: Global,

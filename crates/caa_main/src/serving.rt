@@ -1,6 +1,6 @@
 //! What the commands come to over the input, before anything is written.
 
-ghost use Rattle.std.specs.Prelude.{◌≡◌, ◌<◌, ◌≤◌, ◌^◌, None, Some, true, IfSome};
+ghost use Rattle.std.specs.Prelude.{◌≡◌, ◌<◌, ◌≤◌, None, Some, true, IfSome};
 ghost use Rattle.caa_base.specs.Limits.{most_audit_bytes};
 ghost use Rattle.journal_text.specs.Naming.{is_well_named};
 ghost use Rattle.caa_main.specs.declared.command.Command.{Command};

@@ -68,16 +68,16 @@ fn tell<K: Sink, P: Plant>(alloc: Global, decision: Decision<P>, sink: &mut K) -
 
 /// Serves the command of the words, from a source to a sink, over a device. It always returns.
 ///
-/// `check` reads a script and tells how large its plan is. `sim SEED`, with a seed from 0 to 2147483647, plays it to its end by the
-/// schedule of the seed and writes the text of the journal. `audit` reads a script and the text of a journal after it, and tells
-/// whether the journal is legal and complete. Things are tried in this order: the words (`Usage`); the reading (`SourceFault`, or
-/// `Refused` where it is too long); the script (`Refused`); for `audit` the journal (`Refused` past its most entries, or `Illegal`);
-/// for `sim` that the device is laid out (`PlantFault`), and the play (`SomeFailed` where a play failed); and the writing. Where the
-/// text of any status can't be written whole, the status is `SinkFault`, and a part of that text was written. At `OutOfMemory` nothing
-/// was written; it never comes for wrong words.
+/// `check` reads a script and tells how large its plan is. `sim SEED`, with a seed from 0 to 2147483647, plays it to its end by
+/// the schedule of the seed and writes the text of the journal. `audit` reads a script and the text of a journal after it, and
+/// tells whether the journal is legal and complete. Things are tried in this order: the words (`Usage`); the reading
+/// (`SourceFault`, or `Refused` where it is too long); the script (`Refused`); for `audit` the journal (`Refused` past its most
+/// entries, or `Illegal`); for `sim` that the device is laid out (`PlantFault`), and the play (`SomeFailed` where a play failed);
+/// and the writing. Where the text of any status can't be written whole, the status is `SinkFault`, and a part of that text was
+/// written. At `OutOfMemory` nothing was written; it never comes for wrong words.
 ///
-/// The journal that is handed back is the played one, wherever the script was played; for `audit` at `Done` the one that was read;
-/// and else empty. The device is as it was for `check` and `audit`, and wherever nothing was tried beyond the script.
+/// The journal that is handed back is the played one, wherever the script was played; for `audit` at `Done` the one that was
+/// read; and else empty. The device is as it was for `check` and `audit`, and wherever nothing was tried beyond the script.
 pub fn top_quiet<S: Source, K: Sink, P: Plant>(
     alloc: Global,
     words: &[String],
@@ -112,9 +112,9 @@ pub fn top_quiet<S: Source, K: Sink, P: Plant>(
 
 /// Serves the command of the words, `run` among them, from a source to a sink, over a device.
 ///
-/// `run` reads a script and plays it to its end, each participant in a thread of its own, which calls the gate before each piece of
-/// work, and writes the text of the journal with what was seen. Things are tried in the same order as for `sim`, and what is handed
-/// back is the same. For `run` the call need not return; all other words are those of [`top_quiet`].
+/// `run` reads a script and plays it to its end, each participant in a thread of its own, which calls the gate before each piece
+/// of work, and writes the text of the journal with what was seen. Things are tried in the same order as for `sim`, and what is
+/// handed back is the same. For `run` the call need not return; all other words are those of [`top_quiet`].
 pub fn top<S: Source, K: Sink, P: Plant + Send, G: Gate + Sync, R: Threads + Wait + Sync>(
     rt: &R,
     alloc: Global,

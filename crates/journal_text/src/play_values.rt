@@ -1,6 +1,6 @@
 //! The values that an object has by the plays that ended first.
 
-ghost use Rattle.std.specs.Prelude.{◌≡◌, ◌∷◌, [], ◌<◌, ◌≤◌, ◌&&◌, ◌||◌, pos, ℕ, true, false, nat_eq, nat_lt, not, suc, length, reverse, replicate, slice_index_or, if◌then◌else◌, IfOk, OnOk};
+ghost use Rattle.std.specs.Prelude.{◌≡◌, ◌<◌, ◌&&◌, ◌||◌, pos, ℕ, nat_eq, nat_lt, not, suc, length, reverse, replicate, slice_index_or, if◌then◌else◌, IfOk, OnOk};
 ghost use Rattle.std.specs.List.{list_any};
 ghost use Rattle.std.specs.HashSet.{contains};
 ghost use Rattle.caa_base.specs.Lists.{index_of};
@@ -94,8 +94,8 @@ fn look_back(
     Ok(())
 }
 
-/// Takes in the next entry on the way back: a write that counts gives the values by as many plays as have its own among them, as far
-/// as these aren't known. What it returns is the greatest number of plays for which the value isn't known then.
+/// Takes in the next entry on the way back: a write that counts gives the values by as many plays as have its own among them, as
+/// far as these aren't known. What it returns is the greatest number of plays for which the value isn't known then.
 fn look_at(
     plan: &Plan,
     ended: &[Place],

@@ -6,7 +6,7 @@ ghost use Rattle.place_plan.specs.Places.{parent};
 ghost use Rattle.place_plan.specs.Entries.{is_of};
 ghost use Rattle.place_plan.specs.Roles.{verdict_at};
 ghost use Rattle.place_plan.specs.WellFormed.{IsWellFormed, AllWellFormed};
-ghost use Rattle.journal_text.specs.Text.{action_name, object_name, internal_name, interface_name, kind_word, object_words, restore_word, verdict_words, outcome_at, outcome_words, abort_words, leave_words, field_words, entry_line, object_lines, last_outcome, ending_words, outcome_lines, closing_lines, seen_line, watched_object, first_line, text_of};
+ghost use Rattle.journal_text.specs.Text.{action_name, object_name, internal_name, interface_name, kind_word, object_words, restore_word, verdict_words, outcome_at, outcome_words, abort_words, leave_words, field_words, entry_line, object_lines, last_outcome, ending_words, outcome_lines, closing_lines, seen_line, text_of};
 ghost use Rattle.journal_text.specs.KnownValues.{value_found};
 ghost use Rattle.journal_text.specs.Looks.{AreOfPlan};
 

@@ -1,6 +1,6 @@
 -- Looks that are added one by one: those of the recorded readings before the last, and the last.
-use Rattle.std.proofs.Common.{◌≡◌, ℕ, ◌+◌, ◌<◌, ◌≤◌, nat_lt, Bool, true, false, cond, List, [], ◌∷◌, ◌++◌, filter, length, map, take, drop, get_or, All, sym, ap, ◌∙◌, subst, arith, append_assoc, append-nil}
-use Rattle.std.proofs.lemmas.List.{take-append-drop, take_all, length-append, length-map, map-append}
+use Rattle.std.proofs.Common.{◌≡◌, ℕ, ◌+◌, ◌<◌, ◌≤◌, nat_lt, Bool, true, cond, List, [], ◌∷◌, ◌++◌, filter, length, map, take, drop, get_or, All, sym, ap, ◌∙◌, subst, arith, append_assoc}
+use Rattle.std.proofs.lemmas.List.{take-append-drop, take_all, length-append, length-map}
 use Rattle.std.proofs.lemmas.List.Elements.{All-head, All-tail, filter-append, filter_more}
 use Rattle.journal_text.specs.declared.seens.Seen.{Seen}
 use Rattle.journal_text.specs.Looks.{last_watch}

@@ -1,5 +1,4 @@
 ghost use Rattle.std.specs.Prelude.{◌≡◌, ◌*◌, [], length, map, reverse, suc, All, None, IfSome, IfOk, IfErr, vec_capacity};
-ghost use Rattle.std.specs.List.{range_with_len};
 ghost use mathlib.Core.List.{IsPrefix};
 ghost use Rattle.place_plan.specs.Journals.{IsLegal, IsComplete, plays_ended};
 ghost use Rattle.journal_text.specs.Looks.{AreOfPlan};
@@ -121,13 +120,14 @@ fn seens_of<M: Machine>(
     Some(gather(machine, writer, watchers, seens))
 }
 
-/// Plays a machine to its end, each participant in a thread of its own, and lets a watcher look at each watched object in another.
+/// Plays a machine to its end, each participant in a thread of its own, and lets a watcher look at each watched object in
+/// another.
 ///
-/// In its journal nothing may be resolved yet, and no play may have ended. The machine comes back complete, with the same plan and
-/// base, and with a legal journal that begins with the old one. With it comes what was seen, right looks of that journal, unless no
-/// memory was found for a publication. The caller itself takes the turns of participants for whom no thread can be started, round by
-/// round; a watcher without a thread looks once, at the end. At `Err` no memory was found before the first entry, and the machine is
-/// as it was. It need not return.
+/// In its journal nothing may be resolved yet, and no play may have ended. What comes back is the machine, complete, still of its
+/// plan and base; its journal is legal and goes on from the old one. With it comes what was seen, right looks of that journal,
+/// unless no memory was found for a publication. The caller itself takes the turns of participants for whom no thread can be
+/// started, round by round; a watcher without a thread looks once, at the end. At `Err` no memory was found before the first
+/// entry, and the machine is as it was. It need not return.
 pub fn run<M: Machine + Send, G: Gate + Sync, R: Threads + Wait + Sync>(
     rt: &R,
     alloc: Global,

@@ -1,15 +1,15 @@
 -- A bulletin goes on fitting the journal, entry by entry.
-use Rattle.std.proofs.Common.{◌≡◌, ◌≢◌, ℕ, ◌<◌, ◌==◌, ◌&&◌, Bool, true, false, List, ◌∷◌, length, get_or, set, Option, Some, None, if◌then◌else◌, refl, sym, ap, ◌∙◌, subst, arith, length-set, get_or-set_other, get_or-set_same, inl, inr}
+use Rattle.std.proofs.Common.{◌≡◌, ◌≢◌, ℕ, ◌<◌, ◌==◌, ◌&&◌, Bool, true, false, List, ◌∷◌, length, get_or, set, Option, Some, if◌then◌else◌, refl, sym, ap, ◌∙◌, subst, arith, length-set, get_or-set_other, get_or-set_same, inl, inr}
 use Rattle.std.proofs.lemmas.Bool.{cases_order}
 use Rattle.std.proofs.lemmas.Bool.Decides.{nat_tests}
 use Rattle.caa_base.specs.declared.entry.Entry.{Entry}
 use Rattle.caa_base.specs.declared.entry.Kind.TheVariants as kind
-use Rattle.place_plan.specs.Entries.{code_of, is_of, is_in}
+use Rattle.place_plan.specs.Entries.{is_of, is_in}
 use Rattle.place_plan.specs.Raising.{exception_resolved}
 use Rattle.shared_views.specs.declared.bulletin.Bulletin.{Bulletin}
 use Rattle.shared_views.specs.declared.bulletin.Told.{Told}
 use Rattle.shared_views.specs.declared.bulletin.Told.TheVariants as told
-use Rattle.shared_views.specs.Telling.{cells_of, IsTold, Tells, told_at, IsSet, IsFresh, KeepsUp, SaysTheSame, Suits}
+use Rattle.shared_views.specs.Telling.{cells_of, IsTold, Tells, told_at, KeepsUp}
 
 other_place : (q : ℕ) (e : Entry) (past : List Entry) (b : Bool) → is_in kind.Resolve q e ≡ b → b ≡ false → exception_resolved (e ∷ past) q ≡ exception_resolved past q
 other_place q e past b is off = ap (λ (b : Bool). if b then Some e.arg else exception_resolved past q) (is ∙ off)

@@ -1,4 +1,4 @@
-ghost use Rattle.std.specs.Prelude.{◌≡◌, ◌<◌, ℕ, true, false, List, ◌∷◌, length, slice_index_or, slice_set, replicate, Some, IfOk};
+ghost use Rattle.std.specs.Prelude.{◌≡◌, ◌<◌, ℕ, true, false, List, ◌∷◌, length, slice_index_or, slice_set, replicate, IfOk};
 ghost use Rattle.caa_base.specs.declared.entry.Entry.{Entry as JournalEntry};
 
 use crate::cells::{Announcer, ResolutionCells};
@@ -83,8 +83,8 @@ impl Bulletin {
 
     /// Takes in an entry that was made: a Resolve is announced.
     ///
-    /// Of a Resolve and of a Handle comes what was told of the place: a note that knows the exception, or the refusal of its cell;
-    /// of all others nothing.
+    /// Of a Resolve and of a Handle comes what was told of the place: a note that knows the exception, or the refusal of its
+    /// cell; of all others nothing.
     pub fn take_in(&mut self, cells: &ResolutionCells, entry: Entry) -> Told
         requires ours { cells_of self.old ≡ cells.now }
         requires follows { (past : List JournalEntry) × KeepsUp past self.old × Suits cells.now past entry }

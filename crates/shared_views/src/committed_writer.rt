@@ -1,4 +1,4 @@
-ghost use Rattle.std.specs.Prelude.{◌≡◌, ◌<◌, ◌∷◌, ◌++◌, [], true, false, All, length, replicate, drop, None, Some, IfOk, IfErr, IsOk, MatchResult};
+ghost use Rattle.std.specs.Prelude.{◌≡◌, ◌<◌, ◌∷◌, ◌++◌, [], true, false, All, length, replicate, drop, None, Some, IfOk, MatchResult};
 ghost use Rattle.left_right.specs.Sides.{view};
 ghost use Rattle.shared_views.specs.Boards.{IsRight, Follows};
 ghost use Rattle.shared_views.specs.Committing.{Committed, initials_of, watching, IsReading};
@@ -11,7 +11,7 @@ use caa_base::entry::{Object, OutOfMemory};
 use core::mem::replace_with;
 use left_right::writer::Writer;
 use place_plan::plan::Plan;
-use std::alloc::{AllocError, Global};
+use std::alloc::Global;
 use std::marker::Model;
 use std::sync::Wait;
 use thiserror::Error;
@@ -143,7 +143,7 @@ impl CommittedWriter {
 
     /// Publishes these changes, which observers see all at one step.
     ///
-    /// Where it finds no memory, the view is stale, and nothing is published any more.
+    /// Where it finds no memory, what observers read stays as it is for good: the view is stale.
     pub fn publish<R: Wait>(
         &mut self,
         rt: &R,

@@ -1,5 +1,5 @@
-//! What running threads may see without taking turns: the exception to which each place was resolved, with the notes of it, and the
-//! committed values of the objects.
+//! What running threads may see without taking turns: the exception to which each place was resolved, with the notes of it, and
+//! the committed values of the objects.
 #![tactic(auto)]
 
 mod board;
