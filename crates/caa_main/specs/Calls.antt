@@ -1,7 +1,7 @@
 -- What a call of the program comes to, and what it answers.
 use Rattle.std.specs.Prelude.{◌≡◌, ◌⊎◌, ℕ, ◌≤◌, if◌then◌else◌, true, List, [], length, Some, None, IfSome}
 use Rattle.std.specs.Io.KnownBytes.{append_known}
-use Rattle.caa_base.specs.Counts.{Rose}
+use Rattle.caa_base.specs.Counts.{counted_up}
 use Rattle.caa_base.specs.Reading.{emptied, TookUntil}
 use Rattle.caa_base.specs.Writing.{WrotePart}
 use Rattle.caa_base.specs.declared.entry.Entry.{Entry}
@@ -39,10 +39,10 @@ EndsAs plan journal seens (finding.Played failed text) = (failed ≡ has_failed_
 EndsAs plan journal seens finding.OutOfMemory = Unit {0}
 EndsAs plan journal seens _ = ⊥
 
--- no play began: the device refused to be laid out, or no memory was found
+-- no play began: the device refused once to be laid out, or no memory was found and it refused nothing
 abbrev pub DoesNotBegin : {P : Type 0} → Finding → Left P → Type 0
-DoesNotBegin finding.PlantFault left = Rose left.plant.lay_faults_before left.plant.lay_faults_after × IsUnplayed left
-DoesNotBegin finding.OutOfMemory left = IsUnplayed left
+DoesNotBegin finding.PlantFault left = (left.plant.lay_faults_after ≡ counted_up left.plant.lay_faults_before) × IsUnplayed left
+DoesNotBegin finding.OutOfMemory left = (left.plant.lay_faults_after ≡ left.plant.lay_faults_before) × IsUnplayed left
 DoesNotBegin _ left = ⊥
 
 -- `sim` plays the plan by the schedule of the seed, and nobody watches
@@ -112,12 +112,14 @@ pub record IsUsage {P : Type 0} (call : Call P) (found : Finding) : Type 0 where
   pub finding : found ≡ finding.Usage
   pub cause : call.asked ≡ None
   pub unread : call.source.left_after ≡ call.source.left_before
+  pub unfailed : call.source.faults_after ≡ call.source.faults_before
   pub idle : IsIdle call.left
 
--- a reading came to no end: a read failed, or the input has more bytes than that of the command may have, or no memory was found
+-- a reading came to no end: one read failed; or none did, and the input has more bytes than that of the command may have, or no
+-- memory was found
 abbrev pub HasStopped : SourceUse → ReadError → Type 0
-HasStopped source error.Fault = Rose source.faults_before source.faults_after
-HasStopped source _ = Unit {0}
+HasStopped source error.Fault = source.faults_after ≡ counted_up source.faults_before
+HasStopped source _ = source.faults_after ≡ source.faults_before
 
 -- what is found where the input wasn't read to its end
 abbrev pub unread_finding : ReadError → Finding
@@ -140,6 +142,7 @@ pub record WasRead (source : SourceUse) (most : ℕ) (bytes : List ℕ) : Type 0
   pub all : IfSome source.left_before (λ rest. bytes ≡ rest)
   pub fits : length bytes ≤ most
   pub ended : source.left_after ≡ emptied source.left_before
+  pub unfailed : source.faults_after ≡ source.faults_before
 
 -- the input was read, and this is what the command comes to over it
 pub record IsRead {P : Type 0} (call : Call P) (found : Finding) : Type 0 where
@@ -163,18 +166,19 @@ with_journal call journal = record { asked = call.asked; source = call.source; l
 abbrev pub journal_kept : Finding → List Entry → List Entry
 journal_kept found journal = if is_played found then journal else []
 
--- the whole text of what was found was written, and its status is answered
+-- the whole text of what was found was written without a failed write, and its status is answered
 pub record WroteAll (found : Finding) (journal handed : List Entry) (sink : SinkUse) (answer : Status) : Type 0 where
   pub kept : handed ≡ journal
   pub answered : answer ≡ status_of found
   pub written : sink.held_after ≡ append_known sink.held_before (finding_text found)
+  pub unfailed : sink.faults_after ≡ sink.faults_before
 
--- a write failed: the sink took a part of the text of what was found
+-- one write failed, and the sink took a part of the text of what was found
 pub record WasCutOff (found : Finding) (journal handed : List Entry) (sink : SinkUse) (answer : Status) : Type 0 where
   pub kept : handed ≡ journal_kept found journal
   pub answered : answer ≡ status.SinkFault
   pub part : WrotePart sink.held_before sink.held_after (finding_text found)
-  pub cause : Rose sink.faults_before sink.faults_after
+  pub cause : sink.faults_after ≡ counted_up sink.faults_before
 
 -- no memory was found for the text of what was found, and nothing was written
 pub record WasLost (found : Finding) (handed : List Entry) (sink : SinkUse) (answer : Status) : Type 0 where
@@ -182,6 +186,7 @@ pub record WasLost (found : Finding) (handed : List Entry) (sink : SinkUse) (ans
   pub large : needs_memory found ≡ true
   pub answered : answer ≡ status.OutOfMemory
   pub unwritten : sink.held_after ≡ sink.held_before
+  pub unfailed : sink.faults_after ≡ sink.faults_before
 
 -- what was found with this journal is told, and a journal is handed back
 abbrev pub Tells : Finding → List Entry → List Entry → SinkUse → Status → Type 0

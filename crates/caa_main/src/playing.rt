@@ -75,6 +75,7 @@ fn open<P: Plant>(alloc: Global, plan: Plan, plant: P) -> Result<PlainHall<P>, D
     ensures journal { IfOk result (λ hall. journal_in hall ≡ []) }
     ensures base { IfOk result (λ hall. base_in hall ≡ P.faults plant) }
     ensures count { IfOk result (λ hall. P.faults (plant_in hall) ≡ P.faults plant) }
+    ensures lay_count { IfOk result (λ hall. P.lay_faults (plant_in hall) ≡ P.lay_faults plant) }
     ensures refused { IfErr result (λ decision.
         DoesNotBegin decision.finding (left_of (plant_use ⟦<P as Plant>⟧ plant decision.plant) decision.journal.entries)) }
 {
