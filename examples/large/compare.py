@@ -143,6 +143,59 @@ def audits():
     ]
 
 
+# ---- scripts at their limits
+
+def nesting(name, lower, uses):
+    """The lines of an action of one role, which enters so many uses of another action, one after another."""
+    body = ["body r"] if uses else []
+    return ([f"action {name}", "roles r"] + [f"nest n{n} {lower} r" for n in range(uses)] + body
+            + [f"enter n{n}" for n in range(uses)] + ["end"])
+
+
+def own_bound(steps):
+    """The entries of a place with one role of so many steps, and without handlers and objects."""
+    return 8 + steps + 4
+
+
+def places(uses):
+    """A play with so many uses of an action that has 256 uses of a third one."""
+    return ["participant p"] + nesting("low", None, 0) + nesting("middle", "low", 256) + nesting("high", "middle", uses) + ["play high p"]
+
+
+def levels(depth, uses):
+    """A play of an action of this depth, of which each level has so many uses of the next."""
+    script = ["participant p"] + nesting("a1", None, 0)
+    for level in range(2, depth + 1):
+        script += nesting(f"a{level}", f"a{level - 1}", uses)
+    return script + [f"play a{depth} p"]
+
+
+def works(plays):
+    """So many plays of an action of 256 steps."""
+    return ["participant p", "action a", "roles r", "body r"] + ["work 0"] * 256 + ["end"] + ["play a p"] * plays
+
+
+def exceptions(count):
+    """A graph of so many exceptions, `universal` not among them, each of which covers the next."""
+    names = [f"e{n}" for n in range(count)]
+    return ["graph g"] + [f"exception {name}" for name in names] + [f"cover {a} {b}" for a, b in zip(names, names[1:])] + ["end"]
+
+
+def limits():
+    """Scripts at a limit and past it, with the status and the text of `check`."""
+    middle = own_bound(256) + 256 * own_bound(0)
+    past_places, deep = places(256), levels(8, 32)
+    return [
+        ("65,536 places", places(255), 0, f"ok participants 1 objects 0 places 65536 bound {own_bound(255) + 255 * middle}\n"),
+        ("one use more", past_places, 4, f"refused {len(past_places)} 19 limit\n"),
+        ("32 uses at each of eight levels", deep, 4, f"refused {len(deep)} 19 limit\n"),
+        ("a bound of 999,908", works(3731), 0, f"ok participants 1 objects 0 places 3731 bound {3731 * own_bound(256)}\n"),
+        ("one play more", works(3732), 4, f"refused {len(works(3732))} 20 journal-bound\n"),
+        ("a graph of 128", exceptions(127), 0, "ok participants 0 objects 0 places 0 bound 0\n"),
+        ("one exception more", exceptions(128), 4, "refused 129 19 limit\n"),
+    ]
+
+
 # ---- comparing
 
 wrong = []
@@ -164,6 +217,11 @@ def large_inputs(program):
     compare(f"sim {SEED} of it", program, ["sim", str(SEED)], 0, journal, input=script.encode())
     for name, given, status, text in audits():
         compare(f"audit: {name}", program, ["audit"], status, text, input=given.encode())
+
+
+def scripts_at_limits(program):
+    for name, script, status, text in limits():
+        compare(f"check: {name}", program, ["check"], status, text, input=lines(script).encode())
 
 
 def watched_run(program):
@@ -208,6 +266,7 @@ def statuses(program):
 
 
 large_inputs(sys.argv[1])
+scripts_at_limits(sys.argv[1])
 watched_run(sys.argv[1])
 statuses(sys.argv[1])
 sys.exit(1 if wrong else 0)

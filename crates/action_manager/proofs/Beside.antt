@@ -1,7 +1,7 @@
 -- Seats of one manager.
 use Rattle.std.proofs.Common.{◌≡◌, sym, ap, subst}
 use Rattle.atomic_table.specs.Seated.{TableId}
-use Rattle.action_manager.specs.declared.view.Terms.{Terms}
+use Rattle.action_manager.specs.declared.lock_view.Terms.{Terms}
 use Rattle.action_manager.specs.declared.seat.Seat.{Seat}
 use Rattle.action_manager.specs.Seats.{IsSeatOf, IsBeside}
 

@@ -2,9 +2,9 @@
 use Rattle.std.proofs.Common.{◌≡◌, ℕ, zero, suc, ◌+◌, List, [], ◌∷◌, ◌++◌, map, reverse, All, true, false, Option, refl, sym, ap, ◌∙◌, subst, arith, append_assoc, ◌⊎◌, inl, inr, ⊎_elim, ◌==◌, Bool, ◌||◌, true≢false}
 use Rattle.std.proofs.lemmas.List.{map-append, reverse-append}
 use Rattle.atomic_table.specs.Table.{Me}
-use Rattle.action_manager.specs.declared.view.Terms.{Terms}
+use Rattle.action_manager.specs.declared.lock_view.Terms.{Terms}
 use Rattle.action_manager.specs.declared.housed.Housed.{Housed}
-use Rattle.action_manager.specs.declared.view.View.{View}
+use Rattle.action_manager.specs.declared.lock_view.View.{View}
 use Rattle.action_manager.specs.declared.seat.Seat.{Seat}
 use Rattle.action_manager.specs.Turns.{held, both_of, Has, Stands}
 use Rattle.action_manager.specs.OwnEntries.{Journal, entries_by}

@@ -8,8 +8,8 @@ use lib.Seq.{set-get_or}
 use prog.Atomic.{either}
 use Rattle.atomic_table.specs.Table.{State, Me, Act, Step, keeps, takes, gives, Valid, carried_after, rest, step, stepped, Allows, Splits, Joins, Final, Seen, opening}
 use Rattle.atomic_table.proofs.Lists.{at_set, set_here, set_else, set_again, at_longer}
-use Rattle.action_manager.specs.declared.view.View.{View}
-use Rattle.action_manager.specs.declared.view.Terms.{Terms}
+use Rattle.action_manager.specs.declared.lock_view.View.{View}
+use Rattle.action_manager.specs.declared.lock_view.Terms.{Terms}
 use Rattle.action_manager.specs.OwnEntries.{Journal, Grows}
 use Rattle.action_manager.specs.Turns.{rested, maker, spent_view, both_of, held_if, held, Has, Stands, one_if, holders, Fits, IsAt, AtHome, Out, Kept, Returned, Drew, Came, Looked, HandedOn}
 

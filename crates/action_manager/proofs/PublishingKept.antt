@@ -50,14 +50,6 @@ publishes_none plan past w none initials list =
     let same : w.publications.list ≡ published plan past = list ∙ sym (none_published plan past none) in
     record { initials = initials; first = subst (IsPrefix w.publications.list) same (begins_itself w.publications.list); all = λ fresh. same }
 
--- an entry that ends no play changes nothing
-pub not_an_end : (plan : Plan) (past : List Entry) (e : Entry) (w : Committed) → ends_play plan e ≡ false → Publishes plan past w → Publishes plan (e ∷ past) w
-not_an_end plan past e w other k = let same = sym (none_more plan past e other) in record {
-  initials = k.initials;
-  first = subst (IsPrefix w.publications.list) same k.first;
-  all = λ fresh. k.all fresh ∙ same;
-}
-
 was_fresh : {X : Type 0} (b : Bool) → (b ≡ true → X) → (X → ⊥) → b ≡ false
 was_fresh true told never = absurd (never (told refl))
 was_fresh false told never = refl

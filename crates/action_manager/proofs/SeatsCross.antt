@@ -10,13 +10,13 @@ use Rattle.atomic_table.proofs.shared.Seat.TheSendSync as token_crosses
 use Rattle.shared_views.proofs.bulletin.Told.TheSendSync as told_crosses
 use Rattle.shared_views.proofs.cells.ResolutionCells.TheSendSync as cells_cross
 use Rattle.shared_views.proofs.Sent.{bulletin_send}
-use Rattle.shared_views.proofs.committed.CommittedWriter.TheSendSync as writer_crosses
+use Rattle.shared_views.proofs.committed_writer.CommittedWriter.TheSendSync as writer_crosses
 use Rattle.place_plan.specs.declared.machine.Machine as machine
 use Rattle.action_manager.specs.contracts.publishing.Publishing as publishing
 use Rattle.action_manager.specs.contracts.housed.Housed as housed
 use Rattle.action_manager.specs.contracts.housed.HousedHome.TheImpl as home
 use Rattle.action_manager.specs.contracts.seat.Seat as seat
-use Rattle.action_manager.specs.contracts.view.View as view
+use Rattle.action_manager.specs.contracts.lock_view.View as view
 use Rattle.action_manager.specs.contracts.manager.Manager as manager
 use Rattle.action_manager.proofs.handed.Handed.TheSendSync as handed_crosses
 use Rattle.action_manager.proofs.lock.Lock.TheSendSync as lock_crosses

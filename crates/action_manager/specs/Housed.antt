@@ -3,20 +3,20 @@ use Rattle.std.specs.Prelude.{◌≡◌, ℕ, List, length, reverse, vec_capacit
 use Rattle.caa_base.specs.declared.entry.Entry.{Entry}
 use Rattle.place_plan.specs.PlanValue.{Plan}
 use Rattle.shared_views.specs.Telling.{cells_of, KeepsUp}
-use Rattle.action_manager.specs.declared.view.Terms.{Terms}
+use Rattle.action_manager.specs.declared.lock_view.Terms.{Terms}
 use Rattle.action_manager.specs.declared.housed.Housed.{Housed}
 use Rattle.action_manager.specs.Publishing.{Publishes, HasRoom, book_of}
 
--- the bulletin keeps up with the machine's journal, by one cell for each place; what its ended plays publish was published, as far as
--- memory was found, and there is room for the changes of any play
+-- the bulletin keeps up with the machine's journal, by one cell for each place; what its ended plays publish was published, as
+-- far as memory was found, and there is room for the changes of any play
 pub record IsKept {M : Type 0} (plan_of : M → Plan) (journal_of : M → List Entry) (h : Housed M) : Type 0 where
   pub keeps_up : KeepsUp (reverse (journal_of h.machine)) h.bulletin
   pub wide : length (cells_of h.bulletin) ≡ length (plan_of h.machine).places
   pub publishes : Publishes (plan_of h.machine) (reverse (journal_of h.machine)) h.publishing.writer
   pub room : HasRoom (plan_of h.machine) (vec_capacity h.publishing.changes)
 
--- the machine has the plan and the base of the terms, and what is beside it keeps up with its journal, by their cells and in their
--- list of publications
+-- plan and base of the machine are those of the terms, and what lies beside it keeps up with its journal, by the cells of the
+-- terms and in their list of publications
 pub record IsRight {M : Type 0} (plan_of : M → Plan) (base_of : M → ℕ) (journal_of : M → List Entry) (terms : Terms) (h : Housed M) : Type 0 where
   pub plan : plan_of h.machine ≡ terms.plan
   pub base : base_of h.machine ≡ terms.base

@@ -4,7 +4,7 @@ use Rattle.atomic_table.specs.Seated.{TableId}
 use Rattle.place_plan.specs.PlanValue.{Plan}
 use Rattle.logbook.specs.Pages.{Book}
 use Rattle.shared_views.specs.Telling.{cells_of}
-use Rattle.action_manager.specs.declared.view.Terms.{Terms}
+use Rattle.action_manager.specs.declared.lock_view.Terms.{Terms}
 use Rattle.action_manager.specs.declared.manager.Manager.{Manager}
 use Rattle.action_manager.specs.Publishing.{book_of}
 use Rattle.action_manager.specs.Turns.{terms_of}
@@ -36,6 +36,6 @@ book_in manager = book_of (home_at manager.lock).publishing
 abbrev pub terms_in : {M : Type 0} → (M → ℕ) → Manager M → Terms
 terms_in base_of manager = terms_of (plan_in manager) (base_of (handed_in manager)) (cells_in manager) (book_in manager)
 
--- the seat was opened by this manager, and is at rest
+-- the seat is one of this manager's, and is at rest
 abbrev pub IsSeatIn : {M : Type 0} → (M → ℕ) → Manager M → Seat M → Type 0
 IsSeatIn base_of manager seat = IsSeatOf (table_of manager) (terms_in base_of manager) seat

@@ -25,7 +25,8 @@ abbrev pub published : Plan → List Entry → List Changes
 published plan [] = []
 published plan (e ∷ past) = if ends_play plan e then published plan past ++ values_of plan (e ∷ past) e.place ∷ [] else published plan past
 
--- the writer has published the ends of the first plays that ended in this past, and of all of them unless it found no memory once
+-- the writer has published for each play that ended in this past, in order, up to some play; up to the last one unless it found
+-- no memory once
 pub record Publishes (plan : Plan) (past : List Entry) (w : Committed) : Type 0 where
   pub initials : w.initials ≡ initials_of plan
   pub first : IsPrefix w.publications.list (published plan past)

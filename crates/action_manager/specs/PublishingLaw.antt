@@ -7,6 +7,7 @@ use Rattle.shared_views.specs.Publications.{value_after}
 use Rattle.shared_views.specs.Committing.{initials_of}
 use Rattle.action_manager.specs.Publishing.{published}
 
+-- what was published, play by play, gives the committed values
 pub record PublishingLaw (plan : Plan) (past : List Entry) : Type 0 where
   -- each play that has ended published once
   pub count : length (published plan past) ≡ length (plays_ended plan past)

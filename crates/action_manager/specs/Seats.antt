@@ -8,8 +8,8 @@ use Rattle.shared_views.specs.declared.bulletin.Told.{Told}
 use Rattle.shared_views.specs.declared.bulletin.Told.TheVariants as told
 use Rattle.action_manager.specs.OwnEntries.{Journal, entries_by}
 use Rattle.action_manager.specs.Stepping.{IsAtRest}
-use Rattle.action_manager.specs.declared.view.Terms.{Terms}
-use Rattle.action_manager.specs.declared.view.View.{View}
+use Rattle.action_manager.specs.declared.lock_view.Terms.{Terms}
+use Rattle.action_manager.specs.declared.lock_view.View.{View}
 use Rattle.action_manager.specs.declared.housed.Housed.{Housed}
 use Rattle.action_manager.specs.declared.seat.Seat.{Seat}
 

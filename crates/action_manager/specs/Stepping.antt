@@ -7,8 +7,8 @@ use Rattle.place_plan.specs.PlanValue.{Plan}
 use Rattle.place_plan.specs.Journals.{IsLegal}
 use Rattle.place_plan.specs.Machine.{Answers}
 use Rattle.place_plan.specs.declared.machine.Answer.{Answer}
-use Rattle.action_manager.specs.declared.view.Terms.{Terms}
-use Rattle.action_manager.specs.declared.view.View.{View}
+use Rattle.action_manager.specs.declared.lock_view.Terms.{Terms}
+use Rattle.action_manager.specs.declared.lock_view.View.{View}
 use Rattle.action_manager.specs.OwnEntries.{Journal, entries_by}
 use Rattle.action_manager.specs.Turns.{rested}
 

@@ -9,7 +9,8 @@ use Rattle.shared_views.specs.declared.bulletin.Told.TheVariants as told
 use Rattle.action_manager.specs.declared.seat.NoNote.{NoNote}
 use Rattle.action_manager.specs.declared.seat.NoNote.TheVariants as no_note
 
--- after a Resolve or a Handle it is a note of its place that knows its exception, or the refusal of that place; else nothing
+-- after a Resolve or a Handle it is a note of that place, in which the exception of the entry is known, or the place's refusal;
+-- else nothing
 abbrev pub TellsAfter : List ℕ → Answer → Told → Type 0
 TellsAfter cells (answer.Did e) t = TellsOf e.kind cells e t
 TellsAfter cells (answer.Work p rounds from) t = t ≡ told.Nothing

@@ -7,9 +7,10 @@ use Rattle.atomic_table.specs.Table.{State, Me, Step}
 use Rattle.logbook.specs.Pages.{Book}
 use Rattle.place_plan.specs.PlanValue.{Plan}
 use Rattle.action_manager.specs.OwnEntries.{Journal, entries_by}
-use Rattle.action_manager.specs.declared.view.View.{View}
-use Rattle.action_manager.specs.declared.view.Terms.{Terms}
+use Rattle.action_manager.specs.declared.lock_view.View.{View}
+use Rattle.action_manager.specs.declared.lock_view.Terms.{Terms}
 
+-- what a machine keeps to: its plan, its base, the cells of its places and its list of publications
 abbrev pub terms_of : Plan → ℕ → List ℕ → Book → Terms
 terms_of plan base cells book = record { plan = plan; base = base; cells = cells; book = book }
 
@@ -47,12 +48,15 @@ maker terms n j =
       taken = [];
     }
 
+-- a plan of nothing
 abbrev pub no_plan : Plan
 no_plan = record { participants = []; objects = []; graphs = []; actions = []; places = []; plays = []; drills = []; watches = [] }
 
+-- a list of publications that names nothing
 abbrev pub no_book : Book
 no_book = record { number = 0; log_name = 0; cells_name = 0 }
 
+-- the view of a seat that another has taken in
 abbrev pub spent_view : View
 spent_view =
     record {
@@ -73,14 +77,16 @@ spent_view =
 abbrev pub both_of : View → View → View
 both_of v w = record v { taken = v.taken ++ (w.who, w.seen) ∷ w.taken }
 
--- the participants that a view stands for, each with what its seat had seen
+-- a participant with what its seat had seen, and those behind it, where the seat is a participant's; else none
 abbrev pub held_if : Bool → ℕ → Journal → List (ℕ × Journal) → List (ℕ × Journal)
 held_if true who seen taken = (who, seen) ∷ taken
 held_if false who seen taken = []
 
+-- the participants that a view stands for, each with what its seat had seen
 abbrev pub held : View → List (ℕ × Journal)
 held v = held_if v.seated v.who v.seen v.taken
 
+-- participant t is among them
 abbrev pub Has : ℕ → List (ℕ × Journal) → Type 0
 Has t [] = ⊥
 Has t (x ∷ xs) = (x.0 ≡ t) ⊎ Has t xs
@@ -90,9 +96,11 @@ abbrev pub Stands : Journal → List (ℕ × Journal) → Type 0
 Stands book [] = Unit {0}
 Stands book (x ∷ xs) = (IsPrefix x.1 book × (entries_by x.0 book ≡ entries_by x.0 x.1)) × Stands book xs
 
+-- all that a view has seen, for each participant that it stands for, begins the book
 abbrev pub Fits : Journal → View → Type 0
 Fits book v = IsPrefix v.seen book × Stands book (held v)
 
+-- 1 where it holds, and else 0
 abbrev pub one_if : Bool → ℕ
 one_if true = 1
 one_if false = 0
@@ -102,6 +110,7 @@ abbrev pub holders : List View → ℕ
 holders [] = 0
 holders (v ∷ vs) = one_if v.holds + holders vs
 
+-- the view of number j is v
 abbrev pub IsAt : List View → ℕ → View → Type 0
 IsAt vs j v = get_elem? vs j ≡ some v
 
@@ -130,6 +139,7 @@ module _ {M : Type 0} (terms : Terms) (its_journal : Journal) (Right : Terms →
     pub later : Later made view.book
     pub each : (j : ℕ) (v : View) → IsAt s.views j v → (v.has_book ≡ true → j ≡ holder) × Fits view.book v
 
+  -- what holds of the table after every step
   pub record Kept (s : State (Option M) View) : Type 0 where
     -- how many seats were made
     pub made : ℕ
@@ -138,8 +148,10 @@ module _ {M : Type 0} (terms : Terms) (its_journal : Journal) (Right : Terms →
     pub homes : length s.homes ≡ 1
     -- the ticket rule
     pub counted : slice_index s.words 0 ≡ slice_index s.words 1 + holders s.views
-    pub tickets : (j : ℕ) (v : View) → IsAt s.views j v → v.holds ≡ true → (slice_index s.words 1 ≤ v.ticket) × (v.ticket < slice_index s.words 0)
-    pub apart : (i j : ℕ) (v w : View) → IsAt s.views i v → IsAt s.views j w → v.holds ≡ true → w.holds ≡ true → v.ticket ≡ w.ticket → i ≡ j
+    pub tickets : (j : ℕ) (v : View) → IsAt s.views j v → v.holds ≡ true
+        → (slice_index s.words 1 ≤ v.ticket) × (v.ticket < slice_index s.words 0)
+    pub apart : (i j : ℕ) (v w : View) → IsAt s.views i v → IsAt s.views j w → v.holds ≡ true → w.holds ≡ true
+        → v.ticket ≡ w.ticket → i ≡ j
     -- the book rule
     pub turn : (j : ℕ) (v : View) → IsAt s.views j v → v.has_book ≡ true → (v.holds ≡ true) × (v.ticket ≡ slice_index s.words 1)
     pub plain : (j : ℕ) (v : View) → IsAt s.views j v → v.holds ≡ true → (v.seated ≡ true) × (v.taken ≡ [])

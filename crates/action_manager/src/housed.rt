@@ -49,7 +49,7 @@ impl<M: Machine> Housed<M> {
     ghost use Rattle.action_manager.specs.Housed.{IsKept};
     ghost use Rattle.action_manager.specs.Tidings.{TellsAfter};
 
-    /// Makes the entry of a participant, and takes it in: a Resolve is announced, and the end of a play is published.
+    /// Makes the entry of a participant, and takes it in: it announces a Resolve, and publishes where a play ends.
     pub fn next<R: Wait>(
         &mut self,
         rt: &R,
@@ -65,7 +65,8 @@ impl<M: Machine> Housed<M> {
         ensures cells { cells_of self.new.bulletin ≡ cells_of self.old.bulletin }
         ensures book { book_of self.new.publishing ≡ book_of self.old.publishing }
         ensures kept { IsKept M.plan_of M.journal_of self.new }
-        ensures answer { Answers (M.plan_of self.old.machine) (M.journal_of self.old.machine) (M.journal_of self.new.machine) by hint result.0 }
+        ensures answer { Answers (M.plan_of self.old.machine) (M.journal_of self.old.machine) (M.journal_of self.new.machine)
+            by hint result.0 }
         ensures told { TellsAfter cells.now result.0 result.1 }
     {
         let answer = self.machine.next(by, hint);

@@ -6,12 +6,12 @@ mod handed;
 mod home;
 mod housed;
 mod lock;
+mod lock_view;
 mod manager;
 mod publishing;
 mod publishing_law;
 mod seat;
 mod turns;
-mod view;
 
 pub use crossing::crosses_threads;
 pub use manager::{Closed, Manager, ManagerError, Opened, StillOut};

@@ -29,7 +29,8 @@ impl<H: Home> Lock<H> {
         requires right { H.right (H.terms plan.value home) home }
         ensures home { IfOk result (λ r. home_at r.0 ≡ home) }
         ensures plan { IfOk result (λ r. plan_at r.0 ≡ plan.value) }
-        ensures making { IfOk result (λ r. (r.1.table_id ≡ id_of r.0) × (r.1.me ≡ (maker (H.terms plan.value home) 0 (H.journal home), []))) }
+        ensures making { IfOk result (λ r.
+            (r.1.table_id ≡ id_of r.0) × (r.1.me ≡ (maker (H.terms plan.value home) 0 (H.journal home), []))) }
         ensures refused { IfErr result (λ h. h ≡ home) }
     {
         let about = About {
@@ -53,12 +54,18 @@ impl<H: Home> Lock<H> {
     /// Making a seat: the maker cuts off one for the next participant.
     pub fn make_seat(&self, making: &mut Token<H>) -> Token<H>
         requires table { making.old.table_id ≡ id_of self.now }
-        requires making { making.old.me ≡ (maker (H.terms (plan_at self.now) (home_at self.now)) making.old.me.0.next (H.journal (home_at self.now)), []) }
+        requires making { making.old.me
+            ≡ (maker (H.terms (plan_at self.now) (home_at self.now)) making.old.me.0.next (H.journal (home_at self.now)), []) }
         requires room { making.old.me.0.next < length (H.terms (plan_at self.now) (home_at self.now)).plan.participants }
         ensures table { (making.new.table_id ≡ making.old.table_id) × (result.table_id ≡ id_of self.now) }
         ensures making { making.new.me
-            ≡ (maker (H.terms (plan_at self.now) (home_at self.now)) (making.old.me.0.next + 1) (H.journal (home_at self.now)), []) }
-        ensures seat { result.me ≡ (rested (H.terms (plan_at self.now) (home_at self.now)) making.old.me.0.next (H.journal (home_at self.now)), []) }
+            ≡ (
+              maker (H.terms (plan_at self.now) (home_at self.now)) (making.old.me.0.next + 1)
+                  (H.journal (home_at self.now)),
+              [],
+            ) }
+        ensures seat { result.me
+            ≡ (rested (H.terms (plan_at self.now) (home_at self.now)) making.old.me.0.next (H.journal (home_at self.now)), []) }
     {
         self.table.shared.split_seat::<Making>(making)
     }
@@ -74,13 +81,15 @@ impl<H: Home> Lock<H> {
         self.table.shared.join_seat::<TakesIn>(kept, other);
     }
 
-    /// Drawing a ticket, tried again until it succeeds. At the last number it goes on trying.
+    /// Draws a ticket: tries to count the next number up, and where another seat was first, tries again. At the last number it
+    /// goes on trying.
     fn draw<R: Wait>(&self, rt: &R, token: &mut Token<H>) -> u64
         requires token { (token.old.table_id ≡ id_of self.now) × (token.old.me.1 ≡ []) }
         requires idle { (token.old.me.0.holds ≡ false) × (token.old.me.0.has_book ≡ false) × (token.old.me.0.seated ≡ true)
             × (token.old.me.0.taken ≡ []) }
         ensures token { (token.new.table_id ≡ token.old.table_id) × (token.new.id ≡ token.old.id) }
-        ensures view { token.new.me ≡ (record token.old.me.0 { holds = true; ticket = result }, []) }
+        ensures view { token.new.me
+            ≡ (record token.old.me.0 { holds = true; ticket = result }, []) }
         ensures room { result + 1 < 2 ^ 64 }
     {
         for _ in rt.forever() {
@@ -105,7 +114,8 @@ impl<H: Home> Lock<H> {
         requires waits { (token.old.me.0.holds ≡ true) × (token.old.me.0.has_book ≡ false) × (token.old.me.0.ticket ≡ ticket) }
         requires about { token.old.me.0.terms ≡ H.terms (plan_at self.now) (home_at self.now) }
         ensures token { (token.new.table_id ≡ token.old.table_id) × (token.new.id ≡ token.old.id) }
-        ensures view { token.new.me ≡ (record token.old.me.0 { has_book = true; book = H.journal result }, (0, Rattle.std.specs.Prelude.None) ∷ []) }
+        ensures view { token.new.me
+            ≡ (record token.old.me.0 { has_book = true; book = H.journal result }, (0, Rattle.std.specs.Prelude.None) ∷ []) }
         ensures right { H.right token.old.me.0.terms result }
         ensures seen { Fits (H.journal result) token.old.me.0 }
     {
@@ -120,7 +130,8 @@ impl<H: Home> Lock<H> {
 
     /// Waits for the seat's turn, and takes what lies in the slot.
     pub fn begin<R: Wait>(&self, rt: &R, token: &mut Token<H>) -> (u64, H)
-        requires token { (token.old.table_id ≡ id_of self.now) × IsAtRest (H.terms (plan_at self.now) (home_at self.now)) token.old.me }
+        requires token { (token.old.table_id ≡ id_of self.now)
+            × IsAtRest (H.terms (plan_at self.now) (home_at self.now)) token.old.me }
         ensures token { (token.new.table_id ≡ token.old.table_id) × (token.new.id ≡ token.old.id) }
         ensures view { token.new.me
             ≡ (
@@ -139,7 +150,8 @@ impl<H: Home> Lock<H> {
     /// Bringing it back, and handing on.
     pub fn hand_on(&self, token: &mut Token<H>, ticket: u64, home: H)
         requires token { (token.old.table_id ≡ id_of self.now) × (token.old.me.1 ≡ (0, Rattle.std.specs.Prelude.None) ∷ []) }
-        requires turn { (token.old.me.0.holds ≡ true) × (token.old.me.0.has_book ≡ true) × (token.old.me.0.ticket ≡ ticket) × (ticket + 1 < 2 ^ 64) }
+        requires turn { (token.old.me.0.holds ≡ true) × (token.old.me.0.has_book ≡ true)
+            × (token.old.me.0.ticket ≡ ticket) × (ticket + 1 < 2 ^ 64) }
         requires right { H.right (H.terms (plan_at self.now) (home_at self.now)) home }
         requires grown { Grows token.old.me.0.who token.old.me.0.book (H.journal home) }
         ensures token { (token.new.table_id ≡ token.old.table_id) × (token.new.id ≡ token.old.id) }

@@ -1,4 +1,4 @@
-ghost use Rattle.std.specs.Prelude.{ℕ, ◌≡◌, ◌+◌, ◌<◌, [], ◌∷◌, length, map, replicate, reverse, All, true, false, IsTrue, ◌↔◌, IfOk, IfErr, OnOk, IfSome, IfNone, vec_capacity};
+ghost use Rattle.std.specs.Prelude.{ℕ, ◌≡◌, ◌+◌, ◌<◌, [], ◌∷◌, length, map, replicate, reverse, All, false, IsTrue, ◌↔◌, IfOk, IfErr, OnOk, IfSome, IfNone, vec_capacity};
 ghost use mathlib.Core.List.{IsPrefix};
 ghost use Rattle.std.specs.List.{range_with_len};
 ghost use Rattle.place_plan.specs.Journals.{plays_ended};
@@ -109,7 +109,8 @@ fn own_counts<M: Machine>(
     machine: &M,
     participants: u32,
 ) -> Result<Vec<u64>, AllocError>
-    ensures { IfOk result (λ counts. counts.items ≡ map (λ t. length (entries_by t (M.journal_of machine.now))) (range_with_len 0 participants)) }
+    ensures { IfOk result (λ counts.
+        counts.items ≡ map (λ t. length (entries_by t (M.journal_of machine.now))) (range_with_len 0 participants)) }
 {
     let mut counts = Vec::new(alloc);
     for by in 0..participants {
@@ -176,13 +177,15 @@ impl<M: Machine> Manager<M> {
         made: u64,
     ) -> Seat<M>
         requires table { making.old.table_id ≡ table_of self.now }
-        requires making { making.old.me ≡ (maker (terms_in M.base_of self.now) making.old.me.0.next (M.journal_of (handed_in self.now)), []) }
+        requires making { making.old.me
+            ≡ (maker (terms_in M.base_of self.now) making.old.me.0.next (M.journal_of (handed_in self.now)), []) }
         requires who { participant ≡ making.old.me.0.next }
         requires room { making.old.me.0.next < length (plan_in self.now).participants }
         requires seen { seen ≡ length (M.journal_of (handed_in self.now)) }
         requires made { made ≡ length (entries_by making.old.me.0.next (M.journal_of (handed_in self.now))) }
         ensures table { making.new.table_id ≡ making.old.table_id }
-        ensures making { making.new.me ≡ (maker (terms_in M.base_of self.now) (making.old.me.0.next + 1) (M.journal_of (handed_in self.now)), []) }
+        ensures making { making.new.me
+            ≡ (maker (terms_in M.base_of self.now) (making.old.me.0.next + 1) (M.journal_of (handed_in self.now)), []) }
         ensures who { participant_of result ≡ making.old.me.0.next }
         ensures new { IsNewSeat (table_of self.now) (terms_in M.base_of self.now) (M.journal_of (handed_in self.now)) result }
     {
@@ -207,10 +210,12 @@ impl<M: Machine> Manager<M> {
         requires table { making.table_id ≡ table_of self.now }
         requires making { making.me ≡ (maker (terms_in M.base_of self.now) 0 (M.journal_of (handed_in self.now)), []) }
         requires room { (seats.items ≡ []) × (vec_capacity seats ≡ self.now.participants) }
-        requires counts { counts.items ≡ map (λ t. length (entries_by t (M.journal_of (handed_in self.now)))) (range_with_len 0 self.now.participants) }
+        requires counts { counts.items
+            ≡ map (λ t. length (entries_by t (M.journal_of (handed_in self.now)))) (range_with_len 0 self.now.participants) }
         requires seen { seen ≡ length (M.journal_of (handed_in self.now)) }
         ensures order { map participant_of result.items ≡ range_with_len 0 self.now.participants }
-        ensures new { All (λ s. IsNewSeat (table_of self.now) (terms_in M.base_of self.now) (M.journal_of (handed_in self.now)) s) result.items }
+        ensures new { All (λ s. IsNewSeat (table_of self.now) (terms_in M.base_of self.now) (M.journal_of (handed_in self.now)) s)
+            result.items }
     {
         for by in 0..self.participants {
             seats.push_reserved(self.make_seat(&mut making, by, seen, counts[by as usize]));
@@ -221,8 +226,8 @@ impl<M: Machine> Manager<M> {
 
     /// A manager round a machine, a seat for each participant, in order, and so many observers.
     ///
-    /// Each seat has seen the journal that the machine has, in which nothing is resolved yet and no play has ended. At `Err` no memory
-    /// was found, and the machine comes back as it was.
+    /// Each seat has seen the journal that the machine has, in which nothing is resolved yet and no play has ended. At `Err` no
+    /// memory was found, and the machine comes back as it was.
     pub fn open<R: Wait>(
         rt: &R,
         alloc: Global,
@@ -233,10 +238,12 @@ impl<M: Machine> Manager<M> {
         requires none_ended { plays_ended (M.plan_of machine) (reverse (M.journal_of machine)) ≡ [] }
         ensures machine { IfOk result (λ o. handed_in o.manager ≡ machine) }
         ensures plan { IfOk result (λ o. plan_in o.manager ≡ M.plan_of machine) }
-        ensures order { IfOk result (λ o. map participant_of o.seats.items ≡ range_with_len 0 (length (M.plan_of machine).participants)) }
+        ensures order { IfOk result (λ o.
+            map participant_of o.seats.items ≡ range_with_len 0 (length (M.plan_of machine).participants)) }
         ensures new { IfOk result (λ o.
             All (λ s. IsNewSeat (table_of o.manager) (terms_in M.base_of o.manager) (M.journal_of machine) s) o.seats.items) }
-        ensures observers { IfOk result (λ o. o.observers.items ≡ replicate observers (new_observer (M.plan_of machine) (book_in o.manager))) }
+        ensures observers { IfOk result (λ o.
+            o.observers.items ≡ replicate observers (new_observer (M.plan_of machine) (book_in o.manager))) }
         ensures refused { IfErr result (λ e. e.machine ≡ machine) }
     {
         let participants = machine.plan().participants();

@@ -56,7 +56,8 @@ impl Publishing {
         observers: u32,
     ) -> Result<(Publishing, Vec<Observer>), OutOfMemory>
         ensures room { IfOk result (λ r. HasRoom plan.now (vec_capacity r.0.changes)) }
-        ensures publishes { IfOk result (λ r. (past : List JournalEntry) → plays_ended plan.now past ≡ [] → Publishes plan.now past r.0.writer) }
+        ensures publishes { IfOk result (λ r. (past : List JournalEntry)
+            → plays_ended plan.now past ≡ [] → Publishes plan.now past r.0.writer) }
         ensures observers { IfOk result (λ r. r.1.items ≡ replicate observers (new_observer plan.now (book_of r.0))) }
     {
         let changes = room_for(alloc, plan)?;
@@ -86,7 +87,7 @@ impl Publishing {
         }
     }
 
-    /// Takes in the entry that a machine made last: the end of a play is published.
+    /// Takes in the entry that a machine made last, and publishes where it ends a play.
     pub fn take_in<M: Machine, R: Wait>(&mut self, rt: &R, machine: &M, entry: Entry)
         requires last { (past : List JournalEntry) × (reverse (M.journal_of machine.now) ≡ entry ∷ past) }
         requires room { HasRoom (M.plan_of machine.now) (vec_capacity self.old.changes) }
@@ -94,7 +95,8 @@ impl Publishing {
         ensures room { vec_capacity self.new.changes ≡ vec_capacity self.old.changes }
         ensures book { book_of self.new ≡ book_of self.old }
         ensures publishes { (past : List JournalEntry) → reverse (M.journal_of machine.now) ≡ entry ∷ past
-            → Publishes (M.plan_of machine.now) past self.old.writer → Publishes (M.plan_of machine.now) (entry ∷ past) self.new.writer }
+            → Publishes (M.plan_of machine.now) past self.old.writer
+            → Publishes (M.plan_of machine.now) (entry ∷ past) self.new.writer }
     {
         is_well_formed(machine.plan());
         if ends_play(machine.plan(), &entry) {

@@ -1,5 +1,5 @@
 use crate::home::Home;
-use crate::view::View;
+use crate::lock_view::View;
 use atomic_table::{Join, Play, Seat as TableSeat, Split, Table, TableRule};
 use place_plan::plan::Plan;
 use std::alloc::Global;

@@ -24,6 +24,7 @@ use Rattle.caa_main.specs.Scripts.{HasPlan, IsRefusedScript}
 use Rattle.caa_main.specs.OutsideUse.{SinkUse, Left, Call}
 use Rattle.caa_main.specs.Calls.{CheckComesTo, EndsAs, DoesNotBegin, AuditComesTo, PlanComesTo, InputComesTo, IsNotServed, IsUnread, IsRead, HasStopped, unread_finding, CameTo, with_journal, Tells, Answers}
 use Rattle.caa_main.specs.Served.{IsGiven, WasTold, IsServable, WasServed, IsToFind, legal_journal, illegal_line, too_many_entries, IsAuditable, HoldsRefused, IsRefusable, WasRefused, MissesNothing}
+use Rattle.caa_base.proofs.Counting.{counted_up-rose}
 use Rattle.caa_main.proofs.NotRefused.{plan_not_refused}
 use Rattle.caa_main.proofs.PlansOfScripts.{plan_short, plan_tells}
 use Rattle.caa_main.proofs.FoundAlone.{found_alone}
@@ -43,7 +44,7 @@ module _ {P : Type 0} (call : Call P) (sink : SinkUse) (c : Command) (bytes : Li
 
   -- an input that isn't too long was read, or memory was wanting
   stopped : (most : ℕ) (e : ReadError) → length bytes ≤ most → TookUntil call.source.left_before call.source.left_after most e → HasStopped call.source e → unread_finding e ≡ finding.OutOfMemory
-  stopped most error.Fault short taken cause = absurd (given.read cause)
+  stopped most error.Fault short taken cause = absurd (given.read (counted_up-rose _ _ cause))
   stopped most error.TooLong short taken cause =
       absurd (not_too_long bytes call.source.left_after most short (subst (λ (o : Option (List ℕ)). TookOff o call.source.left_after (most + 1)) given.told taken))
   stopped most error.OutOfMemory short taken cause = refl
@@ -76,7 +77,7 @@ was_told : (found other : Finding) (journal handed : List Entry) (sink : SinkUse
     → (other ≡ found) ⊎ (other ≡ finding.OutOfMemory) → Tells other journal handed sink answer → WasTold found sink answer
 was_told found other journal handed sink answer quiet (inl same) (inl whole) = inl (whole.answered ∙ ap status_of same, whole.written ∙ ap (λ f. append_known sink.held_before (finding_text f)) same)
 was_told found other journal handed sink answer quiet (inr lost) (inl whole) = inr (whole.answered ∙ ap status_of lost)
-was_told found other journal handed sink answer quiet one (inr (inl cut)) = absurd (quiet cut.cause)
+was_told found other journal handed sink answer quiet one (inr (inl cut)) = absurd (quiet (counted_up-rose _ _ cut.cause))
 was_told found other journal handed sink answer quiet one (inr (inr lost)) = inr lost.answered
 
 -- ---- a script that has a plan
@@ -117,7 +118,7 @@ ended_served plan journal seens (finding.Illegal line) h = elim h [ ]
 
 -- where the device could be laid out, a play that didn't begin found no memory
 begun_served : {P : Type 0} (found : Finding) (left : Left P) → (Rose left.plant.lay_faults_before left.plant.lay_faults_after → ⊥) → DoesNotBegin found left → WasServed (status_of found)
-begun_served finding.PlantFault left laid h = absurd (laid h.0)
+begun_served finding.PlantFault left laid h = absurd (laid (counted_up-rose _ _ h.0))
 begun_served finding.OutOfMemory left laid h = inr (inr refl)
 begun_served finding.Usage left laid h = elim h [ ]
 begun_served finding.SourceFault left laid h = elim h [ ]
@@ -179,7 +180,7 @@ answer_served call sink answer a h = by a.tells
   where
     by : Tells a.finding a.journal call.left.journal sink answer → WasServed answer
     by (inl whole) = subst WasServed (sym whole.answered) (found_served call sink h a.journal a.finding a.came)
-    by (inr (inl cut)) = absurd (h.given.written cut.cause)
+    by (inr (inl cut)) = absurd (h.given.written (counted_up-rose _ _ cut.cause))
     by (inr (inr lost)) = inr (inr lost.answered)
 
 -- ---- `audit`
@@ -237,7 +238,7 @@ module _ {P : Type 0} (call : Call P) (sink : SinkUse) (c : Command) (bytes : Li
   long_refused long (inr (inl u)) = by u.error u.finding u.cause
     where
       by : (e : ReadError) → found ≡ unread_finding e → HasStopped call.source e → IsRefusal found
-      by error.Fault same cause = absurd (given.read cause)
+      by error.Fault same cause = absurd (given.read (counted_up-rose _ _ cause))
       by error.TooLong same cause = inl (ap status_of same)
       by error.OutOfMemory same cause = inr same
   long_refused long (inr (inr r)) =
@@ -265,7 +266,7 @@ answer_refused call sink answer a h = by (found_refused call sink h a.journal a.
     by : IsRefusal a.finding → Tells a.finding a.journal call.left.journal sink answer → WasRefused answer
     by (inl refused) (inl whole) = inl (whole.answered ∙ refused)
     by (inr lost) (inl whole) = inr (whole.answered ∙ ap status_of lost)
-    by one (inr (inl cut)) = absurd (h.given.written cut.cause)
+    by one (inr (inl cut)) = absurd (h.given.written (counted_up-rose _ _ cut.cause))
     by one (inr (inr lost)) = inr lost.answered
 
 -- ---- all

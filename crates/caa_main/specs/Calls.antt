@@ -1,7 +1,7 @@
 -- What a call of the program comes to, and what it answers.
 use Rattle.std.specs.Prelude.{◌≡◌, ◌⊎◌, ℕ, ◌≤◌, if◌then◌else◌, true, List, [], length, Some, None, IfSome}
 use Rattle.std.specs.Io.KnownBytes.{append_known}
-use Rattle.caa_base.specs.Counts.{Rose}
+use Rattle.caa_base.specs.Counts.{counted_up}
 use Rattle.caa_base.specs.Reading.{emptied, TookUntil}
 use Rattle.caa_base.specs.Writing.{WrotePart}
 use Rattle.caa_base.specs.declared.entry.Entry.{Entry}
@@ -39,10 +39,10 @@ EndsAs plan journal seens (finding.Played failed text) = (failed ≡ has_failed_
 EndsAs plan journal seens finding.OutOfMemory = Unit {0}
 EndsAs plan journal seens _ = ⊥
 
--- no play began: the device refused to be laid out, or no memory was found
+-- no play began: the device refused once to be laid out, or no memory was found and it refused nothing
 abbrev pub DoesNotBegin : {P : Type 0} → Finding → Left P → Type 0
-DoesNotBegin finding.PlantFault left = Rose left.plant.lay_faults_before left.plant.lay_faults_after × IsUnplayed left
-DoesNotBegin finding.OutOfMemory left = IsUnplayed left
+DoesNotBegin finding.PlantFault left = (left.plant.lay_faults_after ≡ counted_up left.plant.lay_faults_before) × IsUnplayed left
+DoesNotBegin finding.OutOfMemory left = (left.plant.lay_faults_after ≡ left.plant.lay_faults_before) × IsUnplayed left
 DoesNotBegin _ left = ⊥
 
 -- `sim` plays the plan by the schedule of the seed, and nobody watches
@@ -51,6 +51,7 @@ pub record IsSimulated {P : Type 0} (plan : Plan) (seed : ℕ) (found : Finding)
   pub schedule : GrewBy (first_of_seed seed) plan [] left.journal
   pub ends : EndsAs plan left.journal [] found
 
+-- `sim` plays, or no play begins
 abbrev pub SimComesTo : {P : Type 0} → Plan → ℕ → Finding → Left P → Type 0
 SimComesTo plan seed found left = IsSimulated plan seed found left ⊎ DoesNotBegin found left
 
@@ -61,6 +62,7 @@ pub record IsRun {P : Type 0} (plan : Plan) (found : Finding) (left : Left P) : 
   pub right : is_played found ≡ true → first_wrong plan left.journal seens ≡ None
   pub ends : EndsAs plan left.journal seens found
 
+-- `run` plays, or no play begins
 abbrev pub RunComesTo : {P : Type 0} → Plan → Finding → Left P → Type 0
 RunComesTo plan found left = IsRun plan found left ⊎ DoesNotBegin found left
 
@@ -78,6 +80,7 @@ AuditComesTo plan bytes (finding.Refused refusal) left = HasTooManyEntries plan 
 AuditComesTo plan bytes finding.OutOfMemory left = IsIdle left
 AuditComesTo plan bytes _ left = ⊥
 
+-- what each command comes to over a plan
 abbrev pub PlanComesTo : {P : Type 0} → Command → Plan → List ℕ → Finding → Left P → Type 0
 PlanComesTo command.Check plan bytes found left = CheckComesTo plan found left
 PlanComesTo (command.Sim seed) plan bytes found left = SimComesTo plan seed found left
@@ -98,6 +101,7 @@ IsNotServed command bytes (finding.Refused refusal) left = IsRefusedScript (scri
 IsNotServed command bytes finding.OutOfMemory left = IsIdle left
 IsNotServed command bytes _ left = ⊥
 
+-- the script is served, or it isn't
 abbrev pub InputComesTo : {P : Type 0} → Command → List ℕ → Finding → Left P → Type 0
 InputComesTo command bytes found left = IsServed command bytes found left ⊎ IsNotServed command bytes found left
 
@@ -108,18 +112,22 @@ pub record IsUsage {P : Type 0} (call : Call P) (found : Finding) : Type 0 where
   pub finding : found ≡ finding.Usage
   pub cause : call.asked ≡ None
   pub unread : call.source.left_after ≡ call.source.left_before
+  pub unfailed : call.source.faults_after ≡ call.source.faults_before
   pub idle : IsIdle call.left
 
--- a reading came to no end: a read failed, or the input has more bytes than that of the command may have, or no memory was found
+-- a reading came to no end: one read failed; or none did, and the input has more bytes than that of the command may have, or no
+-- memory was found
 abbrev pub HasStopped : SourceUse → ReadError → Type 0
-HasStopped source error.Fault = Rose source.faults_before source.faults_after
-HasStopped source _ = Unit {0}
+HasStopped source error.Fault = source.faults_after ≡ counted_up source.faults_before
+HasStopped source _ = source.faults_after ≡ source.faults_before
 
+-- what is found where the input wasn't read to its end
 abbrev pub unread_finding : ReadError → Finding
 unread_finding error.Fault = finding.SourceFault
 unread_finding error.TooLong = finding.Refused (record { line = 0; fault = fault.TooLong })
 unread_finding error.OutOfMemory = finding.OutOfMemory
 
+-- the input wasn't read to its end: what was taken of it, and why
 pub record IsUnread {P : Type 0} (call : Call P) (found : Finding) : Type 0 where
   pub command : Command
   pub given : call.asked ≡ Some command
@@ -129,12 +137,14 @@ pub record IsUnread {P : Type 0} (call : Call P) (found : Finding) : Type 0 wher
   pub cause : HasStopped call.source error
   pub idle : IsIdle call.left
 
--- the source was read to its end, and these were its bytes, no more than the input of the command may have
+-- the reading came to the end of the source; the bytes are all that it had left, no more than the input of the command may have
 pub record WasRead (source : SourceUse) (most : ℕ) (bytes : List ℕ) : Type 0 where
   pub all : IfSome source.left_before (λ rest. bytes ≡ rest)
   pub fits : length bytes ≤ most
   pub ended : source.left_after ≡ emptied source.left_before
+  pub unfailed : source.faults_after ≡ source.faults_before
 
+-- the input was read, and this is what the command comes to over it
 pub record IsRead {P : Type 0} (call : Call P) (found : Finding) : Type 0 where
   pub command : Command
   pub given : call.asked ≡ Some command
@@ -142,6 +152,7 @@ pub record IsRead {P : Type 0} (call : Call P) (found : Finding) : Type 0 where
   pub read : WasRead call.source (most_bytes command) bytes
   pub comes : InputComesTo command bytes found call.left
 
+-- words that are no command, or an input that wasn't read, or one that was
 abbrev pub CameTo : {P : Type 0} → Call P → Finding → Type 0
 CameTo call found = IsUsage call found ⊎ (IsUnread call found ⊎ IsRead call found)
 
@@ -155,18 +166,19 @@ with_journal call journal = record { asked = call.asked; source = call.source; l
 abbrev pub journal_kept : Finding → List Entry → List Entry
 journal_kept found journal = if is_played found then journal else []
 
--- the whole text of what was found was written, and its status is answered
+-- the whole text of what was found was written without a failed write, and its status is answered
 pub record WroteAll (found : Finding) (journal handed : List Entry) (sink : SinkUse) (answer : Status) : Type 0 where
   pub kept : handed ≡ journal
   pub answered : answer ≡ status_of found
   pub written : sink.held_after ≡ append_known sink.held_before (finding_text found)
+  pub unfailed : sink.faults_after ≡ sink.faults_before
 
--- a write failed: the sink took a part of the text of what was found
+-- one write failed, and the sink took a part of the text of what was found
 pub record WasCutOff (found : Finding) (journal handed : List Entry) (sink : SinkUse) (answer : Status) : Type 0 where
   pub kept : handed ≡ journal_kept found journal
   pub answered : answer ≡ status.SinkFault
   pub part : WrotePart sink.held_before sink.held_after (finding_text found)
-  pub cause : Rose sink.faults_before sink.faults_after
+  pub cause : sink.faults_after ≡ counted_up sink.faults_before
 
 -- no memory was found for the text of what was found, and nothing was written
 pub record WasLost (found : Finding) (handed : List Entry) (sink : SinkUse) (answer : Status) : Type 0 where
@@ -174,12 +186,14 @@ pub record WasLost (found : Finding) (handed : List Entry) (sink : SinkUse) (ans
   pub large : needs_memory found ≡ true
   pub answered : answer ≡ status.OutOfMemory
   pub unwritten : sink.held_after ≡ sink.held_before
+  pub unfailed : sink.faults_after ≡ sink.faults_before
 
 -- what was found with this journal is told, and a journal is handed back
 abbrev pub Tells : Finding → List Entry → List Entry → SinkUse → Status → Type 0
 Tells found journal handed sink answer =
     WroteAll found journal handed sink answer ⊎ (WasCutOff found journal handed sink answer ⊎ WasLost found handed sink answer)
 
+-- a call answers by what it came to: that is found with some journal, and told
 pub record Answers {P : Type 0} (call : Call P) (sink : SinkUse) (answer : Status) : Type 0 where
   pub finding : Finding
   pub journal : List Entry

@@ -4,10 +4,14 @@ use Rattle.action_script.specs.ScriptWords.{value_of}
 use Rattle.caa_main.specs.declared.command.Command.{Command}
 use Rattle.caa_main.specs.declared.command.Command.TheVariants as command
 
--- a value that is a seed: from 0 to 2147483647
+-- the greatest seed
+abbrev pub most_seed : ℕ
+most_seed = 2147483647
+
+-- a value that is a seed: from 0 to the greatest
 abbrev pub seed_within : Option ℤ → Option ℕ
 seed_within None = None
-seed_within (Some (pos n)) = if nat_le n 2147483647 then Some n else None
+seed_within (Some (pos n)) = if nat_le n most_seed then Some n else None
 seed_within (Some (negsuc n)) = None
 
 -- a seed, in decimal digits without a sign and without leading zeros

@@ -11,9 +11,13 @@ use Rattle.journal_laws.specs.Laws.{KeepsLaws}
 use Rattle.journal_replay.specs.Device.{HasValues, HasDrills}
 use Rattle.caa_main.specs.OutsideUse.{Left}
 
+-- the mark of an End that says that its place failed
+abbrev pub failed_mark : ℕ
+failed_mark = 4
+
 -- the entry ends a play as failed
 abbrev pub is_failed_play : Plan → Entry → Bool
-is_failed_play plan e = is_of kind.End e && ((e.mark == 4) && is_none (parent plan e.place))
+is_failed_play plan e = is_of kind.End e && ((e.mark == failed_mark) && is_none (parent plan e.place))
 
 -- a play failed
 abbrev pub has_failed_play : Plan → List Entry → Bool

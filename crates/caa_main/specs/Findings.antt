@@ -46,11 +46,13 @@ fault_names (fault.Cycle name) = name ∷ []
 fault_names (fault.NoLeast first second) = first ∷ second ∷ []
 fault_names _ = []
 
+-- the line of a refusal
 abbrev pub refusal_text : Refusal → List ℕ
 refusal_text refusal = line (codes "refused") (decimal refusal.line ∷ fault_phrase refusal.fault ∷ fault_names refusal.fault)
 
 -- ---- plans
 
+-- what `check` tells of a plan
 abbrev pub counts_of : Plan → PlanCounts
 counts_of plan = record {
   participants = length plan.participants;
@@ -59,6 +61,7 @@ counts_of plan = record {
   bound = bound plan;
 }
 
+-- the line that tells it
 abbrev pub checked_text : PlanCounts → List ℕ
 checked_text counts =
     line (codes "ok participants")
@@ -71,6 +74,7 @@ checked_text counts =
 abbrev pub numbered_text : List ℕ → ℕ → List ℕ
 numbered_text word number = line word (decimal number ∷ [])
 
+-- what is printed
 abbrev pub finding_text : Finding → List ℕ
 finding_text finding.Usage = codes "usage: check | sim SEED | run | audit | cell N\n"
 finding_text finding.SourceFault = codes "fault source\n"
@@ -82,6 +86,7 @@ finding_text (finding.Legal entries) = numbered_text (codes "legal") entries
 finding_text (finding.Illegal line) = numbered_text (codes "illegal") line
 finding_text finding.OutOfMemory = []
 
+-- the status that is answered
 abbrev pub status_of : Finding → Status
 status_of finding.Usage = status.Usage
 status_of finding.SourceFault = status.SourceFault
@@ -94,6 +99,7 @@ status_of (finding.Legal entries) = status.Done
 status_of (finding.Illegal line) = status.Illegal
 status_of finding.OutOfMemory = status.OutOfMemory
 
+-- the script was played to its end
 abbrev pub is_played : Finding → Bool
 is_played (finding.Played failed text) = true
 is_played _ = false

@@ -34,10 +34,11 @@ after_lines (suc n) (b ∷ bytes) = if b == 10 then after_lines n bytes else aft
 abbrev pub script_lines : List ℕ → ℕ
 script_lines bytes = lines_before (lines_of bytes)
 
--- the text of the journal, and the script before it
+-- the text of the journal, which begins with the line of that word
 abbrev pub journal_part : List ℕ → List ℕ
 journal_part bytes = after_lines (script_lines bytes) bytes
 
+-- the script, which stands before it
 abbrev pub script_part : List ℕ → List ℕ
 script_part bytes = take (length bytes - length (journal_part bytes)) bytes
 

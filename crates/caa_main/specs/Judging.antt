@@ -27,8 +27,8 @@ pub record IsLawful (plan : Plan) (text : List ℕ) (journal : List Entry) : Typ
   pub complete : IsComplete plan journal
   pub right : wrong_look plan journal seens ≡ None
 
--- the text is one of a journal that isn't legal and complete; line n of the text is that of its first entry which isn't legal after
--- those before it, or the one after the last entry
+-- the text is one of a journal that isn't legal and complete; line n of the text is that of its first entry which isn't legal
+-- after those before it, or the one after the last entry
 pub record IsUnlawful (plan : Plan) (text : List ℕ) (n : ℕ) : Type 0 where
   pub journal : List Entry
   pub seens : List Seen

@@ -14,6 +14,7 @@ pub record SourceUse : Type 0 where
   pub faults_before : ℕ
   pub faults_after : ℕ
 
+-- the use of a source, by what it was before and what it is now
 abbrev pub source_use : {S : Type 0} → SourceGhosts S → S → S → SourceUse
 source_use ghosts before after = record {
   left_before = ghosts.left before;
@@ -29,6 +30,7 @@ pub record SinkUse : Type 0 where
   pub faults_before : ℕ
   pub faults_after : ℕ
 
+-- the use of a sink, by what it was before and what it is now
 abbrev pub sink_use : {K : Type 0} → SinkGhosts K → K → K → SinkUse
 sink_use ghosts before after = record {
   held_before = ghosts.held before;
@@ -37,8 +39,8 @@ sink_use ghosts before after = record {
   faults_after = ghosts.faults after;
 }
 
--- a device before and now; its values and puts, and its drills and tries, where it tells them now; how often it was asked, how often
--- it refused that, and how often it refused to be laid out, before and now
+-- a device before and now; its values and puts, and its drills and tries, where it tells them now; how often it was asked, how
+-- often it refused that, and how often it refused to be laid out, before and now
 pub record PlantUse (P : Type 0) : Type 0 where
   pub before : P
   pub after : P
@@ -51,6 +53,7 @@ pub record PlantUse (P : Type 0) : Type 0 where
   pub lay_faults_before : ℕ
   pub lay_faults_after : ℕ
 
+-- the use of a device, by what it was before and what it is now
 abbrev pub plant_use : {P : Type 0} → PlantGhosts P → P → P → PlantUse P
 plant_use ghosts before after = record {
   before = before;
@@ -70,6 +73,7 @@ pub record Left (P : Type 0) : Type 0 where
   pub plant : PlantUse P
   pub journal : List Entry
 
+-- this use of the device and this journal are left
 abbrev pub left_of : {P : Type 0} → PlantUse P → List Entry → Left P
 left_of plant journal = record { plant = plant; journal = journal }
 
@@ -79,6 +83,7 @@ pub record Call (P : Type 0) : Type 0 where
   pub source : SourceUse
   pub left : Left P
 
+-- the call with these parts
 abbrev pub call_of : {P : Type 0} → Option Command → SourceUse → Left P → Call P
 call_of asked source left = record { asked = asked; source = source; left = left }
 

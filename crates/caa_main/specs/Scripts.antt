@@ -21,6 +21,7 @@ use Rattle.caa_main.specs.declared.scripts.NoPlan.TheVariants as no_plan
 
 -- ---- a script that has a plan
 
+-- what the bytes spell is accepted, and makes this plan
 pub record HasPlan (bytes : List ℕ) (plan : Plan) : Type 0 where
   pub script : Script
   pub spelled : reading_of bytes ≡ Ok script
@@ -80,7 +81,7 @@ pub record IsMisspelled (bytes : List ℕ) (refusal : Refusal) : Type 0 where
   pub line : refusal.line ≡ error.line
   pub fault : IsSpelling error.cause refusal.fault
 
--- the bytes spell a script that has no plan, and this is its first refused line
+-- the text is that of a script, but one of its lines is refused, and this is the first
 pub record IsUnplannable (bytes : List ℕ) (refusal : Refusal) : Type 0 where
   pub script : Script
   pub spelled : reading_of bytes ≡ Ok script
@@ -89,6 +90,7 @@ pub record IsUnplannable (bytes : List ℕ) (refusal : Refusal) : Type 0 where
   pub line : refusal.line ≡ error.line
   pub fault : IsCause script error.line error.cause refusal.fault
 
+-- the script is refused as a text, or for what it says
 abbrev pub IsRefusedScript : List ℕ → Refusal → Type 0
 IsRefusedScript bytes refusal = IsMisspelled bytes refusal ⊎ IsUnplannable bytes refusal
 

@@ -3,7 +3,7 @@
 ghost use Rattle.std.specs.Prelude.{◌≡◌, ◌≤◌, ◌<◌, ◌+◌, ◌-◌, ◌∷◌, ℕ, suc, length, drop};
 ghost use Rattle.std.specs.List.{list_all};
 ghost use Rattle.action_script.specs.CutLines.{is_blank, lines_of};
-ghost use Rattle.caa_main.specs.Inputs.{without_blanks, begins_journal, is_journal_line, after_lines, script_lines, journal_part};
+ghost use Rattle.caa_main.specs.Inputs.{without_blanks, begins_journal, after_lines, script_lines, journal_part};
 
 use action_script::cuts::{find_line_feed, is_blank};
 

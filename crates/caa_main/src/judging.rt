@@ -1,6 +1,6 @@
 //! The judge of a journal.
 
-ghost use Rattle.std.specs.Prelude.{◌≡◌, ◌<◌, ◌≤◌, ◌+◌, ◌^◌, ℕ, List, true, length, IfOk};
+ghost use Rattle.std.specs.Prelude.{◌≡◌, ◌<◌, ◌+◌, ◌^◌, ℕ, List, true, length, IfOk};
 ghost use Rattle.caa_base.specs.Limits.{most_audited};
 ghost use Rattle.place_plan.specs.Journals.{IsLegal, IsComplete};
 ghost use Rattle.journal_text.specs.Text.{text_of};
@@ -90,8 +90,8 @@ fn judge_journal(alloc: Global, plan: &Plan, journal: Journal, seens: &Seens) ->
     }
 }
 
-/// Judges the text of a journal of a plan: it is none, or the journal isn't legal or isn't complete, or shows a wrong value, or none
-/// of this.
+/// Judges the text of a journal of a plan: it is none, or the journal isn't legal or isn't complete, or shows a wrong value, or
+/// none of this.
 pub fn judge(alloc: Global, plan: &Plan, text: &[u8]) -> Judgement
     requires { is_well_named plan.now ≡ true }
     ensures { Judges plan.now text.now result }

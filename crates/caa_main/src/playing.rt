@@ -19,7 +19,7 @@ use caa_base::plant::Plant;
 use journal_laws::{is_well_formed, keeps_laws};
 use journal_replay::hall::{OpenCause, PlainHall};
 use journal_text::seens::Seens;
-use journal_text::writing::write;
+use journal_text::text_writer::write;
 use place_plan::plan::Plan;
 use role_driver::running::{Finished, RunError, run};
 use role_driver::sim::sim;
@@ -27,21 +27,24 @@ use std::alloc::Global;
 use std::sync::Wait;
 use std::thread::Threads;
 
+/// The mark of an End that says that its place failed.
+const FAILED_MARK: u32 = 4;
+
 /// What a call came to, with the device and the journal that it hands back.
 #[derive(Drop)]
-pub struct Coming<P> {
+pub struct Decision<P> {
     pub finding: Finding,
     pub plant: P,
     pub journal: Journal,
 }
 
-impl<P: Plant> Coming<P> {
+impl<P: Plant> Decision<P> {
     /// This was found, and nothing was played.
     pub fn idle(alloc: Global, finding: Finding, plant: P) -> Self
         ensures finding { result.finding ≡ finding }
         ensures idle { IsIdle (left_of (plant_use ⟦<P as Plant>⟧ plant result.plant) result.journal.entries) }
     {
-        Coming {
+        Decision {
             finding,
             plant,
             journal: Journal::empty(alloc),
@@ -53,7 +56,7 @@ impl<P: Plant> Coming<P> {
 fn is_failed_play(plan: &Plan, entry: &Entry) -> bool
     ensures { result ≡ is_failed_play plan.now entry.now }
 {
-    entry.kind == Kind::End && entry.mark == 4 && plan.parent(entry.place).is_none()
+    entry.kind == Kind::End && entry.mark == FAILED_MARK && plan.parent(entry.place).is_none()
 }
 
 /// Whether a play failed.
@@ -67,13 +70,14 @@ fn has_failed_play(plan: &Plan, journal: &Journal) -> bool
 }
 
 /// A machine over a plan and a device, or what the call comes to without one.
-fn open<P: Plant>(alloc: Global, plan: Plan, plant: P) -> Result<PlainHall<P>, Coming<P>>
+fn open<P: Plant>(alloc: Global, plan: Plan, plant: P) -> Result<PlainHall<P>, Decision<P>>
     ensures plan { IfOk result (λ hall. plan_in hall ≡ plan) }
     ensures journal { IfOk result (λ hall. journal_in hall ≡ []) }
     ensures base { IfOk result (λ hall. base_in hall ≡ P.faults plant) }
     ensures count { IfOk result (λ hall. P.faults (plant_in hall) ≡ P.faults plant) }
-    ensures refused { IfErr result (λ coming.
-        DoesNotBegin coming.finding (left_of (plant_use ⟦<P as Plant>⟧ plant coming.plant) coming.journal.entries)) }
+    ensures lay_count { IfOk result (λ hall. P.lay_faults (plant_in hall) ≡ P.lay_faults plant) }
+    ensures refused { IfErr result (λ decision.
+        DoesNotBegin decision.finding (left_of (plant_use ⟦<P as Plant>⟧ plant decision.plant) decision.journal.entries)) }
 {
     match PlainHall::open(alloc, plan, plant) {
         Ok(hall) => Ok(hall),
@@ -82,7 +86,7 @@ fn open<P: Plant>(alloc: Global, plan: Plan, plant: P) -> Result<PlainHall<P>, C
                 OpenCause::PlantFault => Finding::PlantFault,
                 OpenCause::OutOfMemory => Finding::OutOfMemory,
             };
-            Err(Coming {
+            Err(Decision {
                 finding,
                 plant: error.plant,
                 journal: Journal::empty(alloc),
@@ -98,7 +102,7 @@ fn ended<P: Plant>(
     plant: P,
     journal: Journal,
     seens: &Seens,
-) -> Coming<P>
+) -> Decision<P>
     requires entries { AllWellFormed plan.now journal.entries }
     requires watches { AreOfPlan plan.now seens.now.seens }
     ensures ends { EndsAs plan.now journal.entries seens.now.seens result.finding }
@@ -112,7 +116,7 @@ fn ended<P: Plant>(
         },
         Err(_) => Finding::OutOfMemory,
     };
-    Coming {
+    Decision {
         finding,
         plant,
         journal,
@@ -120,46 +124,48 @@ fn ended<P: Plant>(
 }
 
 /// Plays a plan to its end by the schedule of a seed, and writes the text of its journal.
-pub fn simulate<P: Plant>(alloc: Global, plan: Plan, seed: u32, plant: P) -> Coming<P>
+pub fn simulate<P: Plant>(alloc: Global, plan: Plan, seed: u32, plant: P) -> Decision<P>
     requires { seed < 2 ^ 31 }
-    ensures { SimComesTo plan seed result.finding (left_of (plant_use ⟦<P as Plant>⟧ plant result.plant) result.journal.entries) }
+    ensures { SimComesTo plan seed result.finding
+        (left_of (plant_use ⟦<P as Plant>⟧ plant result.plant) result.journal.entries) }
 {
     keeps_laws(&plan);
     is_well_formed(&plan);
     let hall = match open(alloc, plan, plant) {
         Ok(hall) => hall,
-        Err(coming) => return coming,
+        Err(decision) => return decision,
     };
     let (plan, plant, journal) = sim(hall, seed).into_parts();
     ended(alloc, &plan, plant, journal, &Seens::empty(alloc))
 }
 
 /// No memory was found to play this machine.
-fn unplayed<P: Plant>(hall: PlainHall<P>) -> Coming<P>
+fn unplayed<P: Plant>(hall: PlainHall<P>) -> Decision<P>
     ensures finding { result.finding ≡ Finding.OutOfMemory }
     ensures plant { result.plant ≡ plant_in hall }
     ensures journal { result.journal.entries ≡ journal_in hall }
     ensures calls { P.calls result.plant ≡ attempts_in (journal_in hall) }
 {
     let (_, plant, journal) = hall.into_parts();
-    Coming {
+    Decision {
         finding: Finding::OutOfMemory,
         plant,
         journal,
     }
 }
 
-/// Plays a plan to its end, each participant in a thread of its own, and writes the text of its journal with what the watchers saw.
-/// It need not return.
+/// Plays a plan to its end, each participant in a thread of its own, and writes the text of its journal with what the watchers
+/// saw. It need not return.
 pub fn run_plan<P: Plant + Send, G: Gate + Sync, R: Threads + Wait + Sync>(
     rt: &R,
     alloc: Global,
     plan: Plan,
     plant: P,
     gate: &G,
-) -> Coming<P>
+) -> Decision<P>
     requires { is_well_named plan ≡ true }
-    ensures { RunComesTo plan result.finding (left_of (plant_use ⟦<P as Plant>⟧ plant result.plant) result.journal.entries) }
+    ensures { RunComesTo plan result.finding
+        (left_of (plant_use ⟦<P as Plant>⟧ plant result.plant) result.journal.entries) }
 {
     keeps_laws(&plan);
     is_well_formed(&plan);
@@ -174,7 +180,7 @@ pub fn run_plan<P: Plant + Send, G: Gate + Sync, R: Threads + Wait + Sync>(
     let (plan, plant, journal) = played.into_parts();
     match seens {
         Some(seens) => ended(alloc, &plan, plant, journal, &seens),
-        None => Coming {
+        None => Decision {
             finding: Finding::OutOfMemory,
             plant,
             journal,

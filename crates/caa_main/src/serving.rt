@@ -1,6 +1,7 @@
 //! What the commands come to over the input, before anything is written.
 
-ghost use Rattle.std.specs.Prelude.{◌≡◌, ◌<◌, ◌≤◌, ◌^◌, None, Some, true, IfSome};
+ghost use Rattle.std.specs.Prelude.{◌≡◌, ◌<◌, ◌≤◌, None, Some, true, IfSome};
+ghost use Rattle.caa_base.specs.Limits.{most_audit_bytes};
 ghost use Rattle.journal_text.specs.Naming.{is_well_named};
 ghost use Rattle.caa_main.specs.declared.command.Command.{Command};
 ghost use Rattle.caa_main.specs.Commands.{without_threads, HasSeed};
@@ -13,7 +14,7 @@ use crate::fault::{Fault, Refusal};
 use crate::finding::{Finding, PlanCounts};
 use crate::inputs::find_journal;
 use crate::judging::{Judgement, judge};
-use crate::playing::{Coming, run_plan, simulate};
+use crate::playing::{Decision, run_plan, simulate};
 use crate::scripts::{NoPlan, plan_of};
 use caa_base::gate::Gate;
 use caa_base::limits::{MOST_AUDIT_BYTES, MOST_AUDITED, MOST_SCRIPT_BYTES};
@@ -26,20 +27,22 @@ use std::sync::Wait;
 use std::thread::Threads;
 
 /// Tells how large a plan is.
-fn check<P: Plant>(alloc: Global, plan: &Plan, plant: P) -> Coming<P>
-    ensures { CheckComesTo plan.now result.finding (left_of (plant_use ⟦<P as Plant>⟧ plant result.plant) result.journal.entries) }
+fn check<P: Plant>(alloc: Global, plan: &Plan, plant: P) -> Decision<P>
+    ensures { CheckComesTo plan.now result.finding
+        (left_of (plant_use ⟦<P as Plant>⟧ plant result.plant) result.journal.entries) }
 {
-    Coming::idle(alloc, Finding::Checked(PlanCounts::of(plan)), plant)
+    Decision::idle(alloc, Finding::Checked(PlanCounts::of(plan)), plant)
 }
 
 /// Judges the journal that stands after the script, which has so many lines.
-fn judge_after<P: Plant>(alloc: Global, plan: &Plan, bytes: &[u8], plant: P) -> Coming<P>
+fn judge_after<P: Plant>(alloc: Global, plan: &Plan, bytes: &[u8], plant: P) -> Decision<P>
     requires { is_well_named plan.now ≡ true }
-    ensures { AuditComesTo plan.now bytes.now result.finding (left_of (plant_use ⟦<P as Plant>⟧ plant result.plant) result.journal.entries) }
+    ensures { AuditComesTo plan.now bytes.now result.finding
+        (left_of (plant_use ⟦<P as Plant>⟧ plant result.plant) result.journal.entries) }
 {
     let start = find_journal(bytes);
     match judge(alloc, plan, &bytes[start.place..]) {
-        Judgement::Lawful(journal) => Coming {
+        Judgement::Lawful(journal) => Decision {
             finding: Finding::Legal {
                 entries: journal.len(),
             },
@@ -48,16 +51,16 @@ fn judge_after<P: Plant>(alloc: Global, plan: &Plan, bytes: &[u8], plant: P) -> 
         },
         Judgement::Illegal { number } => {
             let line = start.lines + number;
-            Coming::idle(alloc, Finding::Illegal { line }, plant)
+            Decision::idle(alloc, Finding::Illegal { line }, plant)
         }
         Judgement::TooMany => {
             let refusal = Refusal {
                 line: start.lines + (MOST_AUDITED + 2),
                 fault: Fault::Limit,
             };
-            Coming::idle(alloc, Finding::Refused(refusal), plant)
+            Decision::idle(alloc, Finding::Refused(refusal), plant)
         }
-        Judgement::OutOfMemory => Coming::idle(alloc, Finding::OutOfMemory, plant),
+        Judgement::OutOfMemory => Decision::idle(alloc, Finding::OutOfMemory, plant),
     }
 }
 
@@ -68,11 +71,12 @@ fn serve_plan<P: Plant>(
     plan: Plan,
     bytes: &[u8],
     plant: P,
-) -> Coming<P>
+) -> Decision<P>
     requires seed { HasSeed command }
     requires quiet { without_threads (Some command) ≡ Some command }
     requires named { is_well_named plan ≡ true }
-    ensures { PlanComesTo command plan bytes.now result.finding (left_of (plant_use ⟦<P as Plant>⟧ plant result.plant) result.journal.entries) }
+    ensures { PlanComesTo command plan bytes.now result.finding
+        (left_of (plant_use ⟦<P as Plant>⟧ plant result.plant) result.journal.entries) }
 {
     match command {
         Command::Check => check(alloc, &plan, plant),
@@ -93,22 +97,23 @@ fn script_in(command: Command, bytes: &[u8]) -> &[u8]
 }
 
 /// Serves a command over the bytes that were read.
-fn serve<P: Plant>(alloc: Global, command: Command, bytes: &[u8], plant: P) -> Coming<P>
+fn serve<P: Plant>(alloc: Global, command: Command, bytes: &[u8], plant: P) -> Decision<P>
     requires seed { HasSeed command }
     requires quiet { without_threads (Some command) ≡ Some command }
-    ensures { InputComesTo command bytes.now result.finding (left_of (plant_use ⟦<P as Plant>⟧ plant result.plant) result.journal.entries) }
+    ensures { InputComesTo command bytes.now result.finding
+        (left_of (plant_use ⟦<P as Plant>⟧ plant result.plant) result.journal.entries) }
 {
     match plan_of(alloc, script_in(command, bytes)) {
         Ok(plan) => serve_plan(alloc, command, plan, bytes, plant),
-        Err(NoPlan::Refused(refusal)) => Coming::idle(alloc, Finding::Refused(refusal), plant),
-        Err(NoPlan::OutOfMemory) => Coming::idle(alloc, Finding::OutOfMemory, plant),
+        Err(NoPlan::Refused(refusal)) => Decision::idle(alloc, Finding::Refused(refusal), plant),
+        Err(NoPlan::OutOfMemory) => Decision::idle(alloc, Finding::OutOfMemory, plant),
     }
 }
 
 /// How many bytes the input of a command may have.
 fn most_bytes(command: Command) -> u64
     ensures value { result ≡ most_bytes command }
-    ensures small { result ≤ 268435456 }
+    ensures small { result ≤ most_audit_bytes }
 {
     match command {
         Command::Audit => MOST_AUDIT_BYTES,
@@ -136,7 +141,7 @@ pub fn decide<S: Source, P: Plant>(
     asked: Option<Command>,
     source: &mut S,
     plant: P,
-) -> Coming<P>
+) -> Decision<P>
     requires seed { IfSome asked HasSeed }
     requires quiet { without_threads asked ≡ asked }
     ensures came { CameTo
@@ -148,11 +153,11 @@ pub fn decide<S: Source, P: Plant>(
     ensures count { S.faults source.old ≤ S.faults source.new }
 {
     let Some(command) = asked else {
-        return Coming::idle(alloc, Finding::Usage, plant);
+        return Decision::idle(alloc, Finding::Usage, plant);
     };
     match read_all(alloc, source, most_bytes(command)) {
         Ok(bytes) => serve(alloc, command, bytes.as_slice(), plant),
-        Err(error) => Coming::idle(alloc, unread(error), plant),
+        Err(error) => Decision::idle(alloc, unread(error), plant),
     }
 }
 
@@ -163,13 +168,14 @@ fn run_script<P: Plant + Send, G: Gate + Sync, R: Threads + Wait + Sync>(
     bytes: &[u8],
     plant: P,
     gate: &G,
-) -> Coming<P>
-    ensures { InputComesTo Command.Run bytes.now result.finding (left_of (plant_use ⟦<P as Plant>⟧ plant result.plant) result.journal.entries) }
+) -> Decision<P>
+    ensures { InputComesTo Command.Run bytes.now result.finding
+        (left_of (plant_use ⟦<P as Plant>⟧ plant result.plant) result.journal.entries) }
 {
     match plan_of(alloc, bytes) {
         Ok(plan) => run_plan(rt, alloc, plan, plant, gate),
-        Err(NoPlan::Refused(refusal)) => Coming::idle(alloc, Finding::Refused(refusal), plant),
-        Err(NoPlan::OutOfMemory) => Coming::idle(alloc, Finding::OutOfMemory, plant),
+        Err(NoPlan::Refused(refusal)) => Decision::idle(alloc, Finding::Refused(refusal), plant),
+        Err(NoPlan::OutOfMemory) => Decision::idle(alloc, Finding::OutOfMemory, plant),
     }
 }
 
@@ -180,7 +186,7 @@ pub fn decide_run<S: Source, P: Plant + Send, G: Gate + Sync, R: Threads + Wait 
     source: &mut S,
     plant: P,
     gate: &G,
-) -> Coming<P>
+) -> Decision<P>
     ensures came { CameTo
         (call_of (Some Command.Run)
         (source_use ⟦<S as Source>⟧ source.old source.new)
@@ -190,6 +196,6 @@ pub fn decide_run<S: Source, P: Plant + Send, G: Gate + Sync, R: Threads + Wait 
 {
     match read_all(alloc, source, most_bytes(Command::Run)) {
         Ok(bytes) => run_script(rt, alloc, bytes.as_slice(), plant, gate),
-        Err(error) => Coming::idle(alloc, unread(error), plant),
+        Err(error) => Decision::idle(alloc, unread(error), plant),
     }
 }

@@ -6,7 +6,7 @@ ghost use Rattle.caa_main.specs.Calls.{Tells, Answers};
 ghost use Rattle.caa_main.specs.Served.{MissesNothing};
 
 use crate::command::{Command, command_of, quiet_command_of};
-use crate::playing::Coming;
+use crate::playing::Decision;
 use crate::serving::{decide, decide_run};
 use crate::status::{Ended, Status};
 use caa_base::gate::Gate;
@@ -31,17 +31,18 @@ fn journal_kept(alloc: Global, is_played: bool, journal: Journal) -> Journal
 }
 
 /// Writes the text of what was found, and answers.
-fn tell<K: Sink, P: Plant>(alloc: Global, coming: Coming<P>, sink: &mut K) -> Ended<P>
-    ensures tells { Tells coming.finding coming.journal.entries result.journal.entries (sink_use ⟦<K as Sink>⟧ sink.old sink.new) result.status }
-    ensures plant { result.plant ≡ coming.plant }
+fn tell<K: Sink, P: Plant>(alloc: Global, decision: Decision<P>, sink: &mut K) -> Ended<P>
+    ensures tells { Tells decision.finding decision.journal.entries result.journal.entries
+        (sink_use ⟦<K as Sink>⟧ sink.old sink.new) result.status }
+    ensures plant { result.plant ≡ decision.plant }
     ensures room { K.room sink.new ≡ K.room sink.old }
     ensures count { K.faults sink.old ≤ K.faults sink.new }
 {
-    let Coming {
+    let Decision {
         finding,
         plant,
         journal,
-    } = coming;
+    } = decision;
     let status = finding.status();
     let is_played = finding.is_played();
     let Ok(text) = finding.into_text(alloc) else {
@@ -67,16 +68,16 @@ fn tell<K: Sink, P: Plant>(alloc: Global, coming: Coming<P>, sink: &mut K) -> En
 
 /// Serves the command of the words, from a source to a sink, over a device. It always returns.
 ///
-/// `check` reads a script and tells how large its plan is. `sim SEED`, with a seed from 0 to 2147483647, plays it to its end by the
-/// schedule of the seed and writes the text of the journal. `audit` reads a script and the text of a journal after it, and tells
-/// whether the journal is legal and complete. Things are tried in this order: the words (`Usage`); the reading (`SourceFault`, or
-/// `Refused` where it is too long); the script (`Refused`); for `audit` the journal (`Refused` past its most entries, or `Illegal`);
-/// for `sim` that the device is laid out (`PlantFault`), and the play (`SomeFailed` where a play failed); and the writing. Where the
-/// text of any status can't be written whole, the status is `SinkFault`, and a part of that text was written. At `OutOfMemory` nothing
-/// was written; it never comes for wrong words.
+/// `check` reads a script and tells how large its plan is. `sim SEED`, with a seed from 0 to 2147483647, plays it to its end by
+/// the schedule of the seed and writes the text of the journal. `audit` reads a script and the text of a journal after it, and
+/// tells whether the journal is legal and complete. Things are tried in this order: the words (`Usage`); the reading
+/// (`SourceFault`, or `Refused` where it is too long); the script (`Refused`); for `audit` the journal (`Refused` past its most
+/// entries, or `Illegal`); for `sim` that the device is laid out (`PlantFault`), and the play (`SomeFailed` where a play failed);
+/// and the writing. Where the text of any status can't be written whole, the status is `SinkFault`, and a part of that text was
+/// written. At `OutOfMemory` nothing was written; it never comes for wrong words.
 ///
-/// The journal that is handed back is the played one, wherever the script was played; for `audit` at `Done` the one that was read;
-/// and else empty. The device is as it was for `check` and `audit`, and wherever nothing was tried beyond the script.
+/// The journal that is handed back is the played one, wherever the script was played; for `audit` at `Done` the one that was
+/// read; and else empty. The device is as it was for `check` and `audit`, and wherever nothing was tried beyond the script.
 pub fn top_quiet<S: Source, K: Sink, P: Plant>(
     alloc: Global,
     words: &[String],
@@ -86,7 +87,8 @@ pub fn top_quiet<S: Source, K: Sink, P: Plant>(
 ) -> Ended<P>
     ensures answer { Answers
         (call_of (without_threads (command_of (map string_bytes words.now)))
-        (source_use ⟦<S as Source>⟧ source.old source.new) (left_of (plant_use ⟦<P as Plant>⟧ plant result.plant) result.journal.entries))
+        (source_use ⟦<S as Source>⟧ source.old source.new)
+        (left_of (plant_use ⟦<P as Plant>⟧ plant result.plant) result.journal.entries))
         (sink_use ⟦<K as Sink>⟧ sink.old sink.new)
         result.status }
 
@@ -94,7 +96,8 @@ pub fn top_quiet<S: Source, K: Sink, P: Plant>(
     // refused; or memory was wanting.
     ensures completeness { MissesNothing
         (call_of (without_threads (command_of (map string_bytes words.now)))
-        (source_use ⟦<S as Source>⟧ source.old source.new) (left_of (plant_use ⟦<P as Plant>⟧ plant result.plant) result.journal.entries))
+        (source_use ⟦<S as Source>⟧ source.old source.new)
+        (left_of (plant_use ⟦<P as Plant>⟧ plant result.plant) result.journal.entries))
         (sink_use ⟦<K as Sink>⟧ sink.old sink.new)
         result.status }
 
@@ -103,15 +106,15 @@ pub fn top_quiet<S: Source, K: Sink, P: Plant>(
     ensures source_count { S.faults source.old ≤ S.faults source.new }
     ensures sink_count { K.faults sink.old ≤ K.faults sink.new }
 {
-    let coming = decide(alloc, quiet_command_of(words), source, plant);
-    tell(alloc, coming, sink)
+    let decision = decide(alloc, quiet_command_of(words), source, plant);
+    tell(alloc, decision, sink)
 }
 
 /// Serves the command of the words, `run` among them, from a source to a sink, over a device.
 ///
-/// `run` reads a script and plays it to its end, each participant in a thread of its own, which calls the gate before each piece of
-/// work, and writes the text of the journal with what was seen. Things are tried in the same order as for `sim`, and what is handed
-/// back is the same. For `run` the call need not return; all other words are those of [`top_quiet`].
+/// `run` reads a script and plays it to its end, each participant in a thread of its own, which calls the gate before each piece
+/// of work, and writes the text of the journal with what was seen. Things are tried in the same order as for `sim`, and what is
+/// handed back is the same. For `run` the call need not return; all other words are those of [`top_quiet`].
 pub fn top<S: Source, K: Sink, P: Plant + Send, G: Gate + Sync, R: Threads + Wait + Sync>(
     rt: &R,
     alloc: Global,
@@ -123,7 +126,8 @@ pub fn top<S: Source, K: Sink, P: Plant + Send, G: Gate + Sync, R: Threads + Wai
 ) -> Ended<P>
     ensures answer { Answers
         (call_of (command_of (map string_bytes words.now))
-        (source_use ⟦<S as Source>⟧ source.old source.new) (left_of (plant_use ⟦<P as Plant>⟧ plant result.plant) result.journal.entries))
+        (source_use ⟦<S as Source>⟧ source.old source.new)
+        (left_of (plant_use ⟦<P as Plant>⟧ plant result.plant) result.journal.entries))
         (sink_use ⟦<K as Sink>⟧ sink.old sink.new)
         result.status }
 
@@ -131,7 +135,8 @@ pub fn top<S: Source, K: Sink, P: Plant + Send, G: Gate + Sync, R: Threads + Wai
     // refused; or memory was wanting.
     ensures completeness { MissesNothing
         (call_of (command_of (map string_bytes words.now))
-        (source_use ⟦<S as Source>⟧ source.old source.new) (left_of (plant_use ⟦<P as Plant>⟧ plant result.plant) result.journal.entries))
+        (source_use ⟦<S as Source>⟧ source.old source.new)
+        (left_of (plant_use ⟦<P as Plant>⟧ plant result.plant) result.journal.entries))
         (sink_use ⟦<K as Sink>⟧ sink.old sink.new)
         result.status }
 
@@ -142,8 +147,8 @@ pub fn top<S: Source, K: Sink, P: Plant + Send, G: Gate + Sync, R: Threads + Wai
 {
     match command_of(words) {
         Some(Command::Run) => {
-            let coming = decide_run(rt, alloc, source, plant, gate);
-            tell(alloc, coming, sink)
+            let decision = decide_run(rt, alloc, source, plant, gate);
+            tell(alloc, decision, sink)
         }
         _ => top_quiet(alloc, words, source, sink, plant),
     }

@@ -16,7 +16,8 @@ use thiserror::Error;
 #[derive(Clone, Copy, Debug, PartialEq, Eq, Error)]
 #[error("the journal isn't legal and complete from entry {index} on")]
 pub struct Illegal {
-    /// The first entry that isn't legal after those before it, counted from 0; the length where all are legal and somebody isn't over.
+    /// The entry, counted from 0, that may not come where it stands, though all before it may; or, where every entry may come and
+    /// somebody isn't over, the number of all.
     pub index: u64,
 }
 
@@ -46,7 +47,7 @@ fn may_follow(plan: &Plan, journal: &[Entry], entry: &Entry) -> bool
     }
 }
 
-/// Whether each participant has left its last play, or has none.
+/// Whether every participant is through with all its plays.
 pub(crate) fn all_are_over(plan: &Plan, journal: &[Entry]) -> bool
     ensures { IsTrue result ↔ AllOver plan.now (reverse journal.now) }
 {
@@ -60,8 +61,8 @@ pub(crate) fn all_are_over(plan: &Plan, journal: &[Entry]) -> bool
 
 /// Whether a journal is legal for a plan, and complete. It takes no memory.
 ///
-/// The entries may say anything, also of places and participants that the plan doesn't have. `Illegal` counts how many entries may
-/// stand: those before the first that the rules refuse there, or all, where none is refused and somebody isn't over yet.
+/// The entries may say anything, also of places and participants that the plan doesn't have. `Illegal` counts how many entries
+/// may stand: those before the first that the rules refuse there, or all, where none is refused and somebody isn't over yet.
 pub fn audit(plan: &Plan, journal: &Journal) -> Result<(), Illegal>
     ensures { Audited plan.now journal.now.entries result }
 {

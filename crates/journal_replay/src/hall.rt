@@ -104,7 +104,8 @@ fn drills_of(alloc: Global, plan: &Plan) -> Result<Vec<Drill>, AllocError>
     Ok(drills)
 }
 
-/// Lays out a plant for a plan: the initial values, the drills, and room for as many puts as a journal of the plan has entries.
+/// Lays out a plant for a plan, with the first values of its objects and with its drills. There is room for a put at each entry
+/// that a journal of the plan can have.
 fn lay_out<P: Plant>(alloc: Global, plan: &Plan, plant: &mut P) -> Result<(), PlantError>
     ensures laid { OnOk result (FitsJournal plan.now (P.faults plant.old) [] (record {
       faults = P.faults plant.new;
@@ -162,9 +163,9 @@ impl<P: Plant> PlainHall<P> {
 
     /// A machine at the beginning of a plan, over a plant.
     ///
-    /// All its memory is taken here: the journal has room for as many entries as the plan allows, and the plant is laid out with the
-    /// initial values, the plan's drills and room for as many puts. `PlantFault` comes only where the plant refused to be laid
-    /// out, and its count of that rose. Both errors hand the plant back, which was asked for no put.
+    /// All its memory is taken here: the journal has room for as many entries as the plan allows, and the plant is laid out with
+    /// the initial values, the plan's drills and room for as many puts. `PlantFault` comes only where the plant refused to be
+    /// laid out, and its count of that rose. Both errors hand the plant back, which was asked for no put.
     pub fn open(alloc: Global, plan: Plan, plant: P) -> Result<PlainHall<P>, OpenError<P>>
         ensures plan { IfOk result (λ hall. plan_in hall ≡ plan) }
         ensures journal { IfOk result (λ hall. journal_in hall ≡ []) }
@@ -205,9 +206,9 @@ impl<P: Plant> PlainHall<P> {
 
     /// The plan, the plant and the journal, which is legal for the plan. It takes no memory.
     ///
-    /// The plant was asked as often since it was laid out as the journal has writes, refused puts and restores. It has counted one fault
-    /// more for each refused put and restore of the journal, as long as its count doesn't stand at its end. Where it tells its values
-    /// they are those by the journal, and where it tells its drills it refused just what they name.
+    /// The plant was asked as often since it was laid out as the journal has writes, refused puts and restores. It has counted
+    /// one fault more for each refused put and restore of the journal, as long as its count doesn't stand at its end. Where it
+    /// tells its values they are those by the journal, and where it tells its drills it refused just what they name.
     pub fn into_parts(self) -> (Plan, P, Journal)
         ensures plan { result.0 ≡ plan_in self }
         ensures plant { result.1 ≡ plant_in self }

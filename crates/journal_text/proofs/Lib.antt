@@ -7,7 +7,6 @@ pub mod NamingLemmas
 pub mod EntryLines
 pub mod ReadingLemmas
 pub mod BadLines
-pub mod RightLemmas
 pub mod CommittedFits
 pub mod PlaceChains
 pub mod CommittedLemmas

@@ -14,7 +14,7 @@ use Rattle.journal_text.specs.Text.{watched_object}
 abbrev pub is_of_first : Plan → List ℕ → ℕ → Entry → Bool
 is_of_first plan ended n e = member (top_of plan e.place) (take n ended)
 
--- the value of o by the entries of the first n of these plays
+-- the value that o has where no other entries count than those of the first n of these plays
 abbrev pub value_by_first : Plan → List ℕ → List Entry → ℕ → ℕ → ℤ
 value_by_first plan ended past n o = value_of plan (filter (is_of_first plan ended n) past) o
 

@@ -11,7 +11,8 @@ use Rattle.journal_text.specs.Text.{watched_object}
 abbrev pub is_committed : Plan → List Entry → Seen → Bool
 is_committed plan past s = int_eq s.value (committed_value plan past s.ends (watched_object plan s.watch))
 
--- a look may follow on the one before it: it is of the same watch, and no play has come back, or it is the first of the next watch
+-- a look may follow on the one before it: it is of the same watch, and no play has come back, or it is the first of the next
+-- watch
 abbrev pub follows : Option Seen → Seen → Bool
 follows None s = s.watch == 0
 follows (Some before) s = ((s.watch == before.watch) && nat_le before.ends s.ends) || (s.watch == suc before.watch)
@@ -30,12 +31,13 @@ abbrev pub is_whole : Plan → Option Seen → Bool
 is_whole plan None = length plan.watches == 0
 is_whole plan (Some last) = suc last.watch == length plan.watches
 
+-- the first look of these, if there is any
 abbrev pub next_seen : List Seen → Option Seen
 next_seen [] = None
 next_seen (s ∷ seens) = Some s
 
--- the number of the first wrong look of these, which are counted from i; a watch without looks counts by the number where its
--- first look would stand
+-- the number of the first wrong look of these, which are counted from i. Where a look is missing, because a watch has none at
+-- all, it is the number that this look would have
 abbrev pub first_wrong_from : Plan → List Entry → Option Seen → List Seen → ℕ → Option ℕ
 first_wrong_from plan past before [] i = if is_whole plan before then None else Some i
 first_wrong_from plan past before (s ∷ seens) i =

@@ -1,4 +1,4 @@
--- Which bytes are a text of a journal, and which line of others is the first that no text has there.
+-- What bytes have to be to be read as a journal, and which line of others is the first that no text has there.
 use Rattle.std.specs.Prelude.{◌≡◌, ◌<◌, ◌≤◌, ◌+◌, ◌==◌, ℕ, suc, if◌then◌else◌, List, [], ◌∷◌, ◌++◌, length, Result, Ok, Err}
 use Rattle.std.specs.List.{flat_map}
 use Rattle.caa_base.specs.declared.entry.Entry.{Entry}
@@ -38,8 +38,8 @@ lines_shared (a ∷ text) [] = 0
 lines_shared (a ∷ text) (b ∷ bytes) =
     if a == b then (if a == 10 then suc (lines_shared text bytes) else lines_shared text bytes) else 0
 
--- the bytes are no text, and this is the number of the first line such that no text begins with the lines up to it: one text
--- has all lines before it, and none has more
+-- the bytes are no text, and this is the number of their first bad line: some text has all lines before it, and none has this one
+-- after them
 pub record IsFirstBad (plan : Plan) (limit : ℕ) (bytes : List ℕ) (number : ℕ) : Type 0 where
   pub none : (journal : List Entry) (seens : List Seen) → IsText plan limit bytes journal seens → ⊥
   pub few : HasTooMany plan limit bytes → ⊥

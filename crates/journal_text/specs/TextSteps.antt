@@ -37,6 +37,7 @@ abbrev pub EntryFound : Plan → List ℕ → Option (Entry × List ℕ) → Typ
 EntryFound plan text None = BeginsNoEntry plan text
 EntryFound plan text (Some r) = IsWellFormed plan r.0 × (text ≡ entry_line plan r.0 ++ r.1)
 
+-- the look that a text begins with, which may come where this is the least watch, and the rest of the text
 abbrev pub SeenFound : Plan → ℕ → List ℕ → Option (Seen × List ℕ) → Type 0
 SeenFound plan low text None = BeginsNoSeen plan low text
 SeenFound plan low text (Some r) = MayCome plan low r.0 × (text ≡ seen_line plan r.0 ++ r.1)

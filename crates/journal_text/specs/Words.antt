@@ -31,6 +31,7 @@ after_word (b ∷ text) = if is_gap b then b ∷ text else after_word text
 abbrev pub next_word : List ℕ → List ℕ
 next_word text = word_in (drop 1 text)
 
+-- what is left of the text after that word
 abbrev pub after_next : List ℕ → List ℕ
 after_next text = after_word (drop 1 text)
 
@@ -57,9 +58,11 @@ abbrev pub index_among : (ℕ → List ℕ) → List ℕ → ℕ → ℕ → ℕ
 index_among name_of word from zero = from
 index_among name_of word from (suc left) = if bytes_eq (name_of from) word then from else index_among name_of word (suc from) left
 
+-- the participant with this name
 abbrev pub participant_in : Plan → List ℕ → ℕ
 participant_in plan word = index_among (participant_name plan) word 0 (length plan.participants)
 
+-- the object with this name
 abbrev pub object_in : Plan → List ℕ → ℕ
 object_in plan word = index_among (object_name plan) word 0 (length plan.objects)
 
@@ -95,6 +98,7 @@ kind_in word =
 
 -- ---- what stands after the kind, the place and the name of an entry line
 
+-- nothing stands there
 abbrev pub nothing_more : Fields
 nothing_more = record { arg = 0; mark = 0; value = pos 0 }
 
@@ -106,21 +110,26 @@ marked mark = record { arg = 0; mark = mark; value = pos 0 }
 abbrev pub naming : ℕ → ℕ → Fields
 naming mark x = record { arg = x; mark = mark; value = pos 0 }
 
+-- an object and a value, under a mark
 abbrev pub object_fields : Plan → List ℕ → ℕ → Fields
 object_fields plan rest mark = record { arg = object_in plan (next_word rest); mark = mark; value = value_in (next_word (after_next rest)) }
 
+-- a number of rounds and a result
 abbrev pub work_fields : List ℕ → Fields
 work_fields rest = record { arg = number_in most_count (next_word rest); mark = 0; value = value_in (next_word (after_next rest)) }
 
+-- the mark of the last word of a restore: 0 for `well`, 1 for all else
 abbrev pub restore_mark : List ℕ → ℕ
 restore_mark word = if bytes_eq word (codes "well") then 0 else 1
 
+-- a verdict; a signal has an exception of this graph
 abbrev pub verdict_fields : Plan → ℕ → List ℕ → Fields
 verdict_fields plan g rest =
     if bytes_eq (next_word rest) (codes "done") then marked 0
     else (if bytes_eq (next_word rest) (codes "undo") then marked 2
     else naming 1 (exception_in plan g (next_word (after_next rest))))
 
+-- an outcome; a signal has an exception of this graph
 abbrev pub end_fields : Plan → ℕ → List ℕ → Fields
 end_fields plan g rest =
     if bytes_eq (next_word rest) (codes "commit") then marked 0
@@ -133,10 +142,12 @@ end_fields plan g rest =
 abbrev pub named_fields : Plan → ℕ → List ℕ → Fields
 named_fields plan g rest = if goes_on rest then naming 1 (exception_in plan g (next_word rest)) else nothing_more
 
+-- an exception of the place round it, if there is such a place, or nothing
 abbrev pub leave_fields : Plan → Option ℕ → List ℕ → Fields
 leave_fields plan None rest = nothing_more
 leave_fields plan (Some q) rest = named_fields plan (action_at plan q).internal rest
 
+-- the fields of an entry of this kind in place p
 abbrev pub fields_in : Kind → Plan → ℕ → List ℕ → Fields
 fields_in kind.Read plan p rest = object_fields plan rest 0
 fields_in kind.Work plan p rest = work_fields rest

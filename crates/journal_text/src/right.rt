@@ -1,4 +1,4 @@
-ghost use Rattle.std.specs.Prelude.{◌≡◌, ◌<◌, ◌+◌, ◌&&◌, ◌==◌, [], true, length, reverse, drop, slice_index_or, option_copied, Some, None, IfOk, is_none};
+ghost use Rattle.std.specs.Prelude.{◌≡◌, ◌<◌, ◌+◌, ◌&&◌, ◌==◌, [], true, length, reverse, slice_index_or, Some, None, IfOk, is_none};
 ghost use Rattle.std.specs.Ordering.{int_eq};
 ghost use Rattle.caa_base.specs.declared.entry.Kind.TheVariants as kind;
 ghost use Rattle.place_plan.specs.Places.{parent};
@@ -7,10 +7,10 @@ ghost use Rattle.place_plan.specs.Journals.{plays_ended};
 ghost use Rattle.journal_text.specs.Looks.{AreOfPlan};
 ghost use Rattle.journal_text.specs.Naming.{is_well_named};
 ghost use Rattle.journal_text.specs.Text.{watched_object};
-ghost use Rattle.journal_text.specs.CommittedValues.{value_by, HasCommitted, HasWatched};
-ghost use Rattle.journal_text.specs.Right.{is_committed, follows, is_followed, is_right, is_whole, first_wrong};
+ghost use Rattle.journal_text.specs.CommittedValues.{value_by, HasWatched};
+ghost use Rattle.journal_text.specs.Right.{is_committed, follows, is_followed, is_whole, first_wrong};
 
-use crate::committed::{committed_values, ranks_of};
+use crate::play_values::{committed_values, ranks_of};
 use crate::seens::{Seen, Seens};
 use caa_base::entry::{Entry, Kind, Object, OutOfMemory, Place};
 use caa_base::journal::Journal;
@@ -21,8 +21,8 @@ use std::alloc::{AllocError, Global};
 /// The number of the first wrong look, counted from 0; none where all are right.
 ///
 /// They are right where each watch has a look, no look comes before an earlier end of a play, the last look of a watch comes when
-/// all plays have ended, and each shows the value that its object has by the plays that had ended. A watch without looks counts by
-/// the number where its first look would stand.
+/// all plays have ended, and each shows the value that its object has by the plays that had ended. Where a watch has no look, the
+/// number is the one that its first look would have.
 pub fn first_wrong(
     alloc: Global,
     plan: &Plan,
@@ -125,7 +125,8 @@ fn is_whole(plan: &Plan, last: Option<Seen>) -> bool
 /// The tables have the values of each watch, so plan and entries are there for the contract alone.
 fn is_committed(_plan: &Plan, _entries: &[Entry], tables: &[Rows<i64>], seen: &Seen) -> bool
     requires watch { seen.now.watch < length _plan.now.watches }
-    requires tables { HasWatched _plan.now (plays_ended _plan.now (reverse _entries.now)) (reverse _entries.now) tables.now (length _plan.now.watches) }
+    requires tables { HasWatched _plan.now (plays_ended _plan.now (reverse _entries.now)) (reverse _entries.now)
+        tables.now (length _plan.now.watches) }
     ensures { result ≡ is_committed _plan.now (reverse _entries.now) seen.now }
 {
     shows_value(tables, seen)

@@ -1,12 +1,11 @@
 ghost use Rattle.std.specs.Prelude.{◌≡◌, ◌<◌, ◌↔◌, IsTrue, length};
-ghost use Rattle.caa_base.specs.Limits.{IsValue};
 ghost use Rattle.journal_text.specs.Text.{object_name, watched_object};
 ghost use Rattle.journal_text.specs.Words.{watch_in, seen_in};
 ghost use Rattle.journal_text.specs.TextSteps.{MayStand};
 
 use crate::seens::Seen;
+use crate::text_writer::object_name;
 use crate::words::{next_word, number_in, split_word, value_in};
-use crate::writing::object_name;
 use caa_base::limits::is_value;
 use place_plan::plan::Plan;
 

@@ -6,7 +6,7 @@ use crate::naming::is_well_named;
 use crate::right::first_wrong;
 use crate::seens::Seens;
 use crate::text_reader::{TextError, read};
-use crate::writing::write;
+use crate::text_writer::write;
 use caa_base::entry::{Entry, Kind, Participant};
 use caa_base::journal::Journal;
 use place_plan::plan::Plan;
@@ -82,12 +82,21 @@ fn journal_of(
     Ok(journal)
 }
 
-/// The text above, with this line at a number, counted from 1.
-fn with_line(alloc: Global, number: usize, line: &str) -> Result<Vec<u8>, Fail> {
+/// What these changes put at a number, or this line where they have none for it.
+fn changed<'a>(changes: &[(usize, &'a str)], number: usize, old: &'a str) -> &'a str {
+    for (place, line) in changes {
+        if *place == number {
+            return line;
+        }
+    }
+    old
+}
+
+/// The text above, with these lines at their numbers, counted from 1.
+fn with_lines(alloc: Global, changes: &[(usize, &str)]) -> Result<Vec<u8>, Fail> {
     let mut text = Vec::new(alloc);
     for (index, old) in FIRST_PATH.lines().enumerate() {
-        let chosen = if index + 1 == number { line } else { old };
-        text.extend_from_slice(chosen.as_bytes())?;
+        text.extend_from_slice(changed(changes, index + 1, old).as_bytes())?;
         text.push(b'\n')?;
     }
     Ok(text)
@@ -158,15 +167,31 @@ fn names_the_changed_line(rt: HostRuntime) -> Result<(), Fail> {
         (14, "outcome 0 looks commit"),
     ];
     for (number, line) in changes {
-        let text = with_line(alloc, number, line)?;
+        let text = with_lines(alloc, &[(number, line)])?;
         let line = number as u64;
         assert_eq!(rt;
             refusal(alloc, &plan, &text, 10),
             Some(TextError::BadLine { line })
         );
     }
-    let text = with_line(alloc, 7, "read 0 ann x 7")?;
+    let text = with_lines(alloc, &[(7, "read 0 ann x 7")])?;
     assert_eq!(rt; refusal(alloc, &plan, &text, 10), None);
+    Ok(())
+}
+
+#[test]
+fn names_a_wrong_object_of_a_journal_that_is_not_legal(rt: HostRuntime) -> Result<(), Fail> {
+    let alloc = rt.alloc();
+    let plan = plan(&rt, alloc)?;
+    let verdict_first = [(7, "verdict 0 ann done"), (8, "read 0 ann x 5")];
+    let text = with_lines(alloc, &verdict_first)?;
+    assert_eq!(rt; refusal(alloc, &plan, &text, 10), None);
+    let [verdict, read] = verdict_first;
+    let text = with_lines(alloc, &[verdict, read, (12, "object x 3")])?;
+    assert_eq!(rt;
+        refusal(alloc, &plan, &text, 10),
+        Some(TextError::BadLine { line: 12 })
+    );
     Ok(())
 }
 

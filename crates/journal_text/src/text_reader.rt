@@ -1,16 +1,16 @@
-ghost use Rattle.std.specs.Prelude.{◌≡◌, ◌≤◌, ◌∷◌, ◌++◌, [], true, suc, ◌<◌, ℕ, List, length, reverse, option_map, IfOk, IfErr};
+ghost use Rattle.std.specs.Prelude.{◌≡◌, ◌≤◌, [], true, ◌<◌, length, reverse, option_map, IfOk, IfErr};
 ghost use Rattle.caa_base.specs.declared.entry.OutOfMemory.{OutOfMemory};
 ghost use Rattle.place_plan.specs.WellFormed.{IsWellFormed, AllWellFormed};
 ghost use Rattle.journal_text.specs.Naming.{is_well_named};
 ghost use Rattle.journal_text.specs.Text.{entry_line, object_lines, outcome_lines, closing_lines, seen_line, first_line, text_of};
 ghost use Rattle.journal_text.specs.Looks.{AreOfPlan};
 ghost use Rattle.journal_text.specs.TextOfJournal.{lines_shared, Reads, ReadsBack, TextsDiffer};
-ghost use Rattle.journal_text.specs.TextSteps.{IsAfter, BeginsNoEntry, BeginsNoSeen, MayCome, EntryFound, SeenFound, EntriesRead, SeensRead, StopsEntries, RefusesAfter};
+ghost use Rattle.journal_text.specs.TextSteps.{IsAfter, EntryFound, SeenFound, EntriesRead, SeensRead, StopsEntries, RefusesAfter};
 
 use crate::entry_line::entry_in;
 use crate::seen_line::{may_stand, seen_in};
 use crate::seens::{Seen, Seens};
-use crate::writing::{push_entry, push_objects, push_outcomes, push_seen, write_text};
+use crate::text_writer::{push_entry, push_objects, push_outcomes, push_seen, write_text};
 use caa_base::entry::{Entry, OutOfMemory};
 use caa_base::journal::Journal;
 use caa_base::line::in_memory;
@@ -22,11 +22,11 @@ use thiserror::Error;
 /// Why bytes aren't read as the text of a journal. Lines are counted from 1.
 #[derive(Clone, Copy, Debug, PartialEq, Eq, Error)]
 pub enum TextError {
-    /// All lines before this one are good, and it is a well-formed entry line past the limit.
+    /// There are more entries than the limit allows. All lines are good up to this one, which is the first such entry.
     #[error("line {line} is an entry past the limit")]
     TooMany { line: u64 },
-    /// The bytes are no text of a journal within the limit, and no such text begins with the lines up to this one. Where a line is
-    /// missing, this is the number that it would have.
+    /// This line is the first bad one: some text within the limit has all lines before it, and none goes on with this line. A
+    /// line that is missing has the number at which it should stand.
     #[error("line {line} stands in no text of a journal")]
     BadLine { line: u64 },
     /// No memory was found.

@@ -1,4 +1,4 @@
-ghost use Rattle.std.specs.Prelude.{◌≡◌, ◌≤◌, drop};
+ghost use Rattle.std.specs.Prelude.{◌≡◌, ◌≤◌};
 ghost use Rattle.journal_text.specs.Words.{is_gap, word_in, after_word, next_word, after_next, goes_on, number_in, value_in};
 
 use caa_base::limits;

@@ -1,6 +1,6 @@
 -- Looks that are added one by one: those of the recorded readings before the last, and the last.
-use Rattle.std.proofs.Common.{◌≡◌, ℕ, ◌+◌, ◌<◌, ◌≤◌, nat_lt, Bool, true, false, cond, List, [], ◌∷◌, ◌++◌, filter, length, map, take, drop, get_or, All, sym, ap, ◌∙◌, subst, arith, append_assoc, append-nil}
-use Rattle.std.proofs.lemmas.List.{take-append-drop, take_all, length-append, length-map, map-append}
+use Rattle.std.proofs.Common.{◌≡◌, ℕ, ◌+◌, ◌<◌, ◌≤◌, nat_lt, Bool, true, cond, List, [], ◌∷◌, ◌++◌, filter, length, map, take, drop, get_or, All, sym, ap, ◌∙◌, subst, arith, append_assoc}
+use Rattle.std.proofs.lemmas.List.{take-append-drop, take_all, length-append, length-map}
 use Rattle.std.proofs.lemmas.List.Elements.{All-head, All-tail, filter-append, filter_more}
 use Rattle.journal_text.specs.declared.seens.Seen.{Seen}
 use Rattle.journal_text.specs.Looks.{last_watch}
@@ -57,21 +57,3 @@ looks_within low w (r ∷ rs) l = looks_within w w rs (omega arith)
 pub watch_within : (low w : ℕ) (seens : List Seen) (rs : List Reading) → last_watch low seens ≤ w → last_watch low (seens ++ map (look_of w) rs) ≤ w
 watch_within low w [] rs h = looks_within low w rs h
 watch_within low w (s ∷ seens) rs h = watch_within s.watch w seens rs h
-
--- one look more
-pub look_added : (seens before after : List Seen) (w : ℕ) (rs : List Reading) (last : Reading) (i : ℕ) (d : Reading) → i < length rs → nat_lt (get_or rs i d).ends last.ends ≡ true → before ≡ seens ++ map (look_of w) (kept rs last i)
-    → after ≡ before ++ look_of w (get_or rs i d) ∷ [] → after ≡ seens ++ map (look_of w) (kept rs last (i + 1))
-look_added seens before after w rs last i d low x was is =
-    let more : kept rs last (i + 1) ≡ kept rs last i ++ get_or rs i d ∷ [] = kept_more rs last i d low ∙ ap (λ b. kept rs last i ++ cond b (get_or rs i d ∷ []) []) x in
-    is ∙ ap (λ l. l ++ look_of w (get_or rs i d) ∷ []) was ∙ append_assoc seens (map (look_of w) (kept rs last i)) (look_of w (get_or rs i d) ∷ [])
-    ∙ ap (λ l. seens ++ l) (sym (map-append (look_of w) (kept rs last i) (get_or rs i d ∷ [])) ∙ ap (map (look_of w)) (sym more))
-
-pub look_passed : (rs : List Reading) (last : Reading) (i : ℕ) (d : Reading) → i < length rs → nat_lt (get_or rs i d).ends last.ends ≡ false → kept rs last (i + 1) ≡ kept rs last i
-look_passed rs last i d low x = kept_more rs last i d low ∙ ap (λ b. kept rs last i ++ cond b (get_or rs i d ∷ []) []) x ∙ append-nil (kept rs last i)
-
--- and the last
-pub last_added : (seens before after : List Seen) (w : ℕ) (rs : List Reading) (last : Reading) (i : ℕ) → length rs ≤ i → before ≡ seens ++ map (look_of w) (kept rs last i)
-    → after ≡ before ++ look_of w last ∷ [] → after ≡ seens ++ map (look_of w) (with_last rs last)
-last_added seens before after w rs last i high was is =
-    is ∙ ap (λ l. l ++ look_of w last ∷ []) was ∙ append_assoc seens (map (look_of w) (kept rs last i)) (look_of w last ∷ [])
-    ∙ ap (λ l. seens ++ l) (sym (map-append (look_of w) (kept rs last i) (last ∷ [])) ∙ ap (map (look_of w)) (sym (at_end rs last i high)))

@@ -6,7 +6,7 @@ use Rattle.action_manager.specs.Seats.{participant_of, seen_by}
 use Rattle.action_manager.specs.declared.manager.Manager.{Manager}
 use Rattle.action_manager.specs.declared.seat.Seat.{Seat}
 
--- the seat was opened by this manager, and its participant is over in what it has seen
+-- the seat is one of this manager's, and its participant is over in what it has seen
 pub record IsDone {M : Type 0} (base_of : M → ℕ) (manager : Manager M) (seat : Seat M) : Type 0 where
   pub opened : IsSeatIn base_of manager seat
   pub over : is_over (plan_in manager) (reverse (seen_by seat)) (participant_of seat) ≡ true

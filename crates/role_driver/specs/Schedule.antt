@@ -39,8 +39,8 @@ pub record TakesTurn (plan : Plan) (old new : List Entry) (first : ℕ) : Type 0
 
 -- ---- turn after turn
 
--- each of these entries after a past, the newest first, was made by the participant whose turn it was; the nth one's turn began at
--- the participant of number `begins n`
+-- each of these entries after a past, the newest first, was made by the participant whose turn it was; the nth one's turn began
+-- at the participant of number `begins n`
 abbrev pub HaveTurns : (ℕ → ℕ) → Plan → List Entry → List Entry → Type 0
 HaveTurns begins plan past [] = Unit {0}
 HaveTurns begins plan past (e ∷ added) = HaveTurns begins plan past added × IsTurnOf plan (added ++ past) (begins (suc (length added))) e.by
@@ -53,7 +53,8 @@ pub record GrewBy (begins : ℕ → ℕ) (plan : Plan) (old new : List Entry) : 
 
 -- ---- where turns begin
 
--- by the schedule of a seed: the state of this turn, divided by 65536; each state comes from the one before it, the first from the seed
+-- by the schedule of a seed: the state of this turn, divided by 65536; each state comes from the one before it, the first from
+-- the seed
 abbrev pub first_of_seed : ℕ → ℕ → ℕ
 first_of_seed seed turn = state_after seed turn / 65536
 

@@ -9,6 +9,7 @@ pub record Task : Type 0 where
   pub initials : List ℤ
   pub book : Book
 
+-- the task of a watcher
 abbrev pub task_of : Watcher → Task
 task_of w = record { object = w.object; initials = w.observer.initials; book = w.observer.known.book }
 

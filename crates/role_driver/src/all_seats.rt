@@ -11,7 +11,6 @@ use crate::driving::drive;
 use action_manager::{Closed, Manager, Seat};
 use caa_base::gate::Gate;
 use place_plan::machine::Machine;
-use std::alloc::Global;
 use std::sync::Wait;
 
 /// Drives each seat to its end, one after another.

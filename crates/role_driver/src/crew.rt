@@ -61,7 +61,8 @@ pub fn start<'s, E, M: Machine + Send, G: Gate + Sync, R: Threads + Wait + Sync>
     gate: &'s G,
 ) -> Result<PromisedHandle<Seat<M>, Belongs<M>>, Seat<M>>
     requires opened { IsSeatIn M.base_of manager.now seat }
-    ensures ok { IfOk result (λ h. IsSeatIn M.base_of manager.now h.promise.seat.value × (h.promise.participant ≡ participant_of seat)) }
+    ensures ok { IfOk result (λ h.
+        IsSeatIn M.base_of manager.now h.promise.seat.value × (h.promise.participant ≡ participant_of seat)) }
     ensures err { IfErr result (λ s. IsSeatIn M.base_of manager.now s × (participant_of s ≡ participant_of seat)) }
 {
     let promise = Belongs {
@@ -168,7 +169,8 @@ fn round<M: Machine, G: Gate, R: Wait>(
 ) -> bool
     requires crew { All (λ r. IsMember M.base_of manager.now (λ h. h.promise.seat.value) r) crew.old.items }
     ensures crew { All (λ r. IsMember M.base_of manager.now (λ h. h.promise.seat.value) r) crew.new.items }
-    ensures order { map (λ r. who_of (λ h. h.promise.participant) r) crew.new.items ≡ map (λ r. who_of (λ h. h.promise.participant) r) crew.old.items }
+    ensures order { map (λ r. who_of (λ h. h.promise.participant) r) crew.new.items
+        ≡ map (λ r. who_of (λ h. h.promise.participant) r) crew.old.items }
 {
     let mut over = true;
     for index in 0..crew.len() {
@@ -187,7 +189,8 @@ pub fn drive_handed_back<M: Machine, G: Gate, R: Wait>(
 )
     requires crew { All (λ r. IsMember M.base_of manager.now (λ h. h.promise.seat.value) r) crew.old.items }
     ensures crew { All (λ r. IsMember M.base_of manager.now (λ h. h.promise.seat.value) r) crew.new.items }
-    ensures order { map (λ r. who_of (λ h. h.promise.participant) r) crew.new.items ≡ map (λ r. who_of (λ h. h.promise.participant) r) crew.old.items }
+    ensures order { map (λ r. who_of (λ h. h.promise.participant) r) crew.new.items
+        ≡ map (λ r. who_of (λ h. h.promise.participant) r) crew.old.items }
 {
     for _ in rt.forever() {
         if round(rt, manager, crew, gate) {

@@ -1,4 +1,4 @@
-ghost use Rattle.std.specs.Prelude.{◌≡◌, ◌<◌, ℕ, true, length, reverse, IfSome, IfNone};
+ghost use Rattle.std.specs.Prelude.{◌≡◌, ◌<◌, true, reverse, IfSome, IfNone};
 ghost use mathlib.Core.List.{IsPrefix};
 ghost use Rattle.place_plan.specs.Roles.{is_over};
 ghost use Rattle.place_plan.specs.Journals.{IsLegal};
@@ -16,7 +16,7 @@ use caa_base::work::WorkDone;
 use place_plan::machine::{Answer, Machine};
 use std::sync::Wait;
 
-/// Takes the note of a Handle out of the seat and asks the cell of its place with it: the cell gives the exception that is handled.
+/// Asks the cell of a Handle's place, by the note that the seat has of it, which exception is handled. The note leaves the seat.
 ///
 /// Only where the cell refused the announcement there is no note to ask with.
 fn ask<M: Machine>(manager: &Manager<M>, seat: &mut Seat<M>, handle: Entry) -> Option<Exception>
@@ -56,8 +56,8 @@ pub fn step_and_ask<M: Machine, R: Wait>(
 
 /// Steps a seat until its participant is over, and mixes its work outside its turns.
 ///
-/// Before each piece of mixing it calls the gate, and where its participant has no entry now it waits past what it has seen. It need
-/// not return.
+/// Before each piece of mixing it calls the gate, and where its participant has no entry now it waits past what it has seen. It
+/// need not return.
 pub fn drive<M: Machine, G: Gate, R: Wait>(
     rt: &R,
     manager: &Manager<M>,

@@ -7,7 +7,7 @@ use caa_base::gate::Gate;
 use journal_laws::is_bounded;
 use place_plan::machine::Machine;
 
-/// Plays a machine to its end, at each turn the least participant that has an entry. It takes no memory.
+/// Plays a machine to its end: as long as somebody has an entry, the least such participant makes its own. It takes no memory.
 ///
 /// The gate is called before each piece of mixing work, with who does it and where. What the machine did before is kept, and its
 /// journal is what it had with the new entries after it.

@@ -1,6 +1,5 @@
 ghost use Rattle.std.specs.Prelude.{◌≡◌, ◌<◌, ◌≤◌, ◌+◌, ◌*◌, ◌++◌, [], All, None, length, map, reverse, suc};
 ghost use Rattle.caa_base.specs.Limits.{IsValue};
-ghost use Rattle.place_plan.specs.Journals.{plays_ended};
 ghost use Rattle.journal_text.specs.Looks.{AreOfPlan, last_watch};
 ghost use Rattle.journal_text.specs.Right.{first_wrong};
 ghost use Rattle.journal_text.specs.Text.{watched_object};

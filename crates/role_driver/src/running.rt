@@ -1,5 +1,4 @@
 ghost use Rattle.std.specs.Prelude.{◌≡◌, ◌*◌, [], length, map, reverse, suc, All, None, IfSome, IfOk, IfErr, vec_capacity};
-ghost use Rattle.std.specs.List.{range_with_len};
 ghost use mathlib.Core.List.{IsPrefix};
 ghost use Rattle.place_plan.specs.Journals.{IsLegal, IsComplete, plays_ended};
 ghost use Rattle.journal_text.specs.Looks.{AreOfPlan};
@@ -110,7 +109,8 @@ fn seens_of<M: Machine>(
     requires published { Publishes (M.plan_of machine.now) (reverse (M.journal_of machine.now)) writer.old }
     requires complete { IsComplete (M.plan_of machine.now) (M.journal_of machine.now) }
     requires tasks { map task_of watchers.old.items ≡ map (task_by writer.old) (M.plan_of machine.now).watches }
-    requires seens { (seens.seens ≡ []) × (seens.room ≡ length (M.plan_of machine.now).watches * suc (length (M.plan_of machine.now).plays)) }
+    requires seens { (seens.seens ≡ [])
+        × (seens.room ≡ length (M.plan_of machine.now).watches * suc (length (M.plan_of machine.now).plays)) }
     ensures of_plan { IfSome result (λ s. AreOfPlan (M.plan_of machine.now) s.seens) }
     ensures right { IfSome result (λ s. first_wrong (M.plan_of machine.now) (M.journal_of machine.now) s.seens ≡ None) }
 {
@@ -120,13 +120,14 @@ fn seens_of<M: Machine>(
     Some(gather(machine, writer, watchers, seens))
 }
 
-/// Plays a machine to its end, each participant in a thread of its own, and lets a watcher look at each watched object in another.
+/// Plays a machine to its end, each participant in a thread of its own, and lets a watcher look at each watched object in
+/// another.
 ///
-/// In its journal nothing may be resolved yet, and no play may have ended. The machine comes back complete, with the same plan and
-/// base, and with a legal journal that begins with the old one. With it comes what was seen, right looks of that journal, unless no
-/// memory was found for a publication. The caller itself takes the turns of participants for whom no thread can be started, round by
-/// round; a watcher without a thread looks once, at the end. At `Err` no memory was found before the first entry, and the machine is
-/// as it was. It need not return.
+/// In its journal nothing may be resolved yet, and no play may have ended. What comes back is the machine, complete, still of its
+/// plan and base; its journal is legal and goes on from the old one. With it comes what was seen, right looks of that journal,
+/// unless no memory was found for a publication. The caller itself takes the turns of participants for whom no thread can be
+/// started, round by round; a watcher without a thread looks once, at the end. At `Err` no memory was found before the first
+/// entry, and the machine is as it was. It need not return.
 pub fn run<M: Machine + Send, G: Gate + Sync, R: Threads + Wait + Sync>(
     rt: &R,
     alloc: Global,
@@ -141,7 +142,8 @@ pub fn run<M: Machine + Send, G: Gate + Sync, R: Threads + Wait + Sync>(
     ensures legal { IfOk result (λ f. IsLegal (M.plan_of machine) (M.journal_of f.machine)) }
     ensures complete { IfOk result (λ f. IsComplete (M.plan_of machine) (M.journal_of f.machine)) }
     ensures of_plan { IfOk result (λ f. IfSome f.seens (λ s. AreOfPlan (M.plan_of machine) s.seens)) }
-    ensures right { IfOk result (λ f. IfSome f.seens (λ s. first_wrong (M.plan_of machine) (M.journal_of f.machine) s.seens ≡ None)) }
+    ensures right { IfOk result (λ f.
+        IfSome f.seens (λ s. first_wrong (M.plan_of machine) (M.journal_of f.machine) s.seens ≡ None)) }
     ensures refused { IfErr result (λ e. e.machine ≡ machine) }
 {
     let count = machine.plan().participants() as usize;

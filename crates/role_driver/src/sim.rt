@@ -11,8 +11,8 @@ use place_plan::machine::Machine;
 /// Plays a machine to its end, by the schedule of a seed. It takes no memory.
 ///
 /// A state begins as the seed, which is below 2^31. For each entry it is mixed once, and the first participant that has an entry
-/// makes it, going round from the one of number `state / 65536` modulo the number of participants. Mixing work is done within the
-/// turn. What the machine did before is kept, and its journal is what it had with the new entries after it.
+/// makes it, going round from the one of number `state / 65536` modulo the number of participants. A piece of mixing work is done
+/// in the turn that needs it. What the machine did before is kept, and its journal is what it had with the new entries after it.
 pub fn sim<M: Machine>(mut machine: M, seed: u32) -> M
     requires { seed < 2 ^ 31 }
     ensures plan { M.plan_of result ≡ M.plan_of machine }

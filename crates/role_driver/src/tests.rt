@@ -6,10 +6,11 @@ ghost use Rattle.action_manager.specs.Managers.{IsSeatIn, book_in};
 ghost use Rattle.action_manager.specs.Publishing.{new_observer};
 
 use crate::crew::go_on;
+use crate::finish::finish;
 use crate::running::{Finished, RunError, run};
 use action_manager::{Closed, Manager, ManagerError, Opened, Seat};
-use caa_base::entry::{Exception, Kind, Verdict};
-use caa_base::gate::EmptyGate;
+use caa_base::entry::{Exception, Kind, Participant, Place, Verdict};
+use caa_base::gate::{EmptyGate, Gate};
 use caa_base::memory::SurePlant;
 use journal_replay::hall::PlainHall;
 use place_plan::draft_rows::{AbortRow, ActionRow, GraphRow, HandlerRow, PlayRow, RoleRow, Step};
@@ -18,6 +19,7 @@ use place_plan::plan::Plan;
 use shared_views::Reading;
 use std::alloc::Global;
 use std::sync::Wait;
+use std::sync::atomic::{AtomicU64, Ordering};
 use std::test::Fail;
 use trial_drafts::{Exceptions, PLAIN, action, draft, graph, plain_role, play, program, role};
 
@@ -129,6 +131,32 @@ fn opened<M: Machine + Drop, R: Wait>(
         Ok(opened) => Ok(opened),
         Err(ManagerError { machine: _ }) => Err(Fail::from("no memory")),
     }
+}
+
+/// A gate that counts the calls for the participant 1 in the place 0, and all others as 1,000 each.
+#[derive(Drop)]
+struct Count {
+    calls: AtomicU64,
+}
+
+impl Gate for Count {
+    fn work(&self, by: Participant, place: Place) {
+        let call = if by == 1 && place == 0 { 1 } else { 1000 };
+        self.calls.fetch_add(call, Ordering::SeqCst);
+    }
+}
+
+#[test]
+fn finish_calls_the_gate(rt: HostRuntime) -> Result<(), Fail> {
+    let gate = Count {
+        calls: AtomicU64::new(0),
+    };
+    let hall = hall_of(rt.alloc(), look(rt.alloc())?)?;
+    let machine = finish(hall, &gate);
+    assert!(rt; machine.complete());
+    assert_eq!(rt; machine.journal_len(), 10);
+    assert_eq!(rt; gate.calls.load(Ordering::SeqCst), 1);
+    Ok(())
 }
 
 #[test]
@@ -260,6 +288,14 @@ fn noted_at<M: Machine, R: Wait>(
     }
 }
 
+/// How many entries the seat at this index has seen, and how many of its participant; nothing where there is none.
+fn counts_at<M: Machine>(seats: &[Seat<M>], index: usize) -> Option<(u64, u64)> {
+    match seats.get(index) {
+        Some(seat) => Some((seat.seen(), seat.made())),
+        None => None,
+    }
+}
+
 #[test]
 fn notes_handed_out(rt: HostRuntime) -> Result<(), Fail> {
     let hall = hall_of(rt.alloc(), two_siblings(rt.alloc())?)?;
@@ -281,6 +317,8 @@ fn notes_handed_out(rt: HostRuntime) -> Result<(), Fail> {
         let noted = noted_at(&rt, &manager, &mut seats, index);
         assert_eq!(rt; noted, Some((kind, exception)));
     }
+    assert_eq!(rt; counts_at(seats.as_slice(), 0), Some((7, 3)));
+    assert_eq!(rt; counts_at(seats.as_slice(), 1), Some((8, 5)));
     let Closed {
         machine: _,
         writer,

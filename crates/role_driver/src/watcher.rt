@@ -1,4 +1,4 @@
-ghost use Rattle.std.specs.Prelude.{◌≡◌, ◌<◌, [], true, nat_lt, length};
+ghost use Rattle.std.specs.Prelude.{◌≡◌, ◌<◌, true, nat_lt, length};
 ghost use Rattle.role_driver.specs.Records.{is_record, is_news};
 
 use caa_base::entry::Object;
@@ -78,8 +78,8 @@ impl Watcher {
         self.seen.as_slice()
     }
 
-    /// The reading after all publications of the writer: by the observer, once it was told of them, and by the writer where that is
-    /// refused.
+    /// The reading after all publications of the writer: by the observer, once it was told of them, and by the writer where that
+    /// is refused.
     pub fn last_look(&mut self, writer: &mut CommittedWriter) -> Reading
         requires { task_of self.old ≡ task_by writer.old self.old.object }
         ensures task { task_of self.new ≡ task_of self.old }

@@ -20,9 +20,6 @@ known_itself k = record { book = refl; list = begins_itself k.list }
 known_further : (x y z : Known) → Begins x y → Begins y z → Begins x z
 known_further x y z p q = record { book = q.book ∙ p.book; list = begins_further x.list y.list z.list p.list q.list }
 
-newcomer : View
-newcomer = record { known = None }
-
 some_on : (before after : Known) (k : Option Known) → Begins before after → IfSome k (λ k. Begins k before) → IfSome k (λ k. Begins k after)
 some_on before after None more f = f
 some_on before after (Some k) more f = known_further k before after f more

@@ -1,33 +1,18 @@
 -- A bulletin goes on fitting the journal, entry by entry.
-use Rattle.std.proofs.Common.{◌≡◌, ◌≢◌, ℕ, ◌<◌, ◌==◌, ◌&&◌, Bool, true, false, List, ◌∷◌, length, get_or, set, Option, Some, None, if◌then◌else◌, refl, sym, ap, ◌∙◌, subst, arith, length-set, get_or-set_other, get_or-set_same, inl, inr}
+use Rattle.std.proofs.Common.{◌≡◌, ◌≢◌, ℕ, ◌<◌, ◌==◌, ◌&&◌, Bool, true, false, List, ◌∷◌, length, get_or, set, Option, Some, if◌then◌else◌, refl, sym, ap, ◌∙◌, subst, arith, length-set, get_or-set_other, get_or-set_same, inl, inr}
 use Rattle.std.proofs.lemmas.Bool.{cases_order}
 use Rattle.std.proofs.lemmas.Bool.Decides.{nat_tests}
 use Rattle.caa_base.specs.declared.entry.Entry.{Entry}
 use Rattle.caa_base.specs.declared.entry.Kind.TheVariants as kind
-use Rattle.place_plan.specs.Entries.{code_of, is_of, is_in}
+use Rattle.place_plan.specs.Entries.{is_of, is_in}
 use Rattle.place_plan.specs.Raising.{exception_resolved}
 use Rattle.shared_views.specs.declared.bulletin.Bulletin.{Bulletin}
 use Rattle.shared_views.specs.declared.bulletin.Told.{Told}
 use Rattle.shared_views.specs.declared.bulletin.Told.TheVariants as told
-use Rattle.shared_views.specs.Telling.{cells_of, IsTold, Tells, told_at, IsSet, IsFresh, KeepsUp, SaysTheSame, Suits}
+use Rattle.shared_views.specs.Telling.{cells_of, IsTold, Tells, told_at, KeepsUp}
 
 other_place : (q : ℕ) (e : Entry) (past : List Entry) (b : Bool) → is_in kind.Resolve q e ≡ b → b ≡ false → exception_resolved (e ∷ past) q ≡ exception_resolved past q
 other_place q e past b is off = ap (λ (b : Bool). if b then Some e.arg else exception_resolved past q) (is ∙ off)
-
--- before anything is resolved, a fresh bulletin fits
-pub fresh_keeps : (past : List Entry) (b : Bulletin) → ((p : ℕ) → exception_resolved past p ≡ None) → IsFresh b → KeepsUp past b
-fresh_keeps past b silent fresh = record {
-  set = fresh.set;
-  each = λ p low. subst (λ r. Tells (cells_of b) p (get_or b.announcer p false) r (told_at b p)) (sym (silent p)) (fresh.full p low);
-}
-
--- an entry of another kind changes nothing
-pub keeps_on : (past : List Entry) (b : Bulletin) (e : Entry) → is_of kind.Resolve e ≡ false → KeepsUp past b → KeepsUp (e ∷ past) b
-keeps_on past b e other k = record {
-  set = k.set;
-  each = λ p low. subst (λ r. Tells (cells_of b) p (get_or b.announcer p false) r (told_at b p))
-      (sym (other_place p e past _ refl (ap (λ x. x && (e.place == p)) other))) (k.each p low);
-}
 
 -- a Resolve was announced
 pub hears : (past : List Entry) (b : Bulletin) (e : Entry) (t : Told) (b' : Bulletin) → is_of kind.Resolve e ≡ true → e.place < length (cells_of b) → IsTold (cells_of b) e.place e.arg t
@@ -61,20 +46,6 @@ hears past b e t b' mine known tells cells boxes list k =
           (λ i. (sym cells i, sym boxes i, sym list i)) (each p (subst (λ n. p < n) same low));
     }
 
--- a bulletin that says the same fits as well
-pub says_still : (past : List Entry) (b b' : Bulletin) → SaysTheSame b b' → KeepsUp past b → KeepsUp past b'
-says_still past b b' same k =
-    let cells = same.cells in let boxes = same.boxes in let words = same.words in
-    record {
-      set = record { boxed = ap length boxes ∙ (k.set.boxed ∙ sym (ap length cells)); long = ap length words ∙ (k.set.long ∙ sym (ap length cells)) };
-      each = λ p low. subst (λ (x : List ℕ × List Bool × List Told). Tells x.0 p (get_or x.1 p false) (exception_resolved past p) (get_or x.2 p told.Nothing))
-          (λ i. (sym cells i, sym boxes i, sym words i)) (k.each p (subst (λ n. p < n) (ap length cells) low));
-    }
-
--- while a place isn't resolved its box is there
-pub box_there : (past : List Entry) (b : Bulletin) (p : ℕ) → KeepsUp past b → p < length (cells_of b) → exception_resolved past p ≡ None → get_or b.announcer p false ≡ true
-box_there past b p k low is = subst (λ r. Tells (cells_of b) p (get_or b.announcer p false) r (told_at b p)) is (k.each p low)
-
 -- of a place that is resolved it was told
 pub told_there : (past : List Entry) (b : Bulletin) (p x : ℕ) → KeepsUp past b → p < length (cells_of b) → exception_resolved past p ≡ Some x → IsTold (cells_of b) p x (told_at b p)
 told_there past b p x k low is = subst (λ r. Tells (cells_of b) p (get_or b.announcer p false) r (told_at b p)) is (k.each p low)
@@ -82,9 +53,3 @@ told_there past b p x k low is = subst (λ r. Tells (cells_of b) p (get_or b.ann
 -- the word on a place that was just written
 pub told_now : (b b' : Bulletin) (p : ℕ) (t : Told) → length b.told.items ≡ length (cells_of b) → p < length (cells_of b) → b'.told.items ≡ set b.told.items p t → told_at b' p ≡ t
 told_now b b' p t long low is = ap (λ l. get_or l p told.Nothing) is ∙ get_or-set_same b.told.items p t told.Nothing (omega (arith, long, low))
-
-resolve_is : (e : Entry) → e.kind ≡ kind.Resolve → is_of kind.Resolve e ≡ true
-resolve_is e is = ap (λ k. code_of kind.Resolve == code_of k) is
-
-other_is : (e : Entry) (b : Bool) → b ≡ (code_of kind.Resolve == code_of e.kind) → b ≡ false → is_of kind.Resolve e ≡ false
-other_is e b is off = sym is ∙ off

@@ -1,7 +1,7 @@
 -- What was read stays right when more is published.
-use Rattle.std.proofs.Common.{◌≡◌, ◌∙◌, ℕ, ◌≤◌, ℤ, List, ◌++◌, length, take, ap, sym, subst, arith, le_of_eq}
+use Rattle.std.proofs.Common.{◌≡◌, ◌∙◌, ℕ, ◌≤◌, ℤ, List, length, take, ap, sym, arith, le_of_eq}
 use Rattle.std.proofs.lemmas.List.{take_all, take-append-le}
-use Rattle.shared_views.specs.Publications.{Changes, Known, Begins, value_after}
+use Rattle.shared_views.specs.Publications.{Known, Begins, value_after}
 use Rattle.shared_views.specs.Committing.{IsReading, WasRead}
 use Rattle.shared_views.specs.declared.observed.Reading.{Reading}
 use Rattle.shared_views.proofs.Beginnings.{beginning_length}

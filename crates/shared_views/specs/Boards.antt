@@ -11,6 +11,7 @@ use Rattle.shared_views.specs.declared.board.View.{View}
 abbrev pub Shown : Type 0
 Shown = List (Option ℤ) × Known
 
+-- what this board shows
 abbrev pub shown : Board → Shown
 shown b = (b.given.items, b.publications)
 

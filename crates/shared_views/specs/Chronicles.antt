@@ -7,6 +7,7 @@ use Rattle.shared_views.specs.Publications.{Changes}
 abbrev pub IsCounted : List Cell → List Changes → Type 0
 IsCounted cells list = cells ≡ (length list, true) ∷ (0, true) ∷ []
 
+-- the word of a book in which its length stands
 abbrev pub head_of : Book → Named
 head_of b = record { tracked = true; key = 0; book = b }
 

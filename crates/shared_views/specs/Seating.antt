@@ -6,9 +6,10 @@ use Rattle.shared_views.specs.Publications.{Known}
 use Rattle.shared_views.specs.Chronicles.{head_of}
 use Rattle.shared_views.specs.Boards.{IsRight}
 use Rattle.shared_views.specs.Committing.{Committed, Watching}
-use Rattle.shared_views.specs.declared.committed.CommittedWriter.TheInside.{Inside as WriterInside}
+use Rattle.shared_views.specs.declared.committed_writer.CommittedWriter.TheInside.{Inside as WriterInside}
 use Rattle.shared_views.specs.declared.observer.Observer.TheInside.{Inside as ObserverInside}
 
+-- what contracts see of a writer
 abbrev pub committed : WriterInside → Committed
 committed w = record { initials = w.initials.items; publications = w.writer.desk.shown.value.publications; is_stale = w.stale }
 
@@ -20,6 +21,7 @@ pub record IsInOrder (w : WriterInside) : Type 0 where
   pub head : w.head ≡ head_of w.writer.desk.shown.value.publications.book
   pub idle : w.stale ≡ false → drop w.writer.behind w.writer.log.items ≡ []
 
+-- what contracts see of an observer
 abbrev pub watching_view : ObserverInside → Watching
 watching_view o = record { initials = o.initials.items; known = o.known }
 

@@ -2,7 +2,6 @@
 use Rattle.std.specs.Prelude.{◌≡◌, ℕ, ◌<◌, Bool, true, false, List, length, slice_index_or, Option, Some, None}
 use Rattle.caa_base.specs.declared.entry.Kind.{Kind}
 use Rattle.caa_base.specs.declared.entry.Kind.TheVariants as kind
-use Rattle.place_plan.specs.Entries.{is_of}
 use Rattle.caa_base.specs.declared.entry.Entry.{Entry}
 use Rattle.place_plan.specs.Raising.{exception_resolved}
 use Rattle.shared_views.specs.Noted.{Noted, IsOf}
@@ -57,8 +56,8 @@ pub record SaysTheSame (b b' : Bulletin) : Type 0 where
   pub boxes : b'.announcer ≡ b.announcer
   pub words : b'.told.items ≡ b.told.items
 
--- an entry after this past: its place has a cell, a Resolve comes to a place that isn't resolved, and a Handle carries the exception
--- to which its place is resolved
+-- an entry after this past: its place has a cell, a Resolve comes to a place that isn't resolved, and a Handle carries the
+-- exception to which its place is resolved
 pub record Suits (cells : List ℕ) (past : List Entry) (e : Entry) : Type 0 where
   pub inside : e.place < length cells
   pub fresh : e.kind ≡ kind.Resolve → exception_resolved past e.place ≡ None

@@ -1,4 +1,4 @@
-ghost use Rattle.std.specs.Prelude.{◌≡◌, ◌<◌, ℕ, true, false, List, ◌∷◌, length, slice_index_or, slice_set, replicate, Some, IfOk};
+ghost use Rattle.std.specs.Prelude.{◌≡◌, ◌<◌, ℕ, true, false, List, ◌∷◌, length, slice_index_or, slice_set, replicate, IfOk};
 ghost use Rattle.caa_base.specs.declared.entry.Entry.{Entry as JournalEntry};
 
 use crate::cells::{Announcer, ResolutionCells};
@@ -58,7 +58,8 @@ impl Bulletin {
         requires fresh { slice_index_or self.old.announcer place false ≡ true }
         ensures cells { cells_of self.new ≡ cells.now }
         ensures used { self.new.announcer ≡ slice_set self.old.announcer place false }
-        ensures told { (t : Told) × (self.new.told.items ≡ slice_set self.old.told.items place t) × IsTold cells.now place exception t }
+        ensures told { (t : Told)
+            × (self.new.told.items ≡ slice_set self.old.told.items place t) × IsTold cells.now place exception t }
     {
         let mut note = cells.note(place);
         let told = match cells.announce(&mut self.announcer, &mut note, exception) {
@@ -82,13 +83,14 @@ impl Bulletin {
 
     /// Takes in an entry that was made: a Resolve is announced.
     ///
-    /// Of a Resolve and of a Handle comes what was told of the place: a note that knows the exception, or the refusal of its cell;
-    /// of all others nothing.
+    /// Of a Resolve and of a Handle comes what was told of the place: a note that knows the exception, or the refusal of its
+    /// cell; of all others nothing.
     pub fn take_in(&mut self, cells: &ResolutionCells, entry: Entry) -> Told
         requires ours { cells_of self.old ≡ cells.now }
         requires follows { (past : List JournalEntry) × KeepsUp past self.old × Suits cells.now past entry }
         ensures cells { cells_of self.new ≡ cells.now }
-        ensures keeps_up { (past : List JournalEntry) → KeepsUp past self.old → Suits cells.now past entry → KeepsUp (entry ∷ past) self.new }
+        ensures keeps_up { (past : List JournalEntry)
+            → KeepsUp past self.old → Suits cells.now past entry → KeepsUp (entry ∷ past) self.new }
         ensures told { TellsOf entry.kind cells.now entry result }
     {
         match entry.kind {

@@ -1,5 +1,5 @@
 ghost use Rattle.std.specs.Prelude.{◌≡◌, ◌<◌, ℕ, true, false, length, slice_index_or, slice_set, replicate, IfOk, IfErr, IfSome, IfNone, Some, None};
-ghost use Rattle.shared_views.specs.Noted.{Noted, IsOf};
+ghost use Rattle.shared_views.specs.Noted.{IsOf};
 
 use crate::bulletin::{Bulletin, Told};
 use crate::notes::{NoteRefused, PlaceNote};
@@ -131,7 +131,7 @@ impl ResolutionCells {
         })
     }
 
-    /// Agreement: two notes of one place that know a value know the same one. It changes nothing.
+    /// Two notes of one place never differ in what they know. The call changes nothing.
     pub fn agree(&self, one: &mut PlaceNote, other: &mut PlaceNote)
         requires ours { IsOf self.now one.old × IsOf self.now other.old × (one.old.place ≡ other.old.place) }
         ensures same { (one.new ≡ one.old) × (other.new ≡ other.old) }

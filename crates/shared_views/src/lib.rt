@@ -1,11 +1,11 @@
-//! What running threads may see without taking turns: the exception to which each place was resolved, with the notes of it, and the
-//! committed values of the objects.
+//! What running threads may see without taking turns: the exception to which each place was resolved, with the notes of it, and
+//! the committed values of the objects.
 #![tactic(auto)]
 
 mod board;
 mod bulletin;
 mod cells;
-mod committed;
+mod committed_writer;
 mod notes;
 mod observed;
 mod observer;
@@ -13,7 +13,7 @@ mod publications;
 
 pub use bulletin::{Bulletin, Told};
 pub use cells::{Announcer, ResolutionCells};
-pub use committed::{CommittedWriter, PublishError};
+pub use committed_writer::{CommittedWriter, PublishError};
 pub use notes::{NoteRefused, PlaceNote};
 pub use observed::{ReadRefused, Reading, reading_stands};
 pub use observer::Observer;

@@ -11,8 +11,8 @@ pub struct Reading {
     pub value: i64,
 }
 
-/// No reading was had: `left_right` gave the observer no place, didn't let it enter, or showed a board older than what the observer
-/// was told of. This crate alone makes one.
+/// No reading was had: `left_right` gave the observer no place, didn't let it enter, or showed a board older than what the
+/// observer was told of. This crate alone makes one.
 #[derive(Debug, Drop, PartialEq, Eq)]
 pub struct ReadRefused {
     seal: (),

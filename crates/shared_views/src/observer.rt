@@ -76,7 +76,8 @@ impl Observer {
         requires writer { (view writer.old.desk.place).known ≡ Some writer.old.desk.shown.value.publications }
         requires book { writer.old.desk.shown.value.publications.book ≡ self.old.known.book }
         ensures same { self.new ≡ self.old }
-        ensures shown { (writer.new.desk.shown ≡ writer.old.desk.shown) × (writer.new.log ≡ writer.old.log) × (writer.new.behind ≡ writer.old.behind) }
+        ensures shown { (writer.new.desk.shown ≡ writer.old.desk.shown) × (writer.new.log ≡ writer.old.log)
+            × (writer.new.behind ≡ writer.old.behind) }
         ensures writer { (view writer.new.desk.place).known ≡ Some writer.new.desk.shown.value.publications }
     {
         if let Ok(mut reader) = writer.factory().reader() {

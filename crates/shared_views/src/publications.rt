@@ -126,7 +126,8 @@ impl Publications {
     pub(crate) fn add(&mut self, head: &Head, changes: &Vec<(Object, i64)>) -> bool
         requires head { head.now ≡ head_of self.old.book }
         ensures book { self.new.book ≡ self.old.book }
-        ensures added { MatchBool result (self.new.list ≡ self.old.list ++ changes.now.items ∷ []) (IsPrefix self.old.list self.new.list) }
+        ensures added { MatchBool result (self.new.list ≡ self.old.list ++ changes.now.items ∷ [])
+            (IsPrefix self.old.list self.new.list) }
     {
         if self.ends == u64::MAX {
             return false;

@@ -159,12 +159,14 @@ fn faults_are_told(rt: HostRuntime) -> Result<(), Fail> {
 #[test]
 fn what_is_not_written_whole_is_a_sink_fault(rt: HostRuntime) -> Result<(), Fail> {
     let words = words_of(rt.alloc(), &["sim", "1"])?;
-    for n in 1..=ORDINARY_USE_TEXT.len() {
+    let bytes = ORDINARY_USE_TEXT.len();
+    for n in 1..=bytes + 1 {
         let mut source = MemSource::new(rt.alloc(), ORDINARY_USE, &[])?;
         let mut sink = OneByteSink::new(rt.alloc(), 1000, &[n as u64])?;
         let plant = MemPlant::new(false);
         let ended = top_quiet(rt.alloc(), words.as_slice(), &mut source, &mut sink, plant);
-        assert_eq!(rt; ended.status, Status::SinkFault);
+        let wanted = if n <= bytes { Status::SinkFault } else { Status::Done };
+        assert_eq!(rt; ended.status, wanted);
         assert_eq!(rt; sink.bytes(), &ORDINARY_USE_TEXT[..n - 1]);
         assert_eq!(rt; ended.journal.len(), 11);
     }

@@ -6,7 +6,7 @@ use Rattle.caa_main.proofs.top.top.Goals as goal
 pub returns-in-Some-Run-clause-answer : goal.returns-in-Some-Run-clause-answer
 returns-in-Some-Run-clause-answer g c =
     let run = ap Some (sym c.in-Some-Run.field-0-is) ∙ c.in-Some-Run.ensures.command in
-    answered g.P.Plant _ _ _ c.args.plant _ _ _ _ _ _ _ run c.tell.ensures.plant c.decide_run-coming.ensures.came c.tell.ensures.tells
+    answered g.P.Plant _ _ _ c.args.plant _ _ _ _ _ _ _ run c.tell.ensures.plant c.decide_run-decision.ensures.came c.tell.ensures.tells
 
 pub returns-in-Some-Run-clause-completeness : goal.returns-in-Some-Run-clause-completeness
 returns-in-Some-Run-clause-completeness g c = complete _ _ _ (returns-in-Some-Run-clause-answer g c)

@@ -1,7 +1,6 @@
-use Rattle.std.proofs.Common.{◌≡◌, ◌<◌, ◌∙◌, refl, ap, sym, subst, get_or, set, length}
+use Rattle.std.proofs.Common.{◌≡◌, ◌<◌, ◌∙◌, refl, ap, sym, subst, set, length}
 use Rattle.std.proofs.lemmas.List.{get_or_default, set-get_or}
 use Rattle.shared_views.specs.Telling.{IsTold, told_at}
-use Rattle.shared_views.specs.declared.bulletin.Told.{Told}
 use Rattle.shared_views.specs.declared.bulletin.Told.TheVariants as told
 use Rattle.shared_views.proofs.bulletin.Bulletin.share.Goals as goal
 

@@ -1,5 +1,4 @@
-use Rattle.std.proofs.Common.{◌≡◌, ◌<◌, ◌∙◌, sym, subst, length, List, ◌∷◌, Some}
-use Rattle.caa_base.specs.declared.entry.Entry.{Entry}
+use Rattle.std.proofs.Common.{◌<◌, sym, subst, length}
 use Rattle.caa_base.specs.declared.entry.Kind.{Kind}
 use Rattle.shared_views.specs.Telling.{cells_of, IsTold, told_at, TellsOf}
 use Rattle.shared_views.proofs.KeepingUp.{told_there, told_now}

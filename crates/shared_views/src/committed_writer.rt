@@ -1,0 +1,260 @@
+ghost use Rattle.std.specs.Prelude.{◌≡◌, ◌<◌, ◌∷◌, ◌++◌, [], true, false, All, length, replicate, drop, None, Some, IfOk, MatchResult};
+ghost use Rattle.left_right.specs.Sides.{view};
+ghost use Rattle.shared_views.specs.Boards.{IsRight, Follows};
+ghost use Rattle.shared_views.specs.Committing.{Committed, initials_of, watching, IsReading};
+
+use crate::board::{Board, Looks, Publication};
+use crate::observed::Reading;
+use crate::observer::{BoardWriter, Observer};
+use crate::publications::{Head, Publications};
+use caa_base::entry::{Object, OutOfMemory};
+use core::mem::replace_with;
+use left_right::writer::Writer;
+use place_plan::plan::Plan;
+use std::alloc::Global;
+use std::marker::Model;
+use std::sync::Wait;
+use thiserror::Error;
+
+/// Why nothing was published.
+#[derive(Clone, Copy, Debug, PartialEq, Eq, Error)]
+pub enum PublishError {
+    /// No memory was found. From now on the view is stale.
+    #[error("out of memory")]
+    OutOfMemory,
+    /// An earlier publication found no memory.
+    #[error("the view is stale")]
+    Stale,
+}
+
+/// Publishes the committed values of the objects, which its observers read.
+///
+/// Contracts see the initial values, all publications, and whether the view is stale. It isn't dropped: `end` ends it.
+pub struct CommittedWriter {
+    writer: BoardWriter,
+    head: Head,
+    initials: Vec<i64>,
+    stale: bool,
+}
+
+impl Model for CommittedWriter {
+    ghost use Rattle.shared_views.specs.Committing.{Committed};
+    ghost use Rattle.shared_views.specs.Seating.{committed, IsInOrder};
+
+    ghost Value = { Committed };
+
+    ghost view = { committed };
+
+    ghost invariant = { IsInOrder };
+}
+
+/// The initial value of each object.
+fn initials_of(alloc: Global, plan: &Plan) -> Result<Vec<i64>, OutOfMemory>
+    ensures { IfOk result (λ v. v.items ≡ initials_of plan.now) }
+{
+    let mut initials = Vec::new(alloc);
+    for object in 0..plan.objects() {
+        initials.push(plan.initial(object))?;
+    }
+    Ok(initials)
+}
+
+/// A writer that shows a board of this many objects, on which nothing was published.
+fn showing<R: Wait>(
+    rt: &R,
+    alloc: Global,
+    objects: u32,
+    publications: &Publications,
+    observers: u32,
+) -> Result<BoardWriter, OutOfMemory>
+    requires none { publications.now.list ≡ [] }
+    ensures given { IfOk result (λ w. w.desk.shown.value.given.items ≡ replicate objects None) }
+    ensures publications { IfOk result (λ w. w.desk.shown.value.publications ≡ publications.now) }
+    ensures right { IfOk result (λ w. IsRight w.desk.shown.value) }
+    ensures known { IfOk result (λ w. (view w.desk.place).known ≡ Some publications.now) }
+    ensures idle { IfOk result (λ w. drop w.behind w.log.items ≡ []) }
+{
+    let first = Board::blank(alloc, objects, publications.again())?;
+    let second = Board::blank(alloc, objects, publications.again())?;
+    let places = observers.max(1) as usize;
+    let writer = Writer::new(alloc, first, second, places)?;
+    let (writer, _shown) = writer.publish_as::<Looks, R>(rt);
+    Ok(writer)
+}
+
+/// Gives each observer a place at the board, as far as there are any.
+fn seat_all(writer: &mut BoardWriter, observers: &mut Vec<Observer>)
+    requires writer { (view writer.old.desk.place).known ≡ Some writer.old.desk.shown.value.publications }
+    requires book { All (λ o. o.known.book ≡ writer.old.desk.shown.value.publications.book) observers.old.items }
+    ensures same { observers.new.items ≡ observers.old.items }
+    ensures shown { (writer.new.desk.shown ≡ writer.old.desk.shown) × (writer.new.log ≡ writer.old.log)
+        × (writer.new.behind ≡ writer.old.behind) }
+{
+    for index in 0..observers.len() {
+        observers[index].take_place(writer);
+    }
+}
+
+/// Shows observers what waits to be shown, which is one publication.
+fn show<R: Wait>(writer: BoardWriter, rt: &R) -> (BoardWriter, ())
+    requires right { IsRight writer.desk.shown.value }
+    requires waits { (p : _) × (drop writer.behind writer.log.items ≡ p ∷ []) × Follows writer.desk.shown.value p }
+    ensures right { IsRight result.0.desk.shown.value }
+    ensures wide { length result.0.desk.shown.value.given.items ≡ length writer.desk.shown.value.given.items }
+    ensures publications { (p : _) → drop writer.behind writer.log.items ≡ p ∷ []
+        → result.0.desk.shown.value.publications ≡ p.publications }
+    ensures idle { drop result.0.behind result.0.log.items ≡ [] }
+{
+    let (writer, _shown) = writer.publish_as::<Looks, R>(rt);
+    (writer, ())
+}
+
+impl CommittedWriter {
+    ghost use Rattle.std.specs.Prelude.{◌↔◌, IsTrue, is_err, Err};
+    ghost use Rattle.shared_views.specs.declared.committed_writer.PublishError.TheVariants.{Stale};
+
+    /// A writer that has published nothing, and so many observers.
+    ///
+    /// An observer to which `left_right` gave no place is refused each reading.
+    pub fn open<R: Wait>(
+        rt: &R,
+        alloc: Global,
+        plan: &Plan,
+        observers: u32,
+    ) -> Result<(CommittedWriter, Vec<Observer>), OutOfMemory>
+        ensures initials { IfOk result (λ r. r.0.initials ≡ initials_of plan.now) }
+        ensures none { IfOk result (λ r. r.0.publications.list ≡ []) }
+        ensures fresh { IfOk result (λ r. r.0.is_stale ≡ false) }
+        ensures observers { IfOk result (λ r. r.1.items ≡ replicate observers (watching r.0)) }
+    {
+        let initials = initials_of(alloc, plan)?;
+        let (publications, head) = Publications::none();
+        let mut seats = Observer::all_apart(alloc, &initials, &publications, observers)?;
+        let mut writer = showing(rt, alloc, plan.objects(), &publications, observers)?;
+        seat_all(&mut writer, &mut seats);
+        let committed = CommittedWriter {
+            writer,
+            head,
+            initials,
+            stale: false,
+        };
+        Ok((committed, seats))
+    }
+
+    /// Publishes these changes, which observers see all at one step.
+    ///
+    /// Where it finds no memory, what observers read stays as it is for good: the view is stale.
+    pub fn publish<R: Wait>(
+        &mut self,
+        rt: &R,
+        alloc: Global,
+        changes: &[(Object, i64)],
+    ) -> Result<(), PublishError>
+        requires objects { All (λ c. c.0 < length self.old.initials) changes.now }
+        ensures initials { self.new.initials ≡ self.old.initials }
+        ensures book { self.new.publications.book ≡ self.old.publications.book }
+        ensures published { MatchResult result
+            (λ _. self.new.publications.list ≡ self.old.publications.list ++ changes.now ∷ [])
+            (λ _. self.new.publications ≡ self.old.publications) }
+        ensures marked { self.new.is_stale ≡ is_err result }
+        ensures stale { (result ≡ Err Stale) ↔ IsTrue self.old.is_stale }
+    {
+        if self.stale {
+            return Err(PublishError::Stale);
+        }
+        match self.add(rt, alloc, changes) {
+            Ok(()) => Ok(()),
+            Err(OutOfMemory) => {
+                self.stale = true;
+                Err(PublishError::OutOfMemory)
+            }
+        }
+    }
+
+    /// Adds a publication of these changes, and shows it.
+    fn add<R: Wait>(
+        &mut self,
+        rt: &R,
+        alloc: Global,
+        changes: &[(Object, i64)],
+    ) -> Result<(), OutOfMemory>
+        requires objects { All (λ c. c.0 < length self.old.initials) changes.now }
+        requires fresh { self.old.is_stale ≡ false }
+        ensures initials { self.new.initials ≡ self.old.initials }
+        ensures fresh { self.new.is_stale ≡ false }
+        ensures book { self.new.publications.book ≡ self.old.publications.book }
+        ensures added { MatchResult result
+            (λ _. self.new.publications.list ≡ self.old.publications.list ++ changes.now ∷ [])
+            (λ _. self.new.publications ≡ self.old.publications) }
+    {
+        let publication = self.prepared(alloc, changes)?;
+        match self.writer.append(publication) {
+            Ok(()) => {
+                replace_with(&mut self.writer, rt, show);
+                Ok(())
+            }
+            Err(_refused) => Err(OutOfMemory),
+        }
+    }
+
+    /// A publication of these changes, which goes on from what was published.
+    fn prepared(&self, alloc: Global, changes: &[(Object, i64)]) -> Result<Publication, OutOfMemory>
+        ensures changes { IfOk result (λ p. p.changes.items ≡ changes.now) }
+        ensures book { IfOk result (λ p. p.publications.book ≡ self.now.publications.book) }
+        ensures more { IfOk result (λ p. p.publications.list ≡ self.now.publications.list ++ changes.now ∷ []) }
+    {
+        let mut list = Vec::new(alloc);
+        list.extend_from_slice(changes)?;
+        let mut publications = self.writer.published().publications.again();
+        if !publications.add(&self.head, &list) {
+            return Err(OutOfMemory);
+        }
+        Ok(Publication {
+            changes: list,
+            publications,
+        })
+    }
+
+    /// Tells an observer what was published.
+    pub fn tell(&mut self) -> Publications
+        ensures same { self.new ≡ self.old }
+        ensures told { result ≡ self.old.publications }
+    {
+        self.writer.published().publications.again()
+    }
+
+    /// The value of an object after all publications.
+    pub fn last(&self, object: Object) -> Reading
+        requires { object < length self.now.initials }
+        ensures { IsReading self.now.initials self.now.publications object result }
+    {
+        self.writer.published().reading(object, &self.initials)
+    }
+
+    /// Whether an earlier publication found no memory.
+    pub fn is_stale(&self) -> bool
+        ensures { result ≡ self.now.is_stale }
+    {
+        self.stale
+    }
+
+    /// Ends the writer. It waits for readings that are under way. Afterwards its observers may be refused.
+    pub fn end<R: Wait>(self, rt: &R) {
+        let CommittedWriter {
+            writer,
+            head: _head,
+            initials: _initials,
+            stale: _,
+        } = self;
+        drop(writer.take(rt));
+    }
+}
+
+fn may_cross<T: Send>(_x: &T) {}
+
+/// A writer, an observer and what the one tells the other may go to another thread.
+pub fn crosses_threads(writer: &CommittedWriter, observer: &Observer, publications: &Publications) {
+    may_cross(writer);
+    may_cross(observer);
+    may_cross(publications);
+}
