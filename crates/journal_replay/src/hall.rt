@@ -25,7 +25,7 @@ use journal_laws::{is_bounded, is_well_formed, last_put_is_value};
 use place_plan::machine::{Answer, Machine};
 use place_plan::plan::Plan;
 use place_plan::value::value_at;
-use std::alloc::{AllocError, Global};
+use std::alloc::Global;
 use thiserror::Error;
 
 /// Why a hall couldn't be opened.
@@ -83,7 +83,7 @@ pub struct PlainHall<P: Plant> {
 }
 
 /// The values of the objects before the first entry.
-fn initial_values(alloc: Global, plan: &Plan) -> Result<Vec<i64>, AllocError>
+fn initial_values(alloc: Global, plan: &Plan) -> Result<Vec<i64>, OutOfMemory>
     ensures { IfOk result (λ values. values.items ≡ map (λ row. row.initial) plan.now.objects) }
 {
     let mut values = Vec::new(alloc);
@@ -94,7 +94,7 @@ fn initial_values(alloc: Global, plan: &Plan) -> Result<Vec<i64>, AllocError>
 }
 
 /// The puts that the device is to refuse.
-fn drills_of(alloc: Global, plan: &Plan) -> Result<Vec<Drill>, AllocError>
+fn drills_of(alloc: Global, plan: &Plan) -> Result<Vec<Drill>, OutOfMemory>
     ensures { IfOk result (λ drills. drills.items ≡ plan.now.drills) }
 {
     let mut drills = Vec::new(alloc);
@@ -121,12 +121,8 @@ fn lay_out<P: Plant>(alloc: Global, plan: &Plan, plant: &mut P) -> Result<(), Pl
     ensures lay_faults { CountsFault (is_refused result) (P.lay_faults plant.old) (P.lay_faults plant.new) }
     ensures faults { P.faults plant.new ≡ P.faults plant.old }
 {
-    let Ok(values) = initial_values(alloc, plan) else {
-        return Err(PlantError::OutOfMemory);
-    };
-    let Ok(drills) = drills_of(alloc, plan) else {
-        return Err(PlantError::OutOfMemory);
-    };
+    let values = initial_values(alloc, plan)?;
+    let drills = drills_of(alloc, plan)?;
     plant.lay(alloc, values.as_slice(), drills.as_slice(), plan.bound())
 }
 
