@@ -1,5 +1,5 @@
 -- Numbers by their digits.
-use Rattle.std.proofs.Common.{◌≡◌, ℕ, ◌-◌, ◌<◌, List, Some, None, arith}
+use Rattle.std.proofs.Common.{◌≡◌, ℕ, ◌<◌, List, Some, None, arith}
 use Rattle.std.proofs.lemmas.Bool.Decides.{nat_tests}
 use Rattle.action_script.specs.ScriptWords.{at_most}
 use Rattle.caa_base.specs.Lines.{digits_after}

@@ -1,5 +1,5 @@
 -- Each entry of a legal journal of a playable plan is well formed.
-use Rattle.std.proofs.Common.{◌≡◌, ℕ, pos, ◌-◌, ◌⊎◌, Bool, true, false, cond, List, [], ◌∷◌, Option, Some, None, refl, sym, subst, arith, inl, inr, MatchBool}
+use Rattle.std.proofs.Common.{◌≡◌, ℕ, pos, ◌⊎◌, Bool, true, false, cond, List, [], ◌∷◌, Option, Some, None, refl, sym, subst, arith, inl, inr, MatchBool}
 use Rattle.std.proofs.lemmas.List.Elements.{All-nil, All-cons}
 use Rattle.std.proofs.lemmas.Bool.{ltb-true, leb-true}
 use Rattle.caa_base.specs.declared.entry.Entry.{Entry}

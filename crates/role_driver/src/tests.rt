@@ -71,7 +71,12 @@ fn look(alloc: Global) -> Result<Plan, Fail> {
 
 /// Role r reads x and adds 1 to it; ann plays that once, and bob once.
 fn two_plays(alloc: Global) -> Result<Plan, Fail> {
-    let adds = plain_role(alloc, b"r", &[Step::Read(0), Step::Add(0, 1)], Verdict::Done)?;
+    let adds = plain_role(
+        alloc,
+        b"r",
+        &[Step::Read(0), Step::Add(0, 1)],
+        Verdict::Done,
+    )?;
     let roles = vec![in alloc; adds]?;
     let writes = action(alloc, b"w", PLAIN, &[0], roles, Vec::new(alloc))?;
     let plays = vec![in alloc; play(alloc, 0, &[0])?, play(alloc, 0, &[1])?]?;
