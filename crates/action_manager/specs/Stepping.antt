@@ -17,20 +17,20 @@ abbrev pub IsAtRest : {S : Type 0} → Terms → Me S View → Type 0
 IsAtRest {S = S} terms m = ◌≡◌ {A = Me S View} m (rested terms m.0.who m.0.seen, [])
 
 -- the new journal begins with the old one, and no entry of t was added
-pub record GrowsWithout (t : ℕ) (old new : Journal) : Type 0 where
+pub record GrowsWithout (old new : Journal) (t : ℕ) : Type 0 where
   pub begins : IsPrefix old new
   pub alone : entries_by t new ≡ entries_by t old
 
 -- what a step of t answers, with what its seat had seen and has seen: the answer is that of the machine on a journal that begins
 -- with what was seen and has no further entry of t, and what is seen now is the journal that the machine then left
-pub record Steps (plan : Plan) (t : ℕ) (old new : Journal) (hint : Option Worked) (answer : Answer) : Type 0 where
+pub record Steps (plan : Plan) (old new : Journal) (t : ℕ) (hint : Option Worked) (answer : Answer) : Type 0 where
   pub before : Journal
-  pub grown : GrowsWithout t old before
+  pub grown : GrowsWithout old before t
   pub legal_before : IsLegal plan before
   pub answers : Answers plan before new t hint answer
   pub legal : IsLegal plan new
 
 -- a turn of t that makes no entry: a legal journal was seen, which begins with what had been seen
-pub record Looks (plan : Plan) (t : ℕ) (old new : Journal) : Type 0 where
-  pub grown : GrowsWithout t old new
+pub record Looks (plan : Plan) (old new : Journal) (t : ℕ) : Type 0 where
+  pub grown : GrowsWithout old new t
   pub legal : IsLegal plan new

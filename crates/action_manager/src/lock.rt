@@ -140,7 +140,7 @@ impl<H: Home> Lock<H> {
             ) }
         ensures room { result.0 + 1 < 2 ^ 64 }
         ensures right { H.right (H.terms (plan_at self.now) (home_at self.now)) result.1 }
-        ensures grown { GrowsWithout token.old.me.0.who token.old.me.0.seen (H.journal result.1) }
+        ensures grown { GrowsWithout token.old.me.0.seen (H.journal result.1) token.old.me.0.who }
     {
         let ticket = self.draw(rt, token);
         let home = self.take(rt, token, ticket);

@@ -295,7 +295,7 @@ impl<M: Machine> Manager<M> {
         requires opened { IsSeatIn M.base_of self.now seat.old }
         ensures opened { IsSeatIn M.base_of self.now seat.new }
         ensures same { participant_of seat.new ≡ participant_of seat.old }
-        ensures turn { Steps (plan_in self.now) (participant_of seat.old) (seen_by seat.old) (seen_by seat.new) hint result }
+        ensures turn { Steps (plan_in self.now) (seen_by seat.old) (seen_by seat.new) (participant_of seat.old) hint result }
         ensures told { TellsAfter (cells_in self.now) result (told_to seat.new) }
     {
         let (ticket, mut home) = self.lock.begin(rt, &mut seat.token);
@@ -316,7 +316,7 @@ impl<M: Machine> Manager<M> {
         requires opened { IsSeatIn M.base_of self.now seat.old }
         ensures opened { IsSeatIn M.base_of self.now seat.new }
         ensures same { (participant_of seat.new ≡ participant_of seat.old) × (told_to seat.new ≡ told_to seat.old) }
-        ensures turn { Looks (plan_in self.now) (participant_of seat.old) (seen_by seat.old) (seen_by seat.new) }
+        ensures turn { Looks (plan_in self.now) (seen_by seat.old) (seen_by seat.new) (participant_of seat.old) }
         ensures longer { IsTrue result ↔ (length (seen_by seat.old) < length (seen_by seat.new)) }
     {
         let was = seat.seen;
@@ -334,7 +334,7 @@ impl<M: Machine> Manager<M> {
         requires opened { IsSeatIn M.base_of self.now seat.old }
         ensures opened { IsSeatIn M.base_of self.now seat.new }
         ensures same { (participant_of seat.new ≡ participant_of seat.old) × (told_to seat.new ≡ told_to seat.old) }
-        ensures turn { Looks (plan_in self.now) (participant_of seat.old) (seen_by seat.old) (seen_by seat.new) }
+        ensures turn { Looks (plan_in self.now) (seen_by seat.old) (seen_by seat.new) (participant_of seat.old) }
         ensures longer { length (seen_by seat.old) < length (seen_by seat.new) }
     {
         for _ in rt.forever() {

@@ -34,7 +34,7 @@ fn ask<M: Machine>(manager: &Manager<M>, seat: &mut Seat<M>, handle: Entry) -> O
 }
 
 /// One turn of a seat, which asks the cell of the place after each Handle.
-pub fn step_and_ask<M: Machine, R: Wait>(
+pub(crate) fn step_and_ask<M: Machine, R: Wait>(
     rt: &R,
     manager: &Manager<M>,
     seat: &mut Seat<M>,
@@ -43,7 +43,7 @@ pub fn step_and_ask<M: Machine, R: Wait>(
     requires opened { IsSeatIn M.base_of manager.now seat.old }
     ensures opened { IsSeatIn M.base_of manager.now seat.new }
     ensures same { participant_of seat.new ≡ participant_of seat.old }
-    ensures turn { Steps (plan_in manager.now) (participant_of seat.old) (seen_by seat.old) (seen_by seat.new) hint result }
+    ensures turn { Steps (plan_in manager.now) (seen_by seat.old) (seen_by seat.new) (participant_of seat.old) hint result }
 {
     let answer = manager.step(rt, seat, hint);
     if let Answer::Did(entry) = answer {

@@ -22,7 +22,7 @@ pub overflow_add-seat : goal.overflow_add-seat
 overflow_add-seat g c =
     let was = g.M.Machine.journal_of c.begin-ticket.result.1.machine in let now = g.M.Machine.journal_of c.next-answer.new.self.machine in
     let seat = c.args.seat.now in let who = seat.participant in let seen = seat.token.me.0.seen in
-    let grown : GrowsWithout who seen was = subst (λ t. GrowsWithout t seen was) (sym seat.who) c.begin-ticket.ensures.grown in
+    let grown : GrowsWithout seen was who = subst (λ t. GrowsWithout seen was t) (sym seat.who) c.begin-ticket.ensures.grown in
     let one = did_makes _ was now seen who _ c.next-answer.result.0 c.in-Did.field-0 c.in-Did.is c.next-answer.ensures.answer grown in
     let small : length now < 2 ^ 64 = search rules in
     let fits = did_fits seat.made who (2 ^ 64) seen now one seat.so_many small in
@@ -35,10 +35,10 @@ returns-clause-turn g c =
     let plan = c.args.self.now.lock.table.shared.key.plan.value in
     let seat = c.args.seat.now in let who = seat.participant in let seen = seat.token.me.0.seen in
     let of_plan : g.M.Machine.plan_of home ≡ plan = c.begin-ticket.ensures.right.plan in
-    let grown : GrowsWithout who seen was = subst (λ t. GrowsWithout t seen was) (sym seat.who) c.begin-ticket.ensures.grown in
+    let grown : GrowsWithout seen was who = subst (λ t. GrowsWithout seen was t) (sym seat.who) c.begin-ticket.ensures.grown in
     let legal_was : LegalPast (g.M.Machine.plan_of home) (reverse was) = search rules in
     let legal_now : LegalPast (g.M.Machine.plan_of left) (reverse now) = search rules in
-    let steps : Steps plan who seen now c.args.hint c.next-answer.result.0 = record {
+    let steps : Steps plan seen now who c.args.hint c.next-answer.result.0 = record {
       before = was;
       grown = grown;
       legal_before = subst (λ (p : Plan). LegalPast p (reverse was)) of_plan legal_was;
@@ -47,6 +47,6 @@ returns-clause-turn g c =
     } in
     let saw = ap (λ m. m.0.seen) c.hand_on.ensures.view in
     elim c.match-answer.branch [
-      | in-Did w ↦ subst (λ j. Steps plan who seen j c.args.hint c.next-answer.result.0) (sym (ap seen_by w.seat-is ∙ saw)) steps
-      | in_default w ↦ subst (λ j. Steps plan who seen j c.args.hint c.next-answer.result.0) (sym (ap seen_by w.seat-is ∙ saw)) steps
+      | in-Did w ↦ subst (λ j. Steps plan seen j who c.args.hint c.next-answer.result.0) (sym (ap seen_by w.seat-is ∙ saw)) steps
+      | in_default w ↦ subst (λ j. Steps plan seen j who c.args.hint c.next-answer.result.0) (sym (ap seen_by w.seat-is ∙ saw)) steps
     ]

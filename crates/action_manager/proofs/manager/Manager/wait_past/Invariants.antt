@@ -8,6 +8,6 @@ abbrev pub invariant-loop : goal.invariant-loop
 invariant-loop g l = record {
   opened : IsSeatOf (table_of l.self) (terms_in g.M.Machine.base_of l.self) l.seat;
   same : (participant_of l.seat ≡ participant_of l.initial.seat) × (told_to l.seat ≡ told_to l.initial.seat);
-  grown : GrowsWithout (participant_of l.initial.seat) (seen_by l.initial.seat) (seen_by l.seat);
+  grown : GrowsWithout (seen_by l.initial.seat) (seen_by l.seat) (participant_of l.initial.seat);
   goes : (goal.iterator-loop g).can_next l.iterator' × (goal.iterator-loop g).is_finite l.iterator';
 }
