@@ -197,7 +197,8 @@ impl CommittedWriter {
         }
     }
 
-    /// A publication of these changes, which goes on from what was published.
+    /// A publication of these changes, which goes on from what was published. After 2^64 - 1 publications no further one can be
+    /// counted, and the answer is as where no memory is found.
     fn prepared(&self, alloc: Global, changes: &[(Object, i64)]) -> Result<Publication, OutOfMemory>
         ensures changes { IfOk result (λ p. p.changes.items ≡ changes.now) }
         ensures book { IfOk result (λ p. p.publications.book ≡ self.now.publications.book) }
