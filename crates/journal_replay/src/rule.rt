@@ -1,4 +1,4 @@
-ghost use Rattle.std.specs.Prelude.{◌≡◌, ◌<◌, ◌+ℤ◌, true, not, is_none, length, reverse, Some, None};
+ghost use Rattle.std.specs.Prelude.{◌≡◌, ◌<◌, ◌+ℤ◌, true, false, not, is_none, length, reverse, Some, None};
 ghost use Rattle.caa_base.specs.declared.entry.Kind.TheVariants as kind;
 ghost use Rattle.caa_base.specs.Limits.{IsValue};
 ghost use Rattle.place_plan.specs.Places.{roles_of, handler_of, abort_row};
@@ -6,24 +6,24 @@ ghost use Rattle.place_plan.specs.Entries.{is_by, newest};
 ghost use Rattle.place_plan.specs.Raising.{is_raised, exception_resolved};
 ghost use Rattle.place_plan.specs.Objects.{next_restore};
 ghost use Rattle.place_plan.specs.Roles.{register, program_of, next_step, signals};
-ghost use Rattle.place_plan.specs.Rules.{clamped, breaks_off, abort_of, undone_mark, abort_mapped, exception_carried};
+ghost use Rattle.place_plan.specs.Rules.{clamped, abort_of, undone_mark, abort_mapped, exception_carried};
 ghost use Rattle.place_plan.specs.Journals.{LegalPast, IsLegal, is_put};
-ghost use Rattle.journal_laws.specs.Due.{says, plainly, marked, naming, verdict_entry, due_waiting, due_restore, due_doomed, due_end, due_agreed, due_held, due_step, due_forward, due_handler, due_resolved, due_resolve, due_halted, due_hot, due_calm, due_live, due_inside, due_of, as_refused};
+ghost use Rattle.journal_laws.specs.Due.{says, plainly, marked, naming, verdict_entry, due_waiting, due_restore, due_doomed, due_end, due_agreed, due_held, due_step, due_forward, due_handler, due_resolved, due_resolve, due_halted, due_hot, due_calm, due_inside, due_of, as_refused};
 ghost use Rattle.journal_replay.specs.IsDue.{IsDue};
 
 use crate::answer::Due;
+use crate::look_back::course::course_of;
 use crate::look_back::entries::{has, has_by, newest_by, newest_in};
 use crate::look_back::objects::{
     has_failed, holds, next_restore, objects_are_ready, value_at_start,
 };
 use crate::look_back::places::{
-    all_are_inside, has_ended, has_started, inside, is_left_in_silence, is_over, is_undoing,
-    next_play, place_entered,
+    all_are_inside, inside, is_left_in_silence, is_over, next_play, place_entered,
 };
 use crate::look_back::raising::{
-    all_are_halted, exception_resolved, has_handled, is_doomed, is_halted, is_raised, least_raised,
+    all_are_halted, exception_resolved, has_handled, is_doomed, is_halted, least_raised,
 };
-use crate::look_back::roles::{meets, next_raise, next_step, program_of, register};
+use crate::look_back::roles::{meets, program_of, raise_of, register, step_and_register};
 use crate::look_back::verdicts::{
     all_have_aborted, all_have_given, has_aborted, has_given, least_signalled, wants_undo,
     was_refused_in_handler,
@@ -257,15 +257,23 @@ fn final_verdict(plan: &Plan, journal: &[Entry], place: Place, by: Participant) 
     }
 }
 
-/// What a participant does at a step that neither raises nor enters, and after its last.
-fn due_step(plan: &Plan, journal: &[Entry], place: Place, by: Participant) -> Option<Entry>
+/// What a participant does at its next step, which neither raises nor enters, and after its last.
+fn due_step(
+    plan: &Plan,
+    journal: &[Entry],
+    place: Place,
+    by: Participant,
+    step: Option<Step>,
+    from: i64,
+) -> Option<Entry>
     requires legal { LegalPast plan.now (reverse journal.now) }
-    ensures { result ≡ due_step plan.now (reverse journal.now) place by (next_step plan.now (reverse journal.now) place by) }
+    requires step { step ≡ next_step plan.now (reverse journal.now) place by }
+    requires start { from ≡ register plan.now (reverse journal.now) place by }
+    ensures { result ≡ due_step plan.now (reverse journal.now) place by step }
 {
     plan.is_closed();
     is_well_formed(plan);
-    let register = register(plan, journal, place, by);
-    match next_step(plan, journal, place, by) {
+    match step {
         None => {
             let verdict = final_verdict(plan, journal, place, by);
             Some(verdict_entry(place, by, verdict))
@@ -290,7 +298,7 @@ fn due_step(plan: &Plan, journal: &[Entry], place: Place, by: Participant) -> Op
             )
         }
         Some(Step::Add(object, number)) => {
-            let value = clamped(register, number);
+            let value = clamped(from, number);
             due_held(
                 plan,
                 journal,
@@ -300,7 +308,7 @@ fn due_step(plan: &Plan, journal: &[Entry], place: Place, by: Participant) -> Op
             )
         }
         Some(Step::Work(rounds)) => {
-            let result = WorkDone::make(register, rounds).result();
+            let result = WorkDone::make(from, rounds).result();
             Some(says(Kind::Work, place, by, rounds, result))
         }
         Some(Step::Check { .. }) => Some(plainly(Kind::Check, place, by)),
@@ -308,52 +316,57 @@ fn due_step(plan: &Plan, journal: &[Entry], place: Place, by: Participant) -> Op
     }
 }
 
-/// What a participant does in its body at a step that doesn't raise.
-fn due_forward(plan: &Plan, journal: &[Entry], place: Place, by: Participant) -> Option<Entry>
+/// What a participant does in its body at its next step, which doesn't raise.
+fn due_forward(
+    plan: &Plan,
+    journal: &[Entry],
+    place: Place,
+    by: Participant,
+    step: Option<Step>,
+    from: i64,
+) -> Option<Entry>
     requires legal { LegalPast plan.now (reverse journal.now) }
-    ensures { result ≡ due_forward plan.now (reverse journal.now) place by (next_step plan.now (reverse journal.now) place by) }
+    requires step { step ≡ next_step plan.now (reverse journal.now) place by }
+    requires start { from ≡ register plan.now (reverse journal.now) place by }
+    ensures { result ≡ due_forward plan.now (reverse journal.now) place by step }
 {
-    match next_step(plan, journal, place, by) {
+    match step {
         Some(Step::Enter(nest)) => {
             let inner = place_entered(plan, journal, place, by, nest)?;
             Some(plainly(Kind::Arrive, inner, by))
         }
-        _ => due_step(plan, journal, place, by),
+        _ => due_step(plan, journal, place, by, step, from),
     }
 }
 
 /// What a participant does in a calm place.
 fn due_calm(plan: &Plan, journal: &[Entry], place: Place, by: Participant) -> Option<Entry>
     requires legal { LegalPast plan.now (reverse journal.now) }
+    requires calm { is_raised plan.now (reverse journal.now) place ≡ false }
     ensures { result ≡ due_calm plan.now (reverse journal.now) place by }
 {
-    if has_given(plan, journal, place, by) {
+    if has_by(journal, Kind::Verdict, place, by) {
         return due_agreed(plan, journal, place, by);
     }
-    match next_raise(plan, journal, place, by) {
+    let (step, from) = step_and_register(plan, journal, place, by);
+    match raise_of(step, from) {
         Some(exception) => Some(marked(Kind::Raise, place, by, 0, exception)),
-        None => due_forward(plan, journal, place, by),
+        None => due_forward(plan, journal, place, by, step, from),
     }
 }
 
 // ---- recovery
-
-/// Whether the handler of a participant is broken off.
-fn breaks_off(plan: &Plan, journal: &[Entry], place: Place, by: Participant) -> bool
-    ensures { result ≡ breaks_off plan.now (reverse journal.now) place by }
-{
-    was_refused_in_handler(journal, place, by) || next_raise(plan, journal, place, by).is_some()
-}
 
 /// What a participant does in its handler.
 fn due_handler(plan: &Plan, journal: &[Entry], place: Place, by: Participant) -> Option<Entry>
     requires legal { LegalPast plan.now (reverse journal.now) }
     ensures { result ≡ due_handler plan.now (reverse journal.now) place by }
 {
-    if breaks_off(plan, journal, place, by) {
+    let (step, from) = step_and_register(plan, journal, place, by);
+    if was_refused_in_handler(journal, place, by) || raise_of(step, from).is_some() {
         Some(verdict_entry(place, by, Verdict::Undo))
     } else {
-        due_step(plan, journal, place, by)
+        due_step(plan, journal, place, by, step, from)
     }
 }
 
@@ -422,29 +435,14 @@ fn due_hot(plan: &Plan, journal: &[Entry], place: Place, by: Participant) -> Opt
     if is_halted(plan, journal, place, by) {
         return due_halted(plan, journal, place, by);
     }
-    match next_raise(plan, journal, place, by) {
+    let (step, from) = step_and_register(plan, journal, place, by);
+    match raise_of(step, from) {
         Some(exception) => Some(marked(Kind::Raise, place, by, 0, exception)),
         None => Some(plainly(Kind::Inform, place, by)),
     }
 }
 
 // ---- the decision
-
-/// What a participant does in a place that has started and not ended.
-fn due_live(plan: &Plan, journal: &[Entry], place: Place, by: Participant) -> Option<Entry>
-    requires legal { LegalPast plan.now (reverse journal.now) }
-    ensures { result ≡ due_live plan.now (reverse journal.now) place by }
-{
-    if is_undoing(journal, place) {
-        Some(due_restore(plan, journal, place, by))
-    } else if is_doomed(plan, journal, place) {
-        due_doomed(plan, journal, place, by)
-    } else if is_raised(plan, journal, place) {
-        due_hot(plan, journal, place, by)
-    } else {
-        due_calm(plan, journal, place, by)
-    }
-}
 
 /// The exception that a participant carries out of a place.
 fn exception_carried(
@@ -486,17 +484,24 @@ fn due_inside(plan: &Plan, journal: &[Entry], place: Place, by: Participant) -> 
     requires legal { LegalPast plan.now (reverse journal.now) }
     ensures { result ≡ due_inside plan.now (reverse journal.now) place by }
 {
-    if has_ended(journal, place) {
+    let course = course_of(plan, journal, place);
+    if course.has_ended {
         Some(naming(
             Kind::Leave,
             place,
             by,
             exception_carried(plan, journal, place, by),
         ))
-    } else if has_started(journal, place) {
-        due_live(plan, journal, place, by)
-    } else {
+    } else if !course.has_started {
         due_waiting(plan, journal, place, by)
+    } else if course.is_undoing {
+        Some(due_restore(plan, journal, place, by))
+    } else if is_doomed(plan, journal, place) {
+        due_doomed(plan, journal, place, by)
+    } else if course.is_raised {
+        due_hot(plan, journal, place, by)
+    } else {
+        due_calm(plan, journal, place, by)
     }
 }
 

@@ -1,14 +1,14 @@
-ghost use Rattle.std.specs.Prelude.{◌≡◌, ◌&&◌, not, reverse};
-ghost use Rattle.place_plan.specs.Whereabouts.{is_going};
-ghost use Rattle.place_plan.specs.Raising.{is_doomed};
+ghost use Rattle.std.specs.Prelude.{◌≡◌, reverse};
 ghost use Rattle.place_plan.specs.Machine.{work_entry};
 ghost use Rattle.place_plan.specs.Roles.{is_in_handler, is_able};
 ghost use Rattle.journal_replay.specs.WorkDue.{rounds_of, IsWorkDue};
 
-use crate::look_back::places::{has_ended, has_started, inside, is_undoing};
-use crate::look_back::raising::{is_doomed, is_raised};
-use crate::look_back::roles::{next_step, register};
-use crate::look_back::verdicts::{has_given, is_handling, was_refused_in_handler};
+use crate::look_back::course::course_of;
+use crate::look_back::entries::has_by;
+use crate::look_back::places::inside;
+use crate::look_back::raising::is_doomed;
+use crate::look_back::roles::step_and_register;
+use crate::look_back::verdicts::{is_handling, was_refused_in_handler};
 use caa_base::entry::{Entry, Kind, Participant, Place};
 use caa_base::work::WorkDone;
 use place_plan::draft_rows::Step;
@@ -41,16 +41,6 @@ impl Work {
     }
 }
 
-/// Whether a place goes on, and nothing is raised round it.
-fn is_spared(plan: &Plan, journal: &[Entry], place: Place) -> bool
-    ensures { result ≡ (is_going (reverse journal.now) place && not (is_doomed plan.now (reverse journal.now) place)) }
-{
-    has_started(journal, place)
-        && !has_ended(journal, place)
-        && !is_undoing(journal, place)
-        && !is_doomed(plan, journal, place)
-}
-
 /// Whether a participant is in its handler, and it goes on.
 fn is_in_handler(journal: &[Entry], place: Place, by: Participant) -> bool
     ensures { result ≡ is_in_handler (reverse journal.now) place by }
@@ -62,12 +52,17 @@ fn is_in_handler(journal: &[Entry], place: Place, by: Participant) -> bool
 fn is_able(plan: &Plan, journal: &[Entry], place: Place, by: Participant) -> bool
     ensures { result ≡ is_able plan.now (reverse journal.now) place by }
 {
-    if !is_spared(plan, journal, place) {
+    let course = course_of(plan, journal, place);
+    if !course.has_started
+        || course.has_ended
+        || course.is_undoing
+        || is_doomed(plan, journal, place)
+    {
         false
-    } else if is_raised(plan, journal, place) {
+    } else if course.is_raised {
         is_in_handler(journal, place, by)
     } else {
-        !has_given(plan, journal, place, by)
+        !has_by(journal, Kind::Verdict, place, by)
     }
 }
 
@@ -88,13 +83,13 @@ pub fn work_due(plan: &Plan, journal: &[Entry], by: Participant) -> Option<Work>
     let Some(place) = inside(plan, journal, by) else {
         return None;
     };
+    let (step, from) = step_and_register(plan, journal, place, by);
+    let Some(rounds) = rounds_of(step) else {
+        return None;
+    };
     if !is_able(plan, journal, place, by) {
         return None;
     }
-    let Some(rounds) = rounds_of(next_step(plan, journal, place, by)) else {
-        return None;
-    };
-    let from = register(plan, journal, place, by);
     Some(Work {
         place,
         rounds,

@@ -1,5 +1,5 @@
 ghost use Rattle.std.specs.Prelude.{◌≡◌, ◌==◌, reverse, Option};
-ghost use Rattle.place_plan.specs.Whereabouts.{inside_after, inside, is_inside, all_are_inside, has_started, has_ended, is_undoing, is_live, is_going, is_undone, is_left_in_silence};
+ghost use Rattle.place_plan.specs.Whereabouts.{inside_after, inside, is_inside, all_are_inside, is_undone, is_left_in_silence};
 ghost use Rattle.place_plan.specs.Rules.{place_entered};
 ghost use Rattle.caa_base.specs.Lists.{member, first_not, last_of};
 ghost use Rattle.place_plan.specs.Places.{roles_of, alternates_of};
@@ -8,7 +8,7 @@ ghost use Rattle.place_plan.specs.Roles.{next_play, is_over};
 ghost use Rattle.place_plan.specs.Places.{plays_of};
 ghost use Rattle.caa_base.specs.declared.entry.Kind.TheVariants as kind;
 
-use crate::look_back::entries::{has, has_by, newest_in};
+use crate::look_back::entries::{has_by, newest_in};
 use caa_base::entry::{Entry, Kind, Participant, Place};
 use place_plan::plan::Plan;
 
@@ -56,27 +56,6 @@ pub fn all_are_inside(plan: &Plan, journal: &[Entry], place: Place) -> bool
     plan.roles_of(place)
         .iter()
         .all(|by| is_inside(plan, journal, place, *by))
-}
-
-/// Whether a place has started.
-pub fn has_started(journal: &[Entry], place: Place) -> bool
-    ensures { result ≡ has_started (reverse journal.now) place }
-{
-    has(journal, Kind::Start, place)
-}
-
-/// Whether a place has ended.
-pub fn has_ended(journal: &[Entry], place: Place) -> bool
-    ensures { result ≡ has_ended (reverse journal.now) place }
-{
-    has(journal, Kind::End, place)
-}
-
-/// Whether a place is undone, or was.
-pub fn is_undoing(journal: &[Entry], place: Place) -> bool
-    ensures { result ≡ is_undoing (reverse journal.now) place }
-{
-    has(journal, Kind::Undo, place)
 }
 
 /// Whether a place was undone, and its use has a next alternate.

@@ -26,7 +26,7 @@ fn carries_into(plan: &Plan, entry: &Entry, place: Place) -> bool
 }
 
 /// What the entry raises in a place, if anything; the journal stands before it.
-fn raised_by(plan: &Plan, journal: &[Entry], place: Place, entry: &Entry) -> Option<Exception>
+pub fn raised_by(plan: &Plan, journal: &[Entry], place: Place, entry: &Entry) -> Option<Exception>
     ensures { listed result ≡ raises_in plan.now (reverse journal.now) place entry.now entry.now.kind }
 {
     match entry.kind {
@@ -45,7 +45,12 @@ pub fn is_raised(plan: &Plan, journal: &[Entry], place: Place) -> bool
 {
     let mut raised = false;
     for (index, entry) in journal.iter().enumerate() {
-        raised = raised_by(plan, &journal[..index], place, entry).is_some() || raised;
+        match entry.kind {
+            Kind::Raise | Kind::PutFault | Kind::Leave => {
+                raised = raised || raised_by(plan, &journal[..index], place, entry).is_some();
+            }
+            _ => {}
+        }
     }
     raised
 }

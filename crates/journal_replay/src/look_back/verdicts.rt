@@ -1,5 +1,7 @@
-ghost use Rattle.std.specs.Prelude.{◌≡◌, reverse};
+ghost use Rattle.std.specs.Prelude.{◌≡◌, reverse, if◌then◌else◌};
+ghost use Rattle.caa_base.specs.declared.entry.Kind.TheVariants as kind;
 ghost use Rattle.place_plan.specs.Places.{roles_of, interface_of};
+ghost use Rattle.place_plan.specs.Entries.{has_by};
 ghost use Rattle.place_plan.specs.Journals.{LegalPast};
 ghost use Rattle.journal_replay.specs.Joining.{listed, IsCoverOf};
 ghost use Rattle.place_plan.specs.Roles.{has_given_after, has_given, all_have_given, is_handling, was_refused_in_handler, verdict_at, verdict_of, is_undo, wants_undo, signal_in, signals, has_aborted, all_have_aborted};
@@ -24,24 +26,32 @@ fn has_given_after(journal: &[Entry], place: Place, by: Participant) -> bool
     given
 }
 
-/// Whether a participant has given its verdict in a place.
-pub fn has_given(plan: &Plan, journal: &[Entry], place: Place, by: Participant) -> bool
-    ensures { result ≡ has_given plan.now (reverse journal.now) place by }
+/// Whether a participant has a verdict in a place that counts; where something was raised there, only one after the Resolve does.
+fn has_counted(journal: &[Entry], place: Place, by: Participant, raised: bool) -> bool
+    ensures { result ≡ (if raised then has_given_after (reverse journal.now) place by else has_by kind.Verdict (reverse journal.now) place by) }
 {
-    if is_raised(plan, journal, place) {
+    if raised {
         has_given_after(journal, place, by)
     } else {
         has_by(journal, Kind::Verdict, place, by)
     }
 }
 
+/// Whether a participant has given its verdict in a place.
+pub fn has_given(plan: &Plan, journal: &[Entry], place: Place, by: Participant) -> bool
+    ensures { result ≡ has_given plan.now (reverse journal.now) place by }
+{
+    has_counted(journal, place, by, is_raised(plan, journal, place))
+}
+
 /// Whether each role of a place has given its verdict.
 pub fn all_have_given(plan: &Plan, journal: &[Entry], place: Place) -> bool
     ensures { result ≡ all_have_given plan.now (reverse journal.now) place }
 {
+    let raised = is_raised(plan, journal, place);
     plan.roles_of(place)
         .iter()
-        .all(|by| has_given(plan, journal, place, *by))
+        .all(|by| has_counted(journal, place, *by, raised))
 }
 
 /// Whether a participant has begun its handler in a place, and given no verdict since.

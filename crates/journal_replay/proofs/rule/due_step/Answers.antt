@@ -1,5 +1,6 @@
-use Rattle.std.proofs.Common.{◌≡◌, ◌∙◌, ap, arith, reverse, subst, sym, Some, to_z, of_z, w64}
+use Rattle.std.proofs.Common.{◌≡◌, ◌∙◌, arith, reverse, subst, sym, Some, to_z, of_z, w64}
 use Rattle.std.proofs.lemmas.Int.{ints}
+use Rattle.place_plan.specs.declared.draft_rows.Step.TheVariants as step
 use Rattle.caa_base.specs.Limits.{IsValue}
 use Rattle.journal_laws.proofs.PlayablePlan.{is_playable}
 use Rattle.journal_replay.proofs.StepsFit.{register_fits, read_fits, added_fits}
@@ -8,17 +9,19 @@ use Rattle.journal_replay.proofs.rule.due_step.Goals as goal
 pub value_at-value-requires : goal.value_at-value-requires
 value_at-value-requires c =
     let plan = c.args.plan.now in
-    read_fits plan (is_playable plan c.is_closed.ensures) (reverse c.args.journal.now) c.args.place c.args.by c.in-Some-Read.object (ap Some (sym c.in-Some-Read.field-0-is) ∙ c.in-Some-Read.ensures)
+    let next : Some (step.Read c.in-Some-Read.object) ≡ c.args.step = grind arith in
+    read_fits plan (is_playable plan c.is_closed.ensures) (reverse c.args.journal.now) c.args.place c.args.by c.in-Some-Read.object (next ∙ c.requires.step)
 
 pub clamped-value-requires-clause-register : goal.clamped-value-requires-clause-register
 clamped-value-requires-clause-register c =
     let plan = c.args.plan.now in
     let past = reverse c.args.journal.now in
-    let same : to_z w64 (of_z w64 c.register-register.result) ≡ c.register-register.result = omega (arith, ints) in
-    subst IsValue (sym (same ∙ c.register-register.ensures)) (register_fits plan past c.args.place c.args.by (c.is_well_formed.ensures past c.requires.legal))
+    let same : to_z w64 (of_z w64 c.args.from) ≡ c.args.from = omega (arith, ints) in
+    subst IsValue (sym (same ∙ c.requires.start)) (register_fits plan past c.args.place c.args.by (c.is_well_formed.ensures past c.requires.legal))
 
 pub clamped-value-requires-clause-number : goal.clamped-value-requires-clause-number
 clamped-value-requires-clause-number c =
     let plan = c.args.plan.now in
     let same : to_z w64 (of_z w64 c.in-Some-Add.number) ≡ c.in-Some-Add.number = omega (arith, ints) in
-    subst IsValue (sym same) (added_fits plan (is_playable plan c.is_closed.ensures) (reverse c.args.journal.now) c.args.place c.args.by c.in-Some-Add.object c.in-Some-Add.number (ap Some (sym c.in-Some-Add.field-0-is) ∙ c.in-Some-Add.ensures))
+    let next : Some (step.Add c.in-Some-Add.object c.in-Some-Add.number) ≡ c.args.step = grind arith in
+    subst IsValue (sym same) (added_fits plan (is_playable plan c.is_closed.ensures) (reverse c.args.journal.now) c.args.place c.args.by c.in-Some-Add.object c.in-Some-Add.number (next ∙ c.requires.step))

@@ -19,4 +19,4 @@ returns-in_default-rounds_of c =
     let plan = c.args.plan.now in
     let past = reverse c.args.journal.now in
     none_inside plan past c.args.by c.in-Some.place c.in-Some.ensures
-    (λ rounds can next. let none : None ≡ rounds_of (next_step plan past c.in-Some.place c.args.by) = c.in_default-rounds_of.ensures ∙ ap rounds_of c.next_step.ensures in cc)
+    (λ rounds can next. let none : None ≡ rounds_of (next_step plan past c.in-Some.place c.args.by) = c.in_default-rounds_of.ensures ∙ ap rounds_of c.step_and_register-step.ensures.step in cc)
