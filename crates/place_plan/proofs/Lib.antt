@@ -13,3 +13,4 @@ pub mod EntryKinds
 pub mod LegalProp
 pub mod ClosedPlan
 pub mod LatestValues
+pub mod MembersOfParts

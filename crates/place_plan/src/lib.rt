@@ -9,7 +9,7 @@ pub mod draft;
 pub mod draft_rows;
 mod fitting;
 pub mod machine;
-mod member;
+pub mod member;
 pub mod plan;
 mod ranges;
 pub mod tables;

@@ -7,7 +7,7 @@ ghost use Rattle.place_plan.specs.DraftRules.{all_below, nests_below, order_rule
 
 use crate::draft::Draft;
 use crate::draft_rows::{ActionRow, HandlerRow, NestRow, Program, RoleRow, Step};
-use crate::member::is_member;
+use crate::member::{all_members, is_member};
 use crate::ranges::{all_below, exceptions_of};
 use caa_base::entry::{Exception, Object};
 
@@ -228,12 +228,6 @@ fn roles_held(action: &ActionRow) -> bool
         .as_slice()
         .iter()
         .all(|role| role_held(objects, role))
-}
-
-fn all_members(numbers: &[u32], list: &[u32]) -> bool
-    ensures { result ≡ list_all (λ n. member n list.now) numbers.now }
-{
-    numbers.iter().all(|number| is_member(*number, list))
 }
 
 /// Whether these objects are among the action's.
