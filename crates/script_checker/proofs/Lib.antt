@@ -27,5 +27,6 @@ pub mod PlayLines
 pub mod Unbroken
 pub mod NamesKept
 pub mod NumberTables
+pub mod ChosenNumbers
 pub mod DrillTables
 pub mod HandlerTables
