@@ -1,5 +1,5 @@
 -- The draft of an accepted script keeps rules of place_plan.
-use Rattle.std.proofs.Common.{◌≡◌, ℕ, ◌≤◌, nat_lt, ◌==◌, true, not, List, None, length, slice_index_or, refl, sym, subst, ◌∙◌, ◌<◌, arith, suc}
+use Rattle.std.proofs.Common.{◌≡◌, ℕ, ◌≤◌, ◌==◌, true, not, List, None, length, slice_index_or, refl, sym, subst, ◌∙◌, arith, suc}
 use Rattle.std.specs.List.{list_all}
 use Rattle.std.proofs.lemmas.Bool.{le-leb, and_parts, and_from}
 use Rattle.caa_base.specs.Lists.{is_empty}
@@ -9,10 +9,10 @@ use Rattle.place_plan.specs.declared.draft_rows.ObjectRow.{ObjectRow}
 use Rattle.place_plan.specs.declared.draft_rows.PlayRow.{PlayRow}
 use Rattle.place_plan.specs.Places.{no_action}
 use Rattle.place_plan.specs.declared.draft.Draft.{Draft}
-use Rattle.place_plan.specs.DraftRules.{size_rule, graph_rule, order_rule, enter_rule, fill_rule, fills, nest_fills, all_below, all_differ, face_rule, has_one_face, depth_rule, handlers_differ, bound_rule, KeepsParts, object_rule, action_held, role_held, nest_held, range_rule, exceptions_of, action_in_range, play_in_range, handler_rule, nest_mapped, broken_rule}
+use Rattle.place_plan.specs.DraftRules.{size_rule, graph_rule, order_rule, enter_rule, fill_rule, fills, nest_fills, all_below, all_differ, face_rule, has_one_face, depth_rule, handlers_differ, bound_rule, KeepsParts, object_rule, action_held, role_held, nest_held, range_rule, exceptions_of, action_in_range, handler_rule, nest_mapped, broken_rule}
 use Rattle.action_script.specs.declared.kind.Section.TheVariants as section
 use Rattle.action_script.specs.declared.script.Line.{Line}
-use Rattle.action_script.specs.Printing.{AreScript, forms_of}
+use Rattle.action_script.specs.Printing.{is_sound, forms_of, lead_to_top}
 use Rattle.script_checker.specs.DeclaredSoFar.{SoFar, nothing_yet, exceptions_at}
 use Rattle.script_checker.specs.Compiled.{declared_after, AreAccepted, IsDraftOf}
 use Rattle.script_checker.proofs.Accepted.{holds_after}
@@ -28,25 +28,24 @@ use Rattle.script_checker.proofs.DepthsKept.{AreShallow, depths_kept, depths_wit
 use Rattle.place_plan.specs.Bound.{bound}
 use Rattle.place_plan.specs.Unfolding.{plan_of}
 use Rattle.place_plan.specs.Weights.{counted, at, played_weight}
-use Rattle.place_plan.proofs.Weighing.{counted_places, counted_bound}
-use Rattle.script_checker.proofs.WeightsTell.{own_weights, own_at, weighs}
-use Rattle.script_checker.proofs.WeightsKept.{AreWeighed, weights_kept, one_place, own_entries}
+use Rattle.script_checker.proofs.WeightsKept.{AreWeighed, weights_kept}
+use Rattle.script_checker.proofs.SizesTold.{places_told, entries_told}
 use Rattle.script_checker.proofs.OrderKept.{IsInOrder, order_kept}
-use Rattle.script_checker.proofs.PlaysKept.{play_right, PlaysRight, plays_kept}
+use Rattle.script_checker.proofs.PlaysKept.{play_right, PlaysRight, plays_kept, plays_ranged, plays_filled}
 use Rattle.script_checker.proofs.GraphsKept.{IsPlainFirst, first_kept, rows_first, rows_named, rows_many, rows_count}
 use Rattle.script_checker.proofs.RangesKept.{action_right, is_valued, drill_below}
 use Rattle.script_checker.proofs.MapsKept.{use_mapped, AreMapped, maps_kept, mapped_at_first}
-use Rattle.caa_base.specs.Limits.{most_participants, most_objects, most_actions, most_watches, most_drills, most_graphs, most_places, most_entries, most_depth}
+use Rattle.caa_base.specs.Limits.{most_participants, most_objects, most_actions, most_watches, most_drills, most_graphs, most_places, most_entries}
 
-module _ (names : List (List ℕ)) (lines : List Line) (script : AreScript names (forms_of lines)) (accepted : AreAccepted names (nothing_yet names) lines) (draft : Draft) (drafted : IsDraftOf names (declared_after names (nothing_yet names) lines) draft) where
+module _ (names : List (List ℕ)) (lines : List Line) (lead : lead_to_top section.Top (forms_of lines) ≡ true) (sound : list_all (is_sound names) (forms_of lines) ≡ true) (accepted : AreAccepted names (nothing_yet names) lines) (draft : Draft) (drafted : IsDraftOf names (declared_after names (nothing_yet names) lines) draft) where
   abbrev last : SoFar
   last = declared_after names (nothing_yet names) lines
 
-  counts : AreFew last
-  counts = holds_after names (λ at s. AreFew s) (counts_kept names) section.Top (nothing_yet names) lines script.lead script.sound accepted (few_at_first names)
+  pub counts : AreFew last
+  counts = holds_after names (λ at s. AreFew s) (counts_kept names) section.Top (nothing_yet names) lines lead sound accepted (few_at_first names)
 
   fits : ActionsFit last
-  fits = holds_after names (λ at s. ActionsFit s) (fits_kept names) section.Top (nothing_yet names) lines script.lead script.sound accepted
+  fits = holds_after names (λ at s. ActionsFit s) (fits_kept names) section.Top (nothing_yet names) lines lead sound accepted
       (record { programs = (omega arith, refl); roles = (omega arith, λ e. refl); nests = (omega arith, omega arith, refl); actions = refl })
 
   -- no more parts than the limits allow
@@ -63,23 +62,23 @@ module _ (names : List (List ℕ)) (lines : List Line) (script : AreScript names
   -- the plain graph stands first, and each graph has its names
   pub keeps_graphs : graph_rule draft ≡ true
   keeps_graphs =
-      let first = holds_after names (λ at s. IsPlainFirst s) (first_kept names) section.Top (nothing_yet names) lines script.lead script.sound accepted refl in
+      let first = holds_after names (λ at s. IsPlainFirst s) (first_kept names) section.Top (nothing_yet names) lines lead sound accepted refl in
       rw (rows_first names last.graphs draft.graphs drafted.graphs first, rows_named names last.graphs draft.graphs drafted.graphs) refl
 
   -- each role enters just the uses that it fills
   pub keeps_enters : enter_rule draft ≡ true
-  keeps_enters = rw drafted.actions (holds_after names AllEnter (enters_kept names) section.Top (nothing_yet names) lines script.lead script.sound accepted refl)
+  keeps_enters = rw drafted.actions (holds_after names AllEnter (enters_kept names) section.Top (nothing_yet names) lines lead sound accepted refl)
 
   -- what an action nests was declared before it
   pub keeps_order : order_rule draft ≡ true
   keeps_order =
-      let h = holds_after names (λ at s. IsInOrder s) (order_kept names) section.Top (nothing_yet names) lines script.lead script.sound accepted (record { there = record { open_rows = refl; ended_rows = refl }; order = refl }) in
+      let h = holds_after names (λ at s. IsInOrder s) (order_kept names) section.Top (nothing_yet names) lines lead sound accepted (record { there = record { open_rows = refl; ended_rows = refl }; order = refl }) in
       rw drafted.actions h.order
 
   -- every role of what is nested or played is filled, each by another
   nests_filled : list_all (λ (action : ActionRow). list_all (nest_fills draft) action.nests) draft.actions ≡ true
   nests_filled =
-      let h = holds_after names (λ at s. Pass uses_filled s) (pass_kept uses_filled filled_test names) section.Top (nothing_yet names) lines script.lead script.sound accepted (record { open_rows = refl; ended_rows = refl }) in
+      let h = holds_after names (λ at s. Pass uses_filled s) (pass_kept uses_filled filled_test names) section.Top (nothing_yet names) lines lead sound accepted (record { open_rows = refl; ended_rows = refl }) in
       all_imply (λ (action : ActionRow). list_all (uses_filled draft.actions last.graphs) action.nests) (λ (action : ActionRow). list_all (nest_fills draft) action.nests) draft.actions
       (λ action k. all_imply (uses_filled draft.actions last.graphs) (nest_fills draft) action.nests
       (λ nest m.
@@ -89,22 +88,18 @@ module _ (names : List (List ℕ)) (lines : List Line) (script : AreScript names
       k)
       (subst (λ (actions : List ActionRow). list_all (λ (action : ActionRow). list_all (uses_filled actions last.graphs) action.nests) actions ≡ true) (sym drafted.actions) h.ended_rows)
 
-  plays_right : list_all (play_right (length last.participants) draft.actions) draft.plays ≡ true
+  plays_right : list_all (play_right (length draft.participants) draft.actions) draft.plays ≡ true
   plays_right =
-      let h = holds_after names (λ at s. PlaysRight s) (plays_kept names) section.Top (nothing_yet names) lines script.lead script.sound accepted refl in
-      rw (drafted.actions, drafted.plays) h
+      let h = holds_after names (λ at s. PlaysRight s) (plays_kept names) section.Top (nothing_yet names) lines lead sound accepted refl in
+      rw (drafted.participants, counts.participants.0, drafted.actions, drafted.plays) h
 
   pub keeps_fillings : fill_rule draft ≡ true
-  keeps_fillings =
-      and_from _ _ nests_filled
-      (all_imply (play_right (length last.participants) draft.actions) (λ (play : PlayRow). fills draft play.action play.who) draft.plays
-      (λ play h. (and_parts (all_below (length last.participants) play.who) _ (and_parts (nat_lt play.action (length draft.actions)) _ h).1).1)
-      plays_right)
+  keeps_fillings = and_from _ _ nests_filled (plays_filled draft plays_right)
 
   -- all actions of a use tell the same exceptions outside
   pub keeps_faces : face_rule draft ≡ true
   keeps_faces =
-      let h = holds_after names (λ at s. Pass uses_faced s) (pass_kept uses_faced faced_test names) section.Top (nothing_yet names) lines script.lead script.sound accepted (record { open_rows = refl; ended_rows = refl }) in
+      let h = holds_after names (λ at s. Pass uses_faced s) (pass_kept uses_faced faced_test names) section.Top (nothing_yet names) lines lead sound accepted (record { open_rows = refl; ended_rows = refl }) in
       all_imply (λ (action : ActionRow). list_all (uses_faced draft.actions last.graphs) action.nests) (λ (action : ActionRow). list_all (has_one_face draft) action.nests) draft.actions
       (λ action k. all_imply (uses_faced draft.actions last.graphs) (has_one_face draft) action.nests (λ nest m. (and_parts (all_below (length draft.actions) nest.actions) _ m).1) k)
       (subst (λ (actions : List ActionRow). list_all (λ (action : ActionRow). list_all (uses_faced actions last.graphs) action.nests) actions ≡ true) (sym drafted.actions) h.ended_rows)
@@ -112,7 +107,7 @@ module _ (names : List (List ℕ)) (lines : List Line) (script : AreScript names
   -- an action owns all objects that it touches
   pub keeps_objects : object_rule draft ≡ true
   keeps_objects =
-      let h = holds_after names (λ at s. AreHeld s) (held_kept names) section.Top (nothing_yet names) lines script.lead script.sound accepted
+      let h = holds_after names (λ at s. AreHeld s) (held_kept names) section.Top (nothing_yet names) lines lead sound accepted
       (record { open_held = λ e. record { steps_held = refl; roles_held = refl; nests_held = refl }; ended_held = refl }) in
       all_imply (held_in draft.actions) (action_held draft) draft.actions
       (λ action k.
@@ -121,48 +116,46 @@ module _ (names : List (List ℕ)) (lines : List Line) (script : AreScript names
       (subst (λ (actions : List ActionRow). list_all (held_in actions) actions ≡ true) (sym drafted.actions) h.ended_held)
 
   -- no action is too deep
-  pub keeps_depths : depth_rule draft ≡ true
-  keeps_depths =
-      let h = holds_after names (λ at s. AreShallow s) (depths_kept names) section.Top (nothing_yet names) lines script.lead script.sound accepted
-      (record { there = record { open_rows = refl; ended_rows = refl }; depths = record { many = refl; open_rows = refl; tell = λ a l. absurd (omega arith) } }) in
-      rw drafted.actions (depths_within last.depths last.actions h.depths.tell h.there.ended_rows 0 last.actions (omega arith))
+  pub shallow : AreShallow last
+  shallow =
+      holds_after names (λ at s. AreShallow s) (depths_kept names) section.Top (nothing_yet names) lines lead sound accepted
+      (record { there = record { open_rows = refl; ended_rows = refl }; depths = record { many = refl; open_rows = refl; tell = λ a l. absurd (omega arith) } })
 
-  -- where all parts are right, the places and the bound are within the limits
-  pub keeps_bound : KeepsParts draft → bound_rule draft ≡ true
-  keeps_bound keeps =
-      let d = holds_after names (λ at s. AreShallow s) (depths_kept names) section.Top (nothing_yet names) lines script.lead script.sound accepted
-      (record { there = record { open_rows = refl; ended_rows = refl }; depths = record { many = refl; open_rows = refl; tell = λ a l. absurd (omega arith) } }) in
-      let h = holds_after names (λ at s. AreWeighed s) (weights_kept names) section.Top (nothing_yet names) lines script.lead script.sound accepted
+  pub keeps_depths : depth_rule draft ≡ true
+  keeps_depths = rw drafted.actions (depths_within last.depths last.actions shallow.depths.tell shallow.there.ended_rows 0 last.actions (omega arith))
+
+  -- what the plays come to is counted
+  pub weighed : AreWeighed last
+  weighed =
+      holds_after names (λ at s. AreWeighed s) (weights_kept names) section.Top (nothing_yet names) lines lead sound accepted
       (record {
         there = record { open_rows = refl; ended_rows = refl };
         right = refl;
         places = (record { many = refl; tell = λ a l. absurd (omega arith); whole = refl }, omega arith);
         entries = (record { many = refl; tell = λ a l. absurd (omega arith); whole = refl }, omega arith);
-      }) in
-      let places : counted (played_weight (at last.places) draft.plays) ≡ counted (length (plan_of draft).places) =
-      counted_places draft keeps last.places (own_weights one_place last.actions)
-      (λ a l. own_at one_place last.actions a (subst (λ (actions : List ActionRow). a < length actions) drafted.actions l))
-      (rw drafted.actions (λ a l. weighs one_place last.depths last.places last.actions d.depths.tell h.places.0.tell h.there.ended_rows most_depth a l (d.depths.tell a l).1)) in
-      let entries : counted (played_weight (at last.bounds) draft.plays) ≡ counted (bound (plan_of draft)) =
-      counted_bound draft keeps last.bounds (own_weights own_entries last.actions)
-      (rw drafted.actions (λ a l. own_at own_entries last.actions a l))
-      (rw drafted.actions (λ a l. weighs own_entries last.depths last.bounds last.actions d.depths.tell h.entries.0.tell h.there.ended_rows most_depth a l (d.depths.tell a l).1)) in
-      let all_places : last.all_places ≡ counted (length (plan_of draft).places) = h.places.0.whole ∙ subst (λ (plays : List PlayRow). counted (played_weight (at last.places) plays) ≡ counted (length (plan_of draft).places)) drafted.plays places in
-      let whole : last.whole_bound ≡ counted (bound (plan_of draft)) = h.entries.0.whole ∙ subst (λ (plays : List PlayRow). counted (played_weight (at last.bounds) plays) ≡ counted (bound (plan_of draft))) drafted.plays entries in
-      let few_places : length (plan_of draft).places ≤ most_places = omega (arith, all_places, h.places.1) in
-      let few_entries : bound (plan_of draft) ≤ most_entries = omega (arith, whole, h.entries.1) in
+      })
+
+  -- where all parts are right, the places and the bound are within the limits
+  pub keeps_bound : KeepsParts draft → bound_rule draft ≡ true
+  keeps_bound keeps =
+      let places = places_told last shallow draft keeps drafted.actions weighed.places.0.tell in
+      let entries = entries_told last shallow draft keeps drafted.actions weighed.entries.0.tell in
+      let all_places : last.all_places ≡ counted (length (plan_of draft).places) = weighed.places.0.whole ∙ subst (λ (plays : List PlayRow). counted (played_weight (at last.places) plays) ≡ counted (length (plan_of draft).places)) drafted.plays places in
+      let whole : last.whole_bound ≡ counted (bound (plan_of draft)) = weighed.entries.0.whole ∙ subst (λ (plays : List PlayRow). counted (played_weight (at last.bounds) plays) ≡ counted (bound (plan_of draft))) drafted.plays entries in
+      let few_places : length (plan_of draft).places ≤ most_places = omega (arith, all_places, weighed.places.1) in
+      let few_entries : bound (plan_of draft) ≤ most_entries = omega (arith, whole, weighed.entries.1) in
       and_from _ _ (le-leb (length (plan_of draft).places) most_places few_places) (le-leb (bound (plan_of draft)) most_entries few_entries)
 
   -- the handlers of a role have different exceptions
   pub handlers_apart : list_all (λ (action : ActionRow). list_all handlers_differ action.roles) draft.actions ≡ true
   handlers_apart =
-      let h = holds_after names (λ at s. HandlersDiffer s) (differ_kept names) section.Top (nothing_yet names) lines script.lead script.sound accepted (record { open_differ = (refl, refl); ended_differ = refl }) in
+      let h = holds_after names (λ at s. HandlersDiffer s) (differ_kept names) section.Top (nothing_yet names) lines lead sound accepted (record { open_differ = (refl, refl); ended_differ = refl }) in
       rw drafted.actions h.ended_differ
 
   -- ---- ranges and maps
 
   mapped : AreMapped section.Top last
-  mapped = holds_after names AreMapped (maps_kept names) section.Top (nothing_yet names) lines script.lead script.sound accepted (mapped_at_first names)
+  mapped = holds_after names AreMapped (maps_kept names) section.Top (nothing_yet names) lines lead sound accepted (mapped_at_first names)
 
   many_objects : length last.objects ≤ length draft.objects
   many_objects = rw drafted.objects (omega (arith, counts.objects.0))
@@ -177,16 +170,6 @@ module _ (names : List (List ℕ)) (lines : List Line) (script : AreScript names
       subst (λ (actions : List ActionRow). list_all (action_right (length draft.objects) (length draft.actions) (length draft.graphs) (exceptions_of draft)) actions ≡ true) (sym drafted.actions)
       (mapped.ranges.ended_right (length draft.objects) (length draft.actions) (length draft.graphs) (exceptions_of draft) many_objects many_actions many_graphs (λ g. omega (arith, exceptions g)))
 
-  plays_in_range : list_all (play_in_range draft) draft.plays ≡ true
-  plays_in_range =
-      let same : length last.participants ≡ length draft.participants = rw drafted.participants (sym counts.participants.0) in
-      all_imply (play_right (length last.participants) draft.actions) (play_in_range draft) draft.plays
-      (λ play h.
-      let p = and_parts (nat_lt play.action (length draft.actions)) _ h in
-      let q = and_parts (all_below (length last.participants) play.who) _ p.1 in
-      and_from _ _ p.0 (subst (λ (n : ℕ). all_below n play.who ≡ true) same q.0))
-      plays_right
-
   -- all numbers are in range
   pub keeps_ranges : range_rule draft ≡ true
   keeps_ranges =
@@ -194,7 +177,7 @@ module _ (names : List (List ℕ)) (lines : List Line) (script : AreScript names
       let valued = subst (λ (rows : List ObjectRow). list_all is_valued rows ≡ true) (sym drafted.objects) outside.valued in
       let drilled = subst (λ (drills : List Drill). list_all (drill_below (length draft.objects)) drills ≡ true) (sym drafted.drills) (outside.drilled (length draft.objects) many_objects) in
       let watched = subst (λ (watches : List ℕ). all_below (length draft.objects) watches ≡ true) (sym drafted.watches) (outside.watched (length draft.objects) many_objects) in
-      and_from _ _ valued (and_from _ _ actions_right (and_from _ _ plays_in_range (and_from _ _ drilled watched)))
+      and_from _ _ valued (and_from _ _ actions_right (and_from _ _ (plays_ranged draft plays_right) (and_from _ _ drilled watched)))
 
   -- each exception of a nested use is mapped
   nests_mapped : list_all (λ (action : ActionRow). list_all (nest_mapped draft) action.nests) draft.actions ≡ true
@@ -210,17 +193,20 @@ module _ (names : List (List ℕ)) (lines : List Line) (script : AreScript names
 
   -- ---- all rules
 
+  pub keeps_parts : KeepsParts draft
+  keeps_parts = record {
+    sizes = keeps_sizes;
+    graphs = keeps_graphs;
+    ranges = keeps_ranges;
+    order = keeps_order;
+    fillings = keeps_fillings;
+    enters = keeps_enters;
+    objects = keeps_objects;
+    depths = keeps_depths;
+    handlers = keeps_handlers;
+  }
+
   pub breaks_none : broken_rule draft ≡ None
   breaks_none =
-      let parts : KeepsParts draft = record {
-        sizes = keeps_sizes;
-        graphs = keeps_graphs;
-        ranges = keeps_ranges;
-        order = keeps_order;
-        fillings = keeps_fillings;
-        enters = keeps_enters;
-        objects = keeps_objects;
-        depths = keeps_depths;
-        handlers = keeps_handlers;
-      } in
+      let parts = keeps_parts in
       rw (parts.sizes, parts.graphs, parts.ranges, parts.order, parts.fillings, parts.enters, parts.objects, parts.depths, parts.handlers, keeps_bound parts, keeps_faces) refl

@@ -16,14 +16,17 @@ pub mod HeldKept
 pub mod DepthsKept
 pub mod WeightsTell
 pub mod WeightsKept
+pub mod SizesTold
 pub mod HandlersKept
 pub mod GraphsThere
 pub mod ValuesSaid
 pub mod RangesKept
 pub mod MapsKept
 pub mod AcceptedDraft
+pub mod PlayLines
 pub mod Unbroken
 pub mod NamesKept
 pub mod NumberTables
+pub mod ChosenNumbers
 pub mod DrillTables
 pub mod HandlerTables

@@ -1,5 +1,5 @@
 -- The plays of an accepted script are of actions that are there, and their roles are filled, each by another participant.
-use Rattle.std.proofs.Common.{◌≡◌, ℕ, ◌+◌, ◌<◌, nat_lt, ◌==◌, Bool, true, ◌&&◌, List, [], ◌∷◌, ◌++◌, map, length, slice_index_or, Option, Some, None, arith, length-append}
+use Rattle.std.proofs.Common.{◌≡◌, ℕ, ◌+◌, ◌<◌, nat_lt, ◌==◌, Bool, true, false, ◌&&◌, List, [], ◌∷◌, ◌++◌, map, length, slice_index_or, Option, Some, None, arith, length-append}
 use Rattle.std.proofs.lemmas.List.{length-map}
 use Rattle.std.specs.List.{list_all}
 use Rattle.std.proofs.lemmas.Bool.{and_parts, ltb-true, lt-ltb, and_from, not-false}
@@ -9,7 +9,8 @@ use Rattle.caa_base.specs.declared.entry.Verdict.TheVariants as verdict
 use Rattle.place_plan.specs.declared.draft_rows.ActionRow.{ActionRow}
 use Rattle.place_plan.specs.declared.draft_rows.PlayRow.{PlayRow}
 use Rattle.place_plan.specs.Places.{no_action}
-use Rattle.place_plan.specs.DraftRules.{all_below, all_differ}
+use Rattle.place_plan.specs.declared.draft.Draft.{Draft}
+use Rattle.place_plan.specs.DraftRules.{all_below, all_differ, play_in_range, fills}
 use Rattle.action_script.specs.declared.form.Form.{Form}
 use Rattle.action_script.specs.declared.form.Form.TheVariants as form
 use Rattle.script_checker.specs.declared.parts.Block.{Block}
@@ -17,7 +18,7 @@ use Rattle.script_checker.specs.declared.parts.Block.TheVariants as block
 use Rattle.script_checker.specs.declared.parts.Opening.{Opening}
 use Rattle.script_checker.specs.Numbers.{is_among}
 use Rattle.script_checker.specs.DeclaredSoFar.{SoFar, action_of}
-use Rattle.script_checker.specs.Causes.{is_action}
+use Rattle.script_checker.specs.Causes.{is_action, is_unknown, is_unfilled, fills_twice}
 use Rattle.script_checker.specs.After.{closed_if, ended, with_said, action_row}
 use Rattle.script_checker.specs.Compiled.{HasNone}
 use Rattle.caa_base.proofs.ListLemmas.{all_imply}
@@ -59,12 +60,13 @@ module _ (names : List (List ℕ)) where
   ended_plays s block.Graph h = h
   ended_plays s block.Action h = all_imply (play_right (length s.participants) s.actions) (play_right (length s.participants) (s.actions ++ action_row names s ∷ [])) s.plays (more_actions (length s.participants) s.actions (action_row names s)) h
 
-  said_play : (s : SoFar) (action : ℕ) (who : List ℕ) → HasNone s (form.Play action who) → play_right (length s.participants) s.actions (record { action = index_of action s.action_names; who = map (λ p. index_of p s.participants) who }) ≡ true
-  said_play s action who none =
-      let k = neither (is_action s action) (list_all (is_among s.participants) who) (known s (form.Play action who) none) in
-      let d : all_differ (map (λ p. index_of p s.participants) who) ≡ true = differ_mapped s.participants who (differing s (form.Play action who) none) k.1 in
+  -- one play more, whatever its sizes are
+  pub said_play : (s : SoFar) (action : ℕ) (who : List ℕ) → is_unknown s (form.Play action who) ≡ false → is_unfilled s (form.Play action who) ≡ false → fills_twice (form.Play action who) ≡ false → play_right (length s.participants) s.actions (record { action = index_of action s.action_names; who = map (λ p. index_of p s.participants) who }) ≡ true
+  said_play s action who here full apart =
+      let k = neither (is_action s action) (list_all (is_among s.participants) who) here in
+      let d : all_differ (map (λ p. index_of p s.participants) who) ≡ true = differ_mapped s.participants who apart k.1 in
       let f : (length (map (λ p. index_of p s.participants) who) == length (action_of s action).roles) ≡ true =
-      rw length-map (eqb_turn (length (action_of s action).roles) (length who) (not-false _ (filled s (form.Play action who) none))) in
+      rw length-map (eqb_turn (length (action_of s action).roles) (length who) (not-false _ full)) in
       let b : all_below (length s.participants) (map (λ p. index_of p s.participants) who) ≡ true = numbers_below s.participants who (length s.participants) k.1 (omega arith) in
       and_from _ _ k.0 (and_from _ _ b (and_from _ _ f d))
 
@@ -72,7 +74,7 @@ module _ (names : List (List ℕ)) where
   says_plays s (form.Participant name) none h =
       let n : length (s.participants ++ name ∷ []) ≡ length s.participants + 1 = length-append s.participants (name ∷ []) in
       all_imply (play_right (length s.participants) s.actions) (play_right (length (s.participants ++ name ∷ [])) s.actions) s.plays (more_participants (length s.participants) _ s.actions (omega arith)) h
-  says_plays s (form.Play action who) none h = all_push (play_right (length s.participants) s.actions) s.plays _ h (said_play s action who none)
+  says_plays s (form.Play action who) none h = all_push (play_right (length s.participants) s.actions) s.plays _ h (said_play s action who (known s (form.Play action who) none) (filled s (form.Play action who) none) (differing s (form.Play action who) none))
   says_plays s form.End none h = ended_plays s s.block h
   says_plays s form.DoneLine none h = closed_plays s _ s.opening h
   says_plays s (form.SignalLine x) none h = closed_plays s _ s.opening h
@@ -84,3 +86,21 @@ plays_kept names = record {
   settles = λ at s h. closed_plays s verdict.Done s.opening h;
   says = λ at s f stands sound none shut h. says_plays names s f none h;
 }
+
+-- ---- the plays of a draft
+
+module _ (draft : Draft) (right : list_all (play_right (length draft.participants) draft.actions) draft.plays ≡ true) where
+  pub plays_ranged : list_all (play_in_range draft) draft.plays ≡ true
+  plays_ranged =
+      all_imply (play_right (length draft.participants) draft.actions) (play_in_range draft) draft.plays
+      (λ play h.
+      let p = and_parts (nat_lt play.action (length draft.actions)) _ h in
+      let q = and_parts (all_below (length draft.participants) play.who) _ p.1 in
+      and_from _ _ p.0 q.0)
+      right
+
+  pub plays_filled : list_all (λ (play : PlayRow). fills draft play.action play.who) draft.plays ≡ true
+  plays_filled =
+      all_imply (play_right (length draft.participants) draft.actions) (λ (play : PlayRow). fills draft play.action play.who) draft.plays
+      (λ play h. (and_parts (all_below (length draft.participants) play.who) _ (and_parts (nat_lt play.action (length draft.actions)) _ h).1).1)
+      right

@@ -1,13 +1,8 @@
 -- The numbers in what an accepted script declares are in range, however much is declared later.
-use Rattle.std.proofs.Common.{◌≡◌, ℕ, suc, zero, ◌+◌, ◌<◌, ◌≤◌, nat_lt, Bool, true, false, not, ◌&&◌, is_some, List, [], ◌∷◌, ◌++◌, length, replicate, map, slice_set, Option, Some, None, unwrap_or, refl, sym, arith, length-append}
+use Rattle.std.proofs.Common.{◌≡◌, ℕ, suc, zero, ◌+◌, ◌<◌, ◌≤◌, nat_lt, Bool, true, false, not, ◌&&◌, is_some, List, [], ◌∷◌, ◌++◌, length, replicate, slice_set, Option, Some, None, unwrap_or, refl, sym, arith, length-append}
 use Rattle.std.specs.List.{list_all}
 use Rattle.std.proofs.lemmas.Bool.{and_parts, false≢true, lt-ltb, eqb-true, and_from, not-false, or_parts}
-use Rattle.std.proofs.lemmas.Cmp.{ranked}
-use Rattle.std.specs.declared.cmp.Ordering.{Ordering}
-use Rattle.std.specs.declared.cmp.Ordering.TheVariants as ordering
-use Rattle.std.specs.Ordering.{MatchOrdering, match_ordering, nat_cmp}
-use Rattle.std.specs.BTreeSet.{insert_key}
-use Rattle.caa_base.specs.Lists.{index_of, is_empty}
+use Rattle.caa_base.specs.Lists.{member, index_of, is_empty}
 use Rattle.caa_base.specs.declared.entry.Drill.{Drill}
 use Rattle.caa_base.specs.declared.entry.Verdict.{Verdict}
 use Rattle.caa_base.specs.declared.entry.Verdict.TheVariants as verdict
@@ -22,7 +17,7 @@ use Rattle.place_plan.specs.declared.draft_rows.Program.{Program}
 use Rattle.place_plan.specs.declared.draft_rows.Step.{Step}
 use Rattle.place_plan.specs.declared.draft_rows.Step.TheVariants as step
 use Rattle.place_plan.specs.Places.{no_role, no_nest}
-use Rattle.place_plan.specs.DraftRules.{is_rising, is_rising_above, all_below, step_in_range, verdict_in_range, abort_in_range, program_in_range, handler_in_range, role_in_range, nest_in_range}
+use Rattle.place_plan.specs.DraftRules.{is_rising, all_below, step_in_range, verdict_in_range, abort_in_range, program_in_range, handler_in_range, role_in_range, nest_in_range}
 use Rattle.action_script.specs.declared.form.Form.{Form}
 use Rattle.action_script.specs.declared.form.Form.TheVariants as form
 use Rattle.action_script.specs.declared.kind.Section.{Section}
@@ -34,17 +29,18 @@ use Rattle.script_checker.specs.declared.parts.Block.{Block}
 use Rattle.script_checker.specs.declared.parts.Block.TheVariants as block
 use Rattle.script_checker.specs.declared.parts.DeclaredGraph.{DeclaredGraph}
 use Rattle.script_checker.specs.declared.parts.Opening.{Opening}
-use Rattle.script_checker.specs.Numbers.{is_among, has_twice, with_all}
+use Rattle.script_checker.specs.Numbers.{is_among, has_twice, chosen_from}
 use Rattle.script_checker.specs.Blocks.{is_in_action}
 use Rattle.script_checker.specs.DeclaredSoFar.{SoFar, nothing_yet, graph_number, internal_graph, interface_graph, inner, outer, exceptions_at, nest_of, face}
 use Rattle.script_checker.specs.Causes.{is_action}
 use Rattle.script_checker.specs.After.{closed_if, ended, with_said, with_program, idle_role, with_abort, with_nest, action_row}
 use Rattle.script_checker.specs.Compiled.{HasNone}
-use Rattle.caa_base.proofs.ListLemmas.{empty_is}
+use Rattle.caa_base.proofs.ListLemmas.{either, empty_is}
 use Rattle.script_checker.proofs.Choosing.{known, within}
 use Rattle.script_checker.proofs.Accepted.{IsKept, once}
 use Rattle.script_checker.proofs.ActionsGrow.{all_push}
 use Rattle.script_checker.proofs.ListsChange.{all_change, all_set, all_mapped}
+use Rattle.script_checker.proofs.ChosenNumbers.{rises}
 use Rattle.script_checker.proofs.NestTests.{neither, still_below, numbers_below}
 use Rattle.script_checker.proofs.GraphsKept.{first_alone}
 use Rattle.script_checker.proofs.GraphsThere.{has_exception, some_exception, GraphsThere, closed_there, says_there}
@@ -57,51 +53,14 @@ zeros_below : (count many : ℕ) → nat_lt 0 many ≡ true → all_below many (
 zeros_below zero many h = refl
 zeros_below (suc count) many h = and_from _ _ h (zeros_below count many h)
 
--- where a number goes among rising ones, they rise still
-goes_above : (low n : ℕ) (rising : List ℕ) → low < n → is_rising_above low rising ≡ true → is_rising_above low (insert_key nat_cmp rising n) ≡ true
-goes_above low n [] l h = and_from _ _ (lt-ltb low n l) refl
-goes_above low n (x ∷ xs) l h =
-    let p = and_parts (nat_lt low x) (is_rising_above x xs) h in
-    by (nat_cmp n x) (ranked n x (nat_cmp n x) refl) p (λ m. goes_above x n xs m p.1)
-  where
-    by : (r : Ordering) → MatchOrdering r (n < x) (n ≡ x) (x < n) → (nat_lt low x ≡ true) × (is_rising_above x xs ≡ true)
-        → (x < n → is_rising_above x (insert_key nat_cmp xs n) ≡ true)
-        → is_rising_above low (match_ordering r (n ∷ x ∷ xs) (x ∷ xs) (x ∷ insert_key nat_cmp xs n)) ≡ true
-    by ordering.Less m p further = and_from _ _ (lt-ltb low n l) (and_from _ _ (lt-ltb n x m) p.1)
-    by ordering.Equal m p further = h
-    by ordering.Greater m p further = and_from _ _ p.0 (further m)
-
-goes_in : (n : ℕ) (rising : List ℕ) → is_rising rising ≡ true → is_rising (insert_key nat_cmp rising n) ≡ true
-goes_in n [] h = refl
-goes_in n (x ∷ xs) h = by (nat_cmp n x) (ranked n x (nat_cmp n x) refl)
-  where
-    by : (r : Ordering) → MatchOrdering r (n < x) (n ≡ x) (x < n) → is_rising (match_ordering r (n ∷ x ∷ xs) (x ∷ xs) (x ∷ insert_key nat_cmp xs n)) ≡ true
-    by ordering.Less m = and_from _ _ (lt-ltb n x m) h
-    by ordering.Equal m = h
-    by ordering.Greater m = goes_above x n xs m h
-
--- numbers in order rise
-rises : (rising numbers : List ℕ) → is_rising rising ≡ true → is_rising (with_all rising numbers) ≡ true
-rises rising [] h = h
-rises rising (n ∷ ns) h = rises (insert_key nat_cmp rising n) ns (goes_in n rising h)
-
--- and numbers below a count are below it in order too
-goes_below : (many n : ℕ) (rising : List ℕ) → nat_lt n many ≡ true → all_below many rising ≡ true → all_below many (insert_key nat_cmp rising n) ≡ true
-goes_below many n [] l h = and_from _ _ l refl
-goes_below many n (x ∷ xs) l h =
-    let p = and_parts (nat_lt x many) (all_below many xs) h in
-    by (nat_cmp n x) (and_from _ _ p.0 (goes_below many n xs l p.1))
-  where
-    by : (r : Ordering) → all_below many (x ∷ insert_key nat_cmp xs n) ≡ true → all_below many (match_ordering r (n ∷ x ∷ xs) (x ∷ xs) (x ∷ insert_key nat_cmp xs n)) ≡ true
-    by ordering.Less further = and_from _ _ l h
-    by ordering.Equal further = h
-    by ordering.Greater further = further
-
-below : (many : ℕ) (rising numbers : List ℕ) → all_below many numbers ≡ true → all_below many rising ≡ true → all_below many (with_all rising numbers) ≡ true
-below many rising [] l h = h
-below many rising (n ∷ ns) l h =
-    let p = and_parts (nat_lt n many) (all_below many ns) l in
-    below many (insert_key nat_cmp rising n) ns p.1 (goes_below many n rising p.0 h)
+-- chosen numbers are below the count of what they are chosen from
+chosen_below : (n many : ℕ) (names xs : List ℕ) → n + length xs ≤ many → all_below many (chosen_from n names xs) ≡ true
+chosen_below n many names [] l = refl
+chosen_below n many names (x ∷ xs) l =
+    let more = chosen_below (n + 1) many names xs (omega (arith, l)) in
+    either (λ (ys : List ℕ). all_below many ys ≡ true) (member x names) (n ∷ chosen_from (n + 1) names xs) (chosen_from (n + 1) names xs)
+    (and_from _ _ (lt-ltb n many (omega (arith, l))) more)
+    more
 
 -- ---- the action that is being declared
 
@@ -369,8 +328,8 @@ module _ (names : List (List ℕ)) where
       record {
         steps_right = k.steps_right;
         opening_right = k.opening_right;
-        uses_rise = rises [] (map (λ o. index_of o s.objects) objects) refl;
-        uses_right = below c.objects [] (map (λ o. index_of o s.objects) objects) (numbers_below s.objects objects c.objects (not-false _ (known s (form.Uses objects) none)) m) refl;
+        uses_rise = rises 0 objects s.objects;
+        uses_right = chosen_below 0 c.objects objects s.objects (omega arith);
         fault_right = k.fault_right;
         roles_right = k.roles_right;
         nests_right = k.nests_right;

@@ -79,7 +79,7 @@ module _ (own : ActionRow → ℕ) (table : List ℕ) (actions : List ActionRow)
       }
 
   -- one play more
-  weighs_play : (play : PlayRow) → Weighs own table actions (plays ++ play ∷ []) (counted (total + at table play.action))
+  pub weighs_play : (play : PlayRow) → Weighs own table actions (plays ++ play ∷ []) (counted (total + at table play.action))
   weighs_play play = record {
     many = h.many;
     tell = h.tell;

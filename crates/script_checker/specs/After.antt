@@ -21,7 +21,7 @@ use Rattle.script_checker.specs.declared.parts.Block.TheVariants as block
 use Rattle.script_checker.specs.declared.parts.NestSaid.{NestSaid}
 use Rattle.script_checker.specs.declared.parts.Opening.{Opening}
 use Rattle.place_plan.specs.Weights.{counted, at, nested_weight}
-use Rattle.script_checker.specs.Numbers.{in_order}
+use Rattle.script_checker.specs.Numbers.{chosen_from}
 use Rattle.script_checker.specs.DeclaredSoFar.{SoFar, graph_number, exceptions_at, internal_graph, interface_graph, inner, outer, face, action_of, nest_of, said_of, role_of, nothing_said}
 use Rattle.script_checker.specs.Causes.{places_with, bound_with}
 
@@ -242,7 +242,7 @@ with_said names s form.End = ended names s s.block
 with_said names s (form.Internal graph) = record s { internal = Some (graph_number s graph) }
 with_said names s (form.Interface graph) = record s { interface = Some (graph_number s graph) }
 with_said names s (form.Fault exception) = record s { fault = Some (index_of exception (inner s)) }
-with_said names s (form.Uses objects) = record s { uses = in_order (map (λ o. index_of o s.objects) objects) }
+with_said names s (form.Uses objects) = record s { uses = chosen_from 0 objects s.objects }
 with_said names s (form.Roles roles) = record s { roles = roles; role_rows = map (idle_role names) roles }
 with_said names s (form.Nest nest action roles) = record s {
   nests = s.nests ++ nest ∷ [];

@@ -36,10 +36,14 @@ number_of cause.JournalBound = 20
 number_of cause.OutOfMemory = 21
 number_of cause.AlternateFace = 22
 
--- by what is declared when the line comes, it has this cause, and none of a lesser number
+-- by what is declared when the line comes, it has no cause of a lesser number than this
+abbrev pub HasNoneBelow : SoFar → Form → ℕ → Type 0
+HasNoneBelow s form n = (other : CheckCause) → number_of other < n → ¬ (HasCause s form other)
+
+-- it has this cause, and none of a lesser number
 pub record IsLeast (s : SoFar) (form : Form) (least : CheckCause) : Type 0 where
   pub has : HasCause s form least
-  pub lesser : (other : CheckCause) → number_of other < number_of least → ¬ (HasCause s form other)
+  pub lesser : HasNoneBelow s form (number_of least)
 
 -- it has none
 abbrev pub HasNone : SoFar → Form → Type 0

@@ -1,7 +1,5 @@
 -- Words on lists of numbers.
-use Rattle.std.specs.Prelude.{ℕ, nat_lt, Bool, false, ◌||◌, List, [], ◌∷◌, length}
-use Rattle.std.specs.Ordering.{nat_cmp}
-use Rattle.std.specs.BTreeSet.{insert_key}
+use Rattle.std.specs.Prelude.{ℕ, ◌+◌, nat_lt, if◌then◌else◌, Bool, false, ◌||◌, List, [], ◌∷◌, length}
 use Rattle.caa_base.specs.Lists.{member, index_of}
 
 -- the name is among these
@@ -13,11 +11,7 @@ abbrev pub has_twice : List ℕ → Bool
 has_twice [] = false
 has_twice (x ∷ xs) = member x xs || has_twice xs
 
--- rising numbers with these put in where they belong, each once
-abbrev pub with_all : List ℕ → List ℕ → List ℕ
-with_all rising [] = rising
-with_all rising (n ∷ ns) = with_all (insert_key nat_cmp rising n) ns
-
--- the numbers in rising order, each once
-abbrev pub in_order : List ℕ → List ℕ
-in_order numbers = with_all [] numbers
+-- the numbers of those names that are among some, in the order of the names; `n` is the number of the first name
+abbrev pub chosen_from : ℕ → List ℕ → List ℕ → List ℕ
+chosen_from n some [] = []
+chosen_from n some (x ∷ xs) = if member x some then n ∷ chosen_from (n + 1) some xs else chosen_from (n + 1) some xs

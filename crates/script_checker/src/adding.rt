@@ -6,7 +6,7 @@ ghost use Rattle.cover_table.specs.Cover.{most_exceptions};
 ghost use Rattle.caa_base.specs.Lists.{index_of};
 ghost use Rattle.place_plan.specs.Places.{no_nest};
 ghost use Rattle.script_checker.specs.DeclaredSoFar.{nothing_said};
-ghost use Rattle.script_checker.specs.Causes.{is_unknown, is_past_limit};
+ghost use Rattle.script_checker.specs.Causes.{is_unknown, is_twice, is_past_limit};
 ghost use Rattle.script_checker.specs.After.{name_at, step_of, verdict_of, goes_on, is_of_parts, is_of_action, is_outside, settled, closed, with_step, with_opening, idle_role, with_abort, with_graph, begun, action_row, with_depth, with_places, with_bound, with_action_row, with_action, without_parts, with_said};
 ghost use Rattle.script_checker.specs.View.{so_far};
 
@@ -467,12 +467,14 @@ fn add_participant(declared: &mut Declared, names: &[Name], name: u32) -> Result
     Ok(())
 }
 
+#[tactic(auto, using(crate::proofs::ChosenNumbers::new_differs))]
 fn add_object(
     declared: &mut Declared,
     names: &[Name],
     name: u32,
     initial: i64,
 ) -> Result<(), OutOfMemory>
+    requires { is_twice (so_far declared.old) (Form.Object name initial) ≡ false }
     ensures { OnOk result (so_far declared.new ≡ with_said names.now (so_far declared.old) (Form.Object name initial)) }
 {
     let row = name_row(declared.alloc, names, name)?;
@@ -507,6 +509,7 @@ fn add_play(declared: &mut Declared, action: u32, who: &[u32]) -> Result<(), All
 // ---- all lines
 
 fn add_uses(declared: &mut Declared, objects: &[u32]) -> Result<(), AllocError>
+    requires { is_unknown (so_far declared.old) (Form.Uses objects.now) ≡ false }
     ensures { OnOk result (so_far declared.new ≡ with_said [] (so_far declared.old) (Form.Uses objects.now)) }
 {
     declared.uses = places_in_order(declared.alloc, &declared.objects, objects)?;
@@ -644,6 +647,7 @@ fn is_of_parts(form: &Form) -> bool
 /// Adds what a line says of an action as a whole.
 fn add_of_action(declared: &mut Declared, names: &[Name], form: &Form) -> Result<(), OutOfMemory>
     requires some { is_of_action form.now ≡ true }
+    requires known { is_unknown (so_far declared.old) form.now ≡ false }
     requires few { is_past_limit (so_far declared.old) form.now ≡ false }
     ensures { OnOk result (so_far declared.new ≡ with_said names.now (so_far declared.old) form.now) }
 {
@@ -676,6 +680,7 @@ fn is_of_action(form: &Form) -> bool
 fn add_outside(declared: &mut Declared, names: &[Name], form: &Form) -> Result<(), OutOfMemory>
     requires some { is_outside form.now ≡ true }
     requires known { is_unknown (so_far declared.old) form.now ≡ false }
+    requires once { is_twice (so_far declared.old) form.now ≡ false }
     requires few { is_past_limit (so_far declared.old) form.now ≡ false }
     ensures { OnOk result (so_far declared.new ≡ with_said names.now (so_far declared.old) form.now) }
 {
@@ -698,6 +703,7 @@ fn add_outside(declared: &mut Declared, names: &[Name], form: &Form) -> Result<(
 /// Adds what a line says that has no cause to be refused.
 pub(crate) fn add(declared: &mut Declared, names: &[Name], form: &Form) -> Result<(), OutOfMemory>
     requires known { is_unknown (so_far declared.old) form.now ≡ false }
+    requires once { is_twice (so_far declared.old) form.now ≡ false }
     requires few { is_past_limit (so_far declared.old) form.now ≡ false }
     ensures { OnOk result (so_far declared.new ≡ with_said names.now (so_far declared.old) form.now) }
 {

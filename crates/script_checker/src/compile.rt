@@ -6,6 +6,7 @@ ghost use Rattle.script_checker.specs.After.{after};
 ghost use Rattle.script_checker.specs.Chosen.{name_cause, size_cause, part_cause};
 ghost use Rattle.script_checker.specs.Graphs.{Ends};
 ghost use Rattle.script_checker.specs.Compiled.{IsLeast, HasNone, IsLeastCause, IsAccepted, AreRowsOf, IsDraftOf, BreaksNoRule, IsAnswer};
+ghost use Rattle.script_checker.specs.PlaySizes.{CountsUnfolding};
 ghost use Rattle.script_checker.specs.Rows.{AddsRow, parted};
 ghost use Rattle.script_checker.specs.View.{so_far};
 ghost use Rattle.script_checker.specs.declared.check_error.CheckCause.TheVariants as cause;
@@ -173,6 +174,14 @@ fn plain_rows(alloc: Global, names: &[Name]) -> Result<Vec<GraphRow>, OutOfMemor
 /// A script without a refused line makes a draft that breaks no rule of place_plan. A statement alone: the call does nothing.
 pub fn breaks_no_rule(script: &Script)
     ensures { BreaksNoRule script.now }
+{
+    script.are_script();
+}
+
+/// What a `play` line is judged by is what `unfolded` of place_plan counts of the draft with that play. A statement alone: the call
+/// does nothing.
+pub fn counts_unfolding(script: &Script)
+    ensures { CountsUnfolding script.now }
 {
     script.are_script();
 }

@@ -1,7 +1,8 @@
-ghost use Rattle.std.specs.Prelude.{◌≡◌, ◌≤◌, ◌<◌, true, length, All, IfOk};
+ghost use Rattle.std.specs.Prelude.{◌≡◌, ◌≤◌, ◌<◌, true, false, length, All, IfOk};
 ghost use Rattle.caa_base.specs.Limits.{most_roles};
 ghost use Rattle.cover_table.specs.Cover.{most_exceptions};
 ghost use Rattle.script_checker.specs.Blocks.{is_in_graph};
+ghost use Rattle.script_checker.specs.Numbers.{has_twice};
 ghost use Rattle.script_checker.specs.DeclaredSoFar.{plain_graph};
 
 use crate::drill_list::DrillList;
@@ -64,6 +65,7 @@ pub struct Declared {
     pub opening: Option<Opening>,
     /// Its steps.
     pub steps: Vec<Step>,
+    ghost objects_differ: { has_twice objects ≡ false },
     ghost few_roles: { length role_rows ≤ most_roles },
     ghost few_exceptions: { length exceptions ≤ most_exceptions },
     ghost some_exceptions: { is_in_graph block ≡ true → 0 < length exceptions },

@@ -1,10 +1,10 @@
 //! What the names of a line mean where it stands.
 
-ghost use Rattle.std.specs.Prelude.{◌≡◌, length, map, slice_index_or, IfOk};
+ghost use Rattle.std.specs.Prelude.{◌≡◌, true, false, length, map, slice_index_or, IfOk};
 ghost use Rattle.std.specs.List.{list_all};
 ghost use Rattle.caa_base.specs.Lists.{member, index_of};
 ghost use Rattle.place_plan.specs.Places.{no_action};
-ghost use Rattle.script_checker.specs.Numbers.{is_among, has_twice, in_order};
+ghost use Rattle.script_checker.specs.Numbers.{is_among, has_twice, chosen_from};
 ghost use Rattle.script_checker.specs.DeclaredSoFar.{no_graph, exceptions_at, inner, outer, action_of, nest_of, face_of, face, role_of};
 ghost use Rattle.script_checker.specs.View.{so_far};
 
@@ -60,7 +60,9 @@ fn set_of_places(
     names: &NumberList,
     some: &[u32],
 ) -> Result<BTreeSet<u32>, AllocError>
-    ensures { IfOk result (λ places. places.keys ≡ in_order (map (λ n. index_of n names.now) some.now)) }
+    requires apart { has_twice names.now ≡ false }
+    requires known { list_all (is_among names.now) some.now ≡ true }
+    ensures { IfOk result (λ places. places.keys ≡ chosen_from 0 some.now names.now) }
 {
     let mut places = BTreeSet::new(alloc);
     for name in some {
@@ -75,7 +77,9 @@ pub(crate) fn places_in_order(
     names: &NumberList,
     some: &[u32],
 ) -> Result<NumberList, AllocError>
-    ensures { IfOk result (λ places. places ≡ in_order (map (λ n. index_of n names.now) some.now)) }
+    requires apart { has_twice names.now ≡ false }
+    requires known { list_all (is_among names.now) some.now ≡ true }
+    ensures { IfOk result (λ places. places ≡ chosen_from 0 some.now names.now) }
 {
     let places = set_of_places(alloc, names, some)?;
     let places: Vec<u32> = places.into_iter().collect(alloc)?;

@@ -7,12 +7,16 @@ use Rattle.script_checker.specs.Graphs.{Ends}
 use Rattle.script_checker.specs.Compiled.{AreRowsOf}
 use Rattle.script_checker.specs.View.{so_far}
 use Rattle.script_checker.proofs.Choosing.{known, within}
+use Rattle.script_checker.proofs.Accepted.{once}
 use Rattle.script_checker.proofs.GraphRows.{rows_added, settled_same, said_same, said_graph}
 use Rattle.script_checker.proofs.compile.take.Goals as goal
 use Rattle.script_checker.proofs.compile.take.Goals.{in-Some+in_ok-add_row-in-Some, in-None}
 
 pub add-requires-clause-known : goal.add-requires-clause-known
 add-requires-clause-known c = known (so_far c.settle.new.declared) c.args.form.now c.in_ok-graph.ensures.accepted
+
+pub add-requires-clause-once : goal.add-requires-clause-once
+add-requires-clause-once c = once (so_far c.settle.new.declared) c.args.form.now c.in_ok-graph.ensures.accepted
 
 pub add-requires-clause-few : goal.add-requires-clause-few
 add-requires-clause-few c = within (so_far c.settle.new.declared) c.args.form.now c.in_ok-graph.ensures.accepted

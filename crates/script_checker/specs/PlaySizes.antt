@@ -1,0 +1,40 @@
+-- What a `play` line is judged by, once its names and roles are found right.
+use Rattle.std.specs.Prelude.{◌≡◌, ℕ, List, ◌∷◌, ◌++◌, length}
+use Rattle.place_plan.specs.declared.draft.Draft.{Draft}
+use Rattle.place_plan.specs.Bound.{bound}
+use Rattle.place_plan.specs.DraftRules.{KeepsParts}
+use Rattle.place_plan.specs.Unfolding.{plan_of}
+use Rattle.place_plan.specs.Weights.{counted}
+use Rattle.action_script.specs.declared.form.Form.TheVariants as form
+use Rattle.action_script.specs.declared.script.Line.{Line}
+use Rattle.action_script.specs.ScriptValue.{Script}
+use Rattle.script_checker.specs.declared.check_error.CheckCause.TheVariants as cause
+use Rattle.script_checker.specs.DeclaredSoFar.{SoFar, nothing_yet}
+use Rattle.script_checker.specs.Causes.{places_with, bound_with}
+use Rattle.script_checker.specs.After.{settled, with_said}
+use Rattle.script_checker.specs.Compiled.{number_of, HasNoneBelow, declared_after, AreAccepted, IsDraftOf}
+
+-- a line of the script plays this action when this is declared; the lines before it have no cause, and it has none that comes before
+-- its sizes
+pub record ComesToPlay (script : Script) (s : SoFar) (action : ℕ) (who : List ℕ) : Type 0 where
+  pub before : List Line
+  pub line : Line
+  pub rest : List Line
+  pub place : script.lines ≡ before ++ line ∷ rest
+  pub play : line.form ≡ form.Play action who
+  pub accepted : AreAccepted script.names (nothing_yet script.names) before
+  pub declared : s ≡ settled (declared_after script.names (nothing_yet script.names) before) (form.Play action who)
+  pub lesser : HasNoneBelow s (form.Play action who) (number_of cause.Limit)
+
+-- the draft breaks none of the rules that must hold before it is unfolded, and the sizes with one more play of this action are those
+-- of its plan, as far as they are counted
+pub record AreSizesOf (s : SoFar) (action : ℕ) (draft : Draft) : Type 0 where
+  pub parts : KeepsParts draft
+  pub places : places_with s action ≡ counted (length (plan_of draft).places)
+  pub bound : bound_with s action ≡ counted (bound (plan_of draft))
+
+-- each `play` line that the checks come to is judged by the sizes of the plan into which the draft with that play unfolds
+abbrev pub CountsUnfolding : Script → Type 0
+CountsUnfolding script =
+    (s : SoFar) (action : ℕ) (who : List ℕ) → ComesToPlay script s action who
+    → (draft : Draft) → IsDraftOf script.names (with_said script.names s (form.Play action who)) draft → AreSizesOf s action draft
