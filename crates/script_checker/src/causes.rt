@@ -14,23 +14,21 @@ ghost use Rattle.script_checker.specs.View.{so_far};
 
 use crate::declared::Declared;
 use crate::lookups::{
-    are_among, are_members, count_roles, exception_in, face_of, has_exception, has_twice,
-    inner_number, interface_at, is_inner, is_outer,
+    are_among, count_roles, exception_in, face_of, has_exception, has_twice, inner_number,
+    interface_at, is_inner, is_outer,
 };
 use crate::parts::Block;
 use action_script::form::Form;
 use caa_base::limits::{
-    MOST_ACTIONS, MOST_DEPTH, MOST_DRILLS, MOST_ENTRIES, MOST_GRAPHS, MOST_NESTS, MOST_OBJECTS,
-    MOST_PARTICIPANTS, MOST_PLACES, MOST_ROLES, MOST_STEPS, MOST_WATCHES,
+    MOST_ACTIONS, MOST_ALTERNATES, MOST_DEPTH, MOST_DRILLS, MOST_ENTRIES, MOST_GRAPHS, MOST_NESTS,
+    MOST_OBJECTS, MOST_PARTICIPANTS, MOST_PLACES, MOST_ROLES, MOST_STEPS, MOST_WATCHES,
 };
 use cover_table::MOST_EXCEPTIONS;
 use place_plan::draft_rows::AbortRow;
+use place_plan::member::all_members;
 use place_plan::tables::{counted_sum, number_at};
 use place_plan::uses::roles_enter;
 use std::alloc::{AllocError, Global};
-
-/// Actions of a nested use.
-const MOST_ALTERNATES: usize = 4;
 
 // ---- a name that isn't declared
 
@@ -303,7 +301,7 @@ fn holds_all(declared: &Declared, action: u32) -> bool
         .as_slice()
         .get(declared.action_names.find(action) as usize)
     {
-        Some(row) => are_members(row.objects.as_slice(), &declared.uses),
+        Some(row) => all_members(row.objects.as_slice(), declared.uses.items()),
         None => true,
     }
 }

@@ -55,7 +55,7 @@ pub enum CheckCause {
 #[derive(Clone, Copy, Debug, PartialEq, Eq, Error)]
 #[error("line {line}: {cause}")]
 pub struct CheckError {
-    /// The number of the line in the text, counted from 1; 0 for want of memory after the last line.
+    /// The number of the line in the text, counted from 1; 0 where memory was lacking before the first line or after the last.
     pub line: u32,
     pub cause: CheckCause,
 }

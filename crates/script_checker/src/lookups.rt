@@ -2,7 +2,7 @@
 
 ghost use Rattle.std.specs.Prelude.{◌≡◌, true, false, length, map, slice_index_or, IfOk};
 ghost use Rattle.std.specs.List.{list_all};
-ghost use Rattle.caa_base.specs.Lists.{member, index_of};
+ghost use Rattle.caa_base.specs.Lists.{index_of};
 ghost use Rattle.place_plan.specs.Places.{no_action};
 ghost use Rattle.script_checker.specs.Numbers.{is_among, has_twice, chosen_from};
 ghost use Rattle.script_checker.specs.DeclaredSoFar.{no_graph, exceptions_at, inner, outer, action_of, nest_of, face_of, face, role_of};
@@ -18,13 +18,6 @@ pub(crate) fn are_among(names: &NumberList, some: &[u32]) -> bool
     ensures { result ≡ list_all (is_among names.now) some.now }
 {
     some.iter().all(|name| names.contains(*name))
-}
-
-/// Whether each of some numbers is in a list.
-pub(crate) fn are_members(numbers: &[u32], list: &NumberList) -> bool
-    ensures { result ≡ list_all (λ o. member o list.now) numbers.now }
-{
-    numbers.iter().all(|number| list.contains(*number))
 }
 
 /// Whether a number stands twice in a list.
