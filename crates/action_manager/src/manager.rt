@@ -53,7 +53,7 @@ pub struct ManagerError<M> {
 /// What a manager that was closed gives back.
 pub struct Closed<M> {
     pub machine: M,
-    /// The writer that was opened with the manager's observers.
+    /// The writer whose publications the manager's observers read.
     pub writer: CommittedWriter,
     /// A publication found no memory. From then on nothing was published.
     pub stale: bool,
@@ -226,7 +226,7 @@ impl<M: Machine> Manager<M> {
 
     /// A manager round a machine, a seat for each participant, in order, and so many observers.
     ///
-    /// Each seat has seen the journal that the machine has, in which nothing is resolved yet and no play has ended. At `Err` no
+    /// What each seat has seen is the machine's journal, in which nothing is resolved yet and no play has ended. At `Err` no
     /// memory was found, and the machine comes back as it was.
     pub fn open<R: Wait>(
         rt: &R,
@@ -286,7 +286,7 @@ impl<M: Machine> Manager<M> {
         &self.cells
     }
 
-    /// One turn of the seat's participant: the machine's answer, on a journal that begins with what the seat had seen.
+    /// One turn of the seat's participant: the machine's answer, on a journal that goes on from what the seat had seen.
     ///
     /// The seat has then seen the journal that the machine left. After a Resolve or a Handle it has the note of that place, to be
     /// taken. Where the turn ended a play, it also published its values, by the allocator that `open` was given. The entry stands
@@ -311,7 +311,7 @@ impl<M: Machine> Manager<M> {
         answer
     }
 
-    /// A turn that makes no entry, and says whether the journal is longer than what the seat had seen.
+    /// A turn without an entry: what the seat has seen is brought up to date. Whether the journal had grown.
     fn look<R: Wait>(&self, rt: &R, seat: &mut Seat<M>) -> bool
         requires opened { IsSeatIn M.base_of self.now seat.old }
         ensures opened { IsSeatIn M.base_of self.now seat.new }
@@ -327,7 +327,7 @@ impl<M: Machine> Manager<M> {
         was < seen
     }
 
-    /// Waits until the seat has seen a longer journal than before, in which its participant has no further entry.
+    /// Waits for a journal that is longer than what the seat has seen, by entries of others alone, and has it seen.
     ///
     /// It need not return.
     pub fn wait_past<R: Wait>(&self, rt: &R, seat: &mut Seat<M>)
@@ -376,8 +376,8 @@ impl<M: Machine> Manager<M> {
     /// Gives the machine and the writer back, where every participant's seat is in the list.
     ///
     /// What each seat has seen begins the machine's journal, which has no further entry of that participant. The writer is of the
-    /// list that the manager's observers read. It has published the ends of the first plays that ended in that journal, in order,
-    /// and of all of them unless it is stale. At `Err` a seat is missing, and manager and seats come back as they were.
+    /// list that the manager's observers read. It has published for the plays of that journal one after another as they ended,
+    /// and has left out none unless it is stale. At `Err` a seat is missing, and manager and seats come back as they were.
     pub fn close(self, mut seats: Vec<Seat<M>>) -> Result<Closed<M>, StillOut<M>>
         requires opened { All (λ s. IsSeatIn M.base_of self s) seats.items }
         ensures all { OnOk result (HaveAll (length (plan_in self).participants) seats.items) }

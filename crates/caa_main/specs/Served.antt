@@ -31,7 +31,7 @@ WasTold found sink answer =
 
 -- ---- `check`, `sim SEED` and `run`
 
--- the bytes are a script that has a plan, and the device didn't refuse to be laid out
+-- the bytes spell a script with a plan, and the device didn't refuse to be laid out
 pub record IsServable {P : Type 0} (call : Call P) (sink : SinkUse) : Type 0 where
   pub served : Command
   pub unjudged : served ≡ command.Audit → ⊥

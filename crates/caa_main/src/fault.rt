@@ -40,7 +40,7 @@ pub enum Fault {
     Limit,
     /// A journal could have too many entries.
     JournalBound,
-    /// The actions of a nested use have different interface graphs.
+    /// An alternate has another interface graph than the first action of its use.
     AlternateFace,
 }
 

@@ -1,4 +1,4 @@
-//! From the bytes of a script to its plan, or to the fault for which it is refused.
+//! The plan that a script has by its bytes, or the fault for which it is refused.
 
 ghost use Rattle.std.specs.Prelude.{◌≡◌, true, [], IfOk, IfErr, OnOk};
 ghost use Rattle.journal_text.specs.Naming.{is_well_named};

@@ -108,8 +108,8 @@ fn look_at(
 ) -> usize
     requires ranks { TellsRanks ranks.now ended.now }
     requires within { lowest < length values.old }
-    ensures lowest { result
-        ≡ lowest_after (counts plan.now restored.now object entry.now) (index_of (top_of plan.now entry.now.place) ended.now) lowest }
+    ensures lowest { result ≡ lowest_after (counts plan.now restored.now object entry.now)
+        (index_of (top_of plan.now entry.now.place) ended.now) lowest }
     ensures size { length values.new ≡ length values.old }
     ensures each { (n : ℕ) → slice_index_or values.new n (pos 0)
         ≡ value_after (counts plan.now restored.now object entry.now) (index_of (top_of plan.now entry.now.place) ended.now)

@@ -53,8 +53,7 @@ pub record GrewBy (begins : ℕ → ℕ) (plan : Plan) (old new : List Entry) : 
 
 -- ---- where turns begin
 
--- by the schedule of a seed: the state of this turn, divided by 65536; each state comes from the one before it, the first from
--- the seed
+-- by a seed: the state of this turn, divided by 65536; each state comes from the one before it, the first from the seed
 abbrev pub first_of_seed : ℕ → ℕ → ℕ
 first_of_seed seed turn = state_after seed turn / 65536
 

@@ -123,11 +123,11 @@ fn seens_of<M: Machine>(
 /// Plays a machine to its end, each participant in a thread of its own, and lets a watcher look at each watched object in
 /// another.
 ///
-/// In its journal nothing may be resolved yet, and no play may have ended. What comes back is the machine, complete, still of its
-/// plan and base; its journal is legal and goes on from the old one. With it comes what was seen, right looks of that journal,
-/// unless no memory was found for a publication. The caller itself takes the turns of participants for whom no thread can be
-/// started, round by round; a watcher without a thread looks once, at the end. At `Err` no memory was found before the first
-/// entry, and the machine is as it was. It need not return.
+/// In its journal nothing may be resolved yet, and no play may have ended. The machine that comes back has a legal and complete
+/// journal, which goes on from the old one; its plan and base are as they were. With it comes what was seen, right looks of that
+/// journal, unless no memory was found for a publication. The caller itself takes the turns of participants for whom no thread
+/// can be started, round by round; a watcher without a thread looks once, at the end. At `Err` no memory was found before the
+/// first entry, and the machine is as it was. It need not return.
 pub fn run<M: Machine + Send, G: Gate + Sync, R: Threads + Wait + Sync>(
     rt: &R,
     alloc: Global,

@@ -119,7 +119,7 @@ journal =
     ∷ leave 0 ann
     ∷ []
 
--- universal is the least exception that covers all that was raised
+-- universal is the least that covers everything raised
 pub universal_is_least : IsLeastCover (internal_of plan 0) (universal ∷ []) universal
 universal_is_least = least_cover_from _ _ _ refl
 

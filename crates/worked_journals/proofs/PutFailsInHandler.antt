@@ -96,7 +96,7 @@ journal =
     ∷ leave 0 ann
     ∷ []
 
--- broken is the least exception that covers all that was raised
+-- broken is the least that covers everything raised
 pub broken_is_least : IsLeastCover (internal_of plan 0) (broken ∷ []) broken
 broken_is_least = least_cover_from _ _ _ refl
 

@@ -125,7 +125,7 @@ journal =
     ∷ leave 0 bob
     ∷ []
 
--- left is the least exception that covers all that was raised
+-- left is the least that covers everything raised
 pub left_is_least : IsLeastCover (internal_of plan 0) (left ∷ left ∷ []) left
 left_is_least = least_cover_from _ _ _ refl
 

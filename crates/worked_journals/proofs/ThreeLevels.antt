@@ -212,7 +212,7 @@ journal =
     ∷ leave 0 bob
     ∷ []
 
--- big is the least exception that covers all that was raised
+-- big is the least that covers everything raised
 pub big_is_least : IsLeastCover (internal_of plan 0) (bent ∷ stop ∷ []) big
 big_is_least = least_cover_from _ _ _ refl
 

@@ -126,7 +126,7 @@ journal =
     ∷ leave 0 bob
     ∷ []
 
--- mid is the least exception that covers all that was raised
+-- mid is the least that covers everything raised
 pub mid_is_least : IsLeastCover (internal_of plan 0) (left ∷ right ∷ []) mid
 mid_is_least = least_cover_from _ _ _ refl
 

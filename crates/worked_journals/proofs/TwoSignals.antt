@@ -184,11 +184,11 @@ journal =
     ∷ leave 0 bob
     ∷ []
 
--- both is the least exception that covers all that was signalled
+-- both is the least that covers everything signalled
 pub both_is_least : IsLeastCover (interface_of plan 1) (weak ∷ late ∷ []) both
 both_is_least = least_cover_from _ _ _ refl
 
--- poor is the least exception that covers all that was raised
+-- poor is the least that covers everything raised
 pub poor_is_least : IsLeastCover (internal_of plan 0) (poor ∷ poor ∷ []) poor
 poor_is_least = least_cover_from _ _ _ refl
 

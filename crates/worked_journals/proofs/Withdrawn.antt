@@ -154,7 +154,7 @@ journal =
     ∷ leave 0 bob
     ∷ []
 
--- stop is the least exception that covers all that was raised
+-- stop is the least that covers everything raised
 pub stop_is_least : IsLeastCover (internal_of plan 0) (stop ∷ []) stop
 stop_is_least = least_cover_from _ _ _ refl
 
