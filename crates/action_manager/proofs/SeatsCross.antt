@@ -7,7 +7,7 @@ use denote.Struct.Declared.{shape}
 use Rattle.std.specs.contracts.option.Option as option
 use Rattle.std.proofs.option.Option.TheSendSync as option_crosses
 use Rattle.atomic_table.proofs.shared.Seat.TheSendSync as token_crosses
-use Rattle.shared_views.proofs.bulletin.Told.TheSendSync as told_crosses
+use Rattle.shared_views.proofs.bulletin.Announcement.TheSendSync as told_crosses
 use Rattle.shared_views.proofs.cells.ResolutionCells.TheSendSync as cells_cross
 use Rattle.shared_views.proofs.Sent.{bulletin_send}
 use Rattle.shared_views.proofs.committed_writer.CommittedWriter.TheSendSync as writer_crosses

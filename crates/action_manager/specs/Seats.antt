@@ -4,8 +4,8 @@ use Rattle.std.specs.List.{list_any}
 use mathlib.Core.List.{IsPrefix}
 use Rattle.atomic_table.specs.Seated.{TableId}
 use Rattle.atomic_table.specs.declared.shared.Seat.{Seat as TableSeat}
-use Rattle.shared_views.specs.declared.bulletin.Told.{Told}
-use Rattle.shared_views.specs.declared.bulletin.Told.TheVariants as told
+use Rattle.shared_views.specs.declared.bulletin.Announcement.{Announcement}
+use Rattle.shared_views.specs.declared.bulletin.Announcement.TheVariants as told
 use Rattle.action_manager.specs.OwnEntries.{Journal, entries_by}
 use Rattle.action_manager.specs.Stepping.{IsAtRest}
 use Rattle.action_manager.specs.declared.lock_view.Terms.{Terms}
@@ -26,7 +26,7 @@ abbrev pub seen_by : {M : Type 0} → Seat M → Journal
 seen_by seat = seat.token.me.0.seen
 
 -- what its last step told, until it is taken
-abbrev pub told_to : {M : Type 0} → Seat M → Told
+abbrev pub told_to : {M : Type 0} → Seat M → Announcement
 told_to seat = seat.told
 
 -- the seat was opened by the manager of this table, on these terms

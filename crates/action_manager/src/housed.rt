@@ -8,7 +8,7 @@ use caa_base::entry::Participant;
 use caa_base::work::WorkDone;
 use journal_laws::is_well_formed;
 use place_plan::machine::{Answer, Machine};
-use shared_views::{Bulletin, CommittedWriter, ResolutionCells, Told};
+use shared_views::{Announcement, Bulletin, CommittedWriter, ResolutionCells};
 use std::sync::Wait;
 
 /// What lies in the slot: a machine, and what keeps up with its journal.
@@ -56,7 +56,7 @@ impl<M: Machine> Housed<M> {
         cells: &ResolutionCells,
         by: Participant,
         hint: Option<WorkDone>,
-    ) -> (Answer, Told)
+    ) -> (Answer, Announcement)
         requires who { by < length (M.plan_of self.old.machine).participants }
         requires ours { cells_of self.old.bulletin ≡ cells.now }
         requires kept { IsKept M.plan_of M.journal_of self.old }
@@ -76,7 +76,7 @@ impl<M: Machine> Housed<M> {
                 is_well_formed(self.machine.plan());
                 self.bulletin.take_in(cells, entry)
             }
-            _ => Told::Nothing,
+            _ => Announcement::Nothing,
         };
         (answer, told)
     }

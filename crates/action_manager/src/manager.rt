@@ -23,7 +23,7 @@ use caa_base::entry::{OutOfMemory, Participant};
 use caa_base::work::WorkDone;
 use place_plan::machine::{Answer, Machine};
 use place_plan::plan::Plan;
-use shared_views::{Bulletin, CommittedWriter, Observer, ResolutionCells, Told};
+use shared_views::{Announcement, Bulletin, CommittedWriter, Observer, ResolutionCells};
 use std::alloc::{AllocError, Global};
 use std::snapshot::Snapshot;
 use std::sync::Wait;
@@ -195,7 +195,7 @@ impl<M: Machine> Manager<M> {
             participant,
             seen,
             made,
-            told: Told::Nothing,
+            told: Announcement::Nothing,
         }
     }
 

@@ -4,7 +4,7 @@ ghost use Rattle.action_manager.specs.OwnEntries.{entries_by};
 use crate::housed::Housed;
 use crate::turns::Token;
 use caa_base::entry::Participant;
-use shared_views::{NoteRefused, PlaceNote, Told};
+use shared_views::{Announcement, NoteRefused, PlaceNote};
 use std::mem;
 
 /// The right of one participant to take turns. It may go to another thread.
@@ -13,7 +13,7 @@ pub struct Seat<M> {
     pub(crate) participant: Participant,
     pub(crate) seen: u64,
     pub(crate) made: u64,
-    pub(crate) told: Told,
+    pub(crate) told: Announcement,
     ghost who: { participant ≡ token.me.0.who },
     ghost so_long: { seen ≡ length token.me.0.seen },
     ghost so_many: { made ≡ length (entries_by participant token.me.0.seen) },
@@ -46,7 +46,7 @@ pub enum NoNote {
 impl<M> Seat<M> {
     ghost use Rattle.action_manager.specs.Seats.{participant_of, seen_by, told_to, token_of};
     ghost use Rattle.action_manager.specs.Tidings.{Takes};
-    ghost use Rattle.shared_views.specs.declared.bulletin.Told.TheVariants.{Nothing};
+    ghost use Rattle.shared_views.specs.declared.bulletin.Announcement.TheVariants.{Nothing};
 
     /// Whose seat it is.
     pub fn participant(&self) -> Participant
@@ -77,10 +77,10 @@ impl<M> Seat<M> {
         ensures left { told_to self.new ≡ Nothing }
         ensures same { (token_of self.new ≡ token_of self.old) × (participant_of self.new ≡ participant_of self.old) }
     {
-        match mem::replace(&mut self.told, Told::Nothing) {
-            Told::Nothing => Err(NoNote::NotDue),
-            Told::Noted(note) => Ok(note),
-            Told::Refused(refused) => Err(NoNote::Refused(refused)),
+        match mem::replace(&mut self.told, Announcement::Nothing) {
+            Announcement::Nothing => Err(NoNote::NotDue),
+            Announcement::Noted(note) => Ok(note),
+            Announcement::Refused(refused) => Err(NoNote::Refused(refused)),
         }
     }
 

@@ -4,7 +4,7 @@ ghost use Rattle.place_plan.specs.Roles.{is_over};
 ghost use Rattle.place_plan.specs.Journals.{IsLegal};
 ghost use Rattle.shared_views.specs.Noted.{Noted};
 ghost use Rattle.shared_views.specs.Telling.{IsTold};
-ghost use Rattle.shared_views.specs.declared.bulletin.Told.TheVariants.{Noted as IsNoted};
+ghost use Rattle.shared_views.specs.declared.bulletin.Announcement.TheVariants.{Noted as IsNoted};
 ghost use Rattle.action_manager.specs.Managers.{plan_in, cells_in, IsSeatIn};
 ghost use Rattle.action_manager.specs.Seats.{participant_of, seen_by, told_to};
 ghost use Rattle.action_manager.specs.Stepping.{Steps};

@@ -5,7 +5,7 @@ use denote.Param.Send.{IsSend, struct_send, sendable}
 use denote.Struct.Struct.{Struct}
 use denote.Struct.Declared.{shape}
 use Rattle.shared_views.specs.contracts.bulletin.Bulletin as bulletin
-use Rattle.shared_views.specs.contracts.bulletin.Told as told
+use Rattle.shared_views.specs.contracts.bulletin.Announcement as told
 
 pub told_send : IsSend told.the_row
 told_send = search rules

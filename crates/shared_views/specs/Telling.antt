@@ -7,8 +7,8 @@ use Rattle.place_plan.specs.Raising.{exception_resolved}
 use Rattle.shared_views.specs.Noted.{Noted, IsOf}
 use Rattle.shared_views.specs.RefusedNotes.{place_refused}
 use Rattle.shared_views.specs.declared.bulletin.Bulletin.{Bulletin}
-use Rattle.shared_views.specs.declared.bulletin.Told.{Told}
-use Rattle.shared_views.specs.declared.bulletin.Told.TheVariants as told
+use Rattle.shared_views.specs.declared.bulletin.Announcement.{Announcement}
+use Rattle.shared_views.specs.declared.bulletin.Announcement.TheVariants as told
 
 -- the names of the cells by which the bulletin tells
 abbrev pub cells_of : Bulletin → List ℕ
@@ -21,18 +21,18 @@ pub record Knows (cells : List ℕ) (p : ℕ) (x : ℕ) (note : Noted) : Type 0 
   pub known : note.known ≡ Some x
 
 -- that p is resolved to the exception was told: a note knows it, or the cell of p refused
-abbrev pub IsTold : List ℕ → ℕ → ℕ → Told → Type 0
+abbrev pub IsTold : List ℕ → ℕ → ℕ → Announcement → Type 0
 IsTold cells p x told.Nothing = ⊥
 IsTold cells p x (told.Noted note) = Knows cells p x note
 IsTold cells p x (told.Refused r) = place_refused r ≡ p
 
 -- while p isn't resolved its box is there; then that was told
-abbrev pub Tells : List ℕ → ℕ → Bool → Option ℕ → Told → Type 0
+abbrev pub Tells : List ℕ → ℕ → Bool → Option ℕ → Announcement → Type 0
 Tells cells p box None t = box ≡ true
 Tells cells p box (Some x) t = IsTold cells p x t
 
 -- what was told of p
-abbrev pub told_at : Bulletin → ℕ → Told
+abbrev pub told_at : Bulletin → ℕ → Announcement
 told_at b p = slice_index_or b.told.items p told.Nothing
 
 -- there is a box, and a word on what was told, for each cell
@@ -65,7 +65,7 @@ pub record Suits (cells : List ℕ) (past : List Entry) (e : Entry) : Type 0 whe
 
 -- what comes of an entry, by its kind: of a Resolve or a Handle that its place is resolved to its exception, and of all others
 -- nothing
-abbrev pub TellsOf : Kind → List ℕ → Entry → Told → Type 0
+abbrev pub TellsOf : Kind → List ℕ → Entry → Announcement → Type 0
 TellsOf kind.Resolve cells e t = IsTold cells e.place e.arg t
 TellsOf kind.Handle cells e t = IsTold cells e.place e.arg t
 TellsOf _ cells e t = t ≡ told.Nothing

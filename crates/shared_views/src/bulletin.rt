@@ -7,9 +7,9 @@ use caa_base::entry::{Entry, Exception, Kind, OutOfMemory, Place};
 use std::alloc::Global;
 use std::snapshot::Snapshot;
 
-/// What was told of the resolution of one place.
+/// What was announced of one place.
 #[derive(Drop)]
-pub enum Told {
+pub enum Announcement {
     /// It isn't resolved yet.
     Nothing,
     /// Its cell holds the exception that this note knows.
@@ -22,7 +22,7 @@ pub enum Told {
 #[derive(Drop)]
 pub struct Bulletin {
     pub(crate) announcer: Announcer,
-    pub(crate) told: Vec<Told>,
+    pub(crate) told: Vec<Announcement>,
     pub(crate) cells: Snapshot<ResolutionCells>,
 }
 
@@ -41,7 +41,7 @@ impl Bulletin {
     {
         let mut told = Vec::new(alloc);
         for _ in 0..cells.places() {
-            told.push(Told::Nothing)?;
+            told.push(Announcement::Nothing)?;
         }
         Ok(Bulletin {
             announcer,
@@ -58,19 +58,19 @@ impl Bulletin {
         requires fresh { slice_index_or self.old.announcer place false ≡ true }
         ensures cells { cells_of self.new ≡ cells.now }
         ensures used { self.new.announcer ≡ slice_set self.old.announcer place false }
-        ensures told { (t : Told)
+        ensures told { (t : Announcement)
             × (self.new.told.items ≡ slice_set self.old.told.items place t) × IsTold cells.now place exception t }
     {
         let mut note = cells.note(place);
         let told = match cells.announce(&mut self.announcer, &mut note, exception) {
-            Ok(()) => Told::Noted(note),
-            Err(refused) => Told::Refused(refused),
+            Ok(()) => Announcement::Noted(note),
+            Err(refused) => Announcement::Refused(refused),
         };
         self.told[place as usize] = told;
     }
 
     /// What was told of a place that was resolved, for one who is to have it.
-    pub fn share(&mut self, cells: &ResolutionCells, place: Place) -> Told
+    pub fn share(&mut self, cells: &ResolutionCells, place: Place) -> Announcement
         requires ours { cells_of self.old ≡ cells.now }
         requires set { IsSet self.old }
         requires place { place < length cells.now }
@@ -85,7 +85,7 @@ impl Bulletin {
     ///
     /// Of a Resolve and of a Handle comes what was told of the place: a note that knows the exception, or the refusal of its
     /// cell; of all others nothing.
-    pub fn take_in(&mut self, cells: &ResolutionCells, entry: Entry) -> Told
+    pub fn take_in(&mut self, cells: &ResolutionCells, entry: Entry) -> Announcement
         requires ours { cells_of self.old ≡ cells.now }
         requires follows { (past : List JournalEntry) × KeepsUp past self.old × Suits cells.now past entry }
         ensures cells { cells_of self.new ≡ cells.now }
@@ -99,28 +99,28 @@ impl Bulletin {
                 self.share(cells, entry.place)
             }
             Kind::Handle => self.share(cells, entry.place),
-            _ => Told::Nothing,
+            _ => Announcement::Nothing,
         }
     }
 }
 
-impl Told {
+impl Announcement {
     ghost use Rattle.shared_views.specs.Telling.{IsTold};
 
     /// The same once more, where something was told of the place.
-    fn share(&mut self, cells: &ResolutionCells, place: Place) -> Told
+    fn share(&mut self, cells: &ResolutionCells, place: Place) -> Announcement
         requires place { place < length cells.now }
         requires told { (x : ℕ) × IsTold cells.now place x self.old }
         ensures same { self.new ≡ self.old }
         ensures told { (x : ℕ) → IsTold cells.now place x self.old → IsTold cells.now place x result }
     {
         match self {
-            Told::Nothing => unreachable!(),
-            Told::Noted(note) => match cells.share(note) {
-                Ok(note) => Told::Noted(note),
-                Err(refused) => Told::Refused(refused),
+            Announcement::Nothing => unreachable!(),
+            Announcement::Noted(note) => match cells.share(note) {
+                Ok(note) => Announcement::Noted(note),
+                Err(refused) => Announcement::Refused(refused),
             },
-            Told::Refused(refused) => Told::Refused(*refused),
+            Announcement::Refused(refused) => Announcement::Refused(*refused),
         }
     }
 }

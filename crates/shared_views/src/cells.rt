@@ -1,7 +1,7 @@
 ghost use Rattle.std.specs.Prelude.{◌≡◌, ◌<◌, ℕ, true, false, length, slice_index_or, slice_set, replicate, IfOk, IfErr, IfSome, IfNone, Some, None};
 ghost use Rattle.shared_views.specs.Noted.{IsOf};
 
-use crate::bulletin::{Bulletin, Told};
+use crate::bulletin::{Announcement, Bulletin};
 use crate::notes::{NoteRefused, PlaceNote};
 use caa_base::entry::{Exception, OutOfMemory, Place};
 use once_cell::race::OnceBox;
@@ -147,7 +147,7 @@ fn may_cross<T: Send>(_x: &T) {}
 fn may_share<T: Sync>(_x: &T) {}
 
 /// Threads may share the cells, and take notes, and what keeps up with a journal, with them.
-pub fn crosses_threads(cells: &ResolutionCells, told: &Told, bulletin: &Bulletin) {
+pub fn crosses_threads(cells: &ResolutionCells, told: &Announcement, bulletin: &Bulletin) {
     may_share(cells);
     may_cross(told);
     may_cross(bulletin);

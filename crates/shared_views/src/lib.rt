@@ -11,7 +11,7 @@ mod observed;
 mod observer;
 mod publications;
 
-pub use bulletin::{Bulletin, Told};
+pub use bulletin::{Announcement, Bulletin};
 pub use cells::{Announcer, ResolutionCells};
 pub use committed_writer::{CommittedWriter, PublishError};
 pub use notes::{NoteRefused, PlaceNote};

@@ -1,7 +1,7 @@
 use Rattle.std.proofs.Common.{◌≡◌, ◌<◌, ◌∙◌, refl, ap, sym, subst, set, length}
 use Rattle.std.proofs.lemmas.List.{get_or_default, set-get_or}
 use Rattle.shared_views.specs.Telling.{IsTold, told_at}
-use Rattle.shared_views.specs.declared.bulletin.Told.TheVariants as told
+use Rattle.shared_views.specs.declared.bulletin.Announcement.TheVariants as told
 use Rattle.shared_views.proofs.bulletin.Bulletin.share.Goals as goal
 
 pub returns-clause-same : goal.returns-clause-same
