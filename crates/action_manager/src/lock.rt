@@ -24,7 +24,7 @@ pub struct Lock<H: Home> {
 impl<H: Home> Lock<H> {
     ghost use Rattle.action_manager.specs.Locks.{id_of, home_at, plan_at};
 
-    /// A lock round a home, with the maker's seat. At `Err` no memory was found, and the home is as it was handed in.
+    /// A lock round a home, with the maker's seat. At `Err` no memory was found, and the home comes back unchanged.
     pub fn open(alloc: Global, home: H, plan: Snapshot<Plan>) -> Result<(Lock<H>, Token<H>), H>
         requires right { H.right (H.terms plan.value home) home }
         ensures home { IfOk result (λ r. home_at r.0 ≡ home) }
@@ -147,7 +147,7 @@ impl<H: Home> Lock<H> {
         (ticket, home)
     }
 
-    /// Bringing it back, and handing on.
+    /// Puts the home back into the slot, and hands the turn to the next ticket.
     pub fn hand_on(&self, token: &mut Token<H>, ticket: u64, home: H)
         requires token { (token.old.table_id ≡ id_of self.now) × (token.old.me.1 ≡ (0, Rattle.std.specs.Prelude.None) ∷ []) }
         requires turn { (token.old.me.0.holds ≡ true) × (token.old.me.0.has_book ≡ true)

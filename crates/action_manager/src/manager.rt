@@ -45,7 +45,7 @@ pub struct Opened<M: Machine> {
     pub observers: Vec<Observer>,
 }
 
-/// No memory was found. The machine is as it was handed in.
+/// No memory was found. The machine comes back unchanged.
 pub struct ManagerError<M> {
     pub machine: M,
 }

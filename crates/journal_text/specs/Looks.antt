@@ -5,7 +5,7 @@ use Rattle.place_plan.specs.PlanValue.{Plan}
 use Rattle.caa_base.specs.Limits.{IsValue}
 use Rattle.journal_text.specs.declared.seens.Seen.{Seen}
 
--- all looks, those of the first watch first, and how many there is memory for
+-- all looks, watch by watch, and how many there is memory for
 pub record Looks : Type 0 where
   pub seens : List Seen
   pub room : ℕ

@@ -11,7 +11,7 @@ use Rattle.journal_text.specs.Words.{index_among, watch_in}
 abbrev pub is_own_name : (ℕ → List ℕ) → ℕ → ℕ → Bool
 is_own_name name_of n i = is_name (name_of i) && (index_among name_of (name_of i) 0 n == i)
 
--- the names of the numbers below n are names by the grammar and differ
+-- the numbers below n have names that the grammar allows, all of them different
 abbrev pub are_names : (ℕ → List ℕ) → ℕ → Bool
 are_names name_of n = list_all (is_own_name name_of n) (range_with_len 0 n)
 
@@ -23,7 +23,8 @@ is_named_graph plan g = are_names (exception_name plan g) (graph_at plan g).coun
 abbrev pub is_own_watch : Plan → ℕ → Bool
 is_own_watch plan w = nat_lt (watched_object plan w) (length plan.objects) && (watch_in plan (object_name plan (watched_object plan w)) == w)
 
--- participants, objects and the exceptions of each graph have names by the grammar that differ, and no object is watched twice
+-- participants, objects and the exceptions of each graph have names that the grammar allows, different ones within each kind, and
+-- each object has one watch at most
 abbrev pub is_well_named : Plan → Bool
 is_well_named plan =
     are_names (participant_name plan) (length plan.participants)

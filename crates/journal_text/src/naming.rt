@@ -10,8 +10,8 @@ use caa_base::entry::{Exception, Object, Participant};
 use caa_base::name::is_name;
 use place_plan::plan::Plan;
 
-/// Whether the names of a plan tell its parts apart: participants, objects and the exceptions of each graph have names by the
-/// grammar that differ, and no object is watched twice. Plans of scripts are so.
+/// Whether the names of a plan tell its parts apart: participants, objects and the exceptions of each graph have names
+/// that the grammar allows, different ones within each kind, and each object has one watch at most. Plans of scripts are so.
 pub fn is_well_named(plan: &Plan) -> bool
     ensures { result ≡ is_well_named plan.now }
 {

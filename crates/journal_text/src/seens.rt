@@ -17,7 +17,7 @@ pub struct Seen {
     pub value: i64,
 }
 
-/// All that watchers saw, those of the first watch first, and room for more.
+/// All that watchers saw, watch by watch, and room for more.
 #[derive(Drop)]
 pub struct Seens {
     items: Vec<Seen>,

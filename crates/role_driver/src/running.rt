@@ -36,7 +36,7 @@ pub struct Finished<M> {
     pub seens: Option<Seens>,
 }
 
-/// No memory was found. The machine is as it was handed in.
+/// No memory was found. The machine comes back unchanged.
 pub struct RunError<M> {
     pub machine: M,
 }

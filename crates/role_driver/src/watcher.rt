@@ -45,7 +45,7 @@ impl Watcher {
 
     /// Takes a reading, and records it where it is the first or more plays have ended than at the last recorded one.
     ///
-    /// A refused reading is passed over.
+    /// Where the reading is refused, nothing is recorded.
     fn look(&mut self)
         ensures { task_of self.new ≡ task_of self.old }
     {

@@ -126,7 +126,7 @@ resolves_early_is_too_lax = record {
 
 -- ---- a Handle of another exception than the resolved one
 --
--- All roles are to recover from one and the same trouble, as the least cover of all that was raised names it.
+-- All roles are to recover from one and the same trouble, as their least cover names it.
 
 -- the rule of a Handle, but for which exception it is: once the place is resolved, any for which the role has a handler
 pub record HandlesAnother (plan : Plan) (past : List Entry) (e : Entry) : Type 0 where
