@@ -96,7 +96,7 @@ abbrev pub Stands : Journal → List (ℕ × Journal) → Type 0
 Stands book [] = Unit {0}
 Stands book (x ∷ xs) = (IsPrefix x.1 book × (entries_by x.0 book ≡ entries_by x.0 x.1)) × Stands book xs
 
--- all that a view has seen, for each participant that it stands for, begins the book
+-- what a view has seen begins the book, which has no further entry of the participants that it stands for
 abbrev pub Fits : Journal → View → Type 0
 Fits book v = IsPrefix v.seen book × Stands book (held v)
 

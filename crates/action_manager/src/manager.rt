@@ -311,7 +311,7 @@ impl<M: Machine> Manager<M> {
         answer
     }
 
-    /// A turn without an entry: what the seat has seen is brought up to date. Whether the journal had grown.
+    /// Brings what the seat has seen up to date, in a turn without an entry, and says whether there was more to see.
     fn look<R: Wait>(&self, rt: &R, seat: &mut Seat<M>) -> bool
         requires opened { IsSeatIn M.base_of self.now seat.old }
         ensures opened { IsSeatIn M.base_of self.now seat.new }
@@ -327,7 +327,7 @@ impl<M: Machine> Manager<M> {
         was < seen
     }
 
-    /// Waits for a journal that is longer than what the seat has seen, by entries of others alone, and has it seen.
+    /// Waits until the journal is longer than what the seat has seen, by entries of others alone. Then the seat has seen it.
     ///
     /// It need not return.
     pub fn wait_past<R: Wait>(&self, rt: &R, seat: &mut Seat<M>)

@@ -193,7 +193,7 @@ abbrev pub Tells : Finding → List Entry → List Entry → SinkUse → Status 
 Tells found journal handed sink answer =
     WroteAll found journal handed sink answer ⊎ (WasCutOff found journal handed sink answer ⊎ WasLost found handed sink answer)
 
--- a call answers by what it came to: that is found with some journal, and told
+-- what a call answers: it came to some finding, with some journal, and that was told
 pub record Answers {P : Type 0} (call : Call P) (sink : SinkUse) (answer : Status) : Type 0 where
   pub finding : Finding
   pub journal : List Entry

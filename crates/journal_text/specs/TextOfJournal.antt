@@ -1,4 +1,4 @@
--- What bytes have to be to be read as a journal, and which line of others is the first that no text has there.
+-- Which bytes can be read as a journal with what was seen, and which line of others is the first that no text has there.
 use Rattle.std.specs.Prelude.{◌≡◌, ◌<◌, ◌≤◌, ◌+◌, ◌==◌, ℕ, suc, if◌then◌else◌, List, [], ◌∷◌, ◌++◌, length, Result, Ok, Err}
 use Rattle.std.specs.List.{flat_map}
 use Rattle.caa_base.specs.declared.entry.Entry.{Entry}

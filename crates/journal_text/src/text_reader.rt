@@ -22,7 +22,7 @@ use thiserror::Error;
 /// Why bytes aren't read as the text of a journal. Lines are counted from 1.
 #[derive(Clone, Copy, Debug, PartialEq, Eq, Error)]
 pub enum TextError {
-    /// There are more entries than the limit allows. All lines are good up to this one, which is the first such entry.
+    /// All lines are good up to this one, which is one entry more than the limit allows.
     #[error("line {line} is an entry past the limit")]
     TooMany { line: u64 },
     /// This line is the first bad one: some text within the limit has all lines before it, and none goes on with this line. A

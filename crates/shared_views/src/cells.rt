@@ -131,7 +131,7 @@ impl ResolutionCells {
         })
     }
 
-    /// Two notes of one place never differ in what they know. The call changes nothing.
+    /// Two notes of one place never know different exceptions. The call changes nothing.
     pub fn agree(&self, one: &mut PlaceNote, other: &mut PlaceNote)
         requires ours { IsOf self.now one.old × IsOf self.now other.old × (one.old.place ≡ other.old.place) }
         ensures same { (one.new ≡ one.old) × (other.new ≡ other.old) }
