@@ -1,4 +1,4 @@
--- What a `play` line is judged by, once its names and roles are found right.
+-- The sizes that a `play` line is judged by, once its names and roles are right.
 use Rattle.std.specs.Prelude.{◌≡◌, ℕ, List, ◌∷◌, ◌++◌, length}
 use Rattle.place_plan.specs.declared.draft.Draft.{Draft}
 use Rattle.place_plan.specs.Bound.{bound}
@@ -14,8 +14,8 @@ use Rattle.script_checker.specs.Causes.{places_with, bound_with}
 use Rattle.script_checker.specs.After.{settled, with_said}
 use Rattle.script_checker.specs.Compiled.{number_of, HasNoneBelow, declared_after, AreAccepted, IsDraftOf}
 
--- a line of the script plays this action when this is declared; the lines before it have no cause, and it has none that comes before
--- its sizes
+-- this is declared when a line of the script comes that plays this action; the lines before it have no cause, and it has none of a
+-- lesser number than that of a limit
 pub record ComesToPlay (script : Script) (s : SoFar) (action : ℕ) (who : List ℕ) : Type 0 where
   pub before : List Line
   pub line : Line
@@ -26,14 +26,14 @@ pub record ComesToPlay (script : Script) (s : SoFar) (action : ℕ) (who : List 
   pub declared : s ≡ settled (declared_after script.names (nothing_yet script.names) before) (form.Play action who)
   pub lesser : HasNoneBelow s (form.Play action who) (number_of cause.Limit)
 
--- the draft breaks none of the rules that must hold before it is unfolded, and the sizes with one more play of this action are those
--- of its plan, as far as they are counted
+-- the draft breaks none of the rules 1 to 9, as `unfolded` asks, and with one more play of this action there are as many places as in
+-- its plan, and as great a bound, as far as they are counted
 pub record AreSizesOf (s : SoFar) (action : ℕ) (draft : Draft) : Type 0 where
   pub parts : KeepsParts draft
   pub places : places_with s action ≡ counted (length (plan_of draft).places)
   pub bound : bound_with s action ≡ counted (bound (plan_of draft))
 
--- each `play` line that the checks come to is judged by the sizes of the plan into which the draft with that play unfolds
+-- each such line is judged by the sizes of the plan into which the draft with its play unfolds
 abbrev pub CountsUnfolding : Script → Type 0
 CountsUnfolding script =
     (s : SoFar) (action : ℕ) (who : List ℕ) → ComesToPlay script s action who
