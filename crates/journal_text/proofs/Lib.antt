@@ -10,3 +10,4 @@ pub mod BadLines
 pub mod CommittedFits
 pub mod PlaceChains
 pub mod CommittedLemmas
+pub mod RightLooks
