@@ -4,6 +4,7 @@ pub mod LooksLemmas
 pub mod ValueLemmas
 pub mod WordLemmas
 pub mod NamingLemmas
+pub mod OwnNames
 pub mod EntryLines
 pub mod ReadingLemmas
 pub mod BadLines

@@ -1,5 +1,6 @@
 pub mod PlanValue
 pub mod Places
+pub mod OwnNames
 pub mod Entries
 pub mod Whereabouts
 pub mod Raising

@@ -11,4 +11,3 @@ pub mod Handled
 pub mod Rows
 pub mod DeclaredSoFar
 pub mod View
-pub mod OwnNames
