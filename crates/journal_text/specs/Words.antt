@@ -1,5 +1,5 @@
 -- How a line of a text is taken apart without regard to whether it is well written: what was taken is written again and compared.
-use Rattle.std.specs.Prelude.{ℕ, ℤ, pos, neg_ℤ, zero, suc, ◌+◌, ◌-◌, ◌*◌, ◌==◌, nat_le, if◌then◌else◌, Bool, false, ◌||◌, List, [], ◌∷◌, length, drop, Option, Some, None, option_map, bytes_eq, codes}
+use Rattle.std.specs.Prelude.{ℕ, ℤ, pos, neg_ℤ, ◌+◌, ◌-◌, ◌*◌, ◌==◌, nat_le, if◌then◌else◌, Bool, false, ◌||◌, List, [], ◌∷◌, length, drop, Option, Some, None, option_map, bytes_eq, codes}
 use Rattle.caa_base.specs.Limits.{most_value, most_rounds}
 use Rattle.caa_base.specs.declared.entry.Entry.{Entry}
 use Rattle.caa_base.specs.declared.entry.Kind.{Kind}
