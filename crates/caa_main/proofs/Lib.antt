@@ -5,6 +5,5 @@ mod NotRefused
 mod Reversed
 mod CallsServed
 mod ToldCalls
-mod WellNamed
 mod PlansOfScripts
 mod FoundAlone

@@ -28,7 +28,7 @@ use Rattle.script_checker.proofs.AcceptedDraft.{breaks_none}
 use Rattle.script_checker.proofs.NamesKept.{own_names_of}
 use Rattle.journal_text.proofs.ReadingLemmas.{Tells}
 use Rattle.caa_main.specs.Scripts.{HasPlan}
-use Rattle.caa_main.proofs.WellNamed.{well_named}
+use Rattle.journal_text.proofs.OwnNames.{well_named}
 
 -- ---- the lines of a text are no longer than the text
 

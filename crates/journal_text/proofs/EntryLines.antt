@@ -19,9 +19,9 @@ use Rattle.place_plan.specs.Rules.{IsPlain}
 use Rattle.place_plan.specs.WellFormed.{FieldsFit, IsWellFormed, ShowsException, MayShowException, MayCarry}
 use Rattle.caa_base.specs.Limits.{IsValue}
 use Rattle.journal_text.specs.declared.entry_line.Fields.{Fields}
-use Rattle.journal_text.specs.Naming.{is_well_named}
+use Rattle.journal_text.specs.Naming.{watch_in, is_well_named}
 use Rattle.journal_text.specs.Text.{participant_name, object_name, watched_object, seen_line, kind_word, object_words, restore_word, verdict_words, outcome_words, leave_words, field_words, entry_line}
-use Rattle.journal_text.specs.Words.{word_in, after_word, next_word, after_next, number_in, value_in, participant_in, object_in, exception_in, kind_in, nothing_more, naming, object_fields, work_fields, restore_mark, verdict_fields, end_fields, named_fields, leave_fields, fields_in, entry_with, entry_after, entry_in, watch_in, seen_in, is_gap}
+use Rattle.journal_text.specs.Words.{word_in, after_word, next_word, after_next, number_in, value_in, participant_in, object_in, exception_in, kind_in, nothing_more, naming, object_fields, work_fields, restore_mark, verdict_fields, end_fields, named_fields, leave_fields, fields_in, entry_with, entry_after, entry_in, seen_in, is_gap}
 use Rattle.journal_text.proofs.WordLemmas.{is_whole, word_in-whole, after_word-whole, begins-line, next_word-line, after_next-line, whole-decimal, whole-signed, number_in-decimal}
 use Rattle.journal_text.proofs.NamingLemmas.{participants-named, objects-named, exceptions-named, watches-named}
 use Rattle.journal_text.specs.declared.seens.Seen.{Seen}

@@ -9,9 +9,9 @@ use Rattle.std.proofs.lemmas.Bool.{and_left, and_parts, and_from, or_from, ne_eq
 use Rattle.caa_base.specs.Names.{is_name_byte, begins_with_letter, is_name}
 use Rattle.place_plan.specs.PlanValue.{Plan}
 use Rattle.place_plan.specs.Places.{no_graph, graph_at, exception_name}
-use Rattle.journal_text.specs.Naming.{is_own_name, are_names, is_named_graph, is_own_watch, is_well_named}
+use Rattle.journal_text.specs.Naming.{index_among, watch_in, is_own_name, are_names, is_named_graph, is_own_watch, is_well_named}
 use Rattle.journal_text.specs.Text.{participant_name, object_name, watched_object}
-use Rattle.journal_text.specs.Words.{is_gap, index_among, watch_in}
+use Rattle.journal_text.specs.Words.{is_gap}
 use Rattle.journal_text.proofs.WordLemmas.{is_whole}
 
 -- ---- a name has no gap
@@ -51,32 +51,39 @@ pub record Named (name_of : ℕ → List ℕ) (n : ℕ) : Type 0 where
   pub own : (i : ℕ) → i < n → index_among name_of (name_of i) 0 n ≡ i
   pub whole : (i : ℕ) → i < n → is_whole (name_of i) ≡ true
 
-named : (name_of : ℕ → List ℕ) (n : ℕ) → are_names name_of n ≡ true → Named name_of n
-named name_of n h =
-    let both = λ (i : ℕ) (l : i < n). and_parts (is_name (name_of i)) (index_among name_of (name_of i) 0 n == i) (below (is_own_name name_of n) n i h l) in
-    record { own = λ i l. eqb-true _ _ (both i l).1; whole = λ i l. whole-name (name_of i) (both i l).0 }
+own_parts : (name_of : ℕ → List ℕ) (n i : ℕ) → are_names name_of n ≡ true → i < n → (is_name (name_of i) ≡ true) × ((index_among name_of (name_of i) 0 n == i) ≡ true)
+own_parts name_of n i h l = and_parts (is_name (name_of i)) (index_among name_of (name_of i) 0 n == i) (below (is_own_name name_of n) n i h l)
+
+pub spelled_name : (name_of : ℕ → List ℕ) (n i : ℕ) → are_names name_of n ≡ true → i < n → is_name (name_of i) ≡ true
+spelled_name name_of n i h l = (own_parts name_of n i h l).0
+
+pub named : (name_of : ℕ → List ℕ) (n : ℕ) → are_names name_of n ≡ true → Named name_of n
+named name_of n h = record { own = λ i l. eqb-true _ _ (own_parts name_of n i h l).1; whole = λ i l. whole-name (name_of i) (spelled_name name_of n i h l) }
 
 -- the parts of the test
-parts : (plan : Plan) → is_well_named plan ≡ true →
+pub names_parts : (plan : Plan) → is_well_named plan ≡ true →
     (are_names (participant_name plan) (length plan.participants) ≡ true) × (are_names (object_name plan) (length plan.objects) ≡ true)
     × (list_all (is_named_graph plan) (range_with_len 0 (length plan.graphs)) ≡ true) × (list_all (is_own_watch plan) (range_with_len 0 (length plan.watches)) ≡ true)
-parts plan h =
+names_parts plan h =
     let a = and_parts (are_names (participant_name plan) (length plan.participants)) _ h in
     let b = and_parts (are_names (object_name plan) (length plan.objects)) _ a.1 in
     let c = and_parts (list_all (is_named_graph plan) (range_with_len 0 (length plan.graphs))) _ b.1 in
     (a.0, b.0, c.0, c.1)
 
 pub participants-named : (plan : Plan) → is_well_named plan ≡ true → Named (participant_name plan) (length plan.participants)
-participants-named plan h = named (participant_name plan) (length plan.participants) (parts plan h).0
+participants-named plan h = named (participant_name plan) (length plan.participants) (names_parts plan h).0
 
 pub objects-named : (plan : Plan) → is_well_named plan ≡ true → Named (object_name plan) (length plan.objects)
-objects-named plan h = named (object_name plan) (length plan.objects) (parts plan h).1
+objects-named plan h = named (object_name plan) (length plan.objects) (names_parts plan h).1
+
+pub graph-named : (plan : Plan) (g : ℕ) → is_well_named plan ≡ true → g < length plan.graphs → is_named_graph plan g ≡ true
+graph-named plan g h within = below (is_named_graph plan) (length plan.graphs) g (names_parts plan h).2 within
 
 pub exceptions-named : (plan : Plan) (g : ℕ) → is_well_named plan ≡ true → Named (exception_name plan g) (graph_at plan g).count
 exceptions-named plan g h = by (cases_lt g (length plan.graphs))
   where
     by : (g < length plan.graphs) ⊎ (length plan.graphs ≤ g) → Named (exception_name plan g) (graph_at plan g).count
-    by (inl within) = named (exception_name plan g) (graph_at plan g).count (below (is_named_graph plan) (length plan.graphs) g (parts plan h).2 within)
+    by (inl within) = named (exception_name plan g) (graph_at plan g).count (graph-named plan g h within)
     by (inr past) =
         let none : (graph_at plan g).count ≡ 0 = ap (λ row. row.graph.count) (get_or_past plan.graphs g no_graph past) in
         record { own = λ i l. absurd (omega (arith, none)); whole = λ i l. absurd (omega (arith, none)) }
@@ -84,7 +91,7 @@ exceptions-named plan g h = by (cases_lt g (length plan.graphs))
 watch-own : (plan : Plan) (w : ℕ) → is_well_named plan ≡ true → w < length plan.watches
     → (watched_object plan w < length plan.objects) × (watch_in plan (object_name plan (watched_object plan w)) ≡ w)
 watch-own plan w h l =
-    let p = and_parts (nat_lt (watched_object plan w) (length plan.objects)) (watch_in plan (object_name plan (watched_object plan w)) == w) (below (is_own_watch plan) (length plan.watches) w (parts plan h).3 l) in
+    let p = and_parts (nat_lt (watched_object plan w) (length plan.objects)) (watch_in plan (object_name plan (watched_object plan w)) == w) (below (is_own_watch plan) (length plan.watches) w (names_parts plan h).3 l) in
     (ltb-true _ _ p.0, eqb-true _ _ p.1)
 
 pub watched-within : (plan : Plan) (w : ℕ) → is_well_named plan ≡ true → w < length plan.watches → watched_object plan w < length plan.objects

@@ -10,7 +10,8 @@ use Rattle.std.proofs.lemmas.Str.Parse.{IsNumeralModel, numerals_by_fold, tells_
 use Rattle.std.proofs.lemmas.Int.{ints}
 use Rattle.caa_base.specs.Lines.{spaced, digits_after}
 use Rattle.caa_base.specs.Limits.{IsValue}
-use Rattle.journal_text.specs.Words.{is_gap, word_in, after_word, next_word, after_next, number_in, index_among}
+use Rattle.journal_text.specs.Naming.{index_among}
+use Rattle.journal_text.specs.Words.{is_gap, word_in, after_word, next_word, after_next, number_in}
 use Rattle.caa_base.proofs.ReadDigits.{digits_after-ge}
 
 -- ---- words

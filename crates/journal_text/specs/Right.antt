@@ -1,11 +1,36 @@
--- Whether what was seen is right, and which look is the first that isn't.
-use Rattle.std.specs.Prelude.{ℕ, suc, ◌==◌, nat_le, Bool, ◌&&◌, ◌||◌, if◌then◌else◌, List, [], ◌∷◌, length, reverse, Option, Some, None}
+-- Whether what was seen is right: as facts, and by the first look that isn't.
+use Rattle.std.specs.Prelude.{◌≡◌, ◌↔◌, ◌<◌, ◌≤◌, ℕ, suc, ◌==◌, nat_le, Bool, ◌&&◌, ◌||◌, if◌then◌else◌, List, [], ◌∷◌, length, reverse, Option, Some, None, IsSome, IfSome}
+use Rattle.std.specs.List.{All, AllPairs, find}
 use Rattle.std.specs.Ordering.{int_eq}
 use Rattle.caa_base.specs.declared.entry.Entry.{Entry}
 use Rattle.place_plan.specs.PlanValue.{Plan}
 use Rattle.place_plan.specs.Journals.{committed_value}
 use Rattle.journal_text.specs.declared.seens.Seen.{Seen}
+use Rattle.journal_text.specs.Looks.{AreOfPlan}
 use Rattle.journal_text.specs.Text.{watched_object}
+
+-- ---- the rule
+
+-- the last look of a watch, if it has any
+abbrev pub last_look : ℕ → List Seen → Option Seen
+last_look w seens = find (λ s. s.watch == w) (reverse seens)
+
+-- what was seen is right for a journal
+pub record AreRight (plan : Plan) (journal : List Entry) (seens : List Seen) : Type 0 where
+  -- each look is of a watch of the plan
+  pub of_plan : AreOfPlan plan seens
+  -- no look stands before one of an earlier watch
+  pub order : AllPairs (λ a b. a.watch ≤ b.watch) seens
+  -- within a watch the number of plays that had ended doesn't fall
+  pub rise : AllPairs (λ a b. a.watch ≡ b.watch → a.ends ≤ b.ends) seens
+  -- each watch has a look
+  pub each : (w : ℕ) → w < length plan.watches → IsSome (last_look w seens)
+  -- at the last look of a watch all plays of the plan have ended
+  pub last : (w : ℕ) → IfSome (last_look w seens) (λ s. s.ends ≡ length plan.plays)
+  -- each look shows the value that its object has by the plays that had ended
+  pub value : All (λ s. s.value ≡ committed_value plan (reverse journal) s.ends (watched_object plan s.watch)) seens
+
+-- ---- the first look that breaks it
 
 -- a look shows the value that its object had by the plays that had ended
 abbrev pub is_committed : Plan → List Entry → Seen → Bool
@@ -46,3 +71,7 @@ first_wrong_from plan past before (s ∷ seens) i =
 -- the number of the first wrong look of all, counted from 0; none where they are right
 abbrev pub first_wrong : Plan → List Entry → List Seen → Option ℕ
 first_wrong plan journal seens = first_wrong_from plan (reverse journal) None seens 0
+
+-- no look is wrong exactly where what was seen is right
+abbrev pub NoneIsWrong : Plan → Type 0
+NoneIsWrong plan = (journal : List Entry) (seens : List Seen) → (first_wrong plan journal seens ≡ None) ↔ AreRight plan journal seens

@@ -1,5 +1,5 @@
 -- How a line of a text is taken apart without regard to whether it is well written: what was taken is written again and compared.
-use Rattle.std.specs.Prelude.{ℕ, ℤ, pos, neg_ℤ, zero, suc, ◌==◌, nat_le, if◌then◌else◌, Bool, false, ◌||◌, List, [], ◌∷◌, length, drop, Option, Some, None, option_map, bytes_eq, codes}
+use Rattle.std.specs.Prelude.{ℕ, ℤ, pos, neg_ℤ, ◌==◌, nat_le, if◌then◌else◌, Bool, false, ◌||◌, List, [], ◌∷◌, length, drop, Option, Some, None, option_map, bytes_eq, codes}
 use Rattle.caa_base.specs.Limits.{most_value, most_count}
 use Rattle.caa_base.specs.declared.entry.Entry.{Entry}
 use Rattle.caa_base.specs.declared.entry.Kind.{Kind}
@@ -8,7 +8,8 @@ use Rattle.place_plan.specs.PlanValue.{Plan}
 use Rattle.place_plan.specs.Places.{action_at, parent, graph_at, exception_name}
 use Rattle.journal_text.specs.declared.seens.Seen.{Seen}
 use Rattle.journal_text.specs.declared.entry_line.Fields.{Fields}
-use Rattle.journal_text.specs.Text.{participant_name, object_name, watched_object}
+use Rattle.journal_text.specs.Text.{participant_name, object_name}
+use Rattle.journal_text.specs.Naming.{index_among, watch_in}
 use Rattle.caa_base.specs.Lines.{digits_after}
 
 -- ---- words
@@ -53,11 +54,6 @@ value_in (b ∷ rest) = if b == 45 then neg_ℤ (pos (number_in most_value rest)
 
 -- ---- names
 
--- the first of so many numbers, from this one on, whose name is the word; or the number after them
-abbrev pub index_among : (ℕ → List ℕ) → List ℕ → ℕ → ℕ → ℕ
-index_among name_of word from zero = from
-index_among name_of word from (suc left) = if bytes_eq (name_of from) word then from else index_among name_of word (suc from) left
-
 -- the participant with this name
 abbrev pub participant_in : Plan → List ℕ → ℕ
 participant_in plan word = index_among (participant_name plan) word 0 (length plan.participants)
@@ -69,10 +65,6 @@ object_in plan word = index_among (object_name plan) word 0 (length plan.objects
 -- an exception of a graph
 abbrev pub exception_in : Plan → ℕ → List ℕ → ℕ
 exception_in plan g word = index_among (exception_name plan g) word 0 (graph_at plan g).count
-
--- the watch whose object has this name
-abbrev pub watch_in : Plan → List ℕ → ℕ
-watch_in plan word = index_among (λ w. object_name plan (watched_object plan w)) word 0 (length plan.watches)
 
 -- the kind with this word
 abbrev pub kind_in : List ℕ → Option Kind

@@ -1,5 +1,6 @@
-ghost use Rattle.std.specs.Prelude.{◌≡◌, ◌<◌, length};
+ghost use Rattle.std.specs.Prelude.{◌≡◌, ◌<◌, ◌↔◌, length, IsTrue};
 ghost use Rattle.std.specs.List.{list_all, range_with_len};
+ghost use Rattle.place_plan.specs.OwnNames.{HasOwnNames};
 ghost use Rattle.place_plan.specs.Places.{graph_at, exception_name};
 ghost use Rattle.journal_text.specs.Text.{participant_name, object_name};
 ghost use Rattle.journal_text.specs.Naming.{is_own_name, are_names, is_named_graph, is_own_watch, is_well_named};
@@ -13,6 +14,15 @@ use place_plan::plan::Plan;
 /// Whether the names of a plan tell its parts apart: participants, objects and the exceptions of each graph have names
 /// that the grammar allows, different ones within each kind, and each object has one watch at most. Plans of scripts are so.
 pub fn is_well_named(plan: &Plan) -> bool
+    ensures test { result ≡ is_well_named plan.now }
+    ensures own { IsTrue result ↔ HasOwnNames plan.now }
+{
+    plan.is_closed();
+    tells_apart(plan)
+}
+
+/// The same, name by name.
+fn tells_apart(plan: &Plan) -> bool
     ensures { result ≡ is_well_named plan.now }
 {
     has_named_participants(plan)

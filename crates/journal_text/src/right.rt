@@ -8,7 +8,7 @@ ghost use Rattle.journal_text.specs.Looks.{AreOfPlan};
 ghost use Rattle.journal_text.specs.Naming.{is_well_named};
 ghost use Rattle.journal_text.specs.Text.{watched_object};
 ghost use Rattle.journal_text.specs.CommittedValues.{value_by, HasWatched};
-ghost use Rattle.journal_text.specs.Right.{is_committed, follows, is_followed, is_whole, first_wrong};
+ghost use Rattle.journal_text.specs.Right.{is_committed, follows, is_followed, is_whole, first_wrong, NoneIsWrong};
 
 use crate::play_values::{committed_values, ranks_of};
 use crate::seens::{Seen, Seens};
@@ -35,6 +35,13 @@ pub fn first_wrong(
 {
     let found = wrong_in(alloc, plan, journal.as_slice(), seens.as_slice())?;
     Ok(found)
+}
+
+/// No look is wrong exactly where what was seen is right. A statement alone: the call does nothing.
+pub fn none_is_wrong(plan: &Plan)
+    ensures { NoneIsWrong plan.now }
+{
+    plan.places();
 }
 
 /// The number of the first of these looks that is wrong.

@@ -1,6 +1,7 @@
 ghost use Rattle.std.specs.Prelude.{◌≡◌, ◌<◌, ◌↔◌, IsTrue, length};
 ghost use Rattle.journal_text.specs.Text.{object_name, watched_object};
-ghost use Rattle.journal_text.specs.Words.{watch_in, seen_in};
+ghost use Rattle.journal_text.specs.Naming.{watch_in};
+ghost use Rattle.journal_text.specs.Words.{seen_in};
 ghost use Rattle.journal_text.specs.TextSteps.{MayStand};
 
 use crate::seens::Seen;

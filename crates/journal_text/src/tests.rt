@@ -200,9 +200,11 @@ fn names_the_line_that_is_cut_or_past_the_limit(rt: HostRuntime) -> Result<(), F
     let alloc = rt.alloc();
     let plan = plan(&rt, alloc)?;
     let text = FIRST_PATH.as_bytes();
-    let cut = &text[..text.len() - 1];
+    let without_line_feed = &text[..text.len() - 1];
+    let without_half_a_word = &text[..text.len() - 4];
     let refused = [
-        (cut, 10, TextError::BadLine { line: 14 }),
+        (without_line_feed, 10, TextError::BadLine { line: 14 }),
+        (without_half_a_word, 10, TextError::BadLine { line: 14 }),
         (b"".as_slice(), 10, TextError::BadLine { line: 1 }),
         (b"journal\n".as_slice(), 10, TextError::BadLine { line: 2 }),
         (text, 9, TextError::TooMany { line: 11 }),

@@ -30,7 +30,7 @@ use Rattle.script_checker.specs.DeclaredSoFar.{SoFar, nothing_yet}
 use Rattle.script_checker.specs.Causes.{is_unknown, is_twice}
 use Rattle.script_checker.specs.After.{name_at, goes_on, closed_if, settled_if, settled, ended, with_said, after}
 use Rattle.script_checker.specs.Compiled.{exception_name, declared_after, AreAccepted, IsRowOf, AreRowsOf, IsPlanOf}
-use Rattle.script_checker.specs.OwnNames.{AreOwnNames, NamesExceptions, HasOwnNames}
+use Rattle.place_plan.specs.OwnNames.{AreOwnNames, NamesExceptions, HasOwnNames}
 use Rattle.script_checker.proofs.Choosing.{known}
 use Rattle.script_checker.proofs.GraphRows.{found}
 

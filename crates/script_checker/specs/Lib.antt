@@ -11,5 +11,4 @@ pub mod Handled
 pub mod Rows
 pub mod DeclaredSoFar
 pub mod View
-pub mod OwnNames
 pub mod PlaySizes

@@ -1,5 +1,5 @@
 ghost use Rattle.script_checker.specs.Compiled.{IsPlanOf};
-ghost use Rattle.script_checker.specs.OwnNames.{HasOwnNames};
+ghost use Rattle.place_plan.specs.OwnNames.{HasOwnNames};
 
 use action_script::script::Script;
 use place_plan::plan::Plan;

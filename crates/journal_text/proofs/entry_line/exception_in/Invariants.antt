@@ -1,6 +1,6 @@
 use Rattle.std.proofs.Common.{◌≡◌, ◌-◌}
 use Rattle.place_plan.specs.Places.{graph_at, exception_name}
-use Rattle.journal_text.specs.Words.{index_among}
+use Rattle.journal_text.specs.Naming.{index_among}
 use Rattle.journal_text.proofs.entry_line.exception_in.Given as goal
 
 abbrev pub invariant-loop-exception : goal.invariant-loop-exception

@@ -1,6 +1,6 @@
 use Rattle.std.proofs.Common.{◌≡◌, ◌-◌, length}
 use Rattle.journal_text.specs.Text.{participant_name}
-use Rattle.journal_text.specs.Words.{index_among}
+use Rattle.journal_text.specs.Naming.{index_among}
 use Rattle.journal_text.proofs.entry_line.participant_in.Given as goal
 
 abbrev pub invariant-loop-by : goal.invariant-loop-by

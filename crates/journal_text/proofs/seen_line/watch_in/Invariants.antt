@@ -1,6 +1,6 @@
 use Rattle.std.proofs.Common.{◌≡◌, ◌-◌, length}
 use Rattle.journal_text.specs.Text.{object_name, watched_object}
-use Rattle.journal_text.specs.Words.{index_among}
+use Rattle.journal_text.specs.Naming.{index_among}
 use Rattle.journal_text.proofs.seen_line.watch_in.Given as goal
 
 abbrev pub invariant-loop-watch : goal.invariant-loop-watch
