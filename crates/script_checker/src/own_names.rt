@@ -4,7 +4,8 @@ ghost use Rattle.place_plan.specs.OwnNames.{HasOwnNames};
 use action_script::script::Script;
 use place_plan::plan::Plan;
 
-/// The names of the plan of a script tell its parts apart, and no object is watched twice. A statement alone: the call does nothing.
+/// The participants of the plan of a script have different names, and so have its objects and the exceptions of each graph; no
+/// object is watched twice. A statement alone: the call does nothing.
 pub fn has_own_names(script: &Script, plan: &Plan)
     requires { IsPlanOf script.now plan.now }
     ensures { HasOwnNames plan.now }
