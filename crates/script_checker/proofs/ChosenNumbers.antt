@@ -9,10 +9,14 @@ use Rattle.std.specs.declared.cmp.Ordering.TheVariants as ordering
 use Rattle.std.specs.Ordering.{MatchOrdering, match_ordering, nat_cmp}
 use Rattle.std.specs.BTreeSet.{insert_key}
 use Rattle.caa_base.specs.Lists.{member, index_of}
-use Rattle.caa_base.proofs.ListLemmas.{either}
 use Rattle.place_plan.specs.DraftRules.{is_rising, is_rising_above}
 use Rattle.script_checker.specs.Numbers.{is_among, has_twice, chosen_from}
 use Rattle.script_checker.proofs.NumberTables.{among_is_member}
+
+-- what holds of both holds of the one that is taken
+pub either : {A : Type 0} (P : A → Type 0) (b : Bool) (x y : A) → P x → P y → P (cond b x y)
+either P true x y h k = h
+either P false x y h k = k
 
 -- ---- chosen numbers rise
 

@@ -35,12 +35,12 @@ use Rattle.script_checker.specs.DeclaredSoFar.{SoFar, nothing_yet, graph_number,
 use Rattle.script_checker.specs.Causes.{is_action}
 use Rattle.script_checker.specs.After.{closed_if, ended, with_said, with_program, idle_role, with_abort, with_nest, action_row}
 use Rattle.script_checker.specs.Compiled.{HasNone}
-use Rattle.caa_base.proofs.ListLemmas.{either, empty_is}
+use Rattle.caa_base.proofs.ListLemmas.{empty_is}
 use Rattle.script_checker.proofs.Choosing.{known, within}
 use Rattle.script_checker.proofs.Accepted.{IsKept, once}
 use Rattle.script_checker.proofs.ActionsGrow.{all_push}
 use Rattle.script_checker.proofs.ListsChange.{all_change, all_set, all_mapped}
-use Rattle.script_checker.proofs.ChosenNumbers.{rises}
+use Rattle.script_checker.proofs.ChosenNumbers.{either, rises}
 use Rattle.script_checker.proofs.NestTests.{neither, still_below, numbers_below}
 use Rattle.script_checker.proofs.GraphsKept.{first_alone}
 use Rattle.script_checker.proofs.GraphsThere.{has_exception, some_exception, GraphsThere, closed_there, says_there}
