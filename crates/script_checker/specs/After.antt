@@ -95,6 +95,7 @@ abbrev pub with_program : RoleRow → Option ℕ → Program → RoleRow
 with_program role None program = record role { body = program }
 with_program role (Some exception) program = record role { handlers = role.handlers ++ record { exception = exception; program = program } ∷ [] }
 
+-- this body or handler, if there is one, has ended with this verdict
 abbrev pub closed_if : SoFar → Option Opening → Verdict → SoFar
 closed_if s None verdict = s
 closed_if s (Some o) verdict = record s {
@@ -108,6 +109,7 @@ closed_if s (Some o) verdict = record s {
 abbrev pub closed : SoFar → Verdict → SoFar
 closed s verdict = closed_if s s.opening verdict
 
+-- what is declared is as it was, or with the body or handler ended
 abbrev pub settled_if : Bool → SoFar → SoFar
 settled_if true s = s
 settled_if false s = closed s verdict.Done
@@ -116,9 +118,11 @@ settled_if false s = closed s verdict.Done
 abbrev pub settled : SoFar → Form → SoFar
 settled s f = settled_if (goes_on f) s
 
+-- one step more in what is being declared
 abbrev pub with_step : SoFar → Step → SoFar
 with_step s step = record s { steps = s.steps ++ step ∷ [] }
 
+-- the body of this role begins, or its handler for this exception
 abbrev pub with_opening : SoFar → ℕ → Option ℕ → SoFar
 with_opening s role exception = record s { opening = Some (record { role = role; exception = exception }); steps = [] }
 
@@ -128,6 +132,7 @@ with_opening s role exception = record s { opening = Some (record { role = role;
 abbrev pub idle_role : List (List ℕ) → ℕ → RoleRow
 idle_role names name = record { name = name_at names name; body = record { steps = []; verdict = verdict.Done }; handlers = []; abort = abort.Never }
 
+-- what the role of this name raises where it gives up
 abbrev pub with_abort : SoFar → ℕ → AbortRow → SoFar
 with_abort s role row = record s { role_rows = slice_set s.role_rows (index_of role s.roles) (record (role_of s role) { abort = row }) }
 
@@ -146,6 +151,7 @@ with_nest_said s nest row said = record (with_nest s nest row) { nests_said = sl
 
 -- ---- graphs and actions
 
+-- the graph that was being declared has ended
 abbrev pub with_graph : SoFar → SoFar
 with_graph s =
     record s {
@@ -191,12 +197,15 @@ action_row names s = record {
 abbrev pub with_depth : SoFar → ActionRow → SoFar
 with_depth s row = record s { depths = s.depths ++ counted (1 + deepest (at s.depths) row.nests) ∷ [] }
 
+-- of how many places an instance of it is
 abbrev pub with_places : SoFar → ActionRow → SoFar
 with_places s row = record s { places = s.places ++ counted (1 + nested_weight (at s.places) row.nests) ∷ [] }
 
+-- how many entries these may have
 abbrev pub with_bound : SoFar → ActionRow → SoFar
 with_bound s row = record s { bounds = s.bounds ++ counted (action_bound row (length row.roles) + nested_weight (at s.bounds) row.nests) ∷ [] }
 
+-- one more action, and what comes next stands outside actions
 abbrev pub with_action_row : SoFar → ActionRow → SoFar
 with_action_row s row = record s { block = block.Top; actions = s.actions ++ row ∷ [] }
 
@@ -208,6 +217,7 @@ with_action s row = with_action_row (with_bound (with_places (with_depth s row) 
 abbrev pub without_parts : SoFar → SoFar
 without_parts s = record s { uses = []; role_rows = []; nest_rows = [] }
 
+-- an `end` line ends the graph or the action that is being declared
 abbrev pub ended : List (List ℕ) → SoFar → Block → SoFar
 ended names s block.Top = s
 ended names s block.Graph = with_graph s
@@ -215,6 +225,7 @@ ended names s block.Action = with_action (without_parts s) (action_row names s)
 
 -- ---- all lines
 
+-- what a line of each form adds, once a body or handler before it has ended
 abbrev pub with_said : List (List ℕ) → SoFar → Form → SoFar
 with_said names s (form.Participant name) =
     record s {

@@ -25,6 +25,7 @@ use Rattle.script_checker.specs.DeclaredSoFar.{SoFar, inner, outer, face, face_o
 abbrev pub is_action : SoFar → ℕ → Bool
 is_action s name = nat_lt (index_of name s.action_names) (length s.actions)
 
+-- a name of the line is declared nowhere above it
 abbrev pub is_unknown : SoFar → Form → Bool
 is_unknown s (form.Drill object nth) = not (is_among s.objects object)
 is_unknown s (form.Watch object) = not (is_among s.objects object)
@@ -54,16 +55,20 @@ is_unknown s _ = false
 
 -- ---- the line declares or says again what was declared or said
 
+-- a drill of just this put of this object
 abbrev pub is_drill : ℕ → ℕ → Drill → Bool
 is_drill object nth drill = (drill.object == object) && (drill.nth == nth)
 
+-- a role was told what to raise where it gives up
 abbrev pub is_said : AbortRow → Bool
 is_said abort.Never = false
 is_said _ = true
 
+-- a handler for this exception
 abbrev pub handles : ℕ → HandlerRow → Bool
 handles exception handler = handler.exception == exception
 
+-- the line says what may be said once only, and was
 abbrev pub is_twice : SoFar → Form → Bool
 is_twice s (form.Participant name) = is_among s.participants name
 is_twice s (form.Object name value) = is_among s.objects name
@@ -87,12 +92,13 @@ is_twice s (form.Body role) = member (index_of role s.roles) s.bodies
 is_twice s (form.Handler role exception) = list_any (handles (index_of exception (inner s))) (role_of s role).handlers
 is_twice s _ = false
 
--- ---- the line fills fewer or more roles than the action has, or ends an action without roles
+-- ---- the line fills another number of roles than the action has, or ends an action that has none
 
 -- so many fill the roles of this action
 abbrev pub is_filled_by : SoFar → ℕ → ℕ → Bool
 is_filled_by s action count = length (action_of s action).roles == count
 
+-- the number of roles is wrong
 abbrev pub is_unfilled : SoFar → Form → Bool
 is_unfilled s (form.Play action who) = not (is_filled_by s action (length who))
 is_unfilled s (form.Nest nest action roles) = not (is_filled_by s action (length roles))
@@ -102,6 +108,7 @@ is_unfilled s _ = false
 
 -- ---- the line fills two roles by one
 
+-- somebody would play two roles
 abbrev pub fills_twice : Form → Bool
 fills_twice (form.Play action who) = has_twice who
 fills_twice (form.Nest nest action roles) = has_twice roles
@@ -109,12 +116,14 @@ fills_twice _ = false
 
 -- ---- the line ends an action in which a role doesn't enter just the uses that it fills, each once, in their order
 
+-- at an `end`, the roles of the action enter other uses, or in another order
 abbrev pub enters_otherwise : SoFar → Form → Bool
 enters_otherwise s form.End = is_in_action s.block && not (roles_enter s.nest_rows 0 s.role_rows)
 enters_otherwise s _ = false
 
 -- ---- the line touches an object that the action doesn't use, as far as its objects were said
 
+-- the action uses the object of this name
 abbrev pub holds : SoFar → ℕ → Bool
 holds s object = member (index_of object s.objects) s.uses
 
@@ -122,6 +131,7 @@ holds s object = member (index_of object s.objects) s.uses
 abbrev pub holds_all : SoFar → ℕ → Bool
 holds_all s action = list_all (λ o. member o s.uses) (action_of s action).objects
 
+-- an object that the line names, or that an action of it uses, is not among the objects of the action
 abbrev pub is_not_held : SoFar → Form → Bool
 is_not_held s (form.Nest nest action roles) = not (holds_all s action)
 is_not_held s (form.Alternate nest action) = not (holds_all s action)
@@ -132,9 +142,11 @@ is_not_held s _ = false
 
 -- ---- the line nests an action of the most depth
 
+-- the action of this name is as deep as one may be
 abbrev pub is_deepest : SoFar → ℕ → Bool
 is_deepest s action = nat_le most_depth (at s.depths (index_of action s.action_names))
 
+-- the line would put an action round it
 abbrev pub is_too_deep : SoFar → Form → Bool
 is_too_deep s (form.Nest nest action roles) = is_deepest s action
 is_too_deep s (form.Alternate nest action) = is_deepest s action
@@ -146,6 +158,7 @@ is_too_deep s _ = false
 abbrev pub places_with : SoFar → ℕ → ℕ
 places_with s action = counted (s.all_places + at s.places (index_of action s.action_names))
 
+-- with the line there would be too many of something
 abbrev pub is_past_limit : SoFar → Form → Bool
 is_past_limit s (form.Participant name) = nat_le most_participants (length s.participants)
 is_past_limit s (form.Object name value) = nat_le most_objects (length s.objects)
@@ -169,21 +182,25 @@ is_past_limit s _ = false
 
 -- ---- with the play a journal could have too many entries
 
+-- the entries of all plays with one more of this action
 abbrev pub bound_with : SoFar → ℕ → ℕ
 bound_with s action = counted (s.whole_bound + at s.bounds (index_of action s.action_names))
 
+-- they would be too many
 abbrev pub is_past_bound : SoFar → Form → Bool
 is_past_bound s (form.Play action who) = nat_lt most_entries (bound_with s action)
 is_past_bound s _ = false
 
 -- ---- the line adds an action to a use whose first action tells other exceptions outside
 
+-- the action of the line has another interface graph
 abbrev pub has_other_face : SoFar → Form → Bool
 has_other_face s (form.Alternate nest action) = not ((action_of s action).interface == face_of s nest)
 has_other_face s _ = false
 
 -- ---- the line ends a graph
 
+-- it is the `end` of a graph
 abbrev pub ends_graph : SoFar → Form → Bool
 ends_graph s form.End = is_in_graph s.block
 ends_graph s _ = false

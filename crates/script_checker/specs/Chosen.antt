@@ -6,6 +6,7 @@ use Rattle.script_checker.specs.declared.check_error.CheckCause.TheVariants as c
 use Rattle.script_checker.specs.DeclaredSoFar.{SoFar}
 use Rattle.script_checker.specs.Causes.{is_unknown, is_twice, is_unfilled, fills_twice, enters_otherwise, is_not_held, is_too_deep, is_past_limit, is_past_bound, has_other_face}
 
+-- this cause where the test is met, else a later one
 abbrev pub cause_if : Bool → CheckCause → Option CheckCause → Option CheckCause
 cause_if true here later = Some here
 cause_if false here later = later
@@ -20,6 +21,7 @@ size_cause s f =
     cause_if (is_too_deep s f) cause.TooDeep (cause_if (is_past_limit s f) cause.Limit
     (cause_if (is_past_bound s f) cause.JournalBound (cause_if (has_other_face s f) cause.AlternateFace None)))
 
+-- the first cause that names and a graph don't tell
 abbrev pub part_cause : SoFar → Form → Option CheckCause
 part_cause s f =
     cause_if (is_unfilled s f) cause.RoleUnfilled (cause_if (fills_twice f) cause.RoleTwice

@@ -81,6 +81,7 @@ pub record IsRowOf (names : List (List ℕ)) (graph : DeclaredGraph) (row : Grap
   pub order : IsOrderOf (length graph.exceptions) graph.pairs row.graph
   pub sound : IsSound row.graph
 
+-- the rows are those of the graphs, one by one
 abbrev pub AreRowsOf : List (List ℕ) → List DeclaredGraph → List GraphRow → Type 0
 AreRowsOf names [] [] = Unit {0}
 AreRowsOf names [] (row ∷ rows) = ⊥

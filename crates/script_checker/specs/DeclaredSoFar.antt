@@ -71,6 +71,7 @@ pub record SoFar : Type 0 where
 abbrev pub plain_graph : ℕ → DeclaredGraph
 plain_graph universal = record { exceptions = universal ∷ []; pairs = [] }
 
+-- nothing is declared but the plain graph; the names of the script are these
 abbrev pub nothing_yet : List (List ℕ) → SoFar
 nothing_yet names = record {
   universal = number_in names (codes "universal");
@@ -110,9 +111,11 @@ nothing_yet names = record {
 
 -- ---- what the names of a line mean there
 
+-- a graph without exceptions
 abbrev pub no_graph : DeclaredGraph
 no_graph = record { exceptions = []; pairs = [] }
 
+-- nothing was said of a nested use
 abbrev pub nothing_said : NestSaid
 nothing_said = record { mapped = []; has_undo = false; has_failure = false }
 
@@ -124,17 +127,19 @@ graph_number s name = index_of name s.graph_names + 1
 abbrev pub exceptions_at : List DeclaredGraph → ℕ → List ℕ
 exceptions_at graphs g = (slice_index_or graphs g no_graph).exceptions
 
--- the internal and the interface graph of the action that is being declared, as far as it is known
+-- the internal graph of the action that is being declared, as far as it is known
 abbrev pub internal_graph : SoFar → ℕ
 internal_graph s = unwrap_or s.internal 0
 
+-- and the graph of what it tells outside
 abbrev pub interface_graph : SoFar → ℕ
 interface_graph s = unwrap_or s.interface 0
 
--- the exceptions that may be raised in the action, and those that it may tell outside
+-- the exceptions that may be raised in the action
 abbrev pub inner : SoFar → List ℕ
 inner s = exceptions_at s.graphs (internal_graph s)
 
+-- and those that it may tell outside
 abbrev pub outer : SoFar → List ℕ
 outer s = exceptions_at s.graphs (interface_graph s)
 
@@ -154,6 +159,7 @@ said_of s name = slice_index_or s.nests_said (index_of name s.nests) nothing_sai
 abbrev pub face_of : SoFar → ℕ → ℕ
 face_of s nest = (slice_index_or s.actions (slice_index_or (nest_of s nest).actions 0 0) no_action).interface
 
+-- their exceptions
 abbrev pub face : SoFar → ℕ → List ℕ
 face s nest = exceptions_at s.graphs (face_of s nest)
 

@@ -2,6 +2,7 @@
 use Rattle.script_checker.specs.declared.declared.Declared.{Declared}
 use Rattle.script_checker.specs.DeclaredSoFar.{SoFar}
 
+-- what a table of declarations says is declared
 abbrev pub so_far : Declared → SoFar
 so_far d = record {
   universal = d.universal;

@@ -244,7 +244,7 @@ fn is_in_action(block: Block) -> bool
     }
 }
 
-/// Whether the line fills fewer or more roles than the action has, or ends an action without roles.
+/// Whether the line fills another number of roles than the action has, or ends an action that has none.
 pub(crate) fn is_unfilled(declared: &Declared, form: &Form) -> bool
     ensures { result ≡ is_unfilled (so_far declared.now) form.now }
 {

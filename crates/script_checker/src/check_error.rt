@@ -22,7 +22,7 @@ pub enum CheckCause {
     /// 13: the line ends a graph in which these two exceptions have no least cover, and no earlier two lack one.
     #[error("no least cover")]
     NoLeast { a: u32, b: u32 },
-    /// 14: the line fills fewer or more roles than the action has, or ends an action without roles.
+    /// 14: the line fills another number of roles than the action has, or ends an action that has none.
     #[error("role unfilled")]
     RoleUnfilled,
     /// 15: the line fills two roles by one.
