@@ -32,6 +32,20 @@ object y 0
 outcome 0 look commit
 ";
 
+/// The same entries, but with a verdict before the read that it follows.
+const VERDICT_FIRST: &str = "journal
+arrive 0 ann
+arrive 0 bob
+start 0 bob
+work 0 bob 2 1406932606
+verdict 0 bob done
+verdict 0 ann done
+read 0 ann x 5
+end 0 bob commit
+leave 0 ann
+leave 0 bob
+";
+
 /// The plan in which `ann` and `bob` play `look` once, and `x`, which is 5 at first and which `ann` reads, and `y` are watched.
 fn plan(rt: &impl Abort, alloc: Global) -> Result<Plan, Fail>
     ensures { IfOk result (λ plan. is_well_named plan ≡ true) }
@@ -82,23 +96,21 @@ fn journal_of(
     Ok(journal)
 }
 
-/// What these changes put at a number, or this line where they have none for it.
-fn changed<'a>(changes: &[(usize, &'a str)], number: usize, old: &'a str) -> &'a str {
-    for (place, line) in changes {
-        if *place == number {
-            return line;
-        }
-    }
-    old
-}
-
-/// The text above, with these lines at their numbers, counted from 1.
-fn with_lines(alloc: Global, changes: &[(usize, &str)]) -> Result<Vec<u8>, Fail> {
+/// The text above, with this line at this number, counted from 1.
+fn with_line(alloc: Global, number: usize, line: &str) -> Result<Vec<u8>, Fail> {
     let mut text = Vec::new(alloc);
     for (index, old) in FIRST_PATH.lines().enumerate() {
-        text.extend_from_slice(changed(changes, index + 1, old).as_bytes())?;
+        let chosen = if index + 1 == number { line } else { old };
+        text.extend_from_slice(chosen.as_bytes())?;
         text.push(b'\n')?;
     }
+    Ok(text)
+}
+
+/// The text of other entries, which aren't legal, with these bytes after them.
+fn after_verdict_first(alloc: Global, rest: &str) -> Result<Vec<u8>, Fail> {
+    let mut text = Vec::from_slice(alloc, VERDICT_FIRST.as_bytes())?;
+    text.extend_from_slice(rest.as_bytes())?;
     Ok(text)
 }
 
@@ -167,14 +179,14 @@ fn names_the_changed_line(rt: HostRuntime) -> Result<(), Fail> {
         (14, "outcome 0 looks commit"),
     ];
     for (number, line) in changes {
-        let text = with_lines(alloc, &[(number, line)])?;
+        let text = with_line(alloc, number, line)?;
         let line = number as u64;
         assert_eq!(rt;
             refusal(alloc, &plan, &text, 10),
             Some(TextError::BadLine { line })
         );
     }
-    let text = with_lines(alloc, &[(7, "read 0 ann x 7")])?;
+    let text = with_line(alloc, 7, "read 0 ann x 7")?;
     assert_eq!(rt; refusal(alloc, &plan, &text, 10), None);
     Ok(())
 }
@@ -183,11 +195,9 @@ fn names_the_changed_line(rt: HostRuntime) -> Result<(), Fail> {
 fn names_a_wrong_object_of_a_journal_that_is_not_legal(rt: HostRuntime) -> Result<(), Fail> {
     let alloc = rt.alloc();
     let plan = plan(&rt, alloc)?;
-    let verdict_first = [(7, "verdict 0 ann done"), (8, "read 0 ann x 5")];
-    let text = with_lines(alloc, &verdict_first)?;
+    let text = after_verdict_first(alloc, "object x 5\nobject y 0\noutcome 0 look commit\n")?;
     assert_eq!(rt; refusal(alloc, &plan, &text, 10), None);
-    let [verdict, read] = verdict_first;
-    let text = with_lines(alloc, &[verdict, read, (12, "object x 3")])?;
+    let text = after_verdict_first(alloc, "object x 3\nobject y 0\noutcome 0 look commit\n")?;
     assert_eq!(rt;
         refusal(alloc, &plan, &text, 10),
         Some(TextError::BadLine { line: 12 })
