@@ -165,7 +165,11 @@ fn what_is_not_written_whole_is_a_sink_fault(rt: HostRuntime) -> Result<(), Fail
         let mut sink = OneByteSink::new(rt.alloc(), 1000, &[n as u64])?;
         let plant = MemPlant::new(false);
         let ended = top_quiet(rt.alloc(), words.as_slice(), &mut source, &mut sink, plant);
-        let wanted = if n <= bytes { Status::SinkFault } else { Status::Done };
+        let wanted = if n <= bytes {
+            Status::SinkFault
+        } else {
+            Status::Done
+        };
         assert_eq!(rt; ended.status, wanted);
         assert_eq!(rt; sink.bytes(), &ORDINARY_USE_TEXT[..n - 1]);
         assert_eq!(rt; ended.journal.len(), 11);
