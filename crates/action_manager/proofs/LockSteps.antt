@@ -1,24 +1,18 @@
 -- Each step of the turn lock keeps its rule.
-use Rattle.std.proofs.Common.{◌≡◌, ◌≢◌, ◌⊎◌, ℕ, zero, suc, ◌+◌, ◌<◌, ◌≤◌, ◌==◌, Bool, true, false, true≢false, List, [], ◌∷◌, ◌++◌, length, get_or, set, Option, Some, None, MatchBool, refl, sym, ap, ◌∙◌, subst, inl, inr, ⊎_elim, arith, length-set, get_or-set_other, get_or-set_same, append_assoc, le_refl, zero-le}
+use Rattle.std.proofs.Common.{◌≡◌, ◌≢◌, ◌⊎◌, ℕ, zero, suc, ◌+◌, ◌<◌, ◌≤◌, ◌==◌, Bool, true, false, true≢false, List, [], ◌∷◌, ◌++◌, length, get_or, set, Option, Some, None, MatchBool, refl, sym, ap, ◌∙◌, subst, inl, inr, ⊎_elim, arith, length-set, get_or-set_other, get_or-set_same, le_refl, zero-le}
 use Rattle.std.proofs.lemmas.Bool.Decides.{nat_tests}
 use mathlib.Core.Option.{some, none, some-injective, some-ne-none}
-use mathlib.Core.List.{IsPrefix}
 use lib.ListN.{get_elem?}
 use lib.Seq.{set-get_or}
 use prog.Atomic.{either}
 use Rattle.atomic_table.specs.Table.{State, Me, Act, Step, keeps, takes, gives, Valid, carried_after, rest, step, stepped, Allows, Splits, Joins, Final, Seen, opening}
 use Rattle.atomic_table.proofs.Lists.{at_set, set_here, set_else, set_again, at_longer}
+use Rattle.caa_base.specs.Lists.{one_if}
+use Rattle.shared_views.proofs.Beginnings.{begins_itself, begins_further}
 use Rattle.action_manager.specs.declared.lock_view.View.{View}
 use Rattle.action_manager.specs.declared.lock_view.Terms.{Terms}
 use Rattle.action_manager.specs.OwnEntries.{Journal, Grows}
-use Rattle.action_manager.specs.Turns.{rested, maker, spent_view, both_of, held_if, held, Has, Stands, one_if, holders, Fits, IsAt, AtHome, Out, Kept, Returned, Drew, Came, Looked, HandedOn}
-
-pub prefix_trans : {A : Type 0} (xs ys zs : List A) → IsPrefix xs ys → IsPrefix ys zs → IsPrefix xs zs
-prefix_trans xs ys zs p q = (p.0 ++ q.0, sym (append_assoc xs p.0 q.0) ∙ (ap (λ w. w ++ q.0) p.1 ∙ q.1))
-
-pub prefix_self : {A : Type 0} (xs : List A) → IsPrefix xs xs
-prefix_self [] = ([], refl)
-prefix_self (x ∷ xs) = (let r = prefix_self xs in r.0, ap (λ ys. x ∷ ys) (prefix_self xs).1)
+use Rattle.action_manager.specs.Turns.{rested, maker, spent_view, both_of, held_if, held, Has, Stands, holders, Fits, IsAt, AtHome, Out, Kept, Returned, Drew, Came, Looked, HandedOn}
 
 holders_set : (vs : List View) (i : ℕ) (v w : View) → get_elem? vs i ≡ some v → holders (set vs i w) + one_if v.holds ≡ holders vs + one_if w.holds
 holders_set [] i v w e = absurd (some-ne-none v (sym e))
@@ -98,7 +92,7 @@ stands_append book (x ∷ xs) ys p q = (p.0, stands_append book xs ys p.1 q)
 stands_grow : (who : ℕ) (book j : Journal) (xs : List (ℕ × Journal)) → Grows who book j → ((t : ℕ) → Has t xs → t ≢ who) → Stands book xs → Stands j xs
 stands_grow who book j [] grown far p = tt
 stands_grow who book j (x ∷ xs) grown far p = (
-  (prefix_trans x.1 book j p.0.0 grown.0, grown.1 x.0 (far x.0 (inl refl)) ∙ p.0.1),
+  (begins_further x.1 book j p.0.0 grown.0, grown.1 x.0 (far x.0 (inl refl)) ∙ p.0.1),
   stands_grow who book j xs grown (λ t h. far t (inr h)) p.1,
 )
 
@@ -300,13 +294,13 @@ module _ {M : Type 0} (terms : Terms) (its_journal : Journal) (Right : Terms →
           machine = x;
           lies = set_here s.homes 0 (some (Some x)) (omega arith);
           right = right;
-          begins = prefix_trans its_journal out.view.book (journal_of x) out.begins book.0;
+          begins = begins_further its_journal out.view.book (journal_of x) out.begins book.0;
           later = λ t up. book.1 t (λ same. omega arith) ∙ out.later t up;
-          each = all_set (λ j u. (u.has_book ≡ false) × Fits (journal_of x) u) s.views id w (refl, (prefix_self (journal_of x), ((prefix_self (journal_of x), refl), tt)))
+          each = all_set (λ j u. (u.has_book ≡ false) × Fits (journal_of x) u) s.views id w (refl, (begins_itself (journal_of x), ((begins_itself (journal_of x), refl), tt)))
               (λ j u other e. (
                 not_true u.has_book (λ yes. other ((out.each j u e).0 yes ∙ sym me)),
                 (
-                  prefix_trans u.seen out.view.book (journal_of x) (out.each j u e).1.0 book.0,
+                  begins_further u.seen out.view.book (journal_of x) (out.each j u e).1.0 book.0,
                   stands_grow v.who out.view.book (journal_of x) (held u) book (λ t q same. other (k.differ j id u v t e at q (subst (Has t) (sym self) (inl (sym same))))) (out.each j u e).1.1,
                 ),
               ));
@@ -500,9 +494,9 @@ begins terms Right journal_of m right =
         machine = m;
         lies = refl;
         right = right;
-        begins = prefix_self (journal_of m);
+        begins = begins_itself (journal_of m);
         later = λ t up. refl;
-        each = λ j u e. subst (λ (a : View). (a.has_book ≡ false) × Fits (journal_of m) a) (only j u e).1 (refl, (prefix_self (journal_of m), tt));
+        each = λ j u e. subst (λ (a : View). (a.has_book ≡ false) × Fits (journal_of m) a) (only j u e).1 (refl, (begins_itself (journal_of m), tt));
       };
     }
 

@@ -9,14 +9,13 @@ use Rattle.caa_base.specs.declared.entry.Kind.TheVariants as kind
 use Rattle.caa_base.specs.Lists.{member}
 use Rattle.place_plan.specs.declared.draft_rows.ObjectRow.{ObjectRow}
 use Rattle.place_plan.specs.PlanValue.{Plan}
-use Rattle.place_plan.specs.Places.{parent, objects_of, uses, no_object}
+use Rattle.place_plan.specs.Places.{parent, objects_of, uses, no_object, initials_of}
 use Rattle.place_plan.specs.Entries.{is_of}
 use Rattle.place_plan.specs.Objects.{value_of}
-use Rattle.place_plan.specs.Journals.{LegalPast, plays_ended, committed_value}
+use Rattle.place_plan.specs.Journals.{LegalPast, ends_play, plays_ended, committed_value}
 use Rattle.journal_laws.specs.Laws.{Holds, CommitLaw}
 use Rattle.shared_views.specs.Publications.{Changes, given_after, last_given, value_after}
-use Rattle.shared_views.specs.Committing.{initials_of}
-use Rattle.action_manager.specs.Publishing.{ends_play, values_of, published}
+use Rattle.action_manager.specs.Publishing.{values_of, publications_of}
 use Rattle.action_manager.specs.PublishingLaw.{PublishingLaw}
 
 -- ---- the value after publications
@@ -41,73 +40,73 @@ given_values f (x ∷ os) o before = given_values f os o (given_after o before (
     by_test false c e = refl
 
 module _ (plan : Plan) (law : Holds CommitLaw plan) where
-  counted : (past : List Entry) → length (published plan past) ≡ length (plays_ended plan past)
+  counted : (past : List Entry) → length (publications_of plan past) ≡ length (plays_ended plan past)
   counted [] = refl
   counted (e ∷ past) = elim (cases_Bool (ends_play plan e)) [
-    | inl x ↦ rw x (length-append (published plan past) (values_of plan (e ∷ past) e.place ∷ []) ∙ ap (λ n. n + 1) (counted past) ∙ sym (length-append (plays_ended plan past) (e.place ∷ [])))
+    | inl x ↦ rw x (length-append (publications_of plan past) (values_of plan (e ∷ past) e.place ∷ []) ∙ ap (λ n. n + 1) (counted past) ∙ sym (length-append (plays_ended plan past) (e.place ∷ [])))
     | inr x ↦ rw x (counted past)
   ]
 
   -- by the first n publications o has the value that the first n plays committed
   abbrev Agrees : List Entry → ℕ → ℕ → Type 0
-  Agrees past n o = value_after (initials_of plan) (take n (published plan past)) o ≡ committed_value plan past n o
+  Agrees past n o = value_after (initials_of plan) (take n (publications_of plan past)) o ≡ committed_value plan past n o
 
   -- an entry adds nothing to the values by the plays that had ended
-  earlier : (past : List Entry) (e : Entry) (n o : ℕ) → LegalPast plan (e ∷ past) → n ≤ length (published plan past) → Agrees past n o → value_after (initials_of plan) (take n (published plan past)) o ≡ committed_value plan (e ∷ past) n o
+  earlier : (past : List Entry) (e : Entry) (n o : ℕ) → LegalPast plan (e ∷ past) → n ≤ length (publications_of plan past) → Agrees past n o → value_after (initials_of plan) (take n (publications_of plan past)) o ≡ committed_value plan (e ∷ past) n o
   earlier past e n o legal low ih = ih ∙ sym ((law (e ∷ past) legal).stays (e ∷ []) past n o refl (omega (arith, low, counted past)))
 
   -- the end of a play publishes what it commits
-  at_end : (past : List Entry) (e : Entry) (o : ℕ) → LegalPast plan (e ∷ past) → ends_play plan e ≡ true → Agrees past (length (published plan past)) o
-      → value_after (initials_of plan) (published plan past ++ values_of plan (e ∷ past) e.place ∷ []) o ≡ committed_value plan (e ∷ past) (suc (length (published plan past))) o
+  at_end : (past : List Entry) (e : Entry) (o : ℕ) → LegalPast plan (e ∷ past) → ends_play plan e ≡ true → Agrees past (length (publications_of plan past)) o
+      → value_after (initials_of plan) (publications_of plan past ++ values_of plan (e ∷ past) e.place ∷ []) o ≡ committed_value plan (e ∷ past) (suc (length (publications_of plan past))) o
   at_end past e o legal x ih =
-      ap (λ v. unwrap_or v (slice_index_or (initials_of plan) o (pos 0))) (given_more o (published plan past) (values_of plan (e ∷ past) e.place) ∙ given_values (value_of plan (e ∷ past)) (objects_of plan e.place) o (last_given o (published plan past)))
+      ap (λ v. unwrap_or v (slice_index_or (initials_of plan) o (pos 0))) (given_more o (publications_of plan past) (values_of plan (e ∷ past) e.place) ∙ given_values (value_of plan (e ∷ past)) (objects_of plan e.place) o (last_given o (publications_of plan past)))
       ∙ by_use (uses plan e.place o) ∙ sym commits
     where
       k : ℕ
-      k = length (published plan past)
+      k = length (publications_of plan past)
 
       none_round : (p : Option ℕ) → is_none p ≡ true → p ≡ None
       none_round None h = refl
       none_round (Some p) h = absurd (false≢true h)
 
-      commits : committed_value plan (e ∷ past) (suc k) o ≡ cond (uses plan e.place o) (value_of plan (e ∷ past) o) (value_after (initials_of plan) (published plan past) o)
+      commits : committed_value plan (e ∷ past) (suc k) o ≡ cond (uses plan e.place o) (value_of plan (e ∷ past) o) (value_after (initials_of plan) (publications_of plan past) o)
       commits =
           let parts = and_parts (is_of kind.End e) (is_none (parent plan e.place)) x in
           let told = (law (e ∷ past) legal).commits e.place o [] past e refl (and_from (is_of kind.End e) (e.place == e.place) parts.0 (eq-eqb e.place e.place refl)) (none_round (parent plan e.place) parts.1) in
-          let all : value_after (initials_of plan) (take k (published plan past)) o ≡ value_after (initials_of plan) (published plan past) o = ap (λ ps. value_after (initials_of plan) ps o) (take_all k (published plan past) (omega arith)) in
+          let all : value_after (initials_of plan) (take k (publications_of plan past)) o ≡ value_after (initials_of plan) (publications_of plan past) o = ap (λ ps. value_after (initials_of plan) ps o) (take_all k (publications_of plan past) (omega arith)) in
           ap (λ n. committed_value plan (e ∷ past) (suc n) o) (counted past) ∙ told
           ∙ ap (cond (uses plan e.place o) (value_of plan (e ∷ past) o)) (ap (λ n. committed_value plan (e ∷ past) n o) (sym (counted past)) ∙ sym (earlier past e k o legal (omega arith) ih) ∙ all)
 
-      by_use : (b : Bool) → unwrap_or (cond b (Some (value_of plan (e ∷ past) o)) (last_given o (published plan past))) (slice_index_or (initials_of plan) o (pos 0)) ≡ cond b (value_of plan (e ∷ past) o) (value_after (initials_of plan) (published plan past) o)
+      by_use : (b : Bool) → unwrap_or (cond b (Some (value_of plan (e ∷ past) o)) (last_given o (publications_of plan past))) (slice_index_or (initials_of plan) o (pos 0)) ≡ cond b (value_of plan (e ∷ past) o) (value_after (initials_of plan) (publications_of plan past) o)
       by_use true = refl
       by_use false = refl
 
-  agrees : (past : List Entry) → LegalPast plan past → (n o : ℕ) → n ≤ length (published plan past) → Agrees past n o
+  agrees : (past : List Entry) → LegalPast plan past → (n o : ℕ) → n ≤ length (publications_of plan past) → Agrees past n o
   agrees [] legal zero o low = initial_at plan.objects o
   agrees [] legal (suc n) o low = absurd (omega (arith, low))
   agrees (e ∷ past) legal n o low = elim (cases_Bool (ends_play plan e)) [
     | inl x ↦
-        let long = length-append (published plan past) (values_of plan (e ∷ past) e.place ∷ []) in
-        let within : n ≤ length now = subst (λ b. n ≤ length (cond b now (published plan past))) x low in
-        told x ∙ (elim (cases_lt (length (published plan past)) n) [
+        let long = length-append (publications_of plan past) (values_of plan (e ∷ past) e.place ∷ []) in
+        let within : n ≤ length now = subst (λ b. n ≤ length (cond b now (publications_of plan past))) x low in
+        told x ∙ (elim (cases_lt (length (publications_of plan past)) n) [
           | inl above ↦
-              let last : n ≡ suc (length (published plan past)) = omega (arith, above, within, long) in
+              let last : n ≡ suc (length (publications_of plan past)) = omega (arith, above, within, long) in
               ap (λ ps. value_after (initials_of plan) ps o) (take_all n now (omega (arith, last, long)))
-              ∙ at_end past e o legal x (agrees past legal.0 (length (published plan past)) o (omega arith)) ∙ ap (λ m. committed_value plan (e ∷ past) m o) (sym last)
+              ∙ at_end past e o legal x (agrees past legal.0 (length (publications_of plan past)) o (omega arith)) ∙ ap (λ m. committed_value plan (e ∷ past) m o) (sym last)
           | inr below ↦
-              ap (λ ps. value_after (initials_of plan) ps o) (take-append-le n (published plan past) (values_of plan (e ∷ past) e.place ∷ []) below)
+              ap (λ ps. value_after (initials_of plan) ps o) (take-append-le n (publications_of plan past) (values_of plan (e ∷ past) e.place ∷ []) below)
               ∙ earlier past e n o legal below (agrees past legal.0 n o below)
         ])
     | inr x ↦
-        let within : n ≤ length (published plan past) = subst (λ b. n ≤ length (cond b now (published plan past))) x low in
+        let within : n ≤ length (publications_of plan past) = subst (λ b. n ≤ length (cond b now (publications_of plan past))) x low in
         told x ∙ (earlier past e n o legal within (agrees past legal.0 n o within))
   ]
     where
       now : List Changes
-      now = published plan past ++ values_of plan (e ∷ past) e.place ∷ []
+      now = publications_of plan past ++ values_of plan (e ∷ past) e.place ∷ []
 
-      told : {b : Bool} → ends_play plan e ≡ b → value_after (initials_of plan) (take n (published plan (e ∷ past))) o ≡ value_after (initials_of plan) (take n (cond b now (published plan past))) o
-      told x = ap (λ b. value_after (initials_of plan) (take n (cond b now (published plan past))) o) x
+      told : {b : Bool} → ends_play plan e ≡ b → value_after (initials_of plan) (take n (publications_of plan (e ∷ past))) o ≡ value_after (initials_of plan) (take n (cond b now (publications_of plan past))) o
+      told x = ap (λ b. value_after (initials_of plan) (take n (cond b now (publications_of plan past))) o) x
 
 -- what was published after each play of a legal journal is what the play committed
 pub publishing : (plan : Plan) → Holds CommitLaw plan → Holds PublishingLaw plan

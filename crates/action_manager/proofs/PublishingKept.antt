@@ -8,46 +8,46 @@ use Rattle.std.proofs.lemmas.List.{take_more, map-append, length-map}
 use Rattle.std.proofs.lemmas.List.Elements.{All-map}
 use Rattle.caa_base.specs.Lists.{member}
 use Rattle.place_plan.specs.Closed.{IsClosed}
-use Rattle.place_plan.specs.Places.{objects_of}
+use Rattle.place_plan.specs.Places.{objects_of, initials_of}
 use Rattle.place_plan.specs.Objects.{value_of}
-use Rattle.place_plan.specs.Journals.{plays_ended}
+use Rattle.place_plan.specs.Journals.{ends_play, plays_ended}
 use Rattle.journal_laws.proofs.PlayablePlan.{is_playable}
 use Rattle.caa_base.specs.declared.entry.Entry.{Entry}
 use Rattle.place_plan.specs.PlanValue.{Plan}
 use Rattle.shared_views.specs.Publications.{Changes, Known}
 use Rattle.shared_views.proofs.Beginnings.{begins_itself, begins_further}
-use Rattle.shared_views.specs.Committing.{Committed, initials_of}
-use Rattle.action_manager.specs.Publishing.{ends_play, values_of, published, Publishes}
+use Rattle.shared_views.specs.Committing.{Committed}
+use Rattle.action_manager.specs.Publishing.{values_of, publications_of, Publishes}
 
 -- the end of a play adds what it publishes
-one_more : (plan : Plan) (past : List Entry) (e : Entry) → ends_play plan e ≡ true → published plan (e ∷ past) ≡ published plan past ++ values_of plan (e ∷ past) e.place ∷ []
-one_more plan past e is = ap (λ b. if b then published plan past ++ values_of plan (e ∷ past) e.place ∷ [] else published plan past) is
+one_more : (plan : Plan) (past : List Entry) (e : Entry) → ends_play plan e ≡ true → publications_of plan (e ∷ past) ≡ publications_of plan past ++ values_of plan (e ∷ past) e.place ∷ []
+one_more plan past e is = ap (λ b. if b then publications_of plan past ++ values_of plan (e ∷ past) e.place ∷ [] else publications_of plan past) is
 
 -- any other entry adds nothing
-none_more : (plan : Plan) (past : List Entry) (e : Entry) → ends_play plan e ≡ false → published plan (e ∷ past) ≡ published plan past
-none_more plan past e other = ap (λ b. if b then published plan past ++ values_of plan (e ∷ past) e.place ∷ [] else published plan past) other
+none_more : (plan : Plan) (past : List Entry) (e : Entry) → ends_play plan e ≡ false → publications_of plan (e ∷ past) ≡ publications_of plan past
+none_more plan past e other = ap (λ b. if b then publications_of plan past ++ values_of plan (e ∷ past) e.place ∷ [] else publications_of plan past) other
 
 both_grow : {A B : Type 0} (b : Bool) (xs : List A) (ys : List B) (x : A) (y : B) → length xs ≡ length ys → length (if b then xs ++ x ∷ [] else xs) ≡ length (if b then ys ++ y ∷ [] else ys)
 both_grow true xs ys x y same = length-append xs (x ∷ []) ∙ (ap (λ n. n + 1) same ∙ sym (length-append ys (y ∷ [])))
 both_grow false xs ys x y same = same
 
 -- as often was published as plays have ended
-pub as_many : (plan : Plan) (past : List Entry) → length (published plan past) ≡ length (plays_ended plan past)
+pub as_many : (plan : Plan) (past : List Entry) → length (publications_of plan past) ≡ length (plays_ended plan past)
 as_many plan [] = refl
-as_many plan (e ∷ past) = both_grow (ends_play plan e) (published plan past) (plays_ended plan past) (values_of plan (e ∷ past) e.place) e.place (as_many plan past)
+as_many plan (e ∷ past) = both_grow (ends_play plan e) (publications_of plan past) (plays_ended plan past) (values_of plan (e ∷ past) e.place) e.place (as_many plan past)
 
 no_elements : {A : Type 0} (xs : List A) → length xs ≡ 0 → xs ≡ []
 no_elements [] none = refl
 no_elements (x ∷ xs) none = absurd (omega (arith, none))
 
 -- before any play has ended nothing was published
-pub none_published : (plan : Plan) (past : List Entry) → plays_ended plan past ≡ [] → published plan past ≡ []
-none_published plan past none = no_elements (published plan past) (as_many plan past ∙ ap length none)
+pub none_published : (plan : Plan) (past : List Entry) → plays_ended plan past ≡ [] → publications_of plan past ≡ []
+none_published plan past none = no_elements (publications_of plan past) (as_many plan past ∙ ap length none)
 
 -- a new writer, before any play has ended
 pub publishes_none : (plan : Plan) (past : List Entry) (w : Committed) → plays_ended plan past ≡ [] → w.initials ≡ initials_of plan → w.publications.list ≡ [] → Publishes plan past w
 publishes_none plan past w none initials list =
-    let same : w.publications.list ≡ published plan past = list ∙ sym (none_published plan past none) in
+    let same : w.publications.list ≡ publications_of plan past = list ∙ sym (none_published plan past none) in
     record { initials = initials; first = subst (IsPrefix w.publications.list) same (begins_itself w.publications.list); all = λ fresh. same }
 
 was_fresh : {X : Type 0} (b : Bool) → (b ≡ true → X) → (X → ⊥) → b ≡ false
@@ -60,13 +60,13 @@ pub an_end : {A E : Type 0} (plan : Plan) (past : List Entry) (e : Entry) (w w' 
     → (w.is_stale ≡ true → r ≡ Err late) → Publishes plan past w → Publishes plan (e ∷ past) w'
 an_end plan past e w w' changes (Ok a) late is same initials list marked stale k =
     let was : w.is_stale ≡ false = was_fresh w.is_stale stale (λ told. true≢false (ap is_err (sym told))) in
-    let all : w'.publications.list ≡ published plan (e ∷ past) = list ∙ (ap (λ l. l ++ changes ∷ []) (k.all was) ∙ (ap (λ c. published plan past ++ c ∷ []) same ∙ sym (one_more plan past e is))) in
+    let all : w'.publications.list ≡ publications_of plan (e ∷ past) = list ∙ (ap (λ l. l ++ changes ∷ []) (k.all was) ∙ (ap (λ c. publications_of plan past ++ c ∷ []) same ∙ sym (one_more plan past e is))) in
     record { initials = initials ∙ k.initials; first = subst (IsPrefix w'.publications.list) all (begins_itself w'.publications.list); all = λ fresh. all }
 an_end plan past e w w' changes (Err x) late is same initials list marked stale k =
-    let further = begins_further w.publications.list (published plan past) (published plan (e ∷ past)) k.first (values_of plan (e ∷ past) e.place ∷ [], sym (one_more plan past e is)) in
+    let further = begins_further w.publications.list (publications_of plan past) (publications_of plan (e ∷ past)) k.first (values_of plan (e ∷ past) e.place ∷ [], sym (one_more plan past e is)) in
     record {
       initials = initials ∙ k.initials;
-      first = subst (λ (l : Known). IsPrefix l.list (published plan (e ∷ past))) (sym list) further;
+      first = subst (λ (l : Known). IsPrefix l.list (publications_of plan (e ∷ past))) (sym list) further;
       all = λ fresh. absurd (true≢false (sym marked ∙ fresh));
     }
 

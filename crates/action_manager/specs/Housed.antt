@@ -17,7 +17,8 @@ pub record IsKept {M : Type 0} (plan_of : M → Plan) (journal_of : M → List E
 
 -- plan and base of the machine are those of the terms, and what lies beside it keeps up with its journal, by the cells of the
 -- terms and in their list of publications
-pub record IsRight {M : Type 0} (plan_of : M → Plan) (base_of : M → ℕ) (journal_of : M → List Entry) (terms : Terms) (h : Housed M) : Type 0 where
+pub record IsRight {M : Type 0} (plan_of : M → Plan) (base_of : M → ℕ) (journal_of : M → List Entry)
+    (terms : Terms) (h : Housed M) : Type 0 where
   pub plan : plan_of h.machine ≡ terms.plan
   pub base : base_of h.machine ≡ terms.base
   pub cells : cells_of h.bulletin ≡ terms.cells

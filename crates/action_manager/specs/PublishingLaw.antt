@@ -2,15 +2,15 @@
 use Rattle.std.specs.Prelude.{◌≡◌, ◌≤◌, ℕ, List, length, take}
 use Rattle.caa_base.specs.declared.entry.Entry.{Entry}
 use Rattle.place_plan.specs.PlanValue.{Plan}
+use Rattle.place_plan.specs.Places.{initials_of}
 use Rattle.place_plan.specs.Journals.{plays_ended, committed_value}
 use Rattle.shared_views.specs.Publications.{value_after}
-use Rattle.shared_views.specs.Committing.{initials_of}
-use Rattle.action_manager.specs.Publishing.{published}
+use Rattle.action_manager.specs.Publishing.{publications_of}
 
 -- what was published, play by play, gives the committed values
 pub record PublishingLaw (plan : Plan) (past : List Entry) : Type 0 where
   -- each play that has ended published once
-  pub count : length (published plan past) ≡ length (plays_ended plan past)
+  pub count : length (publications_of plan past) ≡ length (plays_ended plan past)
   -- after the first n publications an object has the value that the first n plays committed
-  pub values : (n o : ℕ) → n ≤ length (published plan past)
-      → value_after (initials_of plan) (take n (published plan past)) o ≡ committed_value plan past n o
+  pub values : (n o : ℕ) → n ≤ length (publications_of plan past)
+      → value_after (initials_of plan) (take n (publications_of plan past)) o ≡ committed_value plan past n o

@@ -6,6 +6,7 @@ use lib.ListN.{get_elem?}
 use Rattle.atomic_table.specs.Table.{State, Me, Step}
 use Rattle.logbook.specs.Pages.{Book}
 use Rattle.place_plan.specs.PlanValue.{Plan}
+use Rattle.caa_base.specs.Lists.{one_if}
 use Rattle.action_manager.specs.OwnEntries.{Journal, entries_by}
 use Rattle.action_manager.specs.declared.lock_view.View.{View}
 use Rattle.action_manager.specs.declared.lock_view.Terms.{Terms}
@@ -99,11 +100,6 @@ Stands book (x ∷ xs) = (IsPrefix x.1 book × (entries_by x.0 book ≡ entries_
 -- what a view has seen begins the book, which has no further entry of the participants that it stands for
 abbrev pub Fits : Journal → View → Type 0
 Fits book v = IsPrefix v.seen book × Stands book (held v)
-
--- 1 where it holds, and else 0
-abbrev pub one_if : Bool → ℕ
-one_if true = 1
-one_if false = 0
 
 -- how many views hold a ticket
 abbrev pub holders : List View → ℕ

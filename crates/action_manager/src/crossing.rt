@@ -1,10 +1,7 @@
 use crate::manager::Manager;
 use crate::seat::Seat;
 use place_plan::machine::Machine;
-
-fn may_cross<T: Send>(_x: &T) {}
-
-fn may_share<T: Sync>(_x: &T) {}
+use shared_views::{may_cross, may_share};
 
 /// Where a machine may go to another thread, so may a seat and the manager, and threads may share the manager.
 pub fn crosses_threads<M: Machine + Send>(seat: &Seat<M>, manager: &Manager<M>) {

@@ -227,7 +227,7 @@ impl<M: Machine> Manager<M> {
     /// A manager round a machine, a seat for each participant, in order, and so many observers.
     ///
     /// What each seat has seen is the machine's journal, in which nothing is resolved yet and no play has ended. At `Err` no
-    /// memory was found, and the machine comes back as it was.
+    /// memory was found, and the machine comes back as it was. It may wait.
     pub fn open<R: Wait>(
         rt: &R,
         alloc: Global,

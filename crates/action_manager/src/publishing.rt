@@ -1,12 +1,13 @@
 ghost use Rattle.std.specs.Prelude.{◌≡◌, ◌<◌, [], ◌∷◌, List, length, reverse, replicate, IfOk, vec_capacity};
 ghost use Rattle.caa_base.specs.declared.entry.Entry.{Entry as JournalEntry};
+ghost use Rattle.place_plan.specs.Places.{initials_of};
 ghost use Rattle.place_plan.specs.Journals.{plays_ended};
-ghost use Rattle.shared_views.specs.Committing.{initials_of};
-ghost use Rattle.action_manager.specs.Publishing.{ends_play, values_of, Publishes, HasRoom, book_of, new_observer};
+ghost use Rattle.action_manager.specs.Publishing.{values_of, Publishes, HasRoom, book_of, new_observer};
 
-use caa_base::entry::{Entry, Kind, Object, OutOfMemory, Place};
+use caa_base::entry::{Entry, Object, OutOfMemory, Place};
 use journal_laws::is_well_formed;
 use place_plan::machine::Machine;
+use place_plan::one_entry::ends_play;
 use place_plan::plan::Plan;
 use shared_views::{CommittedWriter, Observer};
 use std::alloc::Global;
@@ -38,13 +39,6 @@ fn room_for(alloc: Global, plan: &Plan) -> Result<Vec<(Object, i64)>, OutOfMemor
     ensures { IfOk result (λ v. HasRoom plan.now (vec_capacity v)) }
 {
     Ok(Vec::with_capacity(alloc, most_objects(plan))?)
-}
-
-/// Whether an entry is the end of a play.
-fn ends_play(plan: &Plan, entry: &Entry) -> bool
-    ensures { result ≡ ends_play plan.now entry.now }
-{
-    entry.kind == Kind::End && plan.parent(entry.place).is_none()
 }
 
 impl Publishing {

@@ -10,7 +10,8 @@ use Rattle.action_script.specs.declared.field.Part.{Part}
 use Rattle.action_script.specs.declared.field.Part.TheVariants as part
 use Rattle.action_script.specs.declared.kind.LineKind.{LineKind}
 use Rattle.action_script.specs.declared.kind.LineKind.TheVariants as kind
-use Rattle.action_script.specs.ScriptWords.{leads_well, natural_of, at_most, negative_of, value_of, count_of, rounds_of, test_of, test_word}
+use Rattle.caa_base.specs.Lines.{at_most}
+use Rattle.action_script.specs.ScriptWords.{leads_well, natural_of, negative_of, value_of, count_of, rounds_of, test_of, test_word}
 use Rattle.caa_base.specs.Lists.{is_empty}
 use Rattle.caa_base.specs.Names.{is_letter, is_digit, is_name_byte, is_name}
 use Rattle.action_script.specs.CutLines.{begins_comment}

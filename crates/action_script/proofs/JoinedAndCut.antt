@@ -9,7 +9,8 @@ use Rattle.std.proofs.lemmas.List.Folds.{list_all-append}
 use Rattle.std.proofs.lemmas.List.Splits.{slice_split_at, slice_split_none}
 use Rattle.action_script.specs.CutLines.{is_blank, is_plain, words_of, lines_of, without_empty_last}
 use Rattle.caa_base.specs.Lines.{spaced}
-use Rattle.action_script.proofs.LineCuts.{some_piece, without_empty_last-cons}
+use Rattle.action_script.proofs.LineCuts.{without_empty_last-cons}
+use Rattle.action_script.proofs.Pieces.{some_piece}
 use Rattle.action_script.proofs.Cutting.{filled}
 use Rattle.action_script.proofs.Inky.{is_inky, IsWord}
 
@@ -86,4 +87,4 @@ not_line_feed (b ∷ line) h = let p = and_parts (not (b == 10)) _ h in All-cons
 pub lines_of-line : (line rest : List ℕ) → is_one_line line ≡ true → lines_of (line ++ 10 ∷ rest) ≡ line ∷ lines_of rest
 lines_of-line line rest h =
     ap without_empty_last (slice_split_at (λ b. b == 10) line 10 rest (not_line_feed line h) refl)
-    ∙ without_empty_last-cons line (slice_split (λ b. b == 10) rest) (some_piece rest)
+    ∙ without_empty_last-cons line (slice_split (λ b. b == 10) rest) (some_piece (λ b. b == 10) rest)

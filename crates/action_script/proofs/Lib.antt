@@ -1,4 +1,4 @@
-pub mod Digits
+pub mod Pieces
 pub mod Numbering
 pub mod Cutting
 pub mod LineCuts

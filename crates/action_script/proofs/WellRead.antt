@@ -1,9 +1,8 @@
 -- What is read is a script: its forms and names could be printed, and their lines are no longer than those that were read.
-use Rattle.std.proofs.Common.{◌≡◌, ◌≢◌, ℕ, ◌+◌, ◌<◌, ◌≤◌, ◌^◌, nat_lt, Bool, true, false, not, ◌&&◌, cond, if◌then◌else◌, List, [], ◌∷◌, ◌++◌, length, map, Option, Some, None, Result, Ok, Err, find, bytes_eq, refl, sym, ap, ◌∙◌, subst, arith, length-append}
-use Rattle.std.specs.List.{list_all, flat_map, slice_split, onto_first}
+use Rattle.std.proofs.Common.{◌≡◌, ℕ, ◌+◌, ◌<◌, ◌≤◌, ◌^◌, nat_lt, Bool, true, false, not, ◌&&◌, cond, if◌then◌else◌, List, [], ◌∷◌, ◌++◌, length, map, Option, Some, None, Result, Ok, Err, find, bytes_eq, refl, sym, ap, ◌∙◌, subst, arith, length-append}
+use Rattle.std.specs.List.{list_all, flat_map, slice_split}
 use Rattle.std.proofs.lemmas.Bool.{and_parts, le-leb}
 use Rattle.std.proofs.lemmas.List.{length-map}
-use Rattle.std.proofs.lemmas.List.Splits.{length-slice_split}
 use Rattle.std.proofs.lemmas.Slice.Eq.{bytes_eq-Decides}
 use Rattle.action_script.specs.declared.script_error.ScriptCause.{ScriptCause}
 use Rattle.action_script.specs.declared.script_error.ScriptCause.TheVariants as cause
@@ -25,17 +24,13 @@ use Rattle.action_script.specs.ScriptValue.{Script}
 use Rattle.action_script.specs.Spelling.{asked_of, is_part, is_right, is_wrong_test, is_name_part, names_of, field_of, by_first_wrong, trial_of, Numbered, before, with_line, said_from, script_names, line_by, script_by, script_of, reading_of, line_of}
 use Rattle.action_script.specs.Printing.{field_word, words_after, form_line, all_fit, is_sound, is_short, lead_to_top, form_names, AreScript, forms_of}
 use Rattle.action_script.proofs.Cutting.{filled}
+use Rattle.action_script.proofs.Pieces.{weight, weight-split}
 use Rattle.action_script.proofs.Speaking.{Speaks, speaks, speaks-takes}
 use Rattle.action_script.proofs.Steadiness.{are_named, are_named-script_names}
 use Rattle.action_script.proofs.Fits.{field_by-is}
 use Rattle.action_script.proofs.Shapes.{makes_form}
 
 -- ---- the words of a line are no longer than the line
-
--- the bytes of some pieces, and one more for each
-abbrev weight : List (List ℕ) → ℕ
-weight [] = 0
-weight (piece ∷ pieces) = length piece + 1 + weight pieces
 
 weight-filled : (pieces : List (List ℕ)) → weight (filled pieces) ≤ weight pieces
 weight-filled [] = omega arith
@@ -45,27 +40,12 @@ weight-filled (piece ∷ pieces) = by (is_empty piece) (weight-filled pieces)
     by true h = omega arith
     by false h = omega arith
 
-weight-onto_first : (b : ℕ) (pieces : List (List ℕ)) → pieces ≢ [] → weight (onto_first b pieces) ≡ weight pieces + 1
-weight-onto_first b [] h = absurd (h refl)
-weight-onto_first b (piece ∷ pieces) h = omega arith
-
-some_piece : (line : List ℕ) → slice_split is_blank line ≢ []
-some_piece line h = omega (arith, length-slice_split is_blank line, ap length h)
-
-weight-split : (line : List ℕ) → weight (slice_split is_blank line) ≡ length line + 1
-weight-split [] = refl
-weight-split (b ∷ line) = by (is_blank b) (weight-split line) (weight-onto_first b (slice_split is_blank line) (some_piece line))
-  where
-    by : (c : Bool) → weight (slice_split is_blank line) ≡ length line + 1 → weight (onto_first b (slice_split is_blank line)) ≡ weight (slice_split is_blank line) + 1 → weight (cond c ([] ∷ slice_split is_blank line) (onto_first b (slice_split is_blank line))) ≡ length (b ∷ line) + 1
-    by true h g = omega arith
-    by false h g = omega arith
-
 weight-spaced : (words : List (List ℕ)) → length (spaced words) ≡ weight words
 weight-spaced [] = refl
 weight-spaced (word ∷ words) = omega (arith, length-append word (spaced words), weight-spaced words)
 
 joined_short : (line first : List ℕ) (words : List (List ℕ)) → words_of line ≡ first ∷ words → length (first ++ spaced words) ≤ length line
-joined_short line first words cut = omega (arith, length-append first (spaced words), weight-spaced words, ap weight cut, weight-filled (slice_split is_blank line), weight-split line)
+joined_short line first words cut = omega (arith, length-append first (spaced words), weight-spaced words, ap weight cut, weight-filled (slice_split is_blank line), weight-split is_blank line)
 
 -- ---- words that were tried
 

@@ -1,4 +1,5 @@
--- The kinds of lines: the word that begins a line of each, what its other words are, where it may stand and where the reader is after it.
+-- The kinds of lines: the word that begins a line of each, what its other words are, where it may stand and where the reader is
+-- after it.
 use Rattle.std.specs.Prelude.{ℕ, ◌==◌, nat_le, if◌then◌else◌, Bool, true, false, not, List, [], ◌∷◌, length, codes}
 use Rattle.action_script.specs.declared.field.Part.{Part}
 use Rattle.action_script.specs.declared.field.Part.TheVariants as part

@@ -1,5 +1,5 @@
 -- The text of a script.
-use Rattle.std.specs.Prelude.{◌≡◌, ℕ, ℤ, pos, negsuc, ◌+◌, ◌<◌, ◌^◌, nat_le, Bool, true, false, ◌&&◌, List, [], ◌∷◌, ◌++◌, length, map, slice_index_or, decimal}
+use Rattle.std.specs.Prelude.{◌≡◌, ℕ, ◌+◌, ◌<◌, ◌^◌, nat_le, Bool, true, false, ◌&&◌, List, [], ◌∷◌, ◌++◌, length, map, decimal}
 use Rattle.std.specs.List.{list_all, flat_map}
 use Rattle.std.specs.Fmt.{signed_decimal}
 use Rattle.action_script.specs.declared.field.Part.{Part}
@@ -11,8 +11,8 @@ use Rattle.action_script.specs.declared.kind.Section.{Section}
 use Rattle.action_script.specs.declared.kind.Section.TheVariants as section
 use Rattle.action_script.specs.declared.script.Line.{Line}
 use Rattle.action_script.specs.ScriptWords.{test_word}
-use Rattle.caa_base.specs.Names.{is_name}
-use Rattle.caa_base.specs.Limits.{most_line_bytes, most_value, most_count}
+use Rattle.caa_base.specs.Names.{is_name, name_at}
+use Rattle.caa_base.specs.Limits.{most_line_bytes, most_count, is_value}
 use Rattle.caa_base.specs.Lines.{spaced}
 use Rattle.action_script.specs.Asked.{Said}
 use Rattle.action_script.specs.Kinds.{word_of, parts_of, takes, stands_in, goes_to, at_top}
@@ -25,7 +25,7 @@ use Rattle.action_script.specs.ScriptValue.{Script}
 
 -- the word that says a field
 abbrev pub field_word : List (List ℕ) → Field → List ℕ
-field_word names (field.Name n) = slice_index_or names n []
+field_word names (field.Name n) = name_at names n
 field_word names (field.Value v) = signed_decimal v
 field_word names (field.Count k) = decimal k
 field_word names (field.Test t) = test_word t
@@ -48,14 +48,9 @@ text_of script = flat_map (line_text script.names) script.lines
 
 -- ---- what makes lines and names a script
 
--- a value lies in the range of values
-abbrev pub is_value : ℤ → Bool
-is_value (pos n) = nat_le n most_value
-is_value (negsuc n) = nat_le (n + 1) most_value
-
 -- a field is what this part asks for: a name by the grammar, or a number in its range
 abbrev pub fits_part : List (List ℕ) → Part → Field → Bool
-fits_part names part.Name (field.Name n) = is_name (slice_index_or names n [])
+fits_part names part.Name (field.Name n) = is_name (name_at names n)
 fits_part names part.Value (field.Value v) = is_value v
 fits_part names part.Count (field.Count k) = nat_le 1 k && nat_le k most_count
 fits_part names part.Rounds (field.Count k) = nat_le k most_count

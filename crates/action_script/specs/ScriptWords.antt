@@ -1,12 +1,12 @@
 -- The words of a script: names, numbers and tests.
-use Rattle.std.specs.Prelude.{ℕ, ℤ, pos, negsuc, zero, suc, ◌==◌, nat_le, if◌then◌else◌, Bool, false, not, ◌&&◌, ◌||◌, List, [], ◌∷◌, Option, Some, None, option_map, bytes_eq, codes}
+use Rattle.std.specs.Prelude.{ℕ, ℤ, pos, negsuc, zero, suc, ◌==◌, if◌then◌else◌, Bool, false, not, ◌&&◌, ◌||◌, List, [], ◌∷◌, Option, Some, None, option_map, bytes_eq, codes}
 use Rattle.std.specs.List.{list_all}
 use Rattle.caa_base.specs.Lists.{is_empty}
 use Rattle.caa_base.specs.Names.{is_digit}
 use Rattle.caa_base.specs.Limits.{most_value, most_count}
 use Rattle.caa_base.specs.declared.entry.Test.{Test}
 use Rattle.caa_base.specs.declared.entry.Test.TheVariants as test
-use Rattle.caa_base.specs.Lines.{digits_after}
+use Rattle.caa_base.specs.Lines.{digits_after, at_most}
 
 -- ---- numbers
 
@@ -18,11 +18,6 @@ leads_well (b ∷ rest) = not (b == 48) || is_empty rest
 -- a number without a sign: digits without a leading zero
 abbrev pub natural_of : List ℕ → Option ℕ
 natural_of word = if leads_well word && list_all is_digit word then Some (digits_after 0 word) else None
-
--- a number that is no greater than the most
-abbrev pub at_most : ℕ → Option ℕ → Option ℕ
-at_most most None = None
-at_most most (Some n) = if nat_le n most then Some n else None
 
 -- a number that isn't 0
 abbrev pub at_least_one : Option ℕ → Option ℕ
@@ -40,7 +35,8 @@ negative_of (Some (suc n)) = Some (negsuc n)
 abbrev pub value_of : List ℕ → Option ℤ
 value_of [] = None
 value_of (b ∷ rest) =
-    if b == 45 then negative_of (at_most most_value (natural_of rest)) else option_map pos (at_most most_value (natural_of (b ∷ rest)))
+    if b == 45 then negative_of (at_most most_value (natural_of rest))
+    else option_map pos (at_most most_value (natural_of (b ∷ rest)))
 
 -- a number of rounds
 abbrev pub rounds_of : List ℕ → Option ℕ

@@ -1,7 +1,8 @@
 //! What parts lines from lines, and words from words.
 
-ghost use Rattle.std.specs.Prelude.{◌≡◌, ◌<◌, ◌==◌, length, position, IfSome};
-ghost use Rattle.action_script.specs.CutLines.{is_blank};
+ghost use Rattle.std.specs.Prelude.{◌≡◌, ◌<◌, ◌≤◌, ◌+◌, ◌==◌, ◌∷◌, length, drop, position, IfSome};
+ghost use Rattle.std.specs.List.{position_or_len};
+ghost use Rattle.action_script.specs.CutLines.{is_blank, lines_of};
 
 /// Whether a byte parts words: a space, a tab or a carriage return.
 pub fn is_blank(byte: u8) -> bool
@@ -11,9 +12,23 @@ pub fn is_blank(byte: u8) -> bool
 }
 
 /// Where the first line feed of a text stands.
-pub fn find_line_feed(text: &[u8]) -> Option<usize>
+fn find_line_feed(text: &[u8]) -> Option<usize>
     ensures place { result ≡ position (λ b. b == 10) text.now }
     ensures within { IfSome result (λ place. place < length text.now) }
 {
     text.iter().position(|byte| *byte == b'\n')
+}
+
+/// The first line of a text, and what stands after its line feed, if anything.
+pub fn cut_line(text: &[u8]) -> (&[u8], &[u8])
+    requires { 0 < length text.now }
+    ensures cut { lines_of text.now ≡ result.0.now ∷ lines_of result.1.now }
+    ensures after { result.1.now ≡ drop (position_or_len (λ b. b == 10) text.now + 1) text.now }
+    ensures shorter { length result.1.now < length text.now }
+    ensures parts { length result.0.now + length result.1.now ≤ length text.now }
+{
+    match find_line_feed(text) {
+        Some(place) => (&text[..place], &text[place + 1..]),
+        None => (text, &[]),
+    }
 }

@@ -1,4 +1,4 @@
-ghost use Rattle.std.specs.Prelude.{◌≡◌, ◌≢◌, ◌+◌, ◌-◌, ◌<◌, ◌≤◌, ◌^◌, ◌∷◌, [], length, Ok, Err, IfOk, IfErr, OnOk, IsTrue};
+ghost use Rattle.std.specs.Prelude.{◌≡◌, ◌≢◌, ◌+◌, ◌-◌, ◌<◌, ◌≤◌, ◌^◌, [], length, Ok, Err, IfOk, IfErr, OnOk, IsTrue};
 ghost use Rattle.caa_base.specs.Limits.{most_script_bytes};
 ghost use Rattle.action_script.specs.CutLines.{lines_of};
 ghost use Rattle.action_script.specs.Kinds.{takes};
@@ -8,7 +8,7 @@ ghost use Rattle.action_script.specs.declared.script_error.ScriptCause.TheVarian
 ghost use Rattle.action_script.specs.declared.kind.Section.TheVariants as section;
 
 use crate::asked::{add_names, fields_of};
-use crate::cuts::find_line_feed;
+use crate::cuts::cut_line;
 use crate::form::Form;
 use crate::kind::Section;
 use crate::names::NameTable;
@@ -26,19 +26,6 @@ struct Reader<'a> {
     section: Section,
     names: NameTable<'a>,
     lines: Vec<Line>,
-}
-
-/// The first line of a text, and what stands after its line feed, if anything.
-fn cut_line(text: &[u8]) -> (&[u8], &[u8])
-    requires { 0 < length text.now }
-    ensures cut { lines_of text.now ≡ result.0.now ∷ lines_of result.1.now }
-    ensures shorter { length result.1.now < length text.now }
-    ensures parts { length result.0.now + length result.1.now ≤ length text.now }
-{
-    match find_line_feed(text) {
-        Some(place) => (&text[..place], &text[place + 1..]),
-        None => (text, &[]),
-    }
 }
 
 impl<'a> Reader<'a> {
@@ -120,11 +107,10 @@ fn read_lines(alloc: Global, bytes: &[u8]) -> Result<Reader<'_>, ScriptError>
 
 /// Reads a script, which keeps the lines that say something and the names that stand in them.
 ///
-/// The error names the first fault and its line, counted from 1. A text that is too long as a whole has its fault on line 0,
-/// whatever its lines are. Otherwise the lines are judged from the first on, and each in three steps: is it short enough; are its
-/// bytes allowed, is it of a kind that may stand there, and are its tests tests; is each further word, from the first on, the
-/// name or the number that it should be. A text that stops within a graph or an action has its fault on the line that would come
-/// next.
+/// The error names the first line that is wrong, counted from 1, and what is wrong with it. A text of too many bytes isn't read,
+/// and its error names line 0. Every line is asked whether it is short enough, then whether its bytes are allowed, whether it is
+/// of a kind that may stand there and its tests are tests, and last, word by word, whether the names and numbers are as they
+/// should be. Where the text stops within a graph or an action, the error names the line after its last.
 pub fn read(alloc: Global, bytes: &[u8]) -> Result<Script, ScriptError>
     ensures read { IfOk result (λ script. Spells bytes.now script) }
     ensures refused { IfErr result (λ e. e.cause ≢ cause.OutOfMemory → HasFirstFault bytes.now e) }

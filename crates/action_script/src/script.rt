@@ -59,9 +59,10 @@ impl Script {
 
     /// The script that has these forms on its lines, from line 1 on without a gap, and these names.
     ///
-    /// It has to be one that a text can spell: graphs and actions begin and end as they do in a text, each field is within its
-    /// limits, no list of a form is without members, and no line is longer than `MOST_LINE_BYTES`. The names are those that the
-    /// lines have and no others, each once, and in front of those that come up only later. Both lists are shorter than 2^32.
+    /// It has to be one that a text can spell. Each graph and each action has its end before the next begins, numbers are in their
+    /// ranges, every list of a form has a member, and no line is longer than `MOST_LINE_BYTES`. Each name that a line has stands
+    /// once among the names, in the order in which the lines bring them up, and no other name stands there. Both lists are shorter
+    /// than 2^32.
     pub fn of_forms(
         alloc: Global,
         names: Vec<Name>,

@@ -1,17 +1,15 @@
-ghost use Rattle.std.specs.Prelude.{◌≡◌, ◌≤◌, ◌&&◌, ◌<◌, Some, IfSome, option_map, pos};
+ghost use Rattle.std.specs.Prelude.{◌≡◌, ◌≤◌, ◌&&◌, ◌<◌, IfSome, option_map, pos};
 ghost use Rattle.std.specs.Option.{ForSome};
 ghost use Rattle.std.specs.List.{list_all};
-ghost use Rattle.action_script.specs.ScriptWords.{leads_well, natural_of, at_most, negative_of, value_of, count_of, rounds_of, test_of, test_word};
+ghost use Rattle.action_script.specs.ScriptWords.{leads_well, natural_of, negative_of, value_of, count_of, rounds_of, test_of, test_word};
 ghost use Rattle.caa_base.specs.Limits.{most_value};
-ghost use Rattle.caa_base.specs.Lines.{digits_after};
+ghost use Rattle.caa_base.specs.Lines.{at_most};
 ghost use Rattle.caa_base.specs.Names.{is_digit};
 
+use caa_base::digits::digits_within;
 use caa_base::entry::Test;
-use caa_base::limits;
+use caa_base::limits::{self, MOST_MAGNITUDE};
 use caa_base::name::is_digit;
-
-/// The greatest value; the least is its negative.
-const MOST_VALUE: u64 = limits::MOST_VALUE as u64;
 
 /// The greatest count, and the greatest number of rounds.
 const MOST_COUNT: u64 = limits::MOST_COUNT as u64;
@@ -31,28 +29,8 @@ fn are_digits(word: &[u8]) -> bool
     word.iter().all(|byte| is_digit(*byte))
 }
 
-/// The number of these digits, where it is at most `most`.
-fn digits_within(digits: &[u8], most: u64) -> Option<u64>
-    requires { most ≤ most_value }
-    ensures value { result ≡ at_most most (Some (digits_after 0 digits.now)) }
-    ensures small { IfSome result (λ number. number ≤ most) }
-{
-    let mut number = 0u64;
-    for digit in digits {
-        if number > most {
-            return None;
-        }
-        number = 10 * number + u64::from(digit.saturating_sub(b'0'));
-    }
-    if number > most {
-        return None;
-    }
-    Some(number)
-}
-
 /// The number that a word writes without a sign, where there is one and it is at most `most`.
 fn natural_of(word: &[u8], most: u64) -> Option<u64>
-    requires { most ≤ most_value }
     ensures value { result ≡ at_most most (natural_of word.now) }
     ensures small { IfSome result (λ number. number ≤ most) }
 {
@@ -89,9 +67,9 @@ pub fn value_of(word: &[u8]) -> Option<i64>
 {
     let (byte, rest) = word.split_first()?;
     if *byte == b'-' {
-        negative_of(natural_of(rest, MOST_VALUE))
+        negative_of(natural_of(rest, MOST_MAGNITUDE))
     } else {
-        positive_of(natural_of(word, MOST_VALUE))
+        positive_of(natural_of(word, MOST_MAGNITUDE))
     }
 }
 

@@ -1,7 +1,7 @@
 -- Lemmas on tests, options and lists.
-use Rattle.std.proofs.Common.{◌≡◌, ℕ, ◌==◌, ◌<◌, ◌≤◌, Bool, true, false, cond, ◌&&◌, ◌+◌, List, [], ◌∷◌, ◌++◌, length, slice_index_or, Some, None, Option, refl, ap, subst, arith, zero, suc, inl, inr, ◌⊎◌}
+use Rattle.std.proofs.Common.{◌≡◌, ℕ, ◌==◌, ◌<◌, ◌≤◌, Bool, true, false, cond, ◌&&◌, ◌+◌, nat_lt, List, [], ◌∷◌, ◌++◌, length, slice_index_or, Some, None, Option, refl, sym, ap, ◌∙◌, subst, arith, zero, suc, inl, inr, ◌⊎◌}
 use Rattle.std.specs.List.{list_all, range_with_len}
-use Rattle.std.proofs.lemmas.Bool.{and_parts, and_from, or_cases, or_left, or_right, eqb-true, eq-eqb, false≢true}
+use Rattle.std.proofs.lemmas.Bool.{and_parts, and_from, or_cases, or_left, or_right, eqb-true, eq-eqb, false≢true, cases_lt, lt-ltb, le-ltb}
 use Rattle.std.proofs.lemmas.Option.{none-some}
 use Rattle.caa_base.specs.Lists.{member, index_of, is_at, is_empty, Rises, first_not, last_or, last_of}
 
@@ -21,6 +21,15 @@ passed false o a h = absurd (none-some a h)
 pub failed : {A : Type 0} (b : Bool) (a : A) → cond b (Some a) None ≡ None → b ≡ false
 failed true a h = absurd (cc)
 failed false a h = refl
+
+-- ---- tests of numbers
+
+-- one more on both sides is less just where it was
+pub one_more_each : (m n : ℕ) → nat_lt (suc m) (suc n) ≡ nat_lt m n
+one_more_each m n = elim (cases_lt m n) [
+  | inl l ↦ lt-ltb (suc m) (suc n) (omega arith) ∙ sym (lt-ltb m n l)
+  | inr l ↦ le-ltb (suc m) (suc n) (omega arith) ∙ sym (le-ltb m n l)
+]
 
 -- ---- what all elements of a list pass
 

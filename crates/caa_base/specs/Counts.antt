@@ -9,8 +9,8 @@ Rose before after = after < 2 ^ 64 - 1 → before < after
 abbrev pub counted_up : ℕ → ℕ
 counted_up count = if nat_lt count (2 ^ 64 - 1) then count + 1 else count
 
--- what a call does to a count of faults: where it answers a fault the count is one more, as far as it can show it, and else it is as
--- it was
+-- what a call does to a count of faults: where it answers a fault the count is one more, as far as it can show it, and else it is
+-- as it was
 abbrev pub CountsFault : Bool → ℕ → ℕ → Type 0
 CountsFault true before after = after ≡ counted_up before
 CountsFault false before after = after ≡ before

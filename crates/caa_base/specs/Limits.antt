@@ -1,5 +1,5 @@
 -- How much of each thing there may be at most, and which numbers values and counts may be.
-use Rattle.std.specs.Prelude.{ℕ, ℤ, pos, neg_ℤ, ◌≤ℤ◌, int_lt, not, ◌&&◌, Bool}
+use Rattle.std.specs.Prelude.{ℕ, ℤ, pos, negsuc, neg_ℤ, ◌+◌, ◌≤ℤ◌, nat_le, Bool}
 
 -- ---- numbers
 
@@ -13,7 +13,8 @@ IsValue v = (neg_ℤ (pos most_value) ≤ℤ v) × (v ≤ℤ pos most_value)
 
 -- the same as a test
 abbrev pub is_value : ℤ → Bool
-is_value v = not (int_lt v (neg_ℤ (pos most_value))) && not (int_lt (pos most_value) v)
+is_value (pos n) = nat_le n most_value
+is_value (negsuc n) = nat_le (n + 1) most_value
 
 -- a count in a line of a script: rounds of one piece of work, or the number of the put that a drill refuses
 abbrev pub most_count : ℕ

@@ -11,6 +11,11 @@ abbrev pub index_of : ℕ → List ℕ → ℕ
 index_of n [] = zero
 index_of n (x ∷ xs) = if x == n then zero else suc (index_of n xs)
 
+-- 1 where the test passes, else 0
+abbrev pub one_if : Bool → ℕ
+one_if true = 1
+one_if false = 0
+
 -- the option is this number
 abbrev pub is_at : Option ℕ → ℕ → Bool
 is_at None n = false

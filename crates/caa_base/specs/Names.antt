@@ -1,5 +1,5 @@
 -- Which words are names.
-use Rattle.std.specs.Prelude.{ℕ, ◌==◌, nat_le, Bool, false, ◌&&◌, ◌||◌, List, [], ◌∷◌, length}
+use Rattle.std.specs.Prelude.{ℕ, ◌==◌, nat_le, Bool, false, ◌&&◌, ◌||◌, List, [], ◌∷◌, length, slice_index_or}
 use Rattle.std.specs.List.{list_all}
 use Rattle.caa_base.specs.Limits.{most_name_bytes}
 
@@ -23,3 +23,7 @@ begins_with_letter (b ∷ rest) = is_letter b
 -- a name begins with a letter, and has such characters up to the limit
 abbrev pub is_name : List ℕ → Bool
 is_name word = begins_with_letter word && (nat_le (length word) most_name_bytes && list_all is_name_byte word)
+
+-- the name of this number, which is empty where there is none
+abbrev pub name_at : List (List ℕ) → ℕ → List ℕ
+name_at names n = slice_index_or names n []

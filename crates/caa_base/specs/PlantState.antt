@@ -17,7 +17,8 @@ after_lay known values = option_map (λ _. record { values = values; puts = [] }
 
 -- a state, where it is known, after a put that succeeded
 abbrev pub after_put : Option PlantState → ℕ → ℤ → Option PlantState
-after_put known object value = option_map (λ s. record { values = slice_set s.values object value; puts = s.puts ++ (object, value) ∷ [] }) known
+after_put known object value =
+    option_map (λ s. record { values = slice_set s.values object value; puts = s.puts ++ (object, value) ∷ [] }) known
 
 -- a drill refuses the put of this object that is the nth one, counted from 1
 abbrev pub has_drill : List Drill → ℕ → ℕ → Bool

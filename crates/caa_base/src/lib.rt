@@ -2,6 +2,7 @@
 #![tactic(auto)]
 
 mod count;
+pub mod digits;
 pub mod entry;
 pub mod gate;
 pub mod journal;

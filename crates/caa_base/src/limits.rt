@@ -8,6 +8,9 @@ ghost use Rattle.caa_base.specs.Limits.{is_value, IsValue};
 /// The value of an object or a register lies between this number below 0 and this number above.
 pub const MOST_VALUE: i64 = 1_000_000_000_000;
 
+/// The same without a sign: how far a value may be from 0.
+pub const MOST_MAGNITUDE: u64 = MOST_VALUE as u64;
+
 /// A count in a line of a script: rounds of one piece of work, or the number of the put that a drill refuses.
 pub const MOST_COUNT: u32 = 1_000_000;
 

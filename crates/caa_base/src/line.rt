@@ -9,7 +9,7 @@ use std::io;
 use std::io::Write;
 
 /// The answer of `write!` to a text in memory, which fails only where no memory was found.
-pub fn in_memory(answer: io::Result<()>) -> Result<(), OutOfMemory>
+fn in_memory(answer: io::Result<()>) -> Result<(), OutOfMemory>
     ensures { is_ok result ≡ is_ok answer }
 {
     match answer {

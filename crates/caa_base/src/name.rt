@@ -1,6 +1,6 @@
 ghost use Rattle.std.specs.Prelude.{◌≡◌, IfOk};
 ghost use Rattle.std.specs.List.{list_all};
-ghost use Rattle.caa_base.specs.Names.{is_letter, is_digit, is_name_byte, begins_with_letter, is_name};
+ghost use Rattle.caa_base.specs.Names.{is_letter, is_digit, is_name_byte, begins_with_letter, is_name, name_at};
 
 use crate::entry::OutOfMemory;
 use crate::limits::MOST_NAME_BYTES;
@@ -35,6 +35,16 @@ impl Name {
         ensures { result.now ≡ self.now }
     {
         self.text.as_slice()
+    }
+}
+
+/// The name of this number, which is empty where there is none.
+pub fn name_at(names: &[Name], number: u32) -> &[u8]
+    ensures { result.now ≡ name_at names.now number }
+{
+    match names.get(number as usize) {
+        Some(name) => name.bytes(),
+        None => &[],
     }
 }
 
@@ -88,6 +98,9 @@ mod tests {
     fn gives_its_bytes_back(rt: HostRuntime) -> Result<(), Fail> {
         let name = Name::from_bytes(rt.alloc(), b"pump")?;
         assert_eq!(rt; name.bytes(), b"pump".as_slice());
+        let names = [name];
+        assert_eq!(rt; name_at(&names, 0), b"pump".as_slice());
+        assert_eq!(rt; name_at(&names, 1), b"".as_slice());
         Ok(())
     }
 }

@@ -12,9 +12,9 @@ pub trait Source {
     /// The bytes that are left to be read, where the source tells them.
     ghost left: { Self → Option (List ℕ) };
 
-    /// Reads some bytes into the front of the buffer, and says how many. Where it is none, the input has ended.
+    /// Takes the next bytes of the input into the front of the buffer, and says how many. It is 0 only at the end of the input.
     ///
-    /// A read that fails is counted, and takes nothing.
+    /// A read that fails takes nothing, and the count of failed reads goes up by one, unless it stands at its last number.
     fn read(&mut self, buf: &mut [u8]) -> Result<usize, Failed>
         requires { 0 < length buf.old }
         ensures bound { IfOk result (λ n. n ≤ length buf.new) }

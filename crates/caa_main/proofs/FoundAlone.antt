@@ -10,7 +10,8 @@ use Rattle.place_plan.specs.PlanValue.{Plan}
 use Rattle.place_plan.specs.Rules.{MayFollow}
 use Rattle.place_plan.specs.Journals.{LegalPast, IsLegal, IsComplete}
 use Rattle.journal_replay.specs.Audited.{IsFirstIllegal, IsUnfinished}
-use Rattle.journal_replay.proofs.Prefixes.{legal_front, reverse_more}
+use Rattle.place_plan.proofs.LatestValues.{reverse_more}
+use Rattle.journal_replay.proofs.Prefixes.{legal_front}
 use Rattle.journal_text.specs.declared.seens.Seen.{Seen}
 use Rattle.journal_text.specs.declared.text_reader.TextError.TheVariants as error
 use Rattle.journal_text.specs.TextOfJournal.{IsText, HasTooMany, IsFirstBad}

@@ -1,9 +1,8 @@
 -- Where lines begin.
-use Rattle.std.proofs.Common.{◌≡◌, ℕ, zero, suc, ◌+◌, ◌-◌, ◌==◌, Bool, true, false, not, cond, nat_lt, List, [], ◌∷◌, length, drop, position, Some, None, refl, ap, sym, ◌∙◌, arith, add-one, inl, inr}
+use Rattle.std.proofs.Common.{◌≡◌, ℕ, zero, suc, ◌+◌, ◌-◌, ◌==◌, Bool, true, false, not, cond, List, [], ◌∷◌, length, drop, refl, ap, sym, ◌∙◌, arith, add-one, inl, inr}
 use Rattle.std.specs.List.{position_or_len}
-use Rattle.std.proofs.lemmas.Bool.{ltb-false, cases_lt}
+use Rattle.std.proofs.lemmas.Bool.{cases_lt}
 use Rattle.std.proofs.lemmas.List.{drop_all, length-drop, drop-drop}
-use Rattle.std.proofs.lemmas.Option.{cond_some}
 use Rattle.caa_main.specs.Inputs.{after_lines}
 
 abbrev pub feed_in : List ℕ → ℕ
@@ -21,26 +20,11 @@ by_first true n i text later = refl
 by_first false n i text later = let same : i + 1 ≡ 1 + i = omega arith in later ∙ ap (λ k. after_lines n (drop k text)) same
 
 -- after the first line feed, or the end of the text, the next line begins
-after_feed : (text : List ℕ) (n : ℕ) → after_lines (suc n) text ≡ after_lines n (drop (feed_in text + 1) text)
+pub after_feed : (text : List ℕ) (n : ℕ) → after_lines (suc n) text ≡ after_lines n (drop (feed_in text + 1) text)
 after_feed [] n = sym (after_none n)
 after_feed (b ∷ text) n =
     by_first (b == 10) n (feed_in text) text (after_feed text n)
     ∙ ap (λ k. after_lines n (drop k (b ∷ text))) (sym (add-one (feed_in (b ∷ text))))
-
-pub after_found : (text : List ℕ) (place n : ℕ) → position (λ b. b == 10) text ≡ Some place → after_lines (suc n) text ≡ after_lines n (drop (place + 1) text)
-after_found text place n e =
-    let found = cond_some (nat_lt (feed_in text) (length text)) (feed_in text) place e in
-    after_feed text n ∙ ap (λ i. after_lines n (drop (i + 1) text)) found.1
-
-failed : (b : Bool) (i : ℕ) → (cond b (Some i) None) ≡ None → b ≡ false
-failed true i h = cc
-failed false i h = refl
-
--- a text without a line feed is one line
-pub after_whole : (text : List ℕ) (n : ℕ) → position (λ b. b == 10) text ≡ None → after_lines (suc n) text ≡ after_lines n []
-after_whole text n e =
-    let past = ltb-false (feed_in text) (length text) (failed (nat_lt (feed_in text) (length text)) (feed_in text) e) in
-    after_feed text n ∙ ap (after_lines n) (drop_all (feed_in text + 1) text (omega arith))
 
 -- what stands after some lines is the end of the text
 end_of : (n : ℕ) (text : List ℕ) → (k : ℕ) × (after_lines n text ≡ drop k text)

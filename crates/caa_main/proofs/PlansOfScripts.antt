@@ -1,9 +1,8 @@
 -- A script is no longer than it may be, and its plan tells a journal from its text.
-use Rattle.std.proofs.Common.{◌≡◌, ◌≢◌, ℕ, ◌+◌, ◌≤◌, ◌==◌, nat_lt, nat_le, if◌then◌else◌, Bool, true, false, cond, List, [], ◌∷◌, ◌++◌, length, length-append, Option, Some, None, Result, Ok, Err, refl, sym, ap, subst, arith}
-use Rattle.std.specs.List.{flat_map, slice_split, onto_first}
+use Rattle.std.proofs.Common.{◌≡◌, ℕ, ◌+◌, ◌≤◌, ◌==◌, nat_lt, nat_le, if◌then◌else◌, Bool, true, false, cond, List, [], ◌∷◌, ◌++◌, length, length-append, Option, Some, None, Result, Ok, Err, refl, sym, subst, arith}
+use Rattle.std.specs.List.{flat_map, slice_split}
 use Rattle.std.proofs.lemmas.Bool.{ltb-false, leb-true, and_parts}
 use Rattle.std.proofs.lemmas.List.{length-map}
-use Rattle.std.proofs.lemmas.List.Splits.{length-slice_split}
 use Rattle.caa_base.specs.Limits.{most_script_bytes, most_places, most_entries}
 use Rattle.caa_base.specs.Lists.{is_empty}
 use Rattle.place_plan.specs.PlanValue.{Plan}
@@ -22,35 +21,16 @@ use Rattle.action_script.specs.Printing.{AreScript, forms_of}
 use Rattle.action_script.specs.ScriptValue.{Script}
 use Rattle.action_script.specs.Spelling.{Numbered, before, with_line, said_from, line_of, names_of, script_names, line_by, script_by, script_of}
 use Rattle.action_script.proofs.NamesCounted.{length-with_names, length-names_of}
+use Rattle.action_script.proofs.Pieces.{weight, weight-split}
 use Rattle.action_script.proofs.Speaking.{speaks, speaks-short}
 use Rattle.action_script.proofs.WellRead.{well_read}
 use Rattle.script_checker.proofs.AcceptedDraft.{breaks_none}
 use Rattle.script_checker.proofs.NamesKept.{own_names_of}
 use Rattle.journal_text.proofs.ReadingLemmas.{Tells}
 use Rattle.caa_main.specs.Scripts.{HasPlan}
-use Rattle.journal_text.proofs.OwnNames.{well_named}
+use Rattle.journal_text.proofs.WellNamed.{well_named}
 
 -- ---- the lines of a text are no longer than the text
-
--- the bytes of some lines, and one more for each
-abbrev weight : List (List ℕ) → ℕ
-weight [] = 0
-weight (line ∷ lines) = length line + 1 + weight lines
-
-weight-onto_first : (b : ℕ) (lines : List (List ℕ)) → lines ≢ [] → weight (onto_first b lines) ≡ weight lines + 1
-weight-onto_first b [] h = absurd (h refl)
-weight-onto_first b (line ∷ lines) h = omega arith
-
-some_line : (p : ℕ → Bool) (bytes : List ℕ) → slice_split p bytes ≢ []
-some_line p bytes h = omega (arith, length-slice_split p bytes, ap length h)
-
-weight-split : (p : ℕ → Bool) (bytes : List ℕ) → weight (slice_split p bytes) ≡ length bytes + 1
-weight-split p [] = refl
-weight-split p (b ∷ bytes) = by (p b) (weight-split p bytes) (weight-onto_first b (slice_split p bytes) (some_line p bytes))
-  where
-    by : (c : Bool) → weight (slice_split p bytes) ≡ length bytes + 1 → weight (onto_first b (slice_split p bytes)) ≡ weight (slice_split p bytes) + 1 → weight (cond c ([] ∷ slice_split p bytes) (onto_first b (slice_split p bytes))) ≡ length (b ∷ bytes) + 1
-    by true h g = omega arith
-    by false h g = omega arith
 
 weight-without_last : (lines : List (List ℕ)) → weight (without_empty_last lines) ≤ weight lines
 weight-without_last [] = omega arith

@@ -1,4 +1,4 @@
--- What a call of the program comes to, and what it answers.
+-- How a call of the program ends, and what it leaves.
 use Rattle.std.specs.Prelude.{◌≡◌, ◌⊎◌, ℕ, ◌≤◌, if◌then◌else◌, true, List, [], length, Some, None, IfSome}
 use Rattle.std.specs.Io.KnownBytes.{append_known}
 use Rattle.caa_base.specs.Counts.{counted_up}
@@ -35,7 +35,8 @@ CheckComesTo plan _ left = ⊥
 
 -- a play that ended: status clause, and printed clause with these looks. Its text may have found no memory
 abbrev pub EndsAs : Plan → List Entry → List Seen → Finding → Type 0
-EndsAs plan journal seens (finding.Played failed text) = (failed ≡ has_failed_play plan journal) × (text.items ≡ text_of plan journal seens)
+EndsAs plan journal seens (finding.Played failed text) =
+    (failed ≡ has_failed_play plan journal) × (text.items ≡ text_of plan journal seens)
 EndsAs plan journal seens finding.OutOfMemory = Unit {0}
 EndsAs plan journal seens _ = ⊥
 
@@ -160,7 +161,8 @@ CameTo call found = IsUsage call found ⊎ (IsUnread call found ⊎ IsRead call 
 
 -- the call, where it hands back this journal
 abbrev pub with_journal : {P : Type 0} → Call P → List Entry → Call P
-with_journal call journal = record { asked = call.asked; source = call.source; left = record { plant = call.left.plant; journal = journal } }
+with_journal call journal =
+    record { asked = call.asked; source = call.source; left = record { plant = call.left.plant; journal = journal } }
 
 -- the journal that is handed back where the text of a finding wasn't written: a played one
 abbrev pub journal_kept : Finding → List Entry → List Entry

@@ -1,5 +1,5 @@
 -- The command lines that are served.
-use Rattle.std.specs.Prelude.{ℕ, ℤ, pos, negsuc, ◌<◌, ◌^◌, nat_le, if◌then◌else◌, List, [], ◌∷◌, Option, Some, None, option_map, bytes_eq, codes}
+use Rattle.std.specs.Prelude.{ℕ, ℤ, pos, negsuc, ◌≤◌, nat_le, if◌then◌else◌, List, [], ◌∷◌, Option, Some, None, option_map, bytes_eq, codes}
 use Rattle.action_script.specs.ScriptWords.{value_of}
 use Rattle.caa_main.specs.declared.command.Command.{Command}
 use Rattle.caa_main.specs.declared.command.Command.TheVariants as command
@@ -18,9 +18,9 @@ seed_within (Some (negsuc n)) = None
 abbrev pub seed_of : List ℕ → Option ℕ
 seed_of word = seed_within (value_of word)
 
--- the seed of a command, where it has one, is below 2^31
+-- the seed of a command, where it has one, is at most the greatest
 abbrev pub HasSeed : Command → Type 0
-HasSeed (command.Sim seed) = seed < 2 ^ 31
+HasSeed (command.Sim seed) = seed ≤ most_seed
 HasSeed _ = Unit {0}
 
 -- just a seed

@@ -27,7 +27,8 @@ pub record IsGiven {P : Type 0} (call : Call P) (sink : SinkUse) (command : Comm
 -- this was found and told, or no memory was found
 abbrev pub WasTold : Finding → SinkUse → Status → Type 0
 WasTold found sink answer =
-    ((answer ≡ status_of found) × (sink.held_after ≡ append_known sink.held_before (finding_text found))) ⊎ (answer ≡ status.OutOfMemory)
+    ((answer ≡ status_of found) × (sink.held_after ≡ append_known sink.held_before (finding_text found)))
+    ⊎ (answer ≡ status.OutOfMemory)
 
 -- ---- `check`, `sim SEED` and `run`
 

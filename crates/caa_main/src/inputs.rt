@@ -1,11 +1,11 @@
 //! The input of an audit: a script, and the text of a journal after it.
 
-ghost use Rattle.std.specs.Prelude.{◌≡◌, ◌≤◌, ◌<◌, ◌+◌, ◌-◌, ◌∷◌, ℕ, suc, length, drop};
+ghost use Rattle.std.specs.Prelude.{◌≡◌, ◌≤◌, ◌+◌, ◌-◌, ℕ, length, drop};
 ghost use Rattle.std.specs.List.{list_all};
-ghost use Rattle.action_script.specs.CutLines.{is_blank, lines_of};
+ghost use Rattle.action_script.specs.CutLines.{is_blank};
 ghost use Rattle.caa_main.specs.Inputs.{without_blanks, begins_journal, after_lines, script_lines, journal_part};
 
-use action_script::cuts::{find_line_feed, is_blank};
+use action_script::cuts::{cut_line, is_blank};
 
 /// Where the text of the journal begins in an input.
 #[derive(Clone, Copy, Debug, PartialEq, Eq)]
@@ -44,19 +44,6 @@ fn begins_journal(text: &[u8]) -> bool
         return false;
     }
     &text[..7] == b"journal".as_slice() && are_blank(&text[7..])
-}
-
-/// The first line of a text, and what stands after its line feed, if anything.
-fn cut_line(text: &[u8]) -> (&[u8], &[u8])
-    requires { 0 < length text.now }
-    ensures cut { lines_of text.now ≡ result.0.now ∷ lines_of result.1.now }
-    ensures after { (n : ℕ) → after_lines (suc n) text.now ≡ after_lines n result.1.now }
-    ensures shorter { length result.1.now < length text.now }
-{
-    match find_line_feed(text) {
-        Some(place) => (&text[..place], &text[place + 1..]),
-        None => (text, &[]),
-    }
 }
 
 /// What stands after the lines before the first whose only word is `journal`, and how many these are.

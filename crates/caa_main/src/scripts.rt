@@ -10,7 +10,7 @@ use action_script::reader::read;
 use action_script::script::Script;
 use action_script::script_error::ScriptCause;
 use caa_base::entry::OutOfMemory;
-use caa_base::name::Name;
+use caa_base::name::{Name, name_at};
 use place_plan::plan::Plan;
 use script_checker::check_error::{CheckCause, CheckError};
 use script_checker::compile::compile;
@@ -90,10 +90,7 @@ fn exception_at(
     let Some(number) = declared.get(exception as usize - 1) else {
         return Name::from_bytes(alloc, b"");
     };
-    match script.names().get(*number as usize) {
-        Some(name) => Name::from_bytes(alloc, name.bytes()),
-        None => Name::from_bytes(alloc, b""),
-    }
+    Name::from_bytes(alloc, name_at(script.names(), *number))
 }
 
 /// The fault of a line, with the names of its exceptions; none for want of memory.

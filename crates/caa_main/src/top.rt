@@ -114,7 +114,7 @@ pub fn top_quiet<S: Source, K: Sink, P: Plant>(
 ///
 /// `run` reads a script and plays it to its end, each participant in a thread of its own, which calls the gate before each piece
 /// of work, and writes the text of the journal with what was seen. Things are tried in the same order as for `sim`, and what is
-/// handed back is the same. For `run` the call need not return; all other words are those of [`top_quiet`].
+/// handed back is the same. For `run` the call need not return. All other words are answered as by [`top_quiet`], and the call returns.
 pub fn top<S: Source, K: Sink, P: Plant + Send, G: Gate + Sync, R: Threads + Wait + Sync>(
     rt: &R,
     alloc: Global,

@@ -13,4 +13,7 @@ pub record HoldsJoins (width count : ℕ) (rows : List ℕ) (joins : List (List 
 -- the smallest size of a table that has room for this many numbers
 abbrev pub least_size : ℕ → ℕ
 least_size count =
-    if nat_le count 8 then 8 else (if nat_le count 16 then 16 else (if nat_le count 32 then 32 else (if nat_le count 64 then 64 else 128)))
+    if nat_le count 8 then 8
+    else (if nat_le count 16 then 16
+    else (if nat_le count 32 then 32
+    else (if nat_le count 64 then 64 else 128)))

@@ -3,7 +3,7 @@ ghost use Rattle.cover_table.specs.Cover.{has_bit, most_exceptions};
 
 use thiserror::Error;
 
-/// A row of bits: bit `b` of the row of `a` says that `a` covers `b`.
+/// The exceptions that one exception covers, as a row of bits with one for each.
 pub type Row = u128;
 
 /// The most exceptions that an order has: as many as a row has bits.

@@ -53,7 +53,8 @@ pub record Visits (plan : Plan) (past : List Entry) : Type 0 where
   pub left : (p : ℕ) → has kind.Leave past p ≡ true → has_ended past p ≡ true
   pub withdrew : (p t : ℕ) → has_by kind.Withdraw past p t ≡ true → (is_doomed plan past p ≡ true) × (has_started past p ≡ false)
   pub whole : (p t : ℕ) → has_started past p ≡ true → member t (roles_of plan p) ≡ true → has_by kind.Arrive past p t ≡ true
-  -- who arrived in a place of a use has left it and passed the enter step; or it is at that step, and if it has left, then in silence
+  -- who arrived in a place of a use has left it and passed the enter step; or it is at that step, and if it has left, then in
+  -- silence
   pub at_step : (p c t : ℕ) → parent plan c ≡ Some p → has_by kind.Arrive past c t ≡ true → has_handled past p t ≡ false → ((has_by kind.Leave past c t ≡ true) × PassedEnter plan p t (nest_number plan c) (position plan past p t)) ⊎ ((next_step plan past p t ≡ Some (step.Enter (nest_number plan c))) × (has_by kind.Leave past c t ≡ true → is_left_in_silence plan past c ≡ true))
   -- who arrived in a later place of a use has left each earlier one in silence
   pub turn : (p c d t : ℕ) → parent plan c ≡ Some p → parent plan d ≡ Some p → nest_number plan c ≡ nest_number plan d → c < d → has_by kind.Arrive past d t ≡ true → (has_by kind.Leave past c t ≡ true) × (is_left_in_silence plan past c ≡ true)

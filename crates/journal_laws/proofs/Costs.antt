@@ -9,7 +9,7 @@ use Rattle.place_plan.specs.declared.draft_rows.RoleRow.{RoleRow}
 use Rattle.place_plan.specs.declared.draft_rows.HandlerRow.{HandlerRow}
 use Rattle.place_plan.specs.declared.draft_rows.PlaceRow.{PlaceRow}
 use Rattle.place_plan.specs.PlanValue.{Plan}
-use Rattle.caa_base.specs.Lists.{member, index_of}
+use Rattle.caa_base.specs.Lists.{member, index_of, one_if}
 use Rattle.place_plan.specs.Places.{roles_of, objects_of, action_at, action_in, place_at, no_role, no_place, handler_in, body_of, handler_of}
 use Rattle.place_plan.specs.Entries.{is_in, is_by, has, has_by}
 use Rattle.place_plan.specs.Whereabouts.{has_started, has_ended, is_undoing}
@@ -20,30 +20,25 @@ use Rattle.place_plan.specs.Bound.{longest_body, longest_of, longest_handler, ac
 
 -- ---- sums
 
--- 1 where the test passes, else 0
-abbrev pub flag : Bool → ℕ
-flag true = 1
-flag false = 0
+pub one_if_or : (x b : Bool) → one_if b ≤ one_if (x || b)
+one_if_or true true = omega arith
+one_if_or true false = omega arith
+one_if_or false b = omega arith
 
-pub flag_or : (x b : Bool) → flag b ≤ flag (x || b)
-flag_or true true = omega arith
-flag_or true false = omega arith
-flag_or false b = omega arith
+pub one_if_up : (x b : Bool) → x ≡ true → b ≡ false → one_if b < one_if (x || b)
+one_if_up x b h k = rw (h, k) (omega arith)
 
-pub flag_up : (x b : Bool) → x ≡ true → b ≡ false → flag b < flag (x || b)
-flag_up x b h k = rw (h, k) (omega arith)
-
-flag_one : (b : Bool) → flag b ≤ 1
-flag_one true = omega arith
-flag_one false = omega arith
+one_if_most : (b : Bool) → one_if b ≤ 1
+one_if_most true = omega arith
+one_if_most false = omega arith
 
 -- of two tests, each may begin to pass
-flag_either : (x l y w : Bool) → flag (l || w) ≤ flag ((x || l) || (y || w))
-flag_either true true y w = omega arith
-flag_either true false y true = omega arith
-flag_either true false y false = omega arith
-flag_either false true y w = omega arith
-flag_either false false y w = flag_or y w
+one_if_either : (x l y w : Bool) → one_if (l || w) ≤ one_if ((x || l) || (y || w))
+one_if_either true true y w = omega arith
+one_if_either true false y true = omega arith
+one_if_either true false y false = omega arith
+one_if_either false true y w = omega arith
+one_if_either false false y w = one_if_or y w
 
 -- the sum over a list
 adds : (ℕ → ℕ) → List ℕ → ℕ
@@ -101,7 +96,7 @@ total_more f g (suc n) p l h k =
 -- how many steps t has made in p, in its body and in its handler
 abbrev pub walked : Plan → List Entry → ℕ → ℕ → ℕ
 walked plan [] p t = 0
-walked plan (e ∷ past) p t = flag (advances plan past p e e.kind && (e.by == t)) + walked plan past p t
+walked plan (e ∷ past) p t = one_if (advances plan past p e e.kind && (e.by == t)) + walked plan past p t
 
 -- t gave a verdict in p before p was resolved
 abbrev pub has_said_before : List Entry → ℕ → ℕ → Bool
@@ -127,28 +122,28 @@ has_gone past p t = has_by kind.Leave past p t || has_by kind.Withdraw past p t
 -- what t has spent in p
 unfoldable pub role_cost : Plan → List Entry → ℕ → ℕ → ℕ
 role_cost plan past p t =
-    flag (has_by kind.Arrive past p t) + flag (has_gone past p t) + flag (is_halted plan past p t) + flag (has_said_before past p t)
-    + flag (has_said_after past p t) + flag (has_handled past p t) + flag (was_refused_once past p t) + flag (has_aborted past p t)
+    one_if (has_by kind.Arrive past p t) + one_if (has_gone past p t) + one_if (is_halted plan past p t) + one_if (has_said_before past p t)
+    + one_if (has_said_after past p t) + one_if (has_handled past p t) + one_if (was_refused_once past p t) + one_if (has_aborted past p t)
     + walked plan past p t
 
 pub role_up : (plan : Plan) (past : List Entry) (e : Entry) (p t : ℕ) → role_cost plan past p t ≤ role_cost plan (e ∷ past) p t
 unfolding role_cost
 role_up plan past e p t =
-    let came = flag_or (is_by kind.Arrive p t e) (has_by kind.Arrive past p t) in
-    let gone = flag_either (is_by kind.Leave p t e) (has_by kind.Leave past p t) (is_by kind.Withdraw p t e) (has_by kind.Withdraw past p t) in
-    let halted = flag_or (halts_in plan past p e e.kind && (e.by == t)) (is_halted plan past p t) in
-    let before = flag_or (is_by kind.Verdict p t e && not (has kind.Resolve past p)) (has_said_before past p t) in
-    let after = flag_or (is_by kind.Verdict p t e && has kind.Resolve past p) (has_said_after past p t) in
-    let handled = flag_or (is_by kind.Handle p t e) (has_handled past p t) in
-    let refused = flag_or (is_by kind.PutFault p t e && has_by kind.Handle past p t) (was_refused_once past p t) in
-    let aborted = flag_or (is_by kind.Abort p t e) (has_aborted past p t) in
+    let came = one_if_or (is_by kind.Arrive p t e) (has_by kind.Arrive past p t) in
+    let gone = one_if_either (is_by kind.Leave p t e) (has_by kind.Leave past p t) (is_by kind.Withdraw p t e) (has_by kind.Withdraw past p t) in
+    let halted = one_if_or (halts_in plan past p e e.kind && (e.by == t)) (is_halted plan past p t) in
+    let before = one_if_or (is_by kind.Verdict p t e && not (has kind.Resolve past p)) (has_said_before past p t) in
+    let after = one_if_or (is_by kind.Verdict p t e && has kind.Resolve past p) (has_said_after past p t) in
+    let handled = one_if_or (is_by kind.Handle p t e) (has_handled past p t) in
+    let refused = one_if_or (is_by kind.PutFault p t e && has_by kind.Handle past p t) (was_refused_once past p t) in
+    let aborted = one_if_or (is_by kind.Abort p t e) (has_aborted past p t) in
     omega arith
 
 -- a role spends no more than its part, where it makes no more steps than a body and a handler have
 role_within : (plan : Plan) (past : List Entry) (p t n : ℕ) → walked plan past p t ≤ n → role_cost plan past p t ≤ 8 + n
 unfolding role_cost
 role_within plan past p t n h =
-    omega (arith, flag_one (has_by kind.Arrive past p t), flag_one (has_gone past p t), flag_one (is_halted plan past p t), flag_one (has_said_before past p t), flag_one (has_said_after past p t), flag_one (has_handled past p t), flag_one (was_refused_once past p t), flag_one (has_aborted past p t))
+    omega (arith, one_if_most (has_by kind.Arrive past p t), one_if_most (has_gone past p t), one_if_most (is_halted plan past p t), one_if_most (has_said_before past p t), one_if_most (has_said_after past p t), one_if_most (has_handled past p t), one_if_most (was_refused_once past p t), one_if_most (has_aborted past p t))
 
 longest_at : (rs : List RoleRow) (i : ℕ) → length (slice_index_or rs i no_role).body.steps ≤ longest_body rs
 longest_at [] i = omega arith
@@ -179,19 +174,19 @@ handler_within plan p t x = longest_handler_at x (action_at plan p).roles (index
 
 -- how many of its stages p has come to
 unfoldable pub stages : List Entry → ℕ → ℕ
-stages past p = flag (has_started past p) + flag (has kind.Resolve past p) + flag (is_undoing past p) + flag (has_ended past p)
+stages past p = one_if (has_started past p) + one_if (has kind.Resolve past p) + one_if (is_undoing past p) + one_if (has_ended past p)
 
 stages_up : (past : List Entry) (e : Entry) (p : ℕ) → stages past p ≤ stages (e ∷ past) p
 unfolding stages
 stages_up past e p =
-    omega (arith, flag_or (is_in kind.Start p e) (has_started past p), flag_or (is_in kind.Resolve p e) (has kind.Resolve past p), flag_or (is_in kind.Undo p e) (is_undoing past p), flag_or (is_in kind.End p e) (has_ended past p))
+    omega (arith, one_if_or (is_in kind.Start p e) (has_started past p), one_if_or (is_in kind.Resolve p e) (has kind.Resolve past p), one_if_or (is_in kind.Undo p e) (is_undoing past p), one_if_or (is_in kind.End p e) (has_ended past p))
 
 -- how often an object was tried
 abbrev pub tries_of : List Entry → ℕ → ℕ → ℕ
-tries_of past p o = flag (is_tried past p o)
+tries_of past p o = one_if (is_tried past p o)
 
 tries_up : (past : List Entry) (e : Entry) (p o : ℕ) → tries_of past p o ≤ tries_of (e ∷ past) p o
-tries_up past e p o = flag_or (is_in kind.Restore p e && (e.arg == o)) (is_tried past p o)
+tries_up past e p o = one_if_or (is_in kind.Restore p e && (e.arg == o)) (is_tried past p o)
 
 -- what is spent in p
 pub place_cost : Plan → List Entry → ℕ → ℕ
@@ -227,12 +222,12 @@ place_bound plan p = action_bound (action_at plan p) (length (roles_of plan p))
 
 stages_within : (past : List Entry) (p : ℕ) → stages past p ≤ 4
 unfolding stages
-stages_within past p = omega (arith, flag_one (has_started past p), flag_one (has kind.Resolve past p), flag_one (is_undoing past p), flag_one (has_ended past p))
+stages_within past p = omega (arith, one_if_most (has_started past p), one_if_most (has kind.Resolve past p), one_if_most (is_undoing past p), one_if_most (has_ended past p))
 
 pub place_within : (plan : Plan) (past : List Entry) (p : ℕ) → ((t : ℕ) → walked plan past p t ≤ longest_body (action_at plan p).roles + longest_handler (action_at plan p).roles) → place_cost plan past p ≤ place_bound plan p
 unfolding place_cost place_bound action_bound
 place_within plan past p h =
-    omega (arith, stages_within past p, adds_within (tries_of past p) (objects_of plan p) 1 (λ o. flag_one (is_tried past p o)), adds_within (role_cost plan past p) (roles_of plan p) (8 + longest_body (action_at plan p).roles + longest_handler (action_at plan p).roles) (λ t. role_fits t))
+    omega (arith, stages_within past p, adds_within (tries_of past p) (objects_of plan p) 1 (λ o. one_if_most (is_tried past p o)), adds_within (role_cost plan past p) (roles_of plan p) (8 + longest_body (action_at plan p).roles + longest_handler (action_at plan p).roles) (λ t. role_fits t))
   where
     role_fits : (t : ℕ) → role_cost plan past p t ≤ 8 + longest_body (action_at plan p).roles + longest_handler (action_at plan p).roles
     role_fits t = omega (arith, role_within plan past p t (longest_body (action_at plan p).roles + longest_handler (action_at plan p).roles) (h t))

@@ -2,7 +2,7 @@
 use Rattle.std.proofs.Common.{◌≡◌, ℕ, List, None, refl, ap, sym, ◌∙◌}
 use Rattle.caa_base.specs.declared.entry.Entry.{Entry}
 use Rattle.place_plan.specs.PlanValue.{Plan}
-use Rattle.place_plan.specs.Journals.{LegalPast, Silent}
+use Rattle.place_plan.specs.Journals.{LegalPast, HasNoEntry}
 use Rattle.journal_laws.specs.Laws.{Holds, AtMostOne}
 use Rattle.journal_laws.specs.Due.{due_of, DueIsRight}
 use Rattle.journal_laws.proofs.Playable.{IsPlayable}
@@ -14,7 +14,7 @@ use Rattle.journal_laws.proofs.DueMay.{due_fits}
 
 module _ (plan : Plan) (playable : IsPlayable plan) (core : Holds Core plan) where
   -- a participant to whom nothing is due has no entry
-  pub none_due : (past : List Entry) (t : ℕ) → LegalPast plan past → due_of plan past t ≡ None → Silent plan past t
+  pub none_due : (past : List Entry) (t : ℕ) → LegalPast plan past → due_of plan past t ≡ None → HasNoEntry plan past t
   none_due past t legal h e same k = some_apart (sym h ∙ ap (due_of plan past) (sym same) ∙ only_due plan playable core past legal e k)
 
   pub due_is_right : Holds DueIsRight plan

@@ -19,9 +19,11 @@ use Rattle.journal_laws.specs.Laws.{Holds, EffectLaw, RestoresFit, Splits, is_re
 use Rattle.journal_laws.proofs.Playable.{IsPlayable}
 use Rattle.caa_base.proofs.ListLemmas.{chosen, all_at}
 use Rattle.place_plan.proofs.EntryKinds.{of_kind}
+use Rattle.place_plan.proofs.LatestValues.{restores_round}
 use Rattle.journal_laws.proofs.Tree.{in_within, live_within}
 use Rattle.journal_laws.proofs.Phases.{going_parts}
 use Rattle.journal_laws.proofs.Holding.{live_uses, holds_within}
+use Rattle.journal_laws.proofs.Raised.{and_more}
 use Rattle.journal_laws.proofs.InnerFirst.{legal_rest, started_filled}
 use Rattle.journal_laws.proofs.Tried.{count_next, tries}
 use Rattle.journal_laws.proofs.Outcome.{outcomes, counted_any, undone_marks, agreed_mark, below_two}
@@ -75,10 +77,6 @@ any_implied test other [] h w = w
 any_implied test other (e ∷ es) h w = elim (or_cases (test e) (list_any test es) w) [ inl x ↦ or_left _ _ (h e x) | inr x ↦ or_right _ _ (any_implied test other es h x) ]
 
 -- ---- the value without what was undone
-
--- an entry restores o in p, or round p
-abbrev restores_round : Plan → ℕ → ℕ → Entry → Bool
-restores_round plan o p e = restores o e && is_within plan p e.place
 
 -- these are the places that have restored o in these entries
 abbrev AreUndone : Plan → ℕ → List Entry → List ℕ → Type 0
@@ -142,12 +140,7 @@ none_failed : (past : List Entry) (q o : ℕ) → has_failed_restore past o ≡ 
 none_failed [] q o h = refl
 none_failed (e ∷ past) q o h =
     let parts = or_parts (is_of kind.Restore e && ((e.arg == o) && (e.mark == 1))) (has_failed_restore past o) h in
-    rw (count_next (is_restore q o 1) e past, middle (is_of kind.Restore e) (e.place == q) ((e.arg == o) && (e.mark == 1)) parts.0) (omega (arith, none_failed past q o parts.1))
-  where
-    middle : (x y z : Bool) → (x && z) ≡ false → ((x && y) && z) ≡ false
-    middle true true z h = h
-    middle true false z h = refl
-    middle false y z h = refl
+    rw (count_next (is_restore q o 1) e past, and_more (is_of kind.Restore e) (e.place == q) ((e.arg == o) && (e.mark == 1)) parts.0) (omega (arith, none_failed past q o parts.1))
 
 any_later : (test : Entry → Bool) (later before : List Entry) → list_any test before ≡ true → list_any test (later ++ before) ≡ true
 any_later test later before h = rw (list_any-append test later before) (or_right _ _ h)

@@ -1,5 +1,5 @@
--- The last of the live places, where it is calm: a step or a verdict is due in it, or all agree, or the least of the places that wait in
--- it is full and starts.
+-- The last of the live places, where it is calm: a step or a verdict is due in it, or all agree, or the least of the places that
+-- wait in it is full and starts.
 use Rattle.std.proofs.Common.{◌≡◌, ℕ, ◌==◌, ◌<◌, ◌≤◌, true, false, List, [], ◌∷◌, Some, None, Option, length, refl, sym, ap, ◌∙◌, subst, arith, slice_get, inl, inr, ◌⊎◌}
 use Rattle.std.proofs.lemmas.Bool.{or_cases, or_left, or_right, eqb-true, eq-eqb, false≢true, cases_lt, cases_order, true_from_ne_false, both_ways, cond-false}
 use Rattle.std.proofs.lemmas.Option.{slice_get_within, slice_get-get_or}

@@ -1,5 +1,5 @@
--- The last of the live places: its roles are in it or wait right inside it, it holds its objects, and unless it is calm something is due
--- to one of its roles.
+-- The last of the live places: its roles are in it or wait right inside it, it holds its objects, and unless it is calm something
+-- is due to one of its roles.
 use Rattle.std.proofs.Common.{◌≡◌, ℕ, ◌==◌, ◌<◌, Bool, true, false, not, cond, ◌||◌, List, [], ◌∷◌, Some, None, Option, length, refl, sym, ap, ◌∙◌, subst, arith, slice_get, inl, inr, is_none}
 use Rattle.std.specs.List.{list_any}
 use Rattle.std.proofs.lemmas.Bool.{or_cases, or_left, or_right, or_parts, eqb-true, eq-eqb, false≢true, not-false, true_from_ne_false, both_ways}

@@ -15,7 +15,7 @@ use Rattle.place_plan.specs.Roles.{register, signals}
 use Rattle.place_plan.specs.Rules.{Row, MayFollow, MayEnd, MayLeave, EndsUndone, EndsAgreed, SignalsLeast, abort_of, exception_carried}
 use Rattle.place_plan.specs.Journals.{LegalPast}
 use Rattle.place_plan.specs.WellFormed.{FieldsFit, MayShowException, MayCarry, IsWellFormed, AllWellFormed}
-use Rattle.caa_base.specs.Limits.{IsValue}
+use Rattle.caa_base.specs.Limits.{IsValue, most_count}
 use Rattle.journal_laws.specs.Laws.{Holds}
 use Rattle.journal_laws.proofs.Playable.{IsPlayable}
 use Rattle.journal_laws.proofs.Core.{Core}
@@ -67,7 +67,7 @@ module _ (plan : Plan) (playable : IsPlayable plan) (core : Holds Core plan) whe
   fields_by past kind.Read e legal h =
       (record { arg = ltb-true e.arg _ (step_fits plan playable past e.place e.by (step.Read e.arg) h.reads); value = subst IsValue (sym h.value) (values_in_range plan playable past legal e.arg []) }, h.mark)
   fields_by past kind.Work e legal h =
-      (leb-true e.arg 1000000 (step_fits plan playable past e.place e.by (step.Work e.arg) h.works), h.mark, subst IsValue (sym h.value) (mix_in_range (register plan past e.place e.by) e.arg))
+      (leb-true e.arg most_count (step_fits plan playable past e.place e.by (step.Work e.arg) h.works), h.mark, subst IsValue (sym h.value) (mix_in_range (register plan past e.place e.by) e.arg))
   fields_by past kind.Write e legal h =
       let fits = put_in_range plan playable past e.place e.by e.arg e.value h.puts in
       (record { arg = fits.0; value = fits.1 }, h.mark)

@@ -5,6 +5,7 @@ use Rattle.caa_base.specs.declared.entry.Entry.{Entry}
 use Rattle.caa_base.specs.declared.entry.Kind.{Kind}
 use Rattle.caa_base.specs.declared.entry.Kind.TheVariants as kind
 use Rattle.place_plan.specs.PlanValue.{Plan}
+use Rattle.caa_base.specs.Lists.{one_if}
 use Rattle.place_plan.specs.Places.{objects_of}
 use Rattle.place_plan.specs.Entries.{is_in, is_by, has, has_by}
 use Rattle.place_plan.specs.Whereabouts.{inside, has_started, has_ended, is_undoing}
@@ -27,7 +28,7 @@ use Rattle.journal_laws.proofs.Holding.{end_live}
 use Rattle.journal_laws.proofs.Lives.{live_parts}
 use Rattle.journal_laws.proofs.Makers.{maker_role}
 use Rattle.journal_laws.proofs.Ranges.{place_known, recovery_verdict}
-use Rattle.journal_laws.proofs.Costs.{flag, flag_or, flag_up, total, total_rows, total_up, total_more, walked, has_said_before, has_said_after, was_refused_once, role_cost, stages, place_cost, place_up, stage_spent, object_spent, role_spent, place_bound, place_within, place_row}
+use Rattle.journal_laws.proofs.Costs.{one_if_or, one_if_up, total, total_rows, total_up, total_more, walked, has_said_before, has_said_after, was_refused_once, role_cost, stages, place_cost, place_up, stage_spent, object_spent, role_spent, place_bound, place_within, place_row}
 use Rattle.journal_laws.proofs.Walked.{walked_within}
 
 -- ---- counters and what the rules ask
@@ -99,13 +100,13 @@ module _ (plan : Plan) where
 own_entry : (p t : ℕ) → ((p == p) && (t == t)) ≡ true
 own_entry p t = and_from _ _ (eq-eqb p p refl) (eq-eqb t t refl)
 
-flag_left : (x l w : Bool) → x ≡ true → l ≡ false → w ≡ false → flag (l || w) < flag ((x || l) || w)
-flag_left x l w a b c = rw (a, b, c) (omega arith)
+one_if_left : (x l w : Bool) → x ≡ true → l ≡ false → w ≡ false → one_if (l || w) < one_if ((x || l) || w)
+one_if_left x l w a b c = rw (a, b, c) (omega arith)
 
-flag_right : (x l w : Bool) → x ≡ true → l ≡ false → w ≡ false → flag (l || w) < flag (l || (x || w))
-flag_right x l w a b c = rw (a, b, c) (omega arith)
+one_if_right : (x l w : Bool) → x ≡ true → l ≡ false → w ≡ false → one_if (l || w) < one_if (l || (x || w))
+one_if_right x l w a b c = rw (a, b, c) (omega arith)
 
-step_up : (b : Bool) (n : ℕ) → b ≡ true → n < flag b + n
+step_up : (b : Bool) (n : ℕ) → b ≡ true → n < one_if b + n
 step_up b n h = rw h (omega arith)
 
 module _ (plan : Plan) (playable : IsPlayable plan) (core : Holds Core plan) where
@@ -200,50 +201,50 @@ module _ (plan : Plan) (playable : IsPlayable plan) (core : Holds Core plan) whe
   role_more_by : (past : List Entry) (k : Kind) (e : Entry) → LegalPast plan past → of_role k ≡ true → Row k plan past (of_kind k e) → role_cost plan past e.place e.by < role_cost plan (of_kind k e ∷ past) e.place e.by
   unfolding role_cost VerdictIsFirst of_role
   role_more_by past kind.Arrive e legal r h =
-      omega (arith, flag_up ((e.place == e.place) && (e.by == e.by)) (has_by kind.Arrive past e.place e.by) (own_entry e.place e.by) (fresh plan past (of_kind kind.Arrive e) h))
+      omega (arith, one_if_up ((e.place == e.place) && (e.by == e.by)) (has_by kind.Arrive past e.place e.by) (own_entry e.place e.by) (fresh plan past (of_kind kind.Arrive e) h))
   role_more_by past kind.Withdraw e legal r h =
       let stays = stays_there past e.place e.by legal h.here in
-      omega (arith, flag_right ((e.place == e.place) && (e.by == e.by)) (has_by kind.Leave past e.place e.by) (has_by kind.Withdraw past e.place e.by) (own_entry e.place e.by) stays.0 stays.1)
+      omega (arith, one_if_right ((e.place == e.place) && (e.by == e.by)) (has_by kind.Leave past e.place e.by) (has_by kind.Withdraw past e.place e.by) (own_entry e.place e.by) stays.0 stays.1)
   role_more_by past kind.Read e legal r h = omega (arith, step_up ((e.place == e.place) && (e.by == e.by)) (walked plan past e.place e.by) (own_entry e.place e.by))
   role_more_by past kind.Work e legal r h = omega (arith, step_up ((e.place == e.place) && (e.by == e.by)) (walked plan past e.place e.by) (own_entry e.place e.by))
   role_more_by past kind.Write e legal r h = omega (arith, step_up ((e.place == e.place) && (e.by == e.by)) (walked plan past e.place e.by) (own_entry e.place e.by))
   role_more_by past kind.Check e legal r h = omega (arith, step_up ((e.place == e.place) && (e.by == e.by)) (walked plan past e.place e.by) (own_entry e.place e.by))
   role_more_by past kind.PutFault e legal r h = elim (cases_Bool (has_handled past e.place e.by)) [
     | inl handled ↦
-        omega (arith, flag_or (((e.place == e.place) && not (has_handled past e.place e.by)) && (e.by == e.by)) (is_halted plan past e.place e.by), flag_up (((e.place == e.place) && (e.by == e.by)) && has_handled past e.place e.by) (was_refused_once past e.place e.by) (and_from _ _ (own_entry e.place e.by) handled) (fault_in_handler past e.place e.by legal h.can handled))
+        omega (arith, one_if_or (((e.place == e.place) && not (has_handled past e.place e.by)) && (e.by == e.by)) (is_halted plan past e.place e.by), one_if_up (((e.place == e.place) && (e.by == e.by)) && has_handled past e.place e.by) (was_refused_once past e.place e.by) (and_from _ _ (own_entry e.place e.by) handled) (fault_in_handler past e.place e.by legal h.can handled))
     | inr bare ↦
         let own : ((e.place == e.place) && not (has_handled past e.place e.by)) && (e.by == e.by) ≡ true = rw (bare, eq-eqb e.place e.place refl, eq-eqb e.by e.by refl) refl in
-        omega (arith, flag_up (((e.place == e.place) && not (has_handled past e.place e.by)) && (e.by == e.by)) (is_halted plan past e.place e.by) own (fault_unhandled past e.place e.by legal h.can bare), flag_or (((e.place == e.place) && (e.by == e.by)) && has_handled past e.place e.by) (was_refused_once past e.place e.by))
+        omega (arith, one_if_up (((e.place == e.place) && not (has_handled past e.place e.by)) && (e.by == e.by)) (is_halted plan past e.place e.by) own (fault_unhandled past e.place e.by legal h.can bare), one_if_or (((e.place == e.place) && (e.by == e.by)) && has_handled past e.place e.by) (was_refused_once past e.place e.by))
   ]
-  role_more_by past kind.Raise e legal r h = omega (arith, flag_up ((e.place == e.place) && (e.by == e.by)) (is_halted plan past e.place e.by) (own_entry e.place e.by) h.running)
-  role_more_by past kind.Inform e legal r h = omega (arith, flag_up ((e.place == e.place) && (e.by == e.by)) (is_halted plan past e.place e.by) (own_entry e.place e.by) h.running)
-  role_more_by past kind.Handle e legal r h = omega (arith, flag_up ((e.place == e.place) && (e.by == e.by)) (has_handled past e.place e.by) (own_entry e.place e.by) h.fresh)
+  role_more_by past kind.Raise e legal r h = omega (arith, one_if_up ((e.place == e.place) && (e.by == e.by)) (is_halted plan past e.place e.by) (own_entry e.place e.by) h.running)
+  role_more_by past kind.Inform e legal r h = omega (arith, one_if_up ((e.place == e.place) && (e.by == e.by)) (is_halted plan past e.place e.by) (own_entry e.place e.by) h.running)
+  role_more_by past kind.Handle e legal r h = omega (arith, one_if_up ((e.place == e.place) && (e.by == e.by)) (has_handled past e.place e.by) (own_entry e.place e.by) h.fresh)
   role_more_by past kind.Verdict e legal r h = elim (verdict_is_first past (of_kind kind.Verdict e) legal h) [
     | inl x ↦
-        omega (arith, flag_up (((e.place == e.place) && (e.by == e.by)) && not (has kind.Resolve past e.place)) (has_said_before past e.place e.by) (and_from _ _ (own_entry e.place e.by) (not_from_false _ x.0)) x.1, flag_or (((e.place == e.place) && (e.by == e.by)) && has kind.Resolve past e.place) (has_said_after past e.place e.by))
+        omega (arith, one_if_up (((e.place == e.place) && (e.by == e.by)) && not (has kind.Resolve past e.place)) (has_said_before past e.place e.by) (and_from _ _ (own_entry e.place e.by) (not_from_false _ x.0)) x.1, one_if_or (((e.place == e.place) && (e.by == e.by)) && has kind.Resolve past e.place) (has_said_after past e.place e.by))
     | inr x ↦
-        omega (arith, flag_up (((e.place == e.place) && (e.by == e.by)) && has kind.Resolve past e.place) (has_said_after past e.place e.by) (and_from _ _ (own_entry e.place e.by) x.0) x.1, flag_or (((e.place == e.place) && (e.by == e.by)) && not (has kind.Resolve past e.place)) (has_said_before past e.place e.by))
+        omega (arith, one_if_up (((e.place == e.place) && (e.by == e.by)) && has kind.Resolve past e.place) (has_said_after past e.place e.by) (and_from _ _ (own_entry e.place e.by) x.0) x.1, one_if_or (((e.place == e.place) && (e.by == e.by)) && not (has kind.Resolve past e.place)) (has_said_before past e.place e.by))
   ]
-  role_more_by past kind.Abort e legal r h = omega (arith, flag_up ((e.place == e.place) && (e.by == e.by)) (has_aborted past e.place e.by) (own_entry e.place e.by) h.fresh)
+  role_more_by past kind.Abort e legal r h = omega (arith, one_if_up ((e.place == e.place) && (e.by == e.by)) (has_aborted past e.place e.by) (own_entry e.place e.by) h.fresh)
   role_more_by past kind.Leave e legal r h =
       let stays = stays_there past e.place e.by legal h.here in
-      omega (arith, flag_left ((e.place == e.place) && (e.by == e.by)) (has_by kind.Leave past e.place e.by) (has_by kind.Withdraw past e.place e.by) (own_entry e.place e.by) stays.0 stays.1, flag_or (carries_into plan e.place (of_kind kind.Leave e) && (e.by == e.by)) (is_halted plan past e.place e.by))
+      omega (arith, one_if_left ((e.place == e.place) && (e.by == e.by)) (has_by kind.Leave past e.place e.by) (has_by kind.Withdraw past e.place e.by) (own_entry e.place e.by) stays.0 stays.1, one_if_or (carries_into plan e.place (of_kind kind.Leave e) && (e.by == e.by)) (is_halted plan past e.place e.by))
   role_more_by past _ e legal r h = absurd (false≢true r)
 
   cost_more_by : (past : List Entry) (k : Kind) (e : Entry) → LegalPast plan past → Row k plan past (of_kind k e) → place_cost plan past e.place < place_cost plan (of_kind k e ∷ past) e.place
   unfolding stages of_role
   cost_more_by past kind.Start e legal h =
-      stage_spent plan past (of_kind kind.Start e) e.place (omega (arith, flag_up (e.place == e.place) (has_started past e.place) (eq-eqb e.place e.place refl) h.waits))
+      stage_spent plan past (of_kind kind.Start e) e.place (omega (arith, one_if_up (e.place == e.place) (has_started past e.place) (eq-eqb e.place e.place refl) h.waits))
   cost_more_by past kind.Resolve e legal h =
       let new : has kind.Resolve past e.place ≡ false = false_from_ne_true _ (λ w. let some = stands_newest (is_in kind.Resolve e.place) past w in let none : exception_resolved past e.place ≡ None = h.fresh in cc) in
-      stage_spent plan past (of_kind kind.Resolve e) e.place (omega (arith, flag_up (e.place == e.place) (has kind.Resolve past e.place) (eq-eqb e.place e.place refl) new))
+      stage_spent plan past (of_kind kind.Resolve e) e.place (omega (arith, one_if_up (e.place == e.place) (has kind.Resolve past e.place) (eq-eqb e.place e.place refl) new))
   cost_more_by past kind.Undo e legal h =
-      stage_spent plan past (of_kind kind.Undo e) e.place (omega (arith, flag_up (e.place == e.place) (is_undoing past e.place) (eq-eqb e.place e.place refl) (going_parts past e.place h.when).kept))
+      stage_spent plan past (of_kind kind.Undo e) e.place (omega (arith, one_if_up (e.place == e.place) (is_undoing past e.place) (eq-eqb e.place e.place refl) (going_parts past e.place h.when).kept))
   cost_more_by past kind.End e legal h =
-      stage_spent plan past (of_kind kind.End e) e.place (omega (arith, flag_up (e.place == e.place) (has_ended past e.place) (eq-eqb e.place e.place refl) (live_parts e.place past (end_live plan playable.tree past (of_kind kind.End e) legal h)).1))
+      stage_spent plan past (of_kind kind.End e) e.place (omega (arith, one_if_up (e.place == e.place) (has_ended past e.place) (eq-eqb e.place e.place refl) (live_parts e.place past (end_live plan playable.tree past (of_kind kind.End e) legal h)).1))
   cost_more_by past kind.Restore e legal h =
       let next = first_not_fails (is_tried past e.place) (objects_of plan e.place) e.arg h.least in
-      object_spent plan past (of_kind kind.Restore e) e.place e.arg next.1 (flag_up ((e.place == e.place) && (e.arg == e.arg)) (is_tried past e.place e.arg) (own_entry e.place e.arg) next.0)
+      object_spent plan past (of_kind kind.Restore e) e.place e.arg next.1 (one_if_up ((e.place == e.place) && (e.arg == e.arg)) (is_tried past e.place e.arg) (own_entry e.place e.arg) next.0)
   cost_more_by past k e legal h =
       role_spent plan past (of_kind k e) e.place e.by (maker_role plan playable.tree past (of_kind k e) legal h) (role_more_by past k e legal refl h)
 

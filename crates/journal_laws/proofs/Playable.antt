@@ -7,7 +7,7 @@ use Rattle.place_plan.specs.PlanValue.{Plan}
 use Rattle.caa_base.specs.Lists.{member, is_empty, Rises}
 use Rattle.place_plan.specs.Places.{around, parent, roles_of, objects_of, uses, alternates_of, nest_number, nest_of, body_of, abort_row, internal_of, interface_of, fault_of, map_signal, initial_of}
 use Rattle.place_plan.specs.Roles.{program_in}
-use Rattle.place_plan.specs.DraftRules.{step_held, step_in_range, verdict_in_range, abort_in_range}
+use Rattle.place_plan.specs.DraftRules.{holds_step, step_in_range, verdict_in_range, abort_in_range}
 use Rattle.caa_base.specs.Limits.{IsValue}
 
 -- q is right inside p, and t has a role there
@@ -46,7 +46,7 @@ pub record IsPlayable (plan : Plan) : Type 0 where
   pub plain : (p t x n k : ℕ) → slice_get (program_in plan p t (Some x)).steps n ≡ Some (step.Enter k) → ⊥
   -- objects: a place uses those of the places inside it, and those of its steps
   pub inherits : (p q o : ℕ) → member p (around plan q) ≡ true → uses plan q o ≡ true → uses plan p o ≡ true
-  pub held : (p t : ℕ) (x : Option ℕ) (n : ℕ) (s : Step) → slice_get (program_in plan p t x).steps n ≡ Some s → step_held (objects_of plan p) s ≡ true
+  pub held : (p t : ℕ) (x : Option ℕ) (n : ℕ) (s : Step) → slice_get (program_in plan p t x).steps n ≡ Some s → holds_step (objects_of plan p) s ≡ true
   -- numbers are in range
   pub steps : (p t : ℕ) (x : Option ℕ) (n : ℕ) (s : Step) → slice_get (program_in plan p t x).steps n ≡ Some s → step_in_range (length plan.objects) (internal_of plan p).count s ≡ true
   pub says : (p t : ℕ) (x : Option ℕ) → verdict_in_range (interface_of plan p).count (program_in plan p t x).verdict ≡ true

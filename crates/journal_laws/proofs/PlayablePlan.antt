@@ -18,14 +18,14 @@ use Rattle.place_plan.specs.Places.{place_at, action_at, around, parent, roles_o
 use Rattle.place_plan.specs.Roles.{program_in, or_idle}
 use Rattle.caa_base.specs.Limits.{IsValue, is_value}
 use Rattle.place_plan.specs.Unfolding.{plan_of, cast_of}
-use Rattle.place_plan.specs.DraftRules.{KeepsParts, all_below, exceptions_of, graphs_in_range, objects_in_range, parts_in_range, nest_in_range, role_in_range, program_in_range, handler_in_range, verdict_in_range, abort_in_range, step_in_range, is_rising, play_in_range, nest_fits, roles_enter, entered_by, filled_by, step_held, role_held, nest_held, action_held}
+use Rattle.place_plan.specs.DraftRules.{KeepsParts, all_below, exceptions_of, graphs_in_range, objects_in_range, parts_in_range, nest_in_range, role_in_range, program_in_range, handler_in_range, verdict_in_range, abort_in_range, step_in_range, is_rising, play_in_range, nest_fits, roles_enter, entered_by, filled_by, holds_step, holds_role, holds_nest, holds_action}
 use Rattle.place_plan.specs.Closed.{IsClosed, AreSound}
 use Rattle.caa_base.proofs.ListLemmas.{all_at, get_passes, at_row, all_imply, as_filled}
 use Rattle.place_plan.proofs.Passing.{past_end, below_or_not}
 use Rattle.place_plan.proofs.DraftKeeps.{initials_range, graphs_range, objects_range, parts_range, plays_range, has_roles, all_nests_fit}
 use Rattle.caa_base.proofs.ValueRange.{value_from}
 use Rattle.place_plan.proofs.Subtrees.{IsPlaced, IsKnown, use_of}
-use Rattle.place_plan.proofs.UnfoldedPlan.{IsUnfolded, is_unfolded, child_of, child_after, in_table, row_rises, rows_apart}
+use Rattle.place_plan.proofs.UnfoldedPlan.{IsUnfolded, is_unfolded, known_in, chain_of, child_of, child_after, in_table, row_rises, rows_apart}
 use Rattle.place_plan.proofs.Casts.{all_cast, action_is, use_there, from_picked, in_picked, member_at}
 use Rattle.place_plan.proofs.ClosedPlan.{action_passes, keeps_of, of_plan, made_graphs, made_players, member_index, other_index}
 use Rattle.journal_laws.proofs.Playable.{IsTree, IsPlayable, LeadsInside}
@@ -44,23 +44,12 @@ module _ (draft : Draft) (keeps : KeepsParts draft) where
   nothing_past : (p : ℕ) → length plan.places ≤ p → place_at plan p ≡ no_place
   nothing_past p l = past_end plan.places p no_place l
 
-  inside_there : (p q : ℕ) (qs : List ℕ) → around plan p ≡ q ∷ qs → p < length plan.places
-  inside_there p q qs e =
-      elim (below_or_not p (length plan.places)) [
-        | inl l ↦ l
-        | inr l ↦ let none = ap (λ (row : PlaceRow). row.around) (nothing_past p l) in absurd cc
-      ]
-
   played_there : (p t : ℕ) → member t (roles_of plan p) ≡ true → p < length plan.places
   played_there p t m =
       elim (below_or_not p (length plan.places)) [
         | inl l ↦ l
         | inr l ↦ absurd (false≢true (subst (λ (row : PlaceRow). member t row.roles ≡ true) (nothing_past p l) m))
       ]
-
-  -- the place right round p has p among those of its use
-  known_in : (p q : ℕ) (qs : List ℕ) → around plan p ≡ q ∷ qs → member p (alternates_of plan q (nest_number plan p)) ≡ true
-  known_in p q qs e = subst (λ outer. IsKnown plan p outer (nest_number plan p)) e ((whole.instances p (inside_there p q qs e)).known)
 
   child : (p k c : ℕ) → member c (alternates_of plan p k) ≡ true → IsPlaced plan c (p ∷ around plan p) (cast_of (roles_of plan p) (use_of plan p k)) k (use_of plan p k).actions
   child p k c m = (child_of draft plan whole p k c m).child k c m
@@ -76,7 +65,7 @@ module _ (draft : Draft) (keeps : KeepsParts draft) where
           by_round : (outer : List ℕ) → around plan q ≡ outer → member p outer ≡ true → ((r : ℕ) → r < most → member p (around plan r) ≡ true → Q p r) → Q p q
           by_round [] e m ih = absurd (false≢true m)
           by_round (r ∷ rs) e m ih =
-              let known = known_in q r rs e in
+              let known = known_in draft plan whole q r rs e in
               elim (or_cases (r == p) (member p rs) m) [
                 | inl x ↦ subst (λ z. Q z q) (eqb-true r p x) (first r q known)
                 | inr x ↦
@@ -91,13 +80,13 @@ module _ (draft : Draft) (keeps : KeepsParts draft) where
     pub outer_there : p < length plan.places
     pub index : k < length (action_at plan p).nests
     pub range : nest_in_range (length draft.actions) (length (action_at plan p).roles) (exceptions_of draft (action_at plan p).internal) (use_of plan p k) ≡ true
-    pub held : nest_held draft (objects_of plan p) (use_of plan p k) ≡ true
+    pub held : holds_nest draft (objects_of plan p) (use_of plan p k) ≡ true
 
   nest_range : (p : ℕ) → list_all (nest_in_range (length draft.actions) (length (action_at plan p).roles) (exceptions_of draft (action_at plan p).internal)) (action_at plan p).nests ≡ true
   nest_range p = (and_parts _ _ (action_passes (parts_in_range draft) plan (parts_range draft keeps) refl p)).1
 
-  action_holds : (p : ℕ) → action_held draft (action_at plan p) ≡ true
-  action_holds p = action_passes (action_held draft) plan keeps.objects refl p
+  action_holds : (p : ℕ) → holds_action draft (action_at plan p) ≡ true
+  action_holds p = action_passes (holds_action draft) plan keeps.objects refl p
 
   use_is : (p k c : ℕ) → member c (alternates_of plan p k) ≡ true → IsUse p k c
   use_is p k c m =
@@ -106,7 +95,7 @@ module _ (draft : Draft) (keeps : KeepsParts draft) where
         outer_there = in_table plan.places p k c m;
         index = l;
         range = at_row (nest_in_range (length draft.actions) (length (action_at plan p).roles) (exceptions_of draft (action_at plan p).internal)) (action_at plan p).nests k no_nest (nest_range p) l;
-        held = at_row (nest_held draft (objects_of plan p)) (action_at plan p).nests k no_nest (and_parts (list_all (role_held (objects_of plan p)) (action_at plan p).roles) _ (action_holds p)).1 l;
+        held = at_row (holds_nest draft (objects_of plan p)) (action_at plan p).nests k no_nest (and_parts (list_all (holds_role (objects_of plan p)) (action_at plan p).roles) _ (action_holds p)).1 l;
       }
 
   -- a place is played by as many as its action has roles
@@ -151,14 +140,14 @@ module _ (draft : Draft) (keeps : KeepsParts draft) where
       (all_imply (handler_in_range objects internal interface) (λ (h : HandlerRow). program_in_range objects internal interface h.program) (role_row plan p t).handlers (λ h k. (and_parts (nat_lt h.exception internal) _ k).1) handlers) refl
 
   -- each step is of the objects of the place
-  programs_held : (p t : ℕ) (x : Option ℕ) → list_all (step_held (objects_of plan p)) (program_in plan p t x).steps ≡ true
-  programs_held p t x = by_program x (get_passes (role_held (objects_of plan p)) (action_at plan p).roles (index_of t (roles_of plan p)) no_role (and_parts (list_all (role_held (objects_of plan p)) (action_at plan p).roles) _ (action_holds p)).0 refl)
+  programs_held : (p t : ℕ) (x : Option ℕ) → list_all (holds_step (objects_of plan p)) (program_in plan p t x).steps ≡ true
+  programs_held p t x = by_program x (get_passes (holds_role (objects_of plan p)) (action_at plan p).roles (index_of t (roles_of plan p)) no_role (and_parts (list_all (holds_role (objects_of plan p)) (action_at plan p).roles) _ (action_holds p)).0 refl)
     where
-      by_program : (x : Option ℕ) → role_held (objects_of plan p) (role_row plan p t) ≡ true → list_all (step_held (objects_of plan p)) (program_in plan p t x).steps ≡ true
-      by_program None h = (and_parts (list_all (step_held (objects_of plan p)) (role_row plan p t).body.steps) _ h).0
+      by_program : (x : Option ℕ) → holds_role (objects_of plan p) (role_row plan p t) ≡ true → list_all (holds_step (objects_of plan p)) (program_in plan p t x).steps ≡ true
+      by_program None h = (and_parts (list_all (holds_step (objects_of plan p)) (role_row plan p t).body.steps) _ h).0
       by_program (Some x) h =
-          handler_passes (λ (program : Program). list_all (step_held (objects_of plan p)) program.steps) x (role_row plan p t).handlers
-          (and_parts (list_all (step_held (objects_of plan p)) (role_row plan p t).body.steps) _ h).1 refl
+          handler_passes (λ (program : Program). list_all (holds_step (objects_of plan p)) program.steps) x (role_row plan p t).handlers
+          (and_parts (list_all (holds_step (objects_of plan p)) (role_row plan p t).body.steps) _ h).1 refl
 
   -- what the rule of enter steps says of each role
   actions_enter : (p : ℕ) → roles_enter (action_at plan p).nests 0 (action_at plan p).roles ≡ true
@@ -194,9 +183,6 @@ module _ (draft : Draft) (keeps : KeepsParts draft) where
   tree_above p q m =
       outwards (λ q p. q < p) (λ q p k. child_after draft plan whole q (nest_number plan p) p k)
       (λ q r p below k. let next = child_after draft plan whole r (nest_number plan p) p k in omega arith) q p m
-
-  tree_chain : (p q : ℕ) (qs : List ℕ) → around plan p ≡ q ∷ qs → around plan q ≡ qs
-  tree_chain p q qs e = let same = (child q (nest_number plan p) p (known_in p q qs e)).round in cc
 
   tree_tops : (p : ℕ) → member p plan.plays ≡ true → around plan p ≡ []
   tree_tops p m = (whole.plays (play_in_range draft) (plays_range draft keeps) p m).2.round
@@ -234,7 +220,7 @@ module _ (draft : Draft) (keeps : KeepsParts draft) where
       (placed.round, subst (λ who. member t who ≡ true) (sym placed.cast) (subst (λ z. member z (cast_of (roles_of plan p) (use_of plan p k)) ≡ true) (player_at (roles_of plan p) t plays) (in_picked (roles_of plan p) (use_of plan p k).roles (index_of t (roles_of plan p)) role)))
 
   is_tree : IsTree plan
-  is_tree = record { above = tree_above; chain = tree_chain; tops = tree_tops; roles_in = tree_roles; enters = tree_enters }
+  is_tree = record { above = tree_above; chain = chain_of draft plan whole; tops = tree_tops; roles_in = tree_roles; enters = tree_enters }
 
   -- ---- plays
 
@@ -256,7 +242,7 @@ module _ (draft : Draft) (keeps : KeepsParts draft) where
     where
       by_round : (outer : List ℕ) → around plan c ≡ outer → first_of outer ≡ Some p → member c (alternates_of plan p (nest_number plan c)) ≡ true
       by_round [] r e = absurd cc
-      by_round (q ∷ qs) r e = let same : q ≡ p = cc in subst (λ z. member c (alternates_of plan z (nest_number plan c)) ≡ true) same (known_in c q qs r)
+      by_round (q ∷ qs) r e = let same : q ≡ p = cc in subst (λ z. member c (alternates_of plan z (nest_number plan c)) ≡ true) same (known_in draft plan whole c q qs r)
 
   uses_in_row : (p k : ℕ) → Rises 0 (alternates_of plan p k)
   uses_in_row p k =
@@ -366,7 +352,7 @@ module _ (draft : Draft) (keeps : KeepsParts draft) where
     in_order = uses_in_order;
     plain = handlers_plain;
     inherits = objects_inherit;
-    held = λ p t x n s e. get_all (step_held (objects_of plan p)) (program_in plan p t x).steps n s (programs_held p t x) e;
+    held = λ p t x n s e. get_all (holds_step (objects_of plan p)) (program_in plan p t x).steps n s (programs_held p t x) e;
     steps = steps_there;
     says = says_in_range;
     gives_up = aborts_there;

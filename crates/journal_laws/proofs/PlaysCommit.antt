@@ -14,7 +14,7 @@ use Rattle.place_plan.specs.Places.{around, parent, top_of, uses, is_within}
 use Rattle.place_plan.specs.Entries.{is_of, is_in}
 use Rattle.place_plan.specs.Whereabouts.{has_started, has_ended, is_live}
 use Rattle.place_plan.specs.Objects.{restores, writes, holder_of, is_within_any, places_undone, value_outside, value_of}
-use Rattle.place_plan.specs.Journals.{LegalPast, plays_ended, committed_value}
+use Rattle.place_plan.specs.Journals.{LegalPast, ends_play, plays_ended, committed_value}
 use Rattle.journal_laws.specs.Laws.{Holds, CommitLaw, touches_object}
 use Rattle.journal_laws.proofs.Playable.{IsTree, IsPlayable}
 use Rattle.caa_base.proofs.ListLemmas.{last_member}
@@ -25,7 +25,7 @@ use Rattle.journal_laws.proofs.InnerFirst.{legal_rest}
 use Rattle.journal_laws.proofs.Holding.{live_uses, holds_within, end_live}
 use Rattle.journal_laws.proofs.Isolation.{isolation}
 use Rattle.journal_laws.proofs.Exit.{end_row}
-use Rattle.journal_laws.proofs.PlaysEnd.{member_more, ends, nothing_round, ended_is, ended_listed, all_end}
+use Rattle.journal_laws.proofs.PlaysEnd.{member_more, nothing_round, ended_is, ended_listed, all_end}
 
 -- ---- values, where entries are left out
 
@@ -110,7 +110,7 @@ module _ (plan : Plan) (playable : IsPlayable plan) where
 
   -- the first plays that ended are the same as the journal goes on
   firsts_stay : (e : Entry) (past : List Entry) (n : ℕ) → n ≤ length (plays_ended plan past) → (take n (plays_ended plan (e ∷ past)) ≡ take n (plays_ended plan past)) × (n ≤ length (plays_ended plan (e ∷ past)))
-  firsts_stay e past n low = elim (cases_Bool (ends plan e)) [
+  firsts_stay e past n low = elim (cases_Bool (ends_play plan e)) [
     | inl x ↦ rw x (take-append-le n (plays_ended plan past) (e.place ∷ []) low, omega (arith, low, length-append (plays_ended plan past) (e.place ∷ [])))
     | inr x ↦ rw x (refl, low)
   ]
@@ -205,7 +205,7 @@ module _ (plan : Plan) (playable : IsPlayable plan) where
 
       more : plays_ended plan (e ∷ past) ≡ plays_ended plan past ++ p ∷ []
       more =
-          let ended : ends plan e ≡ true = and_from _ _ (and_parts (is_of kind.End e) (e.place == p) is).0 (subst (λ a. is_none (parent plan a) ≡ true) (sym here) (ap is_none top)) in
+          let ended : ends_play plan e ≡ true = and_from _ _ (and_parts (is_of kind.End e) (e.place == p) is).0 (subst (λ a. is_none (parent plan a) ≡ true) (sym here) (ap is_none top)) in
           rw ended (ap (λ a. plays_ended plan past ++ a ∷ []) here)
 
       taken : take (suc (length (plays_ended plan past))) (plays_ended plan past ++ p ∷ []) ≡ plays_ended plan past ++ p ∷ []

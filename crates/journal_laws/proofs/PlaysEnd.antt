@@ -1,5 +1,5 @@
 -- Each play ends at most once, and in a complete journal each has ended.
-use Rattle.std.proofs.Common.{◌≡◌, ℕ, ◌==◌, ◌≤◌, Bool, true, false, ◌&&◌, ◌||◌, List, [], ◌∷◌, ◌++◌, length, None, is_none, suc, refl, sym, ap, ◌∙◌, subst, arith, inl, inr}
+use Rattle.std.proofs.Common.{◌≡◌, ℕ, ◌==◌, ◌≤◌, Bool, true, false, ◌||◌, List, [], ◌∷◌, ◌++◌, length, None, is_none, suc, refl, sym, ap, ◌∙◌, subst, arith, inl, inr}
 use Rattle.std.specs.Cmp.{IsEquivalence}
 use Rattle.std.specs.List.{IsDistinct, AllByRecursion}
 use Rattle.std.proofs.lemmas.Cmp.{nat_eq_equiv}
@@ -14,7 +14,7 @@ use Rattle.caa_base.specs.Lists.{member, is_empty, first_of, Rises}
 use Rattle.place_plan.specs.Places.{around, parent, roles_of}
 use Rattle.place_plan.specs.Entries.{is_of, is_in}
 use Rattle.place_plan.specs.Whereabouts.{has_ended}
-use Rattle.place_plan.specs.Journals.{LegalPast, AllOver, plays_ended}
+use Rattle.place_plan.specs.Journals.{LegalPast, AllOver, ends_play, plays_ended}
 use Rattle.journal_laws.proofs.Playable.{IsPlayable}
 use Rattle.place_plan.proofs.EntryKinds.{of_kind}
 use Rattle.place_plan.proofs.PlaysRise.{in_plays}
@@ -67,10 +67,6 @@ as_many ps qs d e h k =
     omega (arith, few, many)
 
 module _ (plan : Plan) where
-  -- the entry ends a play
-  abbrev pub ends : Entry → Bool
-  ends e = is_of kind.End e && is_none (parent plan e.place)
-
   pub nothing_round : (p : ℕ) (qs : List ℕ) → around plan p ≡ qs → first_of qs ≡ None → around plan p ≡ []
   nothing_round p [] a w = a
   nothing_round p (q ∷ qs) a w = absurd cc
@@ -78,7 +74,7 @@ module _ (plan : Plan) where
   -- a play that is listed has ended
   pub ended_is : (past : List Entry) (q : ℕ) → member q (plays_ended plan past) ≡ true → has_ended past q ≡ true
   ended_is [] q m = absurd (false≢true m)
-  ended_is (e ∷ past) q m = elim (cases_Bool (ends e)) [
+  ended_is (e ∷ past) q m = elim (cases_Bool (ends_play plan e)) [
     | inl x ↦ elim (or_cases (member q (plays_ended plan past)) (e.place == q) (sym (member_more q e.place (plays_ended plan past)) ∙ (rw x at m))) [
       | inl y ↦ or_right _ _ (ended_is past q y)
       | inr y ↦ or_left _ _ (and_from (is_of kind.End e) (e.place == q) (and_parts (is_of kind.End e) (is_none (parent plan e.place)) x).0 y)
@@ -89,7 +85,7 @@ module _ (plan : Plan) where
   -- and each that has ended is listed
   pub ended_listed : (past : List Entry) (q : ℕ) → around plan q ≡ [] → has_ended past q ≡ true → member q (plays_ended plan past) ≡ true
   ended_listed [] q a w = absurd (false≢true w)
-  ended_listed (e ∷ past) q a w = elim (cases_Bool (ends e)) [
+  ended_listed (e ∷ past) q a w = elim (cases_Bool (ends_play plan e)) [
     | inl x ↦ rw x (member_more q e.place (plays_ended plan past) ∙ elim (or_cases (is_in kind.End q e) (has_ended past q) w) [
       | inl y ↦ or_right _ _ (and_parts (is_of kind.End e) (e.place == q) y).1
       | inr y ↦ or_left _ _ (ended_listed past q a y)
@@ -100,13 +96,13 @@ module _ (plan : Plan) where
     ])
   ]
     where
-      ends_it : is_in kind.End q e ≡ true → ends e ≡ true
+      ends_it : is_in kind.End q e ≡ true → ends_play plan e ≡ true
       ends_it y =
           let parts = and_parts (is_of kind.End e) (e.place == q) y in
           and_from _ _ parts.0 (subst (λ p. is_none (parent plan p) ≡ true) (sym (eqb-true e.place q parts.1)) (ap (λ qs. is_none (first_of qs)) a))
 
 module _ (plan : Plan) (playable : IsPlayable plan) where
-  end_of : (past : List Entry) (e : Entry) → LegalPast plan (e ∷ past) → ends plan e ≡ true → (has_ended past e.place ≡ false) × (member e.place plan.plays ≡ true)
+  end_of : (past : List Entry) (e : Entry) → LegalPast plan (e ∷ past) → ends_play plan e ≡ true → (has_ended past e.place ≡ false) × (member e.place plan.plays ≡ true)
   end_of past e legal x =
       let parts = and_parts (is_of kind.End e) (is_none (parent plan e.place)) x in
       let may = (end_row plan past e.kind e e.place legal.1 (and_from _ _ parts.0 (eq-eqb e.place e.place refl))).0 in (
@@ -122,7 +118,7 @@ module _ (plan : Plan) (playable : IsPlayable plan) where
   ended_once : (past : List Entry) → LegalPast plan past → IsDistinct same (plays_ended plan past)
   unfolding IsDistinct
   ended_once [] legal = tt
-  ended_once (e ∷ past) legal = elim (cases_Bool (ends plan e)) [
+  ended_once (e ∷ past) legal = elim (cases_Bool (ends_play plan e)) [
     | inl x ↦ rw x (distinct_more (plays_ended plan past) e.place (ended_once past legal.0) (false_from_ne_true _ (λ m. both_ways _ (end_of past e legal x).0 (ended_is plan past e.place m))))
     | inr x ↦ rw x (ended_once past legal.0)
   ]
@@ -130,7 +126,7 @@ module _ (plan : Plan) (playable : IsPlayable plan) where
   -- what is listed is a play
   ended_played : (past : List Entry) → LegalPast plan past → (q : ℕ) → member q (plays_ended plan past) ≡ true → member q plan.plays ≡ true
   ended_played [] legal q m = absurd (false≢true m)
-  ended_played (e ∷ past) legal q m = elim (cases_Bool (ends plan e)) [
+  ended_played (e ∷ past) legal q m = elim (cases_Bool (ends_play plan e)) [
     | inl x ↦ elim (or_cases (member q (plays_ended plan past)) (e.place == q) (sym (member_more q e.place (plays_ended plan past)) ∙ (rw x at m))) [
       | inl y ↦ ended_played past legal.0 q y
       | inr y ↦ subst (λ p. member p plan.plays ≡ true) (eqb-true e.place q y) (end_of past e legal x).1

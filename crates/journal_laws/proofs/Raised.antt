@@ -35,6 +35,12 @@ pub all_up : (f g : ℕ → Bool) (xs : List ℕ) → ((x : ℕ) → f x ≡ tru
 all_up f g [] h w = refl
 all_up f g (x ∷ xs) h w = let parts = and_parts _ _ w in and_from _ _ (h x parts.0) (all_up f g xs h parts.1)
 
+-- two tests that don't both pass don't with one more
+pub and_more : (a b c : Bool) → (a && c) ≡ false → ((a && b) && c) ≡ false
+and_more false b c h = refl
+and_more true false c h = refl
+and_more true true c h = h
+
 -- an entry that halts its maker raises, too
 halting_raises : (b c d : Bool) (x : ℕ) (ys : List ℕ) → (d ≡ true → not (is_empty ys) ≡ true) → (b && c) || d ≡ true → not (is_empty (cond b (x ∷ []) [] ++ ys)) ≡ true
 halting_raises true c d x ys ih h = refl
@@ -125,12 +131,7 @@ module _ (plan : Plan) (tree : IsTree plan) where
       omega arith)
 
   elsewhere_fault : (past : List Entry) (e : Entry) (p t r : ℕ) → inside plan past e.by ≡ Some e.place → inside plan past t ≡ Some r → member p (around plan r) ≡ true → (((e.place == p) && not (has_handled past p e.by)) && (e.by == t)) ≡ false
-  elsewhere_fault past e p t r here w m = three (e.place == p) _ (e.by == t) (elsewhere past e p t r here w m)
-    where
-      three : (a b c : Bool) → (a && c) ≡ false → ((a && b) && c) ≡ false
-      three false b c h = refl
-      three true false c h = refl
-      three true true c h = h
+  elsewhere_fault past e p t r here w m = and_more (e.place == p) _ (e.by == t) (elsewhere past e p t r here w m)
 
   -- a leave halts its maker in the place round, and in none round that
   not_further : (e : Entry) (p r : ℕ) → parent plan e.place ≡ Some r → member p (around plan r) ≡ true → carries_into plan p e ≡ false

@@ -1,5 +1,5 @@
 -- The exceptions and values that a legal journal of a playable plan names are in range.
-use Rattle.std.proofs.Common.{◌≡◌, ℕ, ℤ, pos, negsuc, ◌+ℤ◌, int_lt, ◌==◌, ◌+◌, ◌*◌, ◌<◌, Bool, true, false, not, cond, ◌&&◌, ◌||◌, List, [], ◌∷◌, Option, Some, None, refl, subst, arith, inl, inr, zero, suc, length, slice_index_or, is_none, MatchOption}
+use Rattle.std.proofs.Common.{◌≡◌, ℕ, ℤ, pos, negsuc, ◌+ℤ◌, int_lt, ◌==◌, ◌+◌, ◌*◌, ◌<◌, Bool, true, false, not, cond, ◌&&◌, ◌||◌, List, [], ◌∷◌, Option, Some, None, refl, subst, arith, inl, inr, zero, suc, length, slice_index_or, is_none, MatchOption, neg_ℤ}
 use Rattle.std.specs.List.{All}
 use Rattle.std.proofs.Math.Nat.{mod-lt}
 use Rattle.std.proofs.lemmas.Int.{ints}
@@ -28,7 +28,7 @@ use Rattle.place_plan.specs.Roles.{position, register, program_of, next_step, ne
 use Rattle.place_plan.specs.Rules.{Row, Names, SaysVerdict, MayVerdict, clamped, put_of, final_verdict, unhandled_verdict, breaks_off, handler_verdict, verdict_due, abort_of, abort_mapped, outcome_mapped, is_deaf, exception_carried}
 use Rattle.place_plan.specs.Journals.{LegalPast}
 use Rattle.place_plan.specs.DraftRules.{step_in_range, verdict_in_range, abort_in_range}
-use Rattle.caa_base.specs.Limits.{is_value, IsValue}
+use Rattle.caa_base.specs.Limits.{is_value, IsValue, most_value}
 use Rattle.place_plan.specs.WellFormed.{MayShowException}
 use Rattle.cover_table.specs.Cover.{CoverOrder}
 use Rattle.journal_laws.proofs.Playable.{IsPlayable}
@@ -40,9 +40,9 @@ use Rattle.journal_laws.proofs.Makers.{maker_role}
 -- ---- values
 
 clamped_in_range : (v : ℤ) → IsValue (clamped v)
-clamped_in_range v = elim (cases_Bool (int_lt (pos 1000000000000) v)) [
+clamped_in_range v = elim (cases_Bool (int_lt (pos most_value) v)) [
   | inl x ↦ rw x (omega (arith, ints), omega (arith, ints))
-  | inr x ↦ elim (cases_Bool (int_lt v (negsuc 999999999999))) [
+  | inr x ↦ elim (cases_Bool (int_lt v (neg_ℤ (pos most_value)))) [
     | inl y ↦ rw (x, y) (omega (arith, ints), omega (arith, ints))
     | inr y ↦ rw (x, y) (grind (arith, ints), grind (arith, ints))
   ]

@@ -1,4 +1,5 @@
--- Resolution law: handled is the least cover of whatever is raised, and each role of a place that ended without aborts answered.
+-- Resolution law: what is handled is the least cover of all that was raised, and the roles of a place that ended without aborts
+-- have answered.
 use Rattle.std.proofs.Common.{◌≡◌, ℕ, ◌==◌, Bool, true, false, cond, ◌&&◌, ◌||◌, List, [], ◌∷◌, ◌++◌, Some, None, refl, sym, ◌∙◌, subst, inl, inr, is_none}
 use Rattle.std.specs.List.{list_any}
 use Rattle.std.proofs.lemmas.Bool.{and_from, or_left, eqb-true, eq-eqb, cases_Bool, false_from_ne_true, both_ways}

@@ -1,5 +1,5 @@
--- A use has room: who is at its enter step finds an alternate in which it has not arrived. And once somebody has left a use aloud, the
--- alternates in which anybody has arrived have ended.
+-- A use has room: who is at its enter step finds an alternate in which it has not arrived. And once somebody has left a use
+-- aloud, the alternates in which anybody has arrived have ended.
 use Rattle.std.proofs.Common.{◌≡◌, ℕ, ◌==◌, Bool, true, false, not, cond, List, [], ◌∷◌, Some, None, refl, sym, ap, ◌∙◌, subst, arith, suc, inl, inr, is_none}
 use Rattle.std.proofs.lemmas.Bool.{and_parts, eqb-true, cases_order, false≢true, false_from_ne_true, both_ways}
 use Rattle.caa_base.specs.declared.entry.Entry.{Entry}

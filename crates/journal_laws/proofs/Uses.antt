@@ -1,5 +1,5 @@
--- Where a role is in its nested uses: it is at the enter step of a use until it has left one of the alternates aloud, and it comes to
--- an alternate only once it has left all earlier ones in silence.
+-- Where a role is in its nested uses: it is at the enter step of a use until it has left one of the alternates aloud, and it
+-- comes to an alternate only once it has left all earlier ones in silence.
 use Rattle.std.proofs.Common.{◌≡◌, ℕ, ℤ, ◌==◌, ◌<◌, Bool, true, false, not, cond, ◌&&◌, ◌||◌, List, [], ◌∷◌, Some, None, Option, refl, sym, ap, ◌∙◌, subst, subst₂, arith, suc, slice_get, inl, inr, ◌⊎◌}
 use Rattle.std.proofs.lemmas.Bool.{and_parts, and_from, or_cases, or_left, or_right, or_parts, eqb-true, eq-eqb, false≢true, cases_Bool, cases_order, cases_lt, both_ways, not-true, true_from_ne_false, not_from_false}
 use Rattle.caa_base.specs.declared.entry.Entry.{Entry}

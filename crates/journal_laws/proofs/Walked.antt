@@ -7,7 +7,7 @@ use Rattle.caa_base.specs.declared.entry.Kind.{Kind}
 use Rattle.caa_base.specs.declared.entry.Kind.TheVariants as kind
 use Rattle.place_plan.specs.declared.draft_rows.Step.{Step}
 use Rattle.place_plan.specs.PlanValue.{Plan}
-use Rattle.caa_base.specs.Lists.{is_at}
+use Rattle.caa_base.specs.Lists.{is_at, one_if}
 use Rattle.place_plan.specs.Places.{parent, action_at, body_of}
 use Rattle.place_plan.specs.Entries.{is_by}
 use Rattle.place_plan.specs.Whereabouts.{is_left_in_silence}
@@ -24,7 +24,7 @@ use Rattle.place_plan.proofs.EntryKinds.{of_kind, both_same}
 use Rattle.journal_laws.proofs.Newest.{stands_newest, newest_none}
 use Rattle.journal_laws.proofs.Raised.{parent_round}
 use Rattle.journal_laws.proofs.Arrivals.{inside_arrived, inside_not_left}
-use Rattle.journal_laws.proofs.Costs.{flag, walked, body_within, handler_within}
+use Rattle.journal_laws.proofs.Costs.{walked, body_within, handler_within}
 
 -- ---- steps
 
@@ -47,7 +47,7 @@ next_within : (b : Bool) (m n : ℕ) → m ≤ n → (b ≡ true → m < n) → 
 next_within true m n l h = h refl
 next_within false m n l h = l
 
-next_both : (b : Bool) (m k n : ℕ) → m ≤ k + n → flag b + m ≤ k + cond b (suc n) n
+next_both : (b : Bool) (m k n : ℕ) → m ≤ k + n → one_if b + m ≤ k + cond b (suc n) n
 next_both true m k n h = omega arith
 next_both false m k n h = omega arith
 
@@ -101,7 +101,7 @@ module _ (plan : Plan) (playable : IsPlayable plan) (core : Holds Core plan) whe
   body_walked [] p t f = omega arith
   body_walked (e ∷ past) p t f =
       let parts = or_parts (is_by kind.Handle p t e) (has_handled past p t) f in
-      let more : flag (advances plan past p e e.kind && (e.by == t)) + walked plan past p t ≤ 0 + cond (advances plan past p e e.kind && (e.by == t)) (suc (position plan past p t)) (position plan past p t) = next_both (advances plan past p e e.kind && (e.by == t)) (walked plan past p t) 0 (position plan past p t) (omega (arith, body_walked past p t parts.1)) in
+      let more : one_if (advances plan past p e e.kind && (e.by == t)) + walked plan past p t ≤ 0 + cond (advances plan past p e e.kind && (e.by == t)) (suc (position plan past p t)) (position plan past p t) = next_both (advances plan past p e e.kind && (e.by == t)) (walked plan past p t) 0 (position plan past p t) (omega (arith, body_walked past p t parts.1)) in
       rw parts.0 (omega arith)
 
   body_of_unhandled : (past : List Entry) (p t : ℕ) → has_handled past p t ≡ false → program_of plan past p t ≡ body_of plan p t

@@ -18,7 +18,7 @@ use Rattle.place_plan.specs.Raising.{has_handled, exceptions_raised, is_raised, 
 use Rattle.place_plan.specs.Objects.{holder_of, objects_are_ready, value_of, before_start, next_restore}
 use Rattle.place_plan.specs.Roles.{register, program_of, next_step, next_raise, has_given, all_have_given, wants_undo, signals, has_aborted, all_have_aborted, next_play, is_over}
 use Rattle.place_plan.specs.Rules.{MayFollow, place_entered, clamped, breaks_off, abort_of, undone_mark, exception_carried}
-use Rattle.place_plan.specs.Journals.{Silent, is_put}
+use Rattle.place_plan.specs.Journals.{HasNoEntry, is_put}
 use Rattle.journal_laws.specs.Laws.{as_taken}
 
 -- ---- what an entry says
@@ -50,7 +50,9 @@ verdict_entry p t verdict.Undo = marked kind.Verdict p t 2 0
 
 -- x covers each of these, and each number that does covers x
 abbrev pub is_least : CoverOrder → List ℕ → ℕ → Bool
-is_least order xs x = covers_each order x xs && list_all (λ y. not (covers_each order y xs) || covers order y x) (range_with_len 0 order.count)
+is_least order xs x =
+    covers_each order x xs
+    && list_all (λ y. not (covers_each order y xs) || covers order y x) (range_with_len 0 order.count)
 
 -- the least cover, found by trying one number after another
 abbrev pub least_of : CoverOrder → List ℕ → Option ℕ
@@ -108,7 +110,8 @@ abbrev pub due_step : Plan → List Entry → ℕ → ℕ → Option Step → Op
 due_step plan past p t None = Some (verdict_entry p t (program_of plan past p t).verdict)
 due_step plan past p t (Some (step.Read o)) = due_held plan past p o (says kind.Read p t o (value_of plan past o))
 due_step plan past p t (Some (step.Put o v)) = due_held plan past p o (says kind.Write p t o v)
-due_step plan past p t (Some (step.Add o v)) = due_held plan past p o (says kind.Write p t o (clamped (register plan past p t +ℤ v)))
+due_step plan past p t (Some (step.Add o v)) =
+    due_held plan past p o (says kind.Write p t o (clamped (register plan past p t +ℤ v)))
 due_step plan past p t (Some (step.Work rounds)) = Some (says kind.Work p t rounds (mix (register plan past p t) rounds))
 due_step plan past p t (Some (step.Check test bound x)) = Some (plainly kind.Check p t)
 due_step plan past p t (Some (step.Raise x)) = None
@@ -131,7 +134,8 @@ due_handler plan past p t =
 
 -- a role with a handler for x begins it; any other one asks for undo
 abbrev pub due_answer : Plan → ℕ → ℕ → ℕ → Option Entry
-due_answer plan p t x = if is_none (handler_of plan p t x) then Some (verdict_entry p t verdict.Undo) else Some (marked kind.Handle p t 0 x)
+due_answer plan p t x =
+    if is_none (handler_of plan p t x) then Some (verdict_entry p t verdict.Undo) else Some (marked kind.Handle p t 0 x)
 
 -- in a place for which x is resolved: first the handlers, then what their verdicts come to
 abbrev pub due_resolved : Plan → List Entry → ℕ → ℕ → ℕ → Option Entry
@@ -164,7 +168,8 @@ due_hot plan past p t =
 
 -- in a calm place the participant goes on until all have agreed
 abbrev pub due_calm : Plan → List Entry → ℕ → ℕ → Option Entry
-due_calm plan past p t = if has_given plan past p t then due_agreed plan past p t else due_body plan past p t (next_raise plan past p t)
+due_calm plan past p t =
+    if has_given plan past p t then due_agreed plan past p t else due_body plan past p t (next_raise plan past p t)
 
 -- in a place that has started and not ended
 abbrev pub due_live : Plan → List Entry → ℕ → ℕ → Option Entry
@@ -207,4 +212,4 @@ pub record DueIsRight (plan : Plan) (past : List Entry) : Type 0 where
   -- and nothing else may
   pub only : (e : Entry) → MayFollow plan past e → due_of plan past e.by ≡ Some (as_taken e.kind e)
   -- who is over has no entry
-  pub over_silent : (t : ℕ) → is_over plan past t ≡ true → Silent plan past t
+  pub over_silent : (t : ℕ) → is_over plan past t ≡ true → HasNoEntry plan past t

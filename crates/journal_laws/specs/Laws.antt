@@ -47,9 +47,10 @@ as_taken kind.PutFault e = record e { kind = kind.Write }
 as_taken kind.Restore e = record e { mark = 0 }
 as_taken _ e = e
 
--- a participant has at most one entry, the device's answer aside
+-- two entries that a participant could make next differ only in what the device answers
 abbrev pub AtMostOne : Plan → List Entry → Type 0
-AtMostOne plan past = (e f : Entry) → MayFollow plan past e → MayFollow plan past f → e.by ≡ f.by → as_taken e.kind e ≡ as_taken f.kind f
+AtMostOne plan past =
+    (e f : Entry) → MayFollow plan past e → MayFollow plan past f → e.by ≡ f.by → as_taken e.kind e ≡ as_taken f.kind f
 
 -- some participant has an entry
 pub record HasEntry (plan : Plan) (past : List Entry) : Type 0 where
@@ -96,7 +97,8 @@ pub record IsAnswered (plan : Plan) (past : List Entry) (p : ℕ) : Type 0 where
   pub resolution : exception_resolved past p ≡ Some exception
   pub each : (t : ℕ) → member t (roles_of plan p) ≡ true → Answered plan past p exception t
 
--- handled is the least cover of whatever is raised, and no place ends without aborts before it answered what was raised in it
+-- what is handled in a place is the least cover of all that was raised in it, and without aborts no place ends before its roles
+-- have answered
 pub record ResolutionLaw (plan : Plan) (past : List Entry) : Type 0 where
   pub handles : (p : ℕ) → HandlesLeast plan past p
   -- a place in which something was raised, and which ended without aborts, was resolved and answered

@@ -3,9 +3,10 @@ pub mod CoverSoFar
 pub mod Covers
 pub mod Devices
 pub mod DueEntries
+pub mod Found
 pub mod Laying
 pub mod Last
 pub mod Prefixes
 pub mod StepsFit
 pub mod Unasked
-pub mod WorkNext
+pub mod Unstarted

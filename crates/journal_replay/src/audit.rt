@@ -49,6 +49,7 @@ fn may_follow(plan: &Plan, journal: &[Entry], entry: &Entry) -> bool
 
 /// Whether every participant is through with all its plays.
 pub(crate) fn all_are_over(plan: &Plan, journal: &[Entry]) -> bool
+    requires { LegalPast plan.now (reverse journal.now) }
     ensures { IsTrue result ↔ AllOver plan.now (reverse journal.now) }
 {
     for by in 0..plan.participants() {

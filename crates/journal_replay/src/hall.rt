@@ -1,22 +1,23 @@
-ghost use Rattle.std.specs.Prelude.{◌≡◌, ◌<◌, ◌≤◌, ◌+◌, ◌-◌, ◌^◌, ◌∷◌, ◌++◌, [], map, length, reverse, true, false, is_some, IfOk, IfErr, IfSome, OnOk, OnErr, IsTrue, ◌↔◌, ◌⊎◌, if◌then◌else◌};
+ghost use Rattle.std.specs.Prelude.{◌≡◌, ◌<◌, ◌≤◌, ◌+◌, ◌-◌, ◌^◌, ◌∷◌, ◌++◌, [], length, reverse, true, false, is_some, IfOk, IfErr, IfSome, OnOk, OnErr, IsTrue, ◌↔◌, ◌⊎◌, if◌then◌else◌};
 ghost use Rattle.caa_base.specs.Counts.{CountsFault};
 ghost use Rattle.place_plan.specs.Bound.{bound};
 ghost use Rattle.place_plan.specs.Rules.{MayFollow};
 ghost use Rattle.place_plan.specs.Journals.{LegalPast, IsLegal, is_fault, faults_in};
 ghost use Rattle.place_plan.specs.Machine.{Answers, made_fault};
+ghost use Rattle.place_plan.specs.Attempts.{is_attempt};
 ghost use Rattle.place_plan.proofs.LegalProp.{LegalPast-prop};
-ghost use Rattle.journal_replay.specs.Device.{FitsJournal, HasValues, HasDrills, has_asked, attempts_in};
+ghost use Rattle.journal_replay.specs.Device.{FitsJournal, HasValues, HasDrills, attempts_in};
 ghost use Rattle.caa_base.specs.PlantState.{is_refused, is_drilled, after_put, after_try};
 ghost use Rattle.journal_replay.specs.Opening.{is_plant_fault};
 ghost use Rattle.std.proofs.Math.Nat.{le_of_eq};
 ghost use Rattle.std.proofs.Common.{sym};
 ghost use Rattle.journal_replay.specs.IsDue.{DeviceDecides};
-ghost use Rattle.journal_replay.specs.WorkDue.{MayWorkNow};
+ghost use Rattle.journal_replay.specs.Duty.{MayWorkNow};
 
 use crate::answer::Due;
 use crate::audit::all_are_over;
-use crate::rule::due;
-use crate::work_due::{Work, work_due};
+use crate::duty::{Turn, Work};
+use crate::rule::turn;
 use caa_base::entry::{Drill, Entry, Failed, Object, OutOfMemory, Participant};
 use caa_base::journal::Journal;
 use caa_base::plant::{Plant, PlantError};
@@ -82,17 +83,6 @@ pub struct PlainHall<P: Plant> {
     }) },
 }
 
-/// The values of the objects before the first entry.
-fn initial_values(alloc: Global, plan: &Plan) -> Result<Vec<i64>, OutOfMemory>
-    ensures { IfOk result (λ values. values.items ≡ map (λ row. row.initial) plan.now.objects) }
-{
-    let mut values = Vec::new(alloc);
-    for object in 0..plan.objects() {
-        values.push(plan.initial(object))?;
-    }
-    Ok(values)
-}
-
 /// The puts that the device is to refuse.
 fn drills_of(alloc: Global, plan: &Plan) -> Result<Vec<Drill>, OutOfMemory>
     ensures { IfOk result (λ drills. drills.items ≡ plan.now.drills) }
@@ -121,7 +111,7 @@ fn lay_out<P: Plant>(alloc: Global, plan: &Plan, plant: &mut P) -> Result<(), Pl
     ensures lay_faults { CountsFault (is_refused result) (P.lay_faults plant.old) (P.lay_faults plant.new) }
     ensures faults { P.faults plant.new ≡ P.faults plant.old }
 {
-    let values = initial_values(alloc, plan)?;
+    let values = plan.initials(alloc)?;
     let drills = drills_of(alloc, plan)?;
     plant.lay(alloc, values.as_slice(), drills.as_slice(), plan.bound())
 }
@@ -227,7 +217,7 @@ impl<P: Plant> PlainHall<P> {
     /// Adds an entry that doesn't ask the device.
     fn add(&mut self, entry: Entry)
         requires may { MayFollow (plan_in self.old) (reverse (journal_in self.old)) entry }
-        requires plain { has_asked entry ≡ false }
+        requires plain { is_attempt entry ≡ false }
         ensures plan { plan_in self.new ≡ plan_in self.old }
         ensures base { base_in self.new ≡ base_in self.old }
         ensures plant { plant_in self.new ≡ plant_in self.old }
@@ -308,17 +298,17 @@ impl<P: Plant> Machine for PlainHall<P> {
         ensures count { CountsFault (made_fault result) (P.faults (plant_in self.old)) (P.faults (plant_in self.new)) }
         ensures answer { Answers (plan_in self.old) (journal_in self.old) (journal_in self.new) by hint result }
     {
-        if let Some(work) = work_due(&self.plan, self.journal.as_slice(), by) {
-            return self.take_work(by, work, hint);
-        }
-        match due(&self.plan, &self.journal, by) {
-            Due::NotYet => Answer::NotYet,
-            Due::Over => Answer::Over,
-            Due::Now(entry) => {
-                self.add(entry);
-                Answer::Did(entry)
-            }
-            Due::Put { well, fault } => Answer::Did(self.ask(well, fault)),
+        match turn(&self.plan, &self.journal, by) {
+            Turn::Mix(work) => self.take_work(by, work, hint),
+            Turn::Act(due) => match due {
+                Due::NotYet => Answer::NotYet,
+                Due::Over => Answer::Over,
+                Due::Now(entry) => {
+                    self.add(entry);
+                    Answer::Did(entry)
+                }
+                Due::Put { well, fault } => Answer::Did(self.ask(well, fault)),
+            },
         }
     }
 

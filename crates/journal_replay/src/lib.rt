@@ -3,9 +3,9 @@
 
 pub mod answer;
 pub mod audit;
+mod duty;
 pub mod hall;
 mod look_back;
 pub mod rule;
 #[cfg(test)]
 mod tests;
-mod work_due;

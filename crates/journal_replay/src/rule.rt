@@ -2,7 +2,7 @@ ghost use Rattle.std.specs.Prelude.{◌≡◌, ◌<◌, ◌+ℤ◌, true, false,
 ghost use Rattle.caa_base.specs.declared.entry.Kind.TheVariants as kind;
 ghost use Rattle.caa_base.specs.Limits.{IsValue};
 ghost use Rattle.place_plan.specs.Places.{roles_of, handler_of, abort_row};
-ghost use Rattle.place_plan.specs.Entries.{is_by, newest};
+ghost use Rattle.place_plan.specs.Entries.{is_of, is_by, newest};
 ghost use Rattle.place_plan.specs.Raising.{is_raised, exception_resolved};
 ghost use Rattle.place_plan.specs.Objects.{next_restore};
 ghost use Rattle.place_plan.specs.Roles.{register, program_of, next_step, signals};
@@ -10,10 +10,12 @@ ghost use Rattle.place_plan.specs.Rules.{clamped, abort_of, undone_mark, abort_m
 ghost use Rattle.place_plan.specs.Journals.{LegalPast, IsLegal, is_put};
 ghost use Rattle.journal_laws.specs.Due.{says, plainly, marked, naming, verdict_entry, due_waiting, due_restore, due_doomed, due_end, due_agreed, due_held, due_step, due_forward, due_handler, due_resolved, due_resolve, due_halted, due_hot, due_calm, due_inside, due_of, as_refused};
 ghost use Rattle.journal_replay.specs.IsDue.{IsDue};
+ghost use Rattle.journal_replay.specs.Duty.{entry_in, IsUnmixed, MixesRight, IsTurn};
 
 use crate::answer::Due;
+use crate::duty::{Duty, Turn, Work};
 use crate::look_back::course::course_of;
-use crate::look_back::entries::{has, has_by, newest_by, newest_in};
+use crate::look_back::entries::{has, newest_by, newest_in};
 use crate::look_back::objects::{
     has_failed, holds, next_restore, objects_are_ready, value_at_start,
 };
@@ -25,13 +27,12 @@ use crate::look_back::raising::{
 };
 use crate::look_back::roles::{meets, program_of, raise_of, register, step_and_register};
 use crate::look_back::verdicts::{
-    all_have_aborted, all_have_given, has_aborted, has_given, least_signalled, wants_undo,
-    was_refused_in_handler,
+    all_have_aborted, all_have_given, has_aborted, has_given_after, has_said, least_signalled,
+    wants_undo, was_refused_in_handler,
 };
 use caa_base::entry::{Entry, Exception, Kind, Object, Participant, Place, Verdict};
 use caa_base::journal::Journal;
 use caa_base::limits::MOST_VALUE;
-use caa_base::work::WorkDone;
 use journal_laws::{due_is_right, is_well_formed};
 use place_plan::draft_rows::{AbortRow, Step};
 use place_plan::plan::Plan;
@@ -76,7 +77,8 @@ fn marked(kind: Kind, place: Place, by: Participant, mark: u32, arg: u32) -> Ent
 
 /// An entry that names an exception, or none.
 fn naming(kind: Kind, place: Place, by: Participant, exception: Option<Exception>) -> Entry
-    ensures { result ≡ naming kind place by exception }
+    ensures entry { result ≡ naming kind place by exception }
+    ensures kind { result.kind ≡ kind }
 {
     match exception {
         Some(exception) => marked(kind, place, by, 1, exception),
@@ -86,7 +88,8 @@ fn naming(kind: Kind, place: Place, by: Participant, exception: Option<Exception
 
 /// The entry that says this verdict.
 fn verdict_entry(place: Place, by: Participant, verdict: Verdict) -> Entry
-    ensures { result ≡ verdict_entry place by verdict }
+    ensures entry { result ≡ verdict_entry place by verdict }
+    ensures kind { result.kind ≡ kind.Verdict }
 {
     match verdict {
         Verdict::Done => plainly(Kind::Verdict, place, by),
@@ -99,7 +102,9 @@ fn verdict_entry(place: Place, by: Participant, verdict: Verdict) -> Entry
 
 /// What a participant does in a place that waits.
 fn due_waiting(plan: &Plan, journal: &[Entry], place: Place, by: Participant) -> Option<Entry>
-    ensures { result ≡ due_waiting plan.now (reverse journal.now) place by }
+    requires { LegalPast plan.now (reverse journal.now) }
+    ensures entry { result ≡ due_waiting plan.now (reverse journal.now) place by }
+    ensures unmixed { IsUnmixed result }
 {
     if is_doomed(plan, journal, place) {
         Some(plainly(Kind::Withdraw, place, by))
@@ -110,7 +115,8 @@ fn due_waiting(plan: &Plan, journal: &[Entry], place: Place, by: Participant) ->
     }
 }
 
-/// The mark of the End after an undo.
+/// The mark of the end entry after an undo: 4 where the device refused a restore and the place has failed, 3 where its roles gave
+/// up and it was aborted, and otherwise 2, since a verdict asked for the undo.
 fn undone_mark(journal: &[Entry], place: Place) -> u32
     ensures { result ≡ undone_mark (reverse journal.now) place }
 {
@@ -125,7 +131,8 @@ fn undone_mark(journal: &[Entry], place: Place) -> u32
 
 /// The restore that is next in a place that is undone, or its End.
 fn due_restore(plan: &Plan, journal: &[Entry], place: Place, by: Participant) -> Entry
-    ensures { Some result ≡ due_restore plan.now (reverse journal.now) place by (next_restore plan.now (reverse journal.now) place) }
+    ensures entry { Some result ≡ due_restore plan.now (reverse journal.now) place by (next_restore plan.now (reverse journal.now) place) }
+    ensures unmixed { is_of kind.Work result ≡ false }
 {
     plan.is_closed();
     match next_restore(plan, journal, place) {
@@ -174,7 +181,8 @@ fn exception_named(
 
 /// What a participant does in a doomed place.
 fn due_doomed(plan: &Plan, journal: &[Entry], place: Place, by: Participant) -> Option<Entry>
-    ensures { result ≡ due_doomed plan.now (reverse journal.now) place by }
+    ensures entry { result ≡ due_doomed plan.now (reverse journal.now) place by }
+    ensures unmixed { IsUnmixed result }
 {
     if has_aborted(journal, place, by) {
         if all_have_aborted(plan, journal, place) {
@@ -199,18 +207,27 @@ fn due_doomed(plan: &Plan, journal: &[Entry], place: Place, by: Participant) -> 
 /// The End of a place whose roles have agreed on it.
 fn due_end(plan: &Plan, journal: &[Entry], place: Place, by: Participant) -> Entry
     requires legal { LegalPast plan.now (reverse journal.now) }
-    ensures { Some result ≡ due_end plan.now place by (signals (reverse journal.now) place (roles_of plan.now place)) }
+    ensures entry { Some result ≡ due_end plan.now place by (signals (reverse journal.now) place (roles_of plan.now place)) }
+    ensures kind { result.kind ≡ kind.End }
 {
     plan.is_closed();
     naming(Kind::End, place, by, least_signalled(plan, journal, place))
 }
 
-/// What a participant does that has given its verdict.
-fn due_agreed(plan: &Plan, journal: &[Entry], place: Place, by: Participant) -> Option<Entry>
+/// What a participant does that has given its verdict; `raised` says whether something was raised in the place.
+fn due_agreed(
+    plan: &Plan,
+    journal: &[Entry],
+    place: Place,
+    by: Participant,
+    raised: bool,
+) -> Option<Entry>
     requires legal { LegalPast plan.now (reverse journal.now) }
-    ensures { result ≡ due_agreed plan.now (reverse journal.now) place by }
+    requires raised { raised ≡ is_raised plan.now (reverse journal.now) place }
+    ensures entry { result ≡ due_agreed plan.now (reverse journal.now) place by }
+    ensures unmixed { IsUnmixed result }
 {
-    if !all_have_given(plan, journal, place) {
+    if !all_have_given(plan, journal, place, raised) {
         None
     } else if wants_undo(plan, journal, place) {
         Some(plainly(Kind::Undo, place, by))
@@ -229,7 +246,9 @@ fn due_held(
     object: Object,
     entry: Entry,
 ) -> Option<Entry>
-    ensures { result ≡ due_held plan.now (reverse journal.now) place object entry }
+    requires unmixed { is_of kind.Work entry ≡ false }
+    ensures entry { result ≡ due_held plan.now (reverse journal.now) place object entry }
+    ensures unmixed { IsUnmixed result }
 {
     if holds(plan, journal, place, object) {
         Some(entry)
@@ -238,7 +257,7 @@ fn due_held(
     }
 }
 
-/// A register plus a number, brought to the nearer end of the range of values.
+/// What an add step puts: the sum, except that one above `MOST_VALUE` or below its negative becomes that limit.
 fn clamped(register: i64, number: i64) -> i64
     requires register { IsValue register }
     requires number { IsValue number }
@@ -247,14 +266,16 @@ fn clamped(register: i64, number: i64) -> i64
     (register + number).clamp(-MOST_VALUE, MOST_VALUE)
 }
 
-/// The verdict of the program of a participant.
-fn final_verdict(plan: &Plan, journal: &[Entry], place: Place, by: Participant) -> Verdict
-    ensures { result ≡ (program_of plan.now (reverse journal.now) place by).verdict }
+/// What a participant says after the last step of its program.
+fn final_verdict(plan: &Plan, journal: &[Entry], place: Place, by: Participant) -> Entry
+    ensures entry { result ≡ verdict_entry place by (program_of plan.now (reverse journal.now) place by).verdict }
+    ensures kind { result.kind ≡ kind.Verdict }
 {
-    match program_of(plan, journal, place, by) {
+    let verdict = match program_of(plan, journal, place, by) {
         Some(program) => program.verdict,
         None => Verdict::Done,
-    }
+    };
+    verdict_entry(place, by, verdict)
 }
 
 /// What a participant does at its next step, which neither raises nor enters, and after its last.
@@ -265,53 +286,37 @@ fn due_step(
     by: Participant,
     step: Option<Step>,
     from: i64,
-) -> Option<Entry>
+) -> Option<Duty>
     requires legal { LegalPast plan.now (reverse journal.now) }
     requires step { step ≡ next_step plan.now (reverse journal.now) place by }
     requires start { from ≡ register plan.now (reverse journal.now) place by }
-    ensures { result ≡ due_step plan.now (reverse journal.now) place by step }
+    ensures entry { entry_in by result ≡ due_step plan.now (reverse journal.now) place by step }
+    ensures mixes { MixesRight plan.now (reverse journal.now) by result }
 {
     plan.is_closed();
     is_well_formed(plan);
     match step {
-        None => {
-            let verdict = final_verdict(plan, journal, place, by);
-            Some(verdict_entry(place, by, verdict))
-        }
+        None => Some(Duty::Make(final_verdict(plan, journal, place, by))),
         Some(Step::Read(object)) => {
             let value = value_at(plan, journal, object);
-            due_held(
-                plan,
-                journal,
-                place,
-                object,
-                says(Kind::Read, place, by, object, value),
-            )
+            let entry = says(Kind::Read, place, by, object, value);
+            Some(Duty::Make(due_held(plan, journal, place, object, entry)?))
         }
         Some(Step::Put(object, value)) => {
-            due_held(
-                plan,
-                journal,
-                place,
-                object,
-                says(Kind::Write, place, by, object, value),
-            )
+            let entry = says(Kind::Write, place, by, object, value);
+            Some(Duty::Make(due_held(plan, journal, place, object, entry)?))
         }
         Some(Step::Add(object, number)) => {
             let value = clamped(from, number);
-            due_held(
-                plan,
-                journal,
-                place,
-                object,
-                says(Kind::Write, place, by, object, value),
-            )
+            let entry = says(Kind::Write, place, by, object, value);
+            Some(Duty::Make(due_held(plan, journal, place, object, entry)?))
         }
-        Some(Step::Work(rounds)) => {
-            let result = WorkDone::make(from, rounds).result();
-            Some(says(Kind::Work, place, by, rounds, result))
-        }
-        Some(Step::Check { .. }) => Some(plainly(Kind::Check, place, by)),
+        Some(Step::Work(rounds)) => Some(Duty::Mix(Work {
+            place,
+            rounds,
+            from,
+        })),
+        Some(Step::Check { .. }) => Some(Duty::Make(plainly(Kind::Check, place, by))),
         Some(Step::Raise(_)) | Some(Step::Enter(_)) => None,
     }
 }
@@ -324,33 +329,35 @@ fn due_forward(
     by: Participant,
     step: Option<Step>,
     from: i64,
-) -> Option<Entry>
+) -> Option<Duty>
     requires legal { LegalPast plan.now (reverse journal.now) }
     requires step { step ≡ next_step plan.now (reverse journal.now) place by }
     requires start { from ≡ register plan.now (reverse journal.now) place by }
-    ensures { result ≡ due_forward plan.now (reverse journal.now) place by step }
+    ensures entry { entry_in by result ≡ due_forward plan.now (reverse journal.now) place by step }
+    ensures mixes { MixesRight plan.now (reverse journal.now) by result }
 {
     match step {
         Some(Step::Enter(nest)) => {
             let inner = place_entered(plan, journal, place, by, nest)?;
-            Some(plainly(Kind::Arrive, inner, by))
+            Some(Duty::Make(plainly(Kind::Arrive, inner, by)))
         }
         _ => due_step(plan, journal, place, by, step, from),
     }
 }
 
 /// What a participant does in a calm place.
-fn due_calm(plan: &Plan, journal: &[Entry], place: Place, by: Participant) -> Option<Entry>
+fn due_calm(plan: &Plan, journal: &[Entry], place: Place, by: Participant) -> Option<Duty>
     requires legal { LegalPast plan.now (reverse journal.now) }
     requires calm { is_raised plan.now (reverse journal.now) place ≡ false }
-    ensures { result ≡ due_calm plan.now (reverse journal.now) place by }
+    ensures entry { entry_in by result ≡ due_calm plan.now (reverse journal.now) place by }
+    ensures mixes { MixesRight plan.now (reverse journal.now) by result }
 {
-    if has_by(journal, Kind::Verdict, place, by) {
-        return due_agreed(plan, journal, place, by);
+    if has_said(plan, journal, place, by) {
+        return Some(Duty::Make(due_agreed(plan, journal, place, by, false)?));
     }
     let (step, from) = step_and_register(plan, journal, place, by);
     match raise_of(step, from) {
-        Some(exception) => Some(marked(Kind::Raise, place, by, 0, exception)),
+        Some(exception) => Some(Duty::Make(marked(Kind::Raise, place, by, 0, exception))),
         None => due_forward(plan, journal, place, by, step, from),
     }
 }
@@ -358,13 +365,14 @@ fn due_calm(plan: &Plan, journal: &[Entry], place: Place, by: Participant) -> Op
 // ---- recovery
 
 /// What a participant does in its handler.
-fn due_handler(plan: &Plan, journal: &[Entry], place: Place, by: Participant) -> Option<Entry>
+fn due_handler(plan: &Plan, journal: &[Entry], place: Place, by: Participant) -> Option<Duty>
     requires legal { LegalPast plan.now (reverse journal.now) }
-    ensures { result ≡ due_handler plan.now (reverse journal.now) place by }
+    ensures entry { entry_in by result ≡ due_handler plan.now (reverse journal.now) place by }
+    ensures mixes { MixesRight plan.now (reverse journal.now) by result }
 {
     let (step, from) = step_and_register(plan, journal, place, by);
     if was_refused_in_handler(journal, place, by) || raise_of(step, from).is_some() {
-        Some(verdict_entry(place, by, Verdict::Undo))
+        Some(Duty::Make(verdict_entry(place, by, Verdict::Undo)))
     } else {
         due_step(plan, journal, place, by, step, from)
     }
@@ -387,38 +395,39 @@ fn due_resolved(
     place: Place,
     by: Participant,
     exception: Exception,
-) -> Option<Entry>
+) -> Option<Duty>
     requires legal { LegalPast plan.now (reverse journal.now) }
-    ensures { result ≡ due_resolved plan.now (reverse journal.now) place by exception }
+    requires hot { is_raised plan.now (reverse journal.now) place ≡ true }
+    ensures entry { entry_in by result ≡ due_resolved plan.now (reverse journal.now) place by exception }
+    ensures mixes { MixesRight plan.now (reverse journal.now) by result }
 {
-    if has_given(plan, journal, place, by) {
-        due_agreed(plan, journal, place, by)
+    if has_given_after(journal, place, by) {
+        Some(Duty::Make(due_agreed(plan, journal, place, by, true)?))
     } else if has_handled(journal, place, by) {
         due_handler(plan, journal, place, by)
     } else if has_handler(plan, place, by, exception) {
-        Some(marked(Kind::Handle, place, by, 0, exception))
+        Some(Duty::Make(marked(Kind::Handle, place, by, 0, exception)))
     } else {
-        Some(verdict_entry(place, by, Verdict::Undo))
+        Some(Duty::Make(verdict_entry(place, by, Verdict::Undo)))
     }
 }
 
 /// The Resolve to an exception, where there is one.
 fn due_resolve(place: Place, by: Participant, exception: Option<Exception>) -> Option<Entry>
-    ensures { result ≡ due_resolve place by exception }
+    ensures entry { result ≡ due_resolve place by exception }
+    ensures unmixed { IsUnmixed result }
 {
     let exception = exception?;
     Some(marked(Kind::Resolve, place, by, 0, exception))
 }
 
-/// What a participant does that is halted.
-fn due_halted(plan: &Plan, journal: &[Entry], place: Place, by: Participant) -> Option<Entry>
+/// What a halted participant does while its place isn't resolved yet.
+fn due_unresolved(plan: &Plan, journal: &[Entry], place: Place, by: Participant) -> Option<Entry>
     requires legal { LegalPast plan.now (reverse journal.now) }
     requires hot { is_raised plan.now (reverse journal.now) place ≡ true }
-    ensures { result ≡ due_halted plan.now (reverse journal.now) place by (exception_resolved (reverse journal.now) place) }
+    ensures entry { result ≡ due_halted plan.now (reverse journal.now) place by None }
+    ensures unmixed { IsUnmixed result }
 {
-    if let Some(exception) = exception_resolved(journal, place) {
-        return due_resolved(plan, journal, place, by, exception);
-    }
     if !all_are_halted(plan, journal, place) {
         return None;
     }
@@ -426,19 +435,33 @@ fn due_halted(plan: &Plan, journal: &[Entry], place: Place, by: Participant) -> 
     due_resolve(place, by, least_raised(plan, journal, place))
 }
 
-/// What a participant does in a hot place.
-fn due_hot(plan: &Plan, journal: &[Entry], place: Place, by: Participant) -> Option<Entry>
+/// What a participant does that is halted.
+fn due_halted(plan: &Plan, journal: &[Entry], place: Place, by: Participant) -> Option<Duty>
     requires legal { LegalPast plan.now (reverse journal.now) }
     requires hot { is_raised plan.now (reverse journal.now) place ≡ true }
-    ensures { result ≡ due_hot plan.now (reverse journal.now) place by }
+    ensures entry { entry_in by result ≡ due_halted plan.now (reverse journal.now) place by (exception_resolved (reverse journal.now) place) }
+    ensures mixes { MixesRight plan.now (reverse journal.now) by result }
+{
+    match exception_resolved(journal, place) {
+        Some(exception) => due_resolved(plan, journal, place, by, exception),
+        None => Some(Duty::Make(due_unresolved(plan, journal, place, by)?)),
+    }
+}
+
+/// What a participant does in a hot place.
+fn due_hot(plan: &Plan, journal: &[Entry], place: Place, by: Participant) -> Option<Duty>
+    requires legal { LegalPast plan.now (reverse journal.now) }
+    requires hot { is_raised plan.now (reverse journal.now) place ≡ true }
+    ensures entry { entry_in by result ≡ due_hot plan.now (reverse journal.now) place by }
+    ensures mixes { MixesRight plan.now (reverse journal.now) by result }
 {
     if is_halted(plan, journal, place, by) {
         return due_halted(plan, journal, place, by);
     }
     let (step, from) = step_and_register(plan, journal, place, by);
     match raise_of(step, from) {
-        Some(exception) => Some(marked(Kind::Raise, place, by, 0, exception)),
-        None => Some(plainly(Kind::Inform, place, by)),
+        Some(exception) => Some(Duty::Make(marked(Kind::Raise, place, by, 0, exception))),
+        None => Some(Duty::Make(plainly(Kind::Inform, place, by))),
     }
 }
 
@@ -451,6 +474,7 @@ fn exception_carried(
     place: Place,
     by: Participant,
 ) -> Option<Exception>
+    requires { LegalPast plan.now (reverse journal.now) }
     ensures { result ≡ exception_carried plan.now (reverse journal.now) place by }
 {
     let outer = plan.parent(place)?;
@@ -480,28 +504,40 @@ fn abort_mapped(plan: &Plan, journal: &[Entry], place: Place, by: Participant) -
 }
 
 /// What a participant does in the place that it is in.
-fn due_inside(plan: &Plan, journal: &[Entry], place: Place, by: Participant) -> Option<Entry>
+fn due_inside(plan: &Plan, journal: &[Entry], place: Place, by: Participant) -> Option<Duty>
     requires legal { LegalPast plan.now (reverse journal.now) }
-    ensures { result ≡ due_inside plan.now (reverse journal.now) place by }
+    ensures entry { entry_in by result ≡ due_inside plan.now (reverse journal.now) place by }
+    ensures mixes { MixesRight plan.now (reverse journal.now) by result }
 {
     let course = course_of(plan, journal, place);
     if course.has_ended {
-        Some(naming(
-            Kind::Leave,
-            place,
-            by,
-            exception_carried(plan, journal, place, by),
-        ))
+        let exception = exception_carried(plan, journal, place, by);
+        Some(Duty::Make(naming(Kind::Leave, place, by, exception)))
     } else if !course.has_started {
-        due_waiting(plan, journal, place, by)
+        Some(Duty::Make(due_waiting(plan, journal, place, by)?))
     } else if course.is_undoing {
-        Some(due_restore(plan, journal, place, by))
+        Some(Duty::Make(due_restore(plan, journal, place, by)))
     } else if is_doomed(plan, journal, place) {
-        due_doomed(plan, journal, place, by)
+        Some(Duty::Make(due_doomed(plan, journal, place, by)?))
     } else if course.is_raised {
         due_hot(plan, journal, place, by)
     } else {
         due_calm(plan, journal, place, by)
+    }
+}
+
+/// What the rules give a participant to do. It takes no memory, and mixes nothing.
+fn duty_of(plan: &Plan, journal: &[Entry], by: Participant) -> Option<Duty>
+    requires legal { LegalPast plan.now (reverse journal.now) }
+    ensures entry { entry_in by result ≡ due_of plan.now (reverse journal.now) by }
+    ensures mixes { MixesRight plan.now (reverse journal.now) by result }
+{
+    match inside(plan, journal, by) {
+        Some(place) => due_inside(plan, journal, place, by),
+        None => {
+            let play = next_play(plan, journal, by)?;
+            Some(Duty::Make(plainly(Kind::Arrive, play, by)))
+        }
     }
 }
 
@@ -510,13 +546,7 @@ pub(crate) fn entry_due(plan: &Plan, journal: &[Entry], by: Participant) -> Opti
     requires legal { LegalPast plan.now (reverse journal.now) }
     ensures { result ≡ due_of plan.now (reverse journal.now) by }
 {
-    match inside(plan, journal, by) {
-        Some(place) => due_inside(plan, journal, place, by),
-        None => {
-            let play = next_play(plan, journal, by)?;
-            Some(plainly(Kind::Arrive, play, by))
-        }
-    }
+    Some(duty_of(plan, journal, by)?.entry(by))
 }
 
 /// Whether the device decides between this entry and its refusal.
@@ -540,27 +570,42 @@ pub(crate) fn refused(entry: Entry) -> Entry
     }
 }
 
-/// What the rules let a participant do after a legal journal. It takes no memory.
-pub fn due(plan: &Plan, journal: &Journal, by: Participant) -> Due
+/// What a participant does in its turn, after a legal journal. It takes no memory, and mixes nothing.
+pub(crate) fn turn(plan: &Plan, journal: &Journal, by: Participant) -> Turn
     requires legal { IsLegal plan.now journal.now.entries }
     requires known { by < length plan.now.participants }
-    ensures { IsDue plan.now (reverse journal.now.entries) by result }
+    ensures { IsTurn plan.now (reverse journal.now.entries) by result }
 {
     due_is_right(plan);
     let entries = journal.as_slice();
-    match entry_due(plan, entries, by) {
-        Some(entry) => if asks_device(&entry) {
+    let Some(duty) = duty_of(plan, entries, by) else {
+        return Turn::Act(if is_over(plan, entries, by) {
+            Due::Over
+        } else {
+            Due::NotYet
+        });
+    };
+    match duty {
+        Duty::Mix(work) => Turn::Mix(work),
+        Duty::Make(entry) => Turn::Act(if asks_device(&entry) {
             Due::Put {
                 well: entry,
                 fault: refused(entry),
             }
         } else {
             Due::Now(entry)
-        },
-        None => if is_over(plan, entries, by) {
-            Due::Over
-        } else {
-            Due::NotYet
-        },
+        }),
+    }
+}
+
+/// What the rules let a participant do after a legal journal. It takes no memory.
+pub fn due(plan: &Plan, journal: &Journal, by: Participant) -> Due
+    requires legal { IsLegal plan.now journal.now.entries }
+    requires known { by < length plan.now.participants }
+    ensures { IsDue plan.now (reverse journal.now.entries) by result }
+{
+    match turn(plan, journal, by) {
+        Turn::Mix(work) => Due::Now(work.mixed(by)),
+        Turn::Act(due) => due,
     }
 }

@@ -11,6 +11,7 @@ use Rattle.caa_base.specs.Lists.{member, index_of, last_or}
 use Rattle.place_plan.specs.Places.{around, top_of, is_within, initial_of}
 use Rattle.place_plan.specs.Objects.{restores, writes, is_within_any, value_of, value_outside, places_restoring}
 use Rattle.place_plan.specs.Journals.{plays_ended, committed_value}
+use Rattle.caa_base.proofs.ListLemmas.{one_more_each}
 use Rattle.journal_text.specs.declared.seens.Seen.{Seen}
 use Rattle.journal_text.specs.Text.{watched_object}
 use Rattle.journal_text.specs.Right.{is_committed}
@@ -18,12 +19,6 @@ use Rattle.journal_text.specs.CommittedValues.{is_of_first, value_by_first, valu
 use Rattle.journal_text.proofs.ValueLemmas.{within_any, any-same}
 
 -- ---- plays that are among the first
-
-one_more : (m n : ℕ) → nat_lt (suc m) (suc n) ≡ nat_lt m n
-one_more m n = elim (cases_lt m n) [
-  | inl l ↦ lt-ltb (suc m) (suc n) (omega arith) ∙ sym (lt-ltb m n l)
-  | inr l ↦ le-ltb (suc m) (suc n) (omega arith) ∙ sym (le-ltb m n l)
-]
 
 -- a play is among the first n just where its place among all is below n
 member_take : (q n : ℕ) (ps : List ℕ) → n ≤ length ps → member q (take n ps) ≡ nat_lt (index_of q ps) n
@@ -33,7 +28,7 @@ member_take q (suc n) (p ∷ ps) l = by (p == q) (member_take q n ps (omega arit
   where
     by : (b : Bool) → member q (take n ps) ≡ nat_lt (index_of q ps) n → (b || member q (take n ps)) ≡ nat_lt (cond b 0 (suc (index_of q ps))) (suc n)
     by true h = sym (lt-ltb 0 (suc n) (omega arith))
-    by false h = h ∙ sym (one_more (index_of q ps) n)
+    by false h = h ∙ sym (one_more_each (index_of q ps) n)
 
 module _ (plan : Plan) where
   -- ---- one entry less to look at

@@ -4,11 +4,10 @@ pub mod LooksLemmas
 pub mod ValueLemmas
 pub mod WordLemmas
 pub mod NamingLemmas
-pub mod OwnNames
+pub mod WellNamed
 pub mod EntryLines
 pub mod ReadingLemmas
 pub mod BadLines
 pub mod CommittedFits
-pub mod PlaceChains
 pub mod CommittedLemmas
 pub mod RightLooks

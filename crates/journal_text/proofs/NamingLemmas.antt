@@ -6,6 +6,7 @@ use Rattle.std.proofs.lemmas.List.{get_or_past}
 use Rattle.std.proofs.lemmas.List.Sums.{list_all-from_AllPass}
 use Rattle.std.proofs.lemmas.Slice.Eq.{bytes_eq-Decides}
 use Rattle.std.proofs.lemmas.Bool.{and_left, and_parts, and_from, or_from, ne_eqb, cases_lt, ltb-true, cases_eq, eq-eqb, eqb-true, false≢true}
+use Rattle.caa_base.specs.Limits.{most_name_bytes}
 use Rattle.caa_base.specs.Names.{is_name_byte, begins_with_letter, is_name}
 use Rattle.place_plan.specs.PlanValue.{Plan}
 use Rattle.place_plan.specs.Places.{no_graph, graph_at, exception_name}
@@ -29,7 +30,7 @@ whole-bytes [] h = refl
 whole-bytes (b ∷ word) h = let p = and_parts (is_name_byte b) (list_all is_name_byte word) h in and_from _ _ (no_gap b p.0) (whole-bytes word p.1)
 
 pub whole-name : (word : List ℕ) → is_name word ≡ true → is_whole word ≡ true
-whole-name word h = whole-bytes word (and_parts (nat_le (length word) 32) _ (and_parts (begins_with_letter word) _ h).1).1
+whole-name word h = whole-bytes word (and_parts (nat_le (length word) most_name_bytes) _ (and_parts (begins_with_letter word) _ h).1).1
 
 -- ---- lists
 

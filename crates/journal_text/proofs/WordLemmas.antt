@@ -1,9 +1,9 @@
 -- Words, numbers and names that were written are taken out of a line again.
-use Rattle.std.proofs.Common.{◌≡◌, ℕ, ℤ, pos, negsuc, ◌<◌, ◌≤◌, ◌+◌, ◌-◌, ◌%◌, ◌^◌, Bool, true, false, not, List, [], ◌∷◌, ◌++◌, nat_le, bytes_eq, decimal, refl, sym, ap, ◌∙◌, arith, rules, suc, add-one, append_assoc}
+use Rattle.std.proofs.Common.{◌≡◌, ℕ, ℤ, pos, negsuc, ◌<◌, ◌≤◌, ◌+◌, ◌-◌, ◌%◌, ◌^◌, Bool, true, false, not, List, [], ◌∷◌, ◌++◌, bytes_eq, decimal, refl, sym, ap, ◌∙◌, arith, rules, suc, add-one, append_assoc}
 use Rattle.std.specs.List.{list_all}
 use Rattle.std.specs.Fmt.{signed_decimal}
 use Rattle.std.specs.Str.Parse.{AllDigits}
-use Rattle.std.proofs.lemmas.Bool.{cond-true, cond-false, and_parts, and_from, le-leb, lt-leb, not-true}
+use Rattle.std.proofs.lemmas.Bool.{cond-true, cond-false, and_parts, and_from, le-leb, not-true}
 use Rattle.std.proofs.lemmas.Bool.Decides.{nat_tests}
 use Rattle.std.proofs.lemmas.Fmt.{decimal_by_steps, digits_value-decimal}
 use Rattle.std.proofs.lemmas.Str.Parse.{IsNumeralModel, numerals_by_fold, tells_digits}
@@ -12,7 +12,6 @@ use Rattle.caa_base.specs.Lines.{spaced, digits_after}
 use Rattle.caa_base.specs.Limits.{IsValue}
 use Rattle.journal_text.specs.Naming.{index_among}
 use Rattle.journal_text.specs.Words.{is_gap, word_in, after_word, next_word, after_next, number_in}
-use Rattle.caa_base.proofs.ReadDigits.{digits_after-ge}
 
 -- ---- words
 
@@ -75,12 +74,7 @@ own = numerals_by_fold (AllDigits 10) tells_digits digits_after (search rules)
 pub number_in-decimal : (most n : ℕ) → n ≤ most → n < 2 ^ 64 → number_in most (decimal n) ≡ n
 number_in-decimal most n fits small =
     let is : digits_after 0 (decimal n) ≡ n = digits_value-decimal own n small in
-    rw is (cond-true (nat_le n most) n 0 (le-leb n most fits))
-
--- a number past the most is none, whatever digits follow
-pub number_in-past : (most n : ℕ) (word rest : List ℕ) → most < n → digits_after n rest ≡ digits_after 0 word → 0 ≡ number_in most word
-number_in-past most n word rest past same =
-    sym (cond-false (nat_le (digits_after 0 word) most) (digits_after 0 word) 0 (lt-leb (digits_after 0 word) most (omega (arith, digits_after-ge n rest))))
+    rw (is, le-leb n most fits) refl
 
 -- ---- names
 

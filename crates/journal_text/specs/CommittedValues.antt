@@ -29,7 +29,8 @@ TellsRestored restored o later = (p : ℕ) → contains nat_eq restored p ≡ me
 
 -- a write of o that no later restore of its place, or of one round it, undoes
 abbrev pub counts : {S : Type 0} → Plan → HashSet ℕ S → ℕ → Entry → Bool
-counts plan restored o e = writes o e && not (contains nat_eq restored e.place || list_any (contains nat_eq restored) (around plan e.place))
+counts plan restored o e =
+    writes o e && not (contains nat_eq restored e.place || list_any (contains nat_eq restored) (around plan e.place))
 
 -- the set after an entry: a restore of o adds its place
 abbrev pub Notes : {S : Type 0} → ℕ → Entry → HashSet ℕ S → HashSet ℕ S → Type 0
@@ -48,7 +49,8 @@ abbrev pub TellsRanks : {S : Type 0} → HashMap ℕ ℕ S → List ℕ → Type
 TellsRanks ranks ended = (p : ℕ) → unwrap_or (get nat_eq ranks p) (length ended) ≡ index_of p ended
 
 -- of the values by the first 0, 1, 2 .. plays those above `lowest` are known, and the others are as at first
-pub record KnowsAbove (plan : Plan) (ended : List ℕ) (o : ℕ) (values : List ℤ) (lowest : ℕ) (all past later : List Entry) : Type 0 where
+pub record KnowsAbove (plan : Plan) (ended : List ℕ) (o : ℕ) (values : List ℤ) (lowest : ℕ)
+    (all past later : List Entry) : Type 0 where
   pub size : length values ≡ suc (length ended)
   pub low : lowest ≤ length ended
   pub initial : (n : ℕ) → n ≤ lowest → slice_index_or values n (pos 0) ≡ initial_of plan o
@@ -62,7 +64,9 @@ pub record HasCommitted (plan : Plan) (ended : List ℕ) (past : List Entry) (o 
 
 -- the value by so many plays that ended, or by all where there are fewer
 abbrev pub value_by : List ℤ → ℕ → ℤ
-value_by values n = if nat_lt n (length values - 1) then slice_index_or values n (pos 0) else slice_index_or values (length values - 1) (pos 0)
+value_by values n =
+    if nat_lt n (length values - 1) then slice_index_or values n (pos 0)
+    else slice_index_or values (length values - 1) (pos 0)
 
 -- the tables have these values for the objects of the first so many watches
 pub record HasWatched (plan : Plan) (ended : List ℕ) (past : List Entry) (tables : List (List ℤ)) (watches : ℕ) : Type 0 where

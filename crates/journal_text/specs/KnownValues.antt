@@ -28,7 +28,8 @@ value_left plan found past later o = unwrap_or (slice_index_or found o None) (va
 -- what is found after a write: its value, where none was found yet and it isn't undone later
 abbrev pub found_after_write : Plan → List (Option ℤ) → List Bool → Entry → List (Option ℤ)
 found_after_write plan found restored e =
-    if is_none (slice_index_or found e.arg None) && not (was_undone plan restored e.arg e.place) then slice_set found e.arg (Some e.value)
+    if is_none (slice_index_or found e.arg None) && not (was_undone plan restored e.arg e.place)
+    then slice_set found e.arg (Some e.value)
     else found
 
 -- what is found after an entry
@@ -38,7 +39,8 @@ found_after _ plan found restored e = found
 
 -- the table after a restore
 abbrev pub restored_after_restore : Plan → List Bool → Entry → List Bool
-restored_after_restore plan restored e = if e.mark == 0 then slice_set restored (e.arg * length plan.places + e.place) true else restored
+restored_after_restore plan restored e =
+    if e.mark == 0 then slice_set restored (e.arg * length plan.places + e.place) true else restored
 
 -- the table after an entry
 abbrev pub restored_after : Kind → Plan → List Bool → Entry → List Bool

@@ -29,7 +29,9 @@ is_named_graph plan g = are_names (exception_name plan g) (graph_at plan g).coun
 
 -- the watch is of an object of the plan, and none before it is of the same
 abbrev pub is_own_watch : Plan → ℕ → Bool
-is_own_watch plan w = nat_lt (watched_object plan w) (length plan.objects) && (watch_in plan (object_name plan (watched_object plan w)) == w)
+is_own_watch plan w =
+    nat_lt (watched_object plan w) (length plan.objects)
+    && (watch_in plan (object_name plan (watched_object plan w)) == w)
 
 -- the test of own names: participants, objects and the exceptions of each graph have names by the grammar that differ, and no
 -- object is watched twice

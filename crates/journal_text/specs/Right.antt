@@ -74,4 +74,5 @@ first_wrong plan journal seens = first_wrong_from plan (reverse journal) None se
 
 -- no look is wrong exactly where what was seen is right
 abbrev pub NoneIsWrong : Plan → Type 0
-NoneIsWrong plan = (journal : List Entry) (seens : List Seen) → (first_wrong plan journal seens ≡ None) ↔ AreRight plan journal seens
+NoneIsWrong plan =
+    (journal : List Entry) (seens : List Seen) → (first_wrong plan journal seens ≡ None) ↔ AreRight plan journal seens

@@ -47,7 +47,9 @@ pub record IsFirstBad (plan : Plan) (limit : ℕ) (bytes : List ℕ) (number : �
   pub seens : List Seen
   pub fit : HasText plan limit journal seens
   pub before : suc (lines_shared bytes (text_of plan journal seens)) ≡ number
-  pub most : (others : List Entry) (more : List Seen) → HasText plan limit others more → lines_shared bytes (text_of plan others more) < number
+  pub most :
+      (others : List Entry) (more : List Seen) → HasText plan limit others more
+      → lines_shared bytes (text_of plan others more) < number
 
 -- why bytes are refused; want of memory may always come
 abbrev pub Refuses : Plan → ℕ → List ℕ → TextError → Type 0

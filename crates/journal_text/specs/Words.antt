@@ -1,5 +1,5 @@
 -- How a line of a text is taken apart without regard to whether it is well written: what was taken is written again and compared.
-use Rattle.std.specs.Prelude.{ℕ, ℤ, pos, neg_ℤ, ◌==◌, nat_le, if◌then◌else◌, Bool, false, ◌||◌, List, [], ◌∷◌, length, drop, Option, Some, None, option_map, bytes_eq, codes}
+use Rattle.std.specs.Prelude.{ℕ, ℤ, pos, neg_ℤ, ◌-◌, ◌^◌, ◌==◌, if◌then◌else◌, Bool, false, ◌||◌, List, [], ◌∷◌, length, drop, Option, Some, None, option_map, unwrap_or, bytes_eq, codes}
 use Rattle.caa_base.specs.Limits.{most_value, most_count}
 use Rattle.caa_base.specs.declared.entry.Entry.{Entry}
 use Rattle.caa_base.specs.declared.entry.Kind.{Kind}
@@ -10,7 +10,7 @@ use Rattle.journal_text.specs.declared.seens.Seen.{Seen}
 use Rattle.journal_text.specs.declared.entry_line.Fields.{Fields}
 use Rattle.journal_text.specs.Text.{participant_name, object_name}
 use Rattle.journal_text.specs.Naming.{index_among, watch_in}
-use Rattle.caa_base.specs.Lines.{digits_after}
+use Rattle.caa_base.specs.Lines.{digits_within}
 
 -- ---- words
 
@@ -45,7 +45,7 @@ goes_on (b ∷ text) = b == 32
 
 -- the number of these digits, and 0 past the most
 abbrev pub number_in : ℕ → List ℕ → ℕ
-number_in most word = if nat_le (digits_after 0 word) most then digits_after 0 word else 0
+number_in most word = unwrap_or (digits_within most word) 0
 
 -- the number with its sign, within a million million on either side
 abbrev pub value_in : List ℕ → ℤ
@@ -104,7 +104,8 @@ naming mark x = record { arg = x; mark = mark; value = pos 0 }
 
 -- an object and a value, under a mark
 abbrev pub object_fields : Plan → List ℕ → ℕ → Fields
-object_fields plan rest mark = record { arg = object_in plan (next_word rest); mark = mark; value = value_in (next_word (after_next rest)) }
+object_fields plan rest mark =
+    record { arg = object_in plan (next_word rest); mark = mark; value = value_in (next_word (after_next rest)) }
 
 -- a number of rounds and a result
 abbrev pub work_fields : List ℕ → Fields
@@ -162,7 +163,7 @@ entry_with k p t f = record { kind = k; place = p; by = t; arg = f.arg; mark = f
 -- the entry whose kind is known, by what stands after the kind's word
 abbrev pub entry_after : Plan → List ℕ → Kind → Entry
 entry_after plan rest k =
-    let p = number_in 4294967295 (next_word rest) in
+    let p = number_in (2 ^ 32 - 1) (next_word rest) in
     entry_with k p (participant_in plan (next_word (after_next rest))) (fields_in k plan p (after_next (after_next rest)))
 
 -- the entry that a text seems to begin with
@@ -175,6 +176,6 @@ seen_in plan text =
     let rest = after_word text in
     record {
       watch = watch_in plan (next_word rest);
-      ends = number_in 18446744073709551615 (next_word (after_next rest));
+      ends = number_in (2 ^ 64 - 1) (next_word (after_next rest));
       value = value_in (next_word (after_next (after_next rest)));
     }

@@ -5,11 +5,11 @@ ghost use Rattle.std.specs.List.{list_any};
 ghost use Rattle.std.specs.HashSet.{contains};
 ghost use Rattle.caa_base.specs.Lists.{index_of};
 ghost use Rattle.place_plan.specs.Places.{around, top_of, initial_of};
-ghost use Rattle.place_plan.specs.Objects.{restores, writes};
 ghost use Rattle.journal_text.specs.CommittedValues.{TellsRanks, HasCommitted, counts, Notes, lowest_after, value_after};
 
-use caa_base::entry::{Entry, Kind, Object, Place};
+use caa_base::entry::{Entry, Object, Place};
 use place_plan::plan::Plan;
+use place_plan::value::{restores, writes};
 use std::alloc::{AllocError, Global};
 use std::collections::{HashMap, HashSet};
 
@@ -51,13 +51,13 @@ pub(crate) fn committed_values(
     ensures { IfOk result (λ values. HasCommitted plan.now ended.now (reverse entries.now) object values.items) }
 {
     plan.is_closed();
-    let mut values = initial_values(alloc, plan, object, ended.len() + 1)?;
+    let mut values = repeated_initial(alloc, plan, object, ended.len() + 1)?;
     look_back(alloc, plan, entries, ended, ranks, object, &mut values)?;
     Ok(values)
 }
 
 /// So many times the value that an object has at first.
-fn initial_values(
+fn repeated_initial(
     alloc: Global,
     plan: &Plan,
     object: Object,
@@ -170,18 +170,4 @@ fn is_undone_around(plan: &Plan, restored: &HashSet<Place>, place: Place) -> boo
     plan.around(place)
         .iter()
         .any(|outer| restored.contains(outer))
-}
-
-/// Whether an entry restores the object, and the device took it.
-fn restores(entry: &Entry, object: Object) -> bool
-    ensures { result ≡ restores object entry.now }
-{
-    entry.kind == Kind::Restore && entry.arg == object && entry.mark == 0
-}
-
-/// Whether an entry writes the object.
-fn writes(entry: &Entry, object: Object) -> bool
-    ensures { result ≡ writes object entry.now }
-{
-    entry.kind == Kind::Write && entry.arg == object
 }

@@ -1,8 +1,5 @@
-ghost use Rattle.std.specs.Prelude.{◌≡◌, ◌<◌, ◌+◌, ◌&&◌, ◌==◌, [], true, length, reverse, slice_index_or, Some, None, IfOk, is_none};
+ghost use Rattle.std.specs.Prelude.{◌≡◌, ◌<◌, ◌+◌, ◌&&◌, ◌==◌, [], true, length, reverse, slice_index_or, Some, None, IfOk};
 ghost use Rattle.std.specs.Ordering.{int_eq};
-ghost use Rattle.caa_base.specs.declared.entry.Kind.TheVariants as kind;
-ghost use Rattle.place_plan.specs.Places.{parent};
-ghost use Rattle.place_plan.specs.Entries.{is_of};
 ghost use Rattle.place_plan.specs.Journals.{plays_ended};
 ghost use Rattle.journal_text.specs.Looks.{AreOfPlan};
 ghost use Rattle.journal_text.specs.Naming.{is_well_named};
@@ -12,9 +9,10 @@ ghost use Rattle.journal_text.specs.Right.{is_committed, follows, is_followed, i
 
 use crate::play_values::{committed_values, ranks_of};
 use crate::seens::{Seen, Seens};
-use caa_base::entry::{Entry, Kind, Object, OutOfMemory, Place};
+use caa_base::entry::{Entry, Object, OutOfMemory, Place};
 use caa_base::journal::Journal;
 use caa_base::rows::Rows;
+use place_plan::one_entry::ends_play;
 use place_plan::plan::Plan;
 use std::alloc::{AllocError, Global};
 
@@ -84,13 +82,6 @@ fn plays_ended(alloc: Global, plan: &Plan, entries: &[Entry]) -> Result<Vec<Plac
         }
     }
     Ok(ended)
-}
-
-/// Whether an entry is the End of a play.
-fn ends_play(plan: &Plan, entry: &Entry) -> bool
-    ensures { result ≡ (is_of kind.End entry.now && is_none (parent plan.now entry.now.place)) }
-{
-    entry.kind == Kind::End && plan.parent(entry.place).is_none()
 }
 
 /// Whether a look may follow on the one before it.

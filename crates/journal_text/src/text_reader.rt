@@ -13,7 +13,6 @@ use crate::seens::{Seen, Seens};
 use crate::text_writer::{push_entry, push_objects, push_outcomes, push_seen, write_text};
 use caa_base::entry::{Entry, OutOfMemory};
 use caa_base::journal::Journal;
-use caa_base::line::in_memory;
 use place_plan::plan::Plan;
 use place_plan::well_formed::is_well_formed;
 use std::alloc::{AllocError, AllocFailed, Global};
@@ -89,7 +88,7 @@ fn after_entry<'a>(
     ensures { IfOk result (λ after. IsAfter (λ r. r.now) (entry_line plan.now entry.now) text.now after) }
 {
     let mut line = Vec::new(alloc);
-    in_memory(push_entry(&mut line, plan, entry))?;
+    push_entry(&mut line, plan, entry)?;
     Ok(after_front(text, line.as_slice()))
 }
 
@@ -104,7 +103,7 @@ fn after_seen<'a>(
     ensures { IfOk result (λ after. IsAfter (λ r. r.now) (seen_line plan.now seen.now) text.now after) }
 {
     let mut line = Vec::new(alloc);
-    in_memory(push_seen(&mut line, plan, seen))?;
+    push_seen(&mut line, plan, seen)?;
     Ok(after_front(text, line.as_slice()))
 }
 
@@ -119,7 +118,7 @@ fn after_objects<'a>(
     ensures { IfOk result (λ after. IsAfter (λ r. r.now) (object_lines plan.now (reverse entries.now)) text.now after) }
 {
     let mut objects = Vec::new(alloc);
-    in_memory(push_objects(alloc, &mut objects, plan, entries))?;
+    push_objects(alloc, &mut objects, plan, entries)?;
     Ok(after_front(text, objects.as_slice()))
 }
 
@@ -134,7 +133,7 @@ fn after_outcomes<'a>(
     ensures { IfOk result (λ after. IsAfter (λ r. r.now) (outcome_lines plan.now (reverse entries.now)) text.now after) }
 {
     let mut outcomes = Vec::new(alloc);
-    in_memory(push_outcomes(alloc, &mut outcomes, plan, entries))?;
+    push_outcomes(alloc, &mut outcomes, plan, entries)?;
     Ok(after_front(text, outcomes.as_slice()))
 }
 

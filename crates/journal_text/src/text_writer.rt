@@ -4,7 +4,6 @@ ghost use Rattle.caa_base.specs.declared.entry.Kind.TheVariants as kind;
 ghost use Rattle.caa_base.specs.Lines.{spaced, line};
 ghost use Rattle.place_plan.specs.Places.{parent};
 ghost use Rattle.place_plan.specs.Entries.{is_of};
-ghost use Rattle.place_plan.specs.Roles.{verdict_at};
 ghost use Rattle.place_plan.specs.WellFormed.{IsWellFormed, AllWellFormed};
 ghost use Rattle.journal_text.specs.Text.{action_name, object_name, internal_name, interface_name, kind_word, object_words, restore_word, verdict_words, outcome_at, outcome_words, abort_words, leave_words, field_words, entry_line, object_lines, last_outcome, ending_words, outcome_lines, closing_lines, seen_line, text_of};
 ghost use Rattle.journal_text.specs.KnownValues.{value_found};
@@ -14,11 +13,10 @@ use crate::seens::{Seen, Seens};
 use crate::values::{last_values, value_found};
 use caa_base::entry::{Entry, Exception, Kind, Object, OutOfMemory, Outcome, Place, Verdict};
 use caa_base::journal::Journal;
-use caa_base::line::in_memory;
+use caa_base::line::{end_line, push_number, push_value, push_word};
+use place_plan::one_entry::verdict_at;
 use place_plan::plan::Plan;
 use std::alloc::{AllocError, Global};
-use std::io;
-use std::io::Write;
 
 /// The text of a journal: one line for each entry, with the names of the plan, then the value of each object and the outcome of
 /// each place, and then what was seen.
@@ -47,7 +45,7 @@ pub(crate) fn write_text(
     ensures { IfOk result (λ text. text.items ≡ text_of plan.now entries.now seens.now) }
 {
     let mut text = Vec::new(alloc);
-    in_memory(push_text(alloc, &mut text, plan, entries, seens))?;
+    push_text(alloc, &mut text, plan, entries, seens)?;
     Ok(text)
 }
 
@@ -58,7 +56,7 @@ fn push_text(
     plan: &Plan,
     entries: &[Entry],
     seens: &[Seen],
-) -> io::Result<()>
+) -> Result<(), OutOfMemory>
     requires entries { AllWellFormed plan.now entries.now }
     requires watches { AreOfPlan plan.now seens.now }
     ensures { OnOk result (text.new.items ≡ text.old.items ++ text_of plan.now entries.now seens.now) }
@@ -70,7 +68,7 @@ fn push_text(
 }
 
 /// Adds a line for each entry.
-fn push_entries(text: &mut Vec<u8>, plan: &Plan, entries: &[Entry]) -> io::Result<()>
+fn push_entries(text: &mut Vec<u8>, plan: &Plan, entries: &[Entry]) -> Result<(), OutOfMemory>
     requires { AllWellFormed plan.now entries.now }
     ensures { OnOk result (text.new.items ≡ text.old.items ++ flat_map (entry_line plan.now) entries.now) }
 {
@@ -81,7 +79,12 @@ fn push_entries(text: &mut Vec<u8>, plan: &Plan, entries: &[Entry]) -> io::Resul
 }
 
 /// Adds the lines that follow from the entries.
-fn push_closing(alloc: Global, text: &mut Vec<u8>, plan: &Plan, entries: &[Entry]) -> io::Result<()>
+fn push_closing(
+    alloc: Global,
+    text: &mut Vec<u8>,
+    plan: &Plan,
+    entries: &[Entry],
+) -> Result<(), OutOfMemory>
     requires { AllWellFormed plan.now entries.now }
     ensures { OnOk result (text.new.items ≡ text.old.items ++ closing_lines plan.now (reverse entries.now)) }
 {
@@ -90,7 +93,7 @@ fn push_closing(alloc: Global, text: &mut Vec<u8>, plan: &Plan, entries: &[Entry
 }
 
 /// Adds a line for each look.
-fn push_seens(text: &mut Vec<u8>, plan: &Plan, seens: &[Seen]) -> io::Result<()>
+fn push_seens(text: &mut Vec<u8>, plan: &Plan, seens: &[Seen]) -> Result<(), OutOfMemory>
     requires { AreOfPlan plan.now seens.now }
     ensures { OnOk result (text.new.items ≡ text.old.items ++ flat_map (seen_line plan.now) seens.now) }
 {
@@ -107,7 +110,7 @@ pub(crate) fn push_objects(
     text: &mut Vec<u8>,
     plan: &Plan,
     entries: &[Entry],
-) -> io::Result<()>
+) -> Result<(), OutOfMemory>
     requires { AllWellFormed plan.now entries.now }
     ensures { OnOk result (text.new.items ≡ text.old.items ++ object_lines plan.now (reverse entries.now)) }
 {
@@ -125,7 +128,7 @@ pub(crate) fn push_outcomes(
     text: &mut Vec<u8>,
     plan: &Plan,
     entries: &[Entry],
-) -> io::Result<()>
+) -> Result<(), OutOfMemory>
     requires { AllWellFormed plan.now entries.now }
     ensures { OnOk result (text.new.items ≡ text.old.items ++ outcome_lines plan.now (reverse entries.now)) }
 {
@@ -163,15 +166,15 @@ fn is_end(entry: &Entry) -> bool
 }
 
 /// Adds the line of an entry.
-pub(crate) fn push_entry(text: &mut Vec<u8>, plan: &Plan, entry: &Entry) -> io::Result<()>
+pub(crate) fn push_entry(text: &mut Vec<u8>, plan: &Plan, entry: &Entry) -> Result<(), OutOfMemory>
     requires { IsWellFormed plan.now entry.now }
     ensures { OnOk result (text.new.items ≡ text.old.items ++ entry_line plan.now entry.now) }
 {
     text.extend_from_slice(kind_word(entry.kind))?;
-    write!(text, " {}", entry.place)?;
+    push_number(text, u64::from(entry.place))?;
     push_word(text, plan.participant_name(entry.by))?;
     push_fields(text, plan, entry)?;
-    push_end(text)
+    end_line(text)
 }
 
 /// Adds the line of an object with the value that was found for it.
@@ -180,7 +183,7 @@ fn push_object_line(
     plan: &Plan,
     object: Object,
     found: &[Option<i64>],
-) -> io::Result<()>
+) -> Result<(), OutOfMemory>
     requires object { object < length plan.now.objects }
     requires objects { length found.now ≡ length plan.now.objects }
     ensures { OnOk result (text.new.items
@@ -188,7 +191,7 @@ fn push_object_line(
 {
     text.extend_from_slice(b"object")?;
     push_object(text, plan, object, value_found(plan, found, object))?;
-    push_end(text)
+    end_line(text)
 }
 
 /// Adds the line of a place that ended so, or that hasn't ended.
@@ -197,47 +200,31 @@ fn push_ending(
     plan: &Plan,
     place: Place,
     outcome: Option<Outcome>,
-) -> io::Result<()>
+) -> Result<(), OutOfMemory>
     ensures { OnOk result (text.new.items
         ≡ text.old.items
         ++ line (codes "outcome") (decimal place ∷ action_name plan.now place ∷ ending_words plan.now place outcome)) }
 {
     text.extend_from_slice(b"outcome")?;
-    write!(text, " {place}")?;
+    push_number(text, u64::from(place))?;
     push_word(text, plan.action_name(place))?;
     match outcome {
         Some(outcome) => push_outcome(text, plan, place, outcome)?,
         None => push_word(text, b"none")?,
     }
-    push_end(text)
-}
-
-/// Adds the end of a line.
-fn push_end(text: &mut Vec<u8>) -> io::Result<()>
-    ensures { OnOk result (text.new.items ≡ text.old.items ++ 10 ∷ []) }
-{
-    text.push(b'\n')?;
-    Ok(())
-}
-
-/// Adds a space and a word.
-fn push_word(text: &mut Vec<u8>, word: &[u8]) -> io::Result<()>
-    ensures { OnOk result (text.new.items ≡ text.old.items ++ 32 ∷ word.now) }
-{
-    text.push(b' ')?;
-    text.extend_from_slice(word)?;
-    Ok(())
+    end_line(text)
 }
 
 /// Adds the line of a look.
-pub(crate) fn push_seen(text: &mut Vec<u8>, plan: &Plan, seen: &Seen) -> io::Result<()>
+pub(crate) fn push_seen(text: &mut Vec<u8>, plan: &Plan, seen: &Seen) -> Result<(), OutOfMemory>
     requires { seen.now.watch < length plan.now.watches }
     ensures { OnOk result (text.new.items ≡ text.old.items ++ seen_line plan.now seen.now) }
 {
     text.extend_from_slice(b"seen")?;
     push_word(text, object_name(plan, plan.watch(seen.watch)))?;
-    write!(text, " {} {}", seen.ends, seen.value)?;
-    push_end(text)
+    push_number(text, seen.ends)?;
+    push_value(text, seen.value)?;
+    end_line(text)
 }
 
 /// The name of an object, which is empty past the last one.
@@ -252,11 +239,16 @@ pub(crate) fn object_name(plan: &Plan, object: Object) -> &[u8]
 }
 
 /// Adds the name of an object and its value.
-fn push_object(text: &mut Vec<u8>, plan: &Plan, object: Object, value: i64) -> io::Result<()>
+fn push_object(
+    text: &mut Vec<u8>,
+    plan: &Plan,
+    object: Object,
+    value: i64,
+) -> Result<(), OutOfMemory>
     ensures { OnOk result (text.new.items ≡ text.old.items ++ spaced (object_words plan.now object value)) }
 {
     push_word(text, object_name(plan, object))?;
-    write!(text, " {value}")
+    push_value(text, value)
 }
 
 /// Adds the name of an exception that is raised in a place.
@@ -265,8 +257,8 @@ fn push_internal(
     plan: &Plan,
     place: Place,
     exception: Exception,
-) -> io::Result<()>
-    ensures { OnOk result (text.new.items ≡ text.old.items ++ 32 ∷ internal_name plan.now place exception) }
+) -> Result<(), OutOfMemory>
+    ensures { OnOk result (text.new.items ≡ text.old.items ++ spaced (internal_name plan.now place exception ∷ [])) }
 {
     push_word(
         text,
@@ -280,8 +272,8 @@ fn push_interface(
     plan: &Plan,
     place: Place,
     exception: Exception,
-) -> io::Result<()>
-    ensures { OnOk result (text.new.items ≡ text.old.items ++ 32 ∷ interface_name plan.now place exception) }
+) -> Result<(), OutOfMemory>
+    ensures { OnOk result (text.new.items ≡ text.old.items ++ spaced (interface_name plan.now place exception ∷ [])) }
 {
     push_word(
         text,
@@ -290,7 +282,7 @@ fn push_interface(
 }
 
 /// Adds what an entry says beside its kind, its place and its maker.
-fn push_fields(text: &mut Vec<u8>, plan: &Plan, entry: &Entry) -> io::Result<()>
+fn push_fields(text: &mut Vec<u8>, plan: &Plan, entry: &Entry) -> Result<(), OutOfMemory>
     requires { IsWellFormed plan.now entry.now }
     ensures { OnOk result (text.new.items ≡ text.old.items ++ spaced (field_words entry.now.kind plan.now entry.now)) }
 {
@@ -301,14 +293,17 @@ fn push_fields(text: &mut Vec<u8>, plan: &Plan, entry: &Entry) -> io::Result<()>
             entry.arg,
             entry.value,
         ),
-        Kind::Work => write!(text, " {} {}", entry.arg, entry.value),
+        Kind::Work => {
+            push_number(text, u64::from(entry.arg))?;
+            push_value(text, entry.value)
+        },
         Kind::Raise | Kind::Resolve | Kind::Handle => push_internal(
             text,
             plan,
             entry.place,
             entry.arg,
         ),
-        Kind::Verdict => push_verdict(text, plan, entry.place, verdict_of(entry)),
+        Kind::Verdict => push_verdict(text, plan, entry.place, verdict_at(entry)),
         Kind::Abort => push_abort(text, plan, entry),
         Kind::Restore => push_restore(text, plan, entry),
         Kind::End => push_outcome(text, plan, entry.place, outcome_of(entry)),
@@ -320,7 +315,7 @@ fn push_fields(text: &mut Vec<u8>, plan: &Plan, entry: &Entry) -> io::Result<()>
 }
 
 /// Adds the exception that an Abort names, if it names one.
-fn push_abort(text: &mut Vec<u8>, plan: &Plan, entry: &Entry) -> io::Result<()>
+fn push_abort(text: &mut Vec<u8>, plan: &Plan, entry: &Entry) -> Result<(), OutOfMemory>
     ensures { OnOk result (text.new.items ≡ text.old.items ++ spaced (abort_words plan.now entry.now)) }
 {
     if entry.mark == 1 {
@@ -330,7 +325,7 @@ fn push_abort(text: &mut Vec<u8>, plan: &Plan, entry: &Entry) -> io::Result<()>
 }
 
 /// Adds the exception that a Leave carries into the place round its own, if it carries one.
-fn push_leave(text: &mut Vec<u8>, plan: &Plan, entry: &Entry) -> io::Result<()>
+fn push_leave(text: &mut Vec<u8>, plan: &Plan, entry: &Entry) -> Result<(), OutOfMemory>
     ensures { OnOk result (text.new.items
         ≡ text.old.items ++ spaced (leave_words plan.now (parent plan.now entry.now.place) entry.now)) }
 {
@@ -341,7 +336,7 @@ fn push_leave(text: &mut Vec<u8>, plan: &Plan, entry: &Entry) -> io::Result<()>
 }
 
 /// Adds the object and the value of a restore, and whether the device took it.
-fn push_restore(text: &mut Vec<u8>, plan: &Plan, entry: &Entry) -> io::Result<()>
+fn push_restore(text: &mut Vec<u8>, plan: &Plan, entry: &Entry) -> Result<(), OutOfMemory>
     ensures { OnOk result (text.new.items
         ≡ text.old.items ++ spaced (object_words plan.now entry.now.arg entry.now.value ++ restore_word entry.now.mark ∷ [])) }
 {
@@ -354,7 +349,12 @@ fn push_restore(text: &mut Vec<u8>, plan: &Plan, entry: &Entry) -> io::Result<()
 }
 
 /// Adds the words of a verdict in a place.
-fn push_verdict(text: &mut Vec<u8>, plan: &Plan, place: Place, verdict: Verdict) -> io::Result<()>
+fn push_verdict(
+    text: &mut Vec<u8>,
+    plan: &Plan,
+    place: Place,
+    verdict: Verdict,
+) -> Result<(), OutOfMemory>
     ensures { OnOk result (text.new.items ≡ text.old.items ++ spaced (verdict_words plan.now place verdict)) }
 {
     match verdict {
@@ -368,7 +368,12 @@ fn push_verdict(text: &mut Vec<u8>, plan: &Plan, place: Place, verdict: Verdict)
 }
 
 /// Adds the words of an outcome of a place.
-fn push_outcome(text: &mut Vec<u8>, plan: &Plan, place: Place, outcome: Outcome) -> io::Result<()>
+fn push_outcome(
+    text: &mut Vec<u8>,
+    plan: &Plan,
+    place: Place,
+    outcome: Outcome,
+) -> Result<(), OutOfMemory>
     ensures { OnOk result (text.new.items ≡ text.old.items ++ spaced (outcome_words plan.now place outcome)) }
 {
     match outcome {
@@ -380,17 +385,6 @@ fn push_outcome(text: &mut Vec<u8>, plan: &Plan, place: Place, outcome: Outcome)
         Outcome::Undone => push_word(text, b"undone"),
         Outcome::Aborted => push_word(text, b"aborted"),
         Outcome::Failed => push_word(text, b"failed"),
-    }
-}
-
-/// The verdict that an entry says.
-fn verdict_of(entry: &Entry) -> Verdict
-    ensures { result ≡ verdict_at entry.now }
-{
-    match entry.mark {
-        0 => Verdict::Done,
-        1 => Verdict::Signal(entry.arg),
-        _ => Verdict::Undo,
     }
 }
 

@@ -99,7 +99,7 @@ fn is_undone(plan: &Plan, restored: &[bool], entry: &Entry) -> bool
     requires places { length restored.now ≡ length plan.now.objects * length plan.now.places }
     ensures { result ≡ was_undone plan.now restored.now entry.now.arg entry.now.place }
 {
-    was_restored(plan, restored, entry.arg, entry.place) || is_undone_around(plan, restored, entry)
+    was_restored(plan, restored, entry.place, entry.arg) || is_undone_around(plan, restored, entry)
 }
 
 /// The same of the places round that of the entry.
@@ -110,11 +110,11 @@ fn is_undone_around(plan: &Plan, restored: &[bool], entry: &Entry) -> bool
 {
     plan.around(entry.place)
         .iter()
-        .any(|outer| was_restored(plan, restored, entry.arg, *outer))
+        .any(|outer| was_restored(plan, restored, *outer, entry.arg))
 }
 
-/// Whether an object was restored later in a place.
-fn was_restored(plan: &Plan, restored: &[bool], object: Object, place: Place) -> bool
+/// Whether in a place an object was restored later.
+fn was_restored(plan: &Plan, restored: &[bool], place: Place, object: Object) -> bool
     requires object { object < length plan.now.objects }
     requires places { length restored.now ≡ length plan.now.objects * length plan.now.places }
     ensures { result ≡ was_restored plan.now restored.now object place }

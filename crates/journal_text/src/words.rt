@@ -1,10 +1,8 @@
 ghost use Rattle.std.specs.Prelude.{◌≡◌, ◌≤◌};
 ghost use Rattle.journal_text.specs.Words.{is_gap, word_in, after_word, next_word, after_next, goes_on, number_in, value_in};
 
-use caa_base::limits;
-
-/// The greatest value; the least is its negative.
-const MOST_VALUE: u64 = limits::MOST_VALUE as u64;
+use caa_base::digits::digits_within;
+use caa_base::limits::MOST_MAGNITUDE;
 
 /// Whether a byte is a space or a line feed.
 fn is_gap(byte: u8) -> bool
@@ -52,18 +50,7 @@ pub fn number_in(word: &[u8], most: u64) -> u64
     ensures number { result ≡ number_in most word.now }
     ensures small { result ≤ most }
 {
-    let mut number = 0u128;
-    for digit in word {
-        if number > u128::from(most) {
-            return 0;
-        }
-        number = 10 * number + u128::from(digit.saturating_sub(b'0'));
-    }
-    if number > u128::from(most) {
-        0
-    } else {
-        number as u64
-    }
+    digits_within(word, most).unwrap_or(0)
 }
 
 /// The number with its sign, which is a value; 0 where it is past the range of values.
@@ -71,7 +58,7 @@ pub fn value_in(word: &[u8]) -> i64
     ensures { result ≡ value_in word.now }
 {
     match word.split_first() {
-        Some((b'-', digits)) => -(number_in(digits, MOST_VALUE) as i64),
-        _ => number_in(word, MOST_VALUE) as i64,
+        Some((b'-', digits)) => -(number_in(digits, MOST_MAGNITUDE) as i64),
+        _ => number_in(word, MOST_MAGNITUDE) as i64,
     }
 }

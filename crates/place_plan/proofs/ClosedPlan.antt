@@ -2,20 +2,21 @@
 use Rattle.std.proofs.Common.{◌≡◌, ℕ, ◌==◌, ◌<◌, ◌≤◌, nat_lt, nat_le, cond, Bool, true, false, ◌&&◌, ◌||◌, List, [], ◌∷◌, length, slice_index_or, slice_get, Option, Some, None, zero, suc, refl, sym, ap, ◌∙◌, subst, inl, inr, arith}
 use Rattle.std.specs.List.{list_all}
 use Rattle.std.proofs.lemmas.Bool.{and_parts, and_from, false≢true, ltb-true, leb-true}
+use Rattle.caa_base.specs.Limits.{most_roles, most_alternates, most_places}
 use Rattle.place_plan.specs.declared.draft_rows.PlaceRow.{PlaceRow}
 use Rattle.place_plan.specs.declared.draft_rows.ActionRow.{ActionRow}
 use Rattle.place_plan.specs.declared.draft_rows.NestRow.{NestRow}
 use Rattle.place_plan.specs.declared.draft.Draft.{Draft}
 use Rattle.place_plan.specs.PlanValue.{Plan}
 use Rattle.caa_base.specs.Lists.{member, index_of}
-use Rattle.place_plan.specs.Places.{roles_of, place_at, action_at, action_in, role_row, alternates_of, no_action, no_place, no_role, no_nest}
+use Rattle.place_plan.specs.Places.{around, roles_of, place_at, action_at, action_in, role_row, alternates_of, no_action, no_place, no_role, no_nest}
 use Rattle.place_plan.specs.Unfolding.{plan_of}
 use Rattle.place_plan.specs.DraftRules.{first_is_plain, graphs_in_range, nest_fits, KeepsParts}
 use Rattle.place_plan.specs.Closed.{IsClosed}
 use Rattle.place_plan.proofs.Passing.{past_end, below_or_not}
 use Rattle.caa_base.proofs.ListLemmas.{get_passes, all_imply}
-use Rattle.place_plan.proofs.DraftKeeps.{keeps_rules, some_graphs, graphs_range, action_sizes, nests_fit}
-use Rattle.place_plan.proofs.UnfoldedPlan.{is_unfolded}
+use Rattle.place_plan.proofs.DraftKeeps.{keeps_rules, some_graphs, graphs_range, few_of_action, nests_fit}
+use Rattle.place_plan.proofs.UnfoldedPlan.{is_unfolded, chain_of}
 use Rattle.place_plan.proofs.Casts.{action_is, all_cast}
 
 -- ---- a fact of the unfolding of the draft is one of the plan
@@ -43,16 +44,22 @@ no_action_past plan p l = by_rows plan.places p l
     by_rows (row ∷ rows) zero l = absurd (omega arith)
     by_rows (row ∷ rows) (suc p) l = by_rows rows p (omega arith)
 
+-- the places round p are the one right round it and those round that one
+pub chain : (plan : Plan) → IsClosed plan → (p q : ℕ) (qs : List ℕ) → around plan p ≡ q ∷ qs → around plan q ≡ qs
+chain plan closed =
+    of_plan (λ made. (p q : ℕ) (qs : List ℕ) → around made p ≡ q ∷ qs → around made q ≡ qs) plan closed
+    (chain_of closed.draft (plan_of closed.draft) (is_unfolded closed.draft (keeps_of plan closed).depths))
+
 -- ---- numbers
 
 -- there are few places
-pub few_places : (plan : Plan) → IsClosed plan → length plan.places ≤ 65536
+pub few_places : (plan : Plan) → IsClosed plan → length plan.places ≤ most_places
 few_places plan closed =
-    let few = leb-true _ _ (and_parts (nat_le (length (plan_of closed.draft).places) 65536) _ (keeps_rules closed.draft closed.whole).1).0 in
+    let few = leb-true _ _ (and_parts (nat_le (length (plan_of closed.draft).places) most_places) _ (keeps_rules closed.draft closed.whole).1).0 in
     omega (arith, few, ap (λ (p : Plan). length p.places) closed.same)
 
 -- and at most as many plays
-pub few_plays : (plan : Plan) → IsClosed plan → length plan.plays ≤ 65536
+pub few_plays : (plan : Plan) → IsClosed plan → length plan.plays ≤ most_places
 few_plays plan closed =
     let few = of_plan (λ q. length q.plays ≤ length q.places) plan closed (is_unfolded closed.draft (keeps_of plan closed).depths).few in
     omega (arith, few, few_places plan closed)
@@ -65,11 +72,11 @@ HasGraphs p plan = ((action_at plan p).internal < length plan.graphs) × ((actio
 
 -- a place has as many players as its action has roles, and few
 abbrev pub HasPlayers : ℕ → Plan → Type 0
-HasPlayers p plan = (length (roles_of plan p) ≡ length (action_at plan p).roles) × (length (roles_of plan p) ≤ 16)
+HasPlayers p plan = (length (roles_of plan p) ≡ length (action_at plan p).roles) × (length (roles_of plan p) ≤ most_roles)
 
-few_actions : (nests : List NestRow) (k : ℕ) → list_all nest_fits nests ≡ true → length (slice_index_or nests k no_nest).actions ≤ 4
+few_actions : (nests : List NestRow) (k : ℕ) → list_all nest_fits nests ≡ true → length (slice_index_or nests k no_nest).actions ≤ most_alternates
 few_actions [] k h = omega arith
-few_actions (nest ∷ nests) zero h = leb-true _ _ (and_parts _ (nat_le (length nest.actions) 4) (and_parts (nest_fits nest) _ h).0).1
+few_actions (nest ∷ nests) zero h = leb-true _ _ (and_parts _ (nat_le (length nest.actions) most_alternates) (and_parts (nest_fits nest) _ h).0).1
 few_actions (nest ∷ nests) (suc k) h = few_actions nests k (and_parts (nest_fits nest) _ h).1
 
 module _ (draft : Draft) (keeps : KeepsParts draft) where
@@ -95,16 +102,16 @@ module _ (draft : Draft) (keeps : KeepsParts draft) where
       elim (below_or_not p (length made.places)) [
         | inl l ↦
             let cast = all_cast draft keeps p l in
-            let sizes = action_sizes draft keeps _ cast.action in
+            let few = few_of_action draft keeps _ cast.action in
             let same = cast.many ∙ sym (ap (λ (a : ActionRow). length a.roles) (action_is made p l)) in
-            (same, omega (arith, sizes.roles, cast.many))
+            (same, omega (arith, few, cast.many))
         | inr l ↦
             let none : roles_of made p ≡ [] = ap (λ (row : PlaceRow). row.roles) (past_end made.places p no_place l) in
             let empty : (action_at made p).roles ≡ [] = ap (λ (a : ActionRow). a.roles) (no_action_past made p l) in
             (ap length none ∙ sym (ap length empty), omega (arith, ap length none))
       ]
 
-  made_alternates : (p k : ℕ) → length (alternates_of made p k) ≤ 4
+  made_alternates : (p k : ℕ) → length (alternates_of made p k) ≤ most_alternates
   made_alternates p k =
       elim (below_or_not p (length made.places)) [
         | inl l ↦
@@ -121,12 +128,12 @@ has_graphs plan closed p = of_plan (HasGraphs p) plan closed (made_graphs closed
 pub all_played : (plan : Plan) → IsClosed plan → (p : ℕ) → length (roles_of plan p) ≡ length (action_at plan p).roles
 all_played plan closed p = (of_plan (HasPlayers p) plan closed (made_players closed.draft (keeps_of plan closed) p)).0
 
-pub few_roles : (plan : Plan) → IsClosed plan → (p : ℕ) → length (roles_of plan p) ≤ 16
+pub few_roles : (plan : Plan) → IsClosed plan → (p : ℕ) → length (roles_of plan p) ≤ most_roles
 few_roles plan closed p = (of_plan (HasPlayers p) plan closed (made_players closed.draft (keeps_of plan closed) p)).1
 
 -- a use has few alternates
-pub few_alternates : (plan : Plan) → IsClosed plan → (p k : ℕ) → length (alternates_of plan p k) ≤ 4
-few_alternates plan closed p k = of_plan (λ q. length (alternates_of q p k) ≤ 4) plan closed (made_alternates closed.draft (keeps_of plan closed) p k)
+pub few_alternates : (plan : Plan) → IsClosed plan → (p k : ℕ) → length (alternates_of plan p k) ≤ most_alternates
+few_alternates plan closed p k = of_plan (λ q. length (alternates_of q p k) ≤ most_alternates) plan closed (made_alternates closed.draft (keeps_of plan closed) p k)
 
 -- a member stands before the end of the list
 pub member_index : (n : ℕ) (xs : List ℕ) → member n xs ≡ true → index_of n xs < length xs

@@ -11,7 +11,7 @@ use Rattle.place_plan.specs.declared.draft_rows.PlayRow.{PlayRow}
 use Rattle.place_plan.specs.Places.{no_action}
 use Rattle.place_plan.specs.DraftRules.{all_below, deepest_of, deepest, depth_within, depths_fit}
 use Rattle.caa_base.specs.Limits.{most_depth}
-use Rattle.place_plan.specs.Weights.{counted, at, nested_weight, weight, played_weight, Tells, nests_known}
+use Rattle.place_plan.specs.Weights.{counted, at, nested_weight, weight, played_weight, Tells, are_nests_known}
 use Rattle.caa_base.proofs.ListLemmas.{get_passes}
 
 -- a table that tells the first n values tells one more, once it is written
@@ -22,7 +22,7 @@ one_more table n v f l below here =
     (rw get_or-set_same here)
 
 -- the uses of an action are of actions that are there
-pub uses_known : (actions : List ActionRow) → nests_known actions ≡ true → (a : ℕ) → list_all (λ (nest : NestRow). all_below (length actions) nest.actions) (slice_index_or actions a no_action).nests ≡ true
+pub uses_known : (actions : List ActionRow) → are_nests_known actions ≡ true → (a : ℕ) → list_all (λ (nest : NestRow). all_below (length actions) nest.actions) (slice_index_or actions a no_action).nests ≡ true
 uses_known actions h a = get_passes (λ (action : ActionRow). list_all (λ (nest : NestRow). all_below (length actions) nest.actions) action.nests) actions a no_action h refl
 
 module _ (actions : List ActionRow) (table : List ℕ) (f : ℕ → ℕ) (tells : Tells actions table f) where
@@ -57,12 +57,12 @@ module _ (actions : List ActionRow) (table : List ℕ) (f : ℕ → ℕ) (tells 
       omega (arith, sum_by-cons (λ (other : PlayRow). at table other.action) play plays, sum_by-cons (λ (other : PlayRow). f other.action) play plays, tells play.action (ltb-true _ _ parts.0), played_counted plays parts.1)
 
 -- one level more tells one level more
-pub depth_more : (actions : List ActionRow) (table : List ℕ) (level : ℕ) → nests_known actions ≡ true → Tells actions table (depth_within level actions) → (a : ℕ) → counted (1 + deepest (at table) (slice_index_or actions a no_action).nests) ≡ counted (depth_within (suc level) actions a)
+pub depth_more : (actions : List ActionRow) (table : List ℕ) (level : ℕ) → are_nests_known actions ≡ true → Tells actions table (depth_within level actions) → (a : ℕ) → counted (1 + deepest (at table) (slice_index_or actions a no_action).nests) ≡ counted (depth_within (suc level) actions a)
 unfolding depth_within
 depth_more actions table level known tells a =
     omega (arith, deepest_counted actions table (depth_within level actions) tells (slice_index_or actions a no_action).nests (uses_known actions known a))
 
-pub weight_more : (actions : List ActionRow) (table own : List ℕ) (level : ℕ) → nests_known actions ≡ true → Tells actions table (weight own level actions) → (a : ℕ) → counted (at own a + nested_weight (at table) (slice_index_or actions a no_action).nests) ≡ counted (weight own (suc level) actions a)
+pub weight_more : (actions : List ActionRow) (table own : List ℕ) (level : ℕ) → are_nests_known actions ≡ true → Tells actions table (weight own level actions) → (a : ℕ) → counted (at own a + nested_weight (at table) (slice_index_or actions a no_action).nests) ≡ counted (weight own (suc level) actions a)
 unfolding weight
 weight_more actions table own level known tells a =
     omega (arith, nested_counted actions table (weight own level actions) tells (slice_index_or actions a no_action).nests (uses_known actions known a))

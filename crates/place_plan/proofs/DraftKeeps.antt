@@ -1,5 +1,5 @@
 -- What a draft keeps that breaks none of the rules 1 to 9, action by action.
-use Rattle.std.proofs.Common.{◌≡◌, ℕ, ◌<◌, ◌≤◌, ◌+◌, nat_lt, nat_le, Bool, true, false, not, List, [], ◌∷◌, length, slice_index_or, Option, None, refl, arith}
+use Rattle.std.proofs.Common.{◌≡◌, ℕ, ◌<◌, ◌≤◌, ◌+◌, nat_lt, nat_le, Bool, true, false, not, List, [], ◌∷◌, length, slice_index_or, Option, None, refl, arith, suc}
 use Rattle.std.specs.List.{list_all}
 use Rattle.std.proofs.lemmas.Bool.Decides.{nat_tests}
 use Rattle.std.proofs.lemmas.Bool.{and_parts, false≢true, ltb-true, leb-true, not-true}
@@ -11,10 +11,9 @@ use Rattle.place_plan.specs.declared.draft_rows.ActionRow.{ActionRow}
 use Rattle.place_plan.specs.declared.draft_rows.NestRow.{NestRow}
 use Rattle.caa_base.specs.Lists.{is_empty}
 use Rattle.place_plan.specs.Places.{no_action}
-use Rattle.caa_base.specs.Limits.{is_value}
+use Rattle.caa_base.specs.Limits.{is_value, most_participants, most_objects, most_graphs, most_actions, most_roles, most_nests, most_watches, most_drills}
 use Rattle.place_plan.specs.DraftRules.{size_rule, first_is_plain, graph_rule, action_fits, nest_fits, range_rule, is_rising, is_rising_above, all_below, exceptions_of, graphs_in_range, objects_in_range, parts_in_range, nest_in_range, action_in_range, play_in_range, order_rule, fill_rule, fills, nest_fills, enter_rule, object_rule, depth_rule, handler_rule, bound_rule, face_rule, broken_rule, broken_if, KeepsParts}
-use Rattle.place_plan.specs.Sizes.{HasSizes}
-use Rattle.place_plan.specs.Weights.{nests_known}
+use Rattle.place_plan.specs.Weights.{are_nests_known}
 use Rattle.caa_base.proofs.ListLemmas.{at_row, all_imply}
 
 -- ---- numbers
@@ -65,19 +64,19 @@ breaks_none draft k b f = rw (k.sizes, k.graphs, k.ranges, k.order, k.fillings, 
 
 pub all_fit : (draft : Draft) → size_rule draft ≡ true → list_all action_fits draft.actions ≡ true
 all_fit draft h =
-    let a = and_parts (nat_le (length draft.participants) 64) _ h in
-    let b = and_parts (nat_le (length draft.objects) 256) _ a.1 in
-    let c = and_parts (nat_le (length draft.graphs) 257) _ b.1 in
-    let d = and_parts (nat_le (length draft.actions) 256) _ c.1 in
-    let e = and_parts (nat_le (length draft.watches) 16) _ d.1 in
-    (and_parts (nat_le (length draft.drills) 1000) _ e.1).1
+    let a = and_parts (nat_le (length draft.participants) most_participants) _ h in
+    let b = and_parts (nat_le (length draft.objects) most_objects) _ a.1 in
+    let c = and_parts (nat_le (length draft.graphs) (suc most_graphs)) _ b.1 in
+    let d = and_parts (nat_le (length draft.actions) most_actions) _ c.1 in
+    let e = and_parts (nat_le (length draft.watches) most_watches) _ d.1 in
+    (and_parts (nat_le (length draft.drills) most_drills) _ e.1).1
 
 pub some_graphs : (rows : List GraphRow) → first_is_plain rows ≡ true → nat_lt 0 (length rows) ≡ true
 some_graphs [] h = absurd (false≢true h)
 some_graphs (row ∷ rows) h = grind (arith, nat_tests)
 
 -- each use is of actions that are there
-pub range_known : (draft : Draft) → range_rule draft ≡ true → nests_known draft.actions ≡ true
+pub range_known : (draft : Draft) → range_rule draft ≡ true → are_nests_known draft.actions ≡ true
 range_known draft h =
     all_imply (action_in_range draft) (λ (action : ActionRow). list_all (λ (nest : NestRow). all_below (length draft.actions) nest.actions) action.nests) draft.actions
     (λ a k.
@@ -113,35 +112,27 @@ module _ (draft : Draft) (keeps : KeepsParts draft) where
   parts_range = all_imply (action_in_range draft) (parts_in_range draft) draft.actions (λ a h. (and_parts _ _ (and_parts (graphs_in_range draft a) _ h).1).1) actions_range
 
   -- there are few actions
-  pub few_actions : length draft.actions ≤ 256
+  pub few_actions : length draft.actions ≤ most_actions
   few_actions =
-      let a = and_parts (nat_le (length draft.participants) 64) _ keeps.sizes in
-      let b = and_parts (nat_le (length draft.objects) 256) _ a.1 in
-      let c = and_parts (nat_le (length draft.graphs) 257) _ b.1 in
-      leb-true _ _ (and_parts (nat_le (length draft.actions) 256) _ c.1).0
+      let a = and_parts (nat_le (length draft.participants) most_participants) _ keeps.sizes in
+      let b = and_parts (nat_le (length draft.objects) most_objects) _ a.1 in
+      let c = and_parts (nat_le (length draft.graphs) (suc most_graphs)) _ b.1 in
+      leb-true _ _ (and_parts (nat_le (length draft.actions) most_actions) _ c.1).0
 
-  -- an action is within the limits
-  pub action_sizes : (a : ℕ) → a < length draft.actions → HasSizes (slice_index_or draft.actions a no_action) (length (slice_index_or draft.actions a no_action).roles)
-  action_sizes a l =
+  -- an action has few roles
+  pub few_of_action : (a : ℕ) → a < length draft.actions → length (slice_index_or draft.actions a no_action).roles ≤ most_roles
+  few_of_action a l =
       let action = slice_index_or draft.actions a no_action in
       let fit = at_row action_fits draft.actions a no_action (all_fit draft keeps.sizes) l in
-      let range = and_parts (is_rising action.objects) _ (at_row (objects_in_range draft) draft.actions a no_action objects_range l) in
-      let few = few_objects (length draft.objects) action.objects range.0 range.1 in
-      let sizes = and_parts (nat_le (length draft.participants) 64) _ keeps.sizes in
-      let most = leb-true (length draft.objects) 256 (and_parts (nat_le (length draft.objects) 256) _ sizes.1).0 in
-      record {
-        parts = fit;
-        roles = leb-true (length action.roles) 16 (and_parts (nat_le (length action.roles) 16) _ (and_parts (not (is_empty action.roles)) _ fit).1).0;
-        objects = omega arith;
-      }
+      leb-true (length action.roles) most_roles (and_parts (nat_le (length action.roles) most_roles) _ (and_parts (not (is_empty action.roles)) _ fit).1).0
 
   -- each use has alternates, and few
   pub all_nests_fit : list_all (λ (action : ActionRow). list_all nest_fits action.nests) draft.actions ≡ true
   all_nests_fit =
       all_imply action_fits (λ (action : ActionRow). list_all nest_fits action.nests) draft.actions
       (λ action h.
-      let b = and_parts (nat_le (length action.roles) 16) _ (and_parts (not (is_empty action.roles)) _ h).1 in
-      (and_parts _ _ (and_parts (nat_le (length action.nests) 256) _ b.1).1).1)
+      let b = and_parts (nat_le (length action.roles) most_roles) _ (and_parts (not (is_empty action.roles)) _ h).1 in
+      (and_parts _ _ (and_parts (nat_le (length action.nests) most_nests) _ b.1).1).1)
       (all_fit draft keeps.sizes)
 
   pub has_roles : (a : ℕ) → a < length draft.actions → is_empty (slice_index_or draft.actions a no_action).roles ≡ false

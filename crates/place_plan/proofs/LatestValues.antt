@@ -18,7 +18,7 @@ within_any-places_restoring plan o p [] = refl
 within_any-places_restoring plan o p (e ∷ later) = grind (arith, nat_tests, within_any-places_restoring plan o p later)
 
 -- the newest of the first entries stands in front of the others
-reverse_more : (es : List Entry) (i : ℕ) (d : Entry) → i < length es → reverse (take (i + 1) es) ≡ get_or es i d ∷ reverse (take i es)
+pub reverse_more : (es : List Entry) (i : ℕ) (d : Entry) → i < length es → reverse (take (i + 1) es) ≡ get_or es i d ∷ reverse (take i es)
 reverse_more es i d h = rw (take_more es i d h) (reverse-append (take i es) (get_or es i d ∷ []))
 
 -- whether the entry e gives the value of o, where `later` stand after it

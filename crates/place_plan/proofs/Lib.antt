@@ -1,7 +1,6 @@
 pub mod PlaysRise
 pub mod Passing
 pub mod DraftKeeps
-pub mod ActionSizes
 pub mod Subtrees
 pub mod UnfoldedPlan
 pub mod Casts
@@ -13,4 +12,4 @@ pub mod EntryKinds
 pub mod LegalProp
 pub mod ClosedPlan
 pub mod LatestValues
-pub mod MembersOfParts
+pub mod BitsOfObjects

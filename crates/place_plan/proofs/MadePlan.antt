@@ -1,6 +1,7 @@
 -- The plan that is made of the places into which a draft unfolds that breaks no rule.
 use Rattle.std.proofs.Common.{◌≡◌, ℕ, ◌≤◌, nat_le, List, length, None, sym, ap, ◌∙◌, arith}
 use Rattle.std.proofs.lemmas.Bool.{and_parts, leb-true}
+use Rattle.caa_base.specs.Limits.{most_places}
 use Rattle.place_plan.specs.declared.draft.Draft.{Draft}
 use Rattle.place_plan.specs.declared.draft_rows.PlaceRow.{PlaceRow}
 use Rattle.place_plan.specs.declared.plan.Plan.TheInside.{Inside}
@@ -40,11 +41,11 @@ module _ (draft : Draft) where
   }
 
   -- there are few places, and a bound that keeps the rule is counted in full
-  pub few_made : broken_rule draft ≡ None → length (plan_of draft).places ≤ 65536
-  few_made whole = leb-true _ _ (and_parts (nat_le (length (plan_of draft).places) 65536) _ (keeps_rules draft whole).1).0
+  pub few_made : broken_rule draft ≡ None → length (plan_of draft).places ≤ most_places
+  few_made whole = leb-true _ _ (and_parts (nat_le (length (plan_of draft).places) most_places) _ (keeps_rules draft whole).1).0
 
   pub bound_counted : broken_rule draft ≡ None → counted (bound (plan_of draft)) ≡ bound (plan_of draft)
-  bound_counted whole = omega (arith, leb-true _ _ (and_parts (nat_le (length (plan_of draft).places) 65536) _ (keeps_rules draft whole).1).1)
+  bound_counted whole = omega (arith, leb-true _ _ (and_parts (nat_le (length (plan_of draft).places) most_places) _ (keeps_rules draft whole).1).1)
 
   pub kept : broken_rule draft ≡ None → AreSound draft.graphs → (places : List PlaceRow) (plays : List ℕ) (most : ℕ) → IsMade draft places plays → most ≡ counted (bound (plan_of draft)) → IsKept (made places plays most)
   kept whole sound places plays most h b =

@@ -1,5 +1,5 @@
 -- The plan of a draft that is not too deep: its plays rise, and each of its places is an instance that the place round it knows.
-use Rattle.std.proofs.Common.{◌≡◌, ℕ, ◌+◌, ◌<◌, ◌≤◌, ◌==◌, nat_le, Bool, true, List, [], ◌∷◌, length, slice_index_or, zero, suc, refl, subst, inl, inr, arith, length-append, add-zero, zero-add}
+use Rattle.std.proofs.Common.{◌≡◌, ℕ, ◌+◌, ◌<◌, ◌≤◌, ◌==◌, nat_le, Bool, true, List, [], ◌∷◌, length, slice_index_or, zero, suc, refl, ap, subst, inl, inr, arith, length-append, add-zero, zero-add}
 use Rattle.std.specs.List.{list_all}
 use Rattle.std.proofs.lemmas.Bool.{and_parts, or_cases, or_left, or_right, eqb-true, eq-eqb, false≢true, leb-true}
 use Rattle.place_plan.specs.declared.draft.Draft.{Draft}
@@ -124,12 +124,31 @@ in_table (row ∷ rows) zero k c m = omega arith
 in_table (row ∷ rows) (suc p) k c m = omega (arith, in_table rows p k c m)
 
 module _ (draft : Draft) (plan : Plan) (whole : IsUnfolded draft plan) where
+  -- a place with one round it is there
+  inside_there : (p q : ℕ) (qs : List ℕ) → around plan p ≡ q ∷ qs → p < length plan.places
+  inside_there p q qs e =
+      elim (below_or_not p (length plan.places)) [
+        | inl l ↦ l
+        | inr l ↦ let none = ap (λ (row : PlaceRow). row.around) (past_end plan.places p no_place l) in absurd cc
+      ]
+
+  -- the place right round p has p among those of its use
+  pub known_in : (p q : ℕ) (qs : List ℕ) → around plan p ≡ q ∷ qs → member p (alternates_of plan q (nest_number plan p)) ≡ true
+  known_in p q qs e = subst (λ outer. IsKnown plan p outer (nest_number plan p)) e ((whole.instances p (inside_there p q qs e)).known)
+
   -- the place of a use is right inside, and after it
   pub child_of : (p k c : ℕ) → member c (alternates_of plan p k) ≡ true → IsInstance plan p
   child_of p k c m = whole.instances p (in_table plan.places p k c m)
 
   pub child_after : (p k c : ℕ) → member c (alternates_of plan p k) ≡ true → p < c
   child_after p k c m = omega (arith, rows_above (suc p) (place_at plan p).children k c (child_of p k c m).rise m)
+
+  -- the places round p are the one right round it and those round that one
+  pub chain_of : (p q : ℕ) (qs : List ℕ) → around plan p ≡ q ∷ qs → around plan q ≡ qs
+  chain_of p q qs e =
+      let known = known_in p q qs e in
+      let same = ((child_of q (nest_number plan p) p known).child (nest_number plan p) p known).round in
+      cc
 
   -- what holds of the plays, and of each place of a use where it holds of the place round it, holds of all places
   pub by_parents : (Q : ℕ → Type 0) → ((p : ℕ) → member p plan.plays ≡ true → Q p) → ((p k c : ℕ) → Q p → member c (alternates_of plan p k) ≡ true → Q c) → (p : ℕ) → p < length plan.places → Q p

@@ -1,6 +1,7 @@
 -- One step of the unfolding, and how the places that a walk has made grow into those of the whole.
 use Rattle.std.proofs.Common.{◌≡◌, ℕ, ◌+◌, ◌-◌, ◌<◌, ◌≤◌, List, [], ◌∷◌, ◌++◌, length, drop, get_or, slice_index_or, slice_set, zero, suc, refl, sym, ap, ap₂, ◌∙◌, arith, append-nil, length-append}
 use Rattle.std.proofs.Math.Seq.{drop-cons, set-append_seam}
+use Rattle.caa_base.specs.Limits.{most_places}
 use Rattle.place_plan.specs.declared.draft_rows.ActionRow.{ActionRow}
 use Rattle.place_plan.specs.declared.draft_rows.NestRow.{NestRow}
 use Rattle.place_plan.specs.declared.draft_rows.PlaceRow.{PlaceRow}
@@ -54,7 +55,7 @@ module _ (d : ℕ) (actions : List ActionRow) (a : ℕ) (who around outer : List
       ∙ ap₂ (λ o ns. full_place a who around i (children_from one who o 0 (length old + 1) ns) ∷ uses_from one who o 0 (length old + 1) ns) (sym o) (sym ns)
 
   -- there is room for the places of the next use
-  pub use_fits : 0 < d → outer ≡ length old ∷ around → nests ≡ (slice_index_or actions a no_action).nests → k < length nests → Rows → length old + length (unfold_at d actions a who around i (length old)) ≤ 65536 → (used : NestRow) → used ≡ get_or nests k used → length places + length (use_from one who outer k (length places) used) ≤ 65536
+  pub use_fits : 0 < d → outer ≡ length old ∷ around → nests ≡ (slice_index_or actions a no_action).nests → k < length nests → Rows → length old + length (unfold_at d actions a who around i (length old)) ≤ most_places → (used : NestRow) → used ≡ get_or nests k used → length places + length (use_from one who outer k (length places) used) ≤ most_places
   use_fits l o ns lt rows few used e =
       let step : uses_from one who outer k (length places) (drop k nests) ≡ use_from one who outer k (length places) used ++ uses_from one who outer (suc k) (length places + length (use_from one who outer k (length places) used)) (drop (suc k) nests) =
       ap (uses_from one who outer k (length places)) (drop-cons nests k used lt ∙ ap (λ n. n ∷ drop (suc k) nests) (sym e)) in
@@ -85,12 +86,12 @@ module _ (d : ℕ) (actions : List ActionRow) (a : ℕ) (who around outer : List
 
 -- ---- the walk over the actions of a use
 
-module _ (one : Unfolding) (cast around : List ℕ) (i : ℕ) (old places : List PlaceRow) (acts : List ℕ) (k : ℕ) (rows : places ++ alternates_from one cast around i (length places) (drop k acts) ≡ old ++ alternates_from one cast around i (length old) acts) (few : length old + length (alternates_from one cast around i (length old) acts) ≤ 65536) where
-  pub number_fits : length places ≤ 65536
+module _ (one : Unfolding) (cast around : List ℕ) (i : ℕ) (old places : List PlaceRow) (acts : List ℕ) (k : ℕ) (rows : places ++ alternates_from one cast around i (length places) (drop k acts) ≡ old ++ alternates_from one cast around i (length old) acts) (few : length old + length (alternates_from one cast around i (length old) acts) ≤ most_places) where
+  pub number_fits : length places ≤ most_places
   number_fits =
       omega (arith, ap length rows, length-append places (alternates_from one cast around i (length places) (drop k acts)), length-append old (alternates_from one cast around i (length old) acts), few)
 
-  pub alternate_fits : k < length acts → length places + length (one (get_or acts k 0) cast around i (length places)) ≤ 65536
+  pub alternate_fits : k < length acts → length places + length (one (get_or acts k 0) cast around i (length places)) ≤ most_places
   alternate_fits lt =
       let tree = one (get_or acts k 0) cast around i (length places) in
       let step : alternates_from one cast around i (length places) (drop k acts) ≡ tree ++ alternates_from one cast around i (length places + length tree) (drop (suc k) acts) = ap (alternates_from one cast around i (length places)) (drop-cons acts k 0 lt) in

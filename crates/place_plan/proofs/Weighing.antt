@@ -3,6 +3,7 @@ use Rattle.std.proofs.Common.{◌≡◌, ℕ, ◌+◌, ◌<◌, nat_lt, true, �
 use Rattle.std.specs.List.{list_all}
 use Rattle.std.proofs.lemmas.Bool.{and_parts, or_left, or_right, eq-eqb}
 use Rattle.std.proofs.lemmas.List.Sums.{sum_by-append, sum_by-cons}
+use Rattle.caa_base.specs.Limits.{most_depth}
 use Rattle.place_plan.specs.declared.draft.Draft.{Draft}
 use Rattle.place_plan.specs.declared.draft_rows.NestRow.{NestRow}
 use Rattle.place_plan.specs.declared.draft_rows.PlayRow.{PlayRow}
@@ -10,7 +11,7 @@ use Rattle.place_plan.specs.declared.draft_rows.PlaceRow.{PlaceRow}
 use Rattle.caa_base.specs.Lists.{member}
 use Rattle.place_plan.specs.Places.{no_action, no_nest}
 use Rattle.place_plan.specs.Unfolding.{Unfolding, cast_of, alternates_from, use_from, uses_from, children_from, unfold_at, plays_from, plan_of}
-use Rattle.place_plan.specs.Weights.{at, counted, nested_weight, weight, played_weight, Tells}
+use Rattle.place_plan.specs.Weights.{at, counted, nested_weight, own_entries, weight, played_weight, Tells}
 use Rattle.place_plan.specs.Bound.{row_bound, action_bound, bound}
 use Rattle.place_plan.specs.DraftRules.{KeepsParts, play_in_range, fills}
 use Rattle.caa_base.proofs.ListLemmas.{all_both, all_imply}
@@ -76,19 +77,25 @@ pub length_weighs : (rows : List PlaceRow) → sum_by (λ (row : PlaceRow). 1) r
 length_weighs [] = refl
 length_weighs (row ∷ rows) = omega (arith, sum_by-cons (λ (other : PlaceRow). 1) row rows, length_weighs rows)
 
+-- a sum of what is counted of each row is counted as that of the rows
+sum_of_counted : (f : PlaceRow → ℕ) (rows : List PlaceRow) → counted (sum_by (λ (row : PlaceRow). counted (f row)) rows) ≡ counted (sum_by f rows)
+sum_of_counted f [] = refl
+sum_of_counted f (row ∷ rows) = omega (arith, sum_by-cons (λ (other : PlaceRow). counted (f other)) row rows, sum_by-cons f row rows, sum_of_counted f rows)
+
 -- ---- what tables tell of a draft
 
 module _ (draft : Draft) (keeps : KeepsParts draft) where
   plays_known : list_all (λ (play : PlayRow). nat_lt play.action (length draft.actions)) draft.plays ≡ true
   plays_known = all_imply (play_in_range draft) (λ (play : PlayRow). nat_lt play.action (length draft.actions)) draft.plays (λ play h. (and_parts (nat_lt play.action (length draft.actions)) _ h).0) (plays_range draft keeps)
 
-  pub counted_places : (table own : List ℕ) → ((a : ℕ) → a < length draft.actions → at own a ≡ 1) → Tells draft.actions table (weight own 8 draft.actions) → counted (played_weight (at table) draft.plays) ≡ counted (length (plan_of draft).places)
+  pub counted_places : (table own : List ℕ) → ((a : ℕ) → a < length draft.actions → at own a ≡ 1) → Tells draft.actions table (weight own most_depth draft.actions) → counted (played_weight (at table) draft.plays) ≡ counted (length (plan_of draft).places)
   counted_places table own ones tells =
-      played_counted draft.actions table (weight own 8 draft.actions) tells draft.plays plays_known
-      ∙ ap counted (sym (places_weigh draft keeps (λ row. 1) own (λ row cast. sym (ones row.action cast.action)) 8) ∙ length_weighs (plan_of draft).places)
+      played_counted draft.actions table (weight own most_depth draft.actions) tells draft.plays plays_known
+      ∙ ap counted (sym (places_weigh draft keeps (λ row. 1) own (λ row cast. sym (ones row.action cast.action)) most_depth) ∙ length_weighs (plan_of draft).places)
 
-  pub counted_bound : (table own : List ℕ) → ((a : ℕ) → a < length draft.actions → at own a ≡ action_bound (slice_index_or draft.actions a no_action) (length (slice_index_or draft.actions a no_action).roles)) → Tells draft.actions table (weight own 8 draft.actions) → counted (played_weight (at table) draft.plays) ≡ counted (bound (plan_of draft))
+  pub counted_bound : (table own : List ℕ) → Tells draft.actions own (λ a. own_entries (slice_index_or draft.actions a no_action)) → Tells draft.actions table (weight own most_depth draft.actions) → counted (played_weight (at table) draft.plays) ≡ counted (bound (plan_of draft))
   counted_bound table own bounds tells =
-      played_counted draft.actions table (weight own 8 draft.actions) tells draft.plays plays_known
-      ∙ ap counted (sym (places_weigh draft keeps (row_bound draft.actions) own
-      (λ row cast. ap (action_bound (slice_index_or draft.actions row.action no_action)) cast.many ∙ sym (bounds row.action cast.action)) 8))
+      played_counted draft.actions table (weight own most_depth draft.actions) tells draft.plays plays_known
+      ∙ ap counted (sym (places_weigh draft keeps (λ row. counted (row_bound draft.actions row)) own
+      (λ row cast. ap (λ n. counted (action_bound (slice_index_or draft.actions row.action no_action) n)) cast.many ∙ sym (bounds row.action cast.action)) most_depth))
+      ∙ sum_of_counted (row_bound draft.actions) (plan_of draft).places

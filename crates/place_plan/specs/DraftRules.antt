@@ -22,7 +22,7 @@ use Rattle.place_plan.specs.Places.{graph_at, no_action}
 use Rattle.place_plan.specs.Unfolding.{plan_of}
 use Rattle.place_plan.specs.Bound.{bound}
 
--- ---- 1: no list is longer than its limit; nothing is without roles, and nothing nests without an action
+-- ---- 1: no list is longer than its limit; no action is without roles, and no nested use without actions
 
 -- a body or a handler is no longer than the limit
 abbrev pub program_fits : Program → Bool
@@ -209,7 +209,7 @@ abbrev pub filled_by : ℕ → ℕ → List NestRow → List ℕ
 filled_by role n [] = []
 filled_by role n (nest ∷ nests) = if member role nest.roles then n ∷ filled_by role (suc n) nests else filled_by role (suc n) nests
 
--- the lists are one
+-- the lists have the same numbers in the same order
 abbrev pub same_numbers : List ℕ → List ℕ → Bool
 same_numbers [] [] = true
 same_numbers [] (y ∷ ys) = false
@@ -230,29 +230,30 @@ enter_rule draft = list_all (λ action. roles_enter action.nests 0 action.roles)
 -- ---- 7: an action owns all objects that its steps, and the actions nested in it, touch
 
 -- a step touches one of these objects, or none at all
-abbrev pub step_held : List ℕ → Step → Bool
-step_held objects (step.Read o) = member o objects
-step_held objects (step.Put o v) = member o objects
-step_held objects (step.Add o v) = member o objects
-step_held objects _ = true
+abbrev pub holds_step : List ℕ → Step → Bool
+holds_step objects (step.Read o) = member o objects
+holds_step objects (step.Put o v) = member o objects
+holds_step objects (step.Add o v) = member o objects
+holds_step objects _ = true
 
 -- so does each step of a role
-abbrev pub role_held : List ℕ → RoleRow → Bool
-role_held objects role =
-    list_all (step_held objects) role.body.steps && list_all (λ h. list_all (step_held objects) h.program.steps) role.handlers
+abbrev pub holds_role : List ℕ → RoleRow → Bool
+holds_role objects role =
+    list_all (holds_step objects) role.body.steps && list_all (λ h. list_all (holds_step objects) h.program.steps) role.handlers
 
 -- the actions of a nested use own none but these objects
-abbrev pub nest_held : Draft → List ℕ → NestRow → Bool
-nest_held draft objects nest =
+abbrev pub holds_nest : Draft → List ℕ → NestRow → Bool
+holds_nest draft objects nest =
     list_all (λ action. list_all (λ o. member o objects) (slice_index_or draft.actions action no_action).objects) nest.actions
 
 -- an action owns what its roles and its nested uses touch
-abbrev pub action_held : Draft → ActionRow → Bool
-action_held draft action = list_all (role_held action.objects) action.roles && list_all (nest_held draft action.objects) action.nests
+abbrev pub holds_action : Draft → ActionRow → Bool
+holds_action draft action =
+    list_all (holds_role action.objects) action.roles && list_all (holds_nest draft action.objects) action.nests
 
 -- so does each action of the draft
 abbrev pub object_rule : Draft → Bool
-object_rule draft = list_all (action_held draft) draft.actions
+object_rule draft = list_all (holds_action draft) draft.actions
 
 -- ---- 8: no action is deeper than the most; what nests nothing has depth 1
 
@@ -291,12 +292,13 @@ abbrev pub face_of : Draft → NestRow → ℕ
 face_of draft nest = (slice_index_or draft.actions (slice_index_or nest.actions 0 0) no_action).interface
 
 -- a nested use maps as many exceptions as its first action can tell
-abbrev pub nest_mapped : Draft → NestRow → Bool
-nest_mapped draft nest = length nest.maps == exceptions_of draft (face_of draft nest)
+abbrev pub maps_all : Draft → NestRow → Bool
+maps_all draft nest = length nest.maps == exceptions_of draft (face_of draft nest)
 
 -- both hold of all actions of the draft
 abbrev pub handler_rule : Draft → Bool
-handler_rule draft = list_all (λ action. list_all handlers_differ action.roles && list_all (nest_mapped draft) action.nests) draft.actions
+handler_rule draft =
+    list_all (λ action. list_all handlers_differ action.roles && list_all (maps_all draft) action.nests) draft.actions
 
 -- ---- 10: the places and the bound are within the limits
 
@@ -308,7 +310,8 @@ bound_rule draft = nat_le (length (plan_of draft).places) most_places && nat_le 
 
 -- all actions of a use have the interface graph of its first
 abbrev pub has_one_face : Draft → NestRow → Bool
-has_one_face draft nest = list_all (λ action. (slice_index_or draft.actions action no_action).interface == face_of draft nest) nest.actions
+has_one_face draft nest =
+    list_all (λ action. (slice_index_or draft.actions action no_action).interface == face_of draft nest) nest.actions
 
 -- so have those of each use of the draft
 abbrev pub face_rule : Draft → Bool

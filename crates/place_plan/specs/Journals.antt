@@ -28,8 +28,8 @@ abbrev pub IsComplete : Plan → List Entry → Type 0
 IsComplete plan journal = AllOver plan (reverse journal)
 
 -- t has no entry
-abbrev pub Silent : Plan → List Entry → ℕ → Type 0
-Silent plan past t = (e : Entry) → e.by ≡ t → MayFollow plan past e → ⊥
+abbrev pub HasNoEntry : Plan → List Entry → ℕ → Type 0
+HasNoEntry plan past t = (e : Entry) → e.by ≡ t → MayFollow plan past e → ⊥
 
 -- ---- the device
 
@@ -56,11 +56,14 @@ faults_in journal = length (filter is_fault journal)
 
 -- ---- committed values
 
+-- the entry is the End of a play
+abbrev pub ends_play : Plan → Entry → Bool
+ends_play plan e = is_of kind.End e && is_none (parent plan e.place)
+
 -- the plays that have ended, the first first
 abbrev pub plays_ended : Plan → List Entry → List ℕ
 plays_ended plan [] = []
-plays_ended plan (e ∷ past) =
-    if is_of kind.End e && is_none (parent plan e.place) then plays_ended plan past ++ e.place ∷ [] else plays_ended plan past
+plays_ended plan (e ∷ past) = if ends_play plan e then plays_ended plan past ++ e.place ∷ [] else plays_ended plan past
 
 -- the value that o has by the n plays that ended first: only their entries are looked at, and those of the places inside
 abbrev pub committed_value : Plan → List Entry → ℕ → ℕ → ℤ

@@ -5,6 +5,7 @@ pub mod Entries
 pub mod Whereabouts
 pub mod Raising
 pub mod Objects
+pub mod ObjectBits
 pub mod Roles
 pub mod Rules
 pub mod Journals
@@ -16,5 +17,4 @@ pub mod DraftRules
 pub mod Closed
 pub mod PlanView
 pub mod Machine
-pub mod Sizes
 pub mod Weights

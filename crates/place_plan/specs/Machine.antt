@@ -6,7 +6,7 @@ use Rattle.caa_base.specs.declared.entry.Kind.TheVariants as kind
 use Rattle.place_plan.specs.PlanValue.{Plan}
 use Rattle.place_plan.specs.Roles.{is_over, register}
 use Rattle.place_plan.specs.Rules.{MayFollow}
-use Rattle.place_plan.specs.Journals.{Silent, is_fault}
+use Rattle.place_plan.specs.Journals.{HasNoEntry, is_fault}
 use Rattle.place_plan.specs.declared.machine.Answer.{Answer}
 use Rattle.place_plan.specs.declared.machine.Answer.TheVariants as answer
 
@@ -36,7 +36,7 @@ pub record AsksForWork (plan : Plan) (old new : List Entry) (t : ℕ) (hint : Op
 -- nothing was added, since t has no entry, and whether it is over
 pub record IsSilent (plan : Plan) (old new : List Entry) (t : ℕ) : Type 0 where
   pub kept : new ≡ old
-  pub silent : Silent plan (reverse old) t
+  pub silent : HasNoEntry plan (reverse old) t
 
 -- what `next` for t answers on the journal `old`, and the journal that it leaves
 abbrev pub Answers : Plan → List Entry → List Entry → ℕ → Option Worked → Answer → Type 0

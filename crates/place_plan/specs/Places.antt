@@ -1,5 +1,5 @@
 -- What a plan says of its places.
-use Rattle.std.specs.Prelude.{ℕ, ℤ, pos, ◌==◌, Bool, ◌||◌, if◌then◌else◌, List, [], ◌∷◌, slice_index_or, slice_get, Option, Some, None}
+use Rattle.std.specs.Prelude.{ℕ, ℤ, pos, ◌==◌, Bool, ◌||◌, if◌then◌else◌, List, [], ◌∷◌, map, slice_index_or, slice_get, Option, Some, None}
 use Rattle.cover_table.specs.Cover.{CoverOrder}
 use Rattle.caa_base.specs.declared.entry.Verdict.TheVariants as verdict
 use Rattle.place_plan.specs.declared.draft_rows.ObjectRow.{ObjectRow}
@@ -182,6 +182,10 @@ map_signal plan p x = slice_index_or (nest_of plan p).maps x 0
 -- the value that o has at first
 abbrev pub initial_of : Plan → ℕ → ℤ
 initial_of plan o = (slice_index_or plan.objects o no_object).initial
+
+-- the value that each object has at first
+abbrev pub initials_of : Plan → List ℤ
+initials_of plan = map (λ o. o.initial) plan.objects
 
 -- those of these places in which t has a role
 abbrev pub plays_with : Plan → ℕ → List ℕ → List ℕ

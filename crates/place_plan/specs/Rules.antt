@@ -50,7 +50,8 @@ place_entered plan past q t _ = None
 -- where t arrives next: from no place in its next play, and from a calm place that it is able in, where its next step leads
 abbrev pub arrival : Plan → List Entry → ℕ → Option ℕ → Option ℕ
 arrival plan past t None = next_play plan past t
-arrival plan past t (Some q) = if is_calm plan past q && is_able plan past q t then place_entered plan past q t (next_step plan past q t) else None
+arrival plan past t (Some q) =
+    if is_calm plan past q && is_able plan past q t then place_entered plan past q t (next_step plan past q t) else None
 
 -- a role arrives where its way leads next
 pub record MayArrive (plan : Plan) (past : List Entry) (e : Entry) : Type 0 where

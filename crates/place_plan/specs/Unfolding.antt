@@ -48,7 +48,8 @@ abbrev pub children_from : Unfolding → List ℕ → List ℕ → ℕ → ℕ �
 children_from unfold_one who around i n [] = []
 children_from unfold_one who around i n (nest ∷ nests) =
     let trees = use_from unfold_one who around i n nest in
-    numbers_from unfold_one (cast_of who nest) around i n nest.actions ∷ children_from unfold_one who around (suc i) (n + length trees) nests
+    numbers_from unfold_one (cast_of who nest) around i n nest.actions
+    ∷ children_from unfold_one who around (suc i) (n + length trees) nests
 
 -- an instance, and what is nested in it at most `depth` deep: its place first, and then its nested uses in order
 unfoldable pub unfold_at : ℕ → List ActionRow → Unfolding

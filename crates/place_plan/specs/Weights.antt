@@ -5,6 +5,7 @@ use Rattle.place_plan.specs.declared.draft_rows.NestRow.{NestRow}
 use Rattle.place_plan.specs.declared.draft_rows.PlayRow.{PlayRow}
 use Rattle.std.specs.List.{list_all}
 use Rattle.place_plan.specs.Places.{no_action}
+use Rattle.place_plan.specs.Bound.{action_bound}
 use Rattle.place_plan.specs.DraftRules.{all_below}
 
 -- the greatest number that is counted
@@ -23,10 +24,15 @@ at table n = slice_index_or table n 0
 abbrev pub nested_weight : (ℕ → ℕ) → List NestRow → ℕ
 nested_weight weight nests = sum_by (λ nest. sum_by weight nest.actions) nests
 
--- the weight of an action with what is nested in it at most `depth` deep, where each instance has the weight that the table gives its action
+-- the weight of an action with what is nested in it at most `depth` deep, where each instance has the weight that the table gives
+-- its action
 unfoldable pub weight : List ℕ → ℕ → List ActionRow → ℕ → ℕ
 weight own zero actions a = 0
 weight own (suc depth) actions a = at own a + nested_weight (weight own depth actions) (slice_index_or actions a no_action).nests
+
+-- how many entries an instance of an action may have, what is nested in it aside
+abbrev pub own_entries : ActionRow → ℕ
+own_entries action = action_bound action (length action.roles)
 
 -- the weight of all plays
 abbrev pub played_weight : (ℕ → ℕ) → List PlayRow → ℕ
@@ -37,5 +43,6 @@ abbrev pub Tells : List ActionRow → List ℕ → (ℕ → ℕ) → Type 0
 Tells actions table f = (a : ℕ) → a < length actions → at table a ≡ counted (f a)
 
 -- each use of an action is of actions that are there
-abbrev pub nests_known : List ActionRow → Bool
-nests_known actions = list_all (λ (action : ActionRow). list_all (λ (nest : NestRow). all_below (length actions) nest.actions) action.nests) actions
+abbrev pub are_nests_known : List ActionRow → Bool
+are_nests_known actions =
+    list_all (λ (action : ActionRow). list_all (λ (nest : NestRow). all_below (length actions) nest.actions) action.nests) actions

@@ -1,11 +1,12 @@
-ghost use Rattle.std.specs.Prelude.{◌≡◌, ◌≤◌};
-ghost use Rattle.place_plan.specs.Bound.{longest_body, longest_of, longest_handler, action_bound};
-ghost use Rattle.place_plan.specs.Sizes.{HasSizes};
+ghost use Rattle.std.specs.Prelude.{◌≡◌, ◌*◌};
+ghost use Rattle.place_plan.specs.Bound.{longest_body, longest_of, longest_handler};
+ghost use Rattle.place_plan.specs.Weights.{counted, own_entries};
 
 use crate::draft_rows::{ActionRow, HandlerRow, RoleRow};
+use crate::tables::{MOST_COUNTED, counted_sum};
 
 /// How many steps the longest body has.
-pub(crate) fn longest_body(roles: &[RoleRow]) -> usize
+fn longest_body(roles: &[RoleRow]) -> usize
     ensures { result ≡ longest_body roles.now }
 {
     let mut longest = 0;
@@ -15,6 +16,7 @@ pub(crate) fn longest_body(roles: &[RoleRow]) -> usize
     longest
 }
 
+/// How many steps the longest of these handlers has.
 fn longest_of(handlers: &[HandlerRow]) -> usize
     ensures { result ≡ longest_of handlers.now }
 {
@@ -26,7 +28,7 @@ fn longest_of(handlers: &[HandlerRow]) -> usize
 }
 
 /// How many steps the longest handler has.
-pub(crate) fn longest_handler(roles: &[RoleRow]) -> usize
+fn longest_handler(roles: &[RoleRow]) -> usize
     ensures { result ≡ longest_handler roles.now }
 {
     let mut longest = 0;
@@ -36,13 +38,21 @@ pub(crate) fn longest_handler(roles: &[RoleRow]) -> usize
     longest
 }
 
-/// How many entries an instance of an action may have, played by so many roles.
-pub(crate) fn action_bound(action: &ActionRow, roles: usize) -> u64
-    requires { HasSizes action.now roles }
-    ensures value { result ≡ action_bound action.now roles }
-    ensures small { result ≤ 8580 }
+/// The product, as far as it is counted.
+fn counted_product(left: u64, right: u64) -> u64
+    ensures { result ≡ counted (left * right) }
 {
-    let body = longest_body(action.roles.as_slice());
-    let handler = longest_handler(action.roles.as_slice());
-    (roles * (8 + body + handler) + action.objects.len() + 4) as u64
+    left.saturating_mul(right).min(MOST_COUNTED)
+}
+
+/// How many entries an instance of an action may have, what is nested in it aside.
+pub(crate) fn own_bound(action: &ActionRow) -> u64
+    ensures { result ≡ counted (own_entries action.now) }
+{
+    let roles = action.roles.as_slice();
+    let body = longest_body(roles) as u64;
+    let handler = longest_handler(roles) as u64;
+    let steps = counted_sum(counted_sum(8, body), handler);
+    let played = counted_product(roles.len() as u64, steps);
+    counted_sum(counted_sum(played, action.objects.len() as u64), 4)
 }

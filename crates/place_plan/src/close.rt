@@ -1,11 +1,14 @@
-ghost use Rattle.std.specs.Prelude.{◌≡◌, MatchOption};
+ghost use Rattle.std.specs.Prelude.{◌≡◌, None, Some, IfOk, IfSome, MatchOption, MatchResult, is_some};
+ghost use Rattle.place_plan.specs.Bound.{bound};
+ghost use Rattle.place_plan.specs.Unfolding.{plan_of};
 ghost use Rattle.place_plan.specs.DraftRules.{bound_rule, broken_rule, KeepsParts};
+ghost use Rattle.place_plan.specs.Weights.{counted};
 
 use crate::depth::keeps_depth;
 use crate::draft::Draft;
 use crate::fitting::{keeps_graphs, keeps_sizes};
 use crate::ranges::keeps_ranges;
-use crate::unfolded::unfolded;
+use crate::unfolded::{Size, unfolded};
 use crate::uses::{
     keeps_enters, keeps_faces, keeps_fillings, keeps_handlers, keeps_objects, keeps_order,
 };
@@ -39,26 +42,39 @@ pub fn broken_part(draft: &Draft) -> Option<u32>
     }
 }
 
-/// Whether the draft unfolds into no more places, and allows no longer journals, than the limits allow.
-fn keeps_bound(draft: &Draft) -> bool
+/// How much a draft unfolds into, where that is no more places, and no longer journals, than the limits allow.
+fn size_within_limits(draft: &Draft) -> Option<Size>
     requires { KeepsParts draft.now }
-    ensures { result ≡ bound_rule draft.now }
+    ensures rule { is_some result ≡ bound_rule draft.now }
+    ensures bound { IfSome result (λ size. size.bound ≡ counted (bound (plan_of draft.now))) }
 {
     let size = unfolded(draft);
-    size.places <= MOST_PLACES && size.bound <= MOST_ENTRIES
+    if size.places <= MOST_PLACES && size.bound <= MOST_ENTRIES {
+        Some(size)
+    } else {
+        None
+    }
+}
+
+/// How much a draft that breaks no rule unfolds into, or else the least rule that it breaks, as `Plan::close` tells the rules. No
+/// memory is taken.
+pub(crate) fn size_of(draft: &Draft) -> Result<Size, u32>
+    ensures rule { MatchResult result (λ size. broken_rule draft.now ≡ None) (λ rule. broken_rule draft.now ≡ Some rule) }
+    ensures bound { IfOk result (λ size. size.bound ≡ counted (bound (plan_of draft.now))) }
+{
+    if let Some(rule) = broken_part(draft) {
+        return Err(rule);
+    }
+    match size_within_limits(draft) {
+        None => Err(10),
+        Some(size) if keeps_faces(draft) => Ok(size),
+        Some(_) => Err(11),
+    }
 }
 
 /// The least rule that a draft breaks, as `Plan::close` tells the rules. No memory is taken.
 pub fn broken_rule(draft: &Draft) -> Option<u32>
     ensures { result ≡ broken_rule draft.now }
 {
-    if let Some(rule) = broken_part(draft) {
-        Some(rule)
-    } else if !keeps_bound(draft) {
-        Some(10)
-    } else if !keeps_faces(draft) {
-        Some(11)
-    } else {
-        None
-    }
+    size_of(draft).err()
 }

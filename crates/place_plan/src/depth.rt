@@ -1,8 +1,8 @@
-ghost use Rattle.std.specs.Prelude.{◌≡◌, ◌≤◌, ◌+◌, ℕ, ◌<◌, true, length, slice_index_or};
-ghost use Rattle.caa_base.specs.Limits.{most_actions};
+ghost use Rattle.std.specs.Prelude.{◌≡◌, ◌≤◌, ◌+◌, ℕ, ◌<◌, true, length, slice_index_or, suc};
+ghost use Rattle.caa_base.specs.Limits.{most_actions, most_depth};
 ghost use Rattle.place_plan.specs.Places.{no_action};
 ghost use Rattle.place_plan.specs.DraftRules.{deepest_of, deepest, depth_within, depth_rule};
-ghost use Rattle.place_plan.specs.Weights.{counted, at, Tells, nests_known};
+ghost use Rattle.place_plan.specs.Weights.{counted, at, Tells, are_nests_known};
 
 use crate::draft::Draft;
 use crate::draft_rows::{ActionRow, NestRow};
@@ -47,8 +47,8 @@ fn one_level_more(actions: &[ActionRow], depths: &[u64]) -> Table
 /// The depths of all actions, as far as one level more tells than an action may have.
 fn depths_of(actions: &[ActionRow]) -> Table
     requires few { length actions.now ≤ most_actions }
-    requires known { nests_known actions.now ≡ true }
-    ensures { Tells actions.now result (depth_within 9 actions.now) }
+    requires known { are_nests_known actions.now ≡ true }
+    ensures { Tells actions.now result (depth_within (suc most_depth) actions.now) }
 {
     let mut table = [0; MOST_ACTIONS];
     for level in 0..MOST_DEPTH + 1 {
@@ -60,7 +60,7 @@ fn depths_of(actions: &[ActionRow]) -> Table
 /// Whether no action is deeper than it may be.
 pub(crate) fn keeps_depth(draft: &Draft) -> bool
     requires few { length draft.now.actions ≤ most_actions }
-    requires known { nests_known draft.now.actions ≡ true }
+    requires known { are_nests_known draft.now.actions ≡ true }
     ensures { result ≡ depth_rule draft.now }
 {
     let depths = depths_of(draft.actions.as_slice());

@@ -2,6 +2,7 @@ ghost use Rattle.std.specs.Prelude.{◌≡◌, ◌∷◌, [], IfOk, codes};
 ghost use Rattle.cover_table.specs.Cover.{IsSound};
 ghost use Rattle.exception_graph.specs.Chains.{IsOrderOf};
 
+use crate::object_list::ObjectList;
 use caa_base::entry::{Exception, Object, OutOfMemory, Participant, Test, Verdict};
 use caa_base::name::Name;
 use caa_base::rows::Rows;
@@ -100,7 +101,7 @@ pub struct ActionRow {
     /// What a refused put raises.
     pub fault: Exception,
     /// The objects that it uses, in ascending order.
-    pub objects: Rows<Object>,
+    pub objects: ObjectList,
     pub roles: Rows<RoleRow>,
     pub nests: Rows<NestRow>,
 }

@@ -68,7 +68,7 @@ fn actions_fit(draft: &Draft) -> bool
         .all(|action| action_fits(action))
 }
 
-/// Whether no list is longer than its limit, nothing is without roles, and nothing nests without an action.
+/// Whether no list is longer than its limit, no action is without roles, and no nested use without actions.
 pub(crate) fn keeps_sizes(draft: &Draft) -> bool
     ensures { result ≡ size_rule draft.now }
 {

@@ -13,25 +13,25 @@ use caa_base::work::WorkDone;
 /// What a machine answers to a participant.
 #[derive(Clone, Copy, Debug, PartialEq, Eq)]
 pub enum Answer {
-    /// Its entry was made.
+    /// This entry of its was added to the journal.
     Did(Entry),
-    /// Its entry is a piece of mixing work, which it is to bring done.
+    /// Its next entry is a piece of mixing work. It is to mix so many rounds from this start, and to call again with the result.
     Work {
         place: Place,
         rounds: u32,
         from: i64,
     },
-    /// It has no entry now, and isn't over.
+    /// There is nothing that it may do yet, and there are plays before it.
     NotYet,
-    /// It has left its last play, or has none.
+    /// All its plays are behind it, or it never had one.
     Over,
 }
 
 /// A plan that is played entry by entry.
 ///
-/// A machine is seen as four things: its plan, its journal, which is legal, the device's count of faults before the play, and the
-/// device's count of faults now. No call changes the plan or the first count, and the second rises by one with each entry of a put
-/// or restore that the device refused, and else not. No call takes memory.
+/// Contracts see its plan, its journal and two counts of the device's faults: the one that stood before the play, and that of now.
+/// The journal is legal at all times. The plan and the first count stay as they are. The second goes up by one as a refused put or
+/// restore is entered, unless it stands at its end, and at no other time. No call takes memory.
 pub trait Machine {
     ghost plan_of: { Self → PlanValue };
 
@@ -45,10 +45,10 @@ pub trait Machine {
     fn plan(&self) -> &Plan
         ensures { result.now ≡ plan_of self.now };
 
-    /// Makes the one legal entry of a participant.
+    /// Adds what the rules let a participant do next, where they let it do something.
     ///
-    /// A piece of mixing work is made only with a hint of its rounds and its start; without one it is asked for. Where the device
-    /// decides, the entry is the one for its answer in this call.
+    /// Mixing work is added only where the hint brings its result, from the same start and by as many rounds; else the answer says
+    /// what to mix. A put or a restore asks the device within the call, and the entry says what the device answered.
     fn next(&mut self, by: Participant, hint: Option<WorkDone>) -> Answer
         requires { by < length (plan_of self.old).participants }
         ensures plan { plan_of self.new ≡ plan_of self.old }

@@ -1,21 +1,20 @@
 ghost use Rattle.std.specs.Prelude.{◌≡◌, ◌<◌, ℕ, [], length, slice_index_or, Option, Some, None, IfOk, IfSome, unwrap_or, option_copied};
 ghost use Rattle.caa_base.specs.Lists.{index_of, last_or, next_after};
-ghost use Rattle.place_plan.specs.Places.{place_at, around, action_at, role_at, role_row, role_of, roles_of, objects_of, uses, parent, alternates_of, child, next_alternate, nest_of, map_signal, top_of, is_within, fault_of, graph_at, internal_of, interface_of, exception_name, handler_in, initial_of, no_object, no_action, no_role, no_nest};
+ghost use Rattle.place_plan.specs.Places.{place_at, around, action_at, role_at, role_row, role_of, roles_of, objects_of, uses, parent, alternates_of, child, next_alternate, nest_of, map_signal, top_of, is_within, fault_of, graph_at, internal_of, interface_of, exception_name, handler_in, initial_of, initials_of, no_object, no_action, no_role, no_nest};
 ghost use Rattle.place_plan.specs.Bound.{bound};
 ghost use Rattle.place_plan.specs.Unfolding.{plan_of};
 ghost use Rattle.place_plan.specs.DraftRules.{broken_rule};
 ghost use Rattle.place_plan.specs.Closed.{AreSound, IsClosed};
 
-use crate::close::broken_rule;
+use crate::close::size_of;
 use crate::draft::Draft;
 use crate::draft_rows::{
     AbortRow, ActionRow, GraphRow, HandlerRow, NestRow, ObjectRow, PlaceRow, Program, RoleRow,
 };
 use crate::member::is_member;
-use crate::unfolded::unfolded;
 use crate::unfolding::unfold_plays;
-use caa_base::entry::{Drill, Exception, Object, Participant, Place};
-use caa_base::name::Name;
+use caa_base::entry::{Drill, Exception, Object, OutOfMemory, Participant, Place};
+use caa_base::name::{Name, name_at};
 use caa_base::rows::Rows;
 use exception_graph::Graph;
 use std::alloc::Global;
@@ -66,16 +65,6 @@ fn are_sound(rows: &[GraphRow])
 {
     for row in rows {
         row.graph.is_sound();
-    }
-}
-
-/// The name of this number; empty where there is none.
-fn name_at(names: &[Name], number: u32) -> &[u8]
-    ensures { result.now ≡ slice_index_or names.now number [] }
-{
-    match names.get(number as usize) {
-        Some(name) => name.bytes(),
-        None => &[],
     }
 }
 
@@ -162,10 +151,10 @@ impl Plan {
         ensures bad { (rule : ℕ) → result ≡ Err (PlanError.BadPart rule) → broken_rule draft ≡ Some rule }
         ensures memory { result ≡ Err PlanError.OutOfMemory → broken_rule draft ≡ None }
     {
-        if let Some(rule) = broken_rule(&draft) {
-            return Err(PlanError::BadPart { rule });
-        }
-        let size = unfolded(&draft);
+        let size = match size_of(&draft) {
+            Ok(size) => size,
+            Err(rule) => return Err(PlanError::BadPart { rule }),
+        };
         let Ok((places, plays)) = unfold_plays(alloc, &draft) else {
             return Err(PlanError::OutOfMemory);
         };
@@ -192,7 +181,8 @@ impl Plan {
         })
     }
 
-    /// The plan is the unfolding of a draft that breaks no rule, and its graphs are sound. A statement alone: the call does nothing.
+    /// The plan is the unfolding of a draft that breaks no rule, and its graphs are sound. A statement alone: the call does
+    /// nothing.
     pub fn is_closed(&self)
         ensures { IsClosed self.now }
     {
@@ -277,6 +267,17 @@ impl Plan {
         ensures { result ≡ initial_of self.now object }
     {
         self.objects.as_slice()[object as usize].initial
+    }
+
+    /// The value of each object before the first entry.
+    pub fn initials(&self, alloc: Global) -> Result<Vec<i64>, OutOfMemory>
+        ensures { IfOk result (λ values. values.items ≡ initials_of self.now) }
+    {
+        let mut values = Vec::new(alloc);
+        for object in 0..self.objects() {
+            values.push(self.initial(object))?;
+        }
+        Ok(values)
     }
 
     /// A put that the device is to refuse.

@@ -1,13 +1,12 @@
 ghost use Rattle.std.specs.Prelude.{◌≡◌, ◌≤◌, ◌+◌, ℕ, ◌<◌, true, length, slice_index_or, sum_by};
 ghost use Rattle.caa_base.specs.Limits.{most_actions, most_depth};
 ghost use Rattle.place_plan.specs.Places.{no_action};
-ghost use Rattle.place_plan.specs.Bound.{bound, action_bound};
-ghost use Rattle.place_plan.specs.Sizes.{AllHaveSizes};
+ghost use Rattle.place_plan.specs.Bound.{bound};
 ghost use Rattle.place_plan.specs.Unfolding.{plan_of};
 ghost use Rattle.place_plan.specs.DraftRules.{KeepsParts};
-ghost use Rattle.place_plan.specs.Weights.{counted, at, nested_weight, weight, played_weight, Tells, nests_known};
+ghost use Rattle.place_plan.specs.Weights.{counted, at, nested_weight, own_entries, weight, played_weight, Tells, are_nests_known};
 
-use crate::bound::action_bound;
+use crate::bound::own_bound;
 use crate::draft::Draft;
 use crate::draft_rows::{ActionRow, NestRow, PlayRow};
 use crate::tables::{Table, counted_sum, number_at};
@@ -61,7 +60,7 @@ fn one_level_deeper(actions: &[ActionRow], own: &[u64], weights: &[u64]) -> Tabl
 /// The weights of all actions with all that is nested in them, where each instance has the weight that the table gives its action.
 fn weights_of(actions: &[ActionRow], own: &[u64]) -> Table
     requires few { length actions.now ≤ most_actions }
-    requires known { nests_known actions.now ≡ true }
+    requires known { are_nests_known actions.now ≡ true }
     ensures { Tells actions.now result (weight own.now most_depth actions.now) }
 {
     let mut table = [0; MOST_ACTIONS];
@@ -82,17 +81,14 @@ fn played_weight(plays: &[PlayRow], weights: &[u64]) -> u64
     sum
 }
 
-/// How many entries an instance of each action may have.
+/// How many entries an instance of each action may have, what is nested in it aside.
 fn own_bounds(actions: &[ActionRow]) -> Table
-    requires few { length actions.now ≤ most_actions }
-    requires sizes { AllHaveSizes actions.now }
-    ensures { (a : ℕ) → a < length actions.now →
-        at result a
-        ≡ action_bound (slice_index_or actions.now a no_action) (length (slice_index_or actions.now a no_action).roles) }
+    requires { length actions.now ≤ most_actions }
+    ensures { Tells actions.now result (λ a. own_entries (slice_index_or actions.now a no_action)) }
 {
     let mut table = [0; MOST_ACTIONS];
     for (number, action) in actions.iter().enumerate() {
-        table[number] = action_bound(action, action.roles.len());
+        table[number] = own_bound(action);
     }
     table
 }

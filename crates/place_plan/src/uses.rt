@@ -3,13 +3,14 @@ ghost use Rattle.std.specs.List.{list_all};
 ghost use Rattle.caa_base.specs.Limits.{most_roles};
 ghost use Rattle.place_plan.specs.Places.{no_action};
 ghost use Rattle.caa_base.specs.Lists.{is_empty, member};
-ghost use Rattle.place_plan.specs.DraftRules.{all_below, nests_below, order_rule, all_differ, fills, nest_fills, fill_rule, action_fits, entered_by, filled_by, same_numbers, roles_enter, enter_rule, step_held, role_held, nest_held, action_held, object_rule, handlers_differ, face_of, nest_mapped, handler_rule, has_one_face, face_rule};
+ghost use Rattle.place_plan.specs.DraftRules.{all_below, nests_below, order_rule, all_differ, fills, nest_fills, fill_rule, action_fits, entered_by, filled_by, same_numbers, roles_enter, enter_rule, holds_step, holds_role, holds_nest, holds_action, object_rule, handlers_differ, face_of, maps_all, handler_rule, has_one_face, face_rule};
 
 use crate::draft::Draft;
 use crate::draft_rows::{ActionRow, HandlerRow, NestRow, Program, RoleRow, Step};
-use crate::member::{all_members, is_member};
+use crate::member::is_member;
+use crate::object_list::ObjectList;
 use crate::ranges::{all_below, exceptions_of};
-use caa_base::entry::{Exception, Object};
+use caa_base::entry::Exception;
 
 // ---- the order of actions
 
@@ -183,87 +184,85 @@ pub(crate) fn keeps_enters(draft: &Draft) -> bool
 
 // ---- objects
 
-fn step_held(objects: &[Object], step: &Step) -> bool
-    ensures { result ≡ step_held objects.now step.now }
+fn holds_step(objects: &ObjectList, step: &Step) -> bool
+    ensures { result ≡ holds_step objects.now step.now }
 {
     match step {
-        Step::Read(object) | Step::Put(object, _) | Step::Add(object, _) => is_member(
-            *object, objects,
-        ),
+        Step::Read(object) | Step::Put(object, _) | Step::Add(object, _) => {
+            objects.contains(*object)
+        }
         _ => true,
     }
 }
 
-fn program_held(objects: &[Object], program: &Program) -> bool
-    ensures { result ≡ list_all (step_held objects.now) program.now.steps }
+fn holds_program(objects: &ObjectList, program: &Program) -> bool
+    ensures { result ≡ list_all (holds_step objects.now) program.now.steps }
 {
     program
         .steps
         .as_slice()
         .iter()
-        .all(|step| step_held(objects, step))
+        .all(|step| holds_step(objects, step))
 }
 
-fn handlers_held(objects: &[Object], role: &RoleRow) -> bool
-    ensures { result ≡ list_all (λ h. list_all (step_held objects.now) h.program.steps) role.now.handlers }
+fn holds_handlers(objects: &ObjectList, role: &RoleRow) -> bool
+    ensures { result ≡ list_all (λ h. list_all (holds_step objects.now) h.program.steps) role.now.handlers }
 {
     role.handlers
         .as_slice()
         .iter()
-        .all(|handler| program_held(objects, &handler.program))
+        .all(|handler| holds_program(objects, &handler.program))
 }
 
-fn role_held(objects: &[Object], role: &RoleRow) -> bool
-    ensures { result ≡ role_held objects.now role.now }
+fn holds_role(objects: &ObjectList, role: &RoleRow) -> bool
+    ensures { result ≡ holds_role objects.now role.now }
 {
-    program_held(objects, &role.body) && handlers_held(objects, role)
+    holds_program(objects, &role.body) && holds_handlers(objects, role)
 }
 
-fn roles_held(action: &ActionRow) -> bool
-    ensures { result ≡ list_all (role_held action.now.objects) action.now.roles }
+fn holds_roles(action: &ActionRow) -> bool
+    ensures { result ≡ list_all (holds_role action.now.objects) action.now.roles }
 {
-    let objects = action.objects.as_slice();
     action
         .roles
         .as_slice()
         .iter()
-        .all(|role| role_held(objects, role))
+        .all(|role| holds_role(&action.objects, role))
 }
 
 /// Whether these objects are among the action's.
-fn objects_held(draft: &Draft, objects: &[Object], action: u32) -> bool
+fn holds_objects(draft: &Draft, objects: &ObjectList, action: u32) -> bool
     ensures { result ≡ list_all (λ o. member o objects.now) (slice_index_or draft.now.actions action no_action).objects }
 {
     match draft.actions.as_slice().get(action as usize) {
-        Some(row) => all_members(row.objects.as_slice(), objects),
+        Some(row) => objects.has_all(&row.objects),
         None => true,
     }
 }
 
-fn nest_held(draft: &Draft, objects: &[Object], nest: &NestRow) -> bool
-    ensures { result ≡ nest_held draft.now objects.now nest.now }
+fn holds_nest(draft: &Draft, objects: &ObjectList, nest: &NestRow) -> bool
+    ensures { result ≡ holds_nest draft.now objects.now nest.now }
 {
     nest.actions
         .as_slice()
         .iter()
-        .all(|action| objects_held(draft, objects, *action))
+        .all(|action| holds_objects(draft, objects, *action))
 }
 
-fn nests_held(draft: &Draft, action: &ActionRow) -> bool
-    ensures { result ≡ list_all (nest_held draft.now action.now.objects) action.now.nests }
+fn holds_nests(draft: &Draft, action: &ActionRow) -> bool
+    ensures { result ≡ list_all (holds_nest draft.now action.now.objects) action.now.nests }
 {
-    let objects = action.objects.as_slice();
     action
         .nests
         .as_slice()
         .iter()
-        .all(|nest| nest_held(draft, objects, nest))
+        .all(|nest| holds_nest(draft, &action.objects, nest))
 }
 
-fn action_held(draft: &Draft, action: &ActionRow) -> bool
-    ensures { result ≡ action_held draft.now action.now }
+fn holds_action(draft: &Draft, action: &ActionRow) -> bool
+    ensures { result ≡ holds_action draft.now action.now }
 {
-    roles_held(action) && nests_held(draft, action)
+    holds_roles(action) && holds_nests(draft, action)
 }
 
 /// Whether each action owns all objects that its steps, and the actions nested in it, touch.
@@ -274,7 +273,7 @@ pub(crate) fn keeps_objects(draft: &Draft) -> bool
         .actions
         .as_slice()
         .iter()
-        .all(|action| action_held(draft, action))
+        .all(|action| holds_action(draft, action))
 }
 
 // ---- handlers, and what uses tell outside
@@ -335,20 +334,20 @@ fn face_of(draft: &Draft, nest: &NestRow) -> u32
 }
 
 /// Whether a use maps as many exceptions as its actions can tell outside.
-fn nest_mapped(draft: &Draft, nest: &NestRow) -> bool
-    ensures { result ≡ nest_mapped draft.now nest.now }
+fn maps_all(draft: &Draft, nest: &NestRow) -> bool
+    ensures { result ≡ maps_all draft.now nest.now }
 {
     nest.maps.len() == exceptions_of(draft, face_of(draft, nest)) as usize
 }
 
-fn nests_mapped(draft: &Draft, action: &ActionRow) -> bool
-    ensures { result ≡ list_all (nest_mapped draft.now) action.now.nests }
+fn nests_map_all(draft: &Draft, action: &ActionRow) -> bool
+    ensures { result ≡ list_all (maps_all draft.now) action.now.nests }
 {
     action
         .nests
         .as_slice()
         .iter()
-        .all(|nest| nest_mapped(draft, nest))
+        .all(|nest| maps_all(draft, nest))
 }
 
 /// Whether the handlers of each role differ, and each use maps all exceptions of its actions.
@@ -356,7 +355,7 @@ pub(crate) fn keeps_handlers(draft: &Draft) -> bool
     ensures { result ≡ handler_rule draft.now }
 {
     draft.actions.as_slice().iter().all(|action| all_handlers_differ(action)
-        && nests_mapped(draft, action))
+        && nests_map_all(draft, action))
 }
 
 /// Whether all actions of a use have one interface graph.

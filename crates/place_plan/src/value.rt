@@ -13,7 +13,7 @@ pub fn value_at(plan: &Plan, entries: &[Entry], object: Object) -> i64
 {
     for index in (0..entries.len()).rev() {
         let entry = &entries[index];
-        if writes(entry, object) && !is_restored(plan, &entries[index + 1..], object, entry.place) {
+        if writes(entry, object) && !is_restored(plan, &entries[index + 1..], entry.place, object) {
             return entry.value;
         }
     }
@@ -21,21 +21,21 @@ pub fn value_at(plan: &Plan, entries: &[Entry], object: Object) -> i64
 }
 
 /// Whether one of these entries restores the object in this place or in one round it, and the device took it.
-fn is_restored(plan: &Plan, entries: &[Entry], object: Object, place: Place) -> bool
+fn is_restored(plan: &Plan, entries: &[Entry], place: Place, object: Object) -> bool
     ensures { result ≡ list_any (λ e. restores object e && is_within plan.now place e.place) entries.now }
 {
     entries.iter().any(|entry| restores(entry, object) && plan.is_within(place, entry.place))
 }
 
 /// Whether an entry restores the object, and the device took it.
-fn restores(entry: &Entry, object: Object) -> bool
+pub fn restores(entry: &Entry, object: Object) -> bool
     ensures { result ≡ restores object entry.now }
 {
     entry.kind == Kind::Restore && entry.arg == object && entry.mark == 0
 }
 
 /// Whether an entry writes the object.
-fn writes(entry: &Entry, object: Object) -> bool
+pub fn writes(entry: &Entry, object: Object) -> bool
     ensures { result ≡ writes object entry.now }
 {
     entry.kind == Kind::Write && entry.arg == object

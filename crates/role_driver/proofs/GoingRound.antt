@@ -6,8 +6,8 @@ use Rattle.std.proofs.Math.Nat.{mod-lt, mod-add-div'}
 use Rattle.caa_base.specs.declared.entry.Entry.{Entry}
 use Rattle.place_plan.specs.PlanValue.{Plan}
 use Rattle.journal_laws.specs.Laws.{HasEntry}
-use Rattle.place_plan.specs.Journals.{Silent}
-use Rattle.role_driver.specs.Schedule.{asked}
+use Rattle.place_plan.specs.Journals.{HasNoEntry}
+use Rattle.role_driver.specs.Schedule.{participant_asked}
 
 -- from any number, going round n, one comes to each number below n
 each_comes : (s n t : ℕ) → t < n → (i : ℕ) × (i < n) × ((s + i) % n ≡ t)
@@ -24,7 +24,7 @@ each_comes s n t l =
     ]
 
 -- where each participant that is asked in a round is silent, none has an entry
-pub round_silent : (plan : Plan) (past : List Entry) (first : ℕ) → ((i : ℕ) → i < length plan.participants → Silent plan past (asked plan first i)) → HasEntry plan past → ⊥
+pub round_silent : (plan : Plan) (past : List Entry) (first : ℕ) → ((i : ℕ) → i < length plan.participants → HasNoEntry plan past (participant_asked plan first i)) → HasEntry plan past → ⊥
 round_silent plan past first h has =
     let i = each_comes first (length plan.participants) has.entry.by has.known in
     h i.0 i.1 has.entry (sym i.2) has.may

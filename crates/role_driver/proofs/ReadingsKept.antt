@@ -14,14 +14,15 @@ use Rattle.std.proofs.lemmas.List.Elements.{All-nil, All-cons}
 use Rattle.caa_base.specs.declared.entry.Entry.{Entry}
 use Rattle.place_plan.specs.PlanValue.{Plan}
 use Rattle.place_plan.specs.DraftRules.{is_rising_above, all_below}
+use Rattle.place_plan.specs.Places.{initials_of}
 use Rattle.place_plan.specs.Journals.{committed_value}
 use Rattle.place_plan.proofs.DraftKeeps.{few_objects}
 use Rattle.journal_laws.specs.Laws.{CommitLaw}
 use Rattle.shared_views.specs.Publications.{Known, Begins, value_after}
-use Rattle.shared_views.specs.Committing.{Committed, Watching, initials_of, IsReading, WasRead}
+use Rattle.shared_views.specs.Committing.{Committed, Watching, IsReading, WasRead}
 use Rattle.shared_views.specs.declared.observed.Reading.{Reading}
 use Rattle.shared_views.proofs.Readings.{was_read as read_then, still_read}
-use Rattle.action_manager.specs.Publishing.{published}
+use Rattle.action_manager.specs.Publishing.{publications_of}
 use Rattle.action_manager.specs.PublishingLaw.{PublishingLaw}
 use Rattle.role_driver.specs.Records.{was_read, ends_rise, is_record, is_news}
 use Rattle.role_driver.specs.declared.watcher.Watcher.{Watcher}
@@ -130,7 +131,7 @@ module _ (plan : Plan) (past : List Entry) (w : Committed) (done : HasPublished 
   -- a reading of the first so many publications shows what as many plays committed
   shows : (o : ℕ) (r : Reading) → WasRead w.initials w.publications o r → r.value ≡ committed_value plan past r.ends o
   shows o r was =
-      let low : r.ends ≤ length (published plan past) = omega (arith, was.ends, ap length done.all) in
+      let low : r.ends ≤ length (publications_of plan past) = omega (arith, was.ends, ap length done.all) in
       was.value ∙ ap (λ i. value_after i (take r.ends w.publications.list) o) done.initials ∙ ap (λ l. value_after (initials_of plan) (take r.ends l) o) done.all ∙ law.values r.ends o low
 
   -- so does one by an observer that knows all that was published, where it is of no more

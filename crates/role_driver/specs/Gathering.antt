@@ -3,13 +3,14 @@ use Rattle.std.specs.Prelude.{◌≡◌, ◌<◌, ◌≤◌, ◌*◌, ℕ, nat_l
 use Rattle.std.specs.List.{All}
 use Rattle.caa_base.specs.declared.entry.Entry.{Entry}
 use Rattle.place_plan.specs.PlanValue.{Plan}
+use Rattle.place_plan.specs.Places.{initials_of}
 use Rattle.place_plan.specs.Journals.{LegalPast, AllOver}
 use Rattle.journal_text.specs.declared.seens.Seen.{Seen}
 use Rattle.journal_text.specs.Looks.{last_watch}
 use Rattle.journal_text.specs.Right.{first_wrong_from}
-use Rattle.shared_views.specs.Committing.{Committed, initials_of}
+use Rattle.shared_views.specs.Committing.{Committed}
 use Rattle.shared_views.specs.declared.observed.Reading.{Reading}
-use Rattle.action_manager.specs.Publishing.{published}
+use Rattle.action_manager.specs.Publishing.{publications_of}
 use Rattle.role_driver.specs.Watching.{Task}
 
 -- the writer has published all that the plays of this complete past committed
@@ -17,7 +18,7 @@ pub record HasPublished (plan : Plan) (past : List Entry) (w : Committed) : Type
   pub legal : LegalPast plan past
   pub over : AllOver plan past
   pub initials : w.initials ≡ initials_of plan
-  pub all : w.publications.list ≡ published plan past
+  pub all : w.publications.list ≡ publications_of plan past
 
 -- to watch an object by what the writer publishes
 abbrev pub task_by : Committed → ℕ → Task
@@ -40,7 +41,9 @@ IsBefore w (Some s) = suc s.watch ≡ w
 pub record AreRightSoFar (plan : Plan) (past : List Entry) (w : ℕ) (seens : List Seen) : Type 0 where
   pub last : Option Seen
   pub before : IsBefore w last
-  pub right : (more : List Seen) → first_wrong_from plan past None (seens ++ more) 0 ≡ first_wrong_from plan past last more (length seens)
+  pub right :
+      (more : List Seen)
+      → first_wrong_from plan past None (seens ++ more) 0 ≡ first_wrong_from plan past last more (length seens)
   pub few : length seens ≤ w * suc (length plan.plays)
   pub order : last_watch 0 seens ≤ w
   pub of_plan : All (λ s. s.watch < w) seens

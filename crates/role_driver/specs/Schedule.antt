@@ -4,19 +4,19 @@ use Rattle.caa_base.specs.Mixing.{state_after}
 use Rattle.caa_base.specs.declared.entry.Entry.{Entry}
 use Rattle.place_plan.specs.PlanValue.{Plan}
 use Rattle.place_plan.specs.Rules.{MayFollow}
-use Rattle.place_plan.specs.Journals.{Silent}
+use Rattle.place_plan.specs.Journals.{HasNoEntry}
 
 -- ---- one turn
 
 -- the participant that is asked after so many others, going round from the one of this number
-abbrev pub asked : Plan → ℕ → ℕ → ℕ
-asked plan first others = (first + others) % length plan.participants
+abbrev pub participant_asked : Plan → ℕ → ℕ → ℕ
+participant_asked plan first others = (first + others) % length plan.participants
 
 -- t is the first participant, going round from this number, that has an entry after this past
 pub record IsTurnOf (plan : Plan) (past : List Entry) (first t : ℕ) : Type 0 where
   pub others : ℕ
-  pub own : t ≡ asked plan first others
-  pub before : (i : ℕ) → i < others → Silent plan past (asked plan first i)
+  pub own : t ≡ participant_asked plan first others
+  pub before : (i : ℕ) → i < others → HasNoEntry plan past (participant_asked plan first i)
 
 -- t made its entry
 pub record Acts (plan : Plan) (old new : List Entry) (t : ℕ) : Type 0 where
@@ -28,7 +28,7 @@ pub record Acts (plan : Plan) (old new : List Entry) (t : ℕ) : Type 0 where
 -- t has no entry, and none was made
 pub record IsKept (plan : Plan) (old new : List Entry) (t : ℕ) : Type 0 where
   pub same : new ≡ old
-  pub silent : Silent plan (reverse old) t
+  pub silent : HasNoEntry plan (reverse old) t
 
 -- one entry was made, by the participant whose turn it was
 pub record TakesTurn (plan : Plan) (old new : List Entry) (first : ℕ) : Type 0 where
@@ -43,7 +43,8 @@ pub record TakesTurn (plan : Plan) (old new : List Entry) (first : ℕ) : Type 0
 -- at the participant of number `begins n`
 abbrev pub HaveTurns : (ℕ → ℕ) → Plan → List Entry → List Entry → Type 0
 HaveTurns begins plan past [] = Unit {0}
-HaveTurns begins plan past (e ∷ added) = HaveTurns begins plan past added × IsTurnOf plan (added ++ past) (begins (suc (length added))) e.by
+HaveTurns begins plan past (e ∷ added) =
+    HaveTurns begins plan past added × IsTurnOf plan (added ++ past) (begins (suc (length added))) e.by
 
 -- the old journal has grown to the new one by such turns
 pub record GrewBy (begins : ℕ → ℕ) (plan : Plan) (old new : List Entry) : Type 0 where

@@ -9,7 +9,7 @@ use place_plan::machine::Machine;
 use shared_views::Observer;
 
 /// A watcher for each blank, by the manager's observers.
-pub fn assigned<M: Machine>(
+pub fn watchers_for<M: Machine>(
     _manager: &Manager<M>,
     blanks: Vec<Blank>,
     mut observers: Vec<Observer>,

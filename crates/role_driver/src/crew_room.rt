@@ -15,7 +15,7 @@ pub struct CrewRoom<M> {
 }
 
 /// Flags that aren't raised.
-pub fn lowered(alloc: Global, count: usize) -> Result<Vec<AtomicBool>, AllocError>
+pub fn lowered_flags(alloc: Global, count: usize) -> Result<Vec<AtomicBool>, AllocError>
     ensures { IfOk result (λ flags. length flags.items ≡ count) }
 {
     let mut flags = Vec::new(alloc);
@@ -36,7 +36,7 @@ impl<M> CrewRoom<M> {
             members: Vec::with_capacity(alloc, count)?,
             back: Vec::with_capacity(alloc, count)?,
             driven: Vec::with_capacity(alloc, count)?,
-            handed_back: lowered(alloc, count)?,
+            handed_back: lowered_flags(alloc, count)?,
         })
     }
 }

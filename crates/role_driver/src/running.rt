@@ -1,17 +1,21 @@
-ghost use Rattle.std.specs.Prelude.{◌≡◌, ◌*◌, [], length, map, reverse, suc, All, None, IfSome, IfOk, IfErr, vec_capacity};
+ghost use Rattle.std.specs.Prelude.{◌≡◌, ◌*◌, [], length, map, replicate, reverse, suc, All, None, IfSome, IfOk, IfErr, vec_capacity};
+ghost use Rattle.std.specs.List.{range_with_len};
 ghost use mathlib.Core.List.{IsPrefix};
+ghost use Rattle.place_plan.specs.Closed.{IsClosed};
 ghost use Rattle.place_plan.specs.Journals.{IsLegal, IsComplete, plays_ended};
 ghost use Rattle.journal_text.specs.Looks.{AreOfPlan};
 ghost use Rattle.journal_text.specs.Right.{first_wrong};
 ghost use Rattle.action_manager.specs.Openings.{IsUnresolved};
 ghost use Rattle.action_manager.specs.Publishing.{Publishes};
-ghost use Rattle.action_manager.specs.Managers.{IsSeatIn};
+ghost use Rattle.action_manager.specs.Managers.{plan_in, handed_in, IsSeatIn};
 ghost use Rattle.action_manager.specs.Seats.{participant_of};
+ghost use Rattle.role_driver.specs.CrewRooms.{IsRoomForAll};
 ghost use Rattle.role_driver.specs.Watching.{task_of};
+ghost use Rattle.role_driver.specs.WatchRooms.{IsRoomFor, observer_of};
 ghost use Rattle.role_driver.specs.Gathering.{task_by};
 
 use crate::all_seats::{close_done, drive_each};
-use crate::assigning::assigned;
+use crate::assigning::watchers_for;
 use crate::crew::{Crew, drive_handed_back, join_all, start_all};
 use crate::crew_room::CrewRoom;
 use crate::gathering::gather;
@@ -120,6 +124,71 @@ fn seens_of<M: Machine>(
     Some(gather(machine, writer, watchers, seens))
 }
 
+/// Plays the machine of a manager to its end by its seats, in order, and its observers, where there is room for all.
+fn play_opened<M: Machine + Send, G: Gate + Sync, R: Threads + Wait + Sync>(
+    rt: &R,
+    opened: Opened<M>,
+    crew_room: CrewRoom<M>,
+    watch_room: WatchRoom,
+    gate: &G,
+) -> Finished<M>
+    requires closed { IsClosed (plan_in opened.manager) }
+    requires seats { All (λ s. IsSeatIn M.base_of opened.manager s) opened.seats.items }
+    requires order { map participant_of opened.seats.items ≡ range_with_len 0 (length (plan_in opened.manager).participants) }
+    requires observers { opened.observers.items
+        ≡ replicate (length (plan_in opened.manager).watches) (observer_of opened.manager) }
+    requires crew_room { IsRoomForAll (length (plan_in opened.manager).participants) crew_room }
+    requires watch_room { IsRoomFor (plan_in opened.manager) watch_room }
+    ensures plan { M.plan_of result.machine ≡ plan_in opened.manager }
+    ensures base { M.base_of result.machine ≡ M.base_of (handed_in opened.manager) }
+    ensures begins { IsPrefix (M.journal_of (handed_in opened.manager)) (M.journal_of result.machine) }
+    ensures legal { IsLegal (plan_in opened.manager) (M.journal_of result.machine) }
+    ensures complete { IsComplete (plan_in opened.manager) (M.journal_of result.machine) }
+    ensures of_plan { IfSome result.seens (λ s. AreOfPlan (plan_in opened.manager) s.seens) }
+    ensures right { IfSome result.seens (λ s.
+        first_wrong (plan_in opened.manager) (M.journal_of result.machine) s.seens ≡ None) }
+{
+    let Opened {
+        manager,
+        seats,
+        observers,
+    } = opened;
+    let crew = Crew {
+        seats,
+        members: crew_room.members,
+        back: crew_room.back,
+    };
+    let watch = Watch {
+        watchers: watchers_for(&manager, watch_room.blanks, observers, watch_room.watchers),
+        posts: watch_room.posts,
+        back: watch_room.back,
+    };
+    let (seats, mut watchers) = drive_in_threads(
+        rt,
+        &manager,
+        crew,
+        crew_room.handed_back.as_slice(),
+        watch,
+        watch_room.over.as_slice(),
+        gate,
+    );
+    let seats = drive_each(rt, &manager, seats, crew_room.driven, gate);
+    let Closed {
+        machine,
+        mut writer,
+        stale,
+    } = close_done(manager, seats);
+    let seens = seens_of(
+        &machine,
+        &mut writer,
+        stale,
+        &mut watchers,
+        watch_room.seens,
+    );
+    writer.end(rt);
+    Finished { machine, seens }
+}
+
 /// Plays a machine to its end, each participant in a thread of its own, and lets a watcher look at each watched object in
 /// another.
 ///
@@ -156,47 +225,7 @@ pub fn run<M: Machine + Send, G: Gate + Sync, R: Threads + Wait + Sync>(
         return Err(RunError { machine });
     };
     match Manager::open(rt, alloc, machine, watches) {
-        Ok(opened) => {
-            let Opened {
-                manager,
-                seats,
-                observers,
-            } = opened;
-            let crew = Crew {
-                seats,
-                members: crew_room.members,
-                back: crew_room.back,
-            };
-            let watch = Watch {
-                watchers: assigned(&manager, watch_room.blanks, observers, watch_room.watchers),
-                posts: watch_room.posts,
-                back: watch_room.back,
-            };
-            let (seats, mut watchers) = drive_in_threads(
-                rt,
-                &manager,
-                crew,
-                crew_room.handed_back.as_slice(),
-                watch,
-                watch_room.over.as_slice(),
-                gate,
-            );
-            let seats = drive_each(rt, &manager, seats, crew_room.driven, gate);
-            let Closed {
-                machine,
-                mut writer,
-                stale,
-            } = close_done(manager, seats);
-            let seens = seens_of(
-                &machine,
-                &mut writer,
-                stale,
-                &mut watchers,
-                watch_room.seens,
-            );
-            writer.end(rt);
-            Ok(Finished { machine, seens })
-        }
+        Ok(opened) => Ok(play_opened(rt, opened, crew_room, watch_room, gate)),
         Err(ManagerError { machine }) => Err(RunError { machine }),
     }
 }

@@ -130,7 +130,8 @@ fn opened<M: Machine + Drop, R: Wait>(
 ) -> Result<Opened<M>, Fail>
     requires none { M.journal_of machine ≡ [] }
     ensures seats { IfOk result (λ o. All (λ s. IsSeatIn M.base_of o.manager s) o.seats.items) }
-    ensures observers { IfOk result (λ o. o.observers.items ≡ replicate observers (new_observer (M.plan_of machine) (book_in o.manager))) }
+    ensures observers { IfOk result (λ o.
+        o.observers.items ≡ replicate observers (new_observer (M.plan_of machine) (book_in o.manager))) }
 {
     match Manager::open(rt, alloc, machine, observers) {
         Ok(opened) => Ok(opened),
@@ -165,7 +166,7 @@ fn finish_calls_the_gate(rt: HostRuntime) -> Result<(), Fail> {
 }
 
 #[test]
-fn participants_play_in_threads(rt: HostRuntime) -> Result<(), Fail> {
+fn runs_come_to_their_end(rt: HostRuntime) -> Result<(), Fail> {
     for _ in 0..20u32 {
         let hall = hall_of(rt.alloc(), look(rt.alloc())?)?;
         match run(&rt, rt.alloc(), hall, &EmptyGate) {

@@ -39,7 +39,7 @@ fn act<M: Machine, G: Gate>(machine: &mut M, by: Participant, gate: &G) -> bool
 }
 
 /// The participant that is asked after so many others, going round from this number, of so many participants.
-fn asked(first: u32, others: u32, participants: u32) -> Participant
+fn participant_asked(first: u32, others: u32, participants: u32) -> Participant
     requires { 0 < participants }
     ensures below { result < participants }
     ensures value { result ≡ (first + others) % participants }
@@ -57,7 +57,11 @@ pub(crate) fn take_turn<M: Machine, G: Gate>(machine: &mut M, first: u32, gate: 
 {
     let participants = machine.plan().participants();
     for others in 0..participants {
-        if act(machine, asked(first, others, participants), gate) {
+        if act(
+            machine,
+            participant_asked(first, others, participants),
+            gate,
+        ) {
             return;
         }
     }

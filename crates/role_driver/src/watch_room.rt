@@ -1,6 +1,6 @@
 ghost use Rattle.std.specs.Prelude.{◌≡◌, IfOk};
 
-use crate::crew_room::lowered;
+use crate::crew_room::lowered_flags;
 use crate::posts::Post;
 use crate::watcher::Watcher;
 use caa_base::entry::{Object, OutOfMemory};
@@ -57,7 +57,7 @@ impl WatchRoom {
             watchers: Vec::with_capacity(alloc, count)?,
             posts: Vec::with_capacity(alloc, count)?,
             back: Vec::with_capacity(alloc, count)?,
-            over: lowered(alloc, count)?,
+            over: lowered_flags(alloc, count)?,
             seens: Seens::with_room(alloc, looks)?,
         })
     }

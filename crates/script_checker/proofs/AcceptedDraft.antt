@@ -9,7 +9,7 @@ use Rattle.place_plan.specs.declared.draft_rows.ObjectRow.{ObjectRow}
 use Rattle.place_plan.specs.declared.draft_rows.PlayRow.{PlayRow}
 use Rattle.place_plan.specs.Places.{no_action}
 use Rattle.place_plan.specs.declared.draft.Draft.{Draft}
-use Rattle.place_plan.specs.DraftRules.{size_rule, graph_rule, order_rule, enter_rule, fill_rule, fills, nest_fills, all_below, all_differ, face_rule, has_one_face, depth_rule, handlers_differ, bound_rule, KeepsParts, object_rule, action_held, role_held, nest_held, range_rule, exceptions_of, action_in_range, handler_rule, nest_mapped, broken_rule}
+use Rattle.place_plan.specs.DraftRules.{size_rule, graph_rule, order_rule, enter_rule, fill_rule, fills, nest_fills, all_below, all_differ, face_rule, has_one_face, depth_rule, handlers_differ, bound_rule, KeepsParts, object_rule, holds_action, holds_role, holds_nest, range_rule, exceptions_of, action_in_range, handler_rule, maps_all, broken_rule}
 use Rattle.action_script.specs.declared.kind.Section.TheVariants as section
 use Rattle.action_script.specs.declared.script.Line.{Line}
 use Rattle.action_script.specs.Printing.{is_sound, forms_of, lead_to_top}
@@ -108,11 +108,11 @@ module _ (names : List (List ℕ)) (lines : List Line) (lead : lead_to_top secti
   pub keeps_objects : object_rule draft ≡ true
   keeps_objects =
       let h = holds_after names (λ at s. AreHeld s) (held_kept names) section.Top (nothing_yet names) lines lead sound accepted
-      (record { open_held = λ e. record { steps_held = refl; roles_held = refl; nests_held = refl }; ended_held = refl }) in
-      all_imply (held_in draft.actions) (action_held draft) draft.actions
+      (record { open_held = λ e. record { steps_held = refl; holds_roles = refl; holds_nests = refl }; ended_held = refl }) in
+      all_imply (held_in draft.actions) (holds_action draft) draft.actions
       (λ action k.
-      let p = and_parts (list_all (role_held action.objects) action.roles) _ k in
-      and_from _ _ p.0 (all_imply (uses_held draft.actions action.objects) (nest_held draft action.objects) action.nests (λ nest m. (and_parts (all_below (length draft.actions) nest.actions) _ m).1) p.1))
+      let p = and_parts (list_all (holds_role action.objects) action.roles) _ k in
+      and_from _ _ p.0 (all_imply (uses_held draft.actions action.objects) (holds_nest draft action.objects) action.nests (λ nest m. (and_parts (all_below (length draft.actions) nest.actions) _ m).1) p.1))
       (subst (λ (actions : List ActionRow). list_all (held_in actions) actions ≡ true) (sym drafted.actions) h.ended_held)
 
   -- no action is too deep
@@ -146,7 +146,7 @@ module _ (names : List (List ℕ)) (lines : List Line) (lead : lead_to_top secti
       let few_entries : bound (plan_of draft) ≤ most_entries = omega (arith, whole, weighed.entries.1) in
       and_from _ _ (le-leb (length (plan_of draft).places) most_places few_places) (le-leb (bound (plan_of draft)) most_entries few_entries)
 
-  -- the handlers of a role have different exceptions
+  -- no role handles an exception twice
   pub handlers_apart : list_all (λ (action : ActionRow). list_all handlers_differ action.roles) draft.actions ≡ true
   handlers_apart =
       let h = holds_after names (λ at s. HandlersDiffer s) (differ_kept names) section.Top (nothing_yet names) lines lead sound accepted (record { open_differ = (refl, refl); ended_differ = refl }) in
@@ -180,16 +180,16 @@ module _ (names : List (List ℕ)) (lines : List Line) (lead : lead_to_top secti
       and_from _ _ valued (and_from _ _ actions_right (and_from _ _ (plays_ranged draft plays_right) (and_from _ _ drilled watched)))
 
   -- each exception of a nested use is mapped
-  nests_mapped : list_all (λ (action : ActionRow). list_all (nest_mapped draft) action.nests) draft.actions ≡ true
-  nests_mapped =
+  nests_map_all : list_all (λ (action : ActionRow). list_all (maps_all draft) action.nests) draft.actions ≡ true
+  nests_map_all =
       let face : ℕ → ℕ = λ a. (slice_index_or draft.actions a no_action).interface in
       let h = mapped.maps (exceptions_of draft) face (record { counts = λ g l. exceptions g; faces = λ a l. rw drafted.actions refl }) in
-      all_imply (λ (action : ActionRow). list_all (use_mapped (exceptions_of draft) face) action.nests) (λ (action : ActionRow). list_all (nest_mapped draft) action.nests) draft.actions
-      (λ action k. all_imply (use_mapped (exceptions_of draft) face) (nest_mapped draft) action.nests (λ nest m. (and_parts (not (is_empty nest.actions)) _ m).1) k)
+      all_imply (λ (action : ActionRow). list_all (use_mapped (exceptions_of draft) face) action.nests) (λ (action : ActionRow). list_all (maps_all draft) action.nests) draft.actions
+      (λ action k. all_imply (use_mapped (exceptions_of draft) face) (maps_all draft) action.nests (λ nest m. (and_parts (not (is_empty nest.actions)) _ m).1) k)
       (subst (λ (actions : List ActionRow). list_all (λ (action : ActionRow). list_all (use_mapped (exceptions_of draft) face) action.nests) actions ≡ true) (sym drafted.actions) h.1)
 
   pub keeps_handlers : handler_rule draft ≡ true
-  keeps_handlers = all_both (λ (action : ActionRow). list_all handlers_differ action.roles) (λ (action : ActionRow). list_all (nest_mapped draft) action.nests) draft.actions handlers_apart nests_mapped
+  keeps_handlers = all_both (λ (action : ActionRow). list_all handlers_differ action.roles) (λ (action : ActionRow). list_all (maps_all draft) action.nests) draft.actions handlers_apart nests_map_all
 
   -- ---- all rules
 

@@ -1,4 +1,5 @@
--- The graphs of an accepted script: the plain one stands first, each row has its names, and each use of a graph is of one that is there.
+-- The graphs of an accepted script: the plain one stands first, each row has its names, and each use of a graph is of one that is
+-- there.
 use Rattle.std.proofs.Common.{◌≡◌, ℕ, suc, zero, Bool, true, false, ◌==◌, List, [], ◌∷◌, ◌++◌, length, slice_index_or, Option, Some, None, refl, sym, ap, ◌∙◌}
 use Rattle.std.proofs.lemmas.List.{length-map}
 use Rattle.std.specs.List.{list_all}

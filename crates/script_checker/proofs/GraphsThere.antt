@@ -1,4 +1,5 @@
--- In an accepted script each line stands in the block that its section says, each graph has an exception, and the graphs of an action are there.
+-- In an accepted script each line stands in the block that its section says, each graph has an exception, and the graphs of an
+-- action are there.
 use Rattle.std.proofs.Common.{◌≡◌, ℕ, suc, ◌+◌, ◌<◌, nat_lt, Bool, true, false, List, [], ◌∷◌, ◌++◌, length, Option, Some, None, refl, sym, arith, length-append}
 use Rattle.std.specs.List.{list_all}
 use Rattle.std.proofs.lemmas.Bool.{false≢true, ltb-true, lt-ltb, not-false}
@@ -38,7 +39,8 @@ block_of section.Handler = block.Action
 abbrev pub has_exception : DeclaredGraph → Bool
 has_exception graph = nat_lt 0 (length graph.exceptions)
 
--- by the block of the section and that of what is declared, the graphs with their names, the exceptions of the graph that is being declared, and the graphs of the action
+-- by the block of the section and that of what is declared, the graphs with their names, the exceptions of the graph that is
+-- being declared, and the graphs of the action
 pub record GraphsAre (here there : Block) (graphs : List DeclaredGraph) (names exceptions : List ℕ) (internal interface : ℕ) : Type 0 where
   pub linked : here ≡ there
   pub many : length graphs + open_graphs there ≡ suc (length names)

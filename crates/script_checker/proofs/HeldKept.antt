@@ -14,7 +14,7 @@ use Rattle.place_plan.specs.declared.draft_rows.Program.{Program}
 use Rattle.place_plan.specs.declared.draft_rows.Step.{Step}
 use Rattle.place_plan.specs.declared.draft_rows.Step.TheVariants as step
 use Rattle.place_plan.specs.Places.{no_action, no_role, no_nest}
-use Rattle.place_plan.specs.DraftRules.{all_below, step_held, role_held}
+use Rattle.place_plan.specs.DraftRules.{all_below, holds_step, holds_role}
 use Rattle.action_script.specs.declared.form.Form.{Form}
 use Rattle.action_script.specs.declared.form.Form.TheVariants as form
 use Rattle.script_checker.specs.declared.parts.Block.{Block}
@@ -42,19 +42,19 @@ uses_held actions objects nest = all_below (length actions) nest.actions && list
 
 -- what is being declared touches these objects alone
 pub record TouchesOnly (actions : List ActionRow) (objects : List ℕ) (steps : List Step) (roles : List RoleRow) (nests : List NestRow) : Type 0 where
-  pub steps_held : list_all (step_held objects) steps ≡ true
-  pub roles_held : list_all (role_held objects) roles ≡ true
-  pub nests_held : list_all (uses_held actions objects) nests ≡ true
+  pub steps_held : list_all (holds_step objects) steps ≡ true
+  pub holds_roles : list_all (holds_role objects) roles ≡ true
+  pub holds_nests : list_all (uses_held actions objects) nests ≡ true
 
 abbrev pub OpenHeld : SoFar → Type 0
 OpenHeld s = is_in_action s.block ≡ true → TouchesOnly s.actions s.uses s.steps s.role_rows s.nest_rows
 
 abbrev pub held_in : List ActionRow → ActionRow → Bool
-held_in actions action = list_all (role_held action.objects) action.roles && list_all (uses_held actions action.objects) action.nests
+held_in actions action = list_all (holds_role action.objects) action.roles && list_all (uses_held actions action.objects) action.nests
 
 -- ---- the objects are said
 
-any_step : (objects : List ℕ) (s : Step) → step_held [] s ≡ true → step_held objects s ≡ true
+any_step : (objects : List ℕ) (s : Step) → holds_step [] s ≡ true → holds_step objects s ≡ true
 any_step objects (step.Read o) h = absurd (false≢true h)
 any_step objects (step.Put o v) h = absurd (false≢true h)
 any_step objects (step.Add o v) h = absurd (false≢true h)
@@ -63,12 +63,12 @@ any_step objects (step.Check t v x) h = refl
 any_step objects (step.Raise x) h = refl
 any_step objects (step.Enter n) h = refl
 
-any_role : (objects : List ℕ) (role : RoleRow) → role_held [] role ≡ true → role_held objects role ≡ true
+any_role : (objects : List ℕ) (role : RoleRow) → holds_role [] role ≡ true → holds_role objects role ≡ true
 any_role objects role h =
-    let p = and_parts (list_all (step_held []) role.body.steps) (list_all (λ (h : HandlerRow). list_all (step_held []) h.program.steps) role.handlers) h in
-    and_from _ _ (all_imply (step_held []) (step_held objects) role.body.steps (any_step objects) p.0)
-    (all_imply (λ (h : HandlerRow). list_all (step_held []) h.program.steps) (λ (h : HandlerRow). list_all (step_held objects) h.program.steps) role.handlers
-    (λ h k. all_imply (step_held []) (step_held objects) h.program.steps (any_step objects) k) p.1)
+    let p = and_parts (list_all (holds_step []) role.body.steps) (list_all (λ (h : HandlerRow). list_all (holds_step []) h.program.steps) role.handlers) h in
+    and_from _ _ (all_imply (holds_step []) (holds_step objects) role.body.steps (any_step objects) p.0)
+    (all_imply (λ (h : HandlerRow). list_all (holds_step []) h.program.steps) (λ (h : HandlerRow). list_all (holds_step objects) h.program.steps) role.handlers
+    (λ h k. all_imply (holds_step []) (holds_step objects) h.program.steps (any_step objects) k) p.1)
 
 any_use : (actions : List ActionRow) (objects : List ℕ) (nest : NestRow) → uses_held actions [] nest ≡ true → uses_held actions objects nest ≡ true
 any_use actions objects nest h =
@@ -81,18 +81,18 @@ any_objects : (actions : List ActionRow) (old objects : List ℕ) (steps : List 
 any_objects actions old objects steps roles nests e h =
     let k = subst (λ (old : List ℕ). TouchesOnly actions old steps roles nests) e h in
     record {
-      steps_held = all_imply (step_held []) (step_held objects) steps (any_step objects) k.steps_held;
-      roles_held = all_imply (role_held []) (role_held objects) roles (any_role objects) k.roles_held;
-      nests_held = all_imply (uses_held actions []) (uses_held actions objects) nests (any_use actions objects) k.nests_held;
+      steps_held = all_imply (holds_step []) (holds_step objects) steps (any_step objects) k.steps_held;
+      holds_roles = all_imply (holds_role []) (holds_role objects) roles (any_role objects) k.holds_roles;
+      holds_nests = all_imply (uses_held actions []) (uses_held actions objects) nests (any_use actions objects) k.holds_nests;
     }
 
 -- ---- programs
 
-program_held : (objects : List ℕ) (exception : Option ℕ) (program : Program) → list_all (step_held objects) program.steps ≡ true → (row : RoleRow) → role_held objects row ≡ true → role_held objects (with_program row exception program) ≡ true
-program_held objects None program p row h = and_from _ _ p (and_parts (list_all (step_held objects) row.body.steps) (list_all (λ (h : HandlerRow). list_all (step_held objects) h.program.steps) row.handlers) h).1
-program_held objects (Some x) program p row h =
-    let parts = and_parts (list_all (step_held objects) row.body.steps) (list_all (λ (h : HandlerRow). list_all (step_held objects) h.program.steps) row.handlers) h in
-    and_from _ _ parts.0 (all_push (λ (h : HandlerRow). list_all (step_held objects) h.program.steps) row.handlers (record { exception = x; program = program }) parts.1 p)
+holds_program : (objects : List ℕ) (exception : Option ℕ) (program : Program) → list_all (holds_step objects) program.steps ≡ true → (row : RoleRow) → holds_role objects row ≡ true → holds_role objects (with_program row exception program) ≡ true
+holds_program objects None program p row h = and_from _ _ p (and_parts (list_all (holds_step objects) row.body.steps) (list_all (λ (h : HandlerRow). list_all (holds_step objects) h.program.steps) row.handlers) h).1
+holds_program objects (Some x) program p row h =
+    let parts = and_parts (list_all (holds_step objects) row.body.steps) (list_all (λ (h : HandlerRow). list_all (holds_step objects) h.program.steps) row.handlers) h in
+    and_from _ _ parts.0 (all_push (λ (h : HandlerRow). list_all (holds_step objects) h.program.steps) row.handlers (record { exception = x; program = program }) parts.1 p)
 
 closed_held : (s : SoFar) (v : Verdict) (o : Option Opening) → OpenHeld s → OpenHeld (closed_if s o v)
 closed_held s v None h = h
@@ -101,8 +101,8 @@ closed_held s v (Some o) h = λ e.
     let program : Program = record { steps = s.steps; verdict = v } in
     record {
       steps_held = refl;
-      roles_held = all_change (role_held s.uses) (λ (row : RoleRow). with_program row o.exception program) s.role_rows o.role no_role (program_held s.uses o.exception program k.steps_held) k.roles_held;
-      nests_held = k.nests_held;
+      holds_roles = all_change (holds_role s.uses) (λ (row : RoleRow). with_program row o.exception program) s.role_rows o.role no_role (holds_program s.uses o.exception program k.steps_held) k.holds_roles;
+      holds_nests = k.holds_nests;
     }
 
 -- ---- lines
@@ -113,31 +113,31 @@ ended_held names s block.Graph e h = λ e. absurd (false≢true e)
 ended_held names s block.Action e h = λ e. absurd (false≢true e)
 
 module _ (names : List (List ℕ)) where
-  one_step : (s : SoFar) (x : Step) → step_held s.uses x ≡ true → OpenHeld s → is_in_action s.block ≡ true → TouchesOnly s.actions s.uses (s.steps ++ x ∷ []) s.role_rows s.nest_rows
-  one_step s x m h e = let k = h e in record { steps_held = all_push (step_held s.uses) s.steps x k.steps_held m; roles_held = k.roles_held; nests_held = k.nests_held }
+  one_step : (s : SoFar) (x : Step) → holds_step s.uses x ≡ true → OpenHeld s → is_in_action s.block ≡ true → TouchesOnly s.actions s.uses (s.steps ++ x ∷ []) s.role_rows s.nest_rows
+  one_step s x m h e = let k = h e in record { steps_held = all_push (holds_step s.uses) s.steps x k.steps_held m; holds_roles = k.holds_roles; holds_nests = k.holds_nests }
 
   no_steps : (s : SoFar) → OpenHeld s → is_in_action s.block ≡ true → TouchesOnly s.actions s.uses [] s.role_rows s.nest_rows
-  no_steps s h e = let k = h e in record { steps_held = refl; roles_held = k.roles_held; nests_held = k.nests_held }
+  no_steps s h e = let k = h e in record { steps_held = refl; holds_roles = k.holds_roles; holds_nests = k.holds_nests }
 
-  other_abort : (s : SoFar) (roles : List RoleRow) → OpenHeld s → (list_all (role_held s.uses) s.role_rows ≡ true → list_all (role_held s.uses) roles ≡ true) → is_in_action s.block ≡ true → TouchesOnly s.actions s.uses s.steps roles s.nest_rows
-  other_abort s roles h keeps e = let k = h e in record { steps_held = k.steps_held; roles_held = keeps k.roles_held; nests_held = k.nests_held }
+  other_abort : (s : SoFar) (roles : List RoleRow) → OpenHeld s → (list_all (holds_role s.uses) s.role_rows ≡ true → list_all (holds_role s.uses) roles ≡ true) → is_in_action s.block ≡ true → TouchesOnly s.actions s.uses s.steps roles s.nest_rows
+  other_abort s roles h keeps e = let k = h e in record { steps_held = k.steps_held; holds_roles = keeps k.holds_roles; holds_nests = k.holds_nests }
 
   nest_held_still : (s : SoFar) (nest : ℕ) (row : NestRow) → OpenHeld s → (uses_held s.actions s.uses (nest_of s nest) ≡ true → uses_held s.actions s.uses row ≡ true) → OpenHeld (with_nest s nest row)
   nest_held_still s nest row h keeps = λ e.
       let k = h e in
-      record { steps_held = k.steps_held; roles_held = k.roles_held; nests_held = all_set (uses_held s.actions s.uses) s.nest_rows (index_of nest s.nests) no_nest row keeps k.nests_held }
+      record { steps_held = k.steps_held; holds_roles = k.holds_roles; holds_nests = all_set (uses_held s.actions s.uses) s.nest_rows (index_of nest s.nests) no_nest row keeps k.holds_nests }
 
   says_held : (s : SoFar) (f : Form) → HasNone s f → OpenHeld s → OpenHeld (with_said names s f)
   says_held s (form.Graph name) none h = λ e. absurd (false≢true e)
-  says_held s (form.Action name) none h = λ e. record { steps_held = refl; roles_held = refl; nests_held = refl }
+  says_held s (form.Action name) none h = λ e. record { steps_held = refl; holds_roles = refl; holds_nests = refl }
   says_held s (form.Uses objects) none h = λ e.
       any_objects s.actions s.uses _ s.steps s.role_rows s.nest_rows (empty_is s.uses (not-false _ (or_parts (not (is_empty s.uses)) (has_twice objects) (once s (form.Uses objects) none)).0)) (h e)
-  says_held s (form.Roles roles) none h = other_abort s _ h (λ k. all_mapped (role_held s.uses) (idle_role names) roles (λ name. refl))
+  says_held s (form.Roles roles) none h = other_abort s _ h (λ k. all_mapped (holds_role s.uses) (idle_role names) roles (λ name. refl))
   says_held s (form.Nest nest action roles) none h = λ e.
       let k = h e in
       let a = neither (is_action s action) (list_all (is_among s.roles) roles) (known s (form.Nest nest action roles) none) in
       let m = not-false _ (held s (form.Nest nest action roles) none) in
-      record { steps_held = k.steps_held; roles_held = k.roles_held; nests_held = all_push (uses_held s.actions s.uses) s.nest_rows _ k.nests_held (rw (a.0, m) refl) }
+      record { steps_held = k.steps_held; holds_roles = k.holds_roles; holds_nests = all_push (uses_held s.actions s.uses) s.nest_rows _ k.holds_nests (rw (a.0, m) refl) }
   says_held s (form.Map nest lower upper) none h = nest_held_still s nest _ h (λ k. k)
   says_held s (form.MapUndo nest x) none h = nest_held_still s nest _ h (λ k. k)
   says_held s (form.MapFailure nest x) none h = nest_held_still s nest _ h (λ k. k)
@@ -150,9 +150,9 @@ module _ (names : List (List ℕ)) where
       and_from _ _ (all_push (λ a. nat_lt a (length s.actions)) row.actions (index_of action s.action_names) p.0 a.1)
       (all_push (λ a. all_members s.uses (slice_index_or s.actions a no_action)) row.actions (index_of action s.action_names) p.1 m))
   says_held s (form.Abort role x) none h =
-      other_abort s _ h (all_change (role_held s.uses) (λ (row : RoleRow). record row { abort = abort.Always (index_of x (outer s)) }) s.role_rows (index_of role s.roles) no_role (λ row k. k))
+      other_abort s _ h (all_change (holds_role s.uses) (λ (row : RoleRow). record row { abort = abort.Always (index_of x (outer s)) }) s.role_rows (index_of role s.roles) no_role (λ row k. k))
   says_held s (form.AbortTest role t v x) none h =
-      other_abort s _ h (all_change (role_held s.uses) (λ (row : RoleRow). record row { abort = abort.Where t v (index_of x (outer s)) }) s.role_rows (index_of role s.roles) no_role (λ row k. k))
+      other_abort s _ h (all_change (holds_role s.uses) (λ (row : RoleRow). record row { abort = abort.Where t v (index_of x (outer s)) }) s.role_rows (index_of role s.roles) no_role (λ row k. k))
   says_held s (form.Body role) none h = no_steps s h
   says_held s (form.Handler role x) none h = no_steps s h
   says_held s (form.ReadStep object) none h = one_step s _ (not-false _ (held s (form.ReadStep object) none)) h
@@ -176,7 +176,7 @@ pub record AreHeld (s : SoFar) : Type 0 where
 
 held_longer : (actions : List ActionRow) (more : ActionRow) (action : ActionRow) → held_in actions action ≡ true → held_in (actions ++ more ∷ []) action ≡ true
 held_longer actions more action h =
-    let p = and_parts (list_all (role_held action.objects) action.roles) _ h in
+    let p = and_parts (list_all (holds_role action.objects) action.roles) _ h in
     and_from _ _ p.0
     (all_imply (uses_held actions action.objects) (uses_held (actions ++ more ∷ []) action.objects) action.nests
     (λ nest k.
@@ -195,7 +195,7 @@ says_ended names s f h true e =
     rw (said_one names s f e)
     (all_push (held_in (s.actions ++ row ∷ [])) s.actions row
     (all_imply (held_in s.actions) (held_in (s.actions ++ row ∷ [])) s.actions (held_longer s.actions row) h.ended_held)
-    (held_longer s.actions row row (and_from _ _ k.roles_held k.nests_held)))
+    (held_longer s.actions row row (and_from _ _ k.holds_roles k.holds_nests)))
 says_ended names s f h false e = rw (said_none names s f e) h.ended_held
 
 pub held_kept : (names : List (List ℕ)) → IsKept names (λ at s. AreHeld s)

@@ -5,7 +5,7 @@ use Rattle.std.proofs.lemmas.Bool.{and_parts, or_parts, eq-eqb, ltb-false, ltb-t
 use Rattle.std.proofs.lemmas.List.{get_or-map, get_or_default, map-append, length-append, length-map}
 use Rattle.std.proofs.lemmas.List.Elements.{All-push, All-nil, All-map}
 use Rattle.std.proofs.lemmas.List.Quantifiers.{all_pairs_push}
-use Rattle.caa_base.specs.Names.{is_name}
+use Rattle.caa_base.specs.Names.{is_name, name_at}
 use Rattle.caa_base.specs.Lists.{member, index_of}
 use Rattle.caa_base.specs.declared.entry.Verdict.{Verdict}
 use Rattle.caa_base.specs.declared.entry.Verdict.TheVariants as verdict
@@ -28,7 +28,7 @@ use Rattle.script_checker.specs.declared.parts.Opening.{Opening}
 use Rattle.script_checker.specs.Numbers.{is_among}
 use Rattle.script_checker.specs.DeclaredSoFar.{SoFar, nothing_yet}
 use Rattle.script_checker.specs.Causes.{is_unknown, is_twice}
-use Rattle.script_checker.specs.After.{name_at, goes_on, closed_if, settled_if, settled, ended, with_said, after}
+use Rattle.script_checker.specs.After.{goes_on, closed_if, settled_if, settled, ended, with_said, after}
 use Rattle.script_checker.specs.Compiled.{exception_name, declared_after, AreAccepted, IsRowOf, AreRowsOf, IsPlanOf}
 use Rattle.place_plan.specs.OwnNames.{AreOwnNames, NamesExceptions, HasOwnNames}
 use Rattle.script_checker.proofs.Choosing.{known}

@@ -2,6 +2,7 @@
 use Rattle.std.proofs.Common.{◌≡◌, ℕ, Bool, true, List, [], ◌∷◌, ◌++◌, map, length, slice_set, Option, Some, None, refl}
 use Rattle.std.specs.List.{list_all}
 use Rattle.caa_base.specs.Lists.{index_of}
+use Rattle.caa_base.specs.Names.{name_at}
 use Rattle.caa_base.specs.declared.entry.Verdict.{Verdict}
 use Rattle.caa_base.specs.declared.entry.Verdict.TheVariants as verdict
 use Rattle.place_plan.specs.declared.draft_rows.ActionRow.{ActionRow}
@@ -14,7 +15,7 @@ use Rattle.script_checker.specs.declared.parts.Block.TheVariants as block
 use Rattle.script_checker.specs.declared.parts.DeclaredGraph.{DeclaredGraph}
 use Rattle.script_checker.specs.declared.parts.Opening.{Opening}
 use Rattle.script_checker.specs.DeclaredSoFar.{SoFar, nest_of, action_of, exceptions_at}
-use Rattle.script_checker.specs.After.{closed_if, ended, with_said, with_nest, plain_nest, name_at, action_row}
+use Rattle.script_checker.specs.After.{closed_if, ended, with_said, with_nest, plain_nest, action_row}
 use Rattle.script_checker.specs.Compiled.{HasNone}
 use Rattle.caa_base.proofs.ListLemmas.{all_imply}
 use Rattle.script_checker.proofs.Accepted.{IsKept}

@@ -1,13 +1,13 @@
 -- Lemmas on lists of names and the tables of their places.
 use Rattle.std.proofs.Common.{◌≡◌, ℕ, ◌==◌, ◌+◌, ◌<◌, ◌≤◌, Bool, true, false, cond, nat_lt, nat_eq, List, [], ◌∷◌, ◌++◌, ◌||◌, length, slice_get, Some, None, Option, drop, reverse, get_or, add-one, refl, sym, ap, subst, ◌∙◌, arith, zero, suc, inl, inr, ◌⊎◌}
-use Rattle.std.proofs.lemmas.Bool.{eqb-true, eq-eqb, ne_eqb, false≢true, cases_eq, cases_lt, cases_Bool, or_left, or_right, lt-ltb, le-ltb, ltb-true, ltb-false}
+use Rattle.std.proofs.lemmas.Bool.{eqb-true, eq-eqb, ne_eqb, false≢true, cases_eq, cases_Bool, or_left, or_right, lt-ltb, ltb-true, ltb-false}
 use Rattle.std.proofs.lemmas.List.{length-append, reverse-append}
 use Rattle.std.proofs.lemmas.List.Folds.{list_any-append}
 use Rattle.std.proofs.Math.Seq.{drop-cons}
 use Rattle.std.specs.Option.{option_eq}
 use Rattle.std.specs.HashMap.{HashMap, get}
 use Rattle.caa_base.specs.Lists.{member, index_of}
-use Rattle.caa_base.proofs.ListLemmas.{index_within}
+use Rattle.caa_base.proofs.ListLemmas.{one_more_each, index_within}
 use Rattle.script_checker.specs.Numbers.{is_among, has_twice}
 use Rattle.script_checker.specs.NumberTable.{IsTableOf}
 
@@ -124,12 +124,6 @@ module _ {S : Type 0} (old : HashMap ℕ ℕ S) (names : List ℕ) (name : ℕ) 
 
 -- ---- members
 
-one_more : (m n : ℕ) → nat_lt (suc m) (suc n) ≡ nat_lt m n
-one_more m n = elim (cases_lt m n) [
-  | inl l ↦ lt-ltb (suc m) (suc n) (omega arith) ∙ sym (lt-ltb m n l)
-  | inr l ↦ le-ltb (suc m) (suc n) (omega arith) ∙ sym (le-ltb m n l)
-]
-
 -- a name is among these just where it is a member
 pub among_is_member : (name : ℕ) (names : List ℕ) → is_among names name ≡ member name names
 among_is_member name [] = refl
@@ -137,7 +131,7 @@ among_is_member name (x ∷ xs) = by (x == name) (among_is_member name xs)
   where
     by : (b : Bool) → is_among xs name ≡ member name xs → nat_lt (cond b 0 (suc (index_of name xs))) (suc (length xs)) ≡ (b || member name xs)
     by true h = lt-ltb 0 (suc (length xs)) (omega arith)
-    by false h = one_more (index_of name xs) (length xs) ∙ h
+    by false h = one_more_each (index_of name xs) (length xs) ∙ h
 
 -- a member is one from either end
 member_reverse : (x : ℕ) (xs : List ℕ) → member x (reverse xs) ≡ member x xs

@@ -4,6 +4,7 @@ use Rattle.std.proofs.lemmas.List.{length-map}
 use Rattle.std.specs.List.{list_all}
 use Rattle.std.proofs.lemmas.Bool.{and_parts, false≢true, ltb-false, le-leb, and_from}
 use Rattle.caa_base.specs.Lists.{is_empty, index_of}
+use Rattle.caa_base.specs.Names.{name_at}
 use Rattle.caa_base.specs.declared.entry.Verdict.{Verdict}
 use Rattle.caa_base.specs.declared.entry.Verdict.TheVariants as verdict
 use Rattle.place_plan.specs.declared.draft_rows.AbortRow.TheVariants as abort
@@ -20,7 +21,7 @@ use Rattle.script_checker.specs.declared.parts.Block.TheVariants as block
 use Rattle.script_checker.specs.declared.parts.Opening.{Opening}
 use Rattle.script_checker.specs.DeclaredSoFar.{SoFar, outer, nest_of, action_of, exceptions_at}
 use Rattle.script_checker.specs.Causes.{is_past_limit, is_unfilled}
-use Rattle.script_checker.specs.After.{closed_if, ended, with_said, with_program, idle_role, with_nest, plain_nest, name_at, action_row}
+use Rattle.script_checker.specs.After.{closed_if, ended, with_said, with_program, idle_role, with_nest, plain_nest, action_row}
 use Rattle.caa_base.proofs.ListLemmas.{as_filled}
 use Rattle.script_checker.specs.Blocks.{is_in_action}
 use Rattle.script_checker.proofs.Choosing.{within}

@@ -10,7 +10,7 @@ use Rattle.place_plan.specs.declared.draft_rows.PlayRow.{PlayRow}
 use Rattle.place_plan.specs.Bound.{bound}
 use Rattle.place_plan.specs.DraftRules.{KeepsParts, action_in_range, play_in_range, nest_fills}
 use Rattle.place_plan.specs.Unfolding.{plan_of}
-use Rattle.place_plan.specs.Weights.{counted, at, played_weight}
+use Rattle.place_plan.specs.Weights.{counted, at, played_weight, own_entries}
 use Rattle.action_script.specs.declared.form.Form.{Form}
 use Rattle.action_script.specs.declared.form.Form.TheVariants as form
 use Rattle.action_script.specs.declared.kind.Section.{Section}
@@ -31,7 +31,7 @@ use Rattle.script_checker.proofs.ActionsGrow.{all_push}
 use Rattle.script_checker.proofs.PlaysKept.{play_right, said_play, plays_ranged, plays_filled}
 use Rattle.script_checker.proofs.CountsKept.{AreFew}
 use Rattle.script_checker.proofs.DepthsKept.{AreShallow}
-use Rattle.script_checker.proofs.WeightsKept.{AreWeighed, one_place, own_entries, weighs_play}
+use Rattle.script_checker.proofs.WeightsKept.{AreWeighed, one_place, weighs_play}
 use Rattle.script_checker.proofs.SizesTold.{places_told, entries_told}
 use Rattle.script_checker.proofs.AcceptedDraft.{counts, shallow, weighed, keeps_parts}
 

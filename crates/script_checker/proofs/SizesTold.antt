@@ -1,17 +1,21 @@
 -- What the tables of sizes tell of a draft with the actions that have ended.
-use Rattle.std.proofs.Common.{◌≡◌, ℕ, ◌<◌, List, length, subst}
+use Rattle.std.proofs.Common.{◌≡◌, ℕ, ◌<◌, List, length, subst, arith}
 use Rattle.caa_base.specs.Limits.{most_depth}
 use Rattle.place_plan.specs.declared.draft.Draft.{Draft}
 use Rattle.place_plan.specs.declared.draft_rows.ActionRow.{ActionRow}
 use Rattle.place_plan.specs.Bound.{bound}
 use Rattle.place_plan.specs.DraftRules.{KeepsParts}
 use Rattle.place_plan.specs.Unfolding.{plan_of}
-use Rattle.place_plan.specs.Weights.{counted, at, played_weight}
+use Rattle.place_plan.specs.Weights.{counted, at, played_weight, own_entries}
 use Rattle.place_plan.proofs.Weighing.{counted_places, counted_bound}
 use Rattle.script_checker.specs.DeclaredSoFar.{SoFar}
 use Rattle.script_checker.proofs.DepthsKept.{AreShallow}
 use Rattle.script_checker.proofs.WeightsTell.{IsWeight, own_weights, own_at, weighs}
-use Rattle.script_checker.proofs.WeightsKept.{one_place, own_entries}
+use Rattle.script_checker.proofs.WeightsKept.{one_place}
+
+-- how many entries an instance of an action may have, as far as they are counted
+abbrev counted_entries : ActionRow → ℕ
+counted_entries action = counted (own_entries action)
 
 module _ (s : SoFar) (shallow : AreShallow s) (draft : Draft) (keeps : KeepsParts draft) (same : draft.actions ≡ s.actions) where
   pub places_told : ((a : ℕ) → a < length s.actions → IsWeight one_place s.places s.actions a) → counted (played_weight (at s.places) draft.plays) ≡ counted (length (plan_of draft).places)
@@ -22,6 +26,6 @@ module _ (s : SoFar) (shallow : AreShallow s) (draft : Draft) (keeps : KeepsPart
 
   pub entries_told : ((a : ℕ) → a < length s.actions → IsWeight own_entries s.bounds s.actions a) → counted (played_weight (at s.bounds) draft.plays) ≡ counted (bound (plan_of draft))
   entries_told tell =
-      counted_bound draft keeps s.bounds (own_weights own_entries s.actions)
-      (rw same (λ a l. own_at own_entries s.actions a l))
-      (rw same (λ a l. weighs own_entries s.depths s.bounds s.actions shallow.depths.tell tell shallow.there.ended_rows most_depth a l (shallow.depths.tell a l).1))
+      counted_bound draft keeps s.bounds (own_weights counted_entries s.actions)
+      (rw same (λ a l. own_at counted_entries s.actions a l))
+      (rw same (λ a l. weighs counted_entries s.depths s.bounds s.actions shallow.depths.tell (λ b below. omega (arith, tell b below)) shallow.there.ended_rows most_depth a l (shallow.depths.tell a l).1))

@@ -1,34 +1,20 @@
 -- The values and the rounds of a script's lines are in range.
-use Rattle.std.proofs.Common.{◌≡◌, ℕ, ℤ, pos, negsuc, int_lt, ◌+◌, ◌≤◌, nat_le, Bool, true, false, not, ◌&&◌, List, length, ap, arith}
-use Rattle.std.proofs.lemmas.Int.{ints}
-use Rattle.std.proofs.lemmas.Bool.{and_parts, leb-true, false_from_ne_true, and_from}
+use Rattle.std.proofs.Common.{◌≡◌, ℕ, ℤ, nat_le, Bool, true, ◌&&◌, List, length}
+use Rattle.std.proofs.lemmas.Bool.{and_parts}
 use Rattle.caa_base.specs.Limits.{is_value, most_count}
 use Rattle.action_script.specs.declared.form.Form.{Form}
 use Rattle.action_script.specs.Kinds.{takes, parts_of}
 use Rattle.action_script.specs.Forms.{kind_of, fields_of}
-use Rattle.action_script.specs.Printing.{is_sound, all_fit, is_value as is_said_value}
-
--- the two tests of a value are one
-value_said : (v : ℤ) → is_said_value v ≡ true → is_value v ≡ true
-value_said (pos n) h =
-    let small : n ≤ 1000000000000 = leb-true n 1000000000000 h in
-    let low : int_lt (pos n) (negsuc 999999999999) ≡ false = false_from_ne_true _ (λ e. omega (arith, ints)) in
-    let high : int_lt (pos 1000000000000) (pos n) ≡ false = false_from_ne_true _ (λ e. omega (arith, ints)) in
-    and_from _ _ (ap not low) (ap not high)
-value_said (negsuc n) h =
-    let small : n + 1 ≤ 1000000000000 = leb-true (n + 1) 1000000000000 h in
-    let low : int_lt (negsuc n) (negsuc 999999999999) ≡ false = false_from_ne_true _ (λ e. omega (arith, ints)) in
-    let high : int_lt (pos 1000000000000) (negsuc n) ≡ false = false_from_ne_true _ (λ e. omega (arith, ints)) in
-    and_from _ _ (ap not low) (ap not high)
+use Rattle.action_script.specs.Printing.{is_sound, all_fit}
 
 -- the fields of a sound line are what is asked for
 pub parts_sound : (names : List (List ℕ)) (f : Form) → is_sound names f ≡ true → all_fit names (parts_of (kind_of f)) (fields_of f) ≡ true
 parts_sound names f h = (and_parts (takes (kind_of f) (length (fields_of f))) (all_fit names (parts_of (kind_of f)) (fields_of f)) h).1
 
-pub value_first : (v : ℤ) (more : Bool) → (is_said_value v && more) ≡ true → is_value v ≡ true
-value_first v more h = value_said v (and_parts (is_said_value v) more h).0
+pub value_first : (v : ℤ) (more : Bool) → (is_value v && more) ≡ true → is_value v ≡ true
+value_first v more h = (and_parts (is_value v) more h).0
 
-pub value_second : (named : Bool) (v : ℤ) (more : Bool) → (named && (is_said_value v && more)) ≡ true → is_value v ≡ true
+pub value_second : (named : Bool) (v : ℤ) (more : Bool) → (named && (is_value v && more)) ≡ true → is_value v ≡ true
 value_second named v more h = value_first v more (and_parts named _ h).1
 
 pub rounds_alone : (k : ℕ) → (nat_le k most_count && true) ≡ true → nat_le k most_count ≡ true

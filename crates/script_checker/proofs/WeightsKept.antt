@@ -9,9 +9,8 @@ use Rattle.place_plan.specs.declared.draft_rows.ActionRow.{ActionRow}
 use Rattle.place_plan.specs.declared.draft_rows.NestRow.{NestRow}
 use Rattle.place_plan.specs.declared.draft_rows.PlayRow.{PlayRow}
 use Rattle.place_plan.specs.Places.{no_action}
-use Rattle.place_plan.specs.Bound.{action_bound}
 use Rattle.place_plan.specs.DraftRules.{all_below}
-use Rattle.place_plan.specs.Weights.{counted, at, nested_weight, played_weight}
+use Rattle.place_plan.specs.Weights.{counted, at, nested_weight, own_entries, played_weight}
 use Rattle.action_script.specs.declared.form.Form.{Form}
 use Rattle.action_script.specs.declared.form.Form.TheVariants as form
 use Rattle.script_checker.specs.declared.parts.Block.{Block}
@@ -90,9 +89,6 @@ module _ (own : ActionRow → ℕ) (table : List ℕ) (actions : List ActionRow)
 
 abbrev pub one_place : ActionRow → ℕ
 one_place action = 1
-
-abbrev pub own_entries : ActionRow → ℕ
-own_entries action = action_bound action (length action.roles)
 
 abbrev pub PlacesWeigh : SoFar → Type 0
 PlacesWeigh s = Weighs one_place s.places s.actions s.plays s.all_places × (s.all_places ≤ most_places)

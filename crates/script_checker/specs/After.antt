@@ -11,6 +11,7 @@ use Rattle.place_plan.specs.declared.draft_rows.Program.{Program}
 use Rattle.place_plan.specs.declared.draft_rows.Step.{Step}
 use Rattle.place_plan.specs.declared.draft_rows.Step.TheVariants as step
 use Rattle.caa_base.specs.Lists.{index_of}
+use Rattle.caa_base.specs.Names.{name_at}
 use Rattle.place_plan.specs.Places.{no_role}
 use Rattle.place_plan.specs.Bound.{action_bound}
 use Rattle.place_plan.specs.DraftRules.{deepest}
@@ -24,10 +25,6 @@ use Rattle.place_plan.specs.Weights.{counted, at, nested_weight}
 use Rattle.script_checker.specs.Numbers.{chosen_from}
 use Rattle.script_checker.specs.DeclaredSoFar.{SoFar, graph_number, exceptions_at, internal_graph, interface_graph, inner, outer, face, action_of, nest_of, said_of, role_of, nothing_said}
 use Rattle.script_checker.specs.Causes.{places_with, bound_with}
-
--- the name of this number
-abbrev pub name_at : List (List ℕ) → ℕ → List ℕ
-name_at names n = slice_index_or names n []
 
 -- the step that a line says
 abbrev pub step_of : SoFar → Form → Option Step
@@ -93,7 +90,8 @@ is_outside f = not (goes_on f) && (not (is_of_parts f) && not (is_of_action f))
 -- the role with this body, or with one more handler
 abbrev pub with_program : RoleRow → Option ℕ → Program → RoleRow
 with_program role None program = record role { body = program }
-with_program role (Some exception) program = record role { handlers = role.handlers ++ record { exception = exception; program = program } ∷ [] }
+with_program role (Some exception) program =
+    record role { handlers = role.handlers ++ record { exception = exception; program = program } ∷ [] }
 
 -- this body or handler, if there is one, has ended with this verdict
 abbrev pub closed_if : SoFar → Option Opening → Verdict → SoFar
@@ -130,11 +128,17 @@ with_opening s role exception = record s { opening = Some (record { role = role;
 
 -- a role that does nothing
 abbrev pub idle_role : List (List ℕ) → ℕ → RoleRow
-idle_role names name = record { name = name_at names name; body = record { steps = []; verdict = verdict.Done }; handlers = []; abort = abort.Never }
+idle_role names name = record {
+  name = name_at names name;
+  body = record { steps = []; verdict = verdict.Done };
+  handlers = [];
+  abort = abort.Never;
+}
 
 -- what the role of this name raises where it gives up
 abbrev pub with_abort : SoFar → ℕ → AbortRow → SoFar
-with_abort s role row = record s { role_rows = slice_set s.role_rows (index_of role s.roles) (record (role_of s role) { abort = row }) }
+with_abort s role row =
+    record s { role_rows = slice_set s.role_rows (index_of role s.roles) (record (role_of s role) { abort = row }) }
 
 -- a nested use that carries `universal` out whatever happens
 abbrev pub plain_nest : List ℕ → ℕ → List ℕ → ℕ → NestRow
@@ -203,7 +207,8 @@ with_places s row = record s { places = s.places ++ counted (1 + nested_weight (
 
 -- how many entries these may have
 abbrev pub with_bound : SoFar → ActionRow → SoFar
-with_bound s row = record s { bounds = s.bounds ++ counted (action_bound row (length row.roles) + nested_weight (at s.bounds) row.nests) ∷ [] }
+with_bound s row =
+    record s { bounds = s.bounds ++ counted (action_bound row (length row.roles) + nested_weight (at s.bounds) row.nests) ∷ [] }
 
 -- one more action, and what comes next stands outside actions
 abbrev pub with_action_row : SoFar → ActionRow → SoFar
@@ -237,7 +242,8 @@ with_said names s (form.Object name value) =
       objects = s.objects ++ name ∷ [];
       object_rows = s.object_rows ++ record { name = name_at names name; initial = value } ∷ [];
     }
-with_said names s (form.Drill object nth) = record s { drills = s.drills ++ record { object = index_of object s.objects; nth = nth } ∷ [] }
+with_said names s (form.Drill object nth) =
+    record s { drills = s.drills ++ record { object = index_of object s.objects; nth = nth } ∷ [] }
 with_said names s (form.Watch object) = record s { watches = s.watches ++ index_of object s.objects ∷ [] }
 with_said names s (form.Graph name) =
     record s { graph_names = s.graph_names ++ name ∷ []; block = block.Graph; exceptions = s.universal ∷ []; pairs = [] }
@@ -248,7 +254,8 @@ with_said names s (form.Play action who) = record s {
   whole_bound = bound_with s action;
 }
 with_said names s (form.Exception name) = record s { exceptions = s.exceptions ++ name ∷ [] }
-with_said names s (form.Cover upper lower) = record s { pairs = s.pairs ++ (index_of upper s.exceptions, index_of lower s.exceptions) ∷ [] }
+with_said names s (form.Cover upper lower) =
+    record s { pairs = s.pairs ++ (index_of upper s.exceptions, index_of lower s.exceptions) ∷ [] }
 with_said names s form.End = ended names s s.block
 with_said names s (form.Internal graph) = record s { internal = Some (graph_number s graph) }
 with_said names s (form.Interface graph) = record s { interface = Some (graph_number s graph) }
@@ -268,14 +275,20 @@ with_said names s (form.Map nest lower upper) =
     (record (nest_of s nest) { maps = slice_set (nest_of s nest).maps number (index_of upper (inner s)) })
     (record (said_of s nest) { mapped = (said_of s nest).mapped ++ number ∷ [] })
 with_said names s (form.MapUndo nest exception) =
-    with_nest_said s nest (record (nest_of s nest) { undo = index_of exception (inner s) }) (record (said_of s nest) { has_undo = true })
+    with_nest_said s nest
+    (record (nest_of s nest) { undo = index_of exception (inner s) })
+    (record (said_of s nest) { has_undo = true })
 with_said names s (form.MapFailure nest exception) =
-    with_nest_said s nest (record (nest_of s nest) { failure = index_of exception (inner s) }) (record (said_of s nest) { has_failure = true })
+    with_nest_said s nest
+    (record (nest_of s nest) { failure = index_of exception (inner s) })
+    (record (said_of s nest) { has_failure = true })
 with_said names s (form.Alternate nest action) =
     with_nest s nest (record (nest_of s nest) { actions = (nest_of s nest).actions ++ index_of action s.action_names ∷ [] })
 with_said names s (form.Abort role exception) = with_abort s role (abort.Always (index_of exception (outer s)))
-with_said names s (form.AbortTest role test value exception) = with_abort s role (abort.Where test value (index_of exception (outer s)))
-with_said names s (form.Body role) = record (with_opening s (index_of role s.roles) None) { bodies = s.bodies ++ index_of role s.roles ∷ [] }
+with_said names s (form.AbortTest role test value exception) =
+    with_abort s role (abort.Where test value (index_of exception (outer s)))
+with_said names s (form.Body role) =
+    record (with_opening s (index_of role s.roles) None) { bodies = s.bodies ++ index_of role s.roles ∷ [] }
 with_said names s (form.Handler role exception) = with_opening s (index_of role s.roles) (Some (index_of exception (inner s)))
 with_said names s (form.ReadStep object) = with_step s (step.Read (index_of object s.objects))
 with_said names s (form.PutStep object value) = with_step s (step.Put (index_of object s.objects) value)

@@ -21,7 +21,7 @@ use Rattle.script_checker.specs.DeclaredSoFar.{SoFar, inner, outer, face, face_o
 
 -- ---- a name that the line uses isn't declared
 
--- an action counts as declared from its end on
+-- once its block has ended, an action may be named
 abbrev pub is_action : SoFar → ℕ → Bool
 is_action s name = nat_lt (index_of name s.action_names) (length s.actions)
 
@@ -36,7 +36,8 @@ is_unknown s (form.Interface graph) = not (is_among s.graph_names graph)
 is_unknown s (form.Fault exception) = not (is_among (inner s) exception)
 is_unknown s (form.Uses objects) = not (list_all (is_among s.objects) objects)
 is_unknown s (form.Nest nest action roles) = not (is_action s action) || not (list_all (is_among s.roles) roles)
-is_unknown s (form.Map nest lower upper) = not (is_among s.nests nest) || (not (is_among (face s nest) lower) || not (is_among (inner s) upper))
+is_unknown s (form.Map nest lower upper) =
+    not (is_among s.nests nest) || (not (is_among (face s nest) lower) || not (is_among (inner s) upper))
 is_unknown s (form.MapUndo nest exception) = not (is_among s.nests nest) || not (is_among (inner s) exception)
 is_unknown s (form.MapFailure nest exception) = not (is_among s.nests nest) || not (is_among (inner s) exception)
 is_unknown s (form.Alternate nest action) = not (is_among s.nests nest) || not (is_action s action)

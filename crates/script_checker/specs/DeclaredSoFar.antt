@@ -47,7 +47,8 @@ pub record SoFar : Type 0 where
   -- of the graph that is being declared: its exceptions by name, and which cover which, by their numbers in it
   pub exceptions : List ℕ
   pub pairs : List (ℕ × ℕ)
-  -- of the action that is being declared: its name, graphs and fault exception, where they were said, its objects, roles and nested uses
+  -- of the action that is being declared: its name, graphs and fault exception, where they were said, its objects, roles and
+  -- nested uses
   pub action_name : ℕ
   pub internal : Option ℕ
   pub interface : Option ℕ

@@ -28,4 +28,6 @@ pub record IsOrdered (count : ℕ) (pairs : List (ℕ × ℕ)) (graph : CoverOrd
 
 -- the graph that the line ends, if it ends one
 abbrev pub Ends : SoFar → Form → Option CoverOrder → Type 0
-Ends s f found = MatchOption found (ends_graph s f ≡ false) (λ order. (ends_graph s f ≡ true) × IsOrdered (length s.exceptions) s.pairs order)
+Ends s f found =
+    MatchOption found (ends_graph s f ≡ false)
+    (λ order. (ends_graph s f ≡ true) × IsOrdered (length s.exceptions) s.pairs order)

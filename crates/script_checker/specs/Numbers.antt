@@ -2,6 +2,10 @@
 use Rattle.std.specs.Prelude.{ℕ, ◌+◌, nat_lt, if◌then◌else◌, Bool, false, ◌||◌, List, [], ◌∷◌, length}
 use Rattle.caa_base.specs.Lists.{member, index_of}
 
+-- names of a list: so many that their number and the place of each are below the greatest number of 32 bits
+abbrev pub most_names : ℕ
+most_names = 4294967294
+
 -- the name is among these
 abbrev pub is_among : List ℕ → ℕ → Bool
 is_among names name = nat_lt (index_of name names) (length names)

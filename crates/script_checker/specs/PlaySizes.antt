@@ -26,8 +26,8 @@ pub record ComesToPlay (script : Script) (s : SoFar) (action : ℕ) (who : List 
   pub declared : s ≡ settled (declared_after script.names (nothing_yet script.names) before) (form.Play action who)
   pub lesser : HasNoneBelow s (form.Play action who) (number_of cause.Limit)
 
--- the draft breaks none of the rules 1 to 9, as `unfolded` asks, and with one more play of this action there are as many places as in
--- its plan, and as great a bound, as far as they are counted
+-- the draft breaks none of the rules 1 to 9, as `unfolded` asks, and with one more play of this action there are as many places
+-- as in its plan, and as great a bound, as far as they are counted
 pub record AreSizesOf (s : SoFar) (action : ℕ) (draft : Draft) : Type 0 where
   pub parts : KeepsParts draft
   pub places : places_with s action ≡ counted (length (plan_of draft).places)

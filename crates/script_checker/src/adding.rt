@@ -1,13 +1,13 @@
 //! What a line adds to what is declared.
 
-ghost use Rattle.std.specs.Prelude.{◌≡◌, ◌<◌, ◌≤◌, ◌+◌, ◌++◌, ◌∷◌, [], true, false, length, map, slice_index_or, slice_set, replicate, Some, None, OnOk, IfOk};
+ghost use Rattle.std.specs.Prelude.{◌≡◌, ◌<◌, ◌≤◌, ◌+◌, ◌++◌, ◌∷◌, [], true, false, length, map, slice_index_or, slice_set, Some, None, OnOk, IfOk};
 ghost use Rattle.caa_base.specs.Limits.{most_roles};
+ghost use Rattle.caa_base.specs.Names.{name_at};
 ghost use Rattle.cover_table.specs.Cover.{most_exceptions};
-ghost use Rattle.caa_base.specs.Lists.{index_of};
 ghost use Rattle.place_plan.specs.Places.{no_nest};
 ghost use Rattle.script_checker.specs.DeclaredSoFar.{nothing_said};
 ghost use Rattle.script_checker.specs.Causes.{is_unknown, is_twice, is_past_limit};
-ghost use Rattle.script_checker.specs.After.{name_at, step_of, verdict_of, goes_on, is_of_parts, is_of_action, is_outside, settled, closed, with_step, with_opening, idle_role, with_abort, with_graph, begun, action_row, with_depth, with_places, with_bound, with_action_row, with_action, without_parts, with_said};
+ghost use Rattle.script_checker.specs.After.{step_of, verdict_of, goes_on, is_of_parts, is_of_action, is_outside, settled, closed, with_step, with_opening, idle_role, with_abort, with_graph, begun, action_row, with_depth, with_places, with_bound, with_action_row, with_action, without_parts, with_said};
 ghost use Rattle.script_checker.specs.View.{so_far};
 
 use crate::causes::{bound_with, places_with};
@@ -21,23 +21,21 @@ use crate::parts::{Block, DeclaredGraph, NestSaid, Opening};
 use crate::role_list::RoleList;
 use action_script::form::Form;
 use caa_base::entry::{Drill, OutOfMemory, Verdict};
-use caa_base::name::Name;
+use caa_base::name::{Name, name_at};
 use caa_base::rows::Rows;
 use place_plan::action_size;
 use place_plan::draft_rows::{
     AbortRow, ActionRow, NestRow, ObjectRow, PlayRow, Program, RoleRow, Step,
 };
+use place_plan::object_list::ObjectList;
 use std::alloc::{AllocError, Global};
 use std::mem::replace;
 
-/// The name of this number.
+/// The name of this number, as a name of its own.
 fn name_row(alloc: Global, names: &[Name], number: u32) -> Result<Name, OutOfMemory>
     ensures { IfOk result (λ name. name ≡ name_at names.now number) }
 {
-    match names.get(number as usize) {
-        Some(name) => Name::from_bytes(alloc, name.bytes()),
-        None => Name::from_bytes(alloc, b""),
-    }
+    Name::from_bytes(alloc, name_at(names, number))
 }
 
 // ---- bodies and handlers
@@ -103,7 +101,9 @@ fn idle_roles(alloc: Global, names: &[Name], roles: &[u32]) -> Result<RoleList, 
 
 fn set_roles(declared: &mut Declared, names: &[Name], roles: &[u32]) -> Result<(), OutOfMemory>
     requires { length roles.now ≤ most_roles }
-    ensures { OnOk result (so_far declared.new ≡ record (so_far declared.old) { roles = roles.now; role_rows = map (idle_role names.now) roles.now }) }
+    ensures { OnOk result (
+        so_far declared.new
+        ≡ record (so_far declared.old) { roles = roles.now; role_rows = map (idle_role names.now) roles.now }) }
 {
     let rows = idle_roles(declared.alloc, names, roles)?;
     declared.roles = NumberList::from_slice(declared.alloc, roles)?;
@@ -143,7 +143,9 @@ fn with_number_at(numbers: Rows<u32>, index: u32, number: u32) -> Rows<u32>
 fn set_map(alloc: Global, nests: &mut [NestRow], nest: u32, lower: u32, upper: u32)
     ensures { nests.new
         ≡ slice_set nests.old nest
-        (record (slice_index_or nests.old nest no_nest) { maps = slice_set (slice_index_or nests.old nest no_nest).maps lower upper }) }
+        (record (slice_index_or nests.old nest no_nest) {
+          maps = slice_set (slice_index_or nests.old nest no_nest).maps lower upper;
+        }) }
 {
     let index = nest as usize;
     if index < nests.len() {
@@ -159,7 +161,9 @@ fn say_mapped(said: &mut [NestSaid], nest: u32, lower: u32) -> Result<(), AllocE
     ensures { OnOk result (
         said.new
         ≡ slice_set said.old nest
-        (record (slice_index_or said.old nest nothing_said) { mapped = (slice_index_or said.old nest nothing_said).mapped ++ lower ∷ [] })) }
+        (record (slice_index_or said.old nest nothing_said) {
+          mapped = (slice_index_or said.old nest nothing_said).mapped ++ lower ∷ [];
+        })) }
 {
     let index = nest as usize;
     if index < said.len() {
@@ -256,7 +260,9 @@ fn set_alternate(
     ensures { OnOk result (
         nests.new
         ≡ slice_set nests.old nest
-        (record (slice_index_or nests.old nest no_nest) { actions = (slice_index_or nests.old nest no_nest).actions ++ action ∷ [] })) }
+        (record (slice_index_or nests.old nest no_nest) {
+          actions = (slice_index_or nests.old nest no_nest).actions ++ action ∷ [];
+        })) }
 {
     let index = nest as usize;
     if index < nests.len() {
@@ -366,7 +372,7 @@ fn begin_action(declared: &mut Declared, name: u32) -> Result<(), AllocError>
     declared.internal = None;
     declared.interface = None;
     declared.fault = None;
-    declared.uses = NumberList::new(declared.alloc);
+    declared.uses = ObjectList::new(declared.alloc);
     declared.roles = NumberList::new(declared.alloc);
     declared.role_rows = RoleList::new(declared.alloc);
     declared.bodies = NumberList::new(declared.alloc);
@@ -385,7 +391,7 @@ fn take_action(declared: &mut Declared, names: &[Name]) -> Result<ActionRow, Out
 {
     let alloc = declared.alloc;
     let name = name_row(alloc, names, declared.action_name)?;
-    let objects = replace(&mut declared.uses, NumberList::new(alloc));
+    let objects = replace(&mut declared.uses, ObjectList::new(alloc));
     let roles = replace(&mut declared.role_rows, RoleList::new(alloc));
     let nests = replace(&mut declared.nest_rows, Vec::new(alloc));
     Ok(ActionRow {
@@ -393,7 +399,7 @@ fn take_action(declared: &mut Declared, names: &[Name]) -> Result<ActionRow, Out
         internal: declared.internal.unwrap_or(0),
         interface: declared.interface.unwrap_or(0),
         fault: declared.fault.unwrap_or(0),
-        objects: Rows::from_vec(objects.into_items()),
+        objects,
         roles: Rows::from_vec(roles.into_vec()),
         nests: Rows::from_vec(nests),
     })
@@ -436,7 +442,9 @@ fn add_action(declared: &mut Declared, row: ActionRow) -> Result<(), AllocError>
 }
 
 fn end_action(declared: &mut Declared, names: &[Name]) -> Result<(), OutOfMemory>
-    ensures { OnOk result (so_far declared.new ≡ with_action (without_parts (so_far declared.old)) (action_row names.now (so_far declared.old))) }
+    ensures { OnOk result (
+        so_far declared.new
+        ≡ with_action (without_parts (so_far declared.old)) (action_row names.now (so_far declared.old))) }
 {
     let row = take_action(declared, names)?;
     add_depth(declared, &row)?;

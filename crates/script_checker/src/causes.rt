@@ -25,7 +25,6 @@ use caa_base::limits::{
 };
 use cover_table::MOST_EXCEPTIONS;
 use place_plan::draft_rows::AbortRow;
-use place_plan::member::all_members;
 use place_plan::tables::{counted_sum, number_at};
 use place_plan::uses::roles_enter;
 use std::alloc::{AllocError, Global};
@@ -170,7 +169,8 @@ fn has_abort(declared: &Declared, role: u32) -> bool
 
 /// Whether a role handles an exception.
 fn has_handler(declared: &Declared, role: u32, exception: u32) -> bool
-    ensures { result ≡ list_any (handles (index_of exception (inner (so_far declared.now)))) (role_of (so_far declared.now) role).handlers }
+    ensures { result
+        ≡ list_any (handles (index_of exception (inner (so_far declared.now)))) (role_of (so_far declared.now) role).handlers }
 {
     let number = inner_number(declared, exception);
     declared
@@ -301,7 +301,7 @@ fn holds_all(declared: &Declared, action: u32) -> bool
         .as_slice()
         .get(declared.action_names.find(action) as usize)
     {
-        Some(row) => all_members(row.objects.as_slice(), declared.uses.items()),
+        Some(row) => declared.uses.has_all(&row.objects),
         None => true,
     }
 }

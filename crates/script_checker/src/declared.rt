@@ -13,6 +13,7 @@ use action_script::script::Script;
 use caa_base::name::Name;
 use caa_base::rows::Rows;
 use place_plan::draft_rows::{ActionRow, NestRow, ObjectRow, PlayRow, Step};
+use place_plan::object_list::ObjectList;
 use std::alloc::{AllocError, Global};
 
 /// What the lines of a script have declared so far, by the numbers of names.
@@ -52,7 +53,7 @@ pub struct Declared {
     pub internal: Option<u32>,
     pub interface: Option<u32>,
     pub fault: Option<u32>,
-    pub uses: NumberList,
+    pub uses: ObjectList,
     pub roles: NumberList,
     pub role_rows: RoleList,
     /// Those of its roles that have a body.
@@ -72,7 +73,7 @@ pub struct Declared {
     ghost pairs_known: { All (λ p. (p.0 < length exceptions) × (p.1 < length exceptions)) pairs.items },
 }
 
-/// The plain graph, which has `universal` alone.
+/// The graph of an action that names none: `universal`, and nothing below it.
 fn plain_graph(alloc: Global, universal: u32) -> Result<DeclaredGraph, AllocError>
     ensures { IfOk result (λ graph. graph ≡ plain_graph universal) }
 {
@@ -121,7 +122,7 @@ impl Declared {
             internal: None,
             interface: None,
             fault: None,
-            uses: NumberList::new(alloc),
+            uses: ObjectList::new(alloc),
             roles: NumberList::new(alloc),
             role_rows: RoleList::new(alloc),
             bodies: NumberList::new(alloc),

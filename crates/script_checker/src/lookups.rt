@@ -10,6 +10,7 @@ ghost use Rattle.script_checker.specs.View.{so_far};
 
 use crate::declared::Declared;
 use crate::number_list::NumberList;
+use place_plan::object_list::ObjectList;
 use std::alloc::{AllocError, Global};
 use std::collections::BTreeSet;
 
@@ -69,14 +70,14 @@ pub(crate) fn places_in_order(
     alloc: Global,
     names: &NumberList,
     some: &[u32],
-) -> Result<NumberList, AllocError>
+) -> Result<ObjectList, AllocError>
     requires apart { has_twice names.now ≡ false }
     requires known { list_all (is_among names.now) some.now ≡ true }
     ensures { IfOk result (λ places. places ≡ chosen_from 0 some.now names.now) }
 {
     let places = set_of_places(alloc, names, some)?;
     let places: Vec<u32> = places.into_iter().collect(alloc)?;
-    NumberList::from_slice(alloc, places.as_slice())
+    Ok(ObjectList::from_vec(places))
 }
 
 // ---- exceptions

@@ -1,11 +1,14 @@
-ghost use Rattle.std.specs.Prelude.{◌≡◌, ◌<◌, ◌++◌, ◌∷◌, [], length, nat_eq, slice_get, Some, OnOk, OnErr, IfOk};
+ghost use Rattle.std.specs.Prelude.{◌≡◌, ◌≤◌, ◌++◌, ◌∷◌, [], length, nat_eq, slice_get, Some, OnOk, OnErr, IfOk};
 ghost use Rattle.std.specs.Option.{option_eq};
 ghost use Rattle.caa_base.specs.Lists.{member, index_of, is_empty};
-ghost use Rattle.script_checker.specs.Numbers.{is_among};
+ghost use Rattle.script_checker.specs.Numbers.{is_among, most_names};
 
 use std::alloc::{AllocError, Global};
 use std::collections::HashMap;
 use std::marker::Model;
+
+/// Names of a list: so many that their number and the place of each are below the greatest `u32`.
+const MOST_NAMES: usize = 4_294_967_294;
 
 /// Names in the order in which they were declared, seen as the list of their numbers in the script.
 ///
@@ -17,14 +20,15 @@ pub struct NumberList {
 }
 
 impl Model for NumberList {
-    ghost use Rattle.std.specs.Prelude.{List, ℕ, ◌<◌, length};
+    ghost use Rattle.std.specs.Prelude.{List, ℕ, ◌≤◌, length};
+    ghost use Rattle.script_checker.specs.Numbers.{most_names};
     ghost use Rattle.script_checker.specs.NumberTable.{IsTableOf};
 
     ghost Value = { List ℕ };
 
     ghost view = { λ n. n.items.items };
 
-    ghost invariant = { λ n. (length n.items.items < 4294967295) × IsTableOf n.places n.items.items };
+    ghost invariant = { λ n. (length n.items.items ≤ most_names) × IsTableOf n.places n.items.items };
 }
 
 /// Whether this name stands at a place.
@@ -62,7 +66,7 @@ impl NumberList {
         ensures refused { OnErr result (self.new ≡ self.old) }
     {
         let count = self.items.len();
-        if count >= 4_294_967_294 {
+        if count >= MOST_NAMES {
             return Err(AllocError);
         }
         if !self.contains(name) {
@@ -75,7 +79,7 @@ impl NumberList {
     /// How many names there are.
     pub fn len(&self) -> u32
         ensures count { result ≡ length self.now }
-        ensures small { result < 4294967295 }
+        ensures small { result ≤ most_names }
     {
         self.items.len() as u32
     }
@@ -90,7 +94,7 @@ impl NumberList {
     /// Where a name stands, or how many names there are where it isn't there.
     pub fn find(&self, name: u32) -> u32
         ensures place { result ≡ index_of name self.now }
-        ensures small { result < 4294967295 }
+        ensures small { result ≤ most_names }
     {
         match self.places.get(&name) {
             Some(place) if stands_at(&self.items, *place, name) => *place,

@@ -1,12 +1,7 @@
 -- What contracts see of a committed writer and of its observers.
-use Rattle.std.specs.Prelude.{◌≡◌, ◌≤◌, ℕ, ℤ, Bool, List, length, map, take}
-use Rattle.place_plan.specs.PlanValue.{Plan}
+use Rattle.std.specs.Prelude.{◌≡◌, ◌≤◌, ℕ, ℤ, Bool, List, length, take}
 use Rattle.shared_views.specs.Publications.{Known, value_after}
 use Rattle.shared_views.specs.declared.observed.Reading.{Reading}
-
--- the initial value of each object
-abbrev pub initials_of : Plan → List ℤ
-initials_of plan = map (λ o. o.initial) plan.objects
 
 -- a committed writer: the initial values, all its publications, and whether an earlier publication found no memory
 pub record Committed : Type 0 where

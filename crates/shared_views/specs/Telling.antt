@@ -48,7 +48,9 @@ pub record IsFresh (b : Bulletin) : Type 0 where
 -- the bulletin fits the past, place by place
 pub record KeepsUp (past : List Entry) (b : Bulletin) : Type 0 where
   pub set : IsSet b
-  pub each : (p : ℕ) → p < length (cells_of b) → Tells (cells_of b) p (slice_index_or b.announcer p false) (exception_resolved past p) (told_at b p)
+  pub each :
+      (p : ℕ) → p < length (cells_of b)
+      → Tells (cells_of b) p (slice_index_or b.announcer p false) (exception_resolved past p) (told_at b p)
 
 -- the second bulletin has the boxes, the words and the cells of the first
 pub record SaysTheSame (b b' : Bulletin) : Type 0 where

@@ -3,6 +3,7 @@ ghost use Rattle.shared_views.specs.Noted.{IsOf};
 
 use crate::bulletin::{Announcement, Bulletin};
 use crate::notes::{NoteRefused, PlaceNote};
+use crate::send_sync::{may_cross, may_share};
 use caa_base::entry::{Exception, OutOfMemory, Place};
 use once_cell::race::OnceBox;
 use std::alloc::Global;
@@ -75,7 +76,8 @@ impl ResolutionCells {
 
     /// Sets the cell of the note's place, once.
     ///
-    /// After a refusal nothing is announced for this place any more.
+    /// At `Err` the cell was set already: the note then knows the exception that stands there, and nothing is announced for this
+    /// place any more. What the note knew it knows for ever.
     pub fn announce(
         &self,
         announcer: &mut Announcer,
@@ -86,6 +88,8 @@ impl ResolutionCells {
         requires fresh { slice_index_or announcer.old note.old.place false ≡ true }
         ensures place { (note.new.place ≡ note.old.place) × (note.new.cell ≡ note.old.cell) }
         ensures known { IfOk result (λ _. note.new.known ≡ Some exception) }
+        ensures kept { IfSome note.old.known (λ k. note.new.known ≡ Some k) }
+        ensures standing { IfErr result (λ _. (x : ℕ) × (note.new.known ≡ Some x)) }
         ensures refused { IfErr result (λ r. place_refused r ≡ note.old.place) }
         ensures used { announcer.new ≡ slice_set announcer.old note.old.place false }
     {
@@ -141,10 +145,6 @@ impl ResolutionCells {
         one.note.compare(copy);
     }
 }
-
-fn may_cross<T: Send>(_x: &T) {}
-
-fn may_share<T: Sync>(_x: &T) {}
 
 /// Threads may share the cells, and take notes, and what keeps up with a journal, with them.
 pub fn crosses_threads(cells: &ResolutionCells, told: &Announcement, bulletin: &Bulletin) {

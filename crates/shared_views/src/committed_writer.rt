@@ -1,12 +1,14 @@
 ghost use Rattle.std.specs.Prelude.{◌≡◌, ◌<◌, ◌∷◌, ◌++◌, [], true, false, All, length, replicate, drop, None, Some, IfOk, MatchResult};
 ghost use Rattle.left_right.specs.Sides.{view};
 ghost use Rattle.shared_views.specs.Boards.{IsRight, Follows};
-ghost use Rattle.shared_views.specs.Committing.{Committed, initials_of, watching, IsReading};
+ghost use Rattle.shared_views.specs.Committing.{Committed, watching, IsReading};
+ghost use Rattle.place_plan.specs.Places.{initials_of};
 
 use crate::board::{Board, Looks, Publication};
 use crate::observed::Reading;
 use crate::observer::{BoardWriter, Observer};
 use crate::publications::{Head, Publications};
+use crate::send_sync::may_cross;
 use caa_base::entry::{Object, OutOfMemory};
 use core::mem::replace_with;
 use left_right::writer::Writer;
@@ -46,17 +48,6 @@ impl Model for CommittedWriter {
     ghost view = { committed };
 
     ghost invariant = { IsInOrder };
-}
-
-/// The initial value of each object.
-fn initials_of(alloc: Global, plan: &Plan) -> Result<Vec<i64>, OutOfMemory>
-    ensures { IfOk result (λ v. v.items ≡ initials_of plan.now) }
-{
-    let mut initials = Vec::new(alloc);
-    for object in 0..plan.objects() {
-        initials.push(plan.initial(object))?;
-    }
-    Ok(initials)
 }
 
 /// A writer that shows a board of this many objects, on which nothing was published.
@@ -115,7 +106,7 @@ impl CommittedWriter {
 
     /// A writer that has published nothing, and so many observers.
     ///
-    /// An observer to which `left_right` gave no place is refused each reading.
+    /// An observer to which `left_right` gave no place is refused each reading. It may wait.
     pub fn open<R: Wait>(
         rt: &R,
         alloc: Global,
@@ -127,7 +118,7 @@ impl CommittedWriter {
         ensures fresh { IfOk result (λ r. r.0.is_stale ≡ false) }
         ensures observers { IfOk result (λ r. r.1.items ≡ replicate observers (watching r.0)) }
     {
-        let initials = initials_of(alloc, plan)?;
+        let initials = plan.initials(alloc)?;
         let (publications, head) = Publications::none();
         let mut seats = Observer::all_apart(alloc, &initials, &publications, observers)?;
         let mut writer = showing(rt, alloc, plan.objects(), &publications, observers)?;
@@ -143,7 +134,8 @@ impl CommittedWriter {
 
     /// Publishes these changes, which observers see all at one step.
     ///
-    /// Where it finds no memory, what observers read stays as it is for good: the view is stale.
+    /// It waits for readings that are under way. Where it finds no memory, what observers read stays as it is for good: the view
+    /// is stale. After 2^64 - 1 publications it answers as where no memory is found.
     pub fn publish<R: Wait>(
         &mut self,
         rt: &R,
@@ -250,8 +242,6 @@ impl CommittedWriter {
         drop(writer.take(rt));
     }
 }
-
-fn may_cross<T: Send>(_x: &T) {}
 
 /// A writer, an observer and what the one tells the other may go to another thread.
 pub fn crosses_threads(writer: &CommittedWriter, observer: &Observer, publications: &Publications) {

@@ -10,6 +10,7 @@ mod notes;
 mod observed;
 mod observer;
 mod publications;
+mod send_sync;
 
 pub use bulletin::{Announcement, Bulletin};
 pub use cells::{Announcer, ResolutionCells};
@@ -18,6 +19,7 @@ pub use notes::{NoteRefused, PlaceNote};
 pub use observed::{ReadRefused, Reading, reading_stands};
 pub use observer::Observer;
 pub use publications::Publications;
+pub use send_sync::{may_cross, may_share};
 
 #[cfg(test)]
 mod tests;

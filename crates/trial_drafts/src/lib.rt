@@ -11,6 +11,7 @@ use place_plan::draft::Draft;
 use place_plan::draft_rows::{
     AbortRow, ActionRow, GraphRow, HandlerRow, NestRow, ObjectRow, PlayRow, Program, RoleRow, Step,
 };
+use place_plan::object_list::ObjectList;
 use std::alloc::{AllocError, AllocFailed, Global};
 use thiserror::Error;
 
@@ -87,7 +88,8 @@ pub fn role(
     })
 }
 
-/// A role that does these steps and gives this verdict, whatever is raised: it has no handler, and names nothing when it gives up.
+/// A role of these steps and this verdict. It has no handler, so it asks for undo where something is resolved, and it names nothing
+/// when it gives up.
 pub fn plain_role(
     alloc: Global,
     name: &[u8],
@@ -173,7 +175,7 @@ pub fn action(
         internal: exceptions.internal,
         interface: exceptions.interface,
         fault: exceptions.fault,
-        objects: numbers(alloc, objects)?,
+        objects: ObjectList::from_vec(Vec::from_slice(alloc, objects)?),
         roles: Rows::from_vec(roles),
         nests: Rows::from_vec(nests),
     })

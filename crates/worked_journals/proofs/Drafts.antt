@@ -1,5 +1,5 @@
--- Drafts of worked plans: each breaks no rule, and unfolds into the plan that was worked out by hand. Some are spoiled by one change:
--- each breaks the rule of drafts that it is meant to break.
+-- Drafts of worked plans: each breaks no rule, and unfolds into the plan that was worked out by hand. Some are spoiled by one
+-- change: each breaks the rule of drafts that it is meant to break.
 use Rattle.std.proofs.Common.{◌≡◌, ℕ, List, [], ◌∷◌, ◌++◌, Some, None, refl}
 use Rattle.caa_base.specs.declared.entry.Verdict.TheVariants as verdict
 use Rattle.place_plan.specs.declared.draft.Draft.{Draft}

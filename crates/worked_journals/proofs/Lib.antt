@@ -27,4 +27,4 @@ pub mod Drafts
 pub mod Spoiled
 pub mod SpoiledRules
 pub mod SpoiledEnds
-pub mod Texts
+pub mod WrittenTexts

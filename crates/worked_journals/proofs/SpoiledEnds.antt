@@ -1,5 +1,6 @@
--- Wrong rules for how a place starts, is undone, ends and is left, and a wrong bound. Each leaves out one condition of a right rule, and
--- lets a journal through that the right rules refuse and that breaks a law. So each shows what one condition is there for.
+-- Wrong rules for how a place starts, is undone, ends and is left, and a wrong bound. Each leaves out one condition of a right
+-- rule, and lets a journal through that the right rules refuse and that breaks a law. So each shows what one condition is there
+-- for.
 use Rattle.std.proofs.Common.{◌≡◌, ℕ, pos, ◌+◌, ◌*◌, ◌<◌, Bool, true, false, not, ◌||◌, ◌&&◌, if◌then◌else◌, ◌==◌, List, [], ◌∷◌, ◌++◌, length, take, Option, Some, None, MatchBool, inl, arith, refl, ap, sum_by}
 use Rattle.std.specs.Prelude.{slice_index_or, nat_abs}
 use Rattle.std.specs.List.{list_any}
@@ -185,8 +186,8 @@ leaves_at_own_verdict_is_too_lax = record {
 
 -- ---- a bound that counts the steps of a role alone
 --
--- A role has up to eight entries that are no steps: it arrives, is halted, says a verdict before a resolution and one after it, begins
--- its handler, is refused a put there, gives up, leaves.
+-- A role has up to eight entries that are no steps: it arrives, is halted, says a verdict before a resolution and one after it,
+-- begins its handler, is refused a put there, gives up, leaves.
 
 -- for each role its steps, without the eight; the rest as in the right bound
 abbrev pub action_steps : ActionRow → ℕ → ℕ

@@ -1,5 +1,5 @@
--- Wrong rules for what comes once something was raised. Each leaves out one condition of a right rule, and lets a journal through that
--- the right rules refuse and that breaks a law. So each shows what one condition is there for.
+-- Wrong rules for what comes once something was raised. Each leaves out one condition of a right rule, and lets a journal through
+-- that the right rules refuse and that breaks a law. So each shows what one condition is there for.
 use Rattle.std.proofs.Common.{◌≡◌, ℕ, pos, Bool, true, false, not, ◌&&◌, ◌||◌, if◌then◌else◌, List, [], ◌∷◌, ◌++◌, length, reverse, codes, suc, take, drop, Option, Some, None, MatchBool, arith, refl, ap, subst}
 use Rattle.std.specs.Prelude.{is_none}
 use Rattle.std.proofs.lemmas.Bool.{false≢true, true≢false}
@@ -66,8 +66,8 @@ entries_after index journal = reverse (drop (suc index) journal)
 
 -- ---- a Resolve that doesn't wait for all roles
 --
--- A role that isn't halted may still raise something of its own. If the exception to recover from is chosen before, it doesn't cover
--- what comes then, and nobody recovers from that.
+-- A role that isn't halted may still raise something of its own. If the exception to recover from is chosen before, it doesn't
+-- cover what comes then, and nobody recovers from that.
 
 -- the rule of a Resolve, but for the wait until all roles are halted
 pub record ResolvesEarly (plan : Plan) (past : List Entry) (e : Entry) : Type 0 where

@@ -1,45 +1,34 @@
-ghost use Rattle.std.specs.Prelude.{◌≡◌, ◌==◌, reverse, Option};
-ghost use Rattle.place_plan.specs.Whereabouts.{inside_after, inside, is_inside, all_are_inside, is_undone, is_left_in_silence};
+ghost use Rattle.std.specs.Prelude.{◌≡◌, reverse, Option, Some};
+ghost use Rattle.place_plan.specs.Whereabouts.{inside, is_inside, all_are_inside, is_undone, is_left_in_silence};
 ghost use Rattle.place_plan.specs.Rules.{place_entered};
 ghost use Rattle.caa_base.specs.Lists.{member, first_not, last_of};
 ghost use Rattle.place_plan.specs.Places.{roles_of, alternates_of};
 ghost use Rattle.place_plan.specs.Entries.{has_by};
+ghost use Rattle.place_plan.specs.Journals.{LegalPast};
 ghost use Rattle.place_plan.specs.Roles.{next_play, is_over};
 ghost use Rattle.place_plan.specs.Places.{plays_of};
 ghost use Rattle.caa_base.specs.declared.entry.Kind.TheVariants as kind;
 
-use crate::look_back::entries::{has_by, newest_in};
+use crate::look_back::entries::{has_by, is_by, newest_in};
 use caa_base::entry::{Entry, Kind, Participant, Place};
+use journal_laws::due_is_right;
 use place_plan::plan::Plan;
 
-/// Where a participant is after this entry, if it was in `was` before it.
-fn inside_after(plan: &Plan, entry: &Entry, by: Participant, was: Option<Place>) -> Option<Place>
-    ensures { result ≡ inside_after plan.now entry.now.kind entry.now.place (entry.now.by == by) was }
-{
-    match entry.kind {
-        Kind::Arrive => if entry.by == by {
-            Some(entry.place)
-        } else {
-            was
-        },
-        Kind::Withdraw | Kind::Leave => if entry.by == by {
-            plan.parent(entry.place)
-        } else {
-            was
-        },
-        _ => was,
-    }
-}
-
-/// The innermost place that a participant is in.
+/// The innermost place that a participant is in, by its newest arrival, withdrawal or leave.
 pub fn inside(plan: &Plan, journal: &[Entry], by: Participant) -> Option<Place>
     ensures { result ≡ inside plan.now (reverse journal.now) by }
 {
-    let mut place = None;
-    for entry in journal {
-        place = inside_after(plan, entry, by, place);
+    for index in (0..journal.len()).rev() {
+        let entry = &journal[index];
+        if entry.by == by {
+            match entry.kind {
+                Kind::Arrive => return Some(entry.place),
+                Kind::Withdraw | Kind::Leave => return plan.parent(entry.place),
+                _ => {}
+            }
+        }
     }
-    place
+    None
 }
 
 /// Whether a participant is in this place, and in none inside it.
@@ -119,12 +108,28 @@ fn last_play(plan: &Plan, by: Participant) -> Option<Place>
     last
 }
 
-/// Whether a participant has left its last play, or has none.
+/// Whether a participant has left its last play: then that is its newest entry, since it makes no more.
+fn has_left_last(plan: &Plan, journal: &[Entry], play: Place, by: Participant) -> bool
+    requires legal { LegalPast plan.now (reverse journal.now) }
+    requires last { Some play ≡ last_of (plays_of plan.now by) }
+    ensures { result ≡ has_by kind.Leave (reverse journal.now) play by }
+{
+    due_is_right(plan);
+    for index in (0..journal.len()).rev() {
+        if journal[index].by == by {
+            return is_by(&journal[index], Kind::Leave, play, by);
+        }
+    }
+    false
+}
+
+/// Whether a participant is through: the leave entry of the last of its plays stands, or it plays nowhere.
 pub fn is_over(plan: &Plan, journal: &[Entry], by: Participant) -> bool
+    requires { LegalPast plan.now (reverse journal.now) }
     ensures { result ≡ is_over plan.now (reverse journal.now) by }
 {
     match last_play(plan, by) {
         None => true,
-        Some(play) => has_by(journal, Kind::Leave, play, by),
+        Some(play) => has_left_last(plan, journal, play, by),
     }
 }

@@ -2,11 +2,11 @@ ghost use Rattle.std.specs.Prelude.{◌≡◌, ◌<◌, ◌∷◌, [], reverse, 
 ghost use Rattle.cover_table.specs.Cover.{IsLeastCover};
 ghost use Rattle.place_plan.specs.Places.{around, internal_of};
 ghost use Rattle.place_plan.specs.Journals.{LegalPast};
-ghost use Rattle.place_plan.specs.Entries.{is_in, is_by};
 ghost use Rattle.place_plan.specs.Raising.{has_handled, carries_into, raises_in, exceptions_raised, is_raised, is_doomed, halts_in, is_halted, all_are_halted, exception_resolved, exception_handled};
-ghost use Rattle.journal_replay.specs.Joining.{listed, IsCoverOf};
+ghost use Rattle.journal_replay.specs.Joining.{as_list, IsCoverOf};
 
-use crate::look_back::entries::{has_by, is_by, is_in};
+use crate::look_back::arrivals::entries_before_arrival;
+use crate::look_back::entries::{has_by, newest_by, newest_in};
 use caa_base::entry::{Entry, Exception, Kind, Participant, Place};
 use exception_graph::Graph;
 use place_plan::plan::Plan;
@@ -27,7 +27,7 @@ fn carries_into(plan: &Plan, entry: &Entry, place: Place) -> bool
 
 /// What the entry raises in a place, if anything; the journal stands before it.
 pub fn raised_by(plan: &Plan, journal: &[Entry], place: Place, entry: &Entry) -> Option<Exception>
-    ensures { listed result ≡ raises_in plan.now (reverse journal.now) place entry.now entry.now.kind }
+    ensures { as_list result ≡ raises_in plan.now (reverse journal.now) place entry.now entry.now.kind }
 {
     match entry.kind {
         Kind::Raise if entry.place == place => Some(entry.arg),
@@ -41,22 +41,21 @@ pub fn raised_by(plan: &Plan, journal: &[Entry], place: Place, entry: &Entry) ->
 
 /// Whether something was raised in a place.
 pub fn is_raised(plan: &Plan, journal: &[Entry], place: Place) -> bool
+    requires { LegalPast plan.now (reverse journal.now) }
     ensures { result ≡ is_raised plan.now (reverse journal.now) place }
 {
-    let mut raised = false;
-    for (index, entry) in journal.iter().enumerate() {
-        match entry.kind {
-            Kind::Raise | Kind::PutFault | Kind::Leave => {
-                raised = raised || raised_by(plan, &journal[..index], place, entry).is_some();
-            }
-            _ => {}
+    let first = entries_before_arrival(plan, journal, place);
+    for index in (first..journal.len()).rev() {
+        if raised_by(plan, &journal[..index], place, &journal[index]).is_some() {
+            return true;
         }
     }
-    raised
+    false
 }
 
 /// Whether something was raised in a place round this one.
 pub fn is_doomed(plan: &Plan, journal: &[Entry], place: Place) -> bool
+    requires { LegalPast plan.now (reverse journal.now) }
     ensures { result ≡ is_doomed plan.now (reverse journal.now) place }
 {
     plan.around(place)
@@ -68,7 +67,7 @@ pub fn is_doomed(plan: &Plan, journal: &[Entry], place: Place) -> bool
 pub fn joined(graph: &Graph, cover: Option<Exception>, exception: Exception) -> Exception
     requires known { exception < graph.now.count }
     requires covered { IfSome cover (λ x. x < graph.now.count) }
-    ensures { IsLeastCover graph.now (exception ∷ listed cover) result }
+    ensures { IsLeastCover graph.now (exception ∷ as_list cover) result }
 {
     match cover {
         Some(cover) => graph.least(&[exception, cover]),
@@ -76,7 +75,7 @@ pub fn joined(graph: &Graph, cover: Option<Exception>, exception: Exception) -> 
     }
 }
 
-/// The least cover of all that was raised in a place, if anything was.
+/// What a place would be resolved to now: its raised exceptions, joined one after another, where there are some.
 pub fn least_raised(plan: &Plan, journal: &[Entry], place: Place) -> Option<Exception>
     requires { LegalPast plan.now (reverse journal.now) }
     ensures { IsCoverOf (internal_of plan.now place) (exceptions_raised plan.now (reverse journal.now) place) result }
@@ -105,17 +104,22 @@ fn halts_in(plan: &Plan, journal: &[Entry], place: Place, entry: &Entry) -> bool
 
 /// Whether a participant was halted in a place.
 pub fn is_halted(plan: &Plan, journal: &[Entry], place: Place, by: Participant) -> bool
+    requires { LegalPast plan.now (reverse journal.now) }
     ensures { result ≡ is_halted plan.now (reverse journal.now) place by }
 {
-    let mut halted = false;
-    for (index, entry) in journal.iter().enumerate() {
-        halted = (halts_in(plan, &journal[..index], place, entry) && entry.by == by) || halted;
+    let first = entries_before_arrival(plan, journal, place);
+    for index in (first..journal.len()).rev() {
+        let entry = &journal[index];
+        if entry.by == by && halts_in(plan, &journal[..index], place, entry) {
+            return true;
+        }
     }
-    halted
+    false
 }
 
 /// Whether each role of a place was halted.
 pub fn all_are_halted(plan: &Plan, journal: &[Entry], place: Place) -> bool
+    requires { LegalPast plan.now (reverse journal.now) }
     ensures { result ≡ all_are_halted plan.now (reverse journal.now) place }
 {
     plan.roles_of(place)
@@ -124,27 +128,17 @@ pub fn all_are_halted(plan: &Plan, journal: &[Entry], place: Place) -> bool
 }
 
 /// The exception to which a place is resolved.
+#[tactic(auto, using(crate::proofs::Found::newest_exception))]
 pub fn exception_resolved(journal: &[Entry], place: Place) -> Option<Exception>
     ensures { result ≡ exception_resolved (reverse journal.now) place }
 {
-    let mut exception = None;
-    for entry in journal {
-        if is_in(entry, Kind::Resolve, place) {
-            exception = Some(entry.arg);
-        }
-    }
-    exception
+    Some(newest_in(journal, Kind::Resolve, place)?.arg)
 }
 
 /// The exception that a participant handles in a place.
+#[tactic(auto, using(crate::proofs::Found::newest_exception))]
 pub fn exception_handled(journal: &[Entry], place: Place, by: Participant) -> Option<Exception>
     ensures { result ≡ exception_handled (reverse journal.now) place by }
 {
-    let mut exception = None;
-    for entry in journal {
-        if is_by(entry, Kind::Handle, place, by) {
-            exception = Some(entry.arg);
-        }
-    }
-    exception
+    Some(newest_by(journal, Kind::Handle, place, by)?.arg)
 }

@@ -1,6 +1,7 @@
 use Rattle.std.proofs.Common.{◌≡◌, ◌+◌, suc, false, cond, sym, ap, ◌∙◌, arith}
 use Rattle.action_script.specs.CutLines.{lines_of}
 use Rattle.caa_main.specs.Inputs.{lines_before, after_lines, is_journal_line, begins_journal}
+use Rattle.caa_main.proofs.LineStarts.{after_feed}
 use Rattle.caa_main.proofs.inputs.skip_script.Goals as goal
 
 pub loop-line-preserved : goal.loop-line-preserved
@@ -16,5 +17,5 @@ loop-line-preserved c =
       few = omega (arith, kept.few, c.cut_line.ensures.shorter);
       after = λ n.
           let next : c.loop-line.lines + 1 + n ≡ c.loop-line.lines + suc n = omega arith in
-          ap (λ k. after_lines k c.args.bytes.now) next ∙ kept.after (suc n) ∙ c.cut_line.ensures.after n;
+          ap (λ k. after_lines k c.args.bytes.now) next ∙ kept.after (suc n) ∙ after_feed c.loop-line.rest.now n ∙ ap (after_lines n) (sym c.cut_line.ensures.after);
     }

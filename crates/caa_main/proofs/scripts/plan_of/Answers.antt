@@ -2,7 +2,7 @@ use Rattle.std.proofs.Common.{◌≡◌, subst, inr, refl, Ok, Err}
 use Rattle.script_checker.specs.declared.check_error.CheckCause.TheVariants as cause
 use Rattle.caa_main.specs.Scripts.{IsCause}
 use Rattle.caa_main.proofs.Answers.{plan_answered, refusal_answered}
-use Rattle.journal_text.proofs.OwnNames.{well_named}
+use Rattle.journal_text.proofs.WellNamed.{well_named}
 use Rattle.caa_main.proofs.scripts.plan_of.Goals as goal
 
 pub returns-clause-refused : goal.returns-clause-refused

@@ -1,4 +1,4 @@
-use Rattle.journal_text.proofs.OwnNames.{tells_own_names}
+use Rattle.journal_text.proofs.WellNamed.{tells_own_names}
 use Rattle.journal_text.proofs.naming.is_well_named.Goals as goal
 
 pub returns-clause-own : goal.returns-clause-own

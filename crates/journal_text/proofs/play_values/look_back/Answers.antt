@@ -1,5 +1,5 @@
 use Rattle.std.proofs.Common.{◌-◌, arith}
-use Rattle.journal_text.proofs.PlaceChains.{chain}
+use Rattle.place_plan.proofs.ClosedPlan.{chain}
 use Rattle.journal_text.proofs.CommittedLemmas.{know-next}
 use Rattle.journal_text.proofs.play_values.look_back.Goals as goal
 

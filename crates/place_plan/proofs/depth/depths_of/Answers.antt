@@ -1,11 +1,12 @@
-use Rattle.std.proofs.Common.{◌≡◌, ◌∙◌, ap, sym, subst, arith, add-one}
+use Rattle.std.proofs.Common.{◌≡◌, ◌∙◌, ap, sym, subst, arith, add-one, suc}
+use Rattle.caa_base.specs.Limits.{most_actions, most_depth}
 use Rattle.place_plan.specs.DraftRules.{depth_within}
 use Rattle.place_plan.specs.Weights.{counted, Tells}
 use Rattle.place_plan.proofs.Counted.{depth_more, depth_none, zeros_tell}
 use Rattle.place_plan.proofs.depth.depths_of.Goals as goal
 
 pub loop-level-init : goal.loop-level-init
-loop-level-init c = λ a l. zeros_tell a 256 (omega (arith, l, c.requires.few)) ∙ sym (ap counted (depth_none c.args.actions.now a))
+loop-level-init c = λ a l. zeros_tell a most_actions (omega (arith, l, c.requires.few)) ∙ sym (ap counted (depth_none c.args.actions.now a))
 
 pub loop-level-preserved : goal.loop-level-preserved
 loop-level-preserved c = λ a l.
@@ -15,5 +16,5 @@ loop-level-preserved c = λ a l.
 
 pub returns : goal.returns
 returns c =
-    let last : c.loop-level.level ≡ 9 = omega arith in
+    let last : c.loop-level.level ≡ suc most_depth = omega arith in
     subst (λ n. Tells c.args.actions.now c.loop-level.table (depth_within n c.args.actions.now)) last c.loop-level.invariant

@@ -1,9 +1,9 @@
-use Rattle.std.proofs.Common.{◌≡◌, ◌∙◌, ◌<◌, length, slice_index_or, ap, ap₂, arith}
+use Rattle.std.proofs.Common.{◌≡◌, ◌∙◌, ◌<◌, length, slice_index_or, ap, arith}
 use Rattle.std.proofs.lemmas.List.{get_or_default}
 use Rattle.std.proofs.Math.ListN.{length-set}
 use Rattle.place_plan.specs.declared.draft_rows.ActionRow.{ActionRow}
 use Rattle.place_plan.specs.Places.{no_action}
-use Rattle.place_plan.specs.Bound.{action_bound}
+use Rattle.place_plan.specs.Weights.{counted, own_entries}
 use Rattle.place_plan.proofs.Counted.{one_more}
 use Rattle.place_plan.proofs.unfolded.own_bounds.Goals as goal
 
@@ -13,8 +13,8 @@ loop-number-preserved c =
     let row : c.index-actions-number.result ≡ slice_index_or c.args.actions.now c.loop-number.number no_action = c.index-actions-number.is ∙ get_or_default c.args.actions.now c.loop-number.number c.index-actions-number.result no_action l in
     record {
       told =
-          one_more c.loop-number.table c.loop-number.number c.action_bound.result (λ a. action_bound (slice_index_or c.args.actions.now a no_action) (length (slice_index_or c.args.actions.now a no_action).roles))
+          one_more c.loop-number.table c.loop-number.number c.own_bound.result (λ a. counted (own_entries (slice_index_or c.args.actions.now a no_action)))
           (omega (arith, c.loop-number.invariant.long)) c.loop-number.invariant.told
-          (c.action_bound.ensures.value ∙ ap₂ action_bound row (c.len.ensures ∙ ap (λ (a : ActionRow). length a.roles) row));
-      long = length-set c.loop-number.table c.loop-number.number c.action_bound.result ∙ c.loop-number.invariant.long;
+          (c.own_bound.ensures ∙ ap (λ (a : ActionRow). counted (own_entries a)) row);
+      long = length-set c.loop-number.table c.loop-number.number c.own_bound.result ∙ c.loop-number.invariant.long;
     }

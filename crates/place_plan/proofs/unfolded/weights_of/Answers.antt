@@ -1,10 +1,11 @@
 use Rattle.std.proofs.Common.{◌≡◌, ◌∙◌, ap, sym, subst, arith, add-one}
+use Rattle.caa_base.specs.Limits.{most_actions, most_depth}
 use Rattle.place_plan.specs.Weights.{counted, Tells, weight}
 use Rattle.place_plan.proofs.Counted.{weight_more, weight_none, zeros_tell}
 use Rattle.place_plan.proofs.unfolded.weights_of.Goals as goal
 
 pub loop-level-init : goal.loop-level-init
-loop-level-init c = λ a l. zeros_tell a 256 (omega (arith, l, c.requires.few)) ∙ sym (ap counted (weight_none c.args.own.now c.args.actions.now a))
+loop-level-init c = λ a l. zeros_tell a most_actions (omega (arith, l, c.requires.few)) ∙ sym (ap counted (weight_none c.args.own.now c.args.actions.now a))
 
 pub loop-level-preserved : goal.loop-level-preserved
 loop-level-preserved c = λ a l.
@@ -14,5 +15,5 @@ loop-level-preserved c = λ a l.
 
 pub returns : goal.returns
 returns c =
-    let last : c.loop-level.level ≡ 8 = omega arith in
+    let last : c.loop-level.level ≡ most_depth = omega arith in
     subst (λ n. Tells c.args.actions.now c.loop-level.table (weight c.args.own.now n c.args.actions.now)) last c.loop-level.invariant

@@ -1,4 +1,5 @@
 use Rattle.std.proofs.Common.{◌≡◌, ◌≤◌, ◌+◌, ◌++◌, ◌∷◌, length, get_or, drop, ◌-◌, ◌<◌, slice_set, arith, rules, ap, sym, subst, subst₂, ◌∙◌, append-nil}
+use Rattle.caa_base.specs.Limits.{most_places}
 use Rattle.place_plan.specs.Unfolding.{unfold_at, use_from, alternates_from, children_from}
 use Rattle.place_plan.proofs.Unfolds.{at_bottom, use_fits, all_stand, number_fits, alternate_fits}
 use Rattle.place_plan.proofs.unfolding.+unfolding.Goals as goal
@@ -18,7 +19,7 @@ unfold-unfold_use-requires t c =
       search rules,
       (
         c.requires.fit,
-        subst (λ o. length c.loop-number.places.items + length (use_from (unfold_at (c.args.depth - 1) c.args.actions.now) c.args.who.now o c.loop-number.number (length c.loop-number.places.items) c.used-item.result) ≤ 65536) (sym c.as_slice.ensures.value) few,
+        subst (λ o. length c.loop-number.places.items + length (use_from (unfold_at (c.args.depth - 1) c.args.actions.now) c.args.who.now o c.loop-number.number (length c.loop-number.places.items) c.used-item.result) ≤ most_places) (sym c.as_slice.ensures.value) few,
       ),
     )
 
@@ -36,20 +37,20 @@ unfold-returns t c =
 
 pub unfold_use-overflow_cast-len : goal.unfold_use-overflow_cast-len
 unfold_use-overflow_cast-len t c =
-    let few : length c.args.places.now.items + length (alternates_from (unfold_at c.args.depth c.args.actions.now) c.in_ok-cast.cast.items c.args.around.now c.args.nest (length c.args.places.now.items) c.as_slice-action-items.result.now) ≤ 65536 =
-    subst₂ (λ cast acts. length c.args.places.now.items + length (alternates_from (unfold_at c.args.depth c.args.actions.now) cast c.args.around.now c.args.nest (length c.args.places.now.items) acts) ≤ 65536) (sym c.in_ok-cast.ensures) (sym c.as_slice-action-items.ensures) c.requires.few in
+    let few : length c.args.places.now.items + length (alternates_from (unfold_at c.args.depth c.args.actions.now) c.in_ok-cast.cast.items c.args.around.now c.args.nest (length c.args.places.now.items) c.as_slice-action-items.result.now) ≤ most_places =
+    subst₂ (λ cast acts. length c.args.places.now.items + length (alternates_from (unfold_at c.args.depth c.args.actions.now) cast c.args.around.now c.args.nest (length c.args.places.now.items) acts) ≤ most_places) (sym c.in_ok-cast.ensures) (sym c.as_slice-action-items.ensures) c.requires.few in
     let fits = number_fits (unfold_at c.args.depth c.args.actions.now) c.in_ok-cast.cast.items c.args.around.now c.args.nest c.args.places.now.items c.loop-action.places.items c.as_slice-action-items.result.now c.loop-action.action-index c.loop-action.invariant.rows few in
     let same : c.len.result ≡ length c.loop-action.places.items = omega (arith, c.len.ensures, c.loop-action.places.ok) in
     omega arith
 
 pub unfold_use-unfold-requires : goal.unfold_use-unfold-requires
 unfold_use-unfold-requires t c =
-    let few : length c.args.places.now.items + length (alternates_from (unfold_at c.args.depth c.args.actions.now) c.in_ok-cast.cast.items c.args.around.now c.args.nest (length c.args.places.now.items) c.as_slice-action-items.result.now) ≤ 65536 =
-    subst₂ (λ cast acts. length c.args.places.now.items + length (alternates_from (unfold_at c.args.depth c.args.actions.now) cast c.args.around.now c.args.nest (length c.args.places.now.items) acts) ≤ 65536) (sym c.in_ok-cast.ensures) (sym c.as_slice-action-items.ensures) c.requires.few in
+    let few : length c.args.places.now.items + length (alternates_from (unfold_at c.args.depth c.args.actions.now) c.in_ok-cast.cast.items c.args.around.now c.args.nest (length c.args.places.now.items) c.as_slice-action-items.result.now) ≤ most_places =
+    subst₂ (λ cast acts. length c.args.places.now.items + length (alternates_from (unfold_at c.args.depth c.args.actions.now) cast c.args.around.now c.args.nest (length c.args.places.now.items) acts) ≤ most_places) (sym c.in_ok-cast.ensures) (sym c.as_slice-action-items.ensures) c.requires.few in
     let fits = alternate_fits (unfold_at c.args.depth c.args.actions.now) c.in_ok-cast.cast.items c.args.around.now c.args.nest c.args.places.now.items c.loop-action.places.items c.as_slice-action-items.result.now c.loop-action.action-index c.loop-action.invariant.rows few c.loop-action-test.true in (
       search rules,
       (
         c.requires.fit,
-        subst (λ cast. length c.loop-action.places.items + length (unfold_at c.args.depth c.args.actions.now (get_or c.as_slice-action-items.result.now c.loop-action.action-index 0) cast c.args.around.now c.args.nest (length c.loop-action.places.items)) ≤ 65536) (sym c.as_slice.ensures.value) fits,
+        subst (λ cast. length c.loop-action.places.items + length (unfold_at c.args.depth c.args.actions.now (get_or c.as_slice-action-items.result.now c.loop-action.action-index 0) cast c.args.around.now c.args.nest (length c.loop-action.places.items)) ≤ most_places) (sym c.as_slice.ensures.value) fits,
       ),
     )

@@ -1,4 +1,5 @@
 use Rattle.std.proofs.Common.{◌≤◌, Err, ap, arith}
+use Rattle.cover_table.specs.Cover.{most_exceptions}
 use Rattle.script_checker.proofs.graphs.declared_graph.Goals as goal
 
 pub unreachable-requires : goal.unreachable-requires
@@ -8,7 +9,7 @@ unreachable-requires c =
 
 pub returns-in-Ok-clause-graph : goal.returns-in-Ok-clause-graph
 returns-in-Ok-clause-graph c =
-    let few : c.len.result ≤ 128 = omega (arith, c.args.declared.now.few_exceptions, c.len.ensures.count) in
+    let few : c.len.result ≤ most_exceptions = omega (arith, c.args.declared.now.few_exceptions, c.len.ensures.count) in
     rw (← c.len.ensures.count, ← c.deref.ensures.value)
     (record {
       order = c.in-Ok.ensures.built;

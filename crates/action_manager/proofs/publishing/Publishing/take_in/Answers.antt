@@ -1,10 +1,10 @@
 use Rattle.std.proofs.Common.{rules, true, ◌≡◌, ◌<◌, ◌∷◌, All, length, reverse, sym, ap, ◌∙◌, subst, arith}
 use Rattle.place_plan.specs.PlanValue.{Plan}
 use Rattle.place_plan.specs.Closed.{IsClosed}
-use Rattle.place_plan.specs.Journals.{LegalPast}
+use Rattle.place_plan.specs.Journals.{LegalPast, ends_play}
 use Rattle.place_plan.specs.WellFormed.{AllWellFormed, IsWellFormed}
 use Rattle.shared_views.specs.declared.committed_writer.PublishError.TheVariants.{Stale}
-use Rattle.action_manager.specs.Publishing.{ends_play, values_of, Publishes}
+use Rattle.action_manager.specs.Publishing.{values_of, Publishes}
 use Rattle.action_manager.proofs.PublishingKept.{values_known, an_end}
 use Rattle.action_manager.proofs.publishing.Publishing.take_in.Goals as goal
 

@@ -1,4 +1,5 @@
 use Rattle.std.proofs.Common.{arith, subst, ◌≤◌, length, true, false, sym, ◌≡◌, ap, ◌∙◌}
+use Rattle.caa_base.specs.Limits.{most_roles}
 use Rattle.place_plan.specs.PlanValue.{Plan}
 use Rattle.place_plan.specs.PlanView.{plan_view}
 use Rattle.place_plan.specs.Places.{roles_of, action_at, role_row, no_role}
@@ -9,7 +10,7 @@ use Rattle.place_plan.proofs.plan.Plan.role_of.Goals as goal
 
 pub overflow_cast-result : goal.overflow_cast-result
 overflow_cast-result c =
-    let few = subst (λ (p : Plan). length (roles_of p c.args.place) ≤ 16) c.self.view_is (few_roles (plan_view c.self.inside) c.self.invariant.closed c.args.place) in
+    let few = subst (λ (p : Plan). length (roles_of p c.args.place) ≤ most_roles) c.self.view_is (few_roles (plan_view c.self.inside) c.self.invariant.closed c.args.place) in
     let same = ap length c.roles_of-roles.ensures in
     omega (arith, few, same, c.index_of.ensures, index_within c.args.by c.roles_of-roles.result.now)
 

@@ -15,12 +15,12 @@ invariant_of-self-2 c =
       | then-not-contains+in_ok-insert w ↦
           let absent = absent_at_end c.args.name old (subst (λ names. is_among names c.args.name ≡ false) (sym c.self.view_is) (sym w.if-not-contains.ensures.found)) in
           rw (c.in_ok-push.ensures.items, w.self-inside-is) (
-            omega (arith, more, count, c.if-count-ge4294967294.false),
+            omega (arith, more, count, c.if-count-ge-MOST_NAMES.false),
             table_of_more c.self.inside.places old c.args.name w.insert.new.self c.self.invariant.1 absent
                 (subst (λ n. (other : ℕ) → get nat_eq w.insert.new.self other ≡ cond (nat_eq c.args.name other) (Some n) (get nat_eq c.self.inside.places other)) count w.in_ok-insert.ensures.updates.0),
           )
       | else-not-contains w ↦
           let among = subst (λ names. is_among names c.args.name ≡ true) (sym c.self.view_is) (sym w.if-not-contains.ensures.found) in
           rw (c.in_ok-push.ensures.items, w.self-inside-is)
-          (omega (arith, more, count, c.if-count-ge4294967294.false), table_of_again c.self.inside.places old c.args.name c.self.invariant.1 among)
+          (omega (arith, more, count, c.if-count-ge-MOST_NAMES.false), table_of_again c.self.inside.places old c.args.name c.self.invariant.1 among)
     ]
