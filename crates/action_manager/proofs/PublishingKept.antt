@@ -1,14 +1,12 @@
 -- A writer goes on publishing the ends of plays, entry by entry.
-use Rattle.std.proofs.Common.{◌≡◌, ℕ, zero, suc, ℤ, ◌+◌, ◌<◌, ◌++◌, ◌==◌, ◌||◌, Bool, true, false, true≢false, List, [], ◌∷◌, length, map, take, get_or, length-append, All, Result, Ok, Err, if◌then◌else◌, refl, sym, ap, ◌∙◌, subst, arith}
+use Rattle.std.proofs.Common.{◌≡◌, ℕ, ℤ, ◌+◌, ◌<◌, ◌++◌, Bool, true, false, true≢false, List, [], ◌∷◌, length, map, take, get_or, length-append, All, Result, Ok, Err, if◌then◌else◌, refl, sym, ap, ◌∙◌, subst, arith}
 use Rattle.std.specs.Prelude.{MatchResult, is_err}
 use mathlib.Core.List.{IsPrefix}
-use Rattle.std.proofs.lemmas.Bool.{or_right}
-use Rattle.std.proofs.lemmas.Bool.Decides.{nat_tests}
 use Rattle.std.proofs.lemmas.List.{take_more, map-append, length-map}
 use Rattle.std.proofs.lemmas.List.Elements.{All-map}
-use Rattle.caa_base.specs.Lists.{member}
 use Rattle.place_plan.specs.Closed.{IsClosed}
 use Rattle.place_plan.specs.Places.{objects_of, initials_of}
+use Rattle.place_plan.proofs.Casts.{member_at}
 use Rattle.place_plan.specs.Objects.{value_of}
 use Rattle.place_plan.specs.Journals.{ends_play, plays_ended}
 use Rattle.journal_laws.proofs.PlayablePlan.{is_playable}
@@ -70,14 +68,9 @@ an_end plan past e w w' changes (Err x) late is same initials list marked stale 
       all = λ fresh. absurd (true≢false (sym marked ∙ fresh));
     }
 
-at_index : (xs : List ℕ) (i d : ℕ) → i < length xs → member (get_or xs i d) xs ≡ true
-at_index [] i d low = absurd (omega (arith, low))
-at_index (x ∷ xs) zero d low = let same : (x == x) ≡ true = grind (arith, nat_tests) in ap (λ b. b || member x xs) same
-at_index (x ∷ xs) (suc i) d low = or_right (x == get_or xs i d) (member (get_or xs i d) xs) (at_index xs i d (omega (arith, low)))
-
 -- each object of a place is one of the plan's
 pub object_known : (plan : Plan) → IsClosed plan → (p i d : ℕ) → i < length (objects_of plan p) → get_or (objects_of plan p) i d < length plan.objects
-object_known plan closed p i d low = (is_playable plan closed).objects p (get_or (objects_of plan p) i d) (at_index (objects_of plan p) i d low)
+object_known plan closed p i d low = (is_playable plan closed).objects p (get_or (objects_of plan p) i d) (member_at (objects_of plan p) i d low)
 
 pub values_known : (plan : Plan) → IsClosed plan → (past : List Entry) (p : ℕ) (initials : List ℤ) → initials ≡ initials_of plan → All (λ c. c.0 < length initials) (values_of plan past p)
 values_known plan closed past p initials is =

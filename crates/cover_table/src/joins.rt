@@ -2,8 +2,8 @@ ghost use Rattle.std.specs.Prelude.{◌≡◌, ◌<◌, ◌≤◌, ◌↔◌, �
 ghost use Rattle.cover_table.specs.Cover.{covers, most_exceptions, order_of, IsLeastCover, IsOrder, IsSound, IsFirstWithoutLeast};
 ghost use Rattle.cover_table.specs.Common.{FailsAt, IsJoin};
 
-use crate::order::{NoLeast, Order, Row, has_bit};
-use crate::uppers::{least_of_two, uppers_of};
+use crate::order::{MOST_EXCEPTIONS, NoLeast, Order, Row, has_bit};
+use crate::uppers::{least_of_two, levels_of, uppers_of};
 use std::marker::Model;
 
 /// The least covers of each two numbers of an order, seen as the order.
@@ -26,7 +26,11 @@ impl<const N: usize> Model for JoinTable<N> {
 }
 
 /// The least covers of `a` with each number, as the rows of what covers each tell them.
-fn joins_of<const N: usize>(uppers: &[Row], a: u32) -> Result<[u8; N], NoLeast>
+fn joins_of<const N: usize>(
+    uppers: &[Row],
+    levels: &[Row; MOST_EXCEPTIONS + 1],
+    a: u32,
+) -> Result<[u8; N], NoLeast>
     requires limit { N ≤ most_exceptions }
     requires fits { length uppers.now ≤ N }
     requires a_in { a < length uppers.now }
@@ -35,7 +39,7 @@ fn joins_of<const N: usize>(uppers: &[Row], a: u32) -> Result<[u8; N], NoLeast>
 {
     let mut joins = [0; N];
     for b in 0..uppers.len() as u32 {
-        match least_of_two(uppers, a, b) {
+        match least_of_two(uppers, levels, a, b) {
             Some(join) => joins[b as usize] = join as u8,
             None => return Err(NoLeast { a, b }),
         }
@@ -58,9 +62,10 @@ impl<const N: usize> JoinTable<N> {
     {
         let all_uppers: [Row; N] = uppers_of(&order.rows[..order.count as usize]);
         let uppers = &all_uppers[..order.count as usize];
+        let levels = levels_of(uppers);
         let mut joins = [[0; N]; N];
         for a in 0..order.count {
-            joins[a as usize] = joins_of(uppers, a)?;
+            joins[a as usize] = joins_of(uppers, &levels, a)?;
         }
         Ok(JoinTable {
             count: order.count,

@@ -2,7 +2,7 @@ ghost use Rattle.std.specs.Prelude.{◌≡◌, ◌<◌, ◌≤◌, ℕ, length, 
 ghost use Rattle.cover_table.specs.Cover.{has_bit, most_exceptions, tells};
 ghost use Rattle.cover_table.specs.Common.{AreUppers, HasJoin, IsJoin};
 
-use crate::order::{Row, has_bit, with_bit};
+use crate::order::{MOST_EXCEPTIONS, Row, has_bit, with_bit};
 
 /// The numbers that cover `b`, as a row of bits.
 fn upper_row(rows: &[Row], b: u32) -> Row
@@ -32,11 +32,37 @@ pub fn uppers_of<const N: usize>(rows: &[Row]) -> [Row; N]
     uppers
 }
 
+/// Which numbers have how many covers: row n has a bit for each that has n.
+///
+/// The search for a least cover takes a guess from it, and tries the guess. So nothing but time rests on it, and nothing is promised.
+pub fn levels_of(uppers: &[Row]) -> [Row; MOST_EXCEPTIONS + 1]
+    requires { length uppers.now ≤ most_exceptions }
+{
+    let mut levels = [0; MOST_EXCEPTIONS + 1];
+    for (x, upper) in uppers.iter().enumerate() {
+        let level = upper.count_ones() as usize;
+        levels[level] = with_bit(levels[level], x as u32);
+    }
+    levels
+}
+
+/// The common cover that has as many covers as there are common ones.
+///
+/// In an order no other can be the least cover.
+fn guess(levels: &[Row; MOST_EXCEPTIONS + 1], common: Row) -> u32 {
+    (common & levels[common.count_ones() as usize]).trailing_zeros()
+}
+
 /// The least of the numbers that cover both `a` and `b`, where they have one.
 ///
 /// Whatever covers it covers both, and the other way round: it has their common covers for its own.
 /// Where one of the two covers the other it is the answer.
-pub fn least_of_two(uppers: &[Row], a: u32, b: u32) -> Option<u32>
+pub fn least_of_two(
+    uppers: &[Row],
+    levels: &[Row; MOST_EXCEPTIONS + 1],
+    a: u32,
+    b: u32,
+) -> Option<u32>
     requires few { length uppers.now ≤ most_exceptions }
     requires a_in { a < length uppers.now }
     requires b_in { b < length uppers.now }
@@ -49,6 +75,10 @@ pub fn least_of_two(uppers: &[Row], a: u32, b: u32) -> Option<u32>
     }
     if uppers[b as usize] == common {
         return Some(b);
+    }
+    let guess = guess(levels, common);
+    if uppers.get(guess as usize) == Some(&common) {
+        return Some(guess);
     }
     let x = uppers.iter().position(|row| *row == common)?;
     Some(x as u32)

@@ -22,14 +22,14 @@ same_place x n row = elim (cases_eq x n) [
 ]
 
 -- one bit more is one number more
-pub one_bit_more : (bits : List ℕ) (x row n : ℕ) → x / 128 < length bits → ((b : ℕ) → has_bit row b ≡ (b == x % 128 || has_bit (slice_index bits (x / 128)) b)) → bits_have (slice_set bits (x / 128) row) n ≡ ((x == n) || bits_have bits n)
-one_bit_more bits x row n within more = elim (cases_eq (n / 128) (x / 128)) [
+pub one_bit_more : (bits : List ℕ) (x fuller n : ℕ) → x / 128 < length bits → ((b : ℕ) → has_bit fuller b ≡ (b == x % 128 || has_bit (slice_index bits (x / 128)) b)) → bits_have (slice_set bits (x / 128) fuller) n ≡ ((x == n) || bits_have bits n)
+one_bit_more bits x fuller n within more = elim (cases_eq (n / 128) (x / 128)) [
   | inl same ↦
-      let written : slice_index (slice_set bits (x / 128) row) (n / 128) ≡ row = rw same (get_or-set_same bits (x / 128) row 0 within) in
+      let written : slice_index (slice_set bits (x / 128) fuller) (n / 128) ≡ fuller = rw same (get_or-set_same bits (x / 128) fuller 0 within) in
       ap (λ r. has_bit r (n % 128)) written ∙ more (n % 128) ∙ ap₂ (λ p q. p || has_bit (slice_index bits q) (n % 128)) (same_place x n (sym same)) (sym same)
   | inr apart ↦
       let other : x ≡ n → ⊥ = λ e. apart (ap (λ k. k / 128) (sym e)) in
-      ap (λ r. has_bit r (n % 128)) (get_or-set_other bits (x / 128) (n / 128) row 0 apart) ∙ sym (ap (λ p. p || bits_have bits n) (ne_eqb x n other))
+      ap (λ r. has_bit r (n % 128)) (get_or-set_other bits (x / 128) (n / 128) fuller 0 apart) ∙ sym (ap (λ p. p || bits_have bits n) (ne_eqb x n other))
 ]
 
 -- no bit is no number
