@@ -10,8 +10,7 @@ use Rattle.std.proofs.lemmas.List.Splits.{slice_split_at, slice_split_none}
 use Rattle.action_script.specs.CutLines.{is_blank, is_plain, words_of, lines_of, without_empty_last}
 use Rattle.caa_base.specs.Lines.{spaced}
 use Rattle.action_script.proofs.LineCuts.{without_empty_last-cons}
-use Rattle.action_script.proofs.Pieces.{some_piece}
-use Rattle.action_script.proofs.Cutting.{filled}
+use Rattle.action_script.proofs.Pieces.{filled, some_piece}
 use Rattle.action_script.proofs.Inky.{is_inky, IsWord}
 
 -- each of these is a word

@@ -1,6 +1,5 @@
 pub mod Pieces
 pub mod Numbering
-pub mod Cutting
 pub mod LineCuts
 pub mod Speaking
 pub mod NamesCounted

@@ -6,7 +6,7 @@ use Rattle.action_script.specs.CutLines.{is_blank, words_of}
 use Rattle.action_script.specs.Asked.{Asked}
 use Rattle.action_script.specs.NumberedNames.{is_among, with_name, with_names}
 use Rattle.action_script.specs.Spelling.{is_name_part, names_of}
-use Rattle.action_script.proofs.Cutting.{filled}
+use Rattle.action_script.proofs.Pieces.{filled}
 
 length-with_name : (names : List (List ℕ)) (word : List ℕ) → length (with_name names word) ≤ length names + 1
 length-with_name names word = by (is_among names word)

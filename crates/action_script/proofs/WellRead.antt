@@ -23,8 +23,7 @@ use Rattle.action_script.specs.Forms.{kind_of, form_by}
 use Rattle.action_script.specs.ScriptValue.{Script}
 use Rattle.action_script.specs.Spelling.{asked_of, is_part, is_right, is_wrong_test, is_name_part, names_of, field_of, by_first_wrong, trial_of, Numbered, before, with_line, said_from, script_names, line_by, script_by, script_of, reading_of, line_of}
 use Rattle.action_script.specs.Printing.{field_word, words_after, form_line, all_fit, is_sound, is_short, lead_to_top, form_names, AreScript, forms_of}
-use Rattle.action_script.proofs.Cutting.{filled}
-use Rattle.action_script.proofs.Pieces.{weight, weight-split}
+use Rattle.action_script.proofs.Pieces.{filled, weight, weight-split}
 use Rattle.action_script.proofs.Speaking.{Speaks, speaks, speaks-takes}
 use Rattle.action_script.proofs.Steadiness.{are_named, are_named-script_names}
 use Rattle.action_script.proofs.Fits.{field_by-is}

@@ -201,31 +201,7 @@ goes_to kind.Undo s = section.Action
 -- all kinds of lines
 abbrev pub kinds : List LineKind
 kinds =
-    kind.Participant
-    ∷ kind.Object
-    ∷ kind.Drill
-    ∷ kind.Watch
-    ∷ kind.Graph
-    ∷ kind.Action
-    ∷ kind.Play
-    ∷ kind.Exception
-    ∷ kind.Cover
-    ∷ kind.End
-    ∷ kind.Internal
-    ∷ kind.Interface
-    ∷ kind.Fault
-    ∷ kind.Use
-    ∷ kind.Roles
-    ∷ kind.Nest
-    ∷ kind.Map
-    ∷ kind.MapUndo
-    ∷ kind.MapFailure
-    ∷ kind.Alternate
-    ∷ kind.Abort
-    ∷ kind.AbortTest
-    ∷ kind.Body
-    ∷ kind.Handler
-    ∷ kind.Read
+    kind.Read
     ∷ kind.Put
     ∷ kind.Add
     ∷ kind.Work
@@ -235,4 +211,28 @@ kinds =
     ∷ kind.Done
     ∷ kind.Signal
     ∷ kind.Undo
+    ∷ kind.Exception
+    ∷ kind.Cover
+    ∷ kind.Play
+    ∷ kind.Nest
+    ∷ kind.Map
+    ∷ kind.MapUndo
+    ∷ kind.MapFailure
+    ∷ kind.Alternate
+    ∷ kind.Body
+    ∷ kind.Handler
+    ∷ kind.Abort
+    ∷ kind.AbortTest
+    ∷ kind.End
+    ∷ kind.Use
+    ∷ kind.Roles
+    ∷ kind.Graph
+    ∷ kind.Action
+    ∷ kind.Internal
+    ∷ kind.Interface
+    ∷ kind.Fault
+    ∷ kind.Participant
+    ∷ kind.Object
+    ∷ kind.Drill
+    ∷ kind.Watch
     ∷ []

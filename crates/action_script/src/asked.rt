@@ -158,14 +158,18 @@ pub fn add_names<'a>(names: &mut NameTable<'a>, asked: &[Asked<'a>]) -> Result<(
     Ok(())
 }
 
-/// What these words say, by the names of the script.
-pub fn fields_of(
-    alloc: Global,
+/// Makes these fields what the words say, by the names of the script.
+pub fn fill_fields(
+    fields: &mut Vec<Field>,
     names: &NameTable,
     asked: &[Asked],
-) -> Result<Vec<Field>, AllocError>
+) -> Result<(), AllocError>
     requires { length names.now < 2 ^ 32 }
-    ensures { IfOk result (λ fields. fields.items ≡ map (field_of names.now) asked.now) }
+    ensures { OnOk result (fields.new.items ≡ map (field_of names.now) asked.now) }
 {
-    asked.iter().map(|word| word.field(names)).collect(alloc)
+    fields.clear();
+    for word in asked {
+        fields.push(word.field(names))?;
+    }
+    Ok(())
 }

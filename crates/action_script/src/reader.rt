@@ -7,8 +7,9 @@ ghost use Rattle.action_script.specs.SoFar.{so_far, TookSaid, Took, HasRead};
 ghost use Rattle.action_script.specs.declared.script_error.ScriptCause.TheVariants as cause;
 ghost use Rattle.action_script.specs.declared.kind.Section.TheVariants as section;
 
-use crate::asked::{add_names, fields_of};
+use crate::asked::{add_names, fill_fields};
 use crate::cuts::cut_line;
+use crate::field::Field;
 use crate::form::Form;
 use crate::kind::Section;
 use crate::names::NameTable;
@@ -26,6 +27,8 @@ struct Reader<'a> {
     section: Section,
     names: NameTable<'a>,
     lines: Vec<Line>,
+    /// Room for what the words of one line say.
+    fields: Vec<Field>,
 }
 
 impl<'a> Reader<'a> {
@@ -37,8 +40,8 @@ impl<'a> Reader<'a> {
         ensures refused { IfErr result (λ e. e ≡ cause.OutOfMemory) }
     {
         add_names(&mut self.names, said.asked())?;
-        let fields = fields_of(alloc, &self.names, said.asked())?;
-        let form = Form::by(alloc, said.kind(), &fields)?;
+        fill_fields(&mut self.fields, &self.names, said.asked())?;
+        let form = Form::by(alloc, said.kind(), &self.fields)?;
         self.lines.push(Line {
             number: self.line,
             form,
@@ -93,6 +96,7 @@ fn read_lines(alloc: Global, bytes: &[u8]) -> Result<Reader<'_>, ScriptError>
         section: Section::Top,
         names: NameTable::new(alloc),
         lines: Vec::new(alloc),
+        fields: Vec::new(alloc),
     };
     let mut rest = bytes;
     while !rest.is_empty() {

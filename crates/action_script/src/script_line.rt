@@ -1,5 +1,6 @@
-ghost use Rattle.std.specs.Prelude.{◌≡◌, ◌≢◌, ◌==◌, ◌<◌, ◌&&◌, map, find, Ok, Err, Some, None, IfOk, IfErr};
-ghost use Rattle.std.specs.List.{list_all, slice_split};
+ghost use Rattle.std.specs.Prelude.{◌≡◌, ◌≢◌, ◌==◌, ◌<◌, ◌&&◌, not, map, find, Ok, Err, Some, None, IfOk, IfErr};
+ghost use Rattle.std.specs.List.{list_all};
+ghost use Rattle.caa_base.specs.Lists.{is_empty};
 ghost use Rattle.action_script.specs.CutLines.{is_blank, is_plain, words_of, begins_comment};
 ghost use Rattle.action_script.specs.Spelling.{asked_of, is_here, kind_here, by_kind, line_by_words, line_of};
 ghost use Rattle.action_script.specs.declared.script_error.ScriptCause.TheVariants as cause;
@@ -56,29 +57,21 @@ fn are_plain(line: &[u8]) -> bool
     line.iter().all(|byte| is_plain(*byte))
 }
 
-/// What stands between the blanks of a line.
-fn pieces_of(alloc: Global, line: &[u8]) -> Result<Vec<&[u8]>, AllocError>
-    ensures { IfOk result (λ pieces. map (λ w. w.now) pieces.items ≡ slice_split is_blank line.now) }
+/// The longest pieces of a line without blanks.
+fn words_of(alloc: Global, line: &[u8]) -> Result<Vec<&[u8]>, AllocError>
+    ensures { IfOk result (λ words. map (λ w. w.now) words.items ≡ words_of line.now) }
 {
     line.split(
         |byte: &u8| -> bool
             ensures { result ≡ is_blank byte.now }
         { is_blank(*byte) },
     )
+    .filter(
+        |piece: &&[u8]| -> bool
+            ensures { result ≡ not (is_empty piece.now.now) }
+        { !piece.is_empty() },
+    )
     .collect(alloc)
-}
-
-/// The longest pieces of a line without blanks.
-fn words_of(alloc: Global, line: &[u8]) -> Result<Vec<&[u8]>, AllocError>
-    ensures { IfOk result (λ words. map (λ w. w.now) words.items ≡ words_of line.now) }
-{
-    let mut words = Vec::new(alloc);
-    for piece in &pieces_of(alloc, line)? {
-        if !piece.is_empty() {
-            words.push(*piece)?;
-        }
-    }
-    Ok(words)
 }
 
 fn begins_comment(word: &[u8]) -> bool

@@ -1,9 +1,9 @@
-ghost use Rattle.std.specs.Prelude.{◌≡◌, ◌<◌, ◌≤◌, ◌↔◌, ℕ, ◌∷◌, [], length, slice_index, IfOk, IfErr, OnOk, IsErrOf, All};
-ghost use Rattle.cover_table.specs.Cover.{covers, most_exceptions, order_of, IsLeastCover, IsOrder, IsSound, IsFirstWithoutLeast};
+ghost use Rattle.std.specs.Prelude.{◌≡◌, ◌<◌, ◌≤◌, ◌↔◌, ℕ, ◌∷◌, [], length, slice_index, if◌then◌else◌, IfOk, IfErr, OnOk, IsErrOf, All};
+ghost use Rattle.cover_table.specs.Cover.{covers, most_exceptions, order_of, tells, IsLeastCover, IsOrder, IsSound, IsFirstWithoutLeast};
 ghost use Rattle.cover_table.specs.Common.{FailsAt, IsJoin};
 
 use crate::order::{MOST_EXCEPTIONS, NoLeast, Order, Row, has_bit};
-use crate::uppers::{least_of_two, levels_of, uppers_of};
+use crate::uppers::{least_of_two, levels_of, right_above, uppers_of};
 use std::marker::Model;
 
 /// The least covers of each two numbers of an order, seen as the order.
@@ -47,6 +47,25 @@ fn joins_of<const N: usize>(
     Ok(joins)
 }
 
+/// The least covers of `a` with each number, from those of the number right above it.
+///
+/// They are the same but with what `a` covers.
+fn joins_below<const N: usize>(uppers: &[Row], joins_above: &[u8; N], a: u32) -> [u8; N]
+    requires limit { N ≤ most_exceptions }
+    requires fits { length uppers.now ≤ N }
+    requires a_in { a < length uppers.now }
+    ensures { (b : ℕ) → b < length uppers.now →
+        slice_index result b ≡ (if tells uppers.now b a then a else slice_index joins_above.now b) }
+{
+    let mut joins = *joins_above;
+    for (b, upper) in uppers.iter().enumerate() {
+        if has_bit(*upper, a) {
+            joins[b] = a as u8;
+        }
+    }
+    joins
+}
+
 impl<const N: usize> JoinTable<N> {
     /// The table of an order on at most `N` numbers.
     ///
@@ -65,7 +84,10 @@ impl<const N: usize> JoinTable<N> {
         let levels = levels_of(uppers);
         let mut joins = [[0; N]; N];
         for a in 0..order.count {
-            joins[a as usize] = joins_of(uppers, &levels, a)?;
+            joins[a as usize] = match right_above(uppers, &levels, a) {
+                Some(above) => joins_below(uppers, &joins[above as usize], a),
+                None => joins_of(uppers, &levels, a)?,
+            };
         }
         Ok(JoinTable {
             count: order.count,

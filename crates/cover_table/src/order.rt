@@ -1,4 +1,4 @@
-ghost use Rattle.std.specs.Prelude.{◌≡◌, ◌==◌, ◌||◌, ℕ, ◌<◌};
+ghost use Rattle.std.specs.Prelude.{◌≡◌, ◌==◌, ◌&&◌, ◌||◌, ℕ, ◌<◌, not, true, IfNone, IfSome};
 ghost use Rattle.cover_table.specs.Cover.{has_bit, most_exceptions};
 
 use thiserror::Error;
@@ -41,4 +41,25 @@ pub fn with_bit(row: Row, bit: u32) -> Row
     ensures { (b : ℕ) → has_bit result b ≡ (b == bit || has_bit row b) }
 {
     row | (1 << bit)
+}
+
+/// A row without one of its bits.
+pub fn without_bit(row: Row, bit: u32) -> Row
+    requires { bit < most_exceptions }
+    ensures bits { (b : ℕ) → b < most_exceptions → has_bit result b ≡ (has_bit row b && not (b == bit)) }
+    ensures less { has_bit row bit ≡ true → result < row }
+{
+    row & !(1 << bit)
+}
+
+/// Some bit of a row, where it has one.
+pub fn some_bit(row: Row) -> Option<u32>
+    ensures found { IfSome result (λ bit. (bit < most_exceptions) × (has_bit row bit ≡ true)) }
+    ensures none { IfNone result (row ≡ 0) }
+{
+    if row == 0 {
+        None
+    } else {
+        Some(row.trailing_zeros())
+    }
 }

@@ -1,22 +1,22 @@
-ghost use Rattle.std.specs.Prelude.{◌≡◌, ◌<◌, ◌≤◌, ℕ, length, take, IfSome, IfNone};
-ghost use Rattle.cover_table.specs.Cover.{has_bit, most_exceptions, tells};
-ghost use Rattle.cover_table.specs.Common.{AreUppers, HasJoin, IsJoin};
+ghost use Rattle.std.specs.Prelude.{◌<◌, ◌≤◌, length, take, IfSome, IfNone};
+ghost use Rattle.cover_table.specs.Cover.{most_exceptions};
+ghost use Rattle.cover_table.specs.Common.{AddsUpper, AreUppers, HasJoin, IsJoin, IsRightAbove};
 
-use crate::order::{MOST_EXCEPTIONS, Row, has_bit, with_bit};
+use crate::order::{MOST_EXCEPTIONS, Row, some_bit, with_bit, without_bit};
 
-/// The numbers that cover `b`, as a row of bits.
-fn upper_row(rows: &[Row], b: u32) -> Row
-    requires few { length rows.now ≤ most_exceptions }
-    requires b_in { b < most_exceptions }
-    ensures { (a : ℕ) → has_bit result a ≡ tells rows.now a b }
+/// Makes the rows of what covers each number tell that `a` covers what its row tells.
+fn add_upper(uppers: &mut [Row], a: u32, row: Row)
+    requires few { length uppers.old ≤ most_exceptions }
+    requires a_in { a < most_exceptions }
+    ensures { AddsUpper uppers.old uppers.new a row }
 {
-    let mut upper = 0;
-    for (a, row) in rows.iter().enumerate() {
-        if has_bit(*row, b) {
-            upper = with_bit(upper, a as u32);
+    let mut rest = row;
+    while let Some(b) = some_bit(rest) {
+        if (b as usize) < uppers.len() {
+            uppers[b as usize] = with_bit(uppers[b as usize], a);
         }
+        rest = without_bit(rest, b);
     }
-    upper
 }
 
 /// For each number, the row of those that cover it.
@@ -26,8 +26,8 @@ pub fn uppers_of<const N: usize>(rows: &[Row]) -> [Row; N]
     ensures { AreUppers rows.now (take (length rows.now) result) }
 {
     let mut uppers = [0; N];
-    for b in 0..rows.len() as u32 {
-        uppers[b as usize] = upper_row(rows, b);
+    for (a, row) in rows.iter().enumerate() {
+        add_upper(&mut uppers, a as u32, *row);
     }
     uppers
 }
@@ -51,6 +51,20 @@ pub fn levels_of(uppers: &[Row]) -> [Row; MOST_EXCEPTIONS + 1]
 /// In an order no other can be the least cover.
 fn guess(levels: &[Row; MOST_EXCEPTIONS + 1], common: Row) -> u32 {
     (common & levels[common.count_ones() as usize]).trailing_zeros()
+}
+
+/// The number right above `a`, where it comes before `a`: its covers and `a` are all that cover `a`.
+pub fn right_above(uppers: &[Row], levels: &[Row; MOST_EXCEPTIONS + 1], a: u32) -> Option<u32>
+    requires few { length uppers.now ≤ most_exceptions }
+    requires a_in { a < length uppers.now }
+    ensures { IfSome result (λ above. (above < a) × IsRightAbove uppers.now above a) }
+{
+    let above = guess(levels, without_bit(uppers[a as usize], a));
+    if above < a && with_bit(uppers[above as usize], a) == uppers[a as usize] {
+        Some(above)
+    } else {
+        None
+    }
 }
 
 /// The least of the numbers that cover both `a` and `b`, where they have one.

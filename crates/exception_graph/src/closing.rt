@@ -14,12 +14,17 @@ fn extended(row: Row, over: u32, more: Row) -> Row
 }
 
 /// Adds to each row that has bit `over` what the row of `over` has.
+///
+/// Where that row has its own bit alone it adds nothing.
 fn extend_over(rows: &mut [Row], over: u32)
     requires few { length rows.old ≤ most_exceptions }
     requires over_in { over < length rows.old }
     ensures { AreExtended rows.old rows.new over }
 {
     let more = rows[over as usize];
+    if more == with_bit(0, over) {
+        return;
+    }
     for row in rows.iter_mut() {
         *row = extended(*row, over, more);
     }

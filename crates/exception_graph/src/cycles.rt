@@ -5,18 +5,19 @@ ghost use Rattle.exception_graph.specs.Cycles.{IsFirstMutual, IsMutual};
 
 use cover_table::Row;
 
-/// Whether `a` covers another exception that covers it.
+/// Whether `a` covers another exception that covers it, where none before `a` does.
 ///
-/// In closed rows two such have the same row, and no others do.
+/// In closed rows two such have the same row, and no others do. So the other comes after `a`.
 fn is_mutual(rows: &[Row], a: u32) -> bool
     requires few { length rows.now ≤ most_exceptions }
     requires a_in { a < length rows.now }
     requires itself { (b : ℕ) → b < length rows.now → tells rows.now b b ≡ true }
     requires closed { AreClosedOver rows.now (length rows.now) }
+    requires earlier { (b : ℕ) → b < a → ¬ (IsMutual (order_of_rows rows.now) b) }
     ensures { IsTrue result ↔ IsMutual (order_of_rows rows.now) a }
 {
-    for b in 0..rows.len() as u32 {
-        if b != a && rows[b as usize] == rows[a as usize] {
+    for b in a + 1..rows.len() as u32 {
+        if rows[b as usize] == rows[a as usize] {
             return true;
         }
     }

@@ -1,9 +1,10 @@
 -- The value of an object, looked for from the newest entry on.
-use Rattle.std.proofs.Common.{◌≡◌, ℕ, ◌+◌, ◌<◌, Bool, true, false, not, ◌&&◌, List, [], ◌∷◌, length, reverse, take, drop, get_or, refl, arith}
+use Rattle.std.proofs.Common.{◌≡◌, ℕ, pos, ◌+◌, ◌<◌, Bool, true, false, not, ◌&&◌, List, [], ◌∷◌, length, reverse, take, drop, get_or, refl, arith}
 use Rattle.std.specs.List.{list_any}
 use Rattle.std.proofs.lemmas.List.{take_more, drop_more, reverse-append}
 use Rattle.std.proofs.lemmas.Bool.Decides.{nat_tests}
 use Rattle.caa_base.specs.declared.entry.Entry.{Entry}
+use Rattle.caa_base.specs.declared.entry.Kind.TheVariants as kind
 use Rattle.place_plan.specs.PlanValue.{Plan}
 use Rattle.place_plan.specs.Places.{is_within}
 use Rattle.place_plan.specs.Objects.{restores, writes, is_within_any, places_restoring, value_outside}
@@ -16,6 +17,10 @@ restores_round plan o p e = restores o e && is_within plan p e.place
 within_any-places_restoring : (plan : Plan) (o p : ℕ) (later : List Entry) → is_within_any plan p (places_restoring o later) ≡ list_any (restores_round plan o p) later
 within_any-places_restoring plan o p [] = refl
 within_any-places_restoring plan o p (e ∷ later) = grind (arith, nat_tests, within_any-places_restoring plan o p later)
+
+-- what stands past the end of a list of entries
+abbrev pub blank : Entry
+blank = record { kind = kind.Arrive; place = 0; by = 0; arg = 0; mark = 0; value = pos 0 }
 
 -- the newest of the first entries stands in front of the others
 pub reverse_more : (es : List Entry) (i : ℕ) (d : Entry) → i < length es → reverse (take (i + 1) es) ≡ get_or es i d ∷ reverse (take i es)

@@ -84,6 +84,10 @@ module _ (d : ℕ) (actions : List ActionRow) (a : ℕ) (who around outer : List
       ∙ set-append_seam old (bare_place a who around i) uses_of_place (full_place a who around i (children_from one who outer 0 (length old + 1) nests))
       ∙ ap (λ rows. old ++ rows) (sym (whole l o ns))
 
+-- an instance without nested uses is its place alone
+pub stands_alone : (d : ℕ) (actions : List ActionRow) (a : ℕ) (who around : List ℕ) (i : ℕ) (old : List PlaceRow) → 0 < d → (slice_index_or actions a no_action).nests ≡ [] → old ++ bare_place a who around i ∷ [] ≡ old ++ unfold_at d actions a who around i (length old)
+stands_alone d actions a who around i old deep none = ap (λ rows. old ++ rows) (sym (rw none at (one_level d actions a who around i (length old) deep)))
+
 -- ---- the walk over the actions of a use
 
 module _ (one : Unfolding) (cast around : List ℕ) (i : ℕ) (old places : List PlaceRow) (acts : List ℕ) (k : ℕ) (rows : places ++ alternates_from one cast around i (length places) (drop k acts) ≡ old ++ alternates_from one cast around i (length old) acts) (few : length old + length (alternates_from one cast around i (length old) acts) ≤ most_places) where

@@ -107,9 +107,13 @@ fn unfold(
     }
     let place = places.len();
     places.push(bare_place(alloc, action, who, around, nest)?)?;
+    let nests = nests_of(actions, action);
+    if nests.is_empty() {
+        return Ok(());
+    }
     let outer = inner_to_outer(alloc, place as u32, around)?;
     let mut children = Vec::new(alloc);
-    for (number, used) in nests_of(actions, action).iter().enumerate() {
+    for (number, used) in nests.iter().enumerate() {
         let row = unfold_use(
             alloc,
             actions,

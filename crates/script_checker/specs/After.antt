@@ -13,7 +13,6 @@ use Rattle.place_plan.specs.declared.draft_rows.Step.TheVariants as step
 use Rattle.caa_base.specs.Lists.{index_of}
 use Rattle.caa_base.specs.Names.{name_at}
 use Rattle.place_plan.specs.Places.{no_role}
-use Rattle.place_plan.specs.Bound.{action_bound}
 use Rattle.place_plan.specs.DraftRules.{deepest}
 use Rattle.action_script.specs.declared.form.Form.{Form}
 use Rattle.action_script.specs.declared.form.Form.TheVariants as form
@@ -21,7 +20,7 @@ use Rattle.script_checker.specs.declared.parts.Block.{Block}
 use Rattle.script_checker.specs.declared.parts.Block.TheVariants as block
 use Rattle.script_checker.specs.declared.parts.NestSaid.{NestSaid}
 use Rattle.script_checker.specs.declared.parts.Opening.{Opening}
-use Rattle.place_plan.specs.Weights.{counted, at, nested_weight}
+use Rattle.place_plan.specs.Weights.{counted, at, nested_weight, own_entries}
 use Rattle.script_checker.specs.Numbers.{chosen_from}
 use Rattle.script_checker.specs.DeclaredSoFar.{SoFar, graph_number, exceptions_at, internal_graph, interface_graph, inner, outer, face, action_of, nest_of, said_of, role_of, nothing_said}
 use Rattle.script_checker.specs.Causes.{places_with, bound_with}
@@ -208,7 +207,7 @@ with_places s row = record s { places = s.places ++ counted (1 + nested_weight (
 -- how many entries these may have
 abbrev pub with_bound : SoFar → ActionRow → SoFar
 with_bound s row =
-    record s { bounds = s.bounds ++ counted (action_bound row (length row.roles) + nested_weight (at s.bounds) row.nests) ∷ [] }
+    record s { bounds = s.bounds ++ counted (own_entries row + nested_weight (at s.bounds) row.nests) ∷ [] }
 
 -- one more action, and what comes next stands outside actions
 abbrev pub with_action_row : SoFar → ActionRow → SoFar

@@ -23,10 +23,13 @@ pub(crate) fn are_among(names: &NumberList, some: &[u32]) -> bool
 
 /// Whether a number stands twice in a list.
 ///
-/// It goes over the numbers once, from the last one back, with a table of those that it has met.
+/// It goes over the numbers once, from the last one back, with a table of those that it has met. One number alone needs none.
 pub(crate) fn has_twice(alloc: Global, list: &[u32]) -> Result<bool, AllocError>
     ensures { IfOk result (λ yes. yes ≡ has_twice list.now) }
 {
+    if list.len() < 2 {
+        return Ok(false);
+    }
     let mut met = NumberList::new(alloc);
     for index in (0..list.len()).rev() {
         if met.contains(list[index]) {

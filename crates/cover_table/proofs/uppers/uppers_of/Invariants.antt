@@ -1,10 +1,10 @@
-use Rattle.std.proofs.Common.{◌≡◌, ◌<◌, ◌^◌, ℕ, length, slice_index}
-use Rattle.cover_table.specs.Cover.{has_bit, most_exceptions}
+use Rattle.std.proofs.Common.{◌≡◌, ◌<◌, ◌≤◌, ℕ, false, length, slice_index}
+use Rattle.cover_table.specs.Cover.{has_bit}
 use Rattle.cover_table.proofs.uppers.uppers_of.Given as goal
 
-abbrev pub invariant-loop-b : goal.invariant-loop-b
-invariant-loop-b g l = record {
+abbrev pub invariant-loop-a : goal.invariant-loop-a
+invariant-loop-a g l = record {
   len : length l.uppers ≡ g.row.N;
-  done : (a d : ℕ) → d < l.b → has_bit (slice_index l.uppers d) a ≡ has_bit (slice_index l.rows a) d;
-  fits : (d : ℕ) → d < l.b → slice_index l.uppers d < 2 ^ most_exceptions;
+  done : (d b : ℕ) → d < l.a → b < length l.rows → has_bit (slice_index l.uppers b) d ≡ has_bit (slice_index l.rows d) b;
+  left : (d b : ℕ) → l.a ≤ d → b < length l.rows → has_bit (slice_index l.uppers b) d ≡ false;
 }

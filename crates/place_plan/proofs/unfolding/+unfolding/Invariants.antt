@@ -12,11 +12,11 @@ decreases-unfold_use l = 2 * l.depth + 1
 abbrev pub invariant-unfold-loop-number : goal.invariant-unfold-loop-number
 invariant-unfold-loop-number l = record {
   rows :
-      l.places.items ++ uses_from (unfold_at (l.depth - 1) l.actions) l.who l.outer.items l.number (length l.places.items) (drop l.number l.used-items)
-      ≡ l.fn.places.items ++ bare_place l.action l.who l.around l.nest ∷ uses_from (unfold_at (l.depth - 1) l.actions) l.who l.outer.items 0 (length l.fn.places.items + 1) l.used-items;
+      l.places.items ++ uses_from (unfold_at (l.depth - 1) l.actions) l.who l.outer.items l.number (length l.places.items) (drop l.number l.nests)
+      ≡ l.fn.places.items ++ bare_place l.action l.who l.around l.nest ∷ uses_from (unfold_at (l.depth - 1) l.actions) l.who l.outer.items 0 (length l.fn.places.items + 1) l.nests;
   numbers :
-      l.children.items ++ children_from (unfold_at (l.depth - 1) l.actions) l.who l.outer.items l.number (length l.places.items) (drop l.number l.used-items)
-      ≡ children_from (unfold_at (l.depth - 1) l.actions) l.who l.outer.items 0 (length l.fn.places.items + 1) l.used-items;
+      l.children.items ++ children_from (unfold_at (l.depth - 1) l.actions) l.who l.outer.items l.number (length l.places.items) (drop l.number l.nests)
+      ≡ children_from (unfold_at (l.depth - 1) l.actions) l.who l.outer.items 0 (length l.fn.places.items + 1) l.nests;
 }
 
 -- the places and the numbers so far, with those of the alternates that are left

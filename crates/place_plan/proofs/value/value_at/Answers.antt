@@ -1,15 +1,9 @@
-use Rattle.std.proofs.Common.{◌≡◌, true, false, pos, ◌+◌, ◌-◌, drop, get_or, sym, ◌∙◌, arith, to_z, of_z, w64}
+use Rattle.std.proofs.Common.{◌≡◌, true, false, ◌+◌, ◌-◌, drop, get_or, sym, ◌∙◌, arith, to_z, of_z, w64}
 use Rattle.std.proofs.lemmas.List.{take_rest}
 use Rattle.std.proofs.lemmas.Int.{ints}
-use Rattle.caa_base.specs.declared.entry.Entry.{Entry}
-use Rattle.caa_base.specs.declared.entry.Kind.TheVariants as kind
-use Rattle.place_plan.proofs.LatestValues.{value_given, value_passed, gives}
+use Rattle.place_plan.proofs.LatestValues.{blank, value_given, value_passed, gives}
 use Rattle.place_plan.proofs.value.value_at.Goals as goal
 use Rattle.place_plan.proofs.value.value_at.Goals.{else-writes-via-then-writes+else-not-is_restored, else-writes-via-else-writes}
-
--- what stands past the end of a list of entries
-abbrev blank : Entry
-blank = record { kind = kind.Arrive; place = 0; by = 0; arg = 0; mark = 0; value = pos 0 }
 
 pub returns-then-not-is_restored : goal.returns-then-not-is_restored
 returns-then-not-is_restored c =

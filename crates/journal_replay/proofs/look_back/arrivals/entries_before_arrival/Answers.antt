@@ -1,17 +1,13 @@
-use Rattle.std.proofs.Common.{◌≡◌, ◌∙◌, ◌+◌, ◌-◌, ◌<◌, true, pos, take, reverse, length, get_or, sym, subst, refl, arith}
+use Rattle.std.proofs.Common.{◌≡◌, ◌∙◌, ◌+◌, ◌-◌, ◌<◌, true, take, reverse, length, get_or, sym, subst, refl, arith}
 use Rattle.caa_base.specs.declared.entry.Entry.{Entry}
 use Rattle.caa_base.specs.declared.entry.Kind.TheVariants as kind
 use Rattle.place_plan.specs.Entries.{is_in}
 use Rattle.place_plan.specs.Journals.{LegalPast}
 use Rattle.journal_laws.proofs.PlayablePlan.{is_playable}
-use Rattle.place_plan.proofs.LatestValues.{reverse_more}
+use Rattle.place_plan.proofs.LatestValues.{blank, reverse_more}
 use Rattle.journal_replay.proofs.Prefixes.{legal_front}
 use Rattle.journal_replay.proofs.Unstarted.{arrival_unbegun, unstarted_unbegun}
 use Rattle.journal_replay.proofs.look_back.arrivals.entries_before_arrival.Goals as goal
-
--- what stands past the end of a list of entries
-abbrev blank : Entry
-blank = record { kind = kind.Arrive; place = 0; by = 0; arg = 0; mark = 0; value = pos 0 }
 
 pub returns-then-is_in-clause-unbegun : goal.returns-then-is_in-clause-unbegun
 returns-then-is_in-clause-unbegun c =
