@@ -126,7 +126,7 @@ pub enum LineKind {
     Undo,
 }
 
-/// All kinds of lines. Those of which a script has most come first, since a line is tried for each in turn.
+/// All kinds of lines. Those of which a script mostly has many come first, since they are tried in turn.
 pub const KINDS: [LineKind; 34] = [
     LineKind::Read,
     LineKind::Put,

@@ -1,10 +1,9 @@
 -- The least cover of two is the one whose covers are their common covers.
-use Rattle.std.proofs.Common.{◌≡◌, ◌<◌, ◌≤◌, ◌^◌, ℕ, true, ◌&&◌, inl, inr, List, [], ◌∷◌, length, slice_index, bit_and, arith, refl, sym, ap, ◌∙◌}
+use Rattle.std.proofs.Common.{◌≡◌, ◌<◌, ◌≤◌, ℕ, true, ◌&&◌, inl, inr, List, [], ◌∷◌, length, slice_index, bit_and, arith, refl, sym, ap, ◌∙◌}
 use Rattle.std.proofs.lemmas.Bool.{and_parts, and_from, cases_order, false≢true}
 use Rattle.std.proofs.lemmas.List.{get_or_past}
-use Rattle.std.proofs.lemmas.Nat.{and_le_l}
-use Rattle.std.proofs.lemmas.Nat.Bits.{same_from_bits_below}
-use Rattle.cover_table.specs.Cover.{CoverOrder, covers, has_bit, most_exceptions, HasLeastCover, IsLeastCover, IsOrder}
+use Rattle.std.proofs.lemmas.Nat.Bits.{same_from_bits}
+use Rattle.cover_table.specs.Cover.{CoverOrder, covers, has_bit, HasLeastCover, IsLeastCover, IsOrder}
 use Rattle.cover_table.specs.Common.{AreUppers, HasJoin, IsJoin}
 use Rattle.cover_table.proofs.Bits.{had_from_both, had_in_both, had_in_zero, same_bit}
 
@@ -46,19 +45,17 @@ module _ (order : CoverOrder) (many : length order.rows ≡ order.count) (ordere
       }
 
   -- and the least cover is such a number
-  pub join_from_least : ((x : ℕ) → slice_index uppers x < 2 ^ most_exceptions) → HasLeastCover order (a ∷ b ∷ []) → HasJoin uppers a b
-  join_from_least fits (x, h) =
+  pub join_from_least : HasLeastCover order (a ∷ b ∷ []) → HasJoin uppers a b
+  join_from_least (x, h) =
       let as_many = upper.as_many in
       let x_in = h.in_range in
       let x_row : x < length order.rows = omega arith in
       let parts = and_parts (covers order x a) (covers order x b && true) h.above in
-      let last = and_parts (covers order x b) true parts.1 in
-      let a_fits = fits a in
-      let smaller = and_le_l (slice_index uppers a) (slice_index uppers b) in (
+      let last = and_parts (covers order x b) true parts.1 in (
         x,
         record {
           in_range = omega arith;
-          common = same_from_bits_below most_exceptions (slice_index uppers x) (bit_and (slice_index uppers a) (slice_index uppers b)) (fits x) (omega arith) (λ y y_in. same_bit _ _ y
+          common = same_from_bits (slice_index uppers x) (bit_and (slice_index uppers a) (slice_index uppers b)) (λ y. same_bit _ _ y
               (λ had.
               let over = sym (upper.tell y x x_row) ∙ had in
               let below = cover_in order.rows y x over in

@@ -1,5 +1,5 @@
 pub mod AddedUppers
 pub mod Bits
 pub mod Least
+pub mod NextAbove
 pub mod Orders
-pub mod RightAbove

@@ -25,13 +25,16 @@ least-swapped order a b x h = record {
   least = λ y lt each. h.least y lt (covers_each-swapped order y a b ∙ each);
 }
 
--- each number is the least cover of itself
-pub least-self : (order : CoverOrder) (a : ℕ) → IsOrder order → a < order.count → IsLeastCover order (a ∷ a ∷ []) a
-least-self order a h lt = record {
+-- each number is the least cover of itself and what it covers
+pub least-covered : (order : CoverOrder) (a b : ℕ) → IsOrder order → a < order.count → covers order a b ≡ true → IsLeastCover order (a ∷ b ∷ []) a
+least-covered order a b h lt over = record {
   in_range = lt;
-  above = let self = h.reflexive a lt in and_from _ _ self (and_from _ _ self refl);
-  least = λ y below each. (and_parts (covers order y a) (covers order y a && true) each).0;
+  above = and_from _ _ (h.reflexive a lt) (and_from _ _ over refl);
+  least = λ y below each. (and_parts (covers order y a) (covers order y b && true) each).0;
 }
+
+pub least-self : (order : CoverOrder) (a : ℕ) → IsOrder order → a < order.count → IsLeastCover order (a ∷ a ∷ []) a
+least-self order a h lt = least-covered order a a h lt (h.reflexive a lt)
 
 pub least-one : (order : CoverOrder) (a : ℕ) → IsOrder order → a < order.count → IsLeastCover order (a ∷ []) a
 least-one order a h lt = record {

@@ -3,7 +3,7 @@ ghost use Rattle.cover_table.specs.Cover.{covers, most_exceptions, order_of, tel
 ghost use Rattle.cover_table.specs.Common.{FailsAt, IsJoin};
 
 use crate::order::{MOST_EXCEPTIONS, NoLeast, Order, Row, has_bit};
-use crate::uppers::{least_of_two, levels_of, right_above, uppers_of};
+use crate::uppers::{least_of_two, levels_of, next_above, uppers_of};
 use std::marker::Model;
 
 /// The least covers of each two numbers of an order, seen as the order.
@@ -47,7 +47,7 @@ fn joins_of<const N: usize>(
     Ok(joins)
 }
 
-/// The least covers of `a` with each number, from those of the number right above it.
+/// The least covers of `a` with each number, from those of the number next above it.
 ///
 /// They are the same but with what `a` covers.
 fn joins_below<const N: usize>(uppers: &[Row], joins_above: &[u8; N], a: u32) -> [u8; N]
@@ -84,7 +84,7 @@ impl<const N: usize> JoinTable<N> {
         let levels = levels_of(uppers);
         let mut joins = [[0; N]; N];
         for a in 0..order.count {
-            joins[a as usize] = match right_above(uppers, &levels, a) {
+            joins[a as usize] = match next_above(uppers, &levels, a) {
                 Some(above) => joins_below(uppers, &joins[above as usize], a),
                 None => joins_of(uppers, &levels, a)?,
             };

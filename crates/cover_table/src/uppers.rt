@@ -1,6 +1,6 @@
 ghost use Rattle.std.specs.Prelude.{◌<◌, ◌≤◌, length, take, IfSome, IfNone};
 ghost use Rattle.cover_table.specs.Cover.{most_exceptions};
-ghost use Rattle.cover_table.specs.Common.{AddsUpper, AreUppers, HasJoin, IsJoin, IsRightAbove};
+ghost use Rattle.cover_table.specs.Common.{AddsUpper, AreUppers, HasJoin, IsJoin, IsNextAbove};
 
 use crate::order::{MOST_EXCEPTIONS, Row, some_bit, with_bit, without_bit};
 
@@ -34,7 +34,7 @@ pub fn uppers_of<const N: usize>(rows: &[Row]) -> [Row; N]
 
 /// Which numbers have how many covers: row n has a bit for each that has n.
 ///
-/// The search for a least cover takes a guess from it, and tries the guess. So nothing but time rests on it, and nothing is promised.
+/// The number that has just these covers is guessed from it, and each guess is tried. So nothing but time rests on it, and nothing is promised.
 pub fn levels_of(uppers: &[Row]) -> [Row; MOST_EXCEPTIONS + 1]
     requires { length uppers.now ≤ most_exceptions }
 {
@@ -46,18 +46,18 @@ pub fn levels_of(uppers: &[Row]) -> [Row; MOST_EXCEPTIONS + 1]
     levels
 }
 
-/// The common cover that has as many covers as there are common ones.
+/// Of these numbers, the one that has as many covers as there are of them.
 ///
-/// In an order no other can be the least cover.
-fn guess(levels: &[Row; MOST_EXCEPTIONS + 1], common: Row) -> u32 {
-    (common & levels[common.count_ones() as usize]).trailing_zeros()
+/// In an order no other can have just these for its covers.
+fn guess(levels: &[Row; MOST_EXCEPTIONS + 1], covers: Row) -> u32 {
+    (covers & levels[covers.count_ones() as usize]).trailing_zeros()
 }
 
-/// The number right above `a`, where it comes before `a`: its covers and `a` are all that cover `a`.
-pub fn right_above(uppers: &[Row], levels: &[Row; MOST_EXCEPTIONS + 1], a: u32) -> Option<u32>
+/// The number next above `a`, where it comes before `a`: its covers and `a` are all that cover `a`.
+pub fn next_above(uppers: &[Row], levels: &[Row; MOST_EXCEPTIONS + 1], a: u32) -> Option<u32>
     requires few { length uppers.now ≤ most_exceptions }
     requires a_in { a < length uppers.now }
-    ensures { IfSome result (λ above. (above < a) × IsRightAbove uppers.now above a) }
+    ensures { IfSome result (λ above. (above < a) × IsNextAbove uppers.now above a) }
 {
     let above = guess(levels, without_bit(uppers[a as usize], a));
     if above < a && with_bit(uppers[above as usize], a) == uppers[a as usize] {

@@ -1,8 +1,8 @@
 -- Cycles of declared pairs, by the rows that tell the chains.
-use Rattle.std.proofs.Common.{◌≡◌, ◌<◌, ◌^◌, inl, inr, ℕ, true, List, length, slice_index, sym, arith}
+use Rattle.std.proofs.Common.{◌≡◌, ◌<◌, inl, inr, ℕ, true, List, length, slice_index, sym, arith}
 use Rattle.std.proofs.lemmas.Bool.{cases_eq}
-use Rattle.std.proofs.lemmas.Nat.Bits.{same_from_bits_below}
-use Rattle.cover_table.specs.Cover.{CoverOrder, most_exceptions, order_of_rows, tells, IsOrder}
+use Rattle.std.proofs.lemmas.Nat.Bits.{same_from_bits}
+use Rattle.cover_table.specs.Cover.{CoverOrder, order_of_rows, tells, IsOrder}
 use Rattle.cover_table.proofs.Bits.{same_bit}
 use Rattle.exception_graph.specs.Chains.{IsInCycle, IsFirstInCycle, IsOrderOf, none, more, universal}
 use Rattle.exception_graph.specs.Closing.{AreClosedOver}
@@ -58,9 +58,9 @@ module _ (count : ℕ) (pairs : List (ℕ × ℕ)) (order : CoverOrder) (is : Is
       }
 
 -- in closed rows two numbers that tell each other have the same row
-pub same_row : (rows : List ℕ) (a b : ℕ) → AreClosedOver rows (length rows) → a < length rows → b < length rows → slice_index rows a < 2 ^ most_exceptions → slice_index rows b < 2 ^ most_exceptions → tells rows a b ≡ true → tells rows b a ≡ true → slice_index rows b ≡ slice_index rows a
-same_row rows a b closed a_in b_in a_fits b_fits down up =
-    same_from_bits_below most_exceptions (slice_index rows b) (slice_index rows a) b_fits a_fits (λ c below. same_bit _ _ c (λ told. closed b a c b_in a_in down told) (λ told. closed a b c a_in b_in up told))
+pub same_row : (rows : List ℕ) (a b : ℕ) → AreClosedOver rows (length rows) → a < length rows → b < length rows → tells rows a b ≡ true → tells rows b a ≡ true → slice_index rows b ≡ slice_index rows a
+same_row rows a b closed a_in b_in down up =
+    same_from_bits (slice_index rows b) (slice_index rows a) (λ c. same_bit _ _ c (λ told. closed b a c b_in a_in down told) (λ told. closed a b c a_in b_in up told))
 
 -- closed rows without a cycle are an order
 pub order_without_cycle : (pairs : List (ℕ × ℕ)) (rows : List ℕ) → AreClosedOver rows (length rows) → IsOrderOf (length rows) pairs (order_of_rows rows) → ((a : ℕ) → a < length rows → ¬ (IsMutual (order_of_rows rows) a)) → IsOrder (order_of_rows rows)

@@ -7,7 +7,7 @@ use cover_table::Row;
 
 /// Whether `a` covers another exception that covers it, where none before `a` does.
 ///
-/// In closed rows two such have the same row, and no others do. So the other comes after `a`.
+/// In closed rows two such have the same row, and no others do. Since none before `a` does, the other comes after it.
 fn is_mutual(rows: &[Row], a: u32) -> bool
     requires few { length rows.now ≤ most_exceptions }
     requires a_in { a < length rows.now }

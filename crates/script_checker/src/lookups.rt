@@ -5,7 +5,7 @@ ghost use Rattle.std.specs.List.{list_all};
 ghost use Rattle.caa_base.specs.Lists.{index_of};
 ghost use Rattle.place_plan.specs.Places.{no_action};
 ghost use Rattle.script_checker.specs.Numbers.{is_among, has_twice, chosen_from};
-ghost use Rattle.script_checker.specs.DeclaredSoFar.{no_graph, exceptions_at, inner, outer, action_of, nest_of, face_of, face, role_of};
+ghost use Rattle.script_checker.specs.DeclaredSoFar.{exceptions_at, inner, outer, nest_of, face_of};
 ghost use Rattle.script_checker.specs.View.{so_far};
 
 use crate::declared::Declared;

@@ -5,7 +5,6 @@ pub returns-in-None-clause-lacks : goal.returns-in-None-clause-lacks
 returns-in-None-clause-lacks g c = (
   refl,
   record {
-    fits = λ x. omega (arith, c.type_inv.uppers x);
     in_range = omega arith;
     without = c.in-None.ensures.lacks;
     earlier = λ d lt. (_, c.loop-b.invariant.found d lt);

@@ -5,7 +5,7 @@ use Rattle.cover_table.specs.Cover.{CoverOrder, covers, order_of, tells, IsFirst
 use Rattle.cover_table.specs.Common.{AreUppers}
 use Rattle.cover_table.proofs.Least.{join_from_least, least_from_join}
 use Rattle.cover_table.proofs.Orders.{first_from_row, refused_at, joins_more}
-use Rattle.cover_table.proofs.RightAbove.{least_below}
+use Rattle.cover_table.proofs.NextAbove.{least_below}
 use Rattle.cover_table.proofs.joins.JoinTable.from_order.Goals as goal
 use Rattle.cover_table.proofs.joins.JoinTable.from_order.Goals.{in-Some, in-None+in_ok-joins-in-None}
 
@@ -30,7 +30,7 @@ returns-in_err-joins-in-None-clause-no_least g c =
     let a_in : e.a < order.count = omega arith in
     let first : IsFirstWithoutLeast order e.a e.b = first_from_row order e.a e.b c.requires.order a_in b_in
     (λ c' d c_in d_in. (_, c.loop-a.invariant.found c' d (omega arith) d_in))
-    (λ found. fails.without (join_from_least order many c.requires.order uppers upper e.a e.b a_in b_in fails.fits found))
+    (λ found. fails.without (join_from_least order many c.requires.order uppers upper e.a e.b a_in b_in found))
     (λ d less. let join = fails.earlier d less in (join.0, least_from_join order many c.requires.order uppers upper e.a d a_in (omega arith) join.0 join.1)) in
     rw (p.1, p.2) (refused_at order (Err e) first)
 
@@ -44,7 +44,7 @@ loop-a-preserved g c =
     let as_many = upper.as_many in
     let found = c.loop-a.invariant.found in
     let a_in = c.loop-a-test.true in
-    let row : (d : ℕ) → d < order.count → IsLeastCover order (c.loop-a.a ∷ d ∷ []) (slice_index c.match-right_above.joins d) = λ d d_in. elim c.match-right_above.branch [
+    let row : (d : ℕ) → d < order.count → IsLeastCover order (c.loop-a.a ∷ d ∷ []) (slice_index c.match-next_above.joins d) = λ d d_in. elim c.match-next_above.branch [
       | in-Some w ↦
           let above = w.in-Some.above in
           let less = w.in-Some.ensures.0 in
@@ -56,7 +56,7 @@ loop-a-preserved g c =
     ] in
     record {
       len = grind (arith, length-set);
-      found = joins_more order c.loop-a.joins c.loop-a.a c.match-right_above.joins (omega arith) found row;
+      found = joins_more order c.loop-a.joins c.loop-a.a c.match-next_above.joins (omega arith) found row;
     }
 
 pub returns-clause-sound : goal.returns-clause-sound

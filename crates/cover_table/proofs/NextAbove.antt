@@ -1,25 +1,18 @@
--- The least covers of a number, from those of the one right above it.
-use Rattle.std.proofs.Common.{◌≡◌, ◌<◌, ◌==◌, ◌||◌, ◌&&◌, ℕ, [], ◌∷◌, true, false, inl, inr, if◌then◌else◌, refl, sym, ◌∙◌}
+-- The least covers of a number, from those of the one next above it.
+use Rattle.std.proofs.Common.{◌≡◌, ◌<◌, ◌==◌, ◌||◌, ◌&&◌, ℕ, [], ◌∷◌, true, false, inl, inr, if◌then◌else◌, sym, ◌∙◌}
 use Rattle.std.proofs.lemmas.Bool.{and_parts, and_from, cases_Bool, cases_eq, ne_eqb, or_right, both_ways}
 use Rattle.cover_table.specs.Cover.{CoverOrder, covers, IsLeastCover, IsOrder}
+use Rattle.cover_table.proofs.Orders.{least-covered}
 
-module _ (order : CoverOrder) (ordered : IsOrder order) (above a : ℕ) (above_in : above < order.count) (a_in : a < order.count) (right_above : (y : ℕ) → y < order.count → covers order y a ≡ (y == a || covers order y above)) where
+module _ (order : CoverOrder) (ordered : IsOrder order) (above a : ℕ) (above_in : above < order.count) (a_in : a < order.count) (next_above : (y : ℕ) → y < order.count → covers order y a ≡ (y == a || covers order y above)) where
   above_covers : covers order above a ≡ true
-  above_covers = right_above above above_in ∙ or_right (above == a) (covers order above above) (ordered.reflexive above above_in)
-
-  -- a is the least cover of itself and what it covers
-  at_covered : (b : ℕ) → covers order a b ≡ true → IsLeastCover order (a ∷ b ∷ []) a
-  at_covered b over = record {
-    in_range = a_in;
-    above = and_from _ _ (ordered.reflexive a a_in) (and_from _ _ over refl);
-    least = λ y y_in each. (and_parts (covers order y a) (covers order y b && true) each).0;
-  }
+  above_covers = next_above above above_in ∙ or_right (above == a) (covers order above above) (ordered.reflexive above above_in)
 
   -- what covers a and something that a doesn't cover covers the number above a
   other_covers : (b y : ℕ) → y < order.count → covers order a b ≡ false → covers order y a ≡ true → covers order y b ≡ true → covers order y above ≡ true
   other_covers b y y_in apart over_a over_b = elim (cases_eq y a) [
     | inl same ↦ absurd (both_ways (covers order a b) apart (rw same at over_b))
-    | inr other ↦ sym (rw (ne_eqb y a other) at (right_above y y_in)) ∙ over_a
+    | inr other ↦ sym (rw (ne_eqb y a other) at (next_above y y_in)) ∙ over_a
   ]
 
   at_other : (b x : ℕ) → covers order a b ≡ false → IsLeastCover order (above ∷ b ∷ []) x → IsLeastCover order (a ∷ b ∷ []) x
@@ -37,6 +30,6 @@ module _ (order : CoverOrder) (ordered : IsOrder order) (above a : ℕ) (above_i
   -- its least covers are those of the number above it, but a itself with what it covers
   pub least_below : (b x : ℕ) → IsLeastCover order (above ∷ b ∷ []) x → IsLeastCover order (a ∷ b ∷ []) (if covers order a b then a else x)
   least_below b x h = elim (cases_Bool (covers order a b)) [
-    | inl over ↦ rw over (at_covered b over)
+    | inl over ↦ rw over (least-covered order a b ordered a_in over)
     | inr apart ↦ rw apart (at_other b x apart h)
   ]
