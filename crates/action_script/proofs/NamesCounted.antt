@@ -15,6 +15,11 @@ length-with_name names word = by (is_among names word)
     by true = omega arith
     by false = omega (arith, length-append names (word ∷ []))
 
+-- a word that is a name or not adds no more than one
+pub length-taken : (b : Bool) (names : List (List ℕ)) (word : List ℕ) → length (if b then with_name names word else names) ≤ length names + 1
+length-taken true names word = length-with_name names word
+length-taken false names word = omega arith
+
 pub length-with_names : (names words : List (List ℕ)) → length (with_names names words) ≤ length names + length words
 length-with_names names [] = omega arith
 length-with_names names (word ∷ words) = omega (arith, length-with_names (with_name names word) words, length-with_name names word)

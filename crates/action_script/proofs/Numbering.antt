@@ -5,6 +5,7 @@ use Rattle.std.proofs.lemmas.List.Recursion.{is_position_or_len}
 use Rattle.std.proofs.lemmas.Bool.{ltb-false}
 use Rattle.std.proofs.lemmas.Option.{cond_some}
 use Rattle.action_script.specs.NumberedNames.{is_among, with_name, number_in}
+use Rattle.action_script.proofs.Steadiness.{bytes_eq-same}
 
 -- the bytes of some keys
 abbrev pub bytes_of : List (Bor (List ℕ)) → List (List ℕ)
@@ -37,6 +38,21 @@ number_in-found word keys n h =
     let i = position_or_len (λ k. bytes_eq word k.now) keys in
     let found = cond_some (nat_lt i (length keys)) i n h in
     sym found.1 ∙ sym (number_in-keys word keys)
+
+number_in-last : (names : List (List ℕ)) (word : List ℕ) → number_in (names ++ word ∷ []) word ≡ number_in names word
+number_in-last [] word = rw (bytes_eq-same word) refl
+number_in-last (name ∷ names) word = ap (λ n. if bytes_eq word name then 0 else 1 + n) (number_in-last names word)
+
+number_in-own : (names : List (List ℕ)) (word : List ℕ) → number_in (with_name names word) word ≡ number_in names word
+number_in-own names word = by (is_among names word)
+  where
+    by : (b : Bool) → number_in (if b then names else names ++ word ∷ []) word ≡ number_in names word
+    by true = refl
+    by false = number_in-last names word
+
+-- a name that is added has the first place of its key
+pub number_in-added : (word : List ℕ) (keys : List (Bor (List ℕ))) → position_or_len (λ k. bytes_eq word k.now) keys ≡ number_in (with_name (bytes_of keys) word) word
+number_in-added word keys = sym (number_in-own (bytes_of keys) word ∙ number_in-keys word keys)
 
 -- a name that isn't there has the number of names
 number_in-within : (names : List (List ℕ)) (word : List ℕ) → number_in names word ≤ length names

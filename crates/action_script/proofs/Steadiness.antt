@@ -1,8 +1,10 @@
 -- A name keeps its number as further names come.
-use Rattle.std.proofs.Common.{rules, ◌≡◌, ℕ, ◌+◌, Bool, true, false, ◌||◌, ◌&&◌, cond, if◌then◌else◌, List, [], ◌∷◌, ◌++◌, map, filter, bytes_eq, refl, sym, ap, ◌∙◌, true≢false}
+use Rattle.std.proofs.Common.{rules, ◌≡◌, ℕ, suc, ◌+◌, ◌<◌, Bool, true, false, ◌||◌, ◌&&◌, cond, if◌then◌else◌, List, [], ◌∷◌, ◌++◌, length, map, filter, take, drop, get_or, add-one, bytes_eq, refl, sym, ap, ◌∙◌, true≢false}
 use Rattle.std.specs.List.{list_all, flat_map}
 use Rattle.std.proofs.lemmas.Bool.{and_parts}
+use Rattle.std.proofs.lemmas.List.{map-append}
 use Rattle.std.proofs.lemmas.List.Folds.{list_all-append}
+use Rattle.std.proofs.Math.Seq.{drop-cons, take-suc}
 use Rattle.action_script.specs.declared.field.Part.{Part}
 use Rattle.action_script.specs.declared.field.Part.TheVariants as part
 use Rattle.action_script.specs.declared.field.Field.{Field}
@@ -113,6 +115,33 @@ field_by-with_names names words part.Value word h = refl
 field_by-with_names names words part.Count word h = refl
 field_by-with_names names words part.Rounds word h = refl
 field_by-with_names names words part.Test word h = refl
+
+-- ---- words taken one by one
+
+module _ (asked : List Asked) (i : ℕ) (word : Asked) (within : i < length asked) (is : word ≡ get_or asked i word) where
+  rest : drop i asked ≡ word ∷ drop (i + 1) asked
+  rest = drop-cons asked i word within ∙ ap (λ (x : Asked). x ∷ drop (suc i) asked) (sym is) ∙ sym (ap (λ k. word ∷ drop k asked) (add-one i))
+
+  done : take (i + 1) asked ≡ take i asked ++ word ∷ []
+  done = rw add-one (take-suc asked i word within ∙ ap (λ (x : Asked). take i asked ++ x ∷ []) (sym is))
+
+  -- the name of a word is added in its turn
+  pub name_taken : (names : List (List ℕ)) → with_names (if is_name_part word.part then with_name names word.word else names) (names_of (drop (i + 1) asked)) ≡ with_names names (names_of (drop i asked))
+  name_taken names = by (is_name_part word.part) ∙ ap (λ l. with_names names (names_of l)) (sym rest)
+    where
+      by : (b : Bool) → with_names (if b then with_name names word.word else names) (names_of (drop (i + 1) asked))
+          ≡ with_names names (map (λ a. a.word) (cond b (word ∷ filter (λ a. is_name_part a.part) (drop (i + 1) asked)) (filter (λ a. is_name_part a.part) (drop (i + 1) asked))))
+      by true = refl
+      by false = refl
+
+  -- what it says is what it says by all names
+  pub field_taken : (names more : List (List ℕ)) → field_by (if is_name_part word.part then with_name names word.word else names) word.part word.word ≡ field_of (with_names (if is_name_part word.part then with_name names word.word else names) more) word
+  field_taken names more = sym (field_by-with_names (if is_name_part word.part then with_name names word.word else names) more word.part word.word (λ yes. rw yes (is_among-with_own_name names word.word)))
+
+  pub fields_taken : (f : Asked → Field) (fields : List Field) (field : Field) → fields ≡ map f (take i asked) → field ≡ f word → fields ++ field ∷ [] ≡ map f (take (i + 1) asked)
+  fields_taken f fields field before own = rw (before, own) (sym (ap (map f) done ∙ map-append f (take i asked) (word ∷ [])))
+
+-- ---- lines by more names
 
 fields-with_names : (names words : List (List ℕ)) (asked : List Asked) → list_all (is_among names) (names_of asked) ≡ true → map (field_of (with_names names words)) asked ≡ map (field_of names) asked
 fields-with_names names words [] h = refl

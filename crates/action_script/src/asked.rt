@@ -1,7 +1,7 @@
-ghost use Rattle.std.specs.Prelude.{◌≡◌, ◌<◌, ◌^◌, not, find, option_copied, map, length, Ok, Err, Some, IfOk, IfErr, OnOk};
+ghost use Rattle.std.specs.Prelude.{◌≡◌, ◌<◌, ◌+◌, ◌^◌, if◌then◌else◌, not, find, option_copied, map, length, Ok, Err, Some, IfOk, IfErr, OnOk};
 ghost use Rattle.std.specs.List.{list_all};
-ghost use Rattle.action_script.specs.NumberedNames.{with_names};
-ghost use Rattle.action_script.specs.Spelling.{asked_of, is_part, is_test, is_wrong_test, is_right, cause_of, names_of, field_by, field_of, trial_of};
+ghost use Rattle.action_script.specs.NumberedNames.{with_name, with_names};
+ghost use Rattle.action_script.specs.Spelling.{asked_of, is_part, is_test, is_name_part, is_wrong_test, is_right, cause_of, names_of, field_by, field_of, trial_of};
 ghost use Rattle.action_script.specs.declared.script_error.ScriptCause.TheVariants as cause;
 
 use crate::field::{Field, Part};
@@ -41,18 +41,24 @@ fn is_part(part: Part, word: &[u8]) -> bool
     }
 }
 
-/// What a word says that is what a part asks for.
-fn field_by(names: &NameTable, part: Part, word: &[u8]) -> Field
-    requires { length names.now < 2 ^ 32 }
-    ensures { result ≡ field_by names.now part word.now }
+/// What a word says that is what a part asks for. A name is added to those of the script.
+fn take_field<'a>(
+    names: &mut NameTable<'a>,
+    part: Part,
+    word: &'a [u8],
+) -> Result<Field, ScriptCause>
+    requires room { length names.old + 1 < 2 ^ 32 }
+    ensures taken { IfOk result (λ field. field ≡ field_by names.new part word.now) }
+    ensures added { OnOk result (names.new ≡ (if is_name_part part then with_name names.old word.now else names.old)) }
+    ensures refused { IfErr result (λ e. e ≡ cause.OutOfMemory) }
 {
-    match part {
-        Part::Name => Field::Name(names.number(word)),
+    Ok(match part {
+        Part::Name => Field::Name(names.add(word)?),
         Part::Value => Field::Value(value_of(word).unwrap_or(0)),
         Part::Count => Field::Count(count_of(word).unwrap_or(0)),
         Part::Rounds => Field::Count(rounds_of(word).unwrap_or(0)),
         Part::Test => Field::Test(test_of(word).unwrap_or(Test::Below)),
-    }
+    })
 }
 
 fn is_test(part: Part) -> bool
@@ -91,14 +97,6 @@ impl<'a> Asked<'a> {
         ensures { result ≡ self.now.part }
     {
         self.part
-    }
-
-    /// What the word says, by the names of the script.
-    fn field(&self, names: &NameTable) -> Field
-        requires { length names.now < 2 ^ 32 }
-        ensures { result ≡ field_of names.now self.now }
-    {
-        field_by(names, self.part, self.word)
     }
 }
 
@@ -145,31 +143,20 @@ pub fn check_words(asked: &[Asked]) -> Result<(), ScriptCause>
     }
 }
 
-/// Adds the words that are asked to be names to the names of the script.
-pub fn add_names<'a>(names: &mut NameTable<'a>, asked: &[Asked<'a>]) -> Result<(), ScriptCause>
+/// Makes these fields what the words say, and adds the words that are asked to be names to those of the script.
+pub fn take_fields<'a>(
+    fields: &mut Vec<Field>,
+    names: &mut NameTable<'a>,
+    asked: &[Asked<'a>],
+) -> Result<(), ScriptCause>
+    requires room { length names.old + length asked.now < 2 ^ 32 }
+    ensures taken { OnOk result (fields.new.items ≡ map (field_of names.new) asked.now) }
     ensures added { OnOk result (names.new ≡ with_names names.old (names_of asked.now)) }
     ensures refused { IfErr result (λ e. e ≡ cause.OutOfMemory) }
 {
-    for word in asked {
-        if matches!(word.part, Part::Name) {
-            names.add(word.word)?;
-        }
-    }
-    Ok(())
-}
-
-/// Makes these fields what the words say, by the names of the script.
-pub fn fill_fields(
-    fields: &mut Vec<Field>,
-    names: &NameTable,
-    asked: &[Asked],
-) -> Result<(), AllocError>
-    requires { length names.now < 2 ^ 32 }
-    ensures { OnOk result (fields.new.items ≡ map (field_of names.now) asked.now) }
-{
     fields.clear();
     for word in asked {
-        fields.push(word.field(names))?;
+        fields.push(take_field(names, word.part, word.word)?)?;
     }
     Ok(())
 }

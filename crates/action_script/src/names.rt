@@ -1,4 +1,4 @@
-ghost use Rattle.std.specs.Prelude.{◌≡◌, ◌<◌, ◌^◌, length, [], IfOk, IfErr, OnOk};
+ghost use Rattle.std.specs.Prelude.{◌≡◌, ◌<◌, ◌+◌, ◌≤◌, ◌^◌, length, [], IfOk, IfErr, OnOk};
 ghost use Rattle.action_script.specs.NumberedNames.{with_name, number_in};
 ghost use Rattle.action_script.specs.declared.script_error.ScriptCause.TheVariants as cause;
 
@@ -32,13 +32,15 @@ impl<'a> NameTable<'a> {
         }
     }
 
-    /// Adds a name at the end, where it isn't there already.
-    pub fn add(&mut self, name: &'a [u8]) -> Result<(), ScriptCause>
+    /// Adds a name at the end, where it isn't there already, and tells its number.
+    pub fn add(&mut self, name: &'a [u8]) -> Result<u32, ScriptCause>
+        requires room { length self.old + 1 < 2 ^ 32 }
         ensures added { OnOk result (self.new ≡ with_name self.old name.now) }
+        ensures number { IfOk result (λ number. number ≡ number_in self.new name.now) }
         ensures refused { IfErr result (λ e. e ≡ cause.OutOfMemory) }
     {
-        self.names.insert(name)?;
-        Ok(())
+        let (number, _) = self.names.insert_full(name)?;
+        Ok(number as u32)
     }
 
     /// The number of a name; where it isn't there, the count of names.

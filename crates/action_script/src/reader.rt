@@ -7,7 +7,7 @@ ghost use Rattle.action_script.specs.SoFar.{so_far, TookSaid, Took, HasRead};
 ghost use Rattle.action_script.specs.declared.script_error.ScriptCause.TheVariants as cause;
 ghost use Rattle.action_script.specs.declared.kind.Section.TheVariants as section;
 
-use crate::asked::{add_names, fill_fields};
+use crate::asked::take_fields;
 use crate::cuts::cut_line;
 use crate::field::Field;
 use crate::form::Form;
@@ -39,8 +39,7 @@ impl<'a> Reader<'a> {
         ensures taken { OnOk result (TookSaid (so_far self.old) said.now (so_far self.new)) }
         ensures refused { IfErr result (λ e. e ≡ cause.OutOfMemory) }
     {
-        add_names(&mut self.names, said.asked())?;
-        fill_fields(&mut self.fields, &self.names, said.asked())?;
+        take_fields(&mut self.fields, &mut self.names, said.asked())?;
         let form = Form::by(alloc, said.kind(), &self.fields)?;
         self.lines.push(Line {
             number: self.line,

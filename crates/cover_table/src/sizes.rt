@@ -19,7 +19,7 @@ enum Sized {
 /// The sizes of tables, the least first.
 ///
 /// `with` asks a table, whatever its size; `same` makes a table of the same size of it; `fitting`
-/// makes one of the least size that holds the rows, and returns early where two have no least cover.
+/// makes one of the least size that holds the rows, or names two that have no least cover.
 macro_rules! sizes {
     (with $sized:expr, $table:ident => $answer:expr) => {
         match $sized {
@@ -41,15 +41,23 @@ macro_rules! sizes {
     };
     (fitting $count:expr, $rows:expr) => {
         if $count <= 8 {
-            Sized::UpTo8(table_of($rows)?)
+            sizes!(of_size UpTo8, $rows)
         } else if $count <= 16 {
-            Sized::UpTo16(table_of($rows)?)
+            sizes!(of_size UpTo16, $rows)
         } else if $count <= 32 {
-            Sized::UpTo32(table_of($rows)?)
+            sizes!(of_size UpTo32, $rows)
         } else if $count <= 64 {
-            Sized::UpTo64(table_of($rows)?)
+            sizes!(of_size UpTo64, $rows)
         } else {
-            Sized::UpTo128(table_of($rows)?)
+            sizes!(of_size UpTo128, $rows)
+        }
+    };
+    (of_size $size:ident, $rows:expr) => {
+        match table_of($rows) {
+            Ok(table) => Ok(AnyTable {
+                sized: Sized::$size(table),
+            }),
+            Err(lacking) => Err(lacking),
         }
     };
 }
@@ -114,9 +122,7 @@ impl AnyTable {
         ensures no_least { (a b : ℕ) →
             IsErrOf result (record { a = a; b = b }) ↔ IsFirstWithoutLeast (order_of_rows rows.now) a b }
     {
-        Ok(AnyTable {
-            sized: sizes!(fitting count, rows),
-        })
+        sizes!(fitting count, rows)
     }
 
     /// How many numbers the order has.

@@ -31,11 +31,15 @@ impl Model for Graph {
 }
 
 /// The table of least covers of the order that these pairs make.
-fn table_of_pairs(count: u32, pairs: &[(u32, u32)]) -> Result<AnyTable, GraphError>
+fn table_of_pairs(
+    alloc: Global,
+    count: u32,
+    pairs: &[(u32, u32)],
+) -> Result<Box<AnyTable>, GraphError>
     requires some { 0 < count }
     requires in_range { All (λ p. (p.0 < count) × (p.1 < count)) pairs.now }
-    ensures same { IfOk result (λ table. IsOrderOf count pairs.now table) }
-    ensures sound { IfOk result IsSound }
+    ensures same { IfOk result (λ table. IsOrderOf count pairs.now table.value) }
+    ensures sound { IfOk result (λ table. IsSound table.value) }
     ensures few { OnOk result (count ≤ most_exceptions) }
     ensures refusal { IfErr result (IsRefusal count pairs.now) }
 {
@@ -49,7 +53,10 @@ fn table_of_pairs(count: u32, pairs: &[(u32, u32)]) -> Result<AnyTable, GraphErr
         return Err(GraphError::Cycle { at });
     }
     match AnyTable::from_rows(count, rows) {
-        Ok(table) => Ok(table),
+        Ok(table) => match Box::new(alloc, table) {
+            Ok(table) => Ok(table),
+            Err(_) => Err(GraphError::OutOfMemory),
+        },
         Err(lacking) => Err(GraphError::NoLeast {
             a: lacking.a,
             b: lacking.b,
@@ -77,11 +84,8 @@ impl Graph {
         ensures accepted { IsSoundGraph count pairs.now → IsOkUnless result GraphError.OutOfMemory }
         ensures out_of_memory { IsErrOf result GraphError.OutOfMemory → IsSoundGraph count pairs.now }
     {
-        match table_of_pairs(count, pairs) {
-            Ok(table) => match Box::new(alloc, table) {
-                Ok(table) => Ok(Graph { table }),
-                Err(_) => Err(GraphError::OutOfMemory),
-            },
+        match table_of_pairs(alloc, count, pairs) {
+            Ok(table) => Ok(Graph { table }),
             Err(refusal) => Err(refusal),
         }
     }

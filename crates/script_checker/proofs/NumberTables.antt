@@ -1,15 +1,18 @@
 -- Lemmas on lists of names and the tables of their places.
-use Rattle.std.proofs.Common.{◌≡◌, ℕ, ◌==◌, ◌+◌, ◌<◌, ◌≤◌, Bool, true, false, cond, nat_lt, nat_eq, List, [], ◌∷◌, ◌++◌, ◌||◌, length, slice_get, Some, None, Option, drop, reverse, get_or, add-one, refl, sym, ap, subst, ◌∙◌, arith, zero, suc, inl, inr, ◌⊎◌}
+use Rattle.std.proofs.Common.{◌≡◌, ℕ, ◌==◌, ◌+◌, ◌<◌, ◌≤◌, Bool, true, false, cond, nat_lt, nat_eq, List, [], ◌∷◌, ◌++◌, ◌||◌, length, slice_get, position, Some, None, Option, take, drop, reverse, get_or, add-one, refl, sym, ap, subst, ◌∙◌, arith, zero, suc, inl, inr, ◌⊎◌}
 use Rattle.std.proofs.lemmas.Bool.{eqb-true, eq-eqb, ne_eqb, false≢true, cases_eq, cases_Bool, or_left, or_right, lt-ltb, ltb-true, ltb-false}
 use Rattle.std.proofs.lemmas.List.{length-append, reverse-append}
 use Rattle.std.proofs.lemmas.List.Folds.{list_any-append}
 use Rattle.std.proofs.Math.Seq.{drop-cons}
 use Rattle.std.specs.Option.{option_eq}
+use Rattle.std.specs.List.{position_or_len}
+use Rattle.std.proofs.lemmas.List.Recursion.{is_position_or_len}
+use Rattle.std.proofs.lemmas.Option.{cond_some}
 use Rattle.std.specs.HashMap.{HashMap, get}
 use Rattle.caa_base.specs.Lists.{member, index_of}
 use Rattle.caa_base.proofs.ListLemmas.{one_more_each, index_within}
 use Rattle.script_checker.specs.Numbers.{is_among, has_twice}
-use Rattle.script_checker.specs.NumberTable.{IsTableOf}
+use Rattle.script_checker.specs.NumberTable.{IsTableOf, few_names}
 
 -- a name that isn't among these counts by how many they are
 pub absent_at_end : (name : ℕ) (names : List ℕ) → is_among names name ≡ false → index_of name names ≡ length names
@@ -45,10 +48,75 @@ at_index name (x ∷ xs) h = by (x == name) refl h (at_index name xs)
     by true e l k = ap Some (eqb-true x name e)
     by false e l k = k (lt-ltb (index_of name xs) (length xs) (omega (arith, ltb-true (suc (index_of name xs)) (suc (length xs)) l)))
 
-module _ {S : Type 0} (table : HashMap ℕ ℕ S) (names : List ℕ) (name : ℕ) (is : IsTableOf table names) where
+-- ---- the first few names
+
+-- where a name stands is its position, if it has one
+index_is_position : (name : ℕ) (names : List ℕ) → index_of name names ≡ position_or_len (λ n. n == name) names
+index_is_position name names = is_position_or_len (index_of name) (λ n. n == name) refl (λ n l. ap (λ k. cond (n == name) 0 k) (omega arith)) names
+
+-- a name that stands among the first few stands there in the whole list
+found_in : (k name : ℕ) (names : List ℕ) → index_of name (take k names) < length (take k names) → index_of name names ≡ index_of name (take k names)
+found_in zero name names l = absurd (omega (arith, l))
+found_in (suc k) name [] l = refl
+found_in (suc k) name (x ∷ xs) l = by (x == name) l (found_in k name xs)
+  where
+    by : (b : Bool) → cond b 0 (suc (index_of name (take k xs))) < suc (length (take k xs)) → (index_of name (take k xs) < length (take k xs) → index_of name xs ≡ index_of name (take k xs))
+        → cond b 0 (suc (index_of name xs)) ≡ cond b 0 (suc (index_of name (take k xs)))
+    by true l h = refl
+    by false l h = ap suc (h (omega (arith, l)))
+
+pub found_early : (name : ℕ) (names : List ℕ) (place : ℕ) → position (λ n. n == name) (take few_names names) ≡ Some place → place ≡ index_of name names
+found_early name names place h =
+    let few = take few_names names in
+    let found = cond_some (nat_lt (position_or_len (λ n. n == name) few) (length few)) (position_or_len (λ n. n == name) few) place h in
+    let at : index_of name few ≡ place = index_is_position name few ∙ found.1 in
+    sym (found_in few_names name names (omega (arith, index_is_position name few, ltb-true _ _ found.0)) ∙ at)
+
+-- a name that doesn't stand among them stands later, or nowhere
+abbrev pub IsLater : ℕ → List ℕ → Type 0
+IsLater name names = (few_names ≤ index_of name names) ⊎ (index_of name names ≡ length names)
+
+later_in : (k name : ℕ) (names : List ℕ) → index_of name (take k names) ≡ length (take k names) → (k ≤ index_of name names) ⊎ (index_of name names ≡ length names)
+later_in zero name names e = inl (omega arith)
+later_in (suc k) name [] e = inr refl
+later_in (suc k) name (x ∷ xs) e = by (x == name) e (later_in k name xs)
+  where
+    by : (b : Bool) → cond b 0 (suc (index_of name (take k xs))) ≡ suc (length (take k xs)) → (index_of name (take k xs) ≡ length (take k xs) → (k ≤ index_of name xs) ⊎ (index_of name xs ≡ length xs))
+        → (suc k ≤ cond b 0 (suc (index_of name xs))) ⊎ (cond b 0 (suc (index_of name xs)) ≡ suc (length xs))
+    by true g h = absurd (omega (arith, g))
+    by false g h = elim (h (omega (arith, g))) [
+      | inl l ↦ inl (omega (arith, l))
+      | inr end ↦ inr (ap suc end)
+    ]
+
+pub not_early : (name : ℕ) (names : List ℕ) → position (λ n. n == name) (take few_names names) ≡ None → IsLater name names
+not_early name names h =
+    let few = take few_names names in
+    later_in few_names name names (omega (arith, index_is_position name few, index_within name few, ltb-false _ _ (none_is_past (nat_lt (position_or_len (λ n. n == name) few) (length few)) _ h)))
+  where
+    none_is_past : (b : Bool) (i : ℕ) → cond b (Some i) None ≡ None → b ≡ false
+    none_is_past true i e = cc
+    none_is_past false i e = refl
+
+-- so a name of a short list stands nowhere else
+pub none_later : (name : ℕ) (names : List ℕ) → length names ≤ few_names → IsLater name names → length names ≡ index_of name names
+none_later name names short later = elim later [
+  | inl l ↦ omega (arith, l, short, index_within name names)
+  | inr end ↦ sym end
+]
+
+-- ---- the table
+
+module _ {S : Type 0} (table : HashMap ℕ ℕ S) (names : List ℕ) (name : ℕ) (is : IsTableOf table names) (later : IsLater name names) where
+  told : is_among names name ≡ true → get nat_eq table name ≡ Some (index_of name names)
+  told here = is name here (elim later [
+    | inl l ↦ l
+    | inr end ↦ absurd (omega (arith, end, ltb-true _ _ here))
+  ])
+
   -- the table says where a name stands, if the name is there
   pub found_at : (place : ℕ) → get nat_eq table name ≡ Some place → option_eq nat_eq (slice_get names place) (Some name) ≡ true → place ≡ index_of name names
-  found_at place h there = let told = is name (among_at name names place (same_some (slice_get names place) there)) in cc
+  found_at place h there = let at = told (among_at name names place (same_some (slice_get names place) there)) in cc
     where
       same_some : (o : Option ℕ) → option_eq nat_eq o (Some name) ≡ true → o ≡ Some name
       same_some None e = absurd (false≢true e)
@@ -57,7 +125,7 @@ module _ {S : Type 0} (table : HashMap ℕ ℕ S) (names : List ℕ) (name : ℕ
   -- where it says nothing, the name isn't there
   pub not_told : get nat_eq table name ≡ None → length names ≡ index_of name names
   not_told h = elim (among_or_end name names) [
-    | inl here ↦ let told = is name here in absurd cc
+    | inl here ↦ let at = told here in absurd cc
     | inr end ↦ sym end.1
   ]
 
@@ -65,7 +133,7 @@ module _ {S : Type 0} (table : HashMap ℕ ℕ S) (names : List ℕ) (name : ℕ
   pub told_wrong : (place : ℕ) → get nat_eq table name ≡ Some place → option_eq nat_eq (slice_get names place) (Some name) ≡ false → length names ≡ index_of name names
   told_wrong place h other = elim (among_or_end name names) [
     | inl here ↦
-        let told = is name here in
+        let at = told here in
         let same : place ≡ index_of name names = cc in
         absurd (false≢true (sym other ∙ rw (same, at_index name names here) (eq-eqb name name refl)))
     | inr end ↦ sym end.1
@@ -104,20 +172,28 @@ index_past_other name more (x ∷ xs) other h = by (x == name) h (index_past_oth
 module _ {S : Type 0} (old : HashMap ℕ ℕ S) (names : List ℕ) (name : ℕ) where
   -- a table stays one where the list gets a name that it has
   pub table_of_again : IsTableOf old names → is_among names name ≡ true → IsTableOf old (names ++ name ∷ [])
-  table_of_again is here other there = elim (among_or_end other names) [
-    | inl old_one ↦ is other old_one ∙ ap Some (sym (index_before_more other name names (ltb-true _ _ old_one)))
+  table_of_again is here other there late = elim (among_or_end other names) [
+    | inl old_one ↦
+        let same = index_before_more other name names (ltb-true _ _ old_one) in
+        is other old_one (omega (arith, late, same)) ∙ ap Some (sym same)
     | inr end ↦ absurd (omega (arith, ltb-true _ _ there, index_past_other other name names (apart other end) end.1, length-append names (name ∷ [])))
   ]
     where
       apart : (other : ℕ) → (is_among names other ≡ false) × (index_of other names ≡ length names) → name ≡ other → ⊥
       apart other end same = false≢true (sym end.0 ∙ subst (λ n. is_among names n ≡ true) same here)
 
+  -- and one where the list gets one of the first few
+  pub table_of_few : length names < few_names → IsTableOf old (names ++ name ∷ [])
+  table_of_few few other there late = absurd (omega (arith, few, late, ltb-true _ _ there, length-append names (name ∷ [])))
+
   -- and one where both get a new name
   pub table_of_more : (new : HashMap ℕ ℕ S) → IsTableOf old names → index_of name names ≡ length names → ((other : ℕ) → get nat_eq new other ≡ cond (nat_eq name other) (Some (length names)) (get nat_eq old other)) → IsTableOf new (names ++ name ∷ [])
-  table_of_more new is end says other there = says other ∙ elim (cases_eq name other) [
+  table_of_more new is end says other there late = says other ∙ elim (cases_eq name other) [
     | inl same ↦ rw (eq-eqb name other same) (ap Some (sym (subst (λ n. index_of n (names ++ name ∷ []) ≡ length names) same (index_of_new name names end))))
     | inr apart ↦ rw (ne_eqb name other apart) (elim (among_or_end other names) [
-      | inl old_one ↦ is other old_one ∙ ap Some (sym (index_before_more other name names (ltb-true _ _ old_one)))
+      | inl old_one ↦
+          let same = index_before_more other name names (ltb-true _ _ old_one) in
+          is other old_one (omega (arith, late, same)) ∙ ap Some (sym same)
       | inr past ↦ absurd (omega (arith, ltb-true _ _ there, index_past_other other name names apart past.1, length-append names (name ∷ [])))
     ])
   ]

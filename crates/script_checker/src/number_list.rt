@@ -1,7 +1,8 @@
-ghost use Rattle.std.specs.Prelude.{◌≡◌, ◌≤◌, ◌++◌, ◌∷◌, [], length, nat_eq, slice_get, Some, OnOk, OnErr, IfOk};
+ghost use Rattle.std.specs.Prelude.{◌≡◌, ◌==◌, ◌≤◌, ◌++◌, ◌∷◌, [], length, nat_eq, position, slice_get, take, None, Some, OnOk, OnErr, IfOk};
 ghost use Rattle.std.specs.Option.{option_eq};
 ghost use Rattle.caa_base.specs.Lists.{member, index_of, is_empty};
 ghost use Rattle.script_checker.specs.Numbers.{is_among, most_names};
+ghost use Rattle.script_checker.specs.NumberTable.{few_names};
 
 use std::alloc::{AllocError, Global};
 use std::collections::HashMap;
@@ -10,9 +11,12 @@ use std::marker::Model;
 /// Names of a list: so many that their number and the place of each are below the greatest `u32`.
 const MOST_NAMES: usize = 4_294_967_294;
 
+/// So many names are looked through one by one, which takes less time than a table does.
+const FEW_NAMES: usize = 8;
+
 /// Names in the order in which they were declared, seen as the list of their numbers in the script.
 ///
-/// A table has the place of each, so a name is found in one look however many there are.
+/// A table has the place of each past the first few, so a name is found in a few looks however many there are.
 #[derive(Drop)]
 pub struct NumberList {
     items: Vec<u32>,
@@ -36,6 +40,23 @@ fn stands_at(names: &[u32], place: u32, name: u32) -> bool
     ensures { result ≡ option_eq nat_eq (slice_get names.now place) (Some name) }
 {
     names.get(place as usize).copied() == Some(name)
+}
+
+/// Where a name stands among these, which are looked through one by one.
+fn position_of(names: &[u32], name: u32) -> Option<usize>
+    ensures { result ≡ position (λ n. n == name) names.now }
+{
+    names.iter().position(|one| *one == name)
+}
+
+/// The first few of these names.
+fn first_few(names: &[u32]) -> &[u32]
+    ensures { result.now ≡ take few_names names.now }
+{
+    match names.split_at_checked(FEW_NAMES) {
+        Some((few, _)) => few,
+        None => names,
+    }
 }
 
 impl NumberList {
@@ -69,7 +90,7 @@ impl NumberList {
         if count >= MOST_NAMES {
             return Err(AllocError);
         }
-        if !self.contains(name) {
+        if count >= FEW_NAMES && !self.contains(name) {
             self.places.insert(name, count as u32)?;
         }
         self.items.push(name)?;
@@ -91,14 +112,29 @@ impl NumberList {
         self.items.is_empty()
     }
 
+    /// Where a name stands that isn't among the first few, or how many names there are where it isn't there.
+    fn find_later(&self, name: u32) -> u32
+        requires later { position (λ n. n == name) (take few_names self.now) ≡ None }
+        ensures place { result ≡ index_of name self.now }
+        ensures small { result ≤ most_names }
+    {
+        if self.items.len() <= FEW_NAMES {
+            return self.items.len() as u32;
+        }
+        match self.places.get(&name) {
+            Some(place) if stands_at(&self.items, *place, name) => *place,
+            _ => self.items.len() as u32,
+        }
+    }
+
     /// Where a name stands, or how many names there are where it isn't there.
     pub fn find(&self, name: u32) -> u32
         ensures place { result ≡ index_of name self.now }
         ensures small { result ≤ most_names }
     {
-        match self.places.get(&name) {
-            Some(place) if stands_at(&self.items, *place, name) => *place,
-            _ => self.items.len() as u32,
+        match position_of(first_few(&self.items), name) {
+            Some(place) => place as u32,
+            None => self.find_later(name),
         }
     }
 

@@ -1,19 +1,17 @@
-use Rattle.std.proofs.Common.{ap, sym, ◌∙◌}
+use Rattle.std.proofs.Common.{◌≡◌, ◌==◌, position, take, ap, sym, ◌∙◌, arith}
 use Rattle.caa_base.specs.Lists.{index_of}
-use Rattle.script_checker.proofs.NumberTables.{found_at, not_told, told_wrong}
+use Rattle.caa_base.proofs.ListLemmas.{index_within}
+use Rattle.script_checker.specs.NumberTable.{few_names}
+use Rattle.script_checker.proofs.NumberTables.{found_early}
 use Rattle.script_checker.proofs.number_list.NumberList.find.Goals as goal
-use Rattle.script_checker.proofs.number_list.NumberList.find.Goals.{in_default-via-in-Some+else-stands_at, in_default-via-in_default}
 
-pub returns-in-Some-clause-place : goal.returns-in-Some-clause-place
-returns-in-Some-clause-place c =
-    found_at c.self.inside.places c.self.inside.items.items c.args.name c.self.invariant.1 c.in-Some.place.now (sym c.in-Some.ensures.value) (rw (← c.deref.ensures.value) (sym c.stands_at.ensures ∙ c.if-stands_at.true))
-    ∙ ap (index_of c.args.name) c.self.view_is
-
-pub returns-in_default-clause-place : goal.returns-in_default-clause-place
-returns-in_default-clause-place c = elim c.in_default.branch [
-  | in_default-via-in-Some+else-stands_at w ↦
-      c.len.ensures ∙ c.self.inside.items.ok.0 ∙ told_wrong c.self.inside.places c.self.inside.items.items c.args.name c.self.invariant.1 w.in-Some.place.now (sym w.in-Some.ensures.value) (rw (← w.deref.ensures.value) (sym w.stands_at.ensures ∙ w.if-stands_at.false))
-      ∙ ap (index_of c.args.name) c.self.view_is
-  | in_default-via-in_default w ↦
-      c.len.ensures ∙ c.self.inside.items.ok.0 ∙ not_told c.self.inside.places c.self.inside.items.items c.args.name c.self.invariant.1 (sym w.in_default.ensures.value) ∙ ap (index_of c.args.name) c.self.view_is
-]
+pub returns-in-Some : goal.returns-in-Some
+returns-in-Some c =
+    let names = c.self.inside.items.items in
+    let few = c.first_few.ensures ∙ ap (take few_names) c.deref.ensures.value in
+    let found : c.in-Some.place ≡ index_of c.args.name names =
+    found_early c.args.name names c.in-Some.place (sym (c.position_of.ensures ∙ ap (position (λ n. n == c.args.name)) few) ∙ c.in-Some.is) in
+    record {
+      place = found ∙ ap (index_of c.args.name) c.self.view_is;
+      small = omega (arith, found, index_within c.args.name names, c.self.invariant.0);
+    }
