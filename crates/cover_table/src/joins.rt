@@ -1,8 +1,8 @@
 ghost use Rattle.std.specs.Prelude.{◌≡◌, ◌<◌, ◌≤◌, ◌↔◌, ℕ, ◌∷◌, [], length, slice_index, if◌then◌else◌, IfOk, IfErr, OnOk, IsErrOf, All};
-ghost use Rattle.cover_table.specs.Cover.{covers, most_exceptions, order_of, tells, IsLeastCover, IsOrder, IsSound, IsFirstWithoutLeast};
+ghost use Rattle.cover_table.specs.Cover.{covers, has_bit, most_exceptions, order_of, IsLeastCover, IsOrder, IsSound, IsFirstWithoutLeast};
 ghost use Rattle.cover_table.specs.Common.{FailsAt, IsJoin};
 
-use crate::order::{MOST_EXCEPTIONS, NoLeast, Order, Row, has_bit};
+use crate::order::{MOST_EXCEPTIONS, NoLeast, Order, Row, has_bit, some_bit, without_bit};
 use crate::uppers::{least_of_two, levels_of, next_above, uppers_of};
 use std::marker::Model;
 
@@ -47,21 +47,20 @@ fn joins_of<const N: usize>(
     Ok(joins)
 }
 
-/// The least covers of `a` with each number, from those of the number next above it.
+/// The least covers of `a` with each number, from those of the number next above it and the row of what `a` covers.
 ///
 /// They are the same but with what `a` covers.
-fn joins_below<const N: usize>(uppers: &[Row], joins_above: &[u8; N], a: u32) -> [u8; N]
-    requires limit { N ≤ most_exceptions }
-    requires fits { length uppers.now ≤ N }
-    requires a_in { a < length uppers.now }
-    ensures { (b : ℕ) → b < length uppers.now →
-        slice_index result b ≡ (if tells uppers.now b a then a else slice_index joins_above.now b) }
+fn joins_below<const N: usize>(joins_above: &[u8; N], a: u32, row: Row) -> [u8; N]
+    requires a_in { a < most_exceptions }
+    ensures { (b : ℕ) → b < N → b < most_exceptions → slice_index result b ≡ (if has_bit row b then a else slice_index joins_above.now b) }
 {
     let mut joins = *joins_above;
-    for (b, upper) in uppers.iter().enumerate() {
-        if has_bit(*upper, a) {
-            joins[b] = a as u8;
+    let mut rest = row;
+    while let Some(b) = some_bit(rest) {
+        if (b as usize) < N {
+            joins[b as usize] = a as u8;
         }
+        rest = without_bit(rest, b);
     }
     joins
 }
@@ -85,7 +84,7 @@ impl<const N: usize> JoinTable<N> {
         let mut joins = [[0; N]; N];
         for a in 0..order.count {
             joins[a as usize] = match next_above(uppers, &levels, a) {
-                Some(above) => joins_below(uppers, &joins[above as usize], a),
+                Some(above) => joins_below(&joins[above as usize], a, order.rows[a as usize]),
                 None => joins_of(uppers, &levels, a)?,
             };
         }

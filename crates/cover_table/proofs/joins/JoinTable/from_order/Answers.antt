@@ -1,7 +1,7 @@
-use Rattle.std.proofs.Common.{◌≡◌, ◌<◌, ◌≤◌, ◌==◌, ◌||◌, ℕ, List, [], ◌∷◌, length, arith, subst, sym, ◌∙◌, take, Ok, Err, slice_index, slice_index_or, if◌then◌else◌}
-use Rattle.std.proofs.lemmas.List.{length-set, length-take-le}
+use Rattle.std.proofs.Common.{◌≡◌, ◌<◌, ◌≤◌, ◌==◌, ◌||◌, ℕ, List, [], ◌∷◌, length, arith, ap, subst, sym, ◌∙◌, take, Ok, Err, slice_index, slice_index_or, if◌then◌else◌}
+use Rattle.std.proofs.lemmas.List.{get_or-take, length-set, length-take-le}
 use Rattle.std.proofs.lemmas.Result.{err_from_is_err_and}
-use Rattle.cover_table.specs.Cover.{CoverOrder, covers, order_of, tells, IsFirstWithoutLeast, IsLeastCover}
+use Rattle.cover_table.specs.Cover.{CoverOrder, covers, has_bit, order_of, tells, IsFirstWithoutLeast, IsLeastCover}
 use Rattle.cover_table.specs.Common.{AreUppers}
 use Rattle.cover_table.proofs.Least.{join_from_least, least_from_join}
 use Rattle.cover_table.proofs.Orders.{first_from_row, refused_at, joins_more}
@@ -50,7 +50,8 @@ loop-a-preserved g c =
           let less = w.in-Some.ensures.0 in
           let told : (y b : ℕ) → b < order.count → tells uppers b y ≡ covers order y b = λ y b b_in. upper.tell y b (omega arith) in
           let above_told : (y : ℕ) → y < order.count → covers order y c.loop-a.a ≡ (y == c.loop-a.a || covers order y above) = λ y y_in. sym (told y c.loop-a.a a_in) ∙ rw (told y above (omega arith)) at (w.in-Some.ensures.1 y) in
-          let joined : slice_index w.joins_below.result d ≡ (if covers order c.loop-a.a d then c.loop-a.a else slice_index (slice_index_or c.loop-a.joins above []) d) = rw (told c.loop-a.a d d_in) at (w.joins_below.ensures d (omega arith)) in
+          let row_told : has_bit (slice_index_or c.args.order.now.rows c.loop-a.a 0) d ≡ covers order c.loop-a.a d = ap (λ row. has_bit row d) (sym (get_or-take order.count c.args.order.now.rows c.loop-a.a 0 a_in)) in
+          let joined : slice_index w.joins_below.result d ≡ (if covers order c.loop-a.a d then c.loop-a.a else slice_index (slice_index_or c.loop-a.joins above []) d) = w.joins_below.ensures d (omega arith) (omega arith) ∙ ap (λ over. if over then c.loop-a.a else slice_index (slice_index_or c.loop-a.joins above []) d) row_told in
           rw (w.joins-is, joined) (least_below order c.requires.order above c.loop-a.a (omega arith) a_in above_told d _ (found above d less d_in))
       | in-None+in_ok-joins-in-None w ↦ rw w.joins-is (least_from_join order many c.requires.order uppers upper c.loop-a.a d a_in d_in (slice_index w.in_ok-joins-in-None.field-0 d) (w.in_ok-joins-in-None.ensures.found d (omega arith)))
     ] in
