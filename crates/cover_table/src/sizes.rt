@@ -19,7 +19,8 @@ enum Sized {
 /// The sizes of tables, the least first.
 ///
 /// `with` asks a table, whatever its size; `same` makes a table of the same size of it; `fitting`
-/// makes one of the least size that holds the rows, or names two that have no least cover.
+/// makes one of the least size that holds the rows, or names two that have no least cover; `of_size`
+/// does so for a size that is given.
 macro_rules! sizes {
     (with $sized:expr, $table:ident => $answer:expr) => {
         match $sized {
