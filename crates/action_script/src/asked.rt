@@ -10,7 +10,7 @@ use crate::script_error::ScriptCause;
 use crate::word::{count_of, rounds_of, test_of, value_of};
 use caa_base::entry::Test;
 use caa_base::name::is_name;
-use std::alloc::{AllocError, Global};
+use std::alloc::AllocError;
 use std::marker::Model;
 
 /// A word of a line, and what it is asked to be at its place.
@@ -100,20 +100,20 @@ impl<'a> Asked<'a> {
     }
 }
 
-/// What each of these words is asked to be; where the parts end, names go on.
-pub fn asked_of<'a>(
-    alloc: Global,
+/// Makes `asked` these words, each with what it is asked to be; where the parts end, names go on.
+pub fn fill_asked<'a>(
+    asked: &mut Vec<Asked<'a>>,
     parts: &[Part],
     words: &[&'a [u8]],
-) -> Result<Vec<Asked<'a>>, AllocError>
-    ensures { IfOk result (λ asked. asked.items ≡ asked_of parts.now (map (λ w. w.now) words.now)) }
+) -> Result<(), AllocError>
+    ensures { OnOk result (asked.new.items ≡ asked_of parts.now (map (λ w. w.now) words.now)) }
 {
-    let mut asked = Vec::new(alloc);
+    asked.clear();
     for (index, word) in words.iter().enumerate() {
         let part = parts.get(index).copied().unwrap_or(Part::Name);
         asked.push(Asked { part, word })?;
     }
-    Ok(asked)
+    Ok(())
 }
 
 /// Whether each word that is asked to be a test is one.

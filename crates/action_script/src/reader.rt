@@ -7,15 +7,15 @@ ghost use Rattle.action_script.specs.SoFar.{so_far, TookSaid, Took, HasRead};
 ghost use Rattle.action_script.specs.declared.script_error.ScriptCause.TheVariants as cause;
 ghost use Rattle.action_script.specs.declared.kind.Section.TheVariants as section;
 
-use crate::asked::take_fields;
+use crate::asked::{Asked, take_fields};
 use crate::cuts::cut_line;
 use crate::field::Field;
 use crate::form::Form;
-use crate::kind::Section;
+use crate::kind::{LineKind, Section};
 use crate::names::NameTable;
 use crate::script::{Line, Script};
 use crate::script_error::{ScriptCause, ScriptError};
-use crate::script_line::{Said, read_line};
+use crate::script_line::read_line;
 use caa_base::limits::MOST_SCRIPT_BYTES;
 use std::alloc::Global;
 
@@ -27,25 +27,29 @@ struct Reader<'a> {
     section: Section,
     names: NameTable<'a>,
     lines: Vec<Line>,
-    /// Room for what the words of one line say.
+    /// Room for the words of one line.
+    words: Vec<&'a [u8]>,
+    /// Room for its words after the first, each with what it is asked to be.
+    asked: Vec<Asked<'a>>,
+    /// Room for what these words say.
     fields: Vec<Field>,
 }
 
 impl<'a> Reader<'a> {
-    /// Takes what the next line says.
-    fn take_said(&mut self, alloc: Global, said: &Said<'a>) -> Result<(), ScriptCause>
-        requires room { length self.old.names + length said.now.asked < 2 ^ 32 }
-        requires whole { IsTrue (takes said.now.kind (length said.now.asked)) }
-        ensures taken { OnOk result (TookSaid (so_far self.old) said.now (so_far self.new)) }
+    /// Takes what the next line says, which is of this kind; its words stand in `asked`.
+    fn take_said(&mut self, alloc: Global, kind: LineKind) -> Result<(), ScriptCause>
+        requires room { length self.old.names + length self.old.asked.items < 2 ^ 32 }
+        requires whole { IsTrue (takes kind (length self.old.asked.items)) }
+        ensures taken { OnOk result (TookSaid (so_far self.old) (record { kind = kind; asked = self.old.asked.items }) (so_far self.new)) }
         ensures refused { IfErr result (λ e. e ≡ cause.OutOfMemory) }
     {
-        take_fields(&mut self.fields, &mut self.names, said.asked())?;
-        let form = Form::by(alloc, said.kind(), &self.fields)?;
+        take_fields(&mut self.fields, &mut self.names, &self.asked)?;
+        let form = Form::by(alloc, kind, &self.fields)?;
         self.lines.push(Line {
             number: self.line,
             form,
         })?;
-        self.section = said.kind().goes_to(self.section);
+        self.section = kind.goes_to(self.section);
         Ok(())
     }
 
@@ -56,8 +60,8 @@ impl<'a> Reader<'a> {
         ensures taken { OnOk result (Took (so_far self.old) line.now (so_far self.new)) }
         ensures refused { IfErr result (λ e. e ≢ cause.OutOfMemory → line_of self.old.section line.now ≡ Err e) }
     {
-        if let Some(said) = read_line(alloc, self.section, line)? {
-            self.take_said(alloc, &said)?;
+        if let Some(kind) = read_line(&mut self.words, &mut self.asked, self.section, line)? {
+            self.take_said(alloc, kind)?;
         }
         self.line += 1;
         Ok(())
@@ -95,6 +99,8 @@ fn read_lines(alloc: Global, bytes: &[u8]) -> Result<Reader<'_>, ScriptError>
         section: Section::Top,
         names: NameTable::new(alloc),
         lines: Vec::new(alloc),
+        words: Vec::new(alloc),
+        asked: Vec::new(alloc),
         fields: Vec::new(alloc),
     };
     let mut rest = bytes;

@@ -1,48 +1,17 @@
-ghost use Rattle.std.specs.Prelude.{◌≡◌, ◌≢◌, ◌==◌, ◌<◌, ◌&&◌, not, map, find, Ok, Err, Some, None, IfOk, IfErr};
+ghost use Rattle.std.specs.Prelude.{◌≡◌, ◌≢◌, ◌==◌, ◌<◌, ◌&&◌, not, map, find, Ok, Err, Some, None, IfOk, IfErr, OnOk};
 ghost use Rattle.std.specs.List.{list_all};
 ghost use Rattle.caa_base.specs.Lists.{is_empty};
+ghost use Rattle.action_script.specs.Asked.{said_by};
 ghost use Rattle.action_script.specs.CutLines.{is_blank, is_plain, words_of, begins_comment};
-ghost use Rattle.action_script.specs.Spelling.{asked_of, is_here, kind_here, by_kind, line_by_words, line_of};
+ghost use Rattle.action_script.specs.Spelling.{is_here, kind_here, by_kind, line_by_words, line_of};
 ghost use Rattle.action_script.specs.declared.script_error.ScriptCause.TheVariants as cause;
 
-use crate::asked::{Asked, asked_of, check_words};
+use crate::asked::{Asked, check_words, fill_asked};
 use crate::cuts::is_blank;
 use crate::kind::{KINDS, LineKind, Section};
 use crate::script_error::ScriptCause;
 use caa_base::limits::MOST_LINE_BYTES;
-use std::alloc::{AllocError, Global};
-use std::marker::Model;
-
-/// What a line says: its kind, and its words after the first.
-#[derive(Drop)]
-pub struct Said<'a> {
-    kind: LineKind,
-    asked: Vec<Asked<'a>>,
-}
-
-impl<'a> Model for Said<'a> {
-    ghost use Rattle.action_script.specs.Asked.{Said as SaidLine};
-
-    ghost Value = { SaidLine };
-
-    ghost view = { λ s. record { kind = s.kind; asked = s.asked.items } };
-}
-
-impl<'a> Said<'a> {
-    /// The kind of the line.
-    pub fn kind(&self) -> LineKind
-        ensures { result ≡ self.now.kind }
-    {
-        self.kind
-    }
-
-    /// Its words after the first, each of which is what it is asked to be.
-    pub fn asked(&self) -> &[Asked<'a>]
-        ensures { result.now ≡ self.now.asked }
-    {
-        self.asked.as_slice()
-    }
-}
+use std::alloc::AllocError;
 
 fn is_plain(byte: u8) -> bool
     ensures { result ≡ is_plain byte }
@@ -57,21 +26,23 @@ fn are_plain(line: &[u8]) -> bool
     line.iter().all(|byte| is_plain(*byte))
 }
 
-/// The longest pieces of a line without blanks.
-fn words_of(alloc: Global, line: &[u8]) -> Result<Vec<&[u8]>, AllocError>
-    ensures { IfOk result (λ words. map (λ w. w.now) words.items ≡ words_of line.now) }
+/// Makes these words the longest pieces of a line without blanks.
+fn fill_words<'a>(words: &mut Vec<&'a [u8]>, line: &'a [u8]) -> Result<(), AllocError>
+    ensures { OnOk result (map (λ w. w.now) words.new.items ≡ words_of line.now) }
 {
-    line.split(
-        |byte: &u8| -> bool
-            ensures { result ≡ is_blank byte.now }
-        { is_blank(*byte) },
+    words.clear();
+    words.extend(
+        line.split(
+            |byte: &u8| -> bool
+                ensures { result ≡ is_blank byte.now }
+            { is_blank(*byte) },
+        )
+        .filter(
+            |piece: &&[u8]| -> bool
+                ensures { result ≡ not (is_empty piece.now.now) }
+            { !piece.is_empty() },
+        ),
     )
-    .filter(
-        |piece: &&[u8]| -> bool
-            ensures { result ≡ not (is_empty piece.now.now) }
-        { !piece.is_empty() },
-    )
-    .collect(alloc)
 }
 
 fn begins_comment(word: &[u8]) -> bool
@@ -100,24 +71,28 @@ fn kind_here(section: Section, word: &[u8], count: usize) -> Option<LineKind>
         .find(|kind| is_here(section, word, count, *kind))
 }
 
-/// What a line of some kind says, by its words after the first.
-fn read_kind<'a>(alloc: Global, kind: LineKind, words: &[&'a [u8]]) -> Result<Said<'a>, ScriptCause>
-    ensures said { IfOk result (λ said. by_kind (map (λ w. w.now) words.now) (Some kind) ≡ Ok (Some said)) }
+/// Makes `asked` what a line of some kind says by its words after the first.
+fn read_kind<'a>(
+    asked: &mut Vec<Asked<'a>>,
+    kind: LineKind,
+    words: &[&'a [u8]],
+) -> Result<(), ScriptCause>
+    ensures said { OnOk result (by_kind (map (λ w. w.now) words.now) (Some kind) ≡ Ok (said_by (Some kind) asked.new.items)) }
     ensures refused { IfErr result (λ e. e ≢ cause.OutOfMemory → by_kind (map (λ w. w.now) words.now) (Some kind) ≡ Err e) }
 {
-    let asked = asked_of(alloc, kind.parts(), words)?;
-    check_words(&asked)?;
-    Ok(Said { kind, asked })
+    fill_asked(asked, kind.parts(), words)?;
+    check_words(asked)
 }
 
-/// What a line says by its words, if anything; the bytes of the line are plain or not.
+/// The kind of a line by its words, if it says something; `asked` becomes what it says. The bytes of the line are plain or not.
 fn read_words<'a>(
-    alloc: Global,
+    asked: &mut Vec<Asked<'a>>,
     section: Section,
     plain: bool,
     words: &[&'a [u8]],
-) -> Result<Option<Said<'a>>, ScriptCause>
-    ensures said { IfOk result (λ said. line_by_words section plain (map (λ w. w.now) words.now) ≡ Ok said) }
+) -> Result<Option<LineKind>, ScriptCause>
+    ensures said { IfOk result (λ kind.
+        line_by_words section plain (map (λ w. w.now) words.now) ≡ Ok (said_by kind asked.new.items)) }
     ensures refused { IfErr result (λ e.
         e ≢ cause.OutOfMemory → line_by_words section plain (map (λ w. w.now) words.now) ≡ Err e) }
 {
@@ -132,22 +107,28 @@ fn read_words<'a>(
     }
     match kind_here(section, word, more.len()) {
         None => Err(ScriptCause::BadLine),
-        Some(kind) => Ok(Some(read_kind(alloc, kind, more)?)),
+        Some(kind) => {
+            read_kind(asked, kind, more)?;
+            Ok(Some(kind))
+        }
     }
 }
 
-/// What a line says where the reader is here, if anything.
+/// The kind of a line where the reader is here, if it says something.
+///
+/// `words` is room for the words of a line, and `asked` becomes what it says by those after the first.
 pub fn read_line<'a>(
-    alloc: Global,
+    words: &mut Vec<&'a [u8]>,
+    asked: &mut Vec<Asked<'a>>,
     section: Section,
     line: &'a [u8],
-) -> Result<Option<Said<'a>>, ScriptCause>
-    ensures said { IfOk result (λ said. line_of section line.now ≡ Ok said) }
+) -> Result<Option<LineKind>, ScriptCause>
+    ensures said { IfOk result (λ kind. line_of section line.now ≡ Ok (said_by kind asked.new.items)) }
     ensures refused { IfErr result (λ e. e ≢ cause.OutOfMemory → line_of section line.now ≡ Err e) }
 {
     if line.len() > MOST_LINE_BYTES {
         return Err(ScriptCause::TooLong);
     }
-    let words = words_of(alloc, line)?;
-    read_words(alloc, section, are_plain(line), &words)
+    fill_words(words, line)?;
+    read_words(asked, section, are_plain(line), words)
 }

@@ -1,9 +1,13 @@
 -- The tables of all sizes.
 use Rattle.std.specs.Prelude.{◌≡◌}
-use Rattle.cover_table.specs.Cover.{CoverOrder}
+use Rattle.cover_table.specs.Cover.{CoverOrder, IsFirstWithoutLeast, IsSound}
 use Rattle.cover_table.specs.Joins.{least_size}
 use Rattle.cover_table.specs.declared.sizes.Sized.{Sized}
 use Rattle.cover_table.specs.declared.sizes.Sized.TheVariants.{UpTo8, UpTo16, UpTo32, UpTo64, UpTo128}
+use Rattle.cover_table.specs.declared.sizes.SizedBox.{SizedBox}
+use Rattle.cover_table.specs.declared.sizes.SizedBox.TheVariants as boxed
+use Rattle.cover_table.specs.declared.sizes.TableError.{TableError}
+use Rattle.cover_table.specs.declared.sizes.TableError.TheVariants.{NoLeast, OutOfMemory}
 
 -- the order of a table of some size
 abbrev pub order_of_sized : Sized → CoverOrder
@@ -20,3 +24,16 @@ HasLeastSize (UpTo16 table) = least_size table.count ≡ 16
 HasLeastSize (UpTo32 table) = least_size table.count ≡ 32
 HasLeastSize (UpTo64 table) = least_size table.count ≡ 64
 HasLeastSize (UpTo128 table) = least_size table.count ≡ 128
+
+-- the order of a table of some size in memory of its own
+abbrev pub order_of_boxed : SizedBox → CoverOrder
+order_of_boxed (boxed.UpTo8 table) = table.value
+order_of_boxed (boxed.UpTo16 table) = table.value
+order_of_boxed (boxed.UpTo32 table) = table.value
+order_of_boxed (boxed.UpTo64 table) = table.value
+order_of_boxed (boxed.UpTo128 table) = table.value
+
+-- why an order has no table: its first two numbers without a least cover, or, where there are none, memory alone
+abbrev pub LacksTable : CoverOrder → TableError → Type 0
+LacksTable order (NoLeast a b) = IsFirstWithoutLeast order a b
+LacksTable order OutOfMemory = IsSound order

@@ -12,4 +12,4 @@ mod uppers;
 pub use checks::is_order;
 pub use joins::JoinTable;
 pub use order::{MOST_EXCEPTIONS, NoLeast, Order, Row, has_bit, with_bit};
-pub use sizes::AnyTable;
+pub use sizes::{AnyTable, BoxedTable, TableError};

@@ -7,7 +7,7 @@ use crate::closing::tell_chains;
 use crate::cycles::first_in_cycle;
 use crate::graph_error::GraphError;
 use caa_base::entry::OutOfMemory;
-use cover_table::{AnyTable, MOST_EXCEPTIONS};
+use cover_table::{BoxedTable, MOST_EXCEPTIONS, TableError};
 use std::alloc::Global;
 use std::marker::Model;
 
@@ -16,7 +16,7 @@ use std::marker::Model;
 /// Each exception goes by its number. Number 0 is the universal one, above all the others.
 #[derive(Drop)]
 pub struct Graph {
-    table: Box<AnyTable>,
+    table: BoxedTable,
 }
 
 impl Model for Graph {
@@ -25,21 +25,17 @@ impl Model for Graph {
 
     ghost Value = { CoverOrder };
 
-    ghost view = { λ g. g.table.value };
+    ghost view = { λ g. g.table };
 
-    ghost invariant = { λ g. HasUniversal g.table.value };
+    ghost invariant = { λ g. HasUniversal g.table };
 }
 
 /// The table of least covers of the order that these pairs make.
-fn table_of_pairs(
-    alloc: Global,
-    count: u32,
-    pairs: &[(u32, u32)],
-) -> Result<Box<AnyTable>, GraphError>
+fn table_of_pairs(alloc: Global, count: u32, pairs: &[(u32, u32)]) -> Result<BoxedTable, GraphError>
     requires some { 0 < count }
     requires in_range { All (λ p. (p.0 < count) × (p.1 < count)) pairs.now }
-    ensures same { IfOk result (λ table. IsOrderOf count pairs.now table.value) }
-    ensures sound { IfOk result (λ table. IsSound table.value) }
+    ensures same { IfOk result (λ table. IsOrderOf count pairs.now table) }
+    ensures sound { IfOk result (λ table. IsSound table) }
     ensures few { OnOk result (count ≤ most_exceptions) }
     ensures refusal { IfErr result (IsRefusal count pairs.now) }
 {
@@ -52,15 +48,10 @@ fn table_of_pairs(
     if let Some(at) = first_in_cycle(rows) {
         return Err(GraphError::Cycle { at });
     }
-    match AnyTable::from_rows(count, rows) {
-        Ok(table) => match Box::new(alloc, table) {
-            Ok(table) => Ok(table),
-            Err(_) => Err(GraphError::OutOfMemory),
-        },
-        Err(lacking) => Err(GraphError::NoLeast {
-            a: lacking.a,
-            b: lacking.b,
-        }),
+    match BoxedTable::from_rows(alloc, count, rows) {
+        Ok(table) => Ok(table),
+        Err(TableError::NoLeast { a, b }) => Err(GraphError::NoLeast { a, b }),
+        Err(TableError::OutOfMemory) => Err(GraphError::OutOfMemory),
     }
 }
 
@@ -137,7 +128,7 @@ impl Graph {
     pub fn copy(&self, alloc: Global) -> Result<Graph, OutOfMemory>
         ensures { IfOk result (λ graph. graph ≡ self.now) }
     {
-        let table = Box::new(alloc, self.table.copy())?;
+        let table = self.table.copy(alloc)?;
         Ok(Graph { table })
     }
 }

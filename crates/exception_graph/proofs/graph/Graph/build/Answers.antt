@@ -9,13 +9,13 @@ use Rattle.exception_graph.proofs.graph.Graph.build.Goals.{In-Ok}
 sound_by_table : (c : In-Ok) → IsSoundGraph c.args.count c.args.pairs.now
 sound_by_table c = record {
   few = c.in-Ok.ensures.few;
-  order = c.in-Ok.table.value;
+  order = c.in-Ok.table;
   is_order_of = c.in-Ok.ensures.same;
   sound = c.in-Ok.ensures.sound;
 }
 
 pub invariant_of-result : goal.invariant_of-result
-invariant_of-result c = universal_covers _ _ c.in-Ok.table.value c.in-Ok.ensures.same c.requires.some
+invariant_of-result c = universal_covers _ _ c.in-Ok.table c.in-Ok.ensures.same c.requires.some
 
 pub returns-in-Ok-clause-no_least : goal.returns-in-Ok-clause-no_least
 returns-in-Ok-clause-no_least c = no_least_exactly _ _ (Ok _) (sound_by_table (goal.at.returns-in-Ok-clause-no_least c).In-Ok)
