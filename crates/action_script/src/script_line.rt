@@ -58,7 +58,7 @@ fn begins_comment(word: &[u8]) -> bool
 fn is_here(section: Section, word: &[u8], count: usize, kind: LineKind) -> bool
     ensures { result ≡ is_here section word.now count kind }
 {
-    word == kind.word() && kind.takes(count) && kind.stands_in(section)
+    kind.stands_in(section) && kind.takes(count) && word == kind.word()
 }
 
 /// The kind of a line that begins with this word and has so many more, where the reader is here.
