@@ -29,7 +29,7 @@ inky_blank b h = let p = inky_range b h in grind (arith, nat_tests)
 inky_line_feed : (b : ℕ) → is_inky b ≡ true → (b == 10) ≡ false
 inky_line_feed b h = let p = inky_range b h in grind (arith, nat_tests)
 
-inky_plain : (b : ℕ) → is_inky b ≡ true → is_plain b ≡ true
+pub inky_plain : (b : ℕ) → is_inky b ≡ true → is_plain b ≡ true
 inky_plain b h = rw (inky_blank b h, h) refl
 
 none_pass : (test : ℕ → Bool) → ((b : ℕ) → is_inky b ≡ true → test b ≡ false) → (word : List ℕ) → list_all is_inky word ≡ true → All (λ b. test b ≡ false) word
@@ -55,7 +55,7 @@ words_of-joined first [] h hs = ap words_of (append-nil first) ∙ words_of-word
 words_of-joined first (word ∷ words) h hs = words_of-spaced first (word ++ spaced words) h ∙ ap (λ l. first ∷ l) (words_of-joined word words hs.0 hs.1)
 
 -- and their bytes are plain, with no line feed among them
-each_byte : (test : ℕ → Bool) → ((b : ℕ) → is_inky b ≡ true → test b ≡ true) → (word : List ℕ) → list_all is_inky word ≡ true → list_all test word ≡ true
+pub each_byte : (test : ℕ → Bool) → ((b : ℕ) → is_inky b ≡ true → test b ≡ true) → (word : List ℕ) → list_all is_inky word ≡ true → list_all test word ≡ true
 each_byte test one [] h = refl
 each_byte test one (b ∷ word) h = let p = and_parts (is_inky b) _ h in rw (one b p.0, each_byte test one word p.1) refl
 

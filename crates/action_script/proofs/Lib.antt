@@ -16,3 +16,4 @@ pub mod ReadsBack
 pub mod WellRead
 pub mod LineNumbers
 pub mod Named
+pub mod PlainLines

@@ -20,7 +20,6 @@ pub record Speaks (s : Section) (line : List ℕ) (said : Said) : Type 0 where
   pub short : length line ≤ most_line_bytes
   pub cut : words_of line ≡ first ∷ words
   pub spoken : begins_comment first ≡ false
-  pub plain : list_all is_plain line ≡ true
   pub here : is_here s first (length words) said.kind ≡ true
   pub asked : said.asked ≡ asked_of (parts_of said.kind) words
   pub right : trial_of said.asked ≡ Ok tt
@@ -34,13 +33,13 @@ find-passes test (y ∷ xs) x h = by (test y) refl h (find-passes test xs x)
     by true e g rest = let same : y ≡ x = cc in subst (λ z. test z ≡ true) same e
     by false e g rest = rest g
 
-by_words : (s : Section) (line : List ℕ) (said : Said) → length line ≤ most_line_bytes → (words : List (List ℕ)) → words_of line ≡ words → line_by_words s (list_all is_plain line) words ≡ Ok (Some said) → Speaks s line said
-by_words s line said short [] cut h = cc
-by_words s line said short (first ∷ words) cut h = by_comment (begins_comment first) refl h
+pub by_words : (s : Section) (line : List ℕ) (said : Said) → length line ≤ most_line_bytes → (plain : Bool) (words : List (List ℕ)) → words_of line ≡ words → line_by_words s plain words ≡ Ok (Some said) → Speaks s line said
+by_words s line said short plain [] cut h = cc
+by_words s line said short plain (first ∷ words) cut h = by_comment (begins_comment first) refl h
   where
-    by_found : list_all is_plain line ≡ true → begins_comment first ≡ false → (kind : LineKind) → kind_here s first (length words) ≡ Some kind → (r : Result (Unit {0}) ScriptCause) → trial_of (asked_of (parts_of kind) words) ≡ r → by_check (record { kind = kind; asked = asked_of (parts_of kind) words }) r ≡ Ok (Some said) → Speaks s line said
-    by_found plain spoken kind found (Err c) e g = cc
-    by_found plain spoken kind found (Ok u) e g =
+    by_found : begins_comment first ≡ false → (kind : LineKind) → kind_here s first (length words) ≡ Some kind → (r : Result (Unit {0}) ScriptCause) → trial_of (asked_of (parts_of kind) words) ≡ r → by_check (record { kind = kind; asked = asked_of (parts_of kind) words }) r ≡ Ok (Some said) → Speaks s line said
+    by_found spoken kind found (Err c) e g = cc
+    by_found spoken kind found (Ok u) e g =
         let same : record { kind = kind; asked = asked_of (parts_of kind) words } ≡ said = cc in
         subst (Speaks s line) same (record {
           first = first;
@@ -48,30 +47,29 @@ by_words s line said short (first ∷ words) cut h = by_comment (begins_comment 
           short = short;
           cut = cut;
           spoken = spoken;
-          plain = plain;
           here = find-passes (is_here s first (length words)) kinds kind found;
           asked = refl;
           right = e;
         })
 
-    by_kinds : list_all is_plain line ≡ true → begins_comment first ≡ false → (k : Option LineKind) → kind_here s first (length words) ≡ k → by_kind words k ≡ Ok (Some said) → Speaks s line said
-    by_kinds plain spoken None e g = cc
-    by_kinds plain spoken (Some kind) e g = by_found plain spoken kind e (trial_of (asked_of (parts_of kind) words)) refl g
+    by_kinds : begins_comment first ≡ false → (k : Option LineKind) → kind_here s first (length words) ≡ k → by_kind words k ≡ Ok (Some said) → Speaks s line said
+    by_kinds spoken None e g = cc
+    by_kinds spoken (Some kind) e g = by_found spoken kind e (trial_of (asked_of (parts_of kind) words)) refl g
 
-    by_plain : begins_comment first ≡ false → (b : Bool) → list_all is_plain line ≡ b → (if b then by_kind words (kind_here s first (length words)) else Err cause.BadLine) ≡ Ok (Some said) → Speaks s line said
-    by_plain spoken true e g = by_kinds e spoken (kind_here s first (length words)) refl g
-    by_plain spoken false e g = cc
+    by_plain : begins_comment first ≡ false → (b : Bool) → (if b then by_kind words (kind_here s first (length words)) else Err cause.BadLine) ≡ Ok (Some said) → Speaks s line said
+    by_plain spoken true g = by_kinds spoken (kind_here s first (length words)) refl g
+    by_plain spoken false g = cc
 
-    by_comment : (b : Bool) → begins_comment first ≡ b → (if b then Ok None else (if list_all is_plain line then by_kind words (kind_here s first (length words)) else Err cause.BadLine)) ≡ Ok (Some said) → Speaks s line said
+    by_comment : (b : Bool) → begins_comment first ≡ b → (if b then Ok None else (if plain then by_kind words (kind_here s first (length words)) else Err cause.BadLine)) ≡ Ok (Some said) → Speaks s line said
     by_comment true e g = cc
-    by_comment false e g = by_plain e (list_all is_plain line) refl g
+    by_comment false e g = by_plain e plain g
 
 pub speaks : (s : Section) (line : List ℕ) (said : Said) → line_of s line ≡ Ok (Some said) → Speaks s line said
 speaks s line said h = by (nat_lt most_line_bytes (length line)) refl h
   where
     by : (b : Bool) → nat_lt most_line_bytes (length line) ≡ b → (if b then Err cause.TooLong else line_by_words s (list_all is_plain line) (words_of line)) ≡ Ok (Some said) → Speaks s line said
     by true e g = cc
-    by false e g = by_words s line said (ltb-false most_line_bytes (length line) e) (words_of line) refl g
+    by false e g = by_words s line said (ltb-false most_line_bytes (length line) e) (list_all is_plain line) (words_of line) refl g
 
 -- ---- what follows
 

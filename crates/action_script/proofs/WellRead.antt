@@ -56,7 +56,7 @@ right_all (a ∷ asked) h = by (is_right a) refl h (right_all asked)
     by true e g rest = rw (e, rest g) refl
     by false e g rest = cc
 
-right_checked : (asked : List Asked) → trial_of asked ≡ Ok tt → list_all is_right asked ≡ true
+pub right_checked : (asked : List Asked) → trial_of asked ≡ Ok tt → list_all is_right asked ≡ true
 right_checked asked h = by_tests (list_all (λ a. not (is_wrong_test a)) asked) h
   where
     by_found : (o : Option Asked) → find (λ a. not (is_right a)) asked ≡ o → by_first_wrong o ≡ Ok tt → list_all is_right asked ≡ true

@@ -1,4 +1,4 @@
-ghost use Rattle.std.specs.Prelude.{◌≡◌, ◌≢◌, ◌==◌, ◌<◌, ◌&&◌, not, map, find, Ok, Err, Some, None, IfOk, IfErr, OnOk};
+ghost use Rattle.std.specs.Prelude.{◌≡◌, ◌≢◌, ◌==◌, ◌<◌, ◌&&◌, if◌then◌else◌, not, true, map, find, Ok, Err, Some, None, IfOk, IfErr, OnOk};
 ghost use Rattle.std.specs.List.{list_all};
 ghost use Rattle.caa_base.specs.Lists.{is_empty};
 ghost use Rattle.action_script.specs.Asked.{said_by};
@@ -58,7 +58,7 @@ fn begins_comment(word: &[u8]) -> bool
 fn is_here(section: Section, word: &[u8], count: usize, kind: LineKind) -> bool
     ensures { result ≡ is_here section word.now count kind }
 {
-    kind.stands_in(section) && kind.takes(count) && word == kind.word()
+    word == kind.word() && kind.takes(count) && kind.stands_in(section)
 }
 
 /// The kind of a line that begins with this word and has so many more, where the reader is here.
@@ -84,26 +84,22 @@ fn read_kind<'a>(
     check_words(asked)
 }
 
-/// The kind of a line by its words, if it says something; `asked` becomes what it says. The bytes of the line are plain or not.
+/// The kind of a line by its words, if it says something; `asked` becomes what it says. It is read as one of plain bytes alone.
 fn read_words<'a>(
     asked: &mut Vec<Asked<'a>>,
     section: Section,
-    plain: bool,
     words: &[&'a [u8]],
 ) -> Result<Option<LineKind>, ScriptCause>
     ensures said { IfOk result (λ kind.
-        line_by_words section plain (map (λ w. w.now) words.now) ≡ Ok (said_by kind asked.new.items)) }
+        line_by_words section true (map (λ w. w.now) words.now) ≡ Ok (said_by kind asked.new.items)) }
     ensures refused { IfErr result (λ e.
-        e ≢ cause.OutOfMemory → line_by_words section plain (map (λ w. w.now) words.now) ≡ Err e) }
+        e ≢ cause.OutOfMemory → line_by_words section true (map (λ w. w.now) words.now) ≡ Err e) }
 {
     let Some((word, more)) = words.split_first() else {
         return Ok(None);
     };
     if begins_comment(word) {
         return Ok(None);
-    }
-    if !plain {
-        return Err(ScriptCause::BadLine);
     }
     match kind_here(section, word, more.len()) {
         None => Err(ScriptCause::BadLine),
@@ -114,9 +110,22 @@ fn read_words<'a>(
     }
 }
 
+/// The fault of a line whose words have one: a byte that no line may have is told before it.
+fn fault_of(line: &[u8], of_words: ScriptCause) -> ScriptCause
+    ensures memory { of_words ≡ cause.OutOfMemory → result ≡ cause.OutOfMemory }
+    ensures fault { of_words ≢ cause.OutOfMemory → result ≡ (if list_all is_plain line.now then of_words else cause.BadLine) }
+{
+    match of_words {
+        ScriptCause::OutOfMemory => ScriptCause::OutOfMemory,
+        _ if are_plain(line) => of_words,
+        _ => ScriptCause::BadLine,
+    }
+}
+
 /// The kind of a line where the reader is here, if it says something.
 ///
-/// `words` is room for the words of a line, and `asked` becomes what it says by those after the first.
+/// `words` is room for the words of a line, and `asked` becomes what it says by those after the first. Words that are right have
+/// plain bytes alone, so the bytes of the line are looked at only where a word is wrong.
 pub fn read_line<'a>(
     words: &mut Vec<&'a [u8]>,
     asked: &mut Vec<Asked<'a>>,
@@ -130,5 +139,8 @@ pub fn read_line<'a>(
         return Err(ScriptCause::TooLong);
     }
     fill_words(words, line)?;
-    read_words(asked, section, are_plain(line), words)
+    match read_words(asked, section, words) {
+        Ok(kind) => Ok(kind),
+        Err(of_words) => Err(fault_of(line, of_words)),
+    }
 }
