@@ -48,7 +48,7 @@ joined_short line first words cut = omega (arith, length-append first (spaced wo
 
 -- ---- words that were tried
 
-right_all : (asked : List Asked) → find (λ a. not (is_right a)) asked ≡ None → list_all is_right asked ≡ true
+pub right_all : (asked : List Asked) → find (λ a. not (is_right a)) asked ≡ None → list_all is_right asked ≡ true
 right_all [] h = refl
 right_all (a ∷ asked) h = by (is_right a) refl h (right_all asked)
   where

@@ -130,16 +130,17 @@ fn first_wrong<'b, 'a>(asked: &'b [Asked<'a>]) -> Option<&'b Asked<'a>>
     asked.iter().find(|word| !word.is_right())
 }
 
-/// Whether each word is what it is asked to be: the tests are tried first, and then all words from left to right.
+/// Whether each word is what it is asked to be. Where one isn't, a wrong test is told before any other wrong word.
 pub fn check_words(asked: &[Asked]) -> Result<(), ScriptCause>
     ensures { result ≡ trial_of asked.now }
 {
-    if !are_tests_right(asked) {
-        return Err(ScriptCause::BadLine);
-    }
-    match first_wrong(asked) {
-        None => Ok(()),
-        Some(wrong) => Err(cause_of(wrong.part())),
+    let Some(wrong) = first_wrong(asked) else {
+        return Ok(());
+    };
+    if are_tests_right(asked) {
+        Err(cause_of(wrong.part()))
+    } else {
+        Err(ScriptCause::BadLine)
     }
 }
 
