@@ -201,7 +201,10 @@ goes_to kind.Undo s = section.Action
 -- all kinds of lines
 abbrev pub kinds : List LineKind
 kinds =
-    kind.Read
+    kind.Play
+    ∷ kind.Exception
+    ∷ kind.Cover
+    ∷ kind.Read
     ∷ kind.Put
     ∷ kind.Add
     ∷ kind.Work
@@ -211,9 +214,6 @@ kinds =
     ∷ kind.Done
     ∷ kind.Signal
     ∷ kind.Undo
-    ∷ kind.Exception
-    ∷ kind.Cover
-    ∷ kind.Play
     ∷ kind.Nest
     ∷ kind.Map
     ∷ kind.MapUndo

@@ -8,3 +8,4 @@ pub mod ScriptValue
 pub mod Spelling
 pub mod SoFar
 pub mod Printing
+pub mod OneOrSeveral

@@ -129,6 +129,9 @@ fn names_from(alloc: Global, fields: &[Field], index: usize) -> Result<Numbers, 
     requires { index ≤ length fields.now }
     ensures { IfOk result (λ names. names ≡ names_from fields.now index) }
 {
+    if fields.len() == index + 1 {
+        return Ok(Numbers::one(name_in(Some(fields[index]))));
+    }
     let names = fields[index..]
         .iter()
         .map(|field| name_in(Some(*field)))

@@ -128,6 +128,9 @@ pub enum LineKind {
 
 /// All kinds of lines. Those of which a script mostly has many come first, since they are tried in turn.
 pub const KINDS: [LineKind; 34] = [
+    LineKind::Play,
+    LineKind::Exception,
+    LineKind::Cover,
     LineKind::Read,
     LineKind::Put,
     LineKind::Add,
@@ -138,9 +141,6 @@ pub const KINDS: [LineKind; 34] = [
     LineKind::Done,
     LineKind::Signal,
     LineKind::Undo,
-    LineKind::Exception,
-    LineKind::Cover,
-    LineKind::Play,
     LineKind::Nest,
     LineKind::Map,
     LineKind::MapUndo,
