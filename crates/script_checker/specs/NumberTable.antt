@@ -6,7 +6,7 @@ use Rattle.script_checker.specs.Numbers.{is_among}
 
 -- so many names of a list are found without its table
 abbrev pub few_names : ℕ
-few_names = 8
+few_names = 16
 
 -- the table has the place of each name of the list past the first few; of other names it may say anything
 abbrev pub IsTableOf : {S : Type 0} → HashMap ℕ ℕ S → List ℕ → Type 0

@@ -12,7 +12,7 @@ use std::marker::Model;
 const MOST_NAMES: usize = 4_294_967_294;
 
 /// So many names are looked through one by one, which takes less time than a table does.
-const FEW_NAMES: usize = 8;
+const FEW_NAMES: usize = 16;
 
 /// Names in the order in which they were declared, seen as the list of their numbers in the script.
 ///
