@@ -1,5 +1,5 @@
 -- A line whose words are right has plain bytes alone, so its bytes need a look only where a word is wrong.
-use Rattle.std.proofs.Common.{◌≡◌, ◌≢◌, ℕ, ◌≤◌, Bool, true, false, cond, if◌then◌else◌, List, [], ◌∷◌, length, Option, Some, None, Result, Ok, Err, bytes_eq, refl, sym, subst, ap, ◌∙◌}
+use Rattle.std.proofs.Common.{◌≡◌, ◌≢◌, ℕ, ◌+◌, ◌≤◌, Bool, true, false, cond, if◌then◌else◌, List, [], ◌∷◌, length, Option, Some, None, Result, Ok, Err, bytes_eq, refl, sym, subst, ap, ◌∙◌, arith}
 use Rattle.std.specs.List.{list_all, slice_split, onto_first}
 use Rattle.std.proofs.lemmas.Bool.{and_parts, le-ltb}
 use Rattle.std.proofs.lemmas.Slice.Eq.{bytes_eq-Decides}
@@ -10,14 +10,16 @@ use Rattle.action_script.specs.declared.field.Part.{Part}
 use Rattle.action_script.specs.declared.field.Part.TheVariants as part
 use Rattle.action_script.specs.declared.kind.Section.{Section}
 use Rattle.action_script.specs.declared.kind.LineKind.{LineKind}
-use Rattle.action_script.specs.Asked.{Said}
+use Rattle.action_script.specs.Asked.{Asked, Said}
 use Rattle.action_script.specs.CutLines.{is_blank, is_plain, words_of, begins_comment}
-use Rattle.action_script.specs.Kinds.{word_of, parts_of}
-use Rattle.action_script.specs.Spelling.{asked_of, is_part, is_right, kind_here, trial_of, by_check, by_kind, line_by_words, line_of}
+use Rattle.action_script.specs.Kinds.{word_of, parts_of, takes, kinds}
+use Rattle.action_script.specs.Spelling.{asked_of, is_part, is_right, is_here, kind_here, trial_of, said_with, by_check, by_kind, line_by_words, line_of, IsOfKind}
 use Rattle.action_script.proofs.Pieces.{filled, some_piece}
 use Rattle.action_script.proofs.Inky.{IsWord, right_word, first_word}
 use Rattle.action_script.proofs.JoinedAndCut.{inky_plain, each_byte}
-use Rattle.action_script.proofs.Speaking.{Speaks, by_words}
+use Rattle.action_script.proofs.NamesCounted.{length-words_of}
+use Rattle.action_script.proofs.PrintedLines.{trial_of-right}
+use Rattle.action_script.proofs.Speaking.{Speaks, find-passes}
 use Rattle.action_script.proofs.WellRead.{right_checked}
 
 -- pieces of plain bytes alone
@@ -64,43 +66,80 @@ speaks_plain s line said h =
     let right : list_all is_right (asked_of (parts_of said.kind) h.words) ≡ true = subst (λ a. list_all is_right a ≡ true) h.asked (right_checked said.asked h.right) in
     split_plain line (filled_plain (slice_split is_blank line) (ap are_plain h.cut ∙ rw (first, right_plain (parts_of said.kind) h.words right) refl))
 
--- ---- a line whose words were read as those of a plain line
+-- ---- a line by its words
 
--- words that say nothing say so of any line
-said_nothing : (s : Section) (plain : Bool) (words : List (List ℕ)) → line_by_words s true words ≡ Ok None → line_by_words s plain words ≡ Ok None
-said_nothing s plain [] h = refl
-said_nothing s plain (first ∷ words) h = by_comment (begins_comment first) h
-  where
-    by_trial : (kind : LineKind) (r : Result (Unit {0}) ScriptCause) → by_check (record { kind = kind; asked = asked_of (parts_of kind) words }) r ≡ Ok None → (if plain then by_kind words (kind_here s first (length words)) else Err cause.BadLine) ≡ Ok None
-    by_trial kind (Ok u) g = cc
-    by_trial kind (Err c) g = cc
+cut_line : (s : Section) (line : List ℕ) (words : List (List ℕ)) → length line ≤ most_line_bytes → words_of line ≡ words → line_of s line ≡ line_by_words s (list_all is_plain line) words
+cut_line s line words short cut =
+    ap (λ b. if b then Err cause.TooLong else line_by_words s (list_all is_plain line) (words_of line)) (le-ltb most_line_bytes (length line) short)
+    ∙ ap (line_by_words s (list_all is_plain line)) cut
 
-    by_kinds : (k : Option LineKind) → by_kind words k ≡ Ok None → (if plain then by_kind words (kind_here s first (length words)) else Err cause.BadLine) ≡ Ok None
-    by_kinds None g = cc
-    by_kinds (Some kind) g = by_trial kind (trial_of (asked_of (parts_of kind) words)) g
+-- a line without words says nothing
+pub line_empty : (s : Section) (line : List ℕ) → length line ≤ most_line_bytes → words_of line ≡ [] → line_of s line ≡ Ok None
+line_empty s line short cut = cut_line s line [] short cut
 
-    by_comment : (b : Bool) → (if b then Ok None else by_kind words (kind_here s first (length words))) ≡ Ok None → (if b then Ok None else (if plain then by_kind words (kind_here s first (length words)) else Err cause.BadLine)) ≡ Ok None
-    by_comment true g = refl
-    by_comment false g = by_kinds (kind_here s first (length words)) g
+module _ (s : Section) (line first : List ℕ) (words : List (List ℕ)) (short : length line ≤ most_line_bytes) (cut : words_of line ≡ first ∷ words) where
+  abbrev pub by_comment : Bool → Result (Option Said) ScriptCause
+  by_comment b = if b then Ok None else (if list_all is_plain line then by_kind words (kind_here s first (length words)) else Err cause.BadLine)
 
-short_line : (s : Section) (line : List ℕ) → length line ≤ most_line_bytes → line_of s line ≡ line_by_words s (list_all is_plain line) (words_of line)
-short_line s line short = ap (λ b. if b then Err cause.TooLong else line_by_words s (list_all is_plain line) (words_of line)) (le-ltb most_line_bytes (length line) short)
+  abbrev pub by_found : Option LineKind → Result (Option Said) ScriptCause
+  by_found kind = if list_all is_plain line then by_kind words kind else Err cause.BadLine
 
-pub said_of_line : (s : Section) (line : List ℕ) (said : Option Said) → length line ≤ most_line_bytes → line_by_words s true (words_of line) ≡ Ok said → line_of s line ≡ Ok said
-said_of_line s line None short h = short_line s line short ∙ said_nothing s (list_all is_plain line) (words_of line) h
-said_of_line s line (Some said) short h =
-    let plain : list_all is_plain line ≡ true = speaks_plain s line said (by_words s line said short true (words_of line) refl h) in
-    short_line s line short ∙ ap (λ b. line_by_words s b (words_of line)) plain ∙ h
+  -- nor does a comment
+  pub line_comment : begins_comment first ≡ true → line_of s line ≡ Ok None
+  line_comment comment = cut_line s line (first ∷ words) short cut ∙ ap by_comment comment
 
--- words with a fault have it in a plain line, and any other is a bad line
-fault_of_words : (s : Section) (plain : Bool) (words : List (List ℕ)) (fault : ScriptCause) → line_by_words s true words ≡ Err fault → line_by_words s plain words ≡ Err (if plain then fault else cause.BadLine)
-fault_of_words s true words fault h = h
-fault_of_words s false [] fault h = cc
-fault_of_words s false (first ∷ words) fault h = by_comment (begins_comment first) h
-  where
-    by_comment : (b : Bool) → (if b then Ok None else by_kind words (kind_here s first (length words))) ≡ Err fault → ◌≡◌ {A = Result (Option Said) ScriptCause} (if b then Ok None else Err cause.BadLine) (Err cause.BadLine)
-    by_comment true g = cc
-    by_comment false g = refl
+  -- any other line is judged by its kind
+  pub line_found : (kind : Option LineKind) → begins_comment first ≡ false → kind_here s first (length words) ≡ kind → line_of s line ≡ by_found kind
+  line_found kind spoken here = cut_line s line (first ∷ words) short cut ∙ ap by_comment spoken ∙ ap by_found here
 
-pub fault_of_line : (s : Section) (line : List ℕ) (fault : ScriptCause) → length line ≤ most_line_bytes → line_by_words s true (words_of line) ≡ Err fault → line_of s line ≡ Err (if list_all is_plain line then fault else cause.BadLine)
-fault_of_line s line fault short h = short_line s line short ∙ fault_of_words s (list_all is_plain line) (words_of line) fault h
+  -- one of no kind is a bad line, whatever bytes it has
+  pub line_unknown : begins_comment first ≡ false → kind_here s first (length words) ≡ None → line_of s line ≡ Err cause.BadLine
+  line_unknown spoken none = line_found None spoken none ∙ either (list_all is_plain line)
+    where
+      either : (b : Bool) → ◌≡◌ {A = Result (Option Said) ScriptCause} (if b then Err cause.BadLine else Err cause.BadLine) (Err cause.BadLine)
+      either true = refl
+      either false = refl
+
+module _ (s : Section) (line : List ℕ) (kind : LineKind) (words : List (List ℕ)) (h : IsOfKind s line kind words) where
+  abbrev pub asked : List Asked
+  asked = asked_of (parts_of kind) words
+
+  abbrev pub by_plain : Bool → Result (Option Said) ScriptCause
+  by_plain plain = if plain then by_check (said_with kind words) (trial_of asked) else Err cause.BadLine
+
+  judged : line_of s line ≡ by_plain (list_all is_plain line)
+  judged = line_found s line h.first words h.short h.cut (Some kind) h.spoken h.here
+
+  -- words that are right are said
+  pub said_right : list_all is_right asked ≡ true → line_of s line ≡ Ok (Some (said_with kind words))
+  said_right right =
+      let tried : trial_of asked ≡ Ok tt = trial_of-right asked right in
+      let said : Speaks s line (said_with kind words) = record {
+        first = h.first;
+        words = words;
+        short = h.short;
+        cut = h.cut;
+        spoken = h.spoken;
+        here = find-passes (is_here s h.first (length words)) kinds kind h.here;
+        asked = refl;
+        right = tried;
+      } in
+      judged ∙ ap by_plain (speaks_plain s line (said_with kind words) said) ∙ ap (by_check (said_with kind words)) tried
+
+  -- words with a fault have it in a plain line, and any other is a bad line
+  pub fault_told : (fault : ScriptCause) → trial_of asked ≡ Err fault → line_of s line ≡ Err (if list_all is_plain line then fault else cause.BadLine)
+  fault_told fault tried = judged ∙ by (list_all is_plain line)
+    where
+      by : (b : Bool) → by_plain b ≡ Err (if b then fault else cause.BadLine)
+      by true = ap (by_check (said_with kind words)) tried
+      by false = refl
+
+-- it has as many words as its kind takes
+pub kind_takes : (s : Section) (line : List ℕ) (kind : LineKind) (words : List (List ℕ)) → IsOfKind s line kind words → takes kind (length words) ≡ true
+kind_takes s line kind words h =
+    let here = and_parts (bytes_eq h.first (word_of kind)) _ (find-passes (is_here s h.first (length words)) kinds kind h.here) in
+    (and_parts (takes kind (length words)) _ here.1).0
+
+-- and no more than bytes
+pub kind_short : (s : Section) (line : List ℕ) (kind : LineKind) (words : List (List ℕ)) → IsOfKind s line kind words → length words + 1 ≤ length line
+kind_short s line kind words h = omega (arith, ap length h.cut, length-words_of line)

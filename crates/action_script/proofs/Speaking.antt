@@ -25,7 +25,7 @@ pub record Speaks (s : Section) (line : List ℕ) (said : Said) : Type 0 where
   pub right : trial_of said.asked ≡ Ok tt
 
 -- what is found passes
-find-passes : {A : Type 0} (test : A → Bool) (xs : List A) (x : A) → find test xs ≡ Some x → test x ≡ true
+pub find-passes : {A : Type 0} (test : A → Bool) (xs : List A) (x : A) → find test xs ≡ Some x → test x ≡ true
 find-passes test [] x h = cc
 find-passes test (y ∷ xs) x h = by (test y) refl h (find-passes test xs x)
   where
@@ -73,7 +73,7 @@ speaks s line said h = by (nat_lt most_line_bytes (length line)) refl h
 
 -- ---- what follows
 
-length-asked_of : (parts : List Part) (words : List (List ℕ)) → length (asked_of parts words) ≡ length words
+pub length-asked_of : (parts : List Part) (words : List (List ℕ)) → length (asked_of parts words) ≡ length words
 length-asked_of parts [] = refl
 length-asked_of [] (word ∷ words) = grind (arith, length-asked_of [] words)
 length-asked_of (p ∷ parts) (word ∷ words) = grind (arith, length-asked_of parts words)

@@ -1,5 +1,5 @@
 -- A name keeps its number as further names come.
-use Rattle.std.proofs.Common.{rules, ◌≡◌, ℕ, suc, ◌+◌, ◌<◌, Bool, true, false, ◌||◌, ◌&&◌, cond, if◌then◌else◌, List, [], ◌∷◌, ◌++◌, length, map, filter, take, drop, get_or, add-one, bytes_eq, refl, sym, ap, ◌∙◌, true≢false}
+use Rattle.std.proofs.Common.{rules, ◌≡◌, ℕ, zero, suc, ◌+◌, ◌<◌, Bool, true, false, ◌||◌, ◌&&◌, cond, if◌then◌else◌, List, [], ◌∷◌, ◌++◌, length, map, filter, take, drop, get_or, add-one, bytes_eq, Bor, refl, sym, ap, ◌∙◌, arith, true≢false}
 use Rattle.std.specs.List.{list_all, flat_map}
 use Rattle.std.proofs.lemmas.Bool.{and_parts}
 use Rattle.std.proofs.lemmas.List.{map-append}
@@ -13,7 +13,7 @@ use Rattle.action_script.specs.declared.script.Line.{Line}
 use Rattle.action_script.specs.Asked.{Asked}
 use Rattle.action_script.specs.Forms.{form_by}
 use Rattle.action_script.specs.NumberedNames.{is_among, with_name, with_names, number_in}
-use Rattle.action_script.specs.Spelling.{is_name_part, names_of, field_by, field_of, Numbered, line_by, script_names}
+use Rattle.action_script.specs.Spelling.{asked_of, part_at, is_right, is_name_part, names_of, field_by, field_of, Numbered, line_by, script_names}
 
 and : (a b : Bool) → a ≡ true → b ≡ true → (a && b) ≡ true
 and true b p q = q
@@ -118,9 +118,21 @@ field_by-with_names names words part.Test word h = refl
 
 -- ---- words taken one by one
 
+-- the word at a place is asked to be what the part at this place asks for
+pub asked_at : (parts : List Part) (words : List (Bor (List ℕ))) (i : ℕ) (none : Bor (List ℕ)) (d : Asked) → i < length words → record { part = part_at parts i; word = (get_or words i none).now } ≡ get_or (asked_of parts (map (λ w. w.now) words)) i d
+asked_at parts [] i none d within = absurd (omega (arith, within))
+asked_at [] (first ∷ words) zero none d within = refl
+asked_at [] (first ∷ words) (suc i) none d within = asked_at [] words i none d (omega (arith, within))
+asked_at (one ∷ parts) (first ∷ words) zero none d within = refl
+asked_at (one ∷ parts) (first ∷ words) (suc i) none d within = asked_at parts words i none d (omega (arith, within))
+
 module _ (asked : List Asked) (i : ℕ) (word : Asked) (within : i < length asked) (is : word ≡ get_or asked i word) where
   rest : drop i asked ≡ word ∷ drop (i + 1) asked
   rest = drop-cons asked i word within ∙ ap (λ (x : Asked). x ∷ drop (suc i) asked) (sym is) ∙ sym (ap (λ k. word ∷ drop k asked) (add-one i))
+
+  -- the words from it on are right where it and those behind it are
+  pub right_in_turn : list_all is_right (drop i asked) ≡ (is_right word && list_all is_right (drop (i + 1) asked))
+  right_in_turn = ap (list_all is_right) rest
 
   done : take (i + 1) asked ≡ take i asked ++ word ∷ []
   done = rw add-one (take-suc asked i word within ∙ ap (λ (x : Asked). take i asked ++ x ∷ []) (sym is))

@@ -1,5 +1,5 @@
 -- What a line of a script is seen as: its kind, and its words after the first.
-use Rattle.std.specs.Prelude.{ℕ, List, Option, option_map}
+use Rattle.std.specs.Prelude.{ℕ, List}
 use Rattle.action_script.specs.declared.field.Part.{Part}
 use Rattle.action_script.specs.declared.kind.LineKind.{LineKind}
 
@@ -12,7 +12,3 @@ pub record Asked : Type 0 where
 pub record Said : Type 0 where
   pub kind : LineKind
   pub asked : List Asked
-
--- what a line says by its kind, if it has one, and its words
-abbrev pub said_by : Option LineKind → List Asked → Option Said
-said_by kind asked = option_map (λ kind. record { kind = kind; asked = asked }) kind

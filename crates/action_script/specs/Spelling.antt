@@ -1,5 +1,5 @@
 -- What the bytes of a script spell: its lines and names, or its first fault.
-use Rattle.std.specs.Prelude.{◌≡◌, ℕ, pos, ◌+◌, nat_lt, if◌then◌else◌, Bool, true, false, not, ◌&&◌, List, [], ◌∷◌, length, map, filter, Option, Some, None, is_some, unwrap_or, Result, Ok, Err, bytes_eq, find}
+use Rattle.std.specs.Prelude.{◌≡◌, ℕ, pos, ◌+◌, nat_lt, ◌≤◌, if◌then◌else◌, Bool, true, false, not, ◌&&◌, List, [], ◌∷◌, length, map, filter, Option, Some, None, is_some, unwrap_or, slice_get, Result, Ok, Err, bytes_eq, find}
 use Rattle.std.specs.List.{list_all, flat_map}
 use Rattle.caa_base.specs.declared.entry.Test.TheVariants as test
 use Rattle.action_script.specs.declared.script_error.ScriptCause.{ScriptCause}
@@ -30,6 +30,10 @@ abbrev pub asked_of : List Part → List (List ℕ) → List Asked
 asked_of parts [] = []
 asked_of [] (word ∷ words) = record { part = part.Name; word = word } ∷ asked_of [] words
 asked_of (p ∷ parts) (word ∷ words) = record { part = p; word = word } ∷ asked_of parts words
+
+-- what the word of a line is asked to be that has so many before it
+abbrev pub part_at : List Part → ℕ → Part
+part_at parts i = unwrap_or (slice_get parts i) part.Name
 
 -- a word is what this part asks for
 abbrev pub is_part : Part → List ℕ → Bool
@@ -101,6 +105,10 @@ abbrev pub trial_of : List Asked → Result (Unit {0}) ScriptCause
 trial_of asked =
     if list_all (λ a. not (is_wrong_test a)) asked then by_first_wrong (find (λ a. not (is_right a)) asked) else Err cause.BadLine
 
+-- what a line of this kind says with these words after the first
+abbrev pub said_with : LineKind → List (List ℕ) → Said
+said_with kind words = record { kind = kind; asked = asked_of (parts_of kind) words }
+
 -- a line whose words were tried
 abbrev pub by_check : Said → Result (Unit {0}) ScriptCause → Result (Option Said) ScriptCause
 by_check said (Ok none) = Ok (Some said)
@@ -109,8 +117,7 @@ by_check said (Err c) = Err c
 -- a line of a kind says its words, where they are right; one of no kind is a bad line
 abbrev pub by_kind : List (List ℕ) → Option LineKind → Result (Option Said) ScriptCause
 by_kind words None = Err cause.BadLine
-by_kind words (Some kind) =
-    by_check (record { kind = kind; asked = asked_of (parts_of kind) words }) (trial_of (asked_of (parts_of kind) words))
+by_kind words (Some kind) = by_check (said_with kind words) (trial_of (asked_of (parts_of kind) words))
 
 -- an empty line says nothing, nor does a comment; any other has plain bytes alone and is of some kind
 abbrev pub line_by_words : Section → Bool → List (List ℕ) → Result (Option Said) ScriptCause
@@ -123,6 +130,14 @@ line_by_words s plain (word ∷ words) =
 abbrev pub line_of : Section → List ℕ → Result (Option Said) ScriptCause
 line_of s line =
     if nat_lt most_line_bytes (length line) then Err cause.TooLong else line_by_words s (list_all is_plain line) (words_of line)
+
+-- the line is of this kind, where the reader is here, and these are its words after the first
+pub record IsOfKind (s : Section) (line : List ℕ) (kind : LineKind) (words : List (List ℕ)) : Type 0 where
+  pub first : List ℕ
+  pub short : length line ≤ most_line_bytes
+  pub cut : words_of line ≡ first ∷ words
+  pub spoken : begins_comment first ≡ false
+  pub here : kind_here s first (length words) ≡ Some kind
 
 -- ---- all lines
 

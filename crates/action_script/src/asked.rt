@@ -1,7 +1,7 @@
-ghost use Rattle.std.specs.Prelude.{◌≡◌, ◌<◌, ◌+◌, ◌^◌, if◌then◌else◌, not, find, option_copied, map, length, Ok, Err, Some, IfOk, IfErr, OnOk};
+ghost use Rattle.std.specs.Prelude.{◌≡◌, ◌≢◌, ◌<◌, ◌+◌, ◌^◌, if◌then◌else◌, not, find, option_copied, map, length, Ok, Err, Some, is_some, true, false, IfSome, IfOk, IfErr, OnOk};
 ghost use Rattle.std.specs.List.{list_all};
 ghost use Rattle.action_script.specs.NumberedNames.{with_name, with_names};
-ghost use Rattle.action_script.specs.Spelling.{asked_of, is_part, is_test, is_name_part, is_wrong_test, is_right, cause_of, names_of, field_by, field_of, trial_of};
+ghost use Rattle.action_script.specs.Spelling.{asked_of, part_at, is_part, is_test, is_name_part, is_wrong_test, is_right, cause_of, names_of, field_by, field_of, trial_of};
 ghost use Rattle.action_script.specs.declared.script_error.ScriptCause.TheVariants as cause;
 
 use crate::field::{Field, Part};
@@ -10,7 +10,7 @@ use crate::script_error::ScriptCause;
 use crate::word::{count_of, rounds_of, test_of, value_of};
 use caa_base::entry::Test;
 use caa_base::name::is_name;
-use std::alloc::AllocError;
+use std::alloc::{AllocError, Global};
 use std::marker::Model;
 
 /// A word of a line, and what it is asked to be at its place.
@@ -41,23 +41,32 @@ fn is_part(part: Part, word: &[u8]) -> bool
     }
 }
 
-/// What a word says that is what a part asks for. A name is added to those of the script.
+/// What the word of a line is asked to be that has so many before it; where the parts end, names go on.
+fn part_at(parts: &[Part], index: usize) -> Part
+    ensures { result ≡ part_at parts.now index }
+{
+    parts.get(index).copied().unwrap_or(Part::Name)
+}
+
+/// What a word says, if it is what a part asks for. A name is added to those of the script.
 fn take_field<'a>(
     names: &mut NameTable<'a>,
     part: Part,
     word: &'a [u8],
-) -> Result<Field, ScriptCause>
+) -> Result<Option<Field>, ScriptCause>
     requires room { length names.old + 1 < 2 ^ 32 }
-    ensures taken { IfOk result (λ field. field ≡ field_by names.new part word.now) }
-    ensures added { OnOk result (names.new ≡ (if is_name_part part then with_name names.old word.now else names.old)) }
+    ensures right { IfOk result (λ field. is_some field ≡ is_part part word.now) }
+    ensures taken { IfOk result (λ field. IfSome field (λ f. f ≡ field_by names.new part word.now)) }
+    ensures added { IfOk result (λ field. is_some field ≡ true →
+        names.new ≡ (if is_name_part part then with_name names.old word.now else names.old)) }
     ensures refused { IfErr result (λ e. e ≡ cause.OutOfMemory) }
 {
     Ok(match part {
-        Part::Name => Field::Name(names.add(word)?),
-        Part::Value => Field::Value(value_of(word).unwrap_or(0)),
-        Part::Count => Field::Count(count_of(word).unwrap_or(0)),
-        Part::Rounds => Field::Count(rounds_of(word).unwrap_or(0)),
-        Part::Test => Field::Test(test_of(word).unwrap_or(Test::Below)),
+        Part::Name => names.take(word)?.map(Field::Name),
+        Part::Value => value_of(word).map(Field::Value),
+        Part::Count => count_of(word).map(Field::Count),
+        Part::Rounds => rounds_of(word).map(Field::Count),
+        Part::Test => test_of(word).map(Field::Test),
     })
 }
 
@@ -144,20 +153,45 @@ pub fn check_words(asked: &[Asked]) -> Result<(), ScriptCause>
     }
 }
 
-/// Makes these fields what the words say, and adds the words that are asked to be names to those of the script.
+/// The fault of some words, one of which isn't what it is asked to be.
+pub fn fault_of_words(
+    alloc: Global,
+    parts: &[Part],
+    words: &[&[u8]],
+) -> Result<ScriptCause, AllocError>
+    requires wrong { list_all is_right (asked_of parts.now (map (λ w. w.now) words.now)) ≡ false }
+    ensures { IfOk result (λ fault. trial_of (asked_of parts.now (map (λ w. w.now) words.now)) ≡ Err fault) }
+{
+    let mut asked = Vec::new(alloc);
+    fill_asked(&mut asked, parts, words)?;
+    match check_words(&asked) {
+        Err(fault) => Ok(fault),
+        Ok(()) => unreachable!(),
+    }
+}
+
+/// Makes these fields what the words say, and adds the words that are asked to be names to those of the script. Tells whether each
+/// word is what it is asked to be; where one isn't, fields and names are of no more use.
 pub fn take_fields<'a>(
     fields: &mut Vec<Field>,
     names: &mut NameTable<'a>,
-    asked: &[Asked<'a>],
-) -> Result<(), ScriptCause>
-    requires room { length names.old + length asked.now < 2 ^ 32 }
-    ensures taken { OnOk result (fields.new.items ≡ map (field_of names.new) asked.now) }
-    ensures added { OnOk result (names.new ≡ with_names names.old (names_of asked.now)) }
+    parts: &[Part],
+    words: &[&'a [u8]],
+) -> Result<bool, ScriptCause>
+    requires room { length names.old + length words.now < 2 ^ 32 }
+    ensures right { IfOk result (λ right. right ≡ list_all is_right (asked_of parts.now (map (λ w. w.now) words.now))) }
+    ensures taken { IfOk result (λ right. right ≡ true →
+        fields.new.items ≡ map (field_of names.new) (asked_of parts.now (map (λ w. w.now) words.now))) }
+    ensures added { IfOk result (λ right. right ≡ true →
+        names.new ≡ with_names names.old (names_of (asked_of parts.now (map (λ w. w.now) words.now)))) }
     ensures refused { IfErr result (λ e. e ≡ cause.OutOfMemory) }
 {
     fields.clear();
-    for word in asked {
-        fields.push(take_field(names, word.part, word.word)?)?;
+    for (index, word) in words.iter().enumerate() {
+        match take_field(names, part_at(parts, index), word)? {
+            Some(field) => fields.push(field)?,
+            None => return Ok(false),
+        }
     }
-    Ok(())
+    Ok(true)
 }

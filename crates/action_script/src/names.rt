@@ -1,25 +1,43 @@
-ghost use Rattle.std.specs.Prelude.{◌≡◌, ◌<◌, ◌+◌, ◌≤◌, ◌^◌, length, [], IfOk, IfErr, OnOk};
-ghost use Rattle.action_script.specs.NumberedNames.{with_name, number_in};
+ghost use Rattle.std.specs.Prelude.{◌≡◌, ◌<◌, ◌+◌, ◌^◌, length, [], is_some, true, IfSome, IfOk, IfErr, OnOk};
+ghost use Rattle.action_script.specs.NumberedNames.{IsNameOf, with_name, number_in};
+ghost use Rattle.caa_base.specs.Names.{is_name};
 ghost use Rattle.action_script.specs.declared.script_error.ScriptCause.TheVariants as cause;
 
 use crate::script_error::ScriptCause;
-use caa_base::name::Name;
+use caa_base::name::{Name, is_name};
 use indexmap::IndexSet;
 use std::alloc::Global;
 use std::marker::Model;
 
+/// The class of a word, which mostly tells it apart from the other words that a script has near it.
+fn class_of(word: &[u8]) -> u8 {
+    let mut class: u8 = 0;
+    for byte in word {
+        class = class.wrapping_mul(31).wrapping_add(*byte);
+    }
+    class
+}
+
 /// The names of a script, seen as their list: a name that is new goes behind those that came before it.
+///
+/// A script has the same names again and again, so the one that was met last in a class of words is tried before the whole table.
 #[derive(Drop)]
 pub struct NameTable<'a> {
     names: IndexSet<&'a [u8]>,
+    /// For each class of words, the number of the name that was met last in it.
+    met: [u32; 256],
 }
 
 impl<'a> Model for NameTable<'a> {
-    ghost use Rattle.std.specs.Prelude.{List, ℕ, map};
+    ghost use Rattle.std.specs.Prelude.{◌≡◌, List, ℕ, map, true};
+    ghost use Rattle.std.specs.List.{list_all};
+    ghost use Rattle.caa_base.specs.Names.{is_name};
 
     ghost Value = { List (List ℕ) };
 
     ghost view = { λ t. map (λ k. k.now) t.names.keys };
+
+    ghost invariant = { λ t. list_all is_name (map (λ k. k.now) t.names.keys) ≡ true };
 }
 
 impl<'a> NameTable<'a> {
@@ -29,18 +47,51 @@ impl<'a> NameTable<'a> {
     {
         NameTable {
             names: IndexSet::new(alloc),
+            met: [0; 256],
         }
     }
 
     /// Adds a name at the end, where it isn't there already, and tells its number.
-    pub fn add(&mut self, name: &'a [u8]) -> Result<u32, ScriptCause>
+    fn add(&mut self, name: &'a [u8]) -> Result<u32, ScriptCause>
         requires room { length self.old + 1 < 2 ^ 32 }
+        requires name { is_name name.now ≡ true }
         ensures added { OnOk result (self.new ≡ with_name self.old name.now) }
         ensures number { IfOk result (λ number. number ≡ number_in self.new name.now) }
         ensures refused { IfErr result (λ e. e ≡ cause.OutOfMemory) }
     {
         let (number, _) = self.names.insert_full(name)?;
         Ok(number as u32)
+    }
+
+    /// The number of a word, where it is the name that was met last in this class.
+    fn met_in(&self, class: u8, word: &[u8]) -> Option<u32>
+        ensures { IfSome result (λ number. IsNameOf self.now word.now number) }
+    {
+        let number = self.met[class as usize];
+        match self.names.as_slice().get(number as usize) {
+            Some(name) if *name == word => Some(number),
+            _ => None,
+        }
+    }
+
+    /// The number of a name, which goes to the end where it isn't there already; none for a word that is no name.
+    pub fn take(&mut self, word: &'a [u8]) -> Result<Option<u32>, ScriptCause>
+        requires room { length self.old + 1 < 2 ^ 32 }
+        ensures name { IfOk result (λ number. is_some number ≡ is_name word.now) }
+        ensures added { IfOk result (λ number. is_some number ≡ true → self.new ≡ with_name self.old word.now) }
+        ensures number { IfOk result (λ number. IfSome number (λ n. n ≡ number_in self.new word.now)) }
+        ensures refused { IfErr result (λ e. e ≡ cause.OutOfMemory) }
+    {
+        let class = class_of(word);
+        if let Some(number) = self.met_in(class, word) {
+            return Ok(Some(number));
+        }
+        if !is_name(word) {
+            return Ok(None);
+        }
+        let number = self.add(word)?;
+        self.met[class as usize] = number;
+        Ok(Some(number))
     }
 
     /// The number of a name; where it isn't there, the count of names.

@@ -1,13 +1,12 @@
-ghost use Rattle.std.specs.Prelude.{◌≡◌, ◌≢◌, ◌+◌, ◌-◌, ◌<◌, ◌≤◌, ◌^◌, [], length, Ok, Err, IfOk, IfErr, OnOk, IsTrue};
+ghost use Rattle.std.specs.Prelude.{◌≡◌, ◌≢◌, ◌+◌, ◌-◌, ◌<◌, ◌≤◌, ◌^◌, [], length, drop, map, Some, Ok, Err, IfOk, IfErr, OnOk};
 ghost use Rattle.caa_base.specs.Limits.{most_script_bytes};
-ghost use Rattle.action_script.specs.CutLines.{lines_of};
-ghost use Rattle.action_script.specs.Kinds.{takes};
-ghost use Rattle.action_script.specs.Spelling.{line_of, said_from, Spells, HasFirstFault};
+ghost use Rattle.action_script.specs.CutLines.{lines_of, words_of};
+ghost use Rattle.action_script.specs.Spelling.{IsOfKind, said_with, line_of, said_from, Spells, HasFirstFault};
 ghost use Rattle.action_script.specs.SoFar.{so_far, TookSaid, Took, HasRead};
 ghost use Rattle.action_script.specs.declared.script_error.ScriptCause.TheVariants as cause;
 ghost use Rattle.action_script.specs.declared.kind.Section.TheVariants as section;
 
-use crate::asked::{Asked, take_fields};
+use crate::asked::{fault_of_words, take_fields};
 use crate::cuts::cut_line;
 use crate::field::Field;
 use crate::form::Form;
@@ -15,7 +14,7 @@ use crate::kind::{LineKind, Section};
 use crate::names::NameTable;
 use crate::script::{Line, Script};
 use crate::script_error::{ScriptCause, ScriptError};
-use crate::script_line::read_line;
+use crate::script_line::{fault_of, kind_of_line};
 use caa_base::limits::MOST_SCRIPT_BYTES;
 use std::alloc::Global;
 
@@ -29,21 +28,32 @@ struct Reader<'a> {
     lines: Vec<Line>,
     /// Room for the words of one line.
     words: Vec<&'a [u8]>,
-    /// Room for its words after the first, each with what it is asked to be.
-    asked: Vec<Asked<'a>>,
-    /// Room for what these words say.
+    /// Room for what its words after the first say.
     fields: Vec<Field>,
 }
 
 impl<'a> Reader<'a> {
-    /// Takes what the next line says, which is of this kind; its words stand in `asked`.
-    fn take_said(&mut self, alloc: Global, kind: LineKind) -> Result<(), ScriptCause>
-        requires room { length self.old.names + length self.old.asked.items < 2 ^ 32 }
-        requires whole { IsTrue (takes kind (length self.old.asked.items)) }
-        ensures taken { OnOk result (TookSaid (so_far self.old) (record { kind = kind; asked = self.old.asked.items }) (so_far self.new)) }
-        ensures refused { IfErr result (λ e. e ≡ cause.OutOfMemory) }
+    /// Takes the next line, which is of this kind; `words` are its words.
+    fn take_said(
+        &mut self,
+        alloc: Global,
+        kind: LineKind,
+        line: &'a [u8],
+    ) -> Result<(), ScriptCause>
+        requires room { length self.old.names + length line.now < 2 ^ 32 }
+        requires words { map (λ w. w.now) self.old.words.items ≡ words_of line.now }
+        requires kind { IsOfKind self.old.section line.now kind (drop 1 (map (λ w. w.now) self.old.words.items)) }
+        ensures says { OnOk result (
+            line_of self.old.section line.now ≡ Ok (Some (said_with kind (drop 1 (map (λ w. w.now) self.old.words.items))))) }
+        ensures taken { OnOk result (
+            TookSaid (so_far self.old) (said_with kind (drop 1 (map (λ w. w.now) self.old.words.items))) (so_far self.new)) }
+        ensures refused { IfErr result (λ e. e ≢ cause.OutOfMemory → line_of self.old.section line.now ≡ Err e) }
     {
-        take_fields(&mut self.fields, &mut self.names, &self.asked)?;
+        let words = &self.words[1..];
+        if !take_fields(&mut self.fields, &mut self.names, kind.parts(), words)? {
+            let of_words = fault_of_words(alloc, kind.parts(), words)?;
+            return Err(fault_of(line, of_words));
+        }
         let form = Form::by(alloc, kind, &self.fields)?;
         self.lines.push(Line {
             number: self.line,
@@ -60,8 +70,8 @@ impl<'a> Reader<'a> {
         ensures taken { OnOk result (Took (so_far self.old) line.now (so_far self.new)) }
         ensures refused { IfErr result (λ e. e ≢ cause.OutOfMemory → line_of self.old.section line.now ≡ Err e) }
     {
-        if let Some(kind) = read_line(&mut self.words, &mut self.asked, self.section, line)? {
-            self.take_said(alloc, kind)?;
+        if let Some(kind) = kind_of_line(&mut self.words, self.section, line)? {
+            self.take_said(alloc, kind, line)?;
         }
         self.line += 1;
         Ok(())
@@ -100,7 +110,6 @@ fn read_lines(alloc: Global, bytes: &[u8]) -> Result<Reader<'_>, ScriptError>
         names: NameTable::new(alloc),
         lines: Vec::new(alloc),
         words: Vec::new(alloc),
-        asked: Vec::new(alloc),
         fields: Vec::new(alloc),
     };
     let mut rest = bytes;

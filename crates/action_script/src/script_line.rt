@@ -1,12 +1,10 @@
-ghost use Rattle.std.specs.Prelude.{◌≡◌, ◌≢◌, ◌==◌, ◌<◌, ◌&&◌, if◌then◌else◌, not, true, map, find, Ok, Err, Some, None, IfOk, IfErr, OnOk};
+ghost use Rattle.std.specs.Prelude.{◌≡◌, ◌≢◌, ◌==◌, ◌<◌, ◌&&◌, if◌then◌else◌, not, map, drop, find, Ok, Err, Some, None, IfSome, IfOk, IfErr, OnOk};
 ghost use Rattle.std.specs.List.{list_all};
 ghost use Rattle.caa_base.specs.Lists.{is_empty};
-ghost use Rattle.action_script.specs.Asked.{said_by};
 ghost use Rattle.action_script.specs.CutLines.{is_blank, is_plain, words_of, begins_comment};
-ghost use Rattle.action_script.specs.Spelling.{is_here, kind_here, by_kind, line_by_words, line_of};
+ghost use Rattle.action_script.specs.Spelling.{is_here, kind_here, line_of, IsOfKind};
 ghost use Rattle.action_script.specs.declared.script_error.ScriptCause.TheVariants as cause;
 
-use crate::asked::{Asked, check_words, fill_asked};
 use crate::cuts::is_blank;
 use crate::kind::{KINDS, LineKind, Section};
 use crate::script_error::ScriptCause;
@@ -71,30 +69,34 @@ fn kind_here(section: Section, word: &[u8], count: usize) -> Option<LineKind>
         .find(|kind| is_here(section, word, count, *kind))
 }
 
-/// Makes `asked` what a line of some kind says by its words after the first.
-fn read_kind<'a>(
-    asked: &mut Vec<Asked<'a>>,
-    kind: LineKind,
-    words: &[&'a [u8]],
-) -> Result<(), ScriptCause>
-    ensures said { OnOk result (by_kind (map (λ w. w.now) words.now) (Some kind) ≡ Ok (said_by (Some kind) asked.new.items)) }
-    ensures refused { IfErr result (λ e. e ≢ cause.OutOfMemory → by_kind (map (λ w. w.now) words.now) (Some kind) ≡ Err e) }
+/// The fault of a line whose words have this one: a byte that no line may have is told before it.
+///
+/// Words that are right have plain bytes alone, so the bytes of a line are looked at only where a word is wrong.
+pub fn fault_of(line: &[u8], of_words: ScriptCause) -> ScriptCause
+    ensures { result ≡ (if list_all is_plain line.now then of_words else cause.BadLine) }
 {
-    fill_asked(asked, kind.parts(), words)?;
-    check_words(asked)
+    if are_plain(line) {
+        of_words
+    } else {
+        ScriptCause::BadLine
+    }
 }
 
-/// The kind of a line by its words, if it says something; `asked` becomes what it says. It is read as one of plain bytes alone.
-fn read_words<'a>(
-    asked: &mut Vec<Asked<'a>>,
+/// The kind of a line where the reader is here, if it says something; `words` becomes its words.
+pub fn kind_of_line<'a>(
+    words: &mut Vec<&'a [u8]>,
     section: Section,
-    words: &[&'a [u8]],
+    line: &'a [u8],
 ) -> Result<Option<LineKind>, ScriptCause>
-    ensures said { IfOk result (λ kind.
-        line_by_words section true (map (λ w. w.now) words.now) ≡ Ok (said_by kind asked.new.items)) }
-    ensures refused { IfErr result (λ e.
-        e ≢ cause.OutOfMemory → line_by_words section true (map (λ w. w.now) words.now) ≡ Err e) }
+    ensures nothing { IfOk result (λ kind. kind ≡ None → line_of section line.now ≡ Ok None) }
+    ensures words { OnOk result (map (λ w. w.now) words.new.items ≡ words_of line.now) }
+    ensures kind { IfOk result (λ kind. IfSome kind (λ k. IsOfKind section line.now k (drop 1 (map (λ w. w.now) words.new.items)))) }
+    ensures refused { IfErr result (λ e. e ≢ cause.OutOfMemory → line_of section line.now ≡ Err e) }
 {
+    if line.len() > MOST_LINE_BYTES {
+        return Err(ScriptCause::TooLong);
+    }
+    fill_words(words, line)?;
     let Some((word, more)) = words.split_first() else {
         return Ok(None);
     };
@@ -102,45 +104,7 @@ fn read_words<'a>(
         return Ok(None);
     }
     match kind_here(section, word, more.len()) {
+        Some(kind) => Ok(Some(kind)),
         None => Err(ScriptCause::BadLine),
-        Some(kind) => {
-            read_kind(asked, kind, more)?;
-            Ok(Some(kind))
-        }
-    }
-}
-
-/// The fault of a line whose words have one: a byte that no line may have is told before it.
-fn fault_of(line: &[u8], of_words: ScriptCause) -> ScriptCause
-    ensures memory { of_words ≡ cause.OutOfMemory → result ≡ cause.OutOfMemory }
-    ensures fault { of_words ≢ cause.OutOfMemory → result ≡ (if list_all is_plain line.now then of_words else cause.BadLine) }
-{
-    match of_words {
-        ScriptCause::OutOfMemory => ScriptCause::OutOfMemory,
-        _ if are_plain(line) => of_words,
-        _ => ScriptCause::BadLine,
-    }
-}
-
-/// The kind of a line where the reader is here, if it says something.
-///
-/// `words` is room for the words of a line, and `asked` becomes what it says by those after the first. Words that are right have
-/// plain bytes alone, so the bytes of the line are looked at only where a word is wrong.
-pub fn read_line<'a>(
-    words: &mut Vec<&'a [u8]>,
-    asked: &mut Vec<Asked<'a>>,
-    section: Section,
-    line: &'a [u8],
-) -> Result<Option<LineKind>, ScriptCause>
-    ensures said { IfOk result (λ kind. line_of section line.now ≡ Ok (said_by kind asked.new.items)) }
-    ensures refused { IfErr result (λ e. e ≢ cause.OutOfMemory → line_of section line.now ≡ Err e) }
-{
-    if line.len() > MOST_LINE_BYTES {
-        return Err(ScriptCause::TooLong);
-    }
-    fill_words(words, line)?;
-    match read_words(asked, section, words) {
-        Ok(kind) => Ok(kind),
-        Err(of_words) => Err(fault_of(line, of_words)),
     }
 }
