@@ -223,12 +223,6 @@ member_reverse x (y ∷ ys) =
 
 -- ---- numbers that stand twice
 
--- nothing stands twice in a list of one number, or of none
-pub once_alone : (list : List ℕ) → length list < 2 → has_twice list ≡ false
-once_alone [] few = refl
-once_alone (x ∷ []) few = refl
-once_alone (x ∷ y ∷ list) few = absurd (omega arith)
-
 -- what stands twice in the rest stands twice
 twice_of_rest : (i : ℕ) (xs : List ℕ) → has_twice (drop i xs) ≡ true → has_twice xs ≡ true
 twice_of_rest zero xs h = h

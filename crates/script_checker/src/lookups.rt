@@ -14,6 +14,9 @@ use place_plan::object_list::ObjectList;
 use std::alloc::{AllocError, Global};
 use std::collections::BTreeSet;
 
+/// In a list of so many numbers each is looked for among the others, which takes less time than a table does.
+const FEW_NUMBERS: usize = 16;
+
 /// Whether each of some names is among those.
 pub(crate) fn are_among(names: &NumberList, some: &[u32]) -> bool
     ensures { result ≡ list_all (is_among names.now) some.now }
@@ -21,14 +24,30 @@ pub(crate) fn are_among(names: &NumberList, some: &[u32]) -> bool
     some.iter().all(|name| names.contains(*name))
 }
 
+/// Whether one of a few numbers stands twice among them.
+///
+/// Each is looked for among those behind it, which needs no memory.
+fn has_twice_among_few(list: &[u32]) -> bool
+    ensures { result ≡ has_twice list.now }
+{
+    let mut behind = list;
+    while let Some((number, rest)) = behind.split_first() {
+        if rest.contains(number) {
+            return true;
+        }
+        behind = rest;
+    }
+    false
+}
+
 /// Whether a number stands twice in a list.
 ///
-/// It goes over the numbers once, from the last one back, with a table of those that it has met. One number alone needs none.
+/// It goes over the numbers of a long list once, from the last one back, with a table of those that it has met.
 pub(crate) fn has_twice(alloc: Global, list: &[u32]) -> Result<bool, AllocError>
     ensures { IfOk result (λ yes. yes ≡ has_twice list.now) }
 {
-    if list.len() < 2 {
-        return Ok(false);
+    if list.len() <= FEW_NUMBERS {
+        return Ok(has_twice_among_few(list));
     }
     let mut met = NumberList::new(alloc);
     for index in (0..list.len()).rev() {

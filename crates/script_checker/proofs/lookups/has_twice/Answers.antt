@@ -1,9 +1,6 @@
 use Rattle.std.proofs.Common.{◌-◌, sym, arith}
-use Rattle.script_checker.proofs.NumberTables.{once_alone, twice_found, twice_next}
+use Rattle.script_checker.proofs.NumberTables.{twice_found, twice_next}
 use Rattle.script_checker.proofs.lookups.has_twice.Goals as goal
-
-pub returns-then-list-lt2 : goal.returns-then-list-lt2
-returns-then-list-lt2 c = sym (once_alone c.args.list.now c.if-list-lt2.true)
 
 pub returns-then-contains : goal.returns-then-contains
 returns-then-contains c =
