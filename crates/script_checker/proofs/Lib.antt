@@ -26,6 +26,7 @@ pub mod AcceptedDraft
 pub mod PlayLines
 pub mod Unbroken
 pub mod NamesKept
+pub mod NumberRuns
 pub mod NumberTables
 pub mod ChosenNumbers
 pub mod DrillTables

@@ -12,7 +12,8 @@ use Rattle.std.specs.HashMap.{HashMap, get}
 use Rattle.caa_base.specs.Lists.{member, index_of}
 use Rattle.caa_base.proofs.ListLemmas.{one_more_each, index_within}
 use Rattle.script_checker.specs.Numbers.{is_among, has_twice}
-use Rattle.script_checker.specs.NumberTable.{IsTableOf, few_names}
+use Rattle.script_checker.specs.NumberTable.{IsTableOf, few_names, run_of}
+use Rattle.script_checker.proofs.NumberRuns.{run_grows}
 
 -- a name that isn't among these counts by how many they are
 pub absent_at_end : (name : ℕ) (names : List ℕ) → is_among names name ≡ false → index_of name names ≡ length names
@@ -107,12 +108,12 @@ none_later name names short later = elim later [
 
 -- ---- the table
 
-module _ {S : Type 0} (table : HashMap ℕ ℕ S) (names : List ℕ) (name : ℕ) (is : IsTableOf table names) (later : IsLater name names) where
+module _ {S : Type 0} (table : HashMap ℕ ℕ S) (names : List ℕ) (name : ℕ) (is : IsTableOf table names) (later : IsLater name names) (past : run_of names ≤ index_of name names) where
   told : is_among names name ≡ true → get nat_eq table name ≡ Some (index_of name names)
   told here = is name here (elim later [
     | inl l ↦ l
     | inr end ↦ absurd (omega (arith, end, ltb-true _ _ here))
-  ])
+  ]) past
 
   -- the table says where a name stands, if the name is there
   pub found_at : (place : ℕ) → get nat_eq table name ≡ Some place → option_eq nat_eq (slice_get names place) (Some name) ≡ true → place ≡ index_of name names
@@ -172,10 +173,10 @@ index_past_other name more (x ∷ xs) other h = by (x == name) h (index_past_oth
 module _ {S : Type 0} (old : HashMap ℕ ℕ S) (names : List ℕ) (name : ℕ) where
   -- a table stays one where the list gets a name that it has
   pub table_of_again : IsTableOf old names → is_among names name ≡ true → IsTableOf old (names ++ name ∷ [])
-  table_of_again is here other there late = elim (among_or_end other names) [
+  table_of_again is here other there late past = elim (among_or_end other names) [
     | inl old_one ↦
         let same = index_before_more other name names (ltb-true _ _ old_one) in
-        is other old_one (omega (arith, late, same)) ∙ ap Some (sym same)
+        is other old_one (omega (arith, late, same)) (omega (arith, past, same, run_grows name names)) ∙ ap Some (sym same)
     | inr end ↦ absurd (omega (arith, ltb-true _ _ there, index_past_other other name names (apart other end) end.1, length-append names (name ∷ [])))
   ]
     where
@@ -184,16 +185,20 @@ module _ {S : Type 0} (old : HashMap ℕ ℕ S) (names : List ℕ) (name : ℕ) 
 
   -- and one where the list gets one of the first few
   pub table_of_few : length names < few_names → IsTableOf old (names ++ name ∷ [])
-  table_of_few few other there late = absurd (omega (arith, few, late, ltb-true _ _ there, length-append names (name ∷ [])))
+  table_of_few few other there late past = absurd (omega (arith, few, late, ltb-true _ _ there, length-append names (name ∷ [])))
+
+  -- and one where all names make one run then
+  pub table_of_run : run_of (names ++ name ∷ []) ≡ length names + 1 → IsTableOf old (names ++ name ∷ [])
+  table_of_run all other there late past = absurd (omega (arith, all, past, ltb-true _ _ there, length-append names (name ∷ [])))
 
   -- and one where both get a new name
   pub table_of_more : (new : HashMap ℕ ℕ S) → IsTableOf old names → index_of name names ≡ length names → ((other : ℕ) → get nat_eq new other ≡ cond (nat_eq name other) (Some (length names)) (get nat_eq old other)) → IsTableOf new (names ++ name ∷ [])
-  table_of_more new is end says other there late = says other ∙ elim (cases_eq name other) [
+  table_of_more new is end says other there late past = says other ∙ elim (cases_eq name other) [
     | inl same ↦ rw (eq-eqb name other same) (ap Some (sym (subst (λ n. index_of n (names ++ name ∷ []) ≡ length names) same (index_of_new name names end))))
     | inr apart ↦ rw (ne_eqb name other apart) (elim (among_or_end other names) [
       | inl old_one ↦
           let same = index_before_more other name names (ltb-true _ _ old_one) in
-          is other old_one (omega (arith, late, same)) ∙ ap Some (sym same)
+          is other old_one (omega (arith, late, same)) (omega (arith, past, same, run_grows name names)) ∙ ap Some (sym same)
       | inr past ↦ absurd (omega (arith, ltb-true _ _ there, index_past_other other name names apart past.1, length-append names (name ∷ [])))
     ])
   ]
