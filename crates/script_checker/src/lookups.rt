@@ -32,7 +32,7 @@ fn has_twice_among_few(list: &[u32]) -> bool
 {
     let mut behind = list;
     while let Some((number, rest)) = behind.split_first() {
-        if rest.contains(number) {
+        if rest.iter().any(|one| *one == *number) {
             return true;
         }
         behind = rest;
