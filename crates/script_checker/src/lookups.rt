@@ -2,7 +2,7 @@
 
 ghost use Rattle.std.specs.Prelude.{◌≡◌, true, false, length, map, slice_index_or, IfOk};
 ghost use Rattle.std.specs.List.{list_all};
-ghost use Rattle.caa_base.specs.Lists.{index_of};
+ghost use Rattle.caa_base.specs.Lists.{index_of, member};
 ghost use Rattle.place_plan.specs.Places.{no_action};
 ghost use Rattle.script_checker.specs.Numbers.{is_among, has_twice, chosen_from};
 ghost use Rattle.script_checker.specs.DeclaredSoFar.{exceptions_at, inner, outer, nest_of, face_of};
@@ -24,6 +24,13 @@ pub(crate) fn are_among(names: &NumberList, some: &[u32]) -> bool
     some.iter().all(|name| names.contains(*name))
 }
 
+/// Whether a number is one of these, which are looked at one by one.
+fn is_one_of(numbers: &[u32], number: u32) -> bool
+    ensures { result ≡ member number numbers.now }
+{
+    numbers.iter().any(|one| *one == number)
+}
+
 /// Whether one of a few numbers stands twice among them.
 ///
 /// Each is looked for among those behind it, which needs no memory.
@@ -32,7 +39,7 @@ fn has_twice_among_few(list: &[u32]) -> bool
 {
     let mut behind = list;
     while let Some((number, rest)) = behind.split_first() {
-        if rest.iter().any(|one| *one == *number) {
+        if is_one_of(rest, *number) {
             return true;
         }
         behind = rest;
