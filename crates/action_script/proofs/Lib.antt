@@ -17,3 +17,4 @@ pub mod WellRead
 pub mod LineNumbers
 pub mod Named
 pub mod PlainLines
+pub mod PlaysKept

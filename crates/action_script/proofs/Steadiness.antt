@@ -155,7 +155,7 @@ module _ (asked : List Asked) (i : ℕ) (word : Asked) (within : i < length aske
 
 -- ---- lines by more names
 
-fields-with_names : (names words : List (List ℕ)) (asked : List Asked) → list_all (is_among names) (names_of asked) ≡ true → map (field_of (with_names names words)) asked ≡ map (field_of names) asked
+pub fields-with_names : (names words : List (List ℕ)) (asked : List Asked) → list_all (is_among names) (names_of asked) ≡ true → map (field_of (with_names names words)) asked ≡ map (field_of names) asked
 fields-with_names names words [] h = refl
 fields-with_names names words (a ∷ asked) h = by (fields-with_names names words asked) (is_name_part a.part) refl h
   where

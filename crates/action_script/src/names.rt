@@ -3,20 +3,12 @@ ghost use Rattle.action_script.specs.NumberedNames.{IsNameOf, with_name, number_
 ghost use Rattle.caa_base.specs.Names.{is_name};
 ghost use Rattle.action_script.specs.declared.script_error.ScriptCause.TheVariants as cause;
 
+use crate::classes::class_of;
 use crate::script_error::ScriptCause;
 use caa_base::name::{Name, is_name};
 use indexmap::IndexSet;
 use std::alloc::Global;
 use std::marker::Model;
-
-/// The class of a word, which mostly tells it apart from the other words that a script has near it.
-fn class_of(word: &[u8]) -> u8 {
-    let mut class: u8 = 0;
-    for byte in word {
-        class = class.wrapping_mul(31).wrapping_add(*byte);
-    }
-    class
-}
 
 /// The names of a script, seen as their list: a name that is new goes behind those that came before it.
 ///

@@ -58,6 +58,13 @@ impl Numbers {
         }
     }
 
+    /// The same numbers once more.
+    pub fn again(&self, alloc: Global) -> Result<Numbers, OutOfMemory>
+        ensures { IfOk result (λ numbers. numbers ≡ self.now) }
+    {
+        Numbers::from_slice(alloc, self.items())
+    }
+
     /// The numbers, in order.
     pub fn items(&self) -> &[u32]
         ensures { result.now ≡ self.now }

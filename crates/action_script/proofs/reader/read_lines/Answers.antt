@@ -1,4 +1,4 @@
-use Rattle.std.proofs.Common.{arith}
+use Rattle.std.proofs.Common.{[], length, refl, ap, arith}
 use Rattle.action_script.specs.SoFar.{so_far}
 use Rattle.action_script.proofs.LineByLine.{has_read-more, has_read-refused, took-line, took-lines, took-names}
 use Rattle.action_script.proofs.reader.read_lines.Goals as goal
@@ -15,5 +15,15 @@ loop-rest-preserved c =
       read = has_read-more c.args.bytes.now c.loop-rest.rest.now c.cut_line.result.1.now c.cut_line.result.0.now (so_far c.loop-rest.reader) (so_far c.take_line.new.self) c.loop-rest.invariant.read c.cut_line.ensures.cut took;
       few = omega (arith, took-line (so_far c.loop-rest.reader) c.cut_line.result.0.now (so_far c.take_line.new.self) took);
       lines = omega (arith, took-lines (so_far c.loop-rest.reader) c.cut_line.result.0.now (so_far c.take_line.new.self) took);
+      plays = c.in-Ok.ensures.plays;
       room = omega (arith, took-names (so_far c.loop-rest.reader) c.cut_line.result.0.now (so_far c.take_line.new.self) took);
     }
+
+pub loop-rest-init : goal.loop-rest-init
+loop-rest-init c = record {
+  read = record { done = []; names = c.new.ensures; lines = c.new-2.ensures.items; whole = refl };
+  few = omega arith;
+  lines = omega (arith, ap length c.new-2.ensures.items);
+  plays = λ line place met. absurd (c.new-3.ensures line place met);
+  room = omega (arith, ap length c.new.ensures);
+}

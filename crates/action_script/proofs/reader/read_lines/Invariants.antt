@@ -1,5 +1,5 @@
 use Rattle.std.proofs.Common.{◌+◌, ◌≤◌, length}
-use Rattle.action_script.specs.SoFar.{so_far, HasRead}
+use Rattle.action_script.specs.SoFar.{so_far, KeepsPlays, HasRead}
 use Rattle.action_script.proofs.reader.read_lines.Given as goal
 
 abbrev pub invariant-loop-rest : goal.invariant-loop-rest
@@ -7,6 +7,7 @@ invariant-loop-rest l = record {
   read : HasRead l.bytes l.rest (so_far l.reader);
   few : l.reader.line + length l.rest ≤ length l.bytes + 1;
   lines : length l.reader.lines.items + length l.rest ≤ length l.bytes;
+  plays : KeepsPlays l.reader.plays (so_far l.reader);
   room : length l.reader.names + length l.rest ≤ length l.bytes;
 }
 
