@@ -7,7 +7,7 @@ ghost use Rattle.action_script.specs.declared.script_error.ScriptCause.TheVarian
 ghost use Rattle.action_script.specs.declared.kind.Section.TheVariants as section;
 
 use crate::asked::{fault_of_words, take_fields};
-use crate::classes::class_of;
+use crate::classes::class_of_line;
 use crate::cuts::cut_line;
 use crate::field::Field;
 use crate::form::Form;
@@ -112,7 +112,7 @@ impl<'a> Reader<'a> {
         ensures plays { OnOk result (KeepsPlays self.new.plays (so_far self.new)) }
         ensures refused { IfErr result (λ e. e ≢ cause.OutOfMemory → line_of self.old.section line.now ≡ Err e) }
     {
-        let class = class_of(line);
+        let class = class_of_line(line);
         match self.plays.place_of(class, line) {
             Some(place) => self.take_again(alloc, line, place)?,
             None => {
