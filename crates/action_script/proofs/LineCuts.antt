@@ -1,13 +1,13 @@
 -- A text cut into lines.
-use Rattle.std.proofs.Common.{◌≡◌, ◌≢◌, ℕ, ◌+◌, ◌<◌, ◌≤◌, ◌==◌, nat_lt, List, [], ◌∷◌, length, take, drop, position, Some, None, refl, sym, ap, ◌∙◌, arith}
-use Rattle.std.specs.List.{position_or_len, slice_split}
-use Rattle.std.proofs.lemmas.Bool.{ltb-true, ltb-false}
+use Rattle.std.proofs.Common.{◌≡◌, ◌≢◌, ℕ, zero, suc, ◌+◌, ◌<◌, ◌≤◌, ◌==◌, ◌||◌, nat_lt, Bool, true, false, cond, List, [], ◌∷◌, length, take, drop, position, option_map, Some, None, refl, sym, ap, ◌∙◌, arith}
+use Rattle.std.specs.List.{list_any, position_or_len, slice_split}
+use Rattle.std.proofs.lemmas.Bool.{ltb-true, ltb-false, lt-ltb, le-ltb}
 use Rattle.std.proofs.lemmas.Option.{cond_some}
-use Rattle.std.proofs.lemmas.List.{drop_all}
+use Rattle.std.proofs.lemmas.List.{drop_all, drop-drop, length-drop}
 use Rattle.std.proofs.lemmas.List.Splits.{slice_split_first, slice_split_none}
 use Rattle.std.proofs.lemmas.List.Sums.{fails_before_first}
 use Rattle.caa_base.proofs.ListLemmas.{failed}
-use Rattle.action_script.specs.CutLines.{lines_of, without_empty_last}
+use Rattle.action_script.specs.CutLines.{lines_of, without_empty_last, IsPassed}
 use Rattle.action_script.proofs.Pieces.{some_piece}
 
 abbrev pub pieces_of : List ℕ → List (List ℕ)
@@ -55,3 +55,35 @@ filled_whole (b ∷ rest) h = refl
 
 pub lines_of-whole : (text : List ℕ) → 0 < length text → position (λ b. b == 10) text ≡ None → lines_of text ≡ text ∷ []
 lines_of-whole text filled h = ap without_empty_last (pieces_of-whole text h) ∙ filled_whole text filled
+
+-- ---- blocks without a line feed
+
+-- bytes of which none is a line feed are passed
+passed_front : (count : ℕ) (text : List ℕ) → count ≤ length text → list_any (λ b. b == 10) (take count text) ≡ false → IsPassed text count
+passed_front zero text within none = omega arith
+passed_front (suc count) [] within none = absurd (omega (arith, within))
+passed_front (suc count) (b ∷ text) within none = by (b == 10) refl none (passed_front count text (omega (arith, within)))
+  where
+    by : (feed : Bool) → (b == 10) ≡ feed → (feed || list_any (λ b. b == 10) (take count text)) ≡ false → (list_any (λ b. b == 10) (take count text) ≡ false → IsPassed text count) → IsPassed (b ∷ text) (suc count)
+    by true e h rest = cc
+    by false e h rest = rw e (omega (arith, rest h))
+
+pub passed_more : (text : List ℕ) (passed count : ℕ) → passed + count ≤ length text → IsPassed text passed → list_any (λ b. b == 10) (take count (drop passed text)) ≡ false → IsPassed text (passed + count)
+passed_more text passed count within before none =
+    let rest = passed_front count (drop passed text) (omega (arith, within, length-drop passed text)) none in
+    omega (arith, before, rest, ap (λ l. position_or_len (λ b. b == 10) l) (drop-drop count passed text))
+
+-- so the first line feed stands as far behind them as in the rest
+pub found_behind : (text : List ℕ) (passed : ℕ) → passed ≤ length text → IsPassed text passed → position (λ b. b == 10) text ≡ option_map (λ i. passed + i) (position (λ b. b == 10) (drop passed text))
+found_behind text passed within before = by (nat_lt (position_or_len (λ b. b == 10) (drop passed text)) (length (drop passed text))) refl
+  where
+    whole : (place : ℕ) → position_or_len (λ b. b == 10) text ≡ passed + place → (b : Bool) → nat_lt (passed + place) (length text) ≡ b → position (λ b. b == 10) text ≡ cond b (Some (passed + place)) None
+    whole place at b e = ap (λ k. cond (nat_lt k (length text)) (Some k) None) at ∙ ap (λ b. cond b (Some (passed + place)) None) e
+
+    by : (b : Bool) → nat_lt (position_or_len (λ b. b == 10) (drop passed text)) (length (drop passed text)) ≡ b → position (λ b. b == 10) text ≡ option_map (λ i. passed + i) (cond b (Some (position_or_len (λ b. b == 10) (drop passed text))) None)
+    by true e =
+        let place = position_or_len (λ b. b == 10) (drop passed text) in
+        whole place before true (lt-ltb (passed + place) (length text) (omega (arith, within, length-drop passed text, ltb-true place (length (drop passed text)) e)))
+    by false e =
+        let place = position_or_len (λ b. b == 10) (drop passed text) in
+        whole place before false (le-ltb (passed + place) (length text) (omega (arith, within, length-drop passed text, ltb-false place (length (drop passed text)) e)))

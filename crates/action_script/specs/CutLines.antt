@@ -1,6 +1,6 @@
 -- How the bytes of a script are cut into lines, and a line into words.
-use Rattle.std.specs.Prelude.{ℕ, ◌==◌, nat_le, if◌then◌else◌, Bool, false, not, ◌&&◌, ◌||◌, List, [], ◌∷◌, filter}
-use Rattle.std.specs.List.{slice_split}
+use Rattle.std.specs.Prelude.{◌≡◌, ℕ, ◌+◌, ◌==◌, nat_le, if◌then◌else◌, Bool, false, not, ◌&&◌, ◌||◌, List, [], ◌∷◌, filter, drop}
+use Rattle.std.specs.List.{slice_split, position_or_len}
 use Rattle.caa_base.specs.Lists.{is_empty}
 
 -- ---- lines
@@ -14,6 +14,10 @@ without_empty_last (piece ∷ next ∷ more) = piece ∷ without_empty_last (nex
 -- what stands between the line feeds of a text
 abbrev pub lines_of : List ℕ → List (List ℕ)
 lines_of bytes = without_empty_last (slice_split (λ b. b == 10) bytes)
+
+-- no line feed is among the first `count` bytes of a text, so the first one stands as far behind them as in the rest
+abbrev pub IsPassed : List ℕ → ℕ → Type 0
+IsPassed text count = position_or_len (λ b. b == 10) text ≡ count + position_or_len (λ b. b == 10) (drop count text)
 
 -- ---- words
 

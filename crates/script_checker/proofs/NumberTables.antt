@@ -234,6 +234,12 @@ twice_of_rest zero xs h = h
 twice_of_rest (suc i) [] h = h
 twice_of_rest (suc i) (x ∷ xs) h = or_right (member x xs) (has_twice xs) (twice_of_rest i xs h)
 
+-- a number that is among those behind it stands twice
+pub twice_behind : (xs : List ℕ) (i j d : ℕ) → i + 1 ≡ j → i < length xs → member (get_or xs i d) (drop j xs) ≡ true → has_twice xs ≡ true
+twice_behind xs i j d next within h =
+    let rest : drop i xs ≡ get_or xs i d ∷ drop j xs = rw (← next, add-one) (drop-cons xs i d within) in
+    twice_of_rest i xs (rw rest (or_left (member (get_or xs i d) (drop j xs)) (has_twice (drop j xs)) h))
+
 module _ (xs met : List ℕ) (i j d : ℕ) (next : i + 1 ≡ j) (within : i < length xs) (back : met ≡ reverse (drop j xs)) where
   rest : drop i xs ≡ get_or xs i d ∷ drop j xs
   rest = rw (← next, add-one) (drop-cons xs i d within)
@@ -243,7 +249,7 @@ module _ (xs met : List ℕ) (i j d : ℕ) (next : i + 1 ≡ j) (within : i < le
 
   -- a number that was met on the way back stands twice
   pub twice_found : member (get_or xs i d) met ≡ true → has_twice xs ≡ true
-  twice_found h = twice_of_rest i xs (rw rest (or_left _ _ (sym is_met ∙ h)))
+  twice_found h = twice_behind xs i j d next within (sym is_met ∙ h)
 
   -- one that wasn't doesn't yet
   pub twice_next : member (get_or xs i d) met ≡ false → has_twice (drop j xs) ≡ false → (met ++ get_or xs i d ∷ [] ≡ reverse (drop i xs)) × (has_twice (drop i xs) ≡ false)

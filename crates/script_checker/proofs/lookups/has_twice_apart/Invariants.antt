@@ -1,6 +1,6 @@
 use Rattle.std.proofs.Common.{◌≡◌, length}
 use Rattle.script_checker.specs.Numbers.{has_twice}
-use Rattle.script_checker.proofs.lookups.has_twice_among_few.Given as goal
+use Rattle.script_checker.proofs.lookups.has_twice_apart.Given as goal
 
 abbrev pub invariant-loop-number : goal.invariant-loop-number
 invariant-loop-number l = has_twice l.behind ≡ has_twice l.list
