@@ -8,6 +8,7 @@ pub mod Counted
 pub mod Weighing
 pub mod Unfolds
 pub mod MadePlan
+pub mod MetAgain
 pub mod EntryKinds
 pub mod LegalProp
 pub mod ClosedPlan

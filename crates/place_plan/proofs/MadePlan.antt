@@ -28,14 +28,14 @@ module _ (draft : Draft) where
     bound = most;
   }
 
-  pub made_view : (places : List PlaceRow) (plays : List ℕ) (most : ℕ) → IsMade draft places plays → plan_view (made places plays most) ≡ plan_of draft
+  pub made_view : (places : List PlaceRow) (plays : List ℕ) (most : ℕ) → IsMade draft.actions draft.plays places plays → plan_view (made places plays most) ≡ plan_of draft
   made_view places plays most h = λ i. record {
     participants = draft.participants;
     objects = draft.objects;
     graphs = draft.graphs;
     actions = draft.actions;
     places = h.places_are i;
-    plays = h.plays_are i;
+    plays = h.tops_are i;
     drills = draft.drills;
     watches = draft.watches;
   }
@@ -47,7 +47,7 @@ module _ (draft : Draft) where
   pub bound_counted : broken_rule draft ≡ None → counted (bound (plan_of draft)) ≡ bound (plan_of draft)
   bound_counted whole = omega (arith, leb-true _ _ (and_parts (nat_le (length (plan_of draft).places) most_places) _ (keeps_rules draft whole).1).1)
 
-  pub kept : broken_rule draft ≡ None → AreSound draft.graphs → (places : List PlaceRow) (plays : List ℕ) (most : ℕ) → IsMade draft places plays → most ≡ counted (bound (plan_of draft)) → IsKept (made places plays most)
+  pub kept : broken_rule draft ≡ None → AreSound draft.graphs → (places : List PlaceRow) (plays : List ℕ) (most : ℕ) → IsMade draft.actions draft.plays places plays → most ≡ counted (bound (plan_of draft)) → IsKept (made places plays most)
   kept whole sound places plays most h b =
       let same = made_view places plays most h in
       record {

@@ -96,7 +96,7 @@ plan_of draft = record {
 abbrev pub bare_place : ℕ → List ℕ → List ℕ → ℕ → PlaceRow
 bare_place a who around i = record { around = around; nest = i; action = a; roles = who; children = [] }
 
--- these are the places of the plan of a draft, and its plays
-pub record IsMade (draft : Draft) (places : List PlaceRow) (plays : List ℕ) : Type 0 where
-  pub places_are : places ≡ (plan_of draft).places
-  pub plays_are : plays ≡ (plan_of draft).plays
+-- these are the places into which plays of such actions unfold, and these of them are the plays
+pub record IsMade (actions : List ActionRow) (plays : List PlayRow) (places : List PlaceRow) (tops : List ℕ) : Type 0 where
+  pub places_are : places ≡ plays_from (unfold_at most_depth actions) 0 plays
+  pub tops_are : tops ≡ tops_from (unfold_at most_depth actions) 0 plays

@@ -5,6 +5,7 @@ pub mod action_size;
 mod bound;
 pub mod close;
 mod depth;
+pub mod differing;
 pub mod draft;
 pub mod draft_rows;
 mod fitting;

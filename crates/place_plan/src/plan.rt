@@ -155,26 +155,26 @@ impl Plan {
             Ok(size) => size,
             Err(rule) => return Err(PlanError::BadPart { rule }),
         };
-        let Ok((places, plays)) = unfold_plays(alloc, &draft) else {
-            return Err(PlanError::OutOfMemory);
-        };
         are_sound(draft.graphs.as_slice());
         let Draft {
             participants,
             objects,
             graphs,
             actions,
-            plays: _,
+            plays,
             drills,
             watches,
         } = draft;
+        let Ok((places, tops)) = unfold_plays(alloc, actions.as_slice(), plays) else {
+            return Err(PlanError::OutOfMemory);
+        };
         Ok(Plan {
             participants,
             objects,
             graphs,
             actions,
             places: Rows::from_vec(places),
-            plays: Rows::from_vec(plays),
+            plays: Rows::from_vec(tops),
             drills,
             watches,
             bound: size.bound,

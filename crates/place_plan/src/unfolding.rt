@@ -1,12 +1,11 @@
-ghost use Rattle.std.specs.Prelude.{◌≡◌, ◌≤◌, ◌+◌, ◌++◌, ◌∷◌, true, length, slice_index_or, IfOk};
+ghost use Rattle.std.specs.Prelude.{◌≡◌, ◌≤◌, ◌+◌, ◌++◌, ◌∷◌, [], true, length, slice_index_or, IfOk};
 ghost use Rattle.std.specs.List.{list_all};
-ghost use Rattle.caa_base.specs.Limits.{most_actions, most_places};
+ghost use Rattle.caa_base.specs.Limits.{most_actions, most_depth, most_places};
 ghost use Rattle.place_plan.specs.Places.{no_action};
 ghost use Rattle.place_plan.specs.DraftRules.{action_fits};
-ghost use Rattle.place_plan.specs.Unfolding.{unfold_at, use_from, numbers_from, cast_of, bare_place, plan_of, IsMade};
+ghost use Rattle.place_plan.specs.Unfolding.{unfold_at, use_from, numbers_from, cast_of, bare_place, plays_from, IsMade};
 
-use crate::draft::Draft;
-use crate::draft_rows::{ActionRow, NestRow, PlaceRow};
+use crate::draft_rows::{ActionRow, NestRow, PlaceRow, PlayRow};
 use caa_base::entry::{Participant, Place};
 use caa_base::limits::MOST_DEPTH;
 use caa_base::rows::Rows;
@@ -172,29 +171,65 @@ fn unfold_use(
     Ok(Rows::from_vec(numbers))
 }
 
-/// The places into which the plays of a draft unfold, and which of them are the plays.
+/// The place of a play that nests nothing; it takes the participants of the play over.
+fn lone_place(alloc: Global, play: PlayRow) -> PlaceRow
+    ensures { result ≡ bare_place play.action play.who [] 0 }
+{
+    PlaceRow {
+        around: Rows::from_vec(Vec::new(alloc)),
+        nest: 0,
+        action: play.action,
+        roles: play.who,
+        children: Rows::from_vec(Vec::new(alloc)),
+    }
+}
+
+/// Appends the places of a play. Where no memory is found, only some of them may have been appended.
+fn unfold_play(
+    alloc: Global,
+    actions: &[ActionRow],
+    play: PlayRow,
+    places: &mut Vec<PlaceRow>,
+) -> Result<(), AllocError>
+    requires fit { list_all action_fits actions.now ≡ true }
+    requires few { length places.old.items
+        + length (unfold_at most_depth actions.now play.action play.who [] 0 (length places.old.items))
+        ≤ most_places }
+    ensures { IfOk result (λ _.
+        places.new.items
+        ≡ places.old.items ++ unfold_at most_depth actions.now play.action play.who [] 0 (length places.old.items)) }
+{
+    if nests_of(actions, play.action).is_empty() {
+        places.push(lone_place(alloc, play))?;
+        return Ok(());
+    }
+    unfold(
+        alloc,
+        actions,
+        play.action,
+        play.who.as_slice(),
+        &[],
+        0,
+        MOST_DEPTH,
+        places,
+    )
+}
+
+/// The places into which plays of these actions unfold, and which of them are the plays.
 pub(crate) fn unfold_plays(
     alloc: Global,
-    draft: &Draft,
+    actions: &[ActionRow],
+    plays: Rows<PlayRow>,
 ) -> Result<(Vec<PlaceRow>, Vec<Place>), AllocError>
-    requires fit { list_all action_fits draft.now.actions ≡ true }
-    requires few { length (plan_of draft.now).places ≤ most_places }
-    ensures { IfOk result (λ made. IsMade draft.now made.0.items made.1.items) }
+    requires fit { list_all action_fits actions.now ≡ true }
+    requires few { length (plays_from (unfold_at most_depth actions.now) 0 plays) ≤ most_places }
+    ensures { IfOk result (λ made. IsMade actions.now plays made.0.items made.1.items) }
 {
     let mut places = Vec::new(alloc);
-    let mut plays = Vec::new(alloc);
-    for play in draft.plays.as_slice() {
-        plays.push(places.len() as u32)?;
-        unfold(
-            alloc,
-            draft.actions.as_slice(),
-            play.action,
-            play.who.as_slice(),
-            &[],
-            0,
-            MOST_DEPTH,
-            &mut places,
-        )?;
+    let mut tops = Vec::new(alloc);
+    for play in plays.into_vec() {
+        tops.push(places.len() as u32)?;
+        unfold_play(alloc, actions, play, &mut places)?;
     }
-    Ok((places, plays))
+    Ok((places, tops))
 }

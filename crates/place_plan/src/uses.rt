@@ -3,8 +3,9 @@ ghost use Rattle.std.specs.List.{list_all};
 ghost use Rattle.caa_base.specs.Limits.{most_roles};
 ghost use Rattle.place_plan.specs.Places.{no_action};
 ghost use Rattle.caa_base.specs.Lists.{is_empty, member};
-ghost use Rattle.place_plan.specs.DraftRules.{all_below, nests_below, order_rule, all_differ, fills, nest_fills, fill_rule, action_fits, entered_by, filled_by, same_numbers, roles_enter, enter_rule, holds_step, holds_role, holds_nest, holds_action, object_rule, handlers_differ, face_of, maps_all, handler_rule, has_one_face, face_rule};
+ghost use Rattle.place_plan.specs.DraftRules.{all_below, nests_below, order_rule, fills, nest_fills, fill_rule, action_fits, entered_by, filled_by, same_numbers, roles_enter, enter_rule, holds_step, holds_role, holds_nest, holds_action, object_rule, handlers_differ, face_of, maps_all, handler_rule, has_one_face, face_rule};
 
+use crate::differing::all_differ;
 use crate::draft::Draft;
 use crate::draft_rows::{ActionRow, HandlerRow, NestRow, Program, RoleRow, Step};
 use crate::member::is_member;
@@ -38,18 +39,6 @@ pub(crate) fn keeps_order(draft: &Draft) -> bool
 }
 
 // ---- roles and who plays them
-
-/// Whether no number stands twice in a list.
-fn all_differ(numbers: &[u32]) -> bool
-    ensures { result ≡ all_differ numbers.now }
-{
-    for (index, number) in numbers.iter().enumerate() {
-        if is_member(*number, &numbers[index + 1..]) {
-            return false;
-        }
-    }
-    true
-}
 
 fn fills(draft: &Draft, action: u32, who: &[u32]) -> bool
     ensures { result ≡ fills draft.now action who.now }
