@@ -9,4 +9,4 @@ pub mod Spelling
 pub mod MetPlays
 pub mod SoFar
 pub mod Printing
-pub mod OneOrSeveral
+pub mod FewOrMany

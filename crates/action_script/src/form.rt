@@ -1,10 +1,11 @@
 ghost use Rattle.std.specs.Prelude.{◌≡◌, ◌≤◌, ◌++◌, length, map, IfOk, OnOk, IsTrue};
 ghost use Rattle.action_script.specs.Kinds.{takes};
+ghost use Rattle.action_script.specs.FewOrMany.{most_few};
 ghost use Rattle.action_script.specs.Forms.{kind_of, fields_of, form_by, name_in, name_at, value_at, count_at, test_at, names_from};
 
 use crate::field::Field;
 use crate::kind::LineKind;
-use crate::numbers::Numbers;
+use crate::numbers::{MOST_FEW, Numbers};
 use caa_base::entry::Test;
 use std::alloc::{AllocError, Global};
 
@@ -124,15 +125,28 @@ fn test_at(fields: &[Field], index: usize) -> Test
     }
 }
 
+/// The names that these few fields say. It takes no memory.
+fn few_names(fields: &[Field]) -> Numbers
+    requires { length fields.now ≤ most_few }
+    ensures { result ≡ names_from fields.now 0 }
+{
+    let mut names = [0; MOST_FEW];
+    for (index, field) in fields.iter().enumerate() {
+        names[index] = name_in(Some(*field));
+    }
+    Numbers::few(&names[..fields.len()])
+}
+
 /// The names that the fields from an index on say.
 fn names_from(alloc: Global, fields: &[Field], index: usize) -> Result<Numbers, AllocError>
     requires { index ≤ length fields.now }
     ensures { IfOk result (λ names. names ≡ names_from fields.now index) }
 {
-    if fields.len() == index + 1 {
-        return Ok(Numbers::one(name_in(Some(fields[index]))));
+    let fields = &fields[index..];
+    if fields.len() <= MOST_FEW {
+        return Ok(few_names(fields));
     }
-    let names = fields[index..]
+    let names = fields
         .iter()
         .map(|field| name_in(Some(*field)))
         .collect(alloc)?;

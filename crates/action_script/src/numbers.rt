@@ -1,19 +1,23 @@
-ghost use Rattle.std.specs.Prelude.{◌≡◌, ◌∷◌, [], IfOk};
+ghost use Rattle.std.specs.Prelude.{◌≡◌, ◌≤◌, length, IfOk};
+ghost use Rattle.action_script.specs.FewOrMany.{most_few};
 
 use caa_base::entry::OutOfMemory;
 use std::alloc::Global;
 use std::marker::Model;
 
-/// One number by itself, or a vector of numbers.
+/// So many numbers take no memory of their own.
+pub(crate) const MOST_FEW: usize = 5;
+
+/// A few numbers, or a vector of numbers.
 #[derive(Drop)]
 enum Items {
-    One([u32; 1]),
-    Several(Vec<u32>),
+    Few([u32; MOST_FEW], u32),
+    Many(Vec<u32>),
 }
 
-/// The numbers of one or more names of a script, seen as the list of these numbers.
+/// The numbers of names of a script, seen as the list of these numbers.
 ///
-/// One number alone, which most lists are, takes no memory of its own.
+/// A few numbers, which most lists have, take no memory of their own.
 #[derive(Drop)]
 pub struct Numbers {
     items: Items,
@@ -21,11 +25,13 @@ pub struct Numbers {
 
 impl Model for Numbers {
     ghost use Rattle.std.specs.Prelude.{List, ℕ};
-    ghost use Rattle.action_script.specs.OneOrSeveral.{list_of};
+    ghost use Rattle.action_script.specs.FewOrMany.{list_of, IsFilled};
 
     ghost Value = { List ℕ };
 
     ghost view = { λ n. list_of n.items };
+
+    ghost invariant = { λ n. IsFilled n.items };
 }
 
 impl Numbers {
@@ -33,19 +39,22 @@ impl Numbers {
     pub fn from_slice(alloc: Global, items: &[u32]) -> Result<Numbers, OutOfMemory>
         ensures { IfOk result (λ numbers. numbers ≡ items.now) }
     {
-        if items.len() == 1 {
-            return Ok(Numbers::one(items[0]));
+        if items.len() <= MOST_FEW {
+            return Ok(Numbers::few(items));
         }
         let items = Vec::from_slice(alloc, items)?;
         Ok(Numbers::from_vec(items))
     }
 
-    /// One number. It takes no memory.
-    pub fn one(number: u32) -> Numbers
-        ensures { result ≡ number ∷ [] }
+    /// The list of these few numbers. It takes no memory.
+    pub(crate) fn few(items: &[u32]) -> Numbers
+        requires { length items.now ≤ most_few }
+        ensures { result ≡ items.now }
     {
+        let mut numbers = [0; MOST_FEW];
+        numbers[..items.len()].copy_from_slice(items);
         Numbers {
-            items: Items::One([number]),
+            items: Items::Few(numbers, items.len() as u32),
         }
     }
 
@@ -54,7 +63,7 @@ impl Numbers {
         ensures { result ≡ items.items }
     {
         Numbers {
-            items: Items::Several(items),
+            items: Items::Many(items),
         }
     }
 
@@ -70,8 +79,8 @@ impl Numbers {
         ensures { result.now ≡ self.now }
     {
         match &self.items {
-            Items::One(number) => number,
-            Items::Several(numbers) => numbers.as_slice(),
+            Items::Few(numbers, count) => &numbers[..*count as usize],
+            Items::Many(numbers) => numbers.as_slice(),
         }
     }
 }
