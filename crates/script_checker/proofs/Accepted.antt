@@ -45,6 +45,17 @@ module _ (s : SoFar) (f : Form) (none : HasNone s f) where
   pub faced : has_other_face s f ≡ false
   faced = false_from_ne_true (has_other_face s f) (λ e. none cause.AlternateFace e)
 
+-- ---- what is being declared has ended
+
+closed_shut : (s : SoFar) (v : Verdict) (o : Option Opening) → s.opening ≡ o → (closed_if s o v).opening ≡ None
+closed_shut s v None e = e
+closed_shut s v (Some o) e = refl
+
+-- so it has before a line that doesn't go on with it
+pub settled_shut : (s : SoFar) (b : Bool) → b ≡ false → (settled_if b s).opening ≡ None
+settled_shut s true e = absurd (false≢true (sym e))
+settled_shut s false e = closed_shut s verdict.Done s.opening refl
+
 -- ---- induction on the lines
 
 -- the end of a body or a handler keeps it, and so does a line without cause that may stand there
@@ -63,15 +74,6 @@ module _ (names : List (List ℕ)) (Holds : Section → SoFar → Type 0) (kept 
   at_the_top section.Action s e h = absurd (false≢true e)
   at_the_top section.Body s e h = absurd (false≢true e)
   at_the_top section.Handler s e h = absurd (false≢true e)
-
-  closed_shut : (s : SoFar) (v : Verdict) (o : Option Opening) → s.opening ≡ o → (closed_if s o v).opening ≡ None
-  closed_shut s v None e = e
-  closed_shut s v (Some o) e = refl
-
-  -- what is being declared has ended before a line that doesn't go on with it
-  settled_shut : (s : SoFar) (b : Bool) → b ≡ false → (settled_if b s).opening ≡ None
-  settled_shut s true e = absurd (false≢true (sym e))
-  settled_shut s false e = closed_shut s verdict.Done s.opening refl
 
   pub holds_after : (at : Section) (s : SoFar) (lines : List Line) → lead_to_top at (forms_of lines) ≡ true → list_all (is_sound names) (forms_of lines) ≡ true → AreAccepted names s lines → Holds at s → Holds section.Top (declared_after names s lines)
   holds_after at s [] lead sound accepted h = at_the_top at s lead h

@@ -24,6 +24,7 @@ pub mod RangesKept
 pub mod MapsKept
 pub mod AcceptedDraft
 pub mod PlayLines
+pub mod PlaysAgain
 pub mod Unbroken
 pub mod NamesKept
 pub mod NumberRuns

@@ -1,5 +1,5 @@
 -- Lemmas on lists of names and the tables of their places.
-use Rattle.std.proofs.Common.{◌≡◌, ℕ, ◌==◌, ◌+◌, ◌<◌, ◌≤◌, Bool, true, false, cond, nat_lt, nat_eq, List, [], ◌∷◌, ◌++◌, ◌||◌, length, slice_get, position, Some, None, Option, take, drop, reverse, get_or, add-one, refl, sym, ap, subst, ◌∙◌, arith, zero, suc, inl, inr, ◌⊎◌}
+use Rattle.std.proofs.Common.{◌≡◌, ℕ, ◌==◌, ◌+◌, ◌<◌, ◌≤◌, Bool, true, false, cond, nat_lt, nat_eq, not, ◌&&◌, List, [], ◌∷◌, ◌++◌, ◌||◌, length, slice_get, position, Some, None, Option, take, drop, reverse, get_or, add-one, refl, sym, ap, subst, ◌∙◌, arith, zero, suc, inl, inr, ◌⊎◌}
 use Rattle.std.proofs.lemmas.Bool.{eqb-true, eq-eqb, ne_eqb, false≢true, cases_eq, cases_Bool, or_left, or_right, lt-ltb, ltb-true, ltb-false}
 use Rattle.std.proofs.lemmas.List.{length-append, reverse-append}
 use Rattle.std.proofs.lemmas.List.Folds.{list_any-append}
@@ -11,6 +11,7 @@ use Rattle.std.proofs.lemmas.Option.{cond_some}
 use Rattle.std.specs.HashMap.{HashMap, get}
 use Rattle.caa_base.specs.Lists.{member, index_of}
 use Rattle.caa_base.proofs.ListLemmas.{one_more_each, index_within}
+use Rattle.place_plan.specs.DraftRules.{all_differ}
 use Rattle.script_checker.specs.Numbers.{is_among, has_twice}
 use Rattle.script_checker.specs.NumberTable.{IsTableOf, few_names, run_of}
 use Rattle.script_checker.proofs.NumberRuns.{run_grows}
@@ -228,17 +229,20 @@ member_reverse x (y ∷ ys) =
 
 -- ---- numbers that stand twice
 
+-- one stands twice where the numbers don't all differ
+pub twice_or_differ : (xs : List ℕ) → has_twice xs ≡ not (all_differ xs)
+twice_or_differ [] = refl
+twice_or_differ (x ∷ xs) = by (member x xs) (twice_or_differ xs)
+  where
+    by : (b : Bool) → has_twice xs ≡ not (all_differ xs) → (b || has_twice xs) ≡ not (not b && all_differ xs)
+    by true rest = refl
+    by false rest = rest
+
 -- what stands twice in the rest stands twice
 twice_of_rest : (i : ℕ) (xs : List ℕ) → has_twice (drop i xs) ≡ true → has_twice xs ≡ true
 twice_of_rest zero xs h = h
 twice_of_rest (suc i) [] h = h
 twice_of_rest (suc i) (x ∷ xs) h = or_right (member x xs) (has_twice xs) (twice_of_rest i xs h)
-
--- a number that is among those behind it stands twice
-pub twice_behind : (xs : List ℕ) (i j d : ℕ) → i + 1 ≡ j → i < length xs → member (get_or xs i d) (drop j xs) ≡ true → has_twice xs ≡ true
-twice_behind xs i j d next within h =
-    let rest : drop i xs ≡ get_or xs i d ∷ drop j xs = rw (← next, add-one) (drop-cons xs i d within) in
-    twice_of_rest i xs (rw rest (or_left (member (get_or xs i d) (drop j xs)) (has_twice (drop j xs)) h))
 
 module _ (xs met : List ℕ) (i j d : ℕ) (next : i + 1 ≡ j) (within : i < length xs) (back : met ≡ reverse (drop j xs)) where
   rest : drop i xs ≡ get_or xs i d ∷ drop j xs
@@ -249,7 +253,7 @@ module _ (xs met : List ℕ) (i j d : ℕ) (next : i + 1 ≡ j) (within : i < le
 
   -- a number that was met on the way back stands twice
   pub twice_found : member (get_or xs i d) met ≡ true → has_twice xs ≡ true
-  twice_found h = twice_behind xs i j d next within (sym is_met ∙ h)
+  twice_found h = twice_of_rest i xs (rw rest (or_left (member (get_or xs i d) (drop j xs)) (has_twice (drop j xs)) (sym is_met ∙ h)))
 
   -- one that wasn't doesn't yet
   pub twice_next : member (get_or xs i d) met ≡ false → has_twice (drop j xs) ≡ false → (met ++ get_or xs i d ∷ [] ≡ reverse (drop i xs)) × (has_twice (drop i xs) ≡ false)

@@ -1,8 +1,7 @@
 -- A `play` line is judged by what the draft with its play unfolds into.
-use Rattle.std.proofs.Common.{◌≡◌, ℕ, true, false, List, [], ◌∷◌, ◌++◌, length, map, Option, Some, None, refl, sym, subst, ◌∙◌, arith}
+use Rattle.std.proofs.Common.{◌≡◌, ℕ, true, false, List, [], ◌∷◌, ◌++◌, length, Option, Some, None, refl, sym, subst, ◌∙◌, arith}
 use Rattle.std.specs.List.{list_all}
 use Rattle.std.proofs.lemmas.Bool.{and_parts, and_from, false_from_ne_true}
-use Rattle.caa_base.specs.Lists.{index_of}
 use Rattle.caa_base.specs.declared.entry.Verdict.TheVariants as verdict
 use Rattle.place_plan.specs.declared.draft.Draft.{Draft}
 use Rattle.place_plan.specs.declared.draft_rows.ActionRow.{ActionRow}
@@ -24,7 +23,7 @@ use Rattle.script_checker.specs.declared.check_error.CheckCause.TheVariants as c
 use Rattle.script_checker.specs.declared.parts.Opening.{Opening}
 use Rattle.script_checker.specs.DeclaredSoFar.{SoFar, nothing_yet}
 use Rattle.script_checker.specs.Causes.{is_unknown, is_unfilled, fills_twice}
-use Rattle.script_checker.specs.After.{closed_if, with_said}
+use Rattle.script_checker.specs.After.{closed_if, with_said, play_row}
 use Rattle.script_checker.specs.Compiled.{HasNoneBelow, declared_after, AreAccepted, IsDraftOf}
 use Rattle.script_checker.specs.PlaySizes.{AreSizesOf, CountsUnfolding}
 use Rattle.script_checker.proofs.ActionsGrow.{all_push}
@@ -53,10 +52,6 @@ sound_before names (l ∷ before) line rest h =
 
 -- ---- one play after lines without cause
 
--- the row of the play
-abbrev played : SoFar → ℕ → List ℕ → PlayRow
-played s action who = record { action = index_of action s.action_names; who = map (λ p. index_of p s.participants) who }
-
 -- the draft without that play
 abbrev without_play : SoFar → Draft → Draft
 without_play s draft = record draft { plays = s.plays }
@@ -76,7 +71,7 @@ module _ (names : List (List ℕ)) (s : SoFar) (action : ℕ) (who : List ℕ) (
   right : list_all (play_right (length draft.participants) draft.actions) draft.plays ≡ true
   right =
       rw (drafted.participants, few.participants.0, drafted.actions, drafted.plays)
-      (all_push (play_right (length s.participants) s.actions) s.plays (played s action who) weights.right (said_play names s action who known filled apart))
+      (all_push (play_right (length s.participants) s.actions) s.plays (play_row s action who) weights.right (said_play names s action who known filled apart))
 
   keeps : KeepsParts draft
   keeps =
@@ -100,10 +95,10 @@ module _ (names : List (List ℕ)) (s : SoFar) (action : ℕ) (who : List ℕ) (
   sized = record {
     parts = keeps;
     places =
-        (weighs_play one_place s.places s.actions s.plays s.all_places weights.places.0 (played s action who)).whole
+        (weighs_play one_place s.places s.actions s.plays s.all_places weights.places.0 (play_row s action who)).whole
         ∙ subst (λ (plays : List PlayRow). counted (played_weight (at s.places) plays) ≡ counted (length (plan_of draft).places)) drafted.plays (places_told s deep draft keeps drafted.actions weights.places.0.tell);
     bound =
-        (weighs_play own_entries s.bounds s.actions s.plays s.whole_bound weights.entries.0 (played s action who)).whole
+        (weighs_play own_entries s.bounds s.actions s.plays s.whole_bound weights.entries.0 (play_row s action who)).whole
         ∙ subst (λ (plays : List PlayRow). counted (played_weight (at s.bounds) plays) ≡ counted (bound (plan_of draft))) drafted.plays (entries_told s deep draft keeps drafted.actions weights.entries.0.tell);
   }
 

@@ -19,7 +19,7 @@ use Rattle.script_checker.specs.declared.parts.Opening.{Opening}
 use Rattle.script_checker.specs.Numbers.{is_among}
 use Rattle.script_checker.specs.DeclaredSoFar.{SoFar, action_of}
 use Rattle.script_checker.specs.Causes.{is_action, is_unknown, is_unfilled, fills_twice}
-use Rattle.script_checker.specs.After.{closed_if, ended, with_said, action_row}
+use Rattle.script_checker.specs.After.{closed_if, ended, with_said, action_row, play_row}
 use Rattle.script_checker.specs.Compiled.{HasNone}
 use Rattle.caa_base.proofs.ListLemmas.{all_imply}
 use Rattle.script_checker.proofs.Choosing.{known}
@@ -61,7 +61,7 @@ module _ (names : List (List ℕ)) where
   ended_plays s block.Action h = all_imply (play_right (length s.participants) s.actions) (play_right (length s.participants) (s.actions ++ action_row names s ∷ [])) s.plays (more_actions (length s.participants) s.actions (action_row names s)) h
 
   -- one play more, whatever its sizes are
-  pub said_play : (s : SoFar) (action : ℕ) (who : List ℕ) → is_unknown s (form.Play action who) ≡ false → is_unfilled s (form.Play action who) ≡ false → fills_twice (form.Play action who) ≡ false → play_right (length s.participants) s.actions (record { action = index_of action s.action_names; who = map (λ p. index_of p s.participants) who }) ≡ true
+  pub said_play : (s : SoFar) (action : ℕ) (who : List ℕ) → is_unknown s (form.Play action who) ≡ false → is_unfilled s (form.Play action who) ≡ false → fills_twice (form.Play action who) ≡ false → play_right (length s.participants) s.actions (play_row s action who) ≡ true
   said_play s action who here full apart =
       let k = neither (is_action s action) (list_all (is_among s.participants) who) here in
       let d : all_differ (map (λ p. index_of p s.participants) who) ≡ true = differ_mapped s.participants who apart k.1 in

@@ -7,6 +7,7 @@ use Rattle.place_plan.specs.declared.draft_rows.RoleRow.{RoleRow}
 use Rattle.place_plan.specs.declared.draft_rows.AbortRow.{AbortRow}
 use Rattle.place_plan.specs.declared.draft_rows.AbortRow.TheVariants as abort
 use Rattle.place_plan.specs.declared.draft_rows.NestRow.{NestRow}
+use Rattle.place_plan.specs.declared.draft_rows.PlayRow.{PlayRow}
 use Rattle.place_plan.specs.declared.draft_rows.Program.{Program}
 use Rattle.place_plan.specs.declared.draft_rows.Step.{Step}
 use Rattle.place_plan.specs.declared.draft_rows.Step.TheVariants as step
@@ -227,6 +228,17 @@ ended names s block.Top = s
 ended names s block.Graph = with_graph s
 ended names s block.Action = with_action (without_parts s) (action_row names s)
 
+-- ---- plays
+
+-- an action that is played by these participants
+abbrev pub play_row : SoFar → ℕ → List ℕ → PlayRow
+play_row s action who = record { action = index_of action s.action_names; who = map (λ p. index_of p s.participants) who }
+
+-- one play more of the action of this name
+abbrev pub with_play : SoFar → ℕ → PlayRow → SoFar
+with_play s action row =
+    record s { plays = s.plays ++ row ∷ []; all_places = places_with s action; whole_bound = bound_with s action }
+
 -- ---- all lines
 
 -- what a line of each form adds, once a body or handler before it has ended
@@ -247,11 +259,7 @@ with_said names s (form.Watch object) = record s { watches = s.watches ++ index_
 with_said names s (form.Graph name) =
     record s { graph_names = s.graph_names ++ name ∷ []; block = block.Graph; exceptions = s.universal ∷ []; pairs = [] }
 with_said names s (form.Action name) = begun s name
-with_said names s (form.Play action who) = record s {
-  plays = s.plays ++ record { action = index_of action s.action_names; who = map (λ p. index_of p s.participants) who } ∷ [];
-  all_places = places_with s action;
-  whole_bound = bound_with s action;
-}
+with_said names s (form.Play action who) = with_play s action (play_row s action who)
 with_said names s (form.Exception name) = record s { exceptions = s.exceptions ++ name ∷ [] }
 with_said names s (form.Cover upper lower) =
     record s { pairs = s.pairs ++ (index_of upper s.exceptions, index_of lower s.exceptions) ∷ [] }

@@ -12,3 +12,4 @@ pub mod Rows
 pub mod DeclaredSoFar
 pub mod View
 pub mod PlaySizes
+pub mod PlaysAgain

@@ -1,13 +1,14 @@
 //! What a line adds to what is declared.
 
-ghost use Rattle.std.specs.Prelude.{◌≡◌, ◌<◌, ◌≤◌, ◌+◌, ◌++◌, ◌∷◌, [], true, false, length, map, slice_index_or, slice_set, Some, None, OnOk, IfOk};
+ghost use Rattle.std.specs.Prelude.{◌≡◌, ◌<◌, ◌≤◌, ◌+◌, ◌-◌, ◌++◌, ◌∷◌, [], true, false, length, map, slice_get, slice_index_or, slice_set, Some, None, OnOk, IfOk};
 ghost use Rattle.caa_base.specs.Limits.{most_roles};
 ghost use Rattle.caa_base.specs.Names.{name_at};
 ghost use Rattle.cover_table.specs.Cover.{most_exceptions};
 ghost use Rattle.place_plan.specs.Places.{no_nest};
 ghost use Rattle.script_checker.specs.DeclaredSoFar.{nothing_said};
 ghost use Rattle.script_checker.specs.Causes.{is_unknown, is_twice, is_past_limit};
-ghost use Rattle.script_checker.specs.After.{step_of, verdict_of, goes_on, is_of_parts, is_of_action, is_outside, settled, closed, with_step, with_opening, idle_role, with_abort, with_graph, begun, action_row, with_depth, with_places, with_bound, with_action_row, with_action, without_parts, with_said};
+ghost use Rattle.script_checker.specs.After.{step_of, verdict_of, goes_on, is_of_parts, is_of_action, is_outside, settled, closed, with_step, with_opening, idle_role, with_abort, with_graph, begun, action_row, with_depth, with_places, with_bound, with_action_row, with_action, without_parts, with_play, with_said};
+ghost use Rattle.script_checker.specs.PlaysAgain.{StandsAgain};
 ghost use Rattle.script_checker.specs.View.{so_far};
 
 use crate::causes::{bound_with, places_with};
@@ -499,19 +500,52 @@ fn add_drill(declared: &mut Declared, object: u32, nth: u32) -> Result<(), Alloc
     Ok(())
 }
 
-fn add_play(declared: &mut Declared, action: u32, who: &[u32]) -> Result<(), AllocError>
-    ensures { OnOk result (so_far declared.new ≡ with_said [] (so_far declared.old) (Form.Play action who.now)) }
+/// Adds the row of a play, and its places and entries.
+fn add_play_row(declared: &mut Declared, action: u32, row: PlayRow) -> Result<(), AllocError>
+    ensures { OnOk result (so_far declared.new ≡ with_play (so_far declared.old) action row) }
 {
-    let who = places_of(declared.alloc, &declared.participants, who)?;
     let all_places = places_with(declared, action);
     let whole_bound = bound_with(declared, action);
-    declared.plays.push(PlayRow {
-        action: declared.action_names.find(action),
-        who: Rows::from_vec(who),
-    })?;
+    declared.plays.push(row)?;
     declared.all_places = all_places;
     declared.whole_bound = whole_bound;
     Ok(())
+}
+
+fn add_play(declared: &mut Declared, action: u32, who: &[u32]) -> Result<(), AllocError>
+    ensures { OnOk result (so_far declared.new ≡ with_said [] (so_far declared.old) (Form.Play action who.now)) }
+{
+    let row = PlayRow {
+        action: declared.action_names.find(action),
+        who: Rows::from_vec(places_of(declared.alloc, &declared.participants, who)?),
+    };
+    add_play_row(declared, action, row)
+}
+
+/// The row of the last play, once more.
+fn copy_of_last(alloc: Global, plays: &[PlayRow]) -> Result<PlayRow, AllocError>
+    requires { 0 < length plays.now }
+    ensures { IfOk result (λ row. slice_get plays.now (length plays.now - 1) ≡ Some row) }
+{
+    let last = &plays[plays.len() - 1];
+    Ok(PlayRow {
+        action: last.action,
+        who: Rows::from_vec(last.who.as_slice().to_vec(alloc)?),
+    })
+}
+
+/// Adds a play that stands again. Its row is that of the last play, so no participant is looked up.
+pub(crate) fn add_again(declared: &mut Declared, form: &Form) -> Result<(), AllocError>
+    requires { StandsAgain (so_far declared.old) form.now }
+    ensures { OnOk result (so_far declared.new ≡ with_said [] (so_far declared.old) form.now) }
+{
+    match form {
+        Form::Play(action, _) => {
+            let row = copy_of_last(declared.alloc, &declared.plays)?;
+            add_play_row(declared, *action, row)
+        }
+        _ => Ok(()),
+    }
 }
 
 // ---- all lines

@@ -1,17 +1,18 @@
-ghost use Rattle.std.specs.Prelude.{◌≡◌, ◌≢◌, ◌<◌, ◌^◌, length, OnOk, IfOk, IfErr, MatchOption};
+ghost use Rattle.std.specs.Prelude.{◌≡◌, ◌≢◌, ◌<◌, ◌^◌, length, [], OnOk, IfOk, IfErr, IfSome, MatchOption};
 ghost use Rattle.place_plan.specs.Unfolding.{plan_of};
 ghost use Rattle.script_checker.specs.DeclaredSoFar.{nothing_yet};
 ghost use Rattle.script_checker.specs.Causes.{HasCause, ends_graph};
-ghost use Rattle.script_checker.specs.After.{after};
+ghost use Rattle.script_checker.specs.After.{after, with_said};
 ghost use Rattle.script_checker.specs.Chosen.{name_cause, size_cause, part_cause};
 ghost use Rattle.script_checker.specs.Graphs.{Ends};
 ghost use Rattle.script_checker.specs.Compiled.{IsLeast, HasNone, IsLeastCause, IsAccepted, AreRowsOf, IsDraftOf, BreaksNoRule, IsAnswer};
 ghost use Rattle.script_checker.specs.PlaySizes.{CountsUnfolding};
+ghost use Rattle.script_checker.specs.PlaysAgain.{is_same_play, IsJustTaken, StandsAgain};
 ghost use Rattle.script_checker.specs.Rows.{AddsRow, parted};
 ghost use Rattle.script_checker.specs.View.{so_far};
 ghost use Rattle.script_checker.specs.declared.check_error.CheckCause.TheVariants as cause;
 
-use crate::adding::{add, settle};
+use crate::adding::{add, add_again, settle};
 use crate::causes::{
     enters_otherwise, fills_twice, has_other_face, is_not_held, is_past_bound, is_past_limit,
     is_too_deep, is_twice, is_unfilled, is_unknown,
@@ -136,6 +137,55 @@ fn take(
     Ok(())
 }
 
+/// Whether two lines are the same play.
+fn is_same_play(line: &Form, next: &Form) -> bool
+    ensures { result ≡ is_same_play line.now next.now }
+{
+    match (line, next) {
+        (Form::Play(action, who), Form::Play(again, others)) => {
+            *action == *again && who.items() == others.items()
+        }
+        _ => false,
+    }
+}
+
+/// Takes a play that stands again. What its names and roles tell was told of the line before, so only its sizes are asked.
+fn take_again(declared: &mut Declared, form: &Form) -> Result<(), CheckCause>
+    requires { StandsAgain (so_far declared.old) form.now }
+    ensures accepted { OnOk result (HasNone (so_far declared.old) form.now) }
+    ensures taken { OnOk result (so_far declared.new ≡ with_said [] (so_far declared.old) form.now) }
+    ensures refused { IfErr result (λ c. c ≢ cause.OutOfMemory → IsLeast (so_far declared.old) form.now c) }
+{
+    match size_cause(declared, form) {
+        Some(cause) => Err(cause),
+        None => {
+            add_again(declared, form)?;
+            Ok(())
+        }
+    }
+}
+
+/// Takes a line into what is declared, as `take` does; the line before it, if there is one, was just taken.
+fn take_next(
+    declared: &mut Declared,
+    rows: &mut Vec<GraphRow>,
+    names: &[Name],
+    before: Option<&Form>,
+    form: &Form,
+) -> Result<(), CheckCause>
+    requires rows { AreRowsOf names.now (so_far declared.old).graphs rows.old.items }
+    requires before { IfSome before (λ line. IsJustTaken names.now (so_far declared.old) line.now) }
+    ensures accepted { OnOk result (IsAccepted (so_far declared.old) form.now) }
+    ensures taken { OnOk result (so_far declared.new ≡ after names.now (so_far declared.old) form.now) }
+    ensures rows { OnOk result (AreRowsOf names.now (so_far declared.new).graphs rows.new.items) }
+    ensures refused { IfErr result (λ c. c ≢ cause.OutOfMemory → IsLeastCause (so_far declared.old) form.now c) }
+{
+    match before {
+        Some(line) if is_same_play(line, form) => take_again(declared, form),
+        _ => take(declared, rows, names, form),
+    }
+}
+
 /// The draft of what a script declares.
 fn draft_of(declared: Declared, rows: Vec<GraphRow>) -> Draft
     ensures { result ≡ parted (so_far declared) rows.items }
@@ -202,9 +252,10 @@ pub fn compile(alloc: Global, script: &Script) -> Result<Plan, CheckError>
     let Ok(mut rows) = plain_rows(alloc, names) else {
         return Err(wanting());
     };
+    let mut before: Option<&Form> = None;
     for line in script.lines() {
-        match take(&mut declared, &mut rows, names, &line.form) {
-            Ok(()) => {}
+        match take_next(&mut declared, &mut rows, names, before, &line.form) {
+            Ok(()) => before = Some(&line.form),
             Err(cause) => {
                 return Err(CheckError {
                     line: line.number,

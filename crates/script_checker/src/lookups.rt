@@ -1,8 +1,8 @@
 //! What the names of a line mean where it stands.
 
-ghost use Rattle.std.specs.Prelude.{◌≡◌, true, false, length, map, slice_index_or, IfOk, IfSome};
+ghost use Rattle.std.specs.Prelude.{◌≡◌, true, false, length, map, slice_index_or, IfOk};
 ghost use Rattle.std.specs.List.{list_all};
-ghost use Rattle.caa_base.specs.Lists.{index_of, member};
+ghost use Rattle.caa_base.specs.Lists.{index_of};
 ghost use Rattle.place_plan.specs.Places.{no_action};
 ghost use Rattle.script_checker.specs.Numbers.{is_among, has_twice, chosen_from};
 ghost use Rattle.script_checker.specs.DeclaredSoFar.{exceptions_at, inner, outer, nest_of, face_of};
@@ -10,12 +10,12 @@ ghost use Rattle.script_checker.specs.View.{so_far};
 
 use crate::declared::Declared;
 use crate::number_list::NumberList;
-use cover_table::{MOST_EXCEPTIONS, Row, has_bit, with_bit};
+use place_plan::differing::all_differ;
 use place_plan::object_list::ObjectList;
 use std::alloc::{AllocError, Global};
 use std::collections::BTreeSet;
 
-/// In a list of so many numbers each is looked for among the others, which takes less time than a table does.
+/// So many numbers are told apart without a table, which takes less time.
 const FEW_NUMBERS: usize = 16;
 
 /// Whether each of some names is among those.
@@ -25,64 +25,6 @@ pub(crate) fn are_among(names: &NumberList, some: &[u32]) -> bool
     some.iter().all(|name| names.contains(*name))
 }
 
-/// How many bits a row has.
-const ROW_BITS: u32 = MOST_EXCEPTIONS as u32;
-
-/// Whether a number is one of these, which are looked at one by one.
-fn is_one_of(numbers: &[u32], number: u32) -> bool
-    ensures { result ≡ member number numbers.now }
-{
-    numbers.iter().any(|one| *one == number)
-}
-
-/// Whether one of these numbers stands twice among them, if none is below this one, nor further from it than a row has bits.
-///
-/// It goes over the numbers from the last one back, with a row of bits of those that it has met.
-fn has_twice_close(list: &[u32], least: u32) -> Option<bool>
-    ensures { IfSome result (λ yes. yes ≡ has_twice list.now) }
-{
-    let mut met: Row = 0;
-    for index in (0..list.len()).rev() {
-        let bit = list[index].checked_sub(least)?;
-        if bit >= ROW_BITS {
-            return None;
-        }
-        if has_bit(met, bit) {
-            return Some(true);
-        }
-        met = with_bit(met, bit);
-    }
-    Some(false)
-}
-
-/// Whether one of a few numbers stands twice among them, which are looked at one by one.
-fn has_twice_apart(list: &[u32]) -> bool
-    ensures { result ≡ has_twice list.now }
-{
-    let mut behind = list;
-    while let Some((number, rest)) = behind.split_first() {
-        if is_one_of(rest, *number) {
-            return true;
-        }
-        behind = rest;
-    }
-    false
-}
-
-/// Whether one of a few numbers stands twice among them. It takes no memory.
-///
-/// The names of a line mostly have numbers close to one another, and then a bit for each of them tells.
-fn has_twice_among_few(list: &[u32]) -> bool
-    ensures { result ≡ has_twice list.now }
-{
-    let first = list.first().copied().unwrap_or(0);
-    let least = first.saturating_sub(ROW_BITS / 2);
-    match has_twice_close(list, least) {
-        Some(yes) => yes,
-        None => has_twice_apart(list),
-    }
-}
-
 /// Whether a number stands twice in a list.
 ///
 /// It goes over the numbers of a long list once, from the last one back, with a table of those that it has met.
@@ -90,7 +32,7 @@ pub(crate) fn has_twice(alloc: Global, list: &[u32]) -> Result<bool, AllocError>
     ensures { IfOk result (λ yes. yes ≡ has_twice list.now) }
 {
     if list.len() <= FEW_NUMBERS {
-        return Ok(has_twice_among_few(list));
+        return Ok(!all_differ(list));
     }
     let mut met = NumberList::new(alloc);
     for index in (0..list.len()).rev() {

@@ -1,6 +1,9 @@
-use Rattle.std.proofs.Common.{◌-◌, sym, arith}
-use Rattle.script_checker.proofs.NumberTables.{twice_found, twice_next}
+use Rattle.std.proofs.Common.{◌-◌, not, sym, ap, ◌∙◌, arith}
+use Rattle.script_checker.proofs.NumberTables.{twice_or_differ, twice_found, twice_next}
 use Rattle.script_checker.proofs.lookups.has_twice.Goals as goal
+
+pub returns-then-list-le-FEW_NUMBERS : goal.returns-then-list-le-FEW_NUMBERS
+returns-then-list-le-FEW_NUMBERS c = ap not c.all_differ.ensures ∙ sym (twice_or_differ c.args.list.now)
 
 pub returns-then-contains : goal.returns-then-contains
 returns-then-contains c =
