@@ -33,7 +33,7 @@ find-passes test (y ∷ xs) x h = by (test y) refl h (find-passes test xs x)
     by true e g rest = let same : y ≡ x = cc in subst (λ z. test z ≡ true) same e
     by false e g rest = rest g
 
-pub by_words : (s : Section) (line : List ℕ) (said : Said) → length line ≤ most_line_bytes → (plain : Bool) (words : List (List ℕ)) → words_of line ≡ words → line_by_words s plain words ≡ Ok (Some said) → Speaks s line said
+by_words : (s : Section) (line : List ℕ) (said : Said) → length line ≤ most_line_bytes → (plain : Bool) (words : List (List ℕ)) → words_of line ≡ words → line_by_words s plain words ≡ Ok (Some said) → Speaks s line said
 by_words s line said short plain [] cut h = cc
 by_words s line said short plain (first ∷ words) cut h = by_comment (begins_comment first) refl h
   where

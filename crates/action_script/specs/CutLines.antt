@@ -15,7 +15,7 @@ without_empty_last (piece ∷ next ∷ more) = piece ∷ without_empty_last (nex
 abbrev pub lines_of : List ℕ → List (List ℕ)
 lines_of bytes = without_empty_last (slice_split (λ b. b == 10) bytes)
 
--- no line feed is among the first `count` bytes of a text, so the first one stands as far behind them as in the rest
+-- the first line feed of a text stands as far behind its first `count` bytes as it does in the rest, so none is among them
 abbrev pub IsPassed : List ℕ → ℕ → Type 0
 IsPassed text count = position_or_len (λ b. b == 10) text ≡ count + position_or_len (λ b. b == 10) (drop count text)
 

@@ -110,7 +110,7 @@ impl<'a> Asked<'a> {
 }
 
 /// Makes `asked` these words, each with what it is asked to be; where the parts end, names go on.
-pub fn fill_asked<'a>(
+fn fill_asked<'a>(
     asked: &mut Vec<Asked<'a>>,
     parts: &[Part],
     words: &[&'a [u8]],
