@@ -3,7 +3,7 @@ ghost use Rattle.action_script.specs.NumberedNames.{IsNameOf, with_name, number_
 ghost use Rattle.caa_base.specs.Names.{is_name};
 ghost use Rattle.action_script.specs.declared.script_error.ScriptCause.TheVariants as cause;
 
-use crate::classes::class_of;
+use crate::classes::{WORD_CLASSES, class_of};
 use crate::script_error::ScriptCause;
 use caa_base::name::{Name, is_name};
 use indexmap::IndexSet;
@@ -17,7 +17,7 @@ use std::marker::Model;
 pub struct NameTable<'a> {
     names: IndexSet<&'a [u8]>,
     /// For each class of words, the number of the name that was met last in it.
-    met: [u32; 256],
+    met: [u32; WORD_CLASSES],
 }
 
 impl<'a> Model for NameTable<'a> {
@@ -39,7 +39,7 @@ impl<'a> NameTable<'a> {
     {
         NameTable {
             names: IndexSet::new(alloc),
-            met: [0; 256],
+            met: [0; WORD_CLASSES],
         }
     }
 
@@ -56,10 +56,11 @@ impl<'a> NameTable<'a> {
     }
 
     /// The number of a word, where it is the name that was met last in this class.
-    fn met_in(&self, class: u8, word: &[u8]) -> Option<u32>
+    fn met_in(&self, class: usize, word: &[u8]) -> Option<u32>
+        requires { class < 4096 }
         ensures { IfSome result (λ number. IsNameOf self.now word.now number) }
     {
-        let number = self.met[class as usize];
+        let number = self.met[class];
         match self.names.as_slice().get(number as usize) {
             Some(name) if *name == word => Some(number),
             _ => None,
@@ -82,7 +83,7 @@ impl<'a> NameTable<'a> {
             return Ok(None);
         }
         let number = self.add(word)?;
-        self.met[class as usize] = number;
+        self.met[class] = number;
         Ok(Some(number))
     }
 
