@@ -1,5 +1,5 @@
 -- Words on lists of numbers.
-use Rattle.std.specs.Prelude.{ℕ, ◌+◌, nat_lt, if◌then◌else◌, Bool, false, ◌||◌, List, [], ◌∷◌, length}
+use Rattle.std.specs.Prelude.{ℕ, ◌+◌, nat_lt, if◌then◌else◌, Bool, false, ◌||◌, List, [], ◌∷◌, length, map}
 use Rattle.caa_base.specs.Lists.{member, index_of}
 
 -- names of a list: so many that their number and the place of each are below the greatest number of 32 bits
@@ -19,3 +19,12 @@ has_twice (x ∷ xs) = member x xs || has_twice xs
 abbrev pub chosen_from : ℕ → List ℕ → List ℕ → List ℕ
 chosen_from n some [] = []
 chosen_from n some (x ∷ xs) = if member x some then n ∷ chosen_from (n + 1) some xs else chosen_from (n + 1) some xs
+
+-- the places of the flags that are set; `n` is the place of the first flag
+abbrev pub set_from : ℕ → List Bool → List ℕ
+set_from n [] = []
+set_from n (flag ∷ flags) = if flag then n ∷ set_from (n + 1) flags else set_from (n + 1) flags
+
+-- for each of these names, whether it is one of some
+abbrev pub flags_of : List ℕ → List ℕ → List Bool
+flags_of some names = map (λ n. member n some) names

@@ -551,7 +551,6 @@ pub(crate) fn add_again(declared: &mut Declared, form: &Form) -> Result<(), Allo
 // ---- all lines
 
 fn add_uses(declared: &mut Declared, objects: &[u32]) -> Result<(), AllocError>
-    requires { is_unknown (so_far declared.old) (Form.Uses objects.now) ≡ false }
     ensures { OnOk result (so_far declared.new ≡ with_said [] (so_far declared.old) (Form.Uses objects.now)) }
 {
     declared.uses = places_in_order(declared.alloc, &declared.objects, objects)?;

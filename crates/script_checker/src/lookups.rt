@@ -1,10 +1,10 @@
 //! What the names of a line mean where it stands.
 
-ghost use Rattle.std.specs.Prelude.{◌≡◌, true, false, length, map, slice_index_or, IfOk};
+ghost use Rattle.std.specs.Prelude.{◌≡◌, ◌≤◌, true, false, not, length, map, replicate, slice_index_or, slice_set, IfOk};
 ghost use Rattle.std.specs.List.{list_all};
 ghost use Rattle.caa_base.specs.Lists.{index_of};
 ghost use Rattle.place_plan.specs.Places.{no_action};
-ghost use Rattle.script_checker.specs.Numbers.{is_among, has_twice, chosen_from};
+ghost use Rattle.script_checker.specs.Numbers.{is_among, most_names, has_twice, chosen_from, set_from, flags_of};
 ghost use Rattle.script_checker.specs.DeclaredSoFar.{exceptions_at, inner, outer, nest_of, face_of};
 ghost use Rattle.script_checker.specs.View.{so_far};
 
@@ -13,7 +13,6 @@ use crate::number_list::NumberList;
 use place_plan::differing::all_differ;
 use place_plan::object_list::ObjectList;
 use std::alloc::{AllocError, Global};
-use std::collections::BTreeSet;
 
 /// So many numbers are told apart without a table, which takes less time.
 const FEW_NUMBERS: usize = 16;
@@ -55,35 +54,90 @@ pub(crate) fn places_of(
     some.iter().map(|name| names.find(*name)).collect(alloc)
 }
 
-/// The numbers of some names among those, in a set that is in order.
-fn set_of_places(
+/// So many flags, none of which is set.
+fn clear_flags(alloc: Global, count: u32) -> Result<Vec<bool>, AllocError>
+    ensures { IfOk result (λ flags. flags.items ≡ replicate count false) }
+{
+    vec![in alloc; false; count as usize]
+}
+
+/// Sets a flag, and tells whether it wasn't set yet. There may be no such flag, and then nothing is set.
+#[tactic(auto, using(std::proofs::lemmas::List::set_past))]
+fn set_flag(flags: &mut Vec<bool>, place: usize) -> bool
+    ensures set { flags.new.items ≡ slice_set flags.old.items place true }
+    ensures fresh { result ≡ not (slice_index_or flags.old.items place true) }
+{
+    if place >= flags.len() {
+        return false;
+    }
+    let is_fresh = !flags[place];
+    flags[place] = true;
+    is_fresh
+}
+
+/// For each of these names, whether it is one of some; and how many flags were set, which are as many as there are of the latter only
+/// where none of them stands twice.
+fn flags_of(
     alloc: Global,
     names: &NumberList,
     some: &[u32],
-) -> Result<BTreeSet<u32>, AllocError>
+) -> Result<(Vec<bool>, usize), AllocError>
     requires apart { has_twice names.now ≡ false }
-    requires known { list_all (is_among names.now) some.now ≡ true }
-    ensures { IfOk result (λ places. places.keys ≡ chosen_from 0 some.now names.now) }
+    ensures flags { IfOk result (λ made. made.0.items ≡ flags_of some.now names.now) }
+    ensures small { IfOk result (λ made. length made.0.items ≤ most_names) }
+    ensures count { IfOk result (λ made. made.1 ≡ length some.now → has_twice some.now ≡ false) }
 {
-    let mut places = BTreeSet::new(alloc);
+    let mut flags = clear_flags(alloc, names.len())?;
+    let mut count = 0;
     for name in some {
-        places.insert(names.find(*name))?;
+        if set_flag(&mut flags, names.find(*name) as usize) {
+            count += 1;
+        }
+    }
+    Ok((flags, count))
+}
+
+/// The places of the flags that are set, in order.
+fn set_places(alloc: Global, flags: &[bool]) -> Result<Vec<u32>, AllocError>
+    requires { length flags.now ≤ most_names }
+    ensures { IfOk result (λ places. places.items ≡ set_from 0 flags.now) }
+{
+    let mut places = Vec::new(alloc);
+    for (place, flag) in flags.iter().enumerate() {
+        if *flag {
+            places.push(place as u32)?;
+        }
     }
     Ok(places)
 }
 
-/// The numbers of some names among those, in rising order.
+/// Whether one of some names stands twice. They mostly are all among those, and then a flag for each of those tells.
+pub(crate) fn has_twice_among(
+    alloc: Global,
+    names: &NumberList,
+    some: &[u32],
+) -> Result<bool, AllocError>
+    requires apart { has_twice names.now ≡ false }
+    ensures { IfOk result (λ yes. yes ≡ has_twice some.now) }
+{
+    let (_, count) = flags_of(alloc, names, some)?;
+    if count == some.len() {
+        return Ok(false);
+    }
+    has_twice(alloc, some)
+}
+
+/// The numbers of those names that are among some, in rising order.
 pub(crate) fn places_in_order(
     alloc: Global,
     names: &NumberList,
     some: &[u32],
 ) -> Result<ObjectList, AllocError>
     requires apart { has_twice names.now ≡ false }
-    requires known { list_all (is_among names.now) some.now ≡ true }
     ensures { IfOk result (λ places. places ≡ chosen_from 0 some.now names.now) }
 {
-    let places = set_of_places(alloc, names, some)?;
-    let places: Vec<u32> = places.into_iter().collect(alloc)?;
+    let (flags, _) = flags_of(alloc, names, some)?;
+    let places = set_places(alloc, &flags)?;
     Ok(ObjectList::from_vec(places))
 }
 
