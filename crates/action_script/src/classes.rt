@@ -9,7 +9,8 @@ pub const WORD_CLASSES: usize = 4096;
 /// How many bytes at either end of a line tell its class.
 const ENDS: usize = 16;
 
-/// A number whose first bits mostly differ for bytes that differ: 2 to the 32 by the golden ratio spreads what was turned and joined.
+/// A number that mostly differs for bytes that differ. Each byte is joined to what those before it made, turned; the factor, 2 to the
+/// 32 divided by the golden ratio, lets the first bits of the number depend on all others.
 fn number_of(bytes: &[u8]) -> u32 {
     let mut number: u32 = 0;
     for byte in bytes {

@@ -75,8 +75,8 @@ fn set_flag(flags: &mut Vec<bool>, place: usize) -> bool
     is_fresh
 }
 
-/// For each of these names, whether it is one of some; and how many flags were set, which are as many as there are of the latter only
-/// where none of them stands twice.
+/// For each of these names, whether it is one of some; and how many flags were set. That is as many as there are of some only where
+/// none of these stands twice.
 fn flags_of(
     alloc: Global,
     names: &NumberList,
