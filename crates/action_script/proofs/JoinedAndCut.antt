@@ -7,10 +7,10 @@ use Rattle.std.proofs.lemmas.Bool.Decides.{nat_tests}
 use Rattle.std.proofs.lemmas.List.{append-nil}
 use Rattle.std.proofs.lemmas.List.Folds.{list_all-append}
 use Rattle.std.proofs.lemmas.List.Splits.{slice_split_at, slice_split_none}
-use Rattle.action_script.specs.CutLines.{is_blank, is_plain, words_of, lines_of, without_empty_last}
+use Rattle.action_script.specs.CutLines.{filled_of, is_blank, is_plain, words_of, lines_of, without_empty_last}
 use Rattle.caa_base.specs.Lines.{spaced}
 use Rattle.action_script.proofs.LineCuts.{without_empty_last-cons}
-use Rattle.action_script.proofs.Pieces.{filled, some_piece}
+use Rattle.action_script.proofs.Pieces.{some_piece}
 use Rattle.action_script.proofs.Inky.{is_inky, IsWord}
 
 -- each of these is a word
@@ -42,12 +42,12 @@ none_pass test one (b ∷ word) h = let p = and_parts (is_inky b) _ h in All-con
 words_of-word : (word : List ℕ) → IsWord word → words_of word ≡ word ∷ []
 words_of-word word h =
     let none = none_pass is_blank inky_blank word h.inky in
-    ap filled (slice_split_none is_blank word none) ∙ ap (λ b. cond (not b) (word ∷ []) []) h.filled
+    ap filled_of (slice_split_none is_blank word none) ∙ ap (λ b. cond (not b) (word ∷ []) []) h.filled
 
 words_of-spaced : (word rest : List ℕ) → IsWord word → words_of (word ++ 32 ∷ rest) ≡ word ∷ words_of rest
 words_of-spaced word rest h =
     let none = none_pass is_blank inky_blank word h.inky in
-    ap filled (slice_split_at is_blank word 32 rest none refl) ∙ ap (λ b. cond (not b) (word ∷ words_of rest) (words_of rest)) h.filled
+    ap filled_of (slice_split_at is_blank word 32 rest none refl) ∙ ap (λ b. cond (not b) (word ∷ words_of rest) (words_of rest)) h.filled
 
 -- words parted by spaces are these words
 pub words_of-joined : (first : List ℕ) (words : List (List ℕ)) → IsWord first → AreWords words → words_of (first ++ spaced words) ≡ first ∷ words

@@ -1,6 +1,8 @@
 pub mod Pieces
 pub mod Numbering
+pub mod Marks
 pub mod LineCuts
+pub mod WordCuts
 pub mod Speaking
 pub mod NamesCounted
 pub mod Steadiness

@@ -2,11 +2,10 @@
 use Rattle.std.proofs.Common.{ℕ, ◌+◌, ◌≤◌, Bool, true, false, cond, if◌then◌else◌, List, [], ◌∷◌, ◌++◌, length, map, filter, arith}
 use Rattle.std.specs.List.{slice_split, onto_first}
 use Rattle.std.proofs.Math.ListN.{length-append}
-use Rattle.action_script.specs.CutLines.{is_blank, words_of}
+use Rattle.action_script.specs.CutLines.{filled_of, is_blank, words_of}
 use Rattle.action_script.specs.Asked.{Asked}
 use Rattle.action_script.specs.NumberedNames.{is_among, with_name, with_names}
 use Rattle.action_script.specs.Spelling.{is_name_part, names_of}
-use Rattle.action_script.proofs.Pieces.{filled}
 
 length-with_name : (names : List (List ℕ)) (word : List ℕ) → length (with_name names word) ≤ length names + 1
 length-with_name names word = by (is_among names word)
@@ -34,7 +33,7 @@ length-names_of (a ∷ asked) = by (is_name_part a.part) (length-names_of asked)
 
 -- ---- words
 
-filled-onto_first : (b : ℕ) (pieces : List (List ℕ)) → length (filled (onto_first b pieces)) ≤ length (filled pieces) + 1
+filled-onto_first : (b : ℕ) (pieces : List (List ℕ)) → length (filled_of (onto_first b pieces)) ≤ length (filled_of pieces) + 1
 filled-onto_first b [] = omega arith
 filled-onto_first b ([] ∷ pieces) = omega arith
 filled-onto_first b ((c ∷ piece) ∷ pieces) = omega arith
@@ -43,6 +42,6 @@ pub length-words_of : (line : List ℕ) → length (words_of line) ≤ length li
 length-words_of [] = omega arith
 length-words_of (b ∷ line) = by (is_blank b) (length-words_of line) (filled-onto_first b (slice_split is_blank line))
   where
-    by : (blank : Bool) → length (words_of line) ≤ length line → length (filled (onto_first b (slice_split is_blank line))) ≤ length (filled (slice_split is_blank line)) + 1 → length (filled (cond blank ([] ∷ slice_split is_blank line) (onto_first b (slice_split is_blank line)))) ≤ length (b ∷ line)
+    by : (blank : Bool) → length (words_of line) ≤ length line → length (filled_of (onto_first b (slice_split is_blank line))) ≤ length (filled_of (slice_split is_blank line)) + 1 → length (filled_of (cond blank ([] ∷ slice_split is_blank line) (onto_first b (slice_split is_blank line)))) ≤ length (b ∷ line)
     by true h g = omega arith
     by false h g = omega arith

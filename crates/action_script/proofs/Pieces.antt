@@ -1,12 +1,7 @@
 -- The pieces into which a text is split, and how many bytes they have.
-use Rattle.std.proofs.Common.{◌≡◌, ◌≢◌, ℕ, ◌+◌, Bool, true, false, not, cond, List, [], ◌∷◌, length, filter, refl, ap, arith}
+use Rattle.std.proofs.Common.{◌≡◌, ◌≢◌, ℕ, ◌+◌, Bool, true, false, cond, List, [], ◌∷◌, length, refl, ap, arith}
 use Rattle.std.specs.List.{slice_split, onto_first}
 use Rattle.std.proofs.lemmas.List.Splits.{length-slice_split}
-use Rattle.caa_base.specs.Lists.{is_empty}
-
--- those that aren't empty
-abbrev pub filled : List (List ℕ) → List (List ℕ)
-filled pieces = filter (λ word. not (is_empty word)) pieces
 
 -- there is one at least
 pub some_piece : (p : ℕ → Bool) (text : List ℕ) → slice_split p text ≢ []

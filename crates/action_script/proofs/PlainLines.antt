@@ -11,10 +11,10 @@ use Rattle.action_script.specs.declared.field.Part.TheVariants as part
 use Rattle.action_script.specs.declared.kind.Section.{Section}
 use Rattle.action_script.specs.declared.kind.LineKind.{LineKind}
 use Rattle.action_script.specs.Asked.{Asked, Said}
-use Rattle.action_script.specs.CutLines.{is_blank, is_plain, words_of, begins_comment}
+use Rattle.action_script.specs.CutLines.{filled_of, is_blank, is_plain, words_of, begins_comment}
 use Rattle.action_script.specs.Kinds.{word_of, parts_of, takes, kinds}
 use Rattle.action_script.specs.Spelling.{asked_of, is_part, is_right, is_here, kind_here, trial_of, said_with, by_check, by_kind, line_by_words, line_of, IsOfKind}
-use Rattle.action_script.proofs.Pieces.{filled, some_piece}
+use Rattle.action_script.proofs.Pieces.{some_piece}
 use Rattle.action_script.proofs.Inky.{IsWord, right_word, first_word}
 use Rattle.action_script.proofs.JoinedAndCut.{inky_plain, each_byte}
 use Rattle.action_script.proofs.NamesCounted.{length-words_of}
@@ -28,7 +28,7 @@ are_plain pieces = list_all (list_all is_plain) pieces
 
 -- ---- from the words to the line
 
-filled_plain : (pieces : List (List ℕ)) → are_plain (filled pieces) ≡ true → are_plain pieces ≡ true
+filled_plain : (pieces : List (List ℕ)) → are_plain (filled_of pieces) ≡ true → are_plain pieces ≡ true
 filled_plain [] h = refl
 filled_plain ([] ∷ pieces) h = filled_plain pieces h
 filled_plain ((b ∷ piece) ∷ pieces) h = let p = and_parts (list_all is_plain (b ∷ piece)) _ h in rw (p.0, filled_plain pieces p.1) refl

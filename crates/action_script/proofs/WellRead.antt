@@ -14,7 +14,7 @@ use Rattle.action_script.specs.declared.kind.Section.{Section}
 use Rattle.action_script.specs.declared.kind.Section.TheVariants as section
 use Rattle.caa_base.specs.Lists.{is_empty}
 use Rattle.caa_base.specs.Limits.{most_script_bytes, most_line_bytes}
-use Rattle.action_script.specs.CutLines.{lines_of, words_of, is_blank}
+use Rattle.action_script.specs.CutLines.{filled_of, lines_of, words_of, is_blank}
 use Rattle.caa_base.specs.Lines.{spaced}
 use Rattle.action_script.specs.Asked.{Asked, Said}
 use Rattle.action_script.specs.Kinds.{word_of, parts_of, takes, stands_in, goes_to, at_top}
@@ -23,7 +23,7 @@ use Rattle.action_script.specs.Forms.{kind_of, form_by}
 use Rattle.action_script.specs.ScriptValue.{Script}
 use Rattle.action_script.specs.Spelling.{asked_of, is_part, is_right, is_wrong_test, is_name_part, names_of, field_of, by_first_wrong, trial_of, Numbered, before, with_line, said_from, script_names, line_by, script_by, script_of, reading_of, line_of}
 use Rattle.action_script.specs.Printing.{field_word, words_after, form_line, all_fit, is_sound, is_short, lead_to_top, form_names, AreScript, forms_of}
-use Rattle.action_script.proofs.Pieces.{filled, weight, weight-split}
+use Rattle.action_script.proofs.Pieces.{weight, weight-split}
 use Rattle.action_script.proofs.Speaking.{Speaks, speaks, speaks-takes}
 use Rattle.action_script.proofs.Steadiness.{are_named, are_named-script_names}
 use Rattle.action_script.proofs.Fits.{field_by-is}
@@ -31,11 +31,11 @@ use Rattle.action_script.proofs.Shapes.{makes_form}
 
 -- ---- the words of a line are no longer than the line
 
-weight-filled : (pieces : List (List ℕ)) → weight (filled pieces) ≤ weight pieces
+weight-filled : (pieces : List (List ℕ)) → weight (filled_of pieces) ≤ weight pieces
 weight-filled [] = omega arith
 weight-filled (piece ∷ pieces) = by (is_empty piece) (weight-filled pieces)
   where
-    by : (b : Bool) → weight (filled pieces) ≤ weight pieces → weight (cond (not b) (piece ∷ filled pieces) (filled pieces)) ≤ length piece + 1 + weight pieces
+    by : (b : Bool) → weight (filled_of pieces) ≤ weight pieces → weight (cond (not b) (piece ∷ filled_of pieces) (filled_of pieces)) ≤ length piece + 1 + weight pieces
     by true h = omega arith
     by false h = omega arith
 

@@ -1,5 +1,5 @@
 -- How the bytes of a script are cut into lines, and a line into words.
-use Rattle.std.specs.Prelude.{◌≡◌, ℕ, ◌+◌, ◌==◌, nat_le, if◌then◌else◌, Bool, false, not, ◌&&◌, ◌||◌, List, [], ◌∷◌, filter, drop}
+use Rattle.std.specs.Prelude.{◌≡◌, ℕ, ◌+◌, ◌≤◌, ◌==◌, nat_le, if◌then◌else◌, Bool, false, not, ◌&&◌, ◌||◌, List, [], ◌∷◌, ◌++◌, filter, drop, length}
 use Rattle.std.specs.List.{slice_split, position_or_len}
 use Rattle.caa_base.specs.Lists.{is_empty}
 
@@ -15,10 +15,6 @@ without_empty_last (piece ∷ next ∷ more) = piece ∷ without_empty_last (nex
 abbrev pub lines_of : List ℕ → List (List ℕ)
 lines_of bytes = without_empty_last (slice_split (λ b. b == 10) bytes)
 
--- the first line feed of a text stands as far behind its first `count` bytes as it does in the rest, so none is among them
-abbrev pub IsPassed : List ℕ → ℕ → Type 0
-IsPassed text count = position_or_len (λ b. b == 10) text ≡ count + position_or_len (λ b. b == 10) (drop count text)
-
 -- ---- words
 
 -- a byte that parts words: a space, a tab, or the carriage return that some editors put before a line feed
@@ -29,9 +25,24 @@ is_blank b = (b == 32) || ((b == 9) || (b == 13))
 abbrev pub is_plain : ℕ → Bool
 is_plain b = is_blank b || (nat_le 33 b && nat_le b 126)
 
+-- those pieces of a line that aren't empty
+abbrev pub filled_of : List (List ℕ) → List (List ℕ)
+filled_of pieces = filter (λ piece. not (is_empty piece)) pieces
+
 -- what stands between blanks, where anything does
 abbrev pub words_of : List ℕ → List (List ℕ)
-words_of line = filter (λ word. not (is_empty word)) (slice_split is_blank line)
+words_of line = filled_of (slice_split is_blank line)
+
+-- no byte from one place of a text up to another is one of these: the first of them from the one on is the first from the other on
+abbrev pub IsPassed : (ℕ → Bool) → List ℕ → ℕ → ℕ → Type 0
+IsPassed p text from to = from + position_or_len p (drop from text) ≡ to + position_or_len p (drop to text)
+
+-- the words of a line before `start` are these, and no byte from there up to `at` is a blank
+pub record AreCut (line : List ℕ) (words : List (List ℕ)) (start at : ℕ) : Type 0 where
+  pub cut : words_of line ≡ words ++ words_of (drop start line)
+  pub begun : start ≤ at
+  pub within : at ≤ length line
+  pub passed : IsPassed is_blank line start at
 
 -- a word that begins a comment
 abbrev pub begins_comment : List ℕ → Bool

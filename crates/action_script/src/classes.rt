@@ -1,34 +1,81 @@
 //! The classes by which words and lines are compared with those that were just met. They may part them in any way, and the better
 //! they do, the less is compared.
 
-ghost use Rattle.std.specs.Prelude.{◌<◌};
+ghost use Rattle.std.specs.Prelude.{◌<◌, ◌≤◌, ◌+◌, length};
 
 /// How many classes words have.
 pub const WORD_CLASSES: usize = 4096;
 
-/// How many bytes at either end of a line tell its class.
-const ENDS: usize = 16;
+/// 2 to the 64 divided by the golden ratio: the first bits of a product with it depend on all bits of the other factor.
+const FACTOR: u64 = 0x9e37_79b9_7f4a_7c15;
 
-/// A number that mostly differs for bytes that differ. Each byte is joined to what those before it made, turned; the factor, 2 to the
-/// 32 divided by the golden ratio, lets the first bits of the number depend on all others.
-fn number_of(bytes: &[u8]) -> u32 {
-    let mut number: u32 = 0;
-    for byte in bytes {
-        number = number.rotate_left(7) ^ u32::from(*byte);
+/// Four bytes, from an index on, as a number.
+fn four_at(bytes: &[u8], at: usize) -> u64
+    requires { at + 4 ≤ length bytes.now }
+{
+    let four = [bytes[at], bytes[at + 1], bytes[at + 2], bytes[at + 3]];
+    u64::from(u32::from_le_bytes(four))
+}
+
+/// Eight bytes, from an index on, as a number.
+fn eight_at(bytes: &[u8], at: usize) -> u64
+    requires { at + 8 ≤ length bytes.now }
+{
+    u64::from_le_bytes([
+        bytes[at],
+        bytes[at + 1],
+        bytes[at + 2],
+        bytes[at + 3],
+        bytes[at + 4],
+        bytes[at + 5],
+        bytes[at + 6],
+        bytes[at + 7],
+    ])
+}
+
+/// A number that mostly differs for bytes that differ, where there are eight at least. It looks at all of a name, and at the first
+/// 24 and the last eight of more bytes, and takes as long for any number of them.
+fn number_of_many(bytes: &[u8]) -> u64
+    requires { 8 ≤ length bytes.now }
+{
+    let last = bytes.len() - 8;
+    let front = eight_at(bytes, 0) ^ eight_at(bytes, last.min(8)).rotate_left(29);
+    let back = eight_at(bytes, last) ^ eight_at(bytes, last.min(16)).rotate_left(29);
+    front.wrapping_mul(FACTOR).wrapping_add(back.rotate_left(32))
+}
+
+/// The same, where there are fewer than eight bytes.
+fn number_of_few(bytes: &[u8]) -> u64
+    requires { length bytes.now < 8 }
+{
+    let count = bytes.len();
+    if count >= 4 {
+        return four_at(bytes, 0) | four_at(bytes, count - 4) << 32;
     }
-    number.wrapping_mul(0x9e37_79b1)
+    if count == 0 {
+        return 0;
+    }
+    let middle = u64::from(bytes[count / 2]);
+    let last = u64::from(bytes[count - 1]);
+    u64::from(bytes[0]) | middle << 8 | last << 16 | (count as u64) << 24
+}
+
+fn number_of(bytes: &[u8]) -> u64 {
+    if bytes.len() >= 8 {
+        number_of_many(bytes)
+    } else {
+        number_of_few(bytes)
+    }
 }
 
 /// The class of a word, which mostly tells it apart from the other words that a script has near it.
 pub fn class_of(word: &[u8]) -> usize
     ensures { result < 4096 }
 {
-    (number_of(word) >> 20) as usize
+    (number_of(word).wrapping_mul(FACTOR) >> 52) as usize
 }
 
 /// The class of a line, by its first and its last bytes.
 pub fn class_of_line(line: &[u8]) -> u8 {
-    let count = ENDS.min(line.len());
-    let ends = number_of(&line[..count]).rotate_left(1) ^ number_of(&line[line.len() - count..]);
-    (ends >> 24) as u8
+    (number_of(line).wrapping_mul(FACTOR) >> 56) as u8
 }

@@ -1,11 +1,11 @@
 ghost use Rattle.std.specs.Prelude.{◌≡◌, ◌≢◌, ◌==◌, ◌<◌, ◌&&◌, if◌then◌else◌, not, map, drop, find, Ok, Err, Some, None, IfSome, IfOk, IfErr, OnOk};
 ghost use Rattle.std.specs.List.{list_all};
 ghost use Rattle.caa_base.specs.Lists.{is_empty};
-ghost use Rattle.action_script.specs.CutLines.{is_blank, is_plain, words_of, begins_comment};
+ghost use Rattle.action_script.specs.CutLines.{is_plain, words_of, begins_comment};
 ghost use Rattle.action_script.specs.Spelling.{is_here, kind_here, line_of, IsOfKind};
 ghost use Rattle.action_script.specs.declared.script_error.ScriptCause.TheVariants as cause;
 
-use crate::cuts::is_blank;
+use crate::cuts::{fill_words, is_blank};
 use crate::kind::{KINDS, LineKind, Section};
 use crate::script_error::ScriptCause;
 use caa_base::limits::MOST_LINE_BYTES;
@@ -22,25 +22,6 @@ fn are_plain(line: &[u8]) -> bool
     ensures { result ≡ list_all is_plain line.now }
 {
     line.iter().all(|byte| is_plain(*byte))
-}
-
-/// Makes these words the longest pieces of a line without blanks.
-fn fill_words<'a>(words: &mut Vec<&'a [u8]>, line: &'a [u8]) -> Result<(), AllocError>
-    ensures { OnOk result (map (λ w. w.now) words.new.items ≡ words_of line.now) }
-{
-    words.clear();
-    words.extend(
-        line.split(
-            |byte: &u8| -> bool
-                ensures { result ≡ is_blank byte.now }
-            { is_blank(*byte) },
-        )
-        .filter(
-            |piece: &&[u8]| -> bool
-                ensures { result ≡ not (is_empty piece.now.now) }
-            { !piece.is_empty() },
-        ),
-    )
 }
 
 fn begins_comment(word: &[u8]) -> bool
