@@ -14,8 +14,7 @@ ghost use Rattle.script_checker.specs.View.{so_far};
 use crate::causes::{bound_with, places_with};
 use crate::declared::Declared;
 use crate::lookups::{
-    count_exceptions, exception_in, face_of, inner_number, interface_at, outer_number,
-    places_of,
+    count_exceptions, exception_in, face_of, inner_number, interface_at, outer_number, places_of,
 };
 use crate::number_list::NumberList;
 use crate::parts::{Block, DeclaredGraph, NestSaid, Opening};
