@@ -5,7 +5,6 @@ use Rattle.std.proofs.lemmas.Slice.Eq.{bytes_eq-Decides}
 use Rattle.cover_table.specs.Cover.{CoverOrder, IsSound}
 use Rattle.exception_graph.specs.Chains.{IsOrderOf}
 use Rattle.caa_base.specs.declared.entry.Verdict.{Verdict}
-use Rattle.caa_base.specs.declared.entry.Verdict.TheVariants as verdict
 use Rattle.place_plan.specs.declared.draft_rows.GraphRow.{GraphRow}
 use Rattle.action_script.specs.NumberedNames.{number_in}
 use Rattle.action_script.specs.declared.form.Form.{Form}
@@ -17,7 +16,7 @@ use Rattle.script_checker.specs.declared.parts.Opening.{Opening}
 use Rattle.script_checker.specs.Blocks.{is_in_graph}
 use Rattle.script_checker.specs.DeclaredSoFar.{SoFar, plain_graph}
 use Rattle.script_checker.specs.Causes.{ends_graph}
-use Rattle.script_checker.specs.After.{with_said, with_graph, closed_if, settled_if, ended}
+use Rattle.script_checker.specs.After.{with_said, with_graph, closed_if, ended}
 use Rattle.script_checker.specs.Graphs.{IsOrdered}
 use Rattle.script_checker.specs.Rows.{AddsRow}
 use Rattle.script_checker.specs.Compiled.{IsRowOf, AreRowsOf}
@@ -60,10 +59,6 @@ rows_added names s order old new h g a =
 closed_same : (s : SoFar) (v : Verdict) (o : Option Opening) → (closed_if s o v).graphs ≡ s.graphs
 closed_same s v None = refl
 closed_same s v (Some o) = refl
-
-pub settled_same : (s : SoFar) (f : Form) (b : Bool) → (settled_if b s).graphs ≡ s.graphs
-settled_same s f true = refl
-settled_same s f false = closed_same s verdict.Done s.opening
 
 ended_same : (names : List (List ℕ)) (s : SoFar) (b : Block) → is_in_graph b ≡ false → (ended names s b).graphs ≡ s.graphs
 ended_same names s block.Top e = refl

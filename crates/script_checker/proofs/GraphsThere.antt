@@ -5,7 +5,6 @@ use Rattle.std.specs.List.{list_all}
 use Rattle.std.proofs.lemmas.Bool.{false≢true, ltb-true, lt-ltb, not-false}
 use Rattle.caa_base.specs.Lists.{index_of}
 use Rattle.caa_base.specs.declared.entry.Verdict.{Verdict}
-use Rattle.caa_base.specs.declared.entry.Verdict.TheVariants as verdict
 use Rattle.action_script.specs.declared.form.Form.{Form}
 use Rattle.action_script.specs.declared.form.Form.TheVariants as form
 use Rattle.action_script.specs.declared.kind.Section.{Section}
@@ -23,7 +22,6 @@ use Rattle.script_checker.specs.After.{closed_if, ended, with_said}
 use Rattle.script_checker.specs.Compiled.{HasNone}
 use Rattle.caa_base.proofs.ListLemmas.{at_row}
 use Rattle.script_checker.proofs.Choosing.{known}
-use Rattle.script_checker.proofs.Accepted.{IsKept}
 use Rattle.script_checker.proofs.ActionsGrow.{all_push}
 use Rattle.script_checker.proofs.CountsKept.{open_graphs}
 use Rattle.script_checker.proofs.GraphsKept.{first_alone, still_first}
@@ -163,9 +161,3 @@ module _ (names : List (List ℕ)) where
   says_there at s (form.SignalLine x) e none h = closed_there section.Action s _ s.opening (as_program at s e h)
   says_there at s form.UndoLine e none h = closed_there section.Action s _ s.opening (as_program at s e h)
   says_there at s f e none h = h
-
-pub there_kept : (names : List (List ℕ)) → IsKept names GraphsThere
-there_kept names = record {
-  settles = λ at s h. closed_there at s verdict.Done s.opening h;
-  says = λ at s f stands sound none shut h. says_there names at s f stands none h;
-}

@@ -100,13 +100,6 @@ not_early name names h =
     none_is_past true i e = cc
     none_is_past false i e = refl
 
--- so a name of a short list stands nowhere else
-pub none_later : (name : ℕ) (names : List ℕ) → length names ≤ few_names → IsLater name names → length names ≡ index_of name names
-none_later name names short later = elim later [
-  | inl l ↦ omega (arith, l, short, index_within name names)
-  | inr end ↦ sym end
-]
-
 -- ---- the table
 
 module _ {S : Type 0} (table : HashMap ℕ ℕ S) (names : List ℕ) (name : ℕ) (is : IsTableOf table names) (later : IsLater name names) (past : run_of names ≤ index_of name names) where

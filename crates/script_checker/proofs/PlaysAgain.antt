@@ -4,13 +4,12 @@ use Rattle.std.specs.Cmp.Lexicographic.{pointwise}
 use Rattle.std.proofs.lemmas.Bool.{and_parts, eqb-true, false≢true}
 use Rattle.std.proofs.lemmas.Bool.Decides.{Decides-eqb}
 use Rattle.std.proofs.lemmas.Slice.Eq.{slice_eq-Decides}
-use Rattle.caa_base.specs.declared.entry.Verdict.TheVariants as verdict
 use Rattle.place_plan.specs.declared.draft_rows.PlayRow.{PlayRow}
 use Rattle.action_script.specs.declared.form.Form.{Form}
 use Rattle.action_script.specs.declared.form.Form.TheVariants as form
 use Rattle.script_checker.specs.declared.check_error.CheckCause.TheVariants as cause
 use Rattle.script_checker.specs.DeclaredSoFar.{SoFar}
-use Rattle.script_checker.specs.After.{closed_if, settled, with_said, after, play_row}
+use Rattle.script_checker.specs.After.{settled, with_said, after, play_row}
 use Rattle.script_checker.specs.Compiled.{HasNoneBelow, HasNone, IsAccepted}
 use Rattle.script_checker.proofs.Accepted.{settled_shut}
 use Rattle.script_checker.specs.PlaysAgain.{is_same_play, IsJustTaken, StandsAgain}
@@ -68,15 +67,3 @@ stands_again names s line next taken e =
     let b = same line next e in
     let first = subst (λ (line : Form). IsJustTaken names s line) b.first taken in
     subst (λ (next : Form). StandsAgain s next) (sym b.second) (left_by names b.action b.who s first.before first.accepted first.left)
-
--- ---- what a play that stands again changes
-
-module _ (s : SoFar) (line : Form) (again : StandsAgain s line) where
-  pub nothing_ends : settled s line ≡ s
-  nothing_ends = ap (λ (line : Form). settled s line) again.play ∙ ap (λ o. closed_if s o verdict.Done) again.outside
-
-  pub says_no_name : (names : List (List ℕ)) → with_said [] s line ≡ with_said names s line
-  says_no_name names = ap (λ (line : Form). with_said [] s line) again.play ∙ sym (ap (λ (line : Form). with_said names s line) again.play)
-
-  pub ends_no_graph : (with_said [] s line).graphs ≡ s.graphs
-  ends_no_graph = ap (λ (line : Form). (with_said [] s line).graphs) again.play

@@ -80,11 +80,3 @@ script_planned script names lines n s rows plan en el l h e =
           });
       unfolded = e;
     })
-
--- no line was taken yet
-pub none_taken : (names : List (List ℕ)) (lines : List Line) (s : SoFar) (rows : List GraphRow) → s ≡ nothing_yet names → AreRowsOf names (nothing_yet names).graphs rows → Taken names lines 0 s rows
-none_taken names lines s rows e r = record {
-  accepted = tt;
-  declared = e;
-  rows = subst (λ (s : SoFar). AreRowsOf names s.graphs rows) (sym e) r;
-}

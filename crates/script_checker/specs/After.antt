@@ -81,6 +81,11 @@ is_of_action (form.Uses objects) = true
 is_of_action (form.Roles roles) = true
 is_of_action _ = false
 
+-- of the objects of an action
+abbrev pub is_use : Form → Bool
+is_use (form.Uses objects) = true
+is_use _ = false
+
 -- outside actions, or at the beginning or the end of one
 abbrev pub is_outside : Form → Bool
 is_outside f = not (goes_on f) && (not (is_of_parts f) && not (is_of_action f))

@@ -7,15 +7,14 @@ ghost use Rattle.cover_table.specs.Cover.{most_exceptions};
 ghost use Rattle.place_plan.specs.Places.{no_nest};
 ghost use Rattle.script_checker.specs.DeclaredSoFar.{nothing_said};
 ghost use Rattle.script_checker.specs.Causes.{is_unknown, is_twice, is_past_limit};
-ghost use Rattle.script_checker.specs.After.{step_of, verdict_of, goes_on, is_of_parts, is_of_action, is_outside, settled, closed, with_step, with_opening, idle_role, with_abort, with_graph, begun, action_row, with_depth, with_places, with_bound, with_action_row, with_action, without_parts, with_play, with_said};
+ghost use Rattle.script_checker.specs.After.{step_of, verdict_of, goes_on, is_of_parts, is_of_action, is_use, is_outside, settled, closed, with_step, with_opening, idle_role, with_abort, with_graph, begun, action_row, with_depth, with_places, with_bound, with_action_row, with_action, without_parts, with_play, with_said};
 ghost use Rattle.script_checker.specs.PlaysAgain.{StandsAgain};
 ghost use Rattle.script_checker.specs.View.{so_far};
 
 use crate::causes::{bound_with, places_with};
 use crate::declared::Declared;
 use crate::lookups::{
-    count_exceptions, exception_in, face_of, inner_number, interface_at, outer_number,
-    places_in_order, places_of,
+    count_exceptions, exception_in, face_of, inner_number, interface_at, outer_number, places_of,
 };
 use crate::number_list::NumberList;
 use crate::parts::{Block, DeclaredGraph, NestSaid, Opening};
@@ -550,13 +549,6 @@ pub(crate) fn add_again(declared: &mut Declared, form: &Form) -> Result<(), Allo
 
 // ---- all lines
 
-fn add_uses(declared: &mut Declared, objects: &[u32]) -> Result<(), AllocError>
-    ensures { OnOk result (so_far declared.new ≡ with_said [] (so_far declared.old) (Form.Uses objects.now)) }
-{
-    declared.uses = places_in_order(declared.alloc, &declared.objects, objects)?;
-    Ok(())
-}
-
 fn add_body(declared: &mut Declared, role: u32) -> Result<(), AllocError>
     ensures { OnOk result (so_far declared.new ≡ with_said [] (so_far declared.old) (Form.Body role)) }
 {
@@ -685,9 +677,10 @@ fn is_of_parts(form: &Form) -> bool
     )
 }
 
-/// Adds what a line says of an action as a whole.
+/// Adds what a line says of an action as a whole, other than its objects.
 fn add_of_action(declared: &mut Declared, names: &[Name], form: &Form) -> Result<(), OutOfMemory>
     requires some { is_of_action form.now ≡ true }
+    requires other { is_use form.now ≡ false }
     requires known { is_unknown (so_far declared.old) form.now ≡ false }
     requires few { is_past_limit (so_far declared.old) form.now ≡ false }
     ensures { OnOk result (so_far declared.new ≡ with_said names.now (so_far declared.old) form.now) }
@@ -700,7 +693,6 @@ fn add_of_action(declared: &mut Declared, names: &[Name], form: &Form) -> Result
             declared.interface = Some(declared.graph_names.find(*graph) + 1);
         }
         Form::Fault(exception) => declared.fault = Some(inner_number(declared, *exception)),
-        Form::Uses(objects) => add_uses(declared, objects.items())?,
         Form::Roles(roles) => set_roles(declared, names, roles.items())?,
         _ => {}
     }
@@ -741,8 +733,9 @@ fn add_outside(declared: &mut Declared, names: &[Name], form: &Form) -> Result<(
     Ok(())
 }
 
-/// Adds what a line says that has no cause to be refused.
+/// Adds what a line says that has no cause to be refused. The objects of an action aren't added here.
 pub(crate) fn add(declared: &mut Declared, names: &[Name], form: &Form) -> Result<(), OutOfMemory>
+    requires other { is_use form.now ≡ false }
     requires known { is_unknown (so_far declared.old) form.now ≡ false }
     requires once { is_twice (so_far declared.old) form.now ≡ false }
     requires few { is_past_limit (so_far declared.old) form.now ≡ false }

@@ -14,8 +14,8 @@ ghost use Rattle.script_checker.specs.View.{so_far};
 
 use crate::declared::Declared;
 use crate::lookups::{
-    are_among, count_roles, exception_in, face_of, has_exception, has_twice, has_twice_among,
-    inner_number, interface_at, is_inner, is_outer,
+    are_among, count_roles, exception_in, face_of, has_exception, has_twice, inner_number,
+    interface_at, is_inner, is_outer,
 };
 use crate::parts::Block;
 use action_script::form::Form;
@@ -194,8 +194,7 @@ pub(crate) fn is_twice(declared: &Declared, form: &Form) -> Result<bool, AllocEr
         Form::Interface(_) => declared.interface.is_some(),
         Form::Fault(_) => declared.fault.is_some(),
         Form::Uses(objects) => {
-            !declared.uses.is_empty()
-                || has_twice_among(declared.alloc, &declared.objects, objects.items())?
+            !declared.uses.is_empty() || has_twice(declared.alloc, objects.items())?
         }
         Form::Roles(roles) => {
             !declared.roles.is_empty() || has_twice(declared.alloc, roles.items())?

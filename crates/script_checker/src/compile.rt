@@ -1,8 +1,9 @@
-ghost use Rattle.std.specs.Prelude.{◌≡◌, ◌≢◌, ◌<◌, ◌^◌, length, [], OnOk, IfOk, IfErr, IfSome, MatchOption};
+ghost use Rattle.std.specs.Prelude.{◌≡◌, ◌≢◌, ◌<◌, ◌^◌, false, length, [], Some, None, OnOk, IfOk, IfErr, IfSome, MatchOption};
 ghost use Rattle.place_plan.specs.Unfolding.{plan_of};
 ghost use Rattle.script_checker.specs.DeclaredSoFar.{nothing_yet};
 ghost use Rattle.script_checker.specs.Causes.{HasCause, ends_graph};
-ghost use Rattle.script_checker.specs.After.{after, with_said};
+ghost use Rattle.script_checker.specs.Numbers.{chosen_from};
+ghost use Rattle.script_checker.specs.After.{after, is_use, with_said};
 ghost use Rattle.script_checker.specs.Chosen.{name_cause, size_cause, part_cause};
 ghost use Rattle.script_checker.specs.Graphs.{Ends};
 ghost use Rattle.script_checker.specs.Compiled.{IsLeast, HasNone, IsLeastCause, IsAccepted, AreRowsOf, IsDraftOf, BreaksNoRule, IsAnswer};
@@ -20,6 +21,7 @@ use crate::causes::{
 use crate::check_error::{CheckCause, CheckError};
 use crate::declared::Declared;
 use crate::graphs::{graph_of, row_of};
+use crate::lookups::{are_among, places_once};
 use action_script::form::Form;
 use action_script::script::Script;
 use caa_base::entry::OutOfMemory;
@@ -28,6 +30,7 @@ use caa_base::rows::Rows;
 use exception_graph::Graph;
 use place_plan::draft::Draft;
 use place_plan::draft_rows::GraphRow;
+use place_plan::object_list::ObjectList;
 use place_plan::plan::{Plan, PlanError};
 use std::alloc::{AllocError, Global};
 
@@ -114,6 +117,63 @@ fn add_row(
     Ok(())
 }
 
+/// The cause of a `use` line that has one.
+fn cause_of_uses(declared: &Declared, objects: &[u32]) -> CheckCause
+    requires { name_cause (so_far declared.now) (Form.Uses objects.now) ≢ None }
+    ensures { name_cause (so_far declared.now) (Form.Uses objects.now) ≡ Some result }
+{
+    if are_among(&declared.objects, objects) {
+        CheckCause::Twice
+    } else {
+        CheckCause::Unknown
+    }
+}
+
+/// The objects that a `use` line without cause says, or the least cause of the line. Each object is looked up once.
+fn uses_of(declared: &Declared, objects: &[u32]) -> Result<ObjectList, CheckCause>
+    ensures uses { IfOk result (λ uses. uses ≡ chosen_from 0 objects.now (so_far declared.now).objects) }
+    ensures accepted { OnOk result (HasNone (so_far declared.now) (Form.Uses objects.now)) }
+    ensures refused { IfErr result (λ c. c ≢ cause.OutOfMemory → IsLeast (so_far declared.now) (Form.Uses objects.now) c) }
+{
+    match places_once(declared.alloc, &declared.objects, objects)? {
+        Some(uses) if declared.uses.is_empty() => Ok(uses),
+        _ => Err(cause_of_uses(declared, objects)),
+    }
+}
+
+/// Takes a `use` line, once a body or handler before it has ended.
+fn take_uses(declared: &mut Declared, objects: &[u32]) -> Result<(), CheckCause>
+    ensures accepted { OnOk result (HasNone (so_far declared.old) (Form.Uses objects.now)) }
+    ensures taken { OnOk result (so_far declared.new ≡ with_said [] (so_far declared.old) (Form.Uses objects.now)) }
+    ensures refused { IfErr result (λ c. c ≢ cause.OutOfMemory → IsLeast (so_far declared.old) (Form.Uses objects.now) c) }
+{
+    declared.uses = uses_of(declared, objects)?;
+    Ok(())
+}
+
+/// Takes a line that isn't a `use` line, once a body or handler before it has ended.
+fn take_other(
+    declared: &mut Declared,
+    rows: &mut Vec<GraphRow>,
+    names: &[Name],
+    form: &Form,
+) -> Result<(), CheckCause>
+    requires other { is_use form.now ≡ false }
+    requires rows { AreRowsOf names.now (so_far declared.old).graphs rows.old.items }
+    ensures accepted { OnOk result (HasNone (so_far declared.old) form.now) }
+    ensures taken { OnOk result (so_far declared.new ≡ with_said names.now (so_far declared.old) form.now) }
+    ensures rows { OnOk result (AreRowsOf names.now (so_far declared.new).graphs rows.new.items) }
+    ensures refused { IfErr result (λ c. c ≢ cause.OutOfMemory → IsLeast (so_far declared.old) form.now c) }
+{
+    let graph = check(declared, form)?;
+    match graph {
+        Some(graph) => add_row(rows, names, declared, graph)?,
+        None => {}
+    }
+    add(declared, names, form)?;
+    Ok(())
+}
+
 /// Takes a line into what is declared, where it has no cause to be refused. After an error both are of no more use.
 fn take(
     declared: &mut Declared,
@@ -128,13 +188,10 @@ fn take(
     ensures refused { IfErr result (λ c. c ≢ cause.OutOfMemory → IsLeastCause (so_far declared.old) form.now c) }
 {
     settle(declared, form)?;
-    let graph = check(declared, form)?;
-    match graph {
-        Some(graph) => add_row(rows, names, declared, graph)?,
-        None => {}
+    match form {
+        Form::Uses(objects) => take_uses(declared, objects.items()),
+        _ => take_other(declared, rows, names, form),
     }
-    add(declared, names, form)?;
-    Ok(())
 }
 
 /// Whether two lines are the same play.

@@ -1,10 +1,10 @@
 //! What the names of a line mean where it stands.
 
-ghost use Rattle.std.specs.Prelude.{◌≡◌, ◌≤◌, true, false, not, length, map, replicate, slice_index_or, slice_set, IfOk};
+ghost use Rattle.std.specs.Prelude.{◌≡◌, ◌==◌, ◌≤◌, true, false, not, length, map, replicate, slice_index_or, slice_set, IfOk};
 ghost use Rattle.std.specs.List.{list_all};
 ghost use Rattle.caa_base.specs.Lists.{index_of};
 ghost use Rattle.place_plan.specs.Places.{no_action};
-ghost use Rattle.script_checker.specs.Numbers.{is_among, most_names, has_twice, chosen_from, set_from, flags_of};
+ghost use Rattle.script_checker.specs.Numbers.{is_among, most_names, has_twice, are_once_among, places_once, set_from, flags_of};
 ghost use Rattle.script_checker.specs.DeclaredSoFar.{exceptions_at, inner, outer, nest_of, face_of};
 ghost use Rattle.script_checker.specs.View.{so_far};
 
@@ -75,8 +75,8 @@ fn set_flag(flags: &mut Vec<bool>, place: usize) -> bool
     is_fresh
 }
 
-/// For each of these names, whether it is one of some; and how many flags were set. That is as many as there are of some only where
-/// none of these stands twice.
+/// For each of these names, whether it is one of some; and how many flags were set. That is as many as there are of some where all
+/// of these are among the names and none of them stands twice, and only there.
 fn flags_of(
     alloc: Global,
     names: &NumberList,
@@ -85,7 +85,7 @@ fn flags_of(
     requires apart { has_twice names.now ≡ false }
     ensures flags { IfOk result (λ made. made.0.items ≡ flags_of some.now names.now) }
     ensures small { IfOk result (λ made. length made.0.items ≤ most_names) }
-    ensures count { IfOk result (λ made. made.1 ≡ length some.now → has_twice some.now ≡ false) }
+    ensures count { IfOk result (λ made. (made.1 == length some.now) ≡ are_once_among names.now some.now) }
 {
     let mut flags = clear_flags(alloc, names.len())?;
     let mut count = 0;
@@ -97,12 +97,12 @@ fn flags_of(
     Ok((flags, count))
 }
 
-/// The places of the flags that are set, in order.
-fn set_places(alloc: Global, flags: &[bool]) -> Result<Vec<u32>, AllocError>
+/// The places of the flags that are set, in order. The room for so many places is taken at once.
+fn set_places(alloc: Global, flags: &[bool], count: usize) -> Result<Vec<u32>, AllocError>
     requires { length flags.now ≤ most_names }
     ensures { IfOk result (λ places. places.items ≡ set_from 0 flags.now) }
 {
-    let mut places = Vec::new(alloc);
+    let mut places = Vec::with_capacity(alloc, count)?;
     for (place, flag) in flags.iter().enumerate() {
         if *flag {
             places.push(place as u32)?;
@@ -111,34 +111,21 @@ fn set_places(alloc: Global, flags: &[bool]) -> Result<Vec<u32>, AllocError>
     Ok(places)
 }
 
-/// Whether one of some names stands twice. They mostly are all among those, and then a flag for each of those tells.
-pub(crate) fn has_twice_among(
+/// The numbers of some names among those, in rising order, where all of them are there and none of them stands twice.
+pub(crate) fn places_once(
     alloc: Global,
     names: &NumberList,
     some: &[u32],
-) -> Result<bool, AllocError>
+) -> Result<Option<ObjectList>, AllocError>
     requires apart { has_twice names.now ≡ false }
-    ensures { IfOk result (λ yes. yes ≡ has_twice some.now) }
+    ensures { IfOk result (λ found. found ≡ places_once names.now some.now) }
 {
-    let (_, count) = flags_of(alloc, names, some)?;
-    if count == some.len() {
-        return Ok(false);
+    let (flags, count) = flags_of(alloc, names, some)?;
+    if count != some.len() {
+        return Ok(None);
     }
-    has_twice(alloc, some)
-}
-
-/// The numbers of those names that are among some, in rising order.
-pub(crate) fn places_in_order(
-    alloc: Global,
-    names: &NumberList,
-    some: &[u32],
-) -> Result<ObjectList, AllocError>
-    requires apart { has_twice names.now ≡ false }
-    ensures { IfOk result (λ places. places ≡ chosen_from 0 some.now names.now) }
-{
-    let (flags, _) = flags_of(alloc, names, some)?;
-    let places = set_places(alloc, &flags)?;
-    Ok(ObjectList::from_vec(places))
+    let places = set_places(alloc, &flags, count)?;
+    Ok(Some(ObjectList::from_vec(places)))
 }
 
 // ---- exceptions
