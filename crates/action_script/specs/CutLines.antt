@@ -1,5 +1,5 @@
 -- How the bytes of a script are cut into lines, and a line into words.
-use Rattle.std.specs.Prelude.{◌≡◌, ℕ, ◌+◌, ◌≤◌, ◌==◌, nat_le, if◌then◌else◌, Bool, false, not, ◌&&◌, ◌||◌, List, [], ◌∷◌, ◌++◌, filter, drop, length}
+use Rattle.std.specs.Prelude.{◌≡◌, ℕ, ◌+◌, ◌≤◌, ◌==◌, nat_le, if◌then◌else◌, Bool, true, false, not, ◌&&◌, ◌||◌, List, [], ◌∷◌, ◌++◌, filter, drop, length}
 use Rattle.std.specs.List.{slice_split, position_or_len}
 use Rattle.caa_base.specs.Lists.{is_empty}
 
@@ -48,3 +48,8 @@ pub record AreCut (line : List ℕ) (words : List (List ℕ)) (start at : ℕ) :
 abbrev pub begins_comment : List ℕ → Bool
 begins_comment [] = false
 begins_comment (b ∷ rest) = b == 35
+
+-- an empty line says nothing, nor does a comment
+abbrev pub says_nothing : List (List ℕ) → Bool
+says_nothing [] = true
+says_nothing (word ∷ words) = begins_comment word
