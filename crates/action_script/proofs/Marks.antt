@@ -1,5 +1,5 @@
 -- Bytes of a text that are asked at once: a bit for each tells whether it is one that parts.
-use Rattle.std.proofs.Common.{◌≡◌, ◌≢◌, ℕ, zero, suc, ◌+◌, ◌-◌, ◌*◌, ◌/◌, ◌%◌, ◌^◌, ◌<◌, ◌≤◌, ◌==◌, ◌||◌, Bool, true, false, not, cond, eqb, List, [], ◌∷◌, ◌++◌, map, length, take, drop, get_or, replicate, refl, sym, ap, ap₂, ◌∙◌, arith}
+use Rattle.std.proofs.Common.{◌≡◌, ◌≢◌, ℕ, zero, suc, ◌+◌, ◌-◌, ◌*◌, ◌/◌, ◌%◌, ◌^◌, ◌<◌, ◌≤◌, ◌==◌, ◌||◌, Bool, true, false, not, cond, eqb, List, [], ◌∷◌, map, length, take, drop, replicate, refl, sym, ap, ap₂, ◌∙◌, arith}
 use Rattle.std.proofs.lemmas.Simd.{chunk-drop, length-chunk, leading_from_mask_l, trailing_mask_l, mask_l-lt, mask_l-mod}
 use Rattle.std.proofs.Math.Nat.{pow-le-pow_right}
 use Rattle.std.proofs.lemmas.Nat.{shr-shr, shr_le, div-mul-add}
@@ -72,8 +72,8 @@ module _ (p : ℕ → Bool) (text : List ℕ) where
       ∙ ap mask_l (drop-map p (count + 1) (chunk from n text))
       ∙ ap (λ (w : List ℕ). mask_l (map p w))
       (ap (λ k. drop (count + 1) (take k (drop from text))) (omega arith)
-       ∙ drop-take (count + 1) rest (drop from text)
-       ∙ ap (take rest) (drop-drop (count + 1) from text ∙ ap (λ k. drop k text) (omega arith)))
+      ∙ drop-take (count + 1) rest (drop from text)
+      ∙ ap (take rest) (drop-drop (count + 1) from text ∙ ap (λ k. drop k text) (omega arith)))
 
 -- ---- lanes that are compared with the three blanks
 

@@ -33,6 +33,18 @@ filled_of pieces = filter (λ piece. not (is_empty piece)) pieces
 abbrev pub words_of : List ℕ → List (List ℕ)
 words_of line = filled_of (slice_split is_blank line)
 
+-- a word that begins a comment
+abbrev pub begins_comment : List ℕ → Bool
+begins_comment [] = false
+begins_comment (b ∷ rest) = b == 35
+
+-- an empty line says nothing, nor does a comment
+abbrev pub says_nothing : List (List ℕ) → Bool
+says_nothing [] = true
+says_nothing (word ∷ words) = begins_comment word
+
+-- ---- a text that is cut piece by piece
+
 -- no byte from one place of a text up to another is one of these: the first of them from the one on is the first from the other on
 abbrev pub IsPassed : (ℕ → Bool) → List ℕ → ℕ → ℕ → Type 0
 IsPassed p text from to = from + position_or_len p (drop from text) ≡ to + position_or_len p (drop to text)
@@ -43,13 +55,3 @@ pub record AreCut (line : List ℕ) (words : List (List ℕ)) (start at : ℕ) :
   pub begun : start ≤ at
   pub within : at ≤ length line
   pub passed : IsPassed is_blank line start at
-
--- a word that begins a comment
-abbrev pub begins_comment : List ℕ → Bool
-begins_comment [] = false
-begins_comment (b ∷ rest) = b == 35
-
--- an empty line says nothing, nor does a comment
-abbrev pub says_nothing : List (List ℕ) → Bool
-says_nothing [] = true
-says_nothing (word ∷ words) = begins_comment word

@@ -9,14 +9,6 @@ pub const WORD_CLASSES: usize = 4096;
 /// 2 to the 64 divided by the golden ratio: the first bits of a product with it depend on all bits of the other factor.
 const FACTOR: u64 = 0x9e37_79b9_7f4a_7c15;
 
-/// Four bytes, from an index on, as a number.
-fn four_at(bytes: &[u8], at: usize) -> u64
-    requires { at + 4 ≤ length bytes.now }
-{
-    let four = [bytes[at], bytes[at + 1], bytes[at + 2], bytes[at + 3]];
-    u64::from(u32::from_le_bytes(four))
-}
-
 /// Eight bytes, from an index on, as a number.
 fn eight_at(bytes: &[u8], at: usize) -> u64
     requires { at + 8 ≤ length bytes.now }
@@ -41,41 +33,36 @@ fn number_of_many(bytes: &[u8]) -> u64
     let last = bytes.len() - 8;
     let front = eight_at(bytes, 0) ^ eight_at(bytes, last.min(8)).rotate_left(29);
     let back = eight_at(bytes, last) ^ eight_at(bytes, last.min(16)).rotate_left(29);
-    front.wrapping_mul(FACTOR).wrapping_add(back.rotate_left(32))
+    front
+        .wrapping_mul(FACTOR)
+        .wrapping_add(back.rotate_left(32))
 }
 
-/// The same, where there are fewer than eight bytes.
-fn number_of_few(bytes: &[u8]) -> u64
-    requires { length bytes.now < 8 }
-{
-    let count = bytes.len();
-    if count >= 4 {
-        return four_at(bytes, 0) | four_at(bytes, count - 4) << 32;
+/// The same for fewer bytes: the bytes themselves, behind a 1 that tells how many there are.
+fn number_of_few(bytes: &[u8]) -> u64 {
+    let mut number = 1;
+    for byte in bytes {
+        number = number << 8 | u64::from(*byte);
     }
-    if count == 0 {
-        return 0;
-    }
-    let middle = u64::from(bytes[count / 2]);
-    let last = u64::from(bytes[count - 1]);
-    u64::from(bytes[0]) | middle << 8 | last << 16 | (count as u64) << 24
-}
-
-fn number_of(bytes: &[u8]) -> u64 {
-    if bytes.len() >= 8 {
-        number_of_many(bytes)
-    } else {
-        number_of_few(bytes)
-    }
+    number
 }
 
 /// The class of a word, which mostly tells it apart from the other words that a script has near it.
 pub fn class_of(word: &[u8]) -> usize
     ensures { result < 4096 }
 {
-    (number_of(word).wrapping_mul(FACTOR) >> 52) as usize
+    let number = if word.len() >= 8 {
+        number_of_many(word)
+    } else {
+        number_of_few(word)
+    };
+    (number.wrapping_mul(FACTOR) >> 52) as usize
 }
 
-/// The class of a line, by its first and its last bytes.
+/// The class of a line, by its first and its last bytes. No `play` line has fewer than eight bytes, so lines that do need no classes.
 pub fn class_of_line(line: &[u8]) -> u8 {
-    (number_of(line).wrapping_mul(FACTOR) >> 56) as u8
+    if line.len() < 8 {
+        return 0;
+    }
+    (number_of_many(line).wrapping_mul(FACTOR) >> 56) as u8
 }

@@ -1,4 +1,4 @@
-use Rattle.std.proofs.Common.{◌≡◌, List, ℕ, map, take, ap, ◌∙◌, arith}
+use Rattle.std.proofs.Common.{List, ℕ, map, ap, ◌∙◌, arith}
 use Rattle.std.proofs.lemmas.List.{take_all}
 use Rattle.std.specs.Simd.Lanes.{mask_l}
 use Rattle.action_script.specs.CutLines.{is_blank}

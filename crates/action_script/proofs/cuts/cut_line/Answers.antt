@@ -1,6 +1,5 @@
-use Rattle.std.proofs.Common.{◌∷◌, ◌+◌, take, drop, length, ap, ◌∙◌, arith}
-use Rattle.std.proofs.lemmas.List.{take_rest, drop_all}
-use Rattle.action_script.specs.CutLines.{lines_of}
+use Rattle.std.proofs.Common.{◌+◌, arith}
+use Rattle.std.proofs.lemmas.List.{take_rest}
 use Rattle.action_script.proofs.LineCuts.{end_of, lines_of-cut, lines_of-whole}
 use Rattle.action_script.proofs.cuts.cut_line.Goals as goal
 

@@ -1,5 +1,4 @@
-use Rattle.std.proofs.Common.{◌≡◌, ◌<◌, ◌==◌, ◌∙◌, sym, ap, map, drop, position, None, arith}
-use lib.Lanes.{chunk, mask_l}
+use Rattle.std.proofs.Common.{◌≡◌, ◌==◌, ◌∙◌, sym, ap, drop, position, None, arith}
 use lib.Count.{count_trailing_zeros}
 use Rattle.std.proofs.lemmas.List.{length-drop, take_rest}
 use Rattle.action_script.proofs.LineCuts.{end_whole}

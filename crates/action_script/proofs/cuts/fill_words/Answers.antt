@@ -1,7 +1,6 @@
-use Rattle.std.proofs.Common.{◌≡◌, ◌++◌, ◌∷◌, ◌+◌, [], List, ℕ, map, length, drop, sym, ap, ◌∙◌, arith}
-use Rattle.std.proofs.lemmas.List.{take_rest, drop_all}
-use Rattle.std.specs.List.{position_or_len}
-use Rattle.action_script.specs.CutLines.{is_blank, filled_of}
+use Rattle.std.proofs.Common.{◌≡◌, ◌++◌, ◌∷◌, [], List, ℕ, map, length, ap, ◌∙◌, arith}
+use Rattle.std.proofs.lemmas.List.{take_rest}
+use Rattle.action_script.specs.CutLines.{filled_of}
 use Rattle.action_script.proofs.WordCuts.{last_piece}
 use Rattle.action_script.proofs.cuts.fill_words.Goals as goal
 

@@ -1,4 +1,4 @@
-use Rattle.std.proofs.Common.{◌≤◌, ◌-◌, map, length}
+use Rattle.std.proofs.Common.{◌-◌, map, length}
 use Rattle.action_script.specs.CutLines.{AreCut}
 use Rattle.action_script.proofs.cuts.fill_words.Given as goal
 

@@ -1,8 +1,8 @@
-use Rattle.std.proofs.Common.{◌≡◌, ◌+◌, ◌-◌, ◌/◌, ◌^◌, ◌<◌, ◌≤◌, ◌++◌, ◌∷◌, ℕ, List, [], map, drop, take, length, sym, ap, ◌∙◌, subst, arith}
+use Rattle.std.proofs.Common.{◌≡◌, ◌+◌, ◌-◌, ◌/◌, ◌^◌, map, drop, sym, ap, ◌∙◌, subst, arith}
 use lib.Lanes.{chunk, mask_l}
 use lib.Count.{count_trailing_zeros}
 use Rattle.std.specs.List.{position_or_len}
-use Rattle.action_script.specs.CutLines.{is_blank, filled_of, AreCut}
+use Rattle.action_script.specs.CutLines.{is_blank, AreCut}
 use Rattle.action_script.proofs.Marks.{all_passed, first_marked, marked_behind}
 use Rattle.action_script.proofs.WordCuts.{one_more}
 use Rattle.action_script.proofs.cuts.push_words.Goals as goal
