@@ -1,12 +1,14 @@
 -- Bytes of a text that are asked at once: a bit for each tells whether it is one that parts.
-use Rattle.std.proofs.Common.{◌≡◌, ◌≢◌, ℕ, zero, suc, ◌+◌, ◌-◌, ◌*◌, ◌/◌, ◌%◌, ◌^◌, ◌<◌, ◌≤◌, ◌==◌, ◌||◌, Bool, true, false, not, cond, eqb, List, [], ◌∷◌, map, length, take, drop, replicate, refl, sym, ap, ap₂, ◌∙◌, arith}
-use Rattle.std.proofs.lemmas.Simd.{chunk-drop, length-chunk, leading_from_mask_l, trailing_mask_l, mask_l-lt, mask_l-mod}
+use Rattle.std.proofs.Common.{◌≡◌, ◌≢◌, ℕ, zero, suc, ◌+◌, ◌-◌, ◌*◌, ◌/◌, ◌%◌, ◌^◌, ◌<◌, ◌≤◌, ◌==◌, ◌||◌, nat_lt, Bool, true, false, not, cond, eqb, List, [], ◌∷◌, map, length, take, drop, get_or, replicate, refl, sym, ap, ap₂, ◌∙◌, arith, w64}
+use Rattle.std.proofs.lemmas.Simd.{chunk-drop, length-chunk, get_or-chunk, bit_mask_l, leading_from_mask_l, trailing_mask_l, mask_l-lt, mask_l-mod}
 use Rattle.std.proofs.Math.Nat.{pow-le-pow_right}
 use Rattle.std.proofs.lemmas.Nat.{shr-shr, shr_le, div-mul-add}
-use Rattle.std.proofs.lemmas.Bool.{eq-eqb, ne_eqb}
-use Rattle.std.proofs.lemmas.List.{drop-drop, drop-map, drop-take, length-drop, length-map}
+use Rattle.std.proofs.lemmas.Bool.{eq-eqb, ne_eqb, false≢true, ltb-true, ltb-false}
+use Rattle.std.proofs.lemmas.Nat.Bits.{bit_at-trailing_ones}
+use Rattle.std.proofs.lemmas.List.{drop-drop, drop-map, drop-take, length-drop, length-map, get_or-map}
 use Rattle.std.proofs.lemmas.List.Folds.{prefix_len-append}
 use Rattle.std.proofs.lemmas.List.Sums.{prefix_len-le-length}
+use Rattle.std.specs.Int.{trailing_ones}
 use Rattle.std.specs.List.{position_or_len}
 use lib.Bits.{bit_or}
 use lib.Lanes.{chunk, mask_l, top, zip2}
@@ -29,6 +31,22 @@ shifted [] (suc k) = none_left (suc k)
 shifted (b ∷ bits) zero = omega arith
 shifted (b ∷ bits) (suc k) =
     ap (λ j. mask_l (b ∷ bits) / 2 ^ j) (omega arith) ∙ sym (shr-shr (mask_l (b ∷ bits)) 1 k) ∙ ap (λ n. n / 2 ^ k) (half b (mask_l bits)) ∙ shifted bits k
+
+set_bit : (b : Bool) → ◌≡◌ {A = ℕ} 1 (cond b 1 0) → b ≡ true
+set_bit true h = refl
+set_bit false h = absurd (omega (arith, h))
+
+none_behind : (bits : List Bool) → get_or bits (length bits) false ≡ false
+none_behind [] = refl
+none_behind (b ∷ bits) = none_behind bits
+
+-- bits that are set are no more than there are
+ends_within : (bits : List Bool) (run n : ℕ) → length bits ≡ n → ((i : ℕ) → i < run → get_or bits i false ≡ true) → run ≤ n
+ends_within bits run n long is_set = by (nat_lt n run) refl
+  where
+    by : (b : Bool) → nat_lt n run ≡ b → run ≤ n
+    by true e = absurd (false≢true (sym (none_behind bits) ∙ ap (λ i. get_or bits i false) long ∙ is_set n (ltb-true n run e)))
+    by false e = ltb-false n run e
 
 -- no bit is set where no byte parts
 unmarked : (p : ℕ → Bool) (bytes : List ℕ) → position_or_len p bytes ≡ length bytes → mask_l (map p bytes) ≡ 0
@@ -63,17 +81,44 @@ module _ (p : ℕ → Bool) (text : List ℕ) where
       let below : passed < length (chunk from n text) = omega (arith, prefix_len-le-length (λ b. not (p b)) (chunk from n text), apart) in
       (lowest ∙ sym first, omega (arith, first, count, below))
 
-  -- the bits behind it are those of the bytes behind that one
+  -- bits that are left are those of the bytes that are left
+  pub marked_after : (from n count : ℕ) → count ≤ n → mask_l (map p (chunk from n text)) / 2 ^ count ≡ mask_l (map p (chunk (from + count) (n - count) text))
+  marked_after from n count within =
+      let rest = n - count in
+      shifted (map p (chunk from n text)) count
+      ∙ ap mask_l (drop-map p count (chunk from n text))
+      ∙ ap (λ (w : List ℕ). mask_l (map p w))
+      (ap (λ k. drop count (take k (drop from text))) (omega arith)
+      ∙ drop-take count rest (drop from text)
+      ∙ ap (take rest) (drop-drop count from text ∙ ap (λ k. drop k text) (omega arith)))
+
   pub marked_behind : (from n count : ℕ) → count < n → mask_l (map p (chunk from n text)) / 2 ^ count / 2 ^ 1 ≡ mask_l (map p (chunk (from + count + 1) (n - (count + 1)) text))
   marked_behind from n count inside =
-      let rest = n - (count + 1) in
       shr-shr (mask_l (map p (chunk from n text))) count 1
-      ∙ shifted (map p (chunk from n text)) (count + 1)
-      ∙ ap mask_l (drop-map p (count + 1) (chunk from n text))
-      ∙ ap (λ (w : List ℕ). mask_l (map p w))
-      (ap (λ k. drop (count + 1) (take k (drop from text))) (omega arith)
-      ∙ drop-take (count + 1) rest (drop from text)
-      ∙ ap (take rest) (drop-drop (count + 1) from text ∙ ap (λ k. drop k text) (omega arith)))
+      ∙ marked_after from n (count + 1) (omega (arith, inside))
+      ∙ ap (λ k. mask_l (map p (chunk k (n - (count + 1)) text))) (omega arith)
+
+  -- as many of the first bits are set as of the first bytes part, one behind another
+  pub run_marked : (from n : ℕ) → from + n ≤ length text → n < 64 → (trailing_ones w64 (mask_l (map p (chunk from n text))) ≤ n) × ((k : ℕ) → from ≤ k → k < from + trailing_ones w64 (mask_l (map p (chunk from n text))) → p (get_or text k 0) ≡ true)
+  run_marked from n within short =
+      let bytes = chunk from n text in
+      let bits = map p bytes in
+      let run = trailing_ones w64 (mask_l bits) in
+      let long : length bits ≡ n = length-map bytes p ∙ length-chunk from n text within in
+      let small : n ≤ 63 = omega (arith, short) in
+      let room : mask_l bits + 1 < 2 ^ 64 = omega (arith, mask_l-lt bits, ap (λ k. 2 ^ k) long, pow-le-pow_right {n = 2} (omega arith) small) in
+      let ones = (bit_at-trailing_ones w64 (mask_l bits) room).2 in
+      let is_set : (i : ℕ) → i < run → get_or bits i false ≡ true = λ i l. set_bit (get_or bits i false) (sym (ones i l) ∙ bit_mask_l bits i) in
+      let ends : run ≤ n = ends_within bits run n long is_set in (
+        ends,
+        λ k above below.
+            let i : ℕ = k - from in
+            let inside : i < run = omega (arith, above, below) in
+            let at : from + i ≡ k = omega (arith, above) in
+            ap p (ap (λ j. get_or text j 0) (sym at) ∙ sym (get_or-chunk from n text i 0 (omega (arith, inside, ends))))
+            ∙ sym (get_or-map p bytes i 0 false (omega (arith, inside, ends, long, length-map bytes p)))
+            ∙ is_set i inside,
+      )
 
 -- ---- lanes that are compared with the three blanks
 

@@ -1,5 +1,5 @@
 -- A line cut into words.
-use Rattle.std.proofs.Common.{◌≡◌, ℕ, ◌+◌, ◌-◌, ◌<◌, ◌≤◌, true, not, List, [], ◌∷◌, ◌++◌, length, take, drop, get_or, refl, sym, ap, ◌∙◌, arith}
+use Rattle.std.proofs.Common.{◌≡◌, ℕ, zero, suc, ◌+◌, ◌-◌, ◌<◌, ◌≤◌, true, not, List, [], ◌∷◌, ◌++◌, length, take, drop, get_or, refl, sym, ap, ◌∙◌, subst, arith}
 use Rattle.std.specs.List.{position_or_len, before_first, after_first, slice_split}
 use Rattle.std.proofs.lemmas.List.{append_assoc, append-nil, length-drop, drop-drop}
 use Rattle.std.proofs.lemmas.List.Splits.{slice_split_first, slice_split_none}
@@ -57,3 +57,11 @@ module _ (line : List ℕ) (words : List (List ℕ)) (start : ℕ) (cut : words_
   -- the last piece, where no blank follows
   pub last_piece : length line ≤ start + end_of (drop start line) → words ++ filled_of (drop start line ∷ []) ≡ words_of line
   last_piece end = sym (cut ∙ ap (λ more. words ++ more) (only_word (drop start line) (omega (arith, end, length-drop start line))))
+
+-- so are more, one behind another
+pub run_passed : (line : List ℕ) (words : List (List ℕ)) (start run : ℕ) → AreCut line words start start → start + run ≤ length line → ((k : ℕ) → start ≤ k → k < start + run → is_blank (get_or line k 0) ≡ true) → AreCut line words (start + run) (start + run)
+run_passed line words start zero cut within blank = subst (λ k. AreCut line words k k) (omega arith) cut
+run_passed line words start (suc run) cut within blank =
+    let next = none_more line words start cut.cut 0 (omega (arith, within)) (blank start (omega arith) (omega arith)) in
+    let at : (start + 1) + run ≡ start + suc run = omega arith in
+    subst (λ k. AreCut line words k k) at (run_passed line words (start + 1) run next (omega (arith, within)) (λ k above below. blank k (omega (arith, above)) (omega (arith, below))))

@@ -139,16 +139,16 @@ fn push_words<'a>(
         let count = blanks.trailing_zeros();
         let place = from + count as usize;
         push_piece(words, &line[start..place])?;
-        start = place + 1;
-        from = start;
         blanks = (blanks >> count) >> 1;
+        let more = blanks.trailing_ones();
+        start = place + 1 + more as usize;
+        from = start;
+        blanks = blanks >> more;
     }
     Ok(start)
 }
 
 /// Makes these words the longest pieces of a line without blanks.
-///
-/// Where nothing but blanks stands at the front of what is left, they are passed over one by one.
 pub fn fill_words<'a>(words: &mut Vec<&'a [u8]>, line: &'a [u8]) -> Result<(), AllocError>
     ensures { OnOk result (map (λ w. w.now) words.new.items ≡ words_of line.now) }
 {
@@ -156,14 +156,9 @@ pub fn fill_words<'a>(words: &mut Vec<&'a [u8]>, line: &'a [u8]) -> Result<(), A
     let mut start = 0;
     let mut at = 0;
     while at < line.len() {
-        if start == at && is_blank(line[at]) {
-            at += 1;
-            start = at;
-        } else {
-            let end = at + BLOCK.min(line.len() - at);
-            start = push_words(words, line, start, at, end)?;
-            at = end;
-        }
+        let end = at + BLOCK.min(line.len() - at);
+        start = push_words(words, line, start, at, end)?;
+        at = end;
     }
     push_piece(words, &line[start..])?;
     Ok(())

@@ -1,10 +1,11 @@
-use Rattle.std.proofs.Common.{◌≡◌, ◌+◌, ◌-◌, ◌/◌, ◌^◌, map, drop, sym, ap, ◌∙◌, subst, arith}
+use Rattle.std.proofs.Common.{◌≡◌, ◌≤◌, ◌+◌, ◌-◌, ◌/◌, ◌^◌, map, drop, sym, ap, ◌∙◌, subst, arith, w64}
+use Rattle.std.specs.Int.{trailing_ones}
 use lib.Lanes.{chunk, mask_l}
 use lib.Count.{count_trailing_zeros}
 use Rattle.std.specs.List.{position_or_len}
 use Rattle.action_script.specs.CutLines.{is_blank, AreCut}
-use Rattle.action_script.proofs.Marks.{all_passed, first_marked, marked_behind}
-use Rattle.action_script.proofs.WordCuts.{one_more}
+use Rattle.action_script.proofs.Marks.{all_passed, first_marked, marked_behind, marked_after, run_marked}
+use Rattle.action_script.proofs.WordCuts.{one_more, run_passed}
 use Rattle.action_script.proofs.cuts.push_words.Goals as goal
 
 pub slice_bounds-push_piece-end : goal.slice_bounds-push_piece-end
@@ -24,12 +25,24 @@ loop-blanks-preserved c =
     let count = count_trailing_zeros 64 c.loop-blanks.blanks in
     let here : count ≡ position_or_len is_blank (drop from line) = ap (count_trailing_zeros 64) i.bits ∙ first.0 in
     let place = from + count in
-    let end : n - (count + 1) ≡ c.args.end - (place + 1) = omega arith in
+    let next = place + 1 in
+    let left = c.args.end - next in
+    let behind : n - (count + 1) ≡ left = omega arith in
+    let inside : next ≤ c.args.end = omega (arith, here, first.1, i.within) in
+    let bits = mask_l (map is_blank (chunk next left line)) in
+    let marked : c.loop-blanks.blanks / 2 ^ count / 2 ^ 1 ≡ bits =
+    ap (λ b. b / 2 ^ count / 2 ^ 1) i.bits ∙ marked_behind is_blank line from n count (omega (arith, here, first.1)) ∙ ap (λ k. mask_l (map is_blank (chunk next k line))) behind in
+    let run = run_marked is_blank line next left (omega (arith, inside, c.requires.block.1)) (omega (arith, inside, c.requires.block.2, i.begun)) in
+    let more = c.trailing_ones-more.result in
+    let same : more ≡ trailing_ones w64 bits = c.trailing_ones-more.ensures ∙ ap (trailing_ones w64) marked in
+    let one = one_more line _ c.loop-blanks.start i.before.cut place (omega (arith, i.before.passed, here)) (omega (arith, inside, c.requires.block.1)) in
+    let all = run_passed line _ next more one (omega (arith, run.0, same, inside, c.requires.block.1)) (λ k above below. run.1 k above (omega (arith, below, same))) in
+    let rest : left - more ≡ c.args.end - (next + more) = omega arith in
     record {
-      before = subst (λ words. AreCut line words (place + 1) (place + 1)) (sym c.in_ok-push_piece.ensures) (one_more line _ c.loop-blanks.start i.before.cut place (omega (arith, i.before.passed, here)) (omega (arith, here, first.1, c.requires.block.1)));
+      before = subst (λ words. AreCut line words (next + more) (next + more)) (sym c.in_ok-push_piece.ensures) all;
       begun = omega (arith, i.begun);
-      within = omega (arith, here, first.1, i.within);
-      bits = ap (λ bits. bits / 2 ^ count / 2 ^ 1) i.bits ∙ marked_behind is_blank line from n count (omega (arith, here, first.1)) ∙ ap (λ k. mask_l (map is_blank (chunk (place + 1) k line))) end;
+      within = omega (arith, run.0, same, inside);
+      bits = ap (λ b. b / 2 ^ more) marked ∙ marked_after is_blank line next left more (omega (arith, run.0, same)) ∙ ap (λ k. mask_l (map is_blank (chunk (next + more) k line))) rest;
     }
 
 pub returns : goal.returns
