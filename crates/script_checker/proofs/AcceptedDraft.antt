@@ -135,16 +135,20 @@ module _ (names : List (List ℕ)) (lines : List Line) (lead : lead_to_top secti
         entries = (record { many = refl; tell = λ a l. absurd (omega arith); whole = refl }, omega arith);
       })
 
-  -- where all parts are right, the places and the bound are within the limits
-  pub keeps_bound : KeepsParts draft → bound_rule draft ≡ true
-  keeps_bound keeps =
+  -- where all parts are right, the places and the bound of the plan are those that were counted
+  pub sizes_counted : KeepsParts draft → (last.all_places ≡ length (plan_of draft).places) × (last.whole_bound ≡ bound (plan_of draft))
+  sizes_counted keeps =
       let places = places_told last shallow draft keeps drafted.actions weighed.places.0.tell in
       let entries = entries_told last shallow draft keeps drafted.actions weighed.entries.0.tell in
       let all_places : last.all_places ≡ counted (length (plan_of draft).places) = weighed.places.0.whole ∙ subst (λ (plays : List PlayRow). counted (played_weight (at last.places) plays) ≡ counted (length (plan_of draft).places)) drafted.plays places in
       let whole : last.whole_bound ≡ counted (bound (plan_of draft)) = weighed.entries.0.whole ∙ subst (λ (plays : List PlayRow). counted (played_weight (at last.bounds) plays) ≡ counted (bound (plan_of draft))) drafted.plays entries in
-      let few_places : length (plan_of draft).places ≤ most_places = omega (arith, all_places, weighed.places.1) in
-      let few_entries : bound (plan_of draft) ≤ most_entries = omega (arith, whole, weighed.entries.1) in
-      and_from _ _ (le-leb (length (plan_of draft).places) most_places few_places) (le-leb (bound (plan_of draft)) most_entries few_entries)
+      (omega (arith, all_places, weighed.places.1), omega (arith, whole, weighed.entries.1))
+
+  -- so they are within the limits
+  pub keeps_bound : KeepsParts draft → bound_rule draft ≡ true
+  keeps_bound keeps =
+      let sizes = sizes_counted keeps in
+      and_from _ _ (le-leb (length (plan_of draft).places) most_places (omega (arith, sizes.0, weighed.places.1))) (le-leb (bound (plan_of draft)) most_entries (omega (arith, sizes.1, weighed.entries.1)))
 
   -- no role handles an exception twice
   pub handlers_apart : list_all (λ (action : ActionRow). list_all handlers_differ action.roles) draft.actions ≡ true

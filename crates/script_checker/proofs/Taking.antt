@@ -9,10 +9,11 @@ use Rattle.action_script.specs.declared.script.Line.{Line}
 use Rattle.action_script.specs.ScriptValue.{Script}
 use Rattle.script_checker.specs.declared.check_error.CheckCause.{CheckCause}
 use Rattle.script_checker.specs.declared.check_error.CheckCause.TheVariants as cause
+use Rattle.script_checker.specs.declared.check_error.CheckError.{CheckError}
 use Rattle.script_checker.specs.DeclaredSoFar.{SoFar, nothing_yet}
 use Rattle.script_checker.specs.After.{after}
 use Rattle.script_checker.specs.Rows.{parted}
-use Rattle.script_checker.specs.Compiled.{number_of, IsAccepted, AreAccepted, IsLeastCause, declared_after, AreRowsOf, IsDraftOf, IsFirstRefused, IsAnswer}
+use Rattle.script_checker.specs.Compiled.{number_of, IsAccepted, AreAccepted, IsLeastCause, declared_after, AreRowsOf, IsDeclared, IsDraftOf, IsPlanOf, IsFirstRefused, IsAnswer}
 use Rattle.script_checker.specs.Compiled.IsAnswer.{planned, refused, wanting}
 
 -- the first n lines were taken
@@ -44,39 +45,48 @@ cut lines n line l is =
     sym (take-append-drop n lines) ∙ ap (λ (some : List Line). take n lines ++ some) (drop-cons lines n line l ∙ ap (λ (x : Line). x ∷ drop (suc n) lines) (sym is) ∙ sym (ap (λ (k : ℕ). line ∷ drop k lines) (add-one n)))
 
 -- the line after these is refused
-pub line_refused : (script : Script) (names : List (List ℕ)) (lines : List Line) (n : ℕ) (s : SoFar) (rows : List GraphRow) (line : Line) (c : CheckCause) → names ≡ script.names → lines ≡ script.lines → n < length lines → line ≡ get_or lines n line → Taken names lines n s rows → (c ≢ cause.OutOfMemory → IsLeastCause s line.form c) → IsAnswer script (Err (record { line = line.number; cause = c }))
-line_refused script names lines n s rows line c en el l is h least =
-    by_cause c (λ ne. record {
-      before = take n lines;
-      line = line;
-      rest = drop (n + 1) lines;
-      place = sym el ∙ cut lines n line l is;
-      accepted = subst (λ (names : List (List ℕ)). AreAccepted names (nothing_yet names) (take n lines)) en h.accepted;
-      number = refl;
-      least = subst (λ (s : SoFar). IsLeastCause s line.form c) (h.declared ∙ ap (λ (names : List (List ℕ)). declared_after names (nothing_yet names) (take n lines)) en) (least ne);
-    })
-  where
-    by_cause : (c : CheckCause) → (c ≢ cause.OutOfMemory → IsFirstRefused script (record { line = line.number; cause = c })) → IsAnswer script (Err (record { line = line.number; cause = c }))
-    by_cause cause.OutOfMemory h = wanting refl
-    by_cause c h = refused (h (λ e. let n : number_of c ≡ 21 = ap number_of e in omega arith))
+pub line_refused : (script : Script) (names : List (List ℕ)) (lines : List Line) (n : ℕ) (s : SoFar) (rows : List GraphRow) (line : Line) (c : CheckCause) → names ≡ script.names → lines ≡ script.lines → n < length lines → line ≡ get_or lines n line → Taken names lines n s rows → IsLeastCause s line.form c → IsFirstRefused script (record { line = line.number; cause = c })
+line_refused script names lines n s rows line c en el l is h least = record {
+  before = take n lines;
+  line = line;
+  rest = drop (n + 1) lines;
+  place = sym el ∙ cut lines n line l is;
+  accepted = subst (λ (names : List (List ℕ)). AreAccepted names (nothing_yet names) (take n lines)) en h.accepted;
+  number = refl;
+  least = subst (λ (s : SoFar). IsLeastCause s line.form c) (h.declared ∙ ap (λ (names : List (List ℕ)). declared_after names (nothing_yet names) (take n lines)) en) least;
+}
 
--- all lines were taken, and their draft was closed
-pub script_planned : (script : Script) (names : List (List ℕ)) (lines : List Line) (n : ℕ) (s : SoFar) (rows : List GraphRow) (plan : Plan) → names ≡ script.names → lines ≡ script.lines → length lines ≤ n → Taken names lines n s rows → plan ≡ plan_of (parted s rows) → IsAnswer script (Ok plan)
-script_planned script names lines n s rows plan en el l h e =
+-- which is the answer, unless no memory was found
+pub answer_refused : (script : Script) (error : CheckError) → (error.cause ≢ cause.OutOfMemory → IsFirstRefused script error) → IsAnswer script (Err error)
+answer_refused script error first = by error.cause refl
+  where
+    by : (c : CheckCause) → error.cause ≡ c → IsAnswer script (Err error)
+    by cause.OutOfMemory e = wanting e
+    by c e = refused (first (λ none. let n : number_of c ≡ 21 = ap number_of (sym e ∙ none) in omega arith))
+
+-- all lines were taken
+pub all_declared : (script : Script) (names : List (List ℕ)) (lines : List Line) (n : ℕ) (s : SoFar) (rows : List GraphRow) → names ≡ script.names → lines ≡ script.lines → length lines ≤ n → Taken names lines n s rows → IsDeclared script s rows
+all_declared script names lines n s rows en el l h =
     let whole : take n lines ≡ script.lines = take_all n lines l ∙ el in
-    planned (record {
+    record {
       accepted = subst (λ (lines : List Line). AreAccepted script.names (nothing_yet script.names) lines) whole (subst (λ (names : List (List ℕ)). AreAccepted names (nothing_yet names) (take n lines)) en h.accepted);
-      draft = parted s rows;
-      declared = subst (λ (t : SoFar). IsDraftOf script.names t (parted s rows))
-          (h.declared ∙ ap (λ (names : List (List ℕ)). declared_after names (nothing_yet names) (take n lines)) en ∙ ap (λ (lines : List Line). declared_after script.names (nothing_yet script.names) lines) whole)
-          (record {
-            participants = refl;
-            objects = refl;
-            graphs = subst (λ (names : List (List ℕ)). AreRowsOf names s.graphs rows) en h.rows;
-            actions = refl;
-            plays = refl;
-            drills = refl;
-            watches = refl;
-          });
-      unfolded = e;
-    })
+      declared = h.declared ∙ ap (λ (names : List (List ℕ)). declared_after names (nothing_yet names) (take n lines)) en ∙ ap (λ (lines : List Line). declared_after script.names (nothing_yet script.names) lines) whole;
+      graphs = subst (λ (names : List (List ℕ)). AreRowsOf names s.graphs rows) en h.rows;
+    }
+
+module _ (script : Script) (s : SoFar) (rows : List GraphRow) (h : IsDeclared script s rows) where
+  -- the draft of what they declare
+  pub drafted : IsDraftOf script.names (declared_after script.names (nothing_yet script.names) script.lines) (parted s rows)
+  drafted = subst (λ (t : SoFar). IsDraftOf script.names t (parted s rows)) h.declared (record {
+    participants = refl;
+    objects = refl;
+    graphs = h.graphs;
+    actions = refl;
+    plays = refl;
+    drills = refl;
+    watches = refl;
+  })
+
+  -- and its plan
+  pub planned_by : (plan : Plan) → plan ≡ plan_of (parted s rows) → IsPlanOf script plan
+  planned_by plan e = record { accepted = h.accepted; draft = parted s rows; declared = drafted; unfolded = e }

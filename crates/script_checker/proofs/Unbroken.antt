@@ -1,29 +1,32 @@
--- The draft of a script whose lines were all taken breaks no rule.
-use Rattle.std.proofs.Common.{◌≡◌, ℕ, ◌≤◌, List, length, take, None, ap, ◌∙◌, subst, refl}
-use Rattle.std.proofs.lemmas.List.{take_all}
+-- What the draft of a script comes to whose lines were all taken.
+use Rattle.std.proofs.Common.{◌≡◌, List, length, None, refl, sym, ap, ◌∙◌, subst}
 use Rattle.place_plan.specs.declared.draft_rows.GraphRow.{GraphRow}
 use Rattle.place_plan.specs.DraftRules.{broken_rule}
-use Rattle.action_script.specs.declared.script.Line.{Line}
+use Rattle.place_plan.specs.Unfolding.{plan_of}
+use Rattle.action_script.specs.Printing.{AreScript, forms_of}
 use Rattle.action_script.specs.ScriptValue.{Script}
 use Rattle.script_checker.specs.DeclaredSoFar.{SoFar, nothing_yet}
 use Rattle.script_checker.specs.Rows.{parted}
-use Rattle.script_checker.specs.Compiled.{declared_after, AreAccepted, AreRowsOf, IsDraftOf, BreaksNoRule}
-use Rattle.script_checker.proofs.Taking.{Taken}
+use Rattle.script_checker.specs.Compiled.{declared_after, IsDeclared, BreaksNoRule}
+use Rattle.script_checker.specs.PlanSizes.{counts_so_far, HasCounts}
+use Rattle.script_checker.proofs.AcceptedDraft.{counts, keeps_parts, sizes_counted}
+use Rattle.script_checker.proofs.Taking.{drafted, planned_by}
 
-pub all_taken : (script : Script) (names : List (List ℕ)) (lines : List Line) (n : ℕ) (s : SoFar) (rows : List GraphRow) → names ≡ script.names → lines ≡ script.lines → length lines ≤ n → Taken names lines n s rows → BreaksNoRule script → broken_rule (parted s rows) ≡ None
-all_taken script names lines n s rows en el l h law =
-    let whole : take n lines ≡ script.lines = take_all n lines l ∙ el in
-    law
-    (subst (λ (lines : List Line). AreAccepted script.names (nothing_yet script.names) lines) whole (subst (λ (names : List (List ℕ)). AreAccepted names (nothing_yet names) (take n lines)) en h.accepted))
-    (parted s rows)
-    (subst (λ (t : SoFar). IsDraftOf script.names t (parted s rows))
-    (h.declared ∙ ap (λ (names : List (List ℕ)). declared_after names (nothing_yet names) (take n lines)) en ∙ ap (λ (lines : List Line). declared_after script.names (nothing_yet script.names) lines) whole)
-    (record {
-      participants = refl;
-      objects = refl;
-      graphs = subst (λ (names : List (List ℕ)). AreRowsOf names s.graphs rows) en h.rows;
-      actions = refl;
-      plays = refl;
-      drills = refl;
-      watches = refl;
-    }))
+module _ (script : Script) (s : SoFar) (rows : List GraphRow) (h : IsDeclared script s rows) where
+  -- it breaks no rule
+  pub unbroken : BreaksNoRule script → broken_rule (parted s rows) ≡ None
+  unbroken law = law h.accepted (parted s rows) (drafted script s rows h)
+
+  -- its plan is as large as was counted
+  pub plan_counted : AreScript script.names (forms_of script.lines) → HasCounts script (counts_so_far s)
+  plan_counted is =
+      let draft = parted s rows in
+      let of_draft = drafted script s rows h in
+      let parts = keeps_parts script.names script.lines is.lead is.sound h.accepted draft of_draft in
+      let sizes = sizes_counted script.names script.lines is.lead is.sound h.accepted draft of_draft parts in
+      let few = counts script.names script.lines is.lead is.sound h.accepted draft of_draft in
+      let participants = subst (λ (t : SoFar). length t.participants ≡ length t.participant_rows) (sym h.declared) (sym few.participants.0) in
+      let objects = subst (λ (t : SoFar). length t.objects ≡ length t.object_rows) (sym h.declared) (sym few.objects.0) in
+      let places = ap (λ (t : SoFar). t.all_places) h.declared ∙ sizes.0 in
+      let whole = ap (λ (t : SoFar). t.whole_bound) h.declared ∙ sizes.1 in
+      record { plan = plan_of draft; made = planned_by script s rows h (plan_of draft) refl; counted = rw (participants, objects, places, whole) refl }

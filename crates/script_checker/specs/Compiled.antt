@@ -88,6 +88,12 @@ AreRowsOf names [] (row ∷ rows) = ⊥
 AreRowsOf names (graph ∷ graphs) [] = ⊥
 AreRowsOf names (graph ∷ graphs) (row ∷ rows) = IsRowOf names graph row × AreRowsOf names graphs rows
 
+-- no line of the script has a cause, this is what they declare, and the rows are those of the graphs
+pub record IsDeclared (script : Script) (s : SoFar) (rows : List GraphRow) : Type 0 where
+  pub accepted : AreAccepted script.names (nothing_yet script.names) script.lines
+  pub declared : s ≡ declared_after script.names (nothing_yet script.names) script.lines
+  pub graphs : AreRowsOf script.names s.graphs rows
+
 -- the draft has the parts that are declared
 pub record IsDraftOf (names : List (List ℕ)) (s : SoFar) (draft : Draft) : Type 0 where
   pub participants : draft.participants ≡ s.participant_rows

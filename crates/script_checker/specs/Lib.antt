@@ -12,4 +12,5 @@ pub mod Rows
 pub mod DeclaredSoFar
 pub mod View
 pub mod PlaySizes
+pub mod PlanSizes
 pub mod PlaysAgain

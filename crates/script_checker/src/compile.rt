@@ -6,7 +6,8 @@ ghost use Rattle.script_checker.specs.Numbers.{chosen_from};
 ghost use Rattle.script_checker.specs.After.{after, is_use, with_said};
 ghost use Rattle.script_checker.specs.Chosen.{name_cause, size_cause, part_cause};
 ghost use Rattle.script_checker.specs.Graphs.{Ends};
-ghost use Rattle.script_checker.specs.Compiled.{IsLeast, HasNone, IsLeastCause, IsAccepted, AreRowsOf, IsDraftOf, BreaksNoRule, IsAnswer};
+ghost use Rattle.script_checker.specs.Compiled.{IsLeast, HasNone, IsLeastCause, IsAccepted, AreRowsOf, IsDeclared, IsDraftOf, BreaksNoRule, IsFirstRefused, IsAnswer};
+ghost use Rattle.script_checker.specs.PlanSizes.{counts_so_far, HasCounts};
 ghost use Rattle.script_checker.specs.PlaySizes.{CountsUnfolding};
 ghost use Rattle.script_checker.specs.PlaysAgain.{is_same_play, IsJustTaken, StandsAgain};
 ghost use Rattle.script_checker.specs.Rows.{AddsRow, parted};
@@ -22,6 +23,7 @@ use crate::check_error::{CheckCause, CheckError};
 use crate::declared::Declared;
 use crate::graphs::{graph_of, row_of};
 use crate::lookups::{are_among, places_once};
+use crate::plan_counts::PlanCounts;
 use action_script::form::Form;
 use action_script::script::Script;
 use caa_base::entry::OutOfMemory;
@@ -293,15 +295,11 @@ pub fn counts_unfolding(script: &Script)
     script.are_script();
 }
 
-/// The plan of a script, or the first line of it that is refused, with its least cause.
-///
-/// `OutOfMemory` comes where no memory is found, and tells nothing of the script. A script without a refused line is kept from its
-/// plan by nothing else, since its draft breaks no rule, as `breaks_no_rule` says. The script stays as it was.
-pub fn compile(alloc: Global, script: &Script) -> Result<Plan, CheckError>
-    ensures { IsAnswer script.now result }
+/// What the lines of a script declare, with the rows of its graphs; or its first line that is refused, with its least cause.
+fn declare(alloc: Global, script: &Script) -> Result<(Declared, Vec<GraphRow>), CheckError>
+    ensures declared { IfOk result (λ made. IsDeclared script.now (so_far made.0) made.1.items) }
+    ensures refused { IfErr result (λ e. e.cause ≢ cause.OutOfMemory → IsFirstRefused script.now e) }
 {
-    script.are_script();
-    breaks_no_rule(script);
     let names = script.names();
     let Ok(mut declared) = Declared::new(alloc, script) else {
         return Err(wanting());
@@ -321,6 +319,47 @@ pub fn compile(alloc: Global, script: &Script) -> Result<Plan, CheckError>
             }
         }
     }
+    Ok((declared, rows))
+}
+
+/// How large the plan is of what is declared.
+fn counts_so_far(declared: &Declared) -> PlanCounts
+    ensures { result ≡ counts_so_far (so_far declared.now) }
+{
+    PlanCounts {
+        participants: declared.participants.len(),
+        objects: declared.objects.len(),
+        places: declared.all_places,
+        bound: declared.whole_bound,
+    }
+}
+
+/// How large the plan of a script is, or the first line that is refused, with its least cause.
+///
+/// The plan isn't made: it may have many times as many places as the script has lines, and their number is known once all lines
+/// were taken. `OutOfMemory` comes where no memory is found, and tells nothing of the script. The script stays as it was.
+pub fn count(alloc: Global, script: &Script) -> Result<PlanCounts, CheckError>
+    ensures counts { IfOk result (HasCounts script.now) }
+    ensures refused { IfErr result (λ e. e.cause ≢ cause.OutOfMemory → IsFirstRefused script.now e) }
+{
+    script.are_script();
+    let (declared, _) = declare(alloc, script)?;
+    Ok(counts_so_far(&declared))
+}
+
+/// The plan of a script, or the first line of it that is refused, with its least cause.
+///
+/// `OutOfMemory` comes where no memory is found, and tells nothing of the script. A script without a refused line is kept from its
+/// plan by nothing else, since its draft breaks no rule, as `breaks_no_rule` says. The script stays as it was.
+pub fn compile(alloc: Global, script: &Script) -> Result<Plan, CheckError>
+    ensures { IsAnswer script.now result }
+{
+    script.are_script();
+    breaks_no_rule(script);
+    let (declared, rows) = match declare(alloc, script) {
+        Ok(made) => made,
+        Err(error) => return Err(error),
+    };
     match Plan::close(alloc, draft_of(declared, rows)) {
         Ok(plan) => Ok(plan),
         Err(PlanError::OutOfMemory) => Err(wanting()),

@@ -12,4 +12,5 @@ mod lookups;
 mod number_list;
 pub mod own_names;
 mod parts;
+pub mod plan_counts;
 mod role_list;

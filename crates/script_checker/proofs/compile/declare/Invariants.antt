@@ -2,7 +2,7 @@ use Rattle.std.specs.Prelude.{IfSome}
 use Rattle.script_checker.specs.PlaysAgain.{IsJustTaken}
 use Rattle.script_checker.specs.View.{so_far}
 use Rattle.script_checker.proofs.Taking.{Taken}
-use Rattle.script_checker.proofs.compile.compile.Given as goal
+use Rattle.script_checker.proofs.compile.declare.Given as goal
 
 abbrev pub invariant-loop-line : goal.invariant-loop-line
 invariant-loop-line l =

@@ -1,0 +1,27 @@
+-- How large the plan of a script is.
+use Rattle.std.specs.Prelude.{◌≡◌, length}
+use Rattle.place_plan.specs.PlanValue.{Plan}
+use Rattle.place_plan.specs.Bound.{bound}
+use Rattle.action_script.specs.ScriptValue.{Script}
+use Rattle.script_checker.specs.declared.plan_counts.PlanCounts.{PlanCounts}
+use Rattle.script_checker.specs.Compiled.{IsPlanOf}
+use Rattle.script_checker.specs.DeclaredSoFar.{SoFar}
+
+-- how large a plan is
+abbrev pub counts_of : Plan → PlanCounts
+counts_of plan = record {
+  participants = length plan.participants;
+  objects = length plan.objects;
+  places = length plan.places;
+  bound = bound plan;
+}
+
+-- how large it is by what is declared
+abbrev pub counts_so_far : SoFar → PlanCounts
+counts_so_far s = record { participants = length s.participants; objects = length s.objects; places = s.all_places; bound = s.whole_bound }
+
+-- the script has a plan, which is so large
+pub record HasCounts (script : Script) (counts : PlanCounts) : Type 0 where
+  pub plan : Plan
+  pub made : IsPlanOf script plan
+  pub counted : counts ≡ counts_of plan
