@@ -8,6 +8,7 @@ use Rattle.caa_base.specs.declared.entry.Entry.{Entry}
 use Rattle.caa_base.specs.declared.reading.ReadError.{ReadError}
 use Rattle.caa_base.specs.declared.reading.ReadError.TheVariants as error
 use Rattle.place_plan.specs.PlanValue.{Plan}
+use Rattle.script_checker.specs.PlanSizes.{counts_of}
 use Rattle.role_driver.specs.Schedule.{GrewBy, first_of_seed}
 use Rattle.journal_text.specs.declared.seens.Seen.{Seen}
 use Rattle.journal_text.specs.Right.{first_wrong}
@@ -19,7 +20,7 @@ use Rattle.caa_main.specs.declared.finding.Finding.{Finding}
 use Rattle.caa_main.specs.declared.finding.Finding.TheVariants as finding
 use Rattle.caa_main.specs.declared.status.Status.{Status}
 use Rattle.caa_main.specs.declared.status.Status.TheVariants as status
-use Rattle.caa_main.specs.Findings.{counts_of, status_of, finding_text, is_played, needs_memory}
+use Rattle.caa_main.specs.Findings.{status_of, finding_text, is_played, needs_memory}
 use Rattle.caa_main.specs.Inputs.{most_bytes, script_in, journal_part}
 use Rattle.caa_main.specs.Judging.{IsLawful, IsIllegal, HasTooManyEntries}
 use Rattle.caa_main.specs.FailedPlays.{IsPlayed, has_failed_play}

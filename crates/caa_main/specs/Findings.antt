@@ -1,12 +1,10 @@
 -- What a call of the program may come to: the status and the text of each.
 use Rattle.std.specs.Prelude.{ℕ, Bool, true, false, List, [], ◌∷◌, length, codes, decimal}
 use Rattle.caa_base.specs.Lines.{line}
-use Rattle.place_plan.specs.PlanValue.{Plan}
-use Rattle.place_plan.specs.Bound.{bound}
+use Rattle.script_checker.specs.declared.plan_counts.PlanCounts.{PlanCounts}
 use Rattle.caa_main.specs.declared.fault.Fault.{Fault}
 use Rattle.caa_main.specs.declared.fault.Fault.TheVariants as fault
 use Rattle.caa_main.specs.declared.fault.Refusal.{Refusal}
-use Rattle.caa_main.specs.declared.finding.PlanCounts.{PlanCounts}
 use Rattle.caa_main.specs.declared.finding.Finding.{Finding}
 use Rattle.caa_main.specs.declared.finding.Finding.TheVariants as finding
 use Rattle.caa_main.specs.declared.finding.Text.{Text}
@@ -52,16 +50,7 @@ refusal_text refusal = line (codes "refused") (decimal refusal.line ∷ fault_ph
 
 -- ---- plans
 
--- what `check` tells of a plan
-abbrev pub counts_of : Plan → PlanCounts
-counts_of plan = record {
-  participants = length plan.participants;
-  objects = length plan.objects;
-  places = length plan.places;
-  bound = bound plan;
-}
-
--- the line that tells it
+-- the line that tells how large a plan is
 abbrev pub checked_text : PlanCounts → List ℕ
 checked_text counts =
     line (codes "ok participants")

@@ -11,7 +11,9 @@ use Rattle.action_script.specs.declared.script_error.ScriptCause.TheVariants as 
 use Rattle.script_checker.specs.declared.check_error.CheckError.{CheckError}
 use Rattle.script_checker.specs.declared.check_error.CheckCause.{CheckCause}
 use Rattle.script_checker.specs.declared.check_error.CheckCause.TheVariants as cause
+use Rattle.script_checker.specs.declared.plan_counts.PlanCounts.{PlanCounts}
 use Rattle.script_checker.specs.Compiled.{IsPlanOf, IsFirstRefused}
+use Rattle.script_checker.specs.PlanSizes.{counts_of}
 use Rattle.place_plan.specs.PlanValue.{Plan}
 use Rattle.caa_main.specs.declared.fault.Fault.{Fault}
 use Rattle.caa_main.specs.declared.fault.Fault.TheVariants as fault
@@ -26,6 +28,12 @@ pub record HasPlan (bytes : List ℕ) (plan : Plan) : Type 0 where
   pub script : Script
   pub spelled : reading_of bytes ≡ Ok script
   pub compiled : IsPlanOf script plan
+
+-- what they spell is accepted, and its plan is so large
+pub record IsCounted (bytes : List ℕ) (counts : PlanCounts) : Type 0 where
+  pub plan : Plan
+  pub script : HasPlan bytes plan
+  pub counted : counts ≡ counts_of plan
 
 -- ---- the names of exceptions
 

@@ -1,22 +1,12 @@
 ghost use Rattle.std.specs.Prelude.{◌≡◌, true, IfOk, IsErr};
-ghost use Rattle.caa_main.specs.Findings.{text_bytes, status_of, is_played, needs_memory, counts_of, checked_text, numbered_text, finding_text};
+ghost use Rattle.caa_main.specs.Findings.{text_bytes, status_of, is_played, needs_memory, checked_text, numbered_text, finding_text};
 
 use crate::fault::Refusal;
 use crate::status::Status;
 use caa_base::entry::OutOfMemory;
 use caa_base::line::{end_line, push_number, push_word};
-use place_plan::plan::Plan;
+use script_checker::plan_counts::PlanCounts;
 use std::alloc::Global;
-
-/// How large a plan is.
-#[derive(Clone, Copy, Debug, PartialEq, Eq)]
-pub struct PlanCounts {
-    pub participants: u32,
-    pub objects: u32,
-    pub places: u32,
-    /// How many entries a journal of it has at most.
-    pub bound: u64,
-}
 
 /// What a call of the program came to. Each has one status and one text.
 #[derive(Drop)]
@@ -60,34 +50,20 @@ impl Text {
     }
 }
 
-impl PlanCounts {
-    /// How large this plan is.
-    pub fn of(plan: &Plan) -> Self
-        ensures { result ≡ counts_of plan.now }
-    {
-        PlanCounts {
-            participants: plan.participants(),
-            objects: plan.objects(),
-            places: plan.places(),
-            bound: plan.bound(),
-        }
-    }
-
-    /// The line that tells them.
-    fn text(&self, alloc: Global) -> Result<Vec<u8>, OutOfMemory>
-        ensures { IfOk result (λ text. text.items ≡ checked_text self.now) }
-    {
-        let mut text = Vec::from_slice(alloc, b"ok participants")?;
-        push_number(&mut text, u64::from(self.participants))?;
-        push_word(&mut text, b"objects")?;
-        push_number(&mut text, u64::from(self.objects))?;
-        push_word(&mut text, b"places")?;
-        push_number(&mut text, u64::from(self.places))?;
-        push_word(&mut text, b"bound")?;
-        push_number(&mut text, self.bound)?;
-        end_line(&mut text)?;
-        Ok(text)
-    }
+/// The line that tells how large a plan is.
+fn checked(alloc: Global, counts: PlanCounts) -> Result<Vec<u8>, OutOfMemory>
+    ensures { IfOk result (λ text. text.items ≡ checked_text counts) }
+{
+    let mut text = Vec::from_slice(alloc, b"ok participants")?;
+    push_number(&mut text, u64::from(counts.participants))?;
+    push_word(&mut text, b"objects")?;
+    push_number(&mut text, u64::from(counts.objects))?;
+    push_word(&mut text, b"places")?;
+    push_number(&mut text, counts.places)?;
+    push_word(&mut text, b"bound")?;
+    push_number(&mut text, counts.bound)?;
+    end_line(&mut text)?;
+    Ok(text)
 }
 
 /// The line of a word and a number.
@@ -144,7 +120,7 @@ impl Finding {
             Finding::OutOfMemory => Ok(Text::Fixed(b"")),
             Finding::Played { failed: _, text } => Ok(Text::Written(text)),
             Finding::Refused(refusal) => Ok(Text::Written(refusal.text(alloc)?)),
-            Finding::Checked(counts) => Ok(Text::Written(counts.text(alloc)?)),
+            Finding::Checked(counts) => Ok(Text::Written(checked(alloc, counts)?)),
             Finding::Legal { entries } => Ok(Text::Written(numbered(alloc, b"legal", entries)?)),
             Finding::Illegal { line } => Ok(Text::Written(numbered(alloc, b"illegal", line)?)),
         }

@@ -1,8 +1,9 @@
 //! The plan that a script has by its bytes, or the fault for which it is refused.
 
-ghost use Rattle.std.specs.Prelude.{◌≡◌, true, [], IfOk, IfErr, OnOk};
+ghost use Rattle.std.specs.Prelude.{◌≡◌, true, [], Ok, IfOk, IfErr, OnOk};
+ghost use Rattle.action_script.specs.Spelling.{reading_of};
 ghost use Rattle.journal_text.specs.Naming.{is_well_named};
-ghost use Rattle.caa_main.specs.Scripts.{HasPlan, HasNoPlan, IsSpelling, IsCause, declared_after, declared_at, exception_at};
+ghost use Rattle.caa_main.specs.Scripts.{HasPlan, IsCounted, HasNoPlan, IsSpelling, IsCause, declared_after, declared_at, exception_at};
 
 use crate::fault::{Fault, Refusal};
 use action_script::form::Form;
@@ -13,8 +14,9 @@ use caa_base::entry::OutOfMemory;
 use caa_base::name::{Name, name_at};
 use place_plan::plan::Plan;
 use script_checker::check_error::{CheckCause, CheckError};
-use script_checker::compile::compile;
+use script_checker::compile::{compile, count};
 use script_checker::own_names::has_own_names;
+use script_checker::plan_counts::PlanCounts;
 use std::alloc::{AllocError, Global};
 
 /// Why bytes have no plan.
@@ -117,6 +119,35 @@ fn cause_of(alloc: Global, script: &Script, error: CheckError) -> Result<Fault, 
     }
 }
 
+/// The script that these bytes spell.
+fn script_of(alloc: Global, bytes: &[u8]) -> Result<Script, NoPlan>
+    ensures script { IfOk result (λ script. reading_of bytes.now ≡ Ok script) }
+    ensures refused { IfErr result (HasNoPlan bytes.now) }
+{
+    match read(alloc, bytes) {
+        Ok(script) => Ok(script),
+        Err(error) => {
+            let fault = spelling_of(error.cause)?;
+            Err(NoPlan::Refused(Refusal {
+                line: u64::from(error.line),
+                fault,
+            }))
+        }
+    }
+}
+
+/// The refusal of a script for one of its lines; none for want of memory.
+fn refusal_of(alloc: Global, script: &Script, error: CheckError) -> Result<Refusal, OutOfMemory>
+    ensures line { IfOk result (λ refusal. refusal.line ≡ error.line) }
+    ensures fault { IfOk result (λ refusal. IsCause script.now error.line error.cause refusal.fault) }
+{
+    let fault = cause_of(alloc, script, error)?;
+    Ok(Refusal {
+        line: u64::from(error.line),
+        fault,
+    })
+}
+
 /// The plan of the script that these bytes spell; its names tell its parts apart.
 ///
 /// A refusal names the line and the fault, and for a graph the exceptions at fault.
@@ -125,27 +156,30 @@ pub fn plan_of(alloc: Global, bytes: &[u8]) -> Result<Plan, NoPlan>
     ensures named { IfOk result (λ plan. is_well_named plan ≡ true) }
     ensures refused { IfErr result (HasNoPlan bytes.now) }
 {
-    let script = match read(alloc, bytes) {
-        Ok(script) => script,
-        Err(error) => {
-            let fault = spelling_of(error.cause)?;
-            return Err(NoPlan::Refused(Refusal {
-                line: u64::from(error.line),
-                fault,
-            }));
-        }
-    };
+    let script = script_of(alloc, bytes)?;
     match compile(alloc, &script) {
         Ok(plan) => {
             has_own_names(&script, &plan);
             Ok(plan)
         }
         Err(error) => {
-            let fault = cause_of(alloc, &script, error)?;
-            Err(NoPlan::Refused(Refusal {
-                line: u64::from(error.line),
-                fault,
-            }))
+            let refusal = refusal_of(alloc, &script, error)?;
+            Err(NoPlan::Refused(refusal))
+        }
+    }
+}
+
+/// How large the plan is of the script that these bytes spell. The plan isn't made; a refusal is the same as that of `plan_of`.
+pub fn counts_of(alloc: Global, bytes: &[u8]) -> Result<PlanCounts, NoPlan>
+    ensures counts { IfOk result (IsCounted bytes.now) }
+    ensures refused { IfErr result (HasNoPlan bytes.now) }
+{
+    let script = script_of(alloc, bytes)?;
+    match count(alloc, &script) {
+        Ok(counts) => Ok(counts),
+        Err(error) => {
+            let refusal = refusal_of(alloc, &script, error)?;
+            Err(NoPlan::Refused(refusal))
         }
     }
 }

@@ -1,21 +1,21 @@
 //! What the commands come to over the input, before anything is written.
 
-ghost use Rattle.std.specs.Prelude.{◌≡◌, ◌<◌, ◌≤◌, None, Some, true, IfSome};
+ghost use Rattle.std.specs.Prelude.{◌≡◌, ◌≢◌, ◌<◌, ◌≤◌, None, Some, true, IfSome};
 ghost use Rattle.caa_base.specs.Limits.{most_audit_bytes};
 ghost use Rattle.journal_text.specs.Naming.{is_well_named};
 ghost use Rattle.caa_main.specs.declared.command.Command.{Command};
 ghost use Rattle.caa_main.specs.Commands.{without_threads, HasSeed};
 ghost use Rattle.caa_main.specs.OutsideUse.{source_use, plant_use, left_of, call_of};
-ghost use Rattle.caa_main.specs.Calls.{CheckComesTo, AuditComesTo, PlanComesTo, InputComesTo, unread_finding, CameTo};
+ghost use Rattle.caa_main.specs.Calls.{AuditComesTo, PlanComesTo, InputComesTo, unread_finding, CameTo};
 ghost use Rattle.caa_main.specs.Inputs.{most_bytes, script_in};
 
 use crate::command::Command;
 use crate::fault::{Fault, Refusal};
-use crate::finding::{Finding, PlanCounts};
+use crate::finding::Finding;
 use crate::inputs::find_journal;
 use crate::judging::{Judgement, judge};
 use crate::playing::{Decision, run_plan, simulate};
-use crate::scripts::{NoPlan, plan_of};
+use crate::scripts::{NoPlan, counts_of, plan_of};
 use caa_base::gate::Gate;
 use caa_base::limits::{MOST_AUDIT_BYTES, MOST_AUDITED, MOST_SCRIPT_BYTES};
 use caa_base::plant::Plant;
@@ -26,12 +26,16 @@ use std::alloc::Global;
 use std::sync::Wait;
 use std::thread::Threads;
 
-/// Tells how large a plan is.
-fn check<P: Plant>(alloc: Global, plan: &Plan, plant: P) -> Decision<P>
-    ensures { CheckComesTo plan.now result.finding
+/// Tells how large the plan of a script is.
+fn check<P: Plant>(alloc: Global, bytes: &[u8], plant: P) -> Decision<P>
+    ensures { InputComesTo Command.Check bytes.now result.finding
         (left_of (plant_use ⟦<P as Plant>⟧ plant result.plant) result.journal.entries) }
 {
-    Decision::idle(alloc, Finding::Checked(PlanCounts::of(plan)), plant)
+    match counts_of(alloc, bytes) {
+        Ok(counts) => Decision::idle(alloc, Finding::Checked(counts), plant),
+        Err(NoPlan::Refused(refusal)) => Decision::idle(alloc, Finding::Refused(refusal), plant),
+        Err(NoPlan::OutOfMemory) => Decision::idle(alloc, Finding::OutOfMemory, plant),
+    }
 }
 
 /// Judges the journal that stands after the script, which has so many lines.
@@ -64,7 +68,7 @@ fn judge_after<P: Plant>(alloc: Global, plan: &Plan, bytes: &[u8], plant: P) -> 
     }
 }
 
-/// Serves a command over a plan, and over all bytes that were read. It is none that needs threads.
+/// Serves a command over a plan, and over all bytes that were read. It is none that needs threads, nor `check`, which needs no plan.
 fn serve_plan<P: Plant>(
     alloc: Global,
     command: Command,
@@ -74,14 +78,14 @@ fn serve_plan<P: Plant>(
 ) -> Decision<P>
     requires seed { HasSeed command }
     requires quiet { without_threads (Some command) ≡ Some command }
+    requires other { command ≢ Command.Check }
     requires named { is_well_named plan ≡ true }
     ensures { PlanComesTo command plan bytes.now result.finding
         (left_of (plant_use ⟦<P as Plant>⟧ plant result.plant) result.journal.entries) }
 {
     match command {
-        Command::Check => check(alloc, &plan, plant),
+        Command::Check | Command::Run => unreachable!(),
         Command::Sim(seed) => simulate(alloc, plan, seed, plant),
-        Command::Run => unreachable!(),
         Command::Audit => judge_after(alloc, &plan, bytes, plant),
     }
 }
@@ -103,6 +107,9 @@ fn serve<P: Plant>(alloc: Global, command: Command, bytes: &[u8], plant: P) -> D
     ensures { InputComesTo command bytes.now result.finding
         (left_of (plant_use ⟦<P as Plant>⟧ plant result.plant) result.journal.entries) }
 {
+    if let Command::Check = command {
+        return check(alloc, bytes, plant);
+    }
     match plan_of(alloc, script_in(command, bytes)) {
         Ok(plan) => serve_plan(alloc, command, plan, bytes, plant),
         Err(NoPlan::Refused(refusal)) => Decision::idle(alloc, Finding::Refused(refusal), plant),

@@ -1,35 +1,24 @@
-use Rattle.std.proofs.Common.{◌≡◌, subst, inr, refl, Ok, Err}
-use Rattle.script_checker.specs.declared.check_error.CheckCause.TheVariants as cause
-use Rattle.caa_main.specs.Scripts.{IsCause}
-use Rattle.caa_main.proofs.Answers.{plan_answered, refusal_answered}
+use Rattle.std.proofs.Common.{refl, Ok, Err}
+use Rattle.caa_main.proofs.Answers.{plan_answered, refusal_answered, unplannable}
 use Rattle.journal_text.proofs.WellNamed.{well_named}
 use Rattle.caa_main.proofs.scripts.plan_of.Goals as goal
 
 pub returns-clause-refused : goal.returns-clause-refused
 returns-clause-refused c =
-    let script = c.in-Ok.script in
-    let error = c.in-Err-compile.error in
-    let fault = c.in_ok-fault-in-Err-compile.fault in
-    let told : IsCause script error.line error.cause fault = c.in_ok-fault-in-Err-compile.ensures in
-    let sure : error.cause ≡ cause.OutOfMemory → ⊥ = λ e. subst (λ k. IsCause script error.line k fault) e told in
-    inr (record {
-      script = script;
-      spelled = c.in-Ok.ensures.read;
-      error = error;
-      first = refusal_answered script (Err error) error c.in-Err-compile.ensures refl sure;
-      line = c.from-in-Err-compile.ensures;
-      fault = told;
-    })
+    let script = c.in_ok-script.script in
+    let error = c.in-Err.error in
+    let told = c.in_ok-refusal-in-Err.ensures in
+    unplannable c.args.bytes.now script error c.in_ok-refusal-in-Err.refusal c.in_ok-script.ensures.script (refusal_answered script (Err error) error c.in-Err.ensures refl) told.line told.fault
 
-pub returns-in-Ok-compile-clause-plan : goal.returns-in-Ok-compile-clause-plan
-returns-in-Ok-compile-clause-plan c = record {
-  script = c.in-Ok.script;
-  spelled = c.in-Ok.ensures.read;
-  compiled = plan_answered c.in-Ok.script (Ok c.in-Ok-compile.plan) c.in-Ok-compile.plan c.in-Ok-compile.ensures refl;
+pub returns-in-Ok-clause-plan : goal.returns-in-Ok-clause-plan
+returns-in-Ok-clause-plan c = record {
+  script = c.in_ok-script.script;
+  spelled = c.in_ok-script.ensures.script;
+  compiled = plan_answered c.in_ok-script.script (Ok c.in-Ok.plan) c.in-Ok.plan c.in-Ok.ensures refl;
 }
 
 pub has_own_names-requires : goal.has_own_names-requires
-has_own_names-requires c = plan_answered c.in-Ok.script (Ok c.in-Ok-compile.plan) c.in-Ok-compile.plan c.in-Ok-compile.ensures refl
+has_own_names-requires c = plan_answered c.in_ok-script.script (Ok c.in-Ok.plan) c.in-Ok.plan c.in-Ok.ensures refl
 
-pub returns-in-Ok-compile-clause-named : goal.returns-in-Ok-compile-clause-named
-returns-in-Ok-compile-clause-named c = well_named c.in-Ok-compile.plan c.has_own_names.ensures
+pub returns-in-Ok-clause-named : goal.returns-in-Ok-clause-named
+returns-in-Ok-clause-named c = well_named c.in-Ok.plan c.has_own_names.ensures
