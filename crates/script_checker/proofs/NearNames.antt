@@ -1,7 +1,7 @@
 -- Lemmas on the table of the names that are near the first of their list.
-use Rattle.std.proofs.Common.{◌≡◌, ℕ, ◌+◌, ◌-◌, ◌<◌, ◌≤◌, min, max, Bool, true, false, cond, ◌&&◌, nat_le, nat_lt, List, [], ◌∷◌, ◌++◌, length, set, slice_index, slice_index_or, refl, sym, ap, subst, ◌∙◌, arith, inl, inr}
+use Rattle.std.proofs.Common.{◌≡◌, ℕ, ◌+◌, ◌-◌, ◌<◌, ◌≤◌, min, max, Bool, true, false, ◌&&◌, nat_le, nat_lt, List, [], ◌∷◌, ◌++◌, length, set, slice_index, slice_index_or, refl, sym, ap, subst, ◌∙◌, arith, inl, inr}
 use Rattle.std.proofs.lemmas.Bool.{false≢true, cases_eq, cases_Bool, leb-true, le-leb, lt-ltb, ltb-true}
-use Rattle.std.proofs.lemmas.List.{length-append, length-set, get_or-set_other}
+use Rattle.std.proofs.lemmas.List.{length-append, length-set, get_or-set_other, get_or_past}
 use Rattle.std.proofs.lemmas.Grind.{get_or-set_at}
 use Rattle.caa_base.specs.Lists.{index_of}
 use Rattle.caa_base.proofs.ListLemmas.{index_within}
@@ -28,10 +28,10 @@ near_above first above l = rw (le-leb first (first + above) (omega arith), lt-lt
 far_apart : (first name above : ℕ) → is_near first name ≡ false → above < near_names → name ≡ first + above → ⊥
 far_apart first name above far l same = false≢true (sym far ∙ subst (λ n. is_near first n ≡ true) (sym same) (near_above first above l))
 
--- a name that isn't near the first of the list, or near itself where there is none, isn't near the first
-pub far_from_first : (name : ℕ) (names : List ℕ) → is_near (slice_index_or names 0 name) name ≡ false → is_near (slice_index names 0) name ≡ false
-far_from_first name [] far = absurd (far_apart name name 0 far (omega arith) (omega arith))
-far_from_first name (x ∷ xs) far = far
+-- where a name at the end isn't near the first, another name is first
+pub first_of_far : (name : ℕ) (names : List ℕ) → is_near (slice_index_or names 0 name) name ≡ false → slice_index names 0 ≡ slice_index (names ++ name ∷ []) 0
+first_of_far name [] far = absurd (far_apart name name 0 far (omega arith) (omega arith))
+first_of_far name (x ∷ xs) far = refl
 
 -- ---- the place of a name, or none
 
@@ -78,6 +78,14 @@ place_of_more name names few = elim (among_or_end name names) [
 
 -- ---- the table
 
+-- the table says where a near name stands
+pub near_found : (table names : List ℕ) (name above : ℕ) → AreNearPlaces table names → length names ≤ most_names → slice_index names 0 + above ≡ name → above < near_names → min (slice_index_or table above most_names) (length names) ≡ index_of name names
+near_found table names name above is few number l = ap (λ place. min place (length names)) (is.1 above l ∙ ap (λ n. place_or_most n names) number) ∙ place_is_index name names few
+
+-- and past its end that it isn't there
+pub near_missing : (table names : List ℕ) (name above : ℕ) → AreNearPlaces table names → length names ≤ most_names → slice_index names 0 + above ≡ name → above < near_names → length table ≤ above → length names ≡ index_of name names
+near_missing table names name above is few number l past = omega (arith, near_found table names name above is few number l, get_or_past table above most_names past, few)
+
 -- the first may be any name where there is none
 module _ (table names : List ℕ) (is : AreNearPlaces table names) (name : ℕ) where
   from_first : (above : ℕ) → above < near_names → slice_index_or table above most_names ≡ place_or_most (slice_index_or names 0 name + above) names
@@ -87,13 +95,6 @@ module _ (table names : List ℕ) (is : AreNearPlaces table names) (name : ℕ) 
       by [] all = all.1 above l
       by (x ∷ xs) all = all.1 above l
 
-  -- the table says where a near name stands
-  pub near_found : length names ≤ most_names → is_near (slice_index_or names 0 name) name ≡ true → min (slice_index_or table (name - slice_index_or names 0 name) most_names) (length names) ≡ index_of name names
-  near_found few near =
-      let bounds = near_bounds (slice_index_or names 0 name) name near in
-      let number : slice_index_or names 0 name + (name - slice_index_or names 0 name) ≡ name = omega (arith, bounds.0) in
-      ap (λ place. min place (length names)) (from_first (name - slice_index_or names 0 name) bounds.1 ∙ ap (λ n. place_or_most n names) number) ∙ place_is_index name names few
-
   -- it stays one where the list gets a name that isn't near
   pub near_of_far : is_near (slice_index_or names 0 name) name ≡ false → AreNearPlaces table (names ++ name ∷ [])
   near_of_far far = (is.0, λ above l. rw (first_of_more name names) (from_first above l ∙ sym (place_of_other _ name names (far_apart _ name above far l))))
@@ -101,10 +102,13 @@ module _ (table names : List ℕ) (is : AreNearPlaces table names) (name : ℕ) 
   -- and where it gets a near one, whose place comes into the table
   pub near_of_more : length names ≤ most_names → is_near (slice_index_or names 0 name) name ≡ true → (above : ℕ) → above ≡ name - slice_index_or names 0 name → above < length table
       → AreNearPlaces (set table above (min (slice_index_or table above most_names) (length names))) (names ++ name ∷ [])
-  near_of_more few near above is_above within = (omega (arith, is.0, length-set table above (min (slice_index_or table above most_names) (length names))), λ i l. rw (first_of_more name names) (elim (cases_eq i above) [
-    | inl same ↦ get_or-set_at table above i _ most_names same within ∙ ap (λ place. min place (length names)) place ∙ sym (place_of_more name names few) ∙ ap (λ n. place_or_most n (names ++ name ∷ [])) (omega (arith, same, number))
-    | inr other ↦ get_or-set_other table above i _ most_names other ∙ from_first i l ∙ sym (place_of_other (first + i) name names (λ same. other (omega (arith, same, number))))
-  ]))
+  near_of_more few near above is_above within = (
+    omega (arith, is.0, length-set table above (min (slice_index_or table above most_names) (length names))),
+    λ i l. rw (first_of_more name names) (elim (cases_eq i above) [
+      | inl same ↦ get_or-set_at table above i _ most_names same within ∙ ap (λ place. min place (length names)) place ∙ sym (place_of_more name names few) ∙ ap (λ n. place_or_most n (names ++ name ∷ [])) (omega (arith, same, number))
+      | inr other ↦ get_or-set_other table above i _ most_names other ∙ from_first i l ∙ sym (place_of_other (first + i) name names (λ same. other (omega (arith, same, number))))
+    ]),
+  )
     where
       first : ℕ
       first = slice_index_or names 0 name

@@ -8,11 +8,11 @@ use Rattle.script_checker.specs.Numbers.{is_among, most_names}
 abbrev pub few_names : ℕ
 few_names = 16
 
--- less than so much above the first is near it
+-- names are near the first of their list where their numbers are less than so much above its number
 abbrev pub near_names : ℕ
 near_names = 512
 
--- the name is near the first one of its list
+-- the name is near this first one of a list
 abbrev pub is_near : ℕ → ℕ → Bool
 is_near first name = nat_le first name && nat_lt (name - first) near_names
 
@@ -20,7 +20,7 @@ is_near first name = nat_le first name && nat_lt (name - first) near_names
 abbrev pub place_or_most : ℕ → List ℕ → ℕ
 place_or_most name names = if is_among names name then index_of name names else most_names
 
--- the table has the place of each name that is near the first of the list, or `most_names`, which it also has past its end
+-- the table has for each number, from that of the first name of the list on, the place of the name that is near it, or `most_names`, as also past its end
 abbrev pub AreNearPlaces : List ℕ → List ℕ → Type 0
 AreNearPlaces table names = (length table ≤ near_names) × ((above : ℕ) → above < near_names → slice_index_or table above most_names ≡ place_or_most (slice_index names 0 + above) names)
 

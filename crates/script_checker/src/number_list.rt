@@ -8,7 +8,8 @@ use std::alloc::{AllocError, Global};
 use std::collections::HashMap;
 use std::marker::Model;
 
-/// Names of a list: so many that their number and the place of each are below the greatest `u32`. So it is no place.
+/// Names of a list: so many that their number and the place of each are below the greatest `u32`. In a table of places it
+/// stands for none.
 const MOST_NAMES: u32 = 4_294_967_294;
 
 /// So many names are looked through one by one, which takes less time than a table does.
@@ -19,19 +20,20 @@ const NEAR_NAMES: u32 = 512;
 
 /// Names in the order in which they were declared, seen as the list of their numbers in the script.
 ///
-/// Names that are declared one behind another mostly have numbers that are near one another. So `near_places` has, for each
-/// number from the first name's on, the place of the name of that number, or `MOST_NAMES` where it isn't there; it is only
-/// as long as the names that are near the first need. `far_places` has by hash the place of each other name past the first
-/// few. So a name is found in a few looks however many there are.
+/// Names that are declared one behind another mostly have numbers near one another. So `near_places` has, for each number
+/// from the `first` name's on, the place of the name of that number, or `MOST_NAMES` where it isn't there; it is only as
+/// long as the names that are near the first need. `far_places` has by hash the place of each other name past the first
+/// few. So a name is found in a few looks however many there are. Where there are no names `first` is 0.
 #[derive(Drop)]
 pub struct NumberList {
     items: Vec<u32>,
+    first: u32,
     near_places: Vec<u32>,
     far_places: HashMap<u32, u32>,
 }
 
 impl Model for NumberList {
-    ghost use Rattle.std.specs.Prelude.{List, ℕ, ◌≤◌, length};
+    ghost use Rattle.std.specs.Prelude.{List, ℕ, ◌≡◌, ◌≤◌, length, slice_index};
     ghost use Rattle.script_checker.specs.Numbers.{most_names};
     ghost use Rattle.script_checker.specs.NumberTable.{AreNearPlaces, AreFarPlaces};
 
@@ -39,7 +41,7 @@ impl Model for NumberList {
 
     ghost view = { λ n. n.items.items };
 
-    ghost invariant = { λ n. (length n.items.items ≤ most_names) × AreNearPlaces n.near_places.items n.items.items × AreFarPlaces n.far_places n.items.items };
+    ghost invariant = { λ n. (length n.items.items ≤ most_names) × (n.first ≡ slice_index n.items.items 0) × AreNearPlaces n.near_places.items n.items.items × AreFarPlaces n.far_places n.items.items };
 }
 
 /// Whether this name stands at a place.
@@ -56,16 +58,6 @@ fn position_of(names: &[u32], name: u32) -> Option<usize>
     names.iter().position(|one| *one == name)
 }
 
-/// The first of these names, or this one where there are none.
-fn first_or(names: &[u32], name: u32) -> u32
-    ensures { result ≡ slice_index_or names.now 0 name }
-{
-    match names.first() {
-        Some(first) => *first,
-        None => name,
-    }
-}
-
 /// Whether a name is near this first one.
 fn is_near_first(first: u32, name: u32) -> bool
     ensures { result ≡ is_near first name }
@@ -73,7 +65,7 @@ fn is_near_first(first: u32, name: u32) -> bool
     first <= name && name - first < NEAR_NAMES
 }
 
-/// The place that a table has there, or `MOST_NAMES` past its end.
+/// The place that a table of places has there, or `MOST_NAMES` past its end.
 fn place_at(places: &[u32], index: u32) -> u32
     ensures { result ≡ slice_index_or places.now index most_names }
 {
@@ -83,7 +75,7 @@ fn place_at(places: &[u32], index: u32) -> u32
     }
 }
 
-/// Makes a table so long that it has an entry there, and says no more than before.
+/// Makes a table of places so long that it has an entry there, which says no more than its end did.
 fn reach(places: &mut Vec<u32>, index: u32) -> Result<(), AllocError>
     ensures reached { OnOk result (index < length places.new.items) }
     ensures no_longer { length places.new.items ≤ max (length places.old.items) (index + 1) }
@@ -95,13 +87,13 @@ fn reach(places: &mut Vec<u32>, index: u32) -> Result<(), AllocError>
     Ok(())
 }
 
-/// Has a table say there that a name stands at this place, unless it stands at an earlier one.
+/// Has a table of places say there that a name stands at this place, unless it says an earlier one.
 fn note_place(places: &mut Vec<u32>, index: u32, place: u32)
     requires { index < length places.old.items }
     ensures { places.new.items ≡ set places.old.items index (min (slice_index_or places.old.items index most_names) place) }
 {
-    let first = place_at(places, index);
-    places[index as usize] = first.min(place);
+    let known = place_at(places, index);
+    places[index as usize] = known.min(place);
 }
 
 /// The first few of these names.
@@ -121,6 +113,7 @@ impl NumberList {
     {
         NumberList {
             items: Vec::new(alloc),
+            first: 0,
             near_places: Vec::new(alloc),
             far_places: HashMap::new(alloc),
         }
@@ -137,6 +130,13 @@ impl NumberList {
         Ok(list)
     }
 
+    /// The first name, or this one where there is none.
+    fn first_or(&self, name: u32) -> u32
+        ensures { result ≡ slice_index_or self.now 0 name }
+    {
+        if self.is_empty() { name } else { self.first }
+    }
+
     /// Adds a name at the end. A list that can't grow any more wants memory too.
     pub fn push(&mut self, name: u32) -> Result<(), AllocError>
         ensures added { OnOk result (self.new ≡ self.old ++ name ∷ []) }
@@ -146,10 +146,11 @@ impl NumberList {
         if count >= MOST_NAMES {
             return Err(AllocError);
         }
-        let first = first_or(&self.items, name);
+        let first = self.first_or(name);
         if is_near_first(first, name) {
             reach(&mut self.near_places, name - first)?;
             self.items.push(name)?;
+            self.first = first;
             note_place(&mut self.near_places, name - first, count);
             return Ok(());
         }
@@ -209,12 +210,16 @@ impl NumberList {
         ensures place { result ≡ index_of name self.now }
         ensures small { result ≤ most_names }
     {
-        let first = first_or(&self.items, name);
-        if is_near_first(first, name) {
-            place_at(&self.near_places, name - first).min(self.len())
-        } else {
-            self.find_far(name)
+        if self.first <= name {
+            let above = name - self.first;
+            if (above as usize) < self.near_places.len() {
+                return self.near_places[above as usize].min(self.len());
+            }
+            if above < NEAR_NAMES {
+                return self.len();
+            }
         }
+        self.find_far(name)
     }
 
     /// Whether a name is there.

@@ -1,4 +1,4 @@
-use Rattle.std.proofs.Common.{◌≡◌, ◌==◌, ◌≤◌, ℕ, List, None, false, position, take, slice_index, ap, sym, subst, ◌∙◌, length, arith}
+use Rattle.std.proofs.Common.{◌≡◌, ◌==◌, ℕ, List, None, false, position, take, slice_index, ap, sym, subst, ◌∙◌, length, arith}
 use Rattle.caa_base.specs.Lists.{index_of}
 use Rattle.caa_base.proofs.ListLemmas.{index_within}
 use Rattle.script_checker.specs.NumberTable.{few_names, is_near}
@@ -16,7 +16,7 @@ pub returns-in-Some : goal.returns-in-Some
 returns-in-Some c =
     let names = c.self.inside.items.items in
     let found : c.in-Some.place.now ≡ index_of c.args.name names =
-    found_at c.self.inside.far_places names c.args.name c.self.invariant.2 (later c.args.name names c.args.self.now c.self.view_is c.requires.later) (far c.args.name names c.args.self.now c.self.view_is c.requires.far) c.in-Some.place.now (sym c.in-Some.ensures.value)
+    found_at c.self.inside.far_places names c.args.name c.self.invariant.3 (later c.args.name names c.args.self.now c.self.view_is c.requires.later) (far c.args.name names c.args.self.now c.self.view_is c.requires.far) c.in-Some.place.now (sym c.in-Some.ensures.value)
     (rw (← c.deref.ensures.value) (sym c.stands_at.ensures ∙ c.if-stands_at.true)) in
     record {
       place = found ∙ ap (index_of c.args.name) c.self.view_is;
@@ -31,8 +31,8 @@ returns-in_default-clause-place c =
     let count = c.len-in_default.ensures.count ∙ sym (ap length c.self.view_is) in
     elim c.in_default.branch [
       | in_default-via-in-Some+else-stands_at w ↦
-          count ∙ told_wrong c.self.inside.far_places names c.args.name c.self.invariant.2 late beyond w.in-Some.place.now (sym w.in-Some.ensures.value) (rw (← w.deref.ensures.value) (sym w.stands_at.ensures ∙ w.if-stands_at.false))
+          count ∙ told_wrong c.self.inside.far_places names c.args.name c.self.invariant.3 late beyond w.in-Some.place.now (sym w.in-Some.ensures.value) (rw (← w.deref.ensures.value) (sym w.stands_at.ensures ∙ w.if-stands_at.false))
           ∙ ap (index_of c.args.name) c.self.view_is
       | in_default-via-in_default w ↦
-          count ∙ not_told c.self.inside.far_places names c.args.name c.self.invariant.2 late beyond (sym w.in_default.ensures.value) ∙ ap (index_of c.args.name) c.self.view_is
+          count ∙ not_told c.self.inside.far_places names c.args.name c.self.invariant.3 late beyond (sym w.in_default.ensures.value) ∙ ap (index_of c.args.name) c.self.view_is
     ]
