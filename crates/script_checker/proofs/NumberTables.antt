@@ -7,7 +7,6 @@ use Rattle.std.proofs.Math.Seq.{drop-cons}
 use Rattle.std.specs.Option.{option_eq}
 use Rattle.std.specs.List.{position_or_len}
 use Rattle.std.proofs.lemmas.List.Recursion.{is_position_or_len}
-use Rattle.std.proofs.lemmas.Option.{cond_some}
 use Rattle.std.specs.HashMap.{HashMap, get}
 use Rattle.caa_base.specs.Lists.{member, index_of}
 use Rattle.caa_base.proofs.ListLemmas.{one_more_each, index_within}
@@ -54,24 +53,6 @@ at_index name (x ∷ xs) h = by (x == name) refl h (at_index name xs)
 -- where a name stands is its position, if it has one
 index_is_position : (name : ℕ) (names : List ℕ) → index_of name names ≡ position_or_len (λ n. n == name) names
 index_is_position name names = is_position_or_len (index_of name) (λ n. n == name) refl (λ n l. ap (λ k. cond (n == name) 0 k) (omega arith)) names
-
--- a name that stands among the first few stands there in the whole list
-found_in : (k name : ℕ) (names : List ℕ) → index_of name (take k names) < length (take k names) → index_of name names ≡ index_of name (take k names)
-found_in zero name names l = absurd (omega (arith, l))
-found_in (suc k) name [] l = refl
-found_in (suc k) name (x ∷ xs) l = by (x == name) l (found_in k name xs)
-  where
-    by : (b : Bool) → cond b 0 (suc (index_of name (take k xs))) < suc (length (take k xs)) → (index_of name (take k xs) < length (take k xs) → index_of name xs ≡ index_of name (take k xs))
-        → cond b 0 (suc (index_of name xs)) ≡ cond b 0 (suc (index_of name (take k xs)))
-    by true l h = refl
-    by false l h = ap suc (h (omega (arith, l)))
-
-pub found_early : (name : ℕ) (names : List ℕ) (place : ℕ) → position (λ n. n == name) (take few_names names) ≡ Some place → place ≡ index_of name names
-found_early name names place h =
-    let few = take few_names names in
-    let found = cond_some (nat_lt (position_or_len (λ n. n == name) few) (length few)) (position_or_len (λ n. n == name) few) place h in
-    let at : index_of name few ≡ place = index_is_position name few ∙ found.1 in
-    sym (found_in few_names name names (omega (arith, index_is_position name few, ltb-true _ _ found.0)) ∙ at)
 
 -- a name that doesn't stand among them stands later, or nowhere
 abbrev pub IsLater : ℕ → List ℕ → Type 0
