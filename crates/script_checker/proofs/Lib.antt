@@ -27,8 +27,8 @@ pub mod PlayLines
 pub mod PlaysAgain
 pub mod Unbroken
 pub mod NamesKept
-pub mod NumberRuns
 pub mod NumberTables
+pub mod NearNames
 pub mod ChosenNumbers
 pub mod DrillTables
 pub mod HandlerTables

@@ -1,22 +1,29 @@
--- What a table of names says of the list that they stand in.
-use Rattle.std.specs.Prelude.{◌≡◌, ◌≤◌, ◌==◌, if◌then◌else◌, ℕ, zero, suc, true, nat_eq, List, [], ◌∷◌, slice_index, Some}
+-- What the tables of a list of names say of it.
+use Rattle.std.specs.Prelude.{◌≡◌, ◌≤◌, ◌<◌, ◌+◌, ◌-◌, ◌&&◌, if◌then◌else◌, ℕ, Bool, true, false, nat_eq, nat_le, nat_lt, List, length, slice_index, slice_index_or, Some}
 use Rattle.std.specs.HashMap.{HashMap, get}
 use Rattle.caa_base.specs.Lists.{index_of}
-use Rattle.script_checker.specs.Numbers.{is_among}
+use Rattle.script_checker.specs.Numbers.{is_among, most_names}
 
--- so many names of a list are found without its table
+-- so many names of a list are found without its tables
 abbrev pub few_names : ℕ
 few_names = 16
 
--- so many names, from the first on, have the numbers n, n + 1, and so on
-abbrev pub run_from : ℕ → List ℕ → ℕ
-run_from n [] = zero
-run_from n (x ∷ xs) = if x == n then suc (run_from (suc n) xs) else zero
+-- names are near the first of their list where their numbers are less than so much above its number
+abbrev pub near_names : ℕ
+near_names = 512
 
--- so many names of a list, from the first on, are numbered one behind another: its run
-abbrev pub run_of : List ℕ → ℕ
-run_of names = run_from (slice_index names 0) names
+-- the name is near this first one of a list
+abbrev pub is_near : ℕ → ℕ → Bool
+is_near first name = nat_le first name && nat_lt (name - first) near_names
 
--- the table has the place of each name of the list past its run and past the first few; of other names it may say anything
-abbrev pub IsTableOf : {S : Type 0} → HashMap ℕ ℕ S → List ℕ → Type 0
-IsTableOf table names = (name : ℕ) → is_among names name ≡ true → few_names ≤ index_of name names → run_of names ≤ index_of name names → get nat_eq table name ≡ Some (index_of name names)
+-- the place of a name, or `most_names` where it isn't among these
+abbrev pub place_or_most : ℕ → List ℕ → ℕ
+place_or_most name names = if is_among names name then index_of name names else most_names
+
+-- the table has for each number, from that of the first name of the list on, the place of the name that is near it, or `most_names`, as also past its end
+abbrev pub AreNearPlaces : List ℕ → List ℕ → Type 0
+AreNearPlaces table names = (length table ≤ near_names) × ((above : ℕ) → above < near_names → slice_index_or table above most_names ≡ place_or_most (slice_index names 0 + above) names)
+
+-- the table has the place of each other name of the list past the first few; of other names it may say anything
+abbrev pub AreFarPlaces : {S : Type 0} → HashMap ℕ ℕ S → List ℕ → Type 0
+AreFarPlaces table names = (name : ℕ) → is_among names name ≡ true → few_names ≤ index_of name names → is_near (slice_index names 0) name ≡ false → get nat_eq table name ≡ Some (index_of name names)

@@ -1,7 +1,7 @@
-use Rattle.std.proofs.Common.{◌≡◌, ◌==◌, ◌≤◌, ℕ, List, None, position, take, ap, sym, subst, ◌∙◌, arith}
+use Rattle.std.proofs.Common.{◌≡◌, ◌==◌, ℕ, List, None, false, position, take, slice_index, ap, sym, subst, ◌∙◌, length, arith}
 use Rattle.caa_base.specs.Lists.{index_of}
 use Rattle.caa_base.proofs.ListLemmas.{index_within}
-use Rattle.script_checker.specs.NumberTable.{few_names, run_of}
+use Rattle.script_checker.specs.NumberTable.{few_names, is_near}
 use Rattle.script_checker.proofs.NumberTables.{IsLater, not_early, found_at, not_told, told_wrong}
 use Rattle.script_checker.proofs.number_list.NumberList.find_later.Goals as goal
 use Rattle.script_checker.proofs.number_list.NumberList.find_later.Goals.{in_default-via-in-Some+else-stands_at, in_default-via-in_default}
@@ -9,14 +9,14 @@ use Rattle.script_checker.proofs.number_list.NumberList.find_later.Goals.{in_def
 later : (name : ℕ) (inside now : List ℕ) → inside ≡ now → position (λ n. n == name) (take few_names now) ≡ None → IsLater name inside
 later name inside now same h = subst (IsLater name) (sym same) (not_early name now h)
 
-past : (name : ℕ) (inside now : List ℕ) → inside ≡ now → run_of now ≤ index_of name now → run_of inside ≤ index_of name inside
-past name inside now same h = subst (λ names. run_of names ≤ index_of name names) (sym same) h
+far : (name : ℕ) (inside now : List ℕ) → inside ≡ now → is_near (slice_index now 0) name ≡ false → is_near (slice_index inside 0) name ≡ false
+far name inside now same h = subst (λ names. is_near (slice_index names 0) name ≡ false) (sym same) h
 
 pub returns-in-Some : goal.returns-in-Some
 returns-in-Some c =
     let names = c.self.inside.items.items in
     let found : c.in-Some.place.now ≡ index_of c.args.name names =
-    found_at c.self.inside.places names c.args.name c.self.invariant.2 (later c.args.name names c.args.self.now c.self.view_is c.requires.later) (past c.args.name names c.args.self.now c.self.view_is c.requires.past) c.in-Some.place.now (sym c.in-Some.ensures.value)
+    found_at c.self.inside.far_places names c.args.name c.self.invariant.3 (later c.args.name names c.args.self.now c.self.view_is c.requires.later) (far c.args.name names c.args.self.now c.self.view_is c.requires.far) c.in-Some.place.now (sym c.in-Some.ensures.value)
     (rw (← c.deref.ensures.value) (sym c.stands_at.ensures ∙ c.if-stands_at.true)) in
     record {
       place = found ∙ ap (index_of c.args.name) c.self.view_is;
@@ -27,12 +27,12 @@ pub returns-in_default-clause-place : goal.returns-in_default-clause-place
 returns-in_default-clause-place c =
     let names = c.self.inside.items.items in
     let late = later c.args.name names c.args.self.now c.self.view_is c.requires.later in
-    let beyond = past c.args.name names c.args.self.now c.self.view_is c.requires.past in
-    let count = c.len-in_default.ensures ∙ c.self.inside.items.ok.0 in
+    let beyond = far c.args.name names c.args.self.now c.self.view_is c.requires.far in
+    let count = c.len-in_default.ensures.count ∙ sym (ap length c.self.view_is) in
     elim c.in_default.branch [
       | in_default-via-in-Some+else-stands_at w ↦
-          count ∙ told_wrong c.self.inside.places names c.args.name c.self.invariant.2 late beyond w.in-Some.place.now (sym w.in-Some.ensures.value) (rw (← w.deref.ensures.value) (sym w.stands_at.ensures ∙ w.if-stands_at.false))
+          count ∙ told_wrong c.self.inside.far_places names c.args.name c.self.invariant.3 late beyond w.in-Some.place.now (sym w.in-Some.ensures.value) (rw (← w.deref.ensures.value) (sym w.stands_at.ensures ∙ w.if-stands_at.false))
           ∙ ap (index_of c.args.name) c.self.view_is
       | in_default-via-in_default w ↦
-          count ∙ not_told c.self.inside.places names c.args.name c.self.invariant.2 late beyond (sym w.in_default.ensures.value) ∙ ap (index_of c.args.name) c.self.view_is
+          count ∙ not_told c.self.inside.far_places names c.args.name c.self.invariant.3 late beyond (sym w.in_default.ensures.value) ∙ ap (index_of c.args.name) c.self.view_is
     ]
