@@ -1,5 +1,5 @@
 -- Lines that are taken one by one.
-use Rattle.std.proofs.Common.{◌≡◌, ◌≢◌, ℕ, suc, ◌+◌, ◌<◌, ◌≤◌, List, [], ◌∷◌, ◌++◌, length, take, drop, get_or, Ok, Err, refl, sym, ap, ◌∙◌, subst, arith, add-one}
+use Rattle.std.proofs.Common.{◌≡◌, ◌≢◌, ℕ, suc, ◌+◌, ◌<◌, ◌≤◌, List, [], ◌∷◌, ◌++◌, length, take, drop, get_or, Err, refl, sym, ap, ◌∙◌, subst, arith, add-one}
 use Rattle.std.proofs.Math.Seq.{drop-cons, take-suc}
 use Rattle.std.proofs.lemmas.List.{take-append-drop, take_all}
 use Rattle.place_plan.specs.declared.draft_rows.GraphRow.{GraphRow}
@@ -14,7 +14,7 @@ use Rattle.script_checker.specs.DeclaredSoFar.{SoFar, nothing_yet}
 use Rattle.script_checker.specs.After.{after}
 use Rattle.script_checker.specs.Rows.{parted}
 use Rattle.script_checker.specs.Compiled.{number_of, IsAccepted, AreAccepted, IsLeastCause, declared_after, AreRowsOf, IsDeclared, IsDraftOf, IsPlanOf, IsFirstRefused, IsAnswer}
-use Rattle.script_checker.specs.Compiled.IsAnswer.{planned, refused, wanting}
+use Rattle.script_checker.specs.Compiled.IsAnswer.{refused, wanting}
 
 -- the first n lines were taken
 pub record Taken (names : List (List ℕ)) (lines : List Line) (n : ℕ) (s : SoFar) (made : List GraphRow) : Type 0 where

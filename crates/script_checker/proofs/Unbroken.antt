@@ -5,9 +5,9 @@ use Rattle.place_plan.specs.DraftRules.{broken_rule}
 use Rattle.place_plan.specs.Unfolding.{plan_of}
 use Rattle.action_script.specs.Printing.{AreScript, forms_of}
 use Rattle.action_script.specs.ScriptValue.{Script}
-use Rattle.script_checker.specs.DeclaredSoFar.{SoFar, nothing_yet}
+use Rattle.script_checker.specs.DeclaredSoFar.{SoFar}
 use Rattle.script_checker.specs.Rows.{parted}
-use Rattle.script_checker.specs.Compiled.{declared_after, IsDeclared, BreaksNoRule}
+use Rattle.script_checker.specs.Compiled.{IsDeclared, BreaksNoRule}
 use Rattle.script_checker.specs.PlanSizes.{counts_so_far, HasCounts}
 use Rattle.script_checker.proofs.AcceptedDraft.{counts, keeps_parts, sizes_counted}
 use Rattle.script_checker.proofs.Taking.{drafted, planned_by}
