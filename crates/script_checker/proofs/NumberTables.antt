@@ -1,9 +1,10 @@
 -- Lemmas on lists of names and the tables of their places.
-use Rattle.std.proofs.Common.{◌≡◌, ℕ, ◌==◌, ◌+◌, ◌<◌, ◌≤◌, Bool, true, false, cond, nat_lt, nat_eq, not, ◌&&◌, List, [], ◌∷◌, ◌++◌, ◌||◌, length, slice_get, slice_index, position, Some, None, Option, take, drop, reverse, get_or, add-one, refl, sym, ap, subst, ◌∙◌, arith, zero, suc, inl, inr, ◌⊎◌}
+use Rattle.std.proofs.Common.{◌≡◌, ℕ, ◌==◌, ◌+◌, ◌<◌, ◌≤◌, Bool, true, false, cond, nat_lt, nat_eq, not, ◌&&◌, List, [], ◌∷◌, ◌++◌, ◌||◌, length, slice_get, position, Some, None, Option, take, drop, reverse, get_or, add-one, refl, sym, ap, subst, ◌∙◌, arith, zero, suc, inl, inr, ◌⊎◌}
 use Rattle.std.proofs.lemmas.Bool.{eqb-true, eq-eqb, ne_eqb, false≢true, cases_eq, cases_Bool, or_left, or_right, lt-ltb, ltb-true, ltb-false}
 use Rattle.std.proofs.lemmas.List.{length-append, reverse-append}
 use Rattle.std.proofs.lemmas.List.Folds.{list_any-append}
 use Rattle.std.proofs.Math.Seq.{drop-cons}
+use Rattle.std.proofs.lemmas.Option.{cond_some}
 use Rattle.std.specs.Option.{option_eq}
 use Rattle.std.specs.List.{position_or_len}
 use Rattle.std.proofs.lemmas.List.Recursion.{is_position_or_len}
@@ -12,7 +13,7 @@ use Rattle.caa_base.specs.Lists.{member, index_of}
 use Rattle.caa_base.proofs.ListLemmas.{one_more_each, index_within}
 use Rattle.place_plan.specs.DraftRules.{all_differ}
 use Rattle.script_checker.specs.Numbers.{is_among, has_twice}
-use Rattle.script_checker.specs.NumberTable.{AreFarPlaces, few_names, is_near}
+use Rattle.script_checker.specs.NumberTable.{AreFarPlaces, few_names, is_near, base_of}
 
 -- a name that isn't among these counts by how many they are
 pub absent_at_end : (name : ℕ) (names : List ℕ) → is_among names name ≡ false → index_of name names ≡ length names
@@ -54,6 +55,24 @@ at_index name (x ∷ xs) h = by (x == name) refl h (at_index name xs)
 index_is_position : (name : ℕ) (names : List ℕ) → index_of name names ≡ position_or_len (λ n. n == name) names
 index_is_position name names = is_position_or_len (index_of name) (λ n. n == name) refl (λ n l. ap (λ k. cond (n == name) 0 k) (omega arith)) names
 
+-- a name that stands among the first few stands there in the whole list
+found_in : (k name : ℕ) (names : List ℕ) → index_of name (take k names) < length (take k names) → index_of name names ≡ index_of name (take k names)
+found_in zero name names l = absurd (omega (arith, l))
+found_in (suc k) name [] l = refl
+found_in (suc k) name (x ∷ xs) l = by (x == name) l (found_in k name xs)
+  where
+    by : (b : Bool) → cond b 0 (suc (index_of name (take k xs))) < suc (length (take k xs)) → (index_of name (take k xs) < length (take k xs) → index_of name xs ≡ index_of name (take k xs))
+        → cond b 0 (suc (index_of name xs)) ≡ cond b 0 (suc (index_of name (take k xs)))
+    by true l h = refl
+    by false l h = ap suc (h (omega (arith, l)))
+
+pub found_early : (name : ℕ) (names : List ℕ) (place : ℕ) → position (λ n. n == name) (take few_names names) ≡ Some place → place ≡ index_of name names
+found_early name names place h =
+    let few = take few_names names in
+    let found = cond_some (nat_lt (position_or_len (λ n. n == name) few) (length few)) (position_or_len (λ n. n == name) few) place h in
+    let at : index_of name few ≡ place = index_is_position name few ∙ found.1 in
+    sym (found_in few_names name names (omega (arith, index_is_position name few, ltb-true _ _ found.0)) ∙ at)
+
 -- a name that doesn't stand among them stands later, or nowhere
 abbrev pub IsLater : ℕ → List ℕ → Type 0
 IsLater name names = (few_names ≤ index_of name names) ⊎ (index_of name names ≡ length names)
@@ -80,9 +99,9 @@ not_early name names h =
     none_is_past true i e = cc
     none_is_past false i e = refl
 
--- ---- the table of the names that aren't near the first
+-- ---- the table of the names that aren't near
 
-module _ {S : Type 0} (table : HashMap ℕ ℕ S) (names : List ℕ) (name : ℕ) (is : AreFarPlaces table names) (later : IsLater name names) (far : is_near (slice_index names 0) name ≡ false) where
+module _ {S : Type 0} (table : HashMap ℕ ℕ S) (names : List ℕ) (name : ℕ) (is : AreFarPlaces table names) (later : IsLater name names) (far : is_near (base_of names) name ≡ false) where
   told : is_among names name ≡ true → get nat_eq table name ≡ Some (index_of name names)
   told here = is name here (elim later [
     | inl l ↦ l
@@ -144,24 +163,21 @@ index_past_other name more (x ∷ xs) other h = by (x == name) h (index_past_oth
     by true g k = absurd (omega (arith, g))
     by false g k = ap suc (k (omega (arith, g)))
 
--- the first of a list that gets one more name is the first before, or that name
-pub first_of_more : (name : ℕ) (names : List ℕ) → slice_index (names ++ name ∷ []) 0 ≡ get_or names 0 name
-first_of_more name [] = refl
-first_of_more name (x ∷ xs) = refl
-
-pub first_kept : (name : ℕ) (names : List ℕ) → 0 < length names → slice_index (names ++ name ∷ []) 0 ≡ slice_index names 0
-first_kept name [] l = absurd (omega (arith, l))
-first_kept name (x ∷ xs) l = refl
+-- one more name leaves the base of a list that has two
+pub base_kept : (name : ℕ) (names : List ℕ) → 1 < length names → base_of (names ++ name ∷ []) ≡ base_of names
+base_kept name [] l = absurd (omega (arith, l))
+base_kept name (x ∷ []) l = absurd (omega (arith, l))
+base_kept name (x ∷ y ∷ xs) l = refl
 
 module _ {S : Type 0} (old : HashMap ℕ ℕ S) (names : List ℕ) (name : ℕ) where
   -- the table has the place of a name that isn't the new one
   told_before : AreFarPlaces old names → (other : ℕ) → (is_among names other ≡ false → name ≡ other → ⊥) → is_among (names ++ name ∷ []) other ≡ true
-      → few_names ≤ index_of other (names ++ name ∷ []) → is_near (slice_index (names ++ name ∷ []) 0) other ≡ false → get nat_eq old other ≡ Some (index_of other (names ++ name ∷ []))
+      → few_names ≤ index_of other (names ++ name ∷ []) → is_near (base_of (names ++ name ∷ [])) other ≡ false → get nat_eq old other ≡ Some (index_of other (names ++ name ∷ []))
   told_before is other apart there late far = elim (among_or_end other names) [
     | inl old_one ↦
         let same = index_before_more other name names (ltb-true _ _ old_one) in
-        let first = first_kept name names (omega (arith, late, ltb-true _ _ there, length-append names (name ∷ []))) in
-        is other old_one (omega (arith, late, same)) (rw (← first) far) ∙ ap Some (sym same)
+        let base = base_kept name names (omega (arith, late, ltb-true _ _ there, length-append names (name ∷ []))) in
+        is other old_one (omega (arith, late, same)) (rw (← base) far) ∙ ap Some (sym same)
     | inr end ↦ absurd (omega (arith, ltb-true _ _ there, index_past_other other name names (apart end.0) end.1, length-append names (name ∷ [])))
   ]
 
@@ -173,9 +189,9 @@ module _ {S : Type 0} (old : HashMap ℕ ℕ S) (names : List ℕ) (name : ℕ) 
   pub table_of_few : length names < few_names → AreFarPlaces old (names ++ name ∷ [])
   table_of_few few other there late far = absurd (omega (arith, few, late, ltb-true _ _ there, length-append names (name ∷ [])))
 
-  -- and one where it gets a name that is near the first
-  pub table_of_near : AreFarPlaces old names → is_near (get_or names 0 name) name ≡ true → AreFarPlaces old (names ++ name ∷ [])
-  table_of_near is near other there late far = told_before is other (λ _ same. false≢true (sym far ∙ subst (λ n. is_near (slice_index (names ++ name ∷ []) 0) n ≡ true) same (rw (first_of_more name names) near))) there late far
+  -- and one where it gets a name that is near its base
+  pub table_of_near : AreFarPlaces old names → is_near (base_of (names ++ name ∷ [])) name ≡ true → AreFarPlaces old (names ++ name ∷ [])
+  table_of_near is near other there late far = told_before is other (λ _ same. false≢true (sym far ∙ subst (λ n. is_near (base_of (names ++ name ∷ [])) n ≡ true) same near)) there late far
 
   -- and one where both get a new name
   pub table_of_more : (new : HashMap ℕ ℕ S) → AreFarPlaces old names → index_of name names ≡ length names

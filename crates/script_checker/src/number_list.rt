@@ -1,8 +1,8 @@
-ghost use Rattle.std.specs.Prelude.{◌≡◌, ◌==◌, ◌<◌, ◌≤◌, ◌+◌, ◌++◌, ◌∷◌, ℕ, [], false, length, max, min, nat_eq, position, set, slice_get, slice_index, slice_index_or, take, None, Some, OnOk, OnErr, IfOk, IfSome, IfNone};
+ghost use Rattle.std.specs.Prelude.{◌≡◌, ◌==◌, ◌<◌, ◌≤◌, ◌+◌, ◌++◌, ◌∷◌, ℕ, not, [], false, length, max, min, nat_eq, position, set, slice_get, slice_index_or, take, None, Some, OnOk, OnErr, IfOk, IfSome, IfNone};
 ghost use Rattle.std.specs.Option.{option_eq};
 ghost use Rattle.caa_base.specs.Lists.{member, index_of, is_empty};
 ghost use Rattle.script_checker.specs.Numbers.{is_among, most_names};
-ghost use Rattle.script_checker.specs.NumberTable.{few_names, is_near};
+ghost use Rattle.script_checker.specs.NumberTable.{few_names, is_near, are_close, base_of, base_or, keeps_base};
 
 use std::alloc::{AllocError, Global};
 use std::collections::HashMap;
@@ -15,33 +15,34 @@ const MOST_NAMES: u32 = 4_294_967_294;
 /// So many names are looked through one by one, which takes less time than a table does.
 const FEW_NAMES: u32 = 16;
 
-/// A name is near the first of its list where its number is at least the first one's and less than so much above it.
+/// A name is near another one where its number is at least that one's and less than so much above it.
 const NEAR_NAMES: u32 = 512;
 
 /// Names in the order in which they were declared, seen as the list of their numbers in the script.
 ///
 /// Names that are declared one behind another mostly have numbers near one another. So `near_places` has, for each number
-/// from the `first` name's on, the place of the name of that number, or `MOST_NAMES` where it isn't there; it is only as
-/// long as the names that are near the first need. `far_places` has by hash the place of each other name past the first
-/// few. So a name is found in a few looks however many there are. Where there are no names `first` is 0.
+/// from `base` on, the place of the name of that number, or `MOST_NAMES` where it isn't there; it is only as long as the
+/// names that are near the base need. `far_places` has by hash the place of each other name past the first few. So a name
+/// is found in a few looks however many there are. The base is the first name, or the second where these two aren't close,
+/// as those of a graph mostly aren't; where there are no names it is 0.
 #[derive(Drop)]
 pub struct NumberList {
     items: Vec<u32>,
-    first: u32,
+    base: u32,
     near_places: Vec<u32>,
     far_places: HashMap<u32, u32>,
 }
 
 impl Model for NumberList {
-    ghost use Rattle.std.specs.Prelude.{List, ℕ, ◌≡◌, ◌≤◌, length, slice_index};
+    ghost use Rattle.std.specs.Prelude.{List, ℕ, ◌≡◌, ◌≤◌, length};
     ghost use Rattle.script_checker.specs.Numbers.{most_names};
-    ghost use Rattle.script_checker.specs.NumberTable.{AreNearPlaces, AreFarPlaces};
+    ghost use Rattle.script_checker.specs.NumberTable.{base_of, AreNearPlaces, AreFarPlaces};
 
     ghost Value = { List ℕ };
 
     ghost view = { λ n. n.items.items };
 
-    ghost invariant = { λ n. (length n.items.items ≤ most_names) × (n.first ≡ slice_index n.items.items 0) × AreNearPlaces n.near_places.items n.items.items × AreFarPlaces n.far_places n.items.items };
+    ghost invariant = { λ n. (length n.items.items ≤ most_names) × (n.base ≡ base_of n.items.items) × AreNearPlaces n.near_places.items n.items.items × AreFarPlaces n.far_places n.items.items };
 }
 
 /// Whether this name stands at a place.
@@ -58,11 +59,18 @@ fn position_of(names: &[u32], name: u32) -> Option<usize>
     names.iter().position(|one| *one == name)
 }
 
-/// Whether a name is near this first one.
-fn is_near_first(first: u32, name: u32) -> bool
-    ensures { result ≡ is_near first name }
+/// Whether a name is near this one.
+fn is_near(base: u32, name: u32) -> bool
+    ensures { result ≡ is_near base name }
 {
-    first <= name && name - first < NEAR_NAMES
+    base <= name && name - base < NEAR_NAMES
+}
+
+/// Whether one of two names is near the other.
+fn are_close(one: u32, other: u32) -> bool
+    ensures { result ≡ are_close one other }
+{
+    is_near(one, other) || is_near(other, one)
 }
 
 /// The place that a table of places has there, or `MOST_NAMES` past its end.
@@ -113,7 +121,7 @@ impl NumberList {
     {
         NumberList {
             items: Vec::new(alloc),
-            first: 0,
+            base: 0,
             near_places: Vec::new(alloc),
             far_places: HashMap::new(alloc),
         }
@@ -130,11 +138,30 @@ impl NumberList {
         Ok(list)
     }
 
-    /// The first name, or this one where there is none.
-    fn first_or(&self, name: u32) -> u32
-        ensures { result ≡ slice_index_or self.now 0 name }
+    /// The base, or this name where there is none.
+    fn base_or(&self, name: u32) -> u32
+        ensures { result ≡ base_or name self.now }
     {
-        if self.is_empty() { name } else { self.first }
+        if self.is_empty() { name } else { self.base }
+    }
+
+    /// Whether the base moves where this name comes next: it is the second, and isn't close to the first.
+    fn moves_base(&self, name: u32) -> bool
+        ensures { result ≡ not (keeps_base name self.now) }
+    {
+        self.items.len() == 1 && !are_close(self.base, name)
+    }
+
+    /// Adds a second name to which the base moves.
+    fn push_base(&mut self, name: u32) -> Result<(), AllocError>
+        requires { keeps_base name self.old ≡ false }
+        ensures added { OnOk result (self.new ≡ self.old ++ name ∷ []) }
+        ensures refused { OnErr result (self.new ≡ self.old) }
+    {
+        self.items.push(name)?;
+        self.base = name;
+        self.near_places[0] = 1;
+        Ok(())
     }
 
     /// Adds a name at the end. A list that can't grow any more wants memory too.
@@ -146,12 +173,15 @@ impl NumberList {
         if count >= MOST_NAMES {
             return Err(AllocError);
         }
-        let first = self.first_or(name);
-        if is_near_first(first, name) {
-            reach(&mut self.near_places, name - first)?;
+        if self.moves_base(name) {
+            return self.push_base(name);
+        }
+        let base = self.base_or(name);
+        if is_near(base, name) {
+            reach(&mut self.near_places, name - base)?;
             self.items.push(name)?;
-            self.first = first;
-            note_place(&mut self.near_places, name - first, count);
+            self.base = base;
+            note_place(&mut self.near_places, name - base, count);
             return Ok(());
         }
         if count >= FEW_NAMES && !self.contains(name) {
@@ -176,10 +206,10 @@ impl NumberList {
         self.items.is_empty()
     }
 
-    /// Where a name stands that is neither near the first nor among the first few, or how many names there are where it isn't
+    /// Where a name stands that is neither near the base nor among the first few, or how many names there are where it isn't
     /// there.
     fn find_later(&self, name: u32) -> u32
-        requires far { is_near (slice_index self.now 0) name ≡ false }
+        requires far { is_near (base_of self.now) name ≡ false }
         requires later { position (λ n. n == name) (take few_names self.now) ≡ None }
         ensures place { result ≡ index_of name self.now }
         ensures small { result ≤ most_names }
@@ -193,9 +223,9 @@ impl NumberList {
         }
     }
 
-    /// Where a name stands that isn't near the first, or how many names there are where it isn't there.
+    /// Where a name stands that isn't near the base, or how many names there are where it isn't there.
     fn find_far(&self, name: u32) -> u32
-        requires { is_near (slice_index self.now 0) name ≡ false }
+        requires { is_near (base_of self.now) name ≡ false }
         ensures place { result ≡ index_of name self.now }
         ensures small { result ≤ most_names }
     {
@@ -210,8 +240,8 @@ impl NumberList {
         ensures place { result ≡ index_of name self.now }
         ensures small { result ≤ most_names }
     {
-        if self.first <= name {
-            let above = name - self.first;
+        if self.base <= name {
+            let above = name - self.base;
             if (above as usize) < self.near_places.len() {
                 return self.near_places[above as usize].min(self.len());
             }

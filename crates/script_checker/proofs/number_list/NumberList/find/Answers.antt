@@ -10,7 +10,7 @@ returns-then-above-len-clause-place c =
     let name = c.args.name in
     let names = c.self.inside.items.items in
     let table = c.self.inside.near_places.items in
-    let above = name - c.self.inside.first in
+    let above = name - c.self.inside.base in
     let size : c.len.result ≡ length table = c.len.ensures ∙ c.self.inside.near_places.ok.0 in
     let place : c.index.result.now ≡ slice_index_or table above most_names = get_or_read_under table above c.len.result c.index.result.now most_names c.index.ensures c.if-above-len.true size in
     let found = near_found table names name above c.self.invariant.2 c.self.invariant.0 (omega (arith, c.self.invariant.1, c.if-self-name.true)) (omega (arith, c.if-above-len.true, size, c.self.invariant.2.0)) in
@@ -21,5 +21,5 @@ returns-then-above-lt-NEAR_NAMES-clause-place c =
     let name = c.args.name in
     let names = c.self.inside.items.items in
     let table = c.self.inside.near_places.items in
-    let missing = near_missing table names name (name - c.self.inside.first) c.self.invariant.2 c.self.invariant.0 (omega (arith, c.self.invariant.1, c.if-self-name.true)) c.if-above-lt-NEAR_NAMES.true (omega (arith, c.if-above-len.false, c.len.ensures, c.self.inside.near_places.ok.0)) in
+    let missing = near_missing table names name (name - c.self.inside.base) c.self.invariant.2 c.self.invariant.0 (omega (arith, c.self.invariant.1, c.if-self-name.true)) c.if-above-lt-NEAR_NAMES.true (omega (arith, c.if-above-len.false, c.len.ensures, c.self.inside.near_places.ok.0)) in
     c.len-then-above-lt-NEAR_NAMES.ensures.count ∙ sym (ap length c.self.view_is) ∙ missing ∙ ap (index_of name) c.self.view_is

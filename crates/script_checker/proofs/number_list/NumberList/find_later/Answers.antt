@@ -1,7 +1,7 @@
-use Rattle.std.proofs.Common.{◌≡◌, ◌==◌, ℕ, List, None, false, position, take, slice_index, ap, sym, subst, ◌∙◌, length, arith}
+use Rattle.std.proofs.Common.{◌≡◌, ◌==◌, ℕ, List, None, false, position, take, ap, sym, subst, ◌∙◌, length, arith}
 use Rattle.caa_base.specs.Lists.{index_of}
 use Rattle.caa_base.proofs.ListLemmas.{index_within}
-use Rattle.script_checker.specs.NumberTable.{few_names, is_near}
+use Rattle.script_checker.specs.NumberTable.{few_names, is_near, base_of}
 use Rattle.script_checker.proofs.NumberTables.{IsLater, not_early, found_at, not_told, told_wrong}
 use Rattle.script_checker.proofs.number_list.NumberList.find_later.Goals as goal
 use Rattle.script_checker.proofs.number_list.NumberList.find_later.Goals.{in_default-via-in-Some+else-stands_at, in_default-via-in_default}
@@ -9,8 +9,8 @@ use Rattle.script_checker.proofs.number_list.NumberList.find_later.Goals.{in_def
 later : (name : ℕ) (inside now : List ℕ) → inside ≡ now → position (λ n. n == name) (take few_names now) ≡ None → IsLater name inside
 later name inside now same h = subst (IsLater name) (sym same) (not_early name now h)
 
-far : (name : ℕ) (inside now : List ℕ) → inside ≡ now → is_near (slice_index now 0) name ≡ false → is_near (slice_index inside 0) name ≡ false
-far name inside now same h = subst (λ names. is_near (slice_index names 0) name ≡ false) (sym same) h
+far : (name : ℕ) (inside now : List ℕ) → inside ≡ now → is_near (base_of now) name ≡ false → is_near (base_of inside) name ≡ false
+far name inside now same h = subst (λ names. is_near (base_of names) name ≡ false) (sym same) h
 
 pub returns-in-Some : goal.returns-in-Some
 returns-in-Some c =
