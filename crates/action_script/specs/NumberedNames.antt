@@ -1,7 +1,7 @@
 -- How the names of a script are numbered: one that is new where it stands goes behind those that came before it.
 use Rattle.std.specs.Prelude.{◌≡◌, ℕ, ◌+◌, Bool, true, if◌then◌else◌, List, [], ◌∷◌, ◌++◌, bytes_eq}
 use Rattle.std.specs.List.{list_any}
-use Rattle.caa_base.specs.Names.{is_name}
+use Rattle.caa_base.specs.Written.Names.{is_name}
 
 -- a word is among these names
 abbrev pub is_among : List (List ℕ) → List ℕ → Bool

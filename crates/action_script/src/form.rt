@@ -6,7 +6,7 @@ ghost use Rattle.action_script.specs.Forms.{kind_of, fields_of, form_by, name_in
 use crate::field::Field;
 use crate::kind::LineKind;
 use crate::numbers::{MOST_FEW, Numbers};
-use caa_base::entry::Test;
+use caa_base::written::entry::Test;
 use std::alloc::{AllocError, Global};
 
 /// What one line of a script says. Each name is given by its number among the names of the script.

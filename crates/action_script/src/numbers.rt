@@ -1,7 +1,7 @@
 ghost use Rattle.std.specs.Prelude.{◌≡◌, ◌≤◌, length, IfOk};
 ghost use Rattle.action_script.specs.FewOrMany.{most_few};
 
-use caa_base::entry::OutOfMemory;
+use caa_base::written::entry::OutOfMemory;
 use std::alloc::Global;
 use std::marker::Model;
 

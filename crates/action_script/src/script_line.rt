@@ -1,6 +1,6 @@
 ghost use Rattle.std.specs.Prelude.{◌≡◌, ◌≢◌, ◌==◌, ◌<◌, ◌&&◌, if◌then◌else◌, not, map, drop, find, Ok, Err, Some, None, IfSome, IfNone, IfOk, IfErr, true, false};
 ghost use Rattle.std.specs.List.{list_all};
-ghost use Rattle.caa_base.specs.Lists.{is_empty};
+ghost use Rattle.caa_base.specs.Written.Lists.{is_empty};
 ghost use Rattle.action_script.specs.CutLines.{is_plain, words_of, says_nothing};
 ghost use Rattle.action_script.specs.Spelling.{is_here, kind_here, line_of, IsOfKind};
 ghost use Rattle.action_script.specs.declared.script_error.ScriptCause.TheVariants as cause;
@@ -8,7 +8,7 @@ ghost use Rattle.action_script.specs.declared.script_error.ScriptCause.TheVarian
 use crate::cuts::{fill_words, is_blank};
 use crate::kind::{KINDS, LineKind, Section};
 use crate::script_error::ScriptCause;
-use caa_base::limits::MOST_LINE_BYTES;
+use caa_base::written::limits::MOST_LINE_BYTES;
 use std::alloc::AllocError;
 
 fn is_plain(byte: u8) -> bool

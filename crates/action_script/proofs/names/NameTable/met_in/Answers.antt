@@ -2,7 +2,7 @@ use Rattle.std.proofs.Common.{◌≡◌, ℕ, length, slice_index_or, true, sym,
 use Rattle.std.specs.List.{list_all, IsDistinct}
 use Rattle.std.proofs.lemmas.Bool.{ltb-true}
 use Rattle.std.proofs.lemmas.Slice.Eq.{bytes_eq-Decides}
-use Rattle.caa_base.specs.Names.{is_name}
+use Rattle.caa_base.specs.Written.Names.{is_name}
 use Rattle.action_script.specs.NumberedNames.{IsNameOf}
 use Rattle.action_script.proofs.Numbering.{bytes_of, name_there}
 use Rattle.action_script.proofs.names.NameTable.met_in.Goals as goal
