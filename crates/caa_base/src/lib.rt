@@ -1,7 +1,7 @@
 //! What all of `caa` speaks of: entries and journals, names, mixing work, and the outside as traits.
 #![tactic(auto)]
 
+pub mod outside;
 #[cfg(test)]
 mod tests;
 pub mod written;
-pub mod outside;

@@ -112,11 +112,3 @@ fn two_smallest_covers_are_none(rt: HostRuntime) -> Result<(), AllocError> {
     assert_eq!(rt; text.as_str(), "3 and 4 have no least common cover");
     Ok(())
 }
-
-#[test]
-fn what_is_no_order_is_told(rt: HostRuntime) {
-    assert!(rt; !is_order(&[0b11, 0b00]));
-    assert!(rt; !is_order(&[0b11, 0b11]));
-    assert!(rt; !is_order(&[0b011, 0b110, 0b100]));
-    assert!(rt; is_order(&[0b111, 0b110, 0b100]));
-}

@@ -63,22 +63,3 @@ fn a_graph_tells_its_order_and_so_does_its_copy(rt: HostRuntime) {
         assert_eq!(rt; graph.least(&[1, 0]), 0);
     }
 }
-
-#[test]
-fn a_chain_of_128_exceptions_is_sound(rt: HostRuntime) {
-    let mut pairs = [(0, 1); 126];
-    for upper in 1..127u32 {
-        pairs[upper as usize - 1] = (upper, upper + 1);
-    }
-    assert!(rt; pairs.iter().all(|pair| pair.0 < 128 && pair.1 < 128));
-    let graph = Graph::build(rt.alloc(), 128, &pairs).expect(&rt, "a sound graph");
-    assert_eq!(rt; graph.least(&[127, 64]), 64);
-    assert!(rt; graph.covers(1, 127) && !graph.covers(127, 1));
-}
-
-#[test]
-fn a_graph_of_65_exceptions_is_sound(rt: HostRuntime) {
-    let graph = Graph::build(rt.alloc(), 65, &[(1, 64)]).expect(&rt, "a sound graph");
-    assert_eq!(rt; graph.least(&[64, 1]), 1);
-    assert_eq!(rt; graph.least(&[63, 64]), 0);
-}

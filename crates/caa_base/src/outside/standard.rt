@@ -2,9 +2,9 @@ ghost use Rattle.std.specs.Prelude.{◌≡◌, ◌<◌, ◌≤◌, length, None,
 ghost use Rattle.caa_base.specs.Outside.Counts.{faults_after};
 
 use crate::outside::count::counted_up;
-use crate::written::entry::Failed;
 use crate::outside::sink::Sink;
 use crate::outside::source::Source;
+use crate::written::entry::Failed;
 use std::io::{Read, Write};
 use std::marker::Model;
 

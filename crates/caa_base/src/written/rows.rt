@@ -1,6 +1,9 @@
 ghost use Rattle.std.specs.Prelude.{◌≡◌, ◌↔◌, [], length, IsTrue};
+ghost use Rattle.std.specs.Slice.Iter.{iter_rest};
+ghost use Rattle.std.specs.Iterator.Adapters.{IterYieldsInOrder};
 
 use std::marker::Model;
+use std::slice;
 
 /// A table whose rows don't change, seen as the list of its rows.
 ///
@@ -40,6 +43,14 @@ impl<T> Rows<T> {
         self.items.as_slice()
     }
 
+    /// The rows one by one, in order.
+    pub fn iter(&self) -> slice::Iter<'_, T>
+        ensures rest { iter_rest result ≡ self.now }
+        ensures runs { IterYieldsInOrder T }
+    {
+        self.items.iter()
+    }
+
     /// How many rows there are.
     pub fn len(&self) -> usize
         ensures { result ≡ length self.now }
@@ -66,6 +77,7 @@ mod tests {
         assert!(rt; !rows.is_empty());
         assert_eq!(rt; rows.len(), 2);
         assert_eq!(rt; rows.as_slice(), [4, 5].as_slice());
+        assert!(rt; rows.iter().any(|row| *row == 5));
         assert_eq!(rt; rows.into_vec().as_slice(), [4, 5].as_slice());
         Ok(())
     }

@@ -2,10 +2,10 @@ ghost use Rattle.std.specs.Prelude.{◌≡◌, ◌∷◌, [], pos, OnOk};
 ghost use Rattle.caa_base.specs.Outside.PlantState.{after_lay, after_put};
 
 use super::{MemPlant, MemSink, MemSource, SurePlant, SureSink, SureSource};
-use crate::written::entry::{Drill, Failed};
 use crate::outside::plant::{Plant, PlantError};
 use crate::outside::sink::Sink;
 use crate::outside::source::Source;
+use crate::written::entry::{Drill, Failed};
 use std::alloc::Global;
 use std::test::Fail;
 

@@ -1,5 +1,5 @@
 -- What a table of least covers keeps.
-use Rattle.std.specs.Prelude.{ℕ, ◌<◌, ◌≤◌, List, [], ◌∷◌, slice_index, slice_index_or, nat_le, if◌then◌else◌}
+use Rattle.std.specs.Prelude.{ℕ, ◌<◌, ◌≤◌, List, [], ◌∷◌, slice_index, slice_index_or}
 use Rattle.cover_table.specs.Cover.{most_exceptions, order_of, IsLeastCover, IsOrder}
 
 -- `joins` has in row a, at b, the least cover of the two, for the order on the first `count` of `width` numbers
@@ -9,11 +9,3 @@ pub record HoldsJoins (width count : ℕ) (rows : List ℕ) (joins : List (List 
   pub is_order : IsOrder (order_of count rows)
   pub least : (a b : ℕ) → a < count → b < count
       → IsLeastCover (order_of count rows) (a ∷ b ∷ []) (slice_index (slice_index_or joins a []) b)
-
--- the smallest size of a table that has room for this many numbers
-abbrev pub least_size : ℕ → ℕ
-least_size count =
-    if nat_le count 8 then 8
-    else (if nat_le count 16 then 16
-    else (if nat_le count 32 then 32
-    else (if nat_le count 64 then 64 else 128)))
