@@ -2,6 +2,4 @@
 #![tactic(auto)]
 
 pub mod outside;
-#[cfg(test)]
-mod tests;
 pub mod written;

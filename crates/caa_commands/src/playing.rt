@@ -12,10 +12,10 @@ ghost use Rattle.caa_commands.specs.OutsideUse.{plant_use, left_of, IsIdle};
 ghost use Rattle.caa_commands.specs.Calls.{EndsAs, DoesNotBegin, SimComesTo, RunComesTo};
 
 use crate::finding::Finding;
-use caa_base::written::entry::{Entry, Kind};
 use caa_base::outside::gate::Gate;
-use caa_base::written::journal::Journal;
 use caa_base::outside::plant::Plant;
+use caa_base::written::entry::{Entry, Kind};
+use caa_base::written::journal::Journal;
 use journal_laws::{is_well_formed, keeps_laws};
 use journal_replay::hall::{OpenCause, PlainHall};
 use journal_text::looks::seens::Seens;

@@ -1,12 +1,11 @@
 //! The program `caa`: it checks and plays scripts of coordinated atomic actions, prints their journals and judges them.
 #![tactic(auto)]
 
-pub use caa_commands::top::{top, top_quiet};
-
 use caa_base::outside::gate::EmptyGate;
 use caa_base::outside::memory::MemPlant;
 use caa_base::outside::standard::{StdSink, StdSource};
 use caa_commands::status::Status;
+pub use caa_commands::top::{top, top_quiet};
 use std::alloc::AllocError;
 use std::env;
 use std::io::ErrorKind;

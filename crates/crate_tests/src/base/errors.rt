@@ -1,7 +1,7 @@
-use crate::outside::plant::PlantError;
-use crate::outside::reading::ReadError;
-use crate::written::entry::{Failed, OutOfMemory};
-use crate::written::limits::{MOST_VALUE, is_value};
+use caa_base::outside::plant::PlantError;
+use caa_base::outside::reading::ReadError;
+use caa_base::written::entry::{Failed, OutOfMemory};
+use caa_base::written::limits::{MOST_VALUE, is_value};
 use std::test::Fail;
 
 #[test]

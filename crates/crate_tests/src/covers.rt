@@ -1,4 +1,4 @@
-use crate::{AnyTable, JoinTable, MOST_EXCEPTIONS, NoLeast, Order, Row, is_order};
+use cover_table::{AnyTable, JoinTable, MOST_EXCEPTIONS, NoLeast, Order, Row, is_order};
 use std::alloc::AllocError;
 
 /// Each number covers itself and those after it.

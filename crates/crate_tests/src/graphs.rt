@@ -1,4 +1,4 @@
-use crate::{Graph, GraphError};
+use exception_graph::{Graph, GraphError};
 use std::alloc::AllocError;
 
 #[test]

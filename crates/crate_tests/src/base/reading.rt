@@ -1,8 +1,12 @@
 ghost use Rattle.std.specs.Prelude.{◌≡◌, ◌≢◌, ◌<◌, ◌≤◌, ◌+◌, ◌++◌, length, IsOk, IsErrOf, IfOk, IfErr};
 
-use super::*;
-use crate::outside::memory::{SureSink, SureSource};
-use crate::outside::one_byte::{OneByteSink, OneByteSource};
+use caa_base::outside::memory::{SureSink, SureSource};
+use caa_base::outside::one_byte::{OneByteSink, OneByteSource};
+use caa_base::outside::reading::{ReadError, read_all, write_all};
+use caa_base::outside::sink::Sink;
+use caa_base::outside::source::Source;
+use caa_base::written::entry::Failed;
+use std::alloc::Global;
 use std::test::Fail;
 
 const TEXT: &[u8; 10] = b"some bytes";

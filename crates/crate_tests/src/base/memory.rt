@@ -1,11 +1,11 @@
 ghost use Rattle.std.specs.Prelude.{◌≡◌, ◌∷◌, [], pos, OnOk};
 ghost use Rattle.caa_base.specs.Outside.PlantState.{after_lay, after_put};
 
-use super::{MemPlant, MemSink, MemSource, SurePlant, SureSink, SureSource};
-use crate::outside::plant::{Plant, PlantError};
-use crate::outside::sink::Sink;
-use crate::outside::source::Source;
-use crate::written::entry::{Drill, Failed};
+use caa_base::outside::memory::{MemPlant, MemSink, MemSource, SurePlant, SureSink, SureSource};
+use caa_base::outside::plant::{Plant, PlantError};
+use caa_base::outside::sink::Sink;
+use caa_base::outside::source::Source;
+use caa_base::written::entry::{Drill, Failed};
 use std::alloc::Global;
 use std::test::Fail;
 
