@@ -153,6 +153,3 @@ pub fn top<S: Source, K: Sink, P: Plant + Send, G: Gate + Sync, R: Threads + Wai
         _ => top_quiet(alloc, words, source, sink, plant),
     }
 }
-
-#[cfg(test)]
-mod tests;

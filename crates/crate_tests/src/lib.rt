@@ -7,3 +7,5 @@ mod base;
 mod covers;
 #[cfg(test)]
 mod graphs;
+#[cfg(test)]
+mod top_calls;

@@ -1,11 +1,17 @@
-use super::*;
-use caa_base::outside::gate::EmptyGate;
+use caa_base::outside::gate::{EmptyGate, Gate};
 use caa_base::outside::memory::{MemPlant, MemSink, MemSource};
 use caa_base::outside::one_byte::{OneByteSink, OneByteSource};
+use caa_base::outside::plant::Plant;
+use caa_base::outside::sink::Sink;
+use caa_base::outside::source::Source;
 use caa_base::written::entry::{Participant, Place};
-use std::alloc::AllocError;
+use caa_commands::status::Status;
+use caa_commands::top::{top, top_quiet};
+use std::alloc::{AllocError, Global};
+use std::sync::Wait;
 use std::sync::atomic::{AtomicBool, AtomicU64, Ordering};
 use std::test::Fail;
+use std::thread::Threads;
 
 const FIRST_PATH: &[u8] =
     b"participant ann\nparticipant bob\nobject x 5\naction look\nuse x\nroles a b\nbody a\nread x\nbody b\nwork 2\nend\nplay look ann bob\n";
@@ -76,64 +82,6 @@ fn plays_over_a_device(rt: HostRuntime) -> Result<(), Fail> {
 }
 
 #[test]
-fn other_words_are_usage(rt: HostRuntime) -> Result<(), Fail> {
-    let cases: [&[&str]; 12] = [
-        &[],
-        &["sim"],
-        &["sim", "01"],
-        &["sim", "-0"],
-        &["sim", "2147483648"],
-        &["sim", "1", "1"],
-        &["check", "1"],
-        &["audit", "1"],
-        &["run"],
-        &["cell", "1"],
-        &["cell", "2001"],
-        &["--help"],
-    ];
-    for words in cases {
-        let (status, text, entries) = call(rt.alloc(), words, FIRST_PATH)?;
-        assert_eq!(rt; status, Status::Usage);
-        assert_eq!(rt;
-            text.as_slice(),
-            b"usage: check | sim SEED | run | audit | cell N\n".as_slice()
-        );
-        assert_eq!(rt; entries, 0);
-    }
-    Ok(())
-}
-
-#[test]
-fn refusals_are_told(rt: HostRuntime) -> Result<(), Fail> {
-    let cases: [(&[u8], &[u8]); 8] = [
-        (b"object x 1000000000001\n", b"refused 1 2 bad-number\n"),
-        (b"participant 9a\n", b"refused 1 3 bad-name\n"),
-        (b"object x 1\nobject x 2\n", b"refused 2 11 twice\n"),
-        (b"play w ann\n", b"refused 1 10 unknown\n"),
-        (b"participant ann\naction w\n", b"refused 3 1 bad-line\n"),
-        (
-            b"participant ann\naction w\nend\n",
-            b"refused 3 14 role-unfilled\n",
-        ),
-        (
-            b"graph f\nexception z\nend\ngraph g\nexception c\nexception d\nexception a\nexception b\ncover c a\ncover c b\ncover d a\ncover d b\nend\n",
-            b"refused 13 13 no-least a b\n",
-        ),
-        (
-            b"graph f\nexception a\nend\ngraph g\nexception a\ncover a universal\nend\n",
-            b"refused 7 12 cycle universal\n",
-        ),
-    ];
-    for (script, line) in cases {
-        let (status, text, entries) = call(rt.alloc(), &["check"], script)?;
-        assert_eq!(rt; status, Status::Refused);
-        assert_eq!(rt; text.as_slice(), line);
-        assert_eq!(rt; entries, 0);
-    }
-    Ok(())
-}
-
-#[test]
 fn faults_are_told(rt: HostRuntime) -> Result<(), Fail> {
     let words = words_of(rt.alloc(), &["sim", "1"])?;
     let mut source = MemSource::new(rt.alloc(), ORDINARY_USE, &[])?;
@@ -174,46 +122,6 @@ fn what_is_not_written_whole_is_a_sink_fault(rt: HostRuntime) -> Result<(), Fail
         assert_eq!(rt; sink.bytes(), &ORDINARY_USE_TEXT[..n - 1]);
         assert_eq!(rt; ended.journal.len(), 11);
     }
-    Ok(())
-}
-
-#[test]
-fn audits_journals(rt: HostRuntime) -> Result<(), Fail> {
-    let alloc = rt.alloc();
-    let whole = joined(alloc, &[ORDINARY_USE, ORDINARY_USE_TEXT])?;
-    let (status, text, entries) = call(alloc, &["audit"], whole.as_slice())?;
-    assert_eq!(rt; status, Status::Done);
-    assert_eq!(rt; text.as_slice(), b"legal 11\n".as_slice());
-    assert_eq!(rt; entries, 11);
-
-    // Without a journal, without its last line, with another journal, and with a verdict before the write that it follows.
-    let exchanged: [&[u8]; 5] = [
-        ORDINARY_USE,
-        &ORDINARY_USE_TEXT[..46],
-        &ORDINARY_USE_TEXT[62..81],
-        &ORDINARY_USE_TEXT[46..62],
-        &ORDINARY_USE_TEXT[81..],
-    ];
-    let cut = &ORDINARY_USE_TEXT[..ORDINARY_USE_TEXT.len() - 22];
-    let cases: [(&[&[u8]], &[u8]); 4] = [
-        (&[ORDINARY_USE], b"illegal 15\n"),
-        (&[ORDINARY_USE, cut], b"illegal 29\n"),
-        (&[ORDINARY_USE, FIRST_PATH_TEXT], b"illegal 27\n"),
-        (&exchanged, b"illegal 19\n"),
-    ];
-    for (parts, line) in cases {
-        let input = joined(alloc, parts)?;
-        let (status, text, entries) = call(alloc, &["audit"], input.as_slice())?;
-        assert_eq!(rt; status, Status::Illegal);
-        assert_eq!(rt; text.as_slice(), line);
-        assert_eq!(rt; entries, 0);
-    }
-
-    // The script before the journal is refused as any script.
-    let input = joined(alloc, &[b"object x 1\nobject x 2\n", ORDINARY_USE_TEXT])?;
-    let (status, text, _) = call(alloc, &["audit"], input.as_slice())?;
-    assert_eq!(rt; status, Status::Refused);
-    assert_eq!(rt; text.as_slice(), b"refused 2 11 twice\n".as_slice());
     Ok(())
 }
 
@@ -288,52 +196,6 @@ fn run_overlaps(rt: HostRuntime) -> Result<(), Fail> {
     assert!(rt; gate.came[1].load(Ordering::SeqCst));
     assert_eq!(rt;
         audit_of(rt.alloc(), script, text.as_slice())?,
-        Status::Done
-    );
-    Ok(())
-}
-
-/// What may be seen of x by the plays of a script that has two.
-const SEEN: [&[u8]; 4] = [
-    b"commit\nseen x 2 2\n",
-    b"commit\nseen x 0 0\nseen x 2 2\n",
-    b"commit\nseen x 1 1\nseen x 2 2\n",
-    b"commit\nseen x 0 0\nseen x 1 1\nseen x 2 2\n",
-];
-
-#[test]
-fn a_run_tells_of_its_watches(rt: HostRuntime) -> Result<(), Fail> {
-    let script =
-        b"participant ann\nparticipant bob\nobject x 0\nwatch x\naction w\nuse x\nroles r\nbody r\nread x\nadd x 1\nend\nplay w ann\nplay w bob\n".as_slice();
-    let (status, text) = run_over(&rt, rt.alloc(), script, &EmptyGate)?;
-    assert_eq!(rt; status, Status::Done);
-    assert!(rt; SEEN.iter().any(|ending| text.as_slice().ends_with(ending)));
-    assert_eq!(rt;
-        audit_of(rt.alloc(), script, text.as_slice())?,
-        Status::Done
-    );
-    Ok(())
-}
-
-/// A script whose third put the device refuses, with a watch, and the text of its play but for what is seen.
-const THIRD_PUT_FAILS: &[u8] =
-    b"participant ann\nobject x 0\ndrill x 3\nwatch x\ngraph g\nexception broken\nend\naction tri\ninternal g\nfault broken\nuse x\nroles r\nbody r\nput x 1\nput x 2\nput x 3\nhandler r broken\nput x 4\nend\nplay tri ann\n";
-
-const THIRD_PUT_FAILS_TEXT: &[u8] =
-    b"journal\narrive 0 ann\nstart 0 ann\nwrite 0 ann x 1\nwrite 0 ann x 2\nputfault 0 ann x 3\nresolve 0 ann broken\nhandle 0 ann broken\nwrite 0 ann x 4\nverdict 0 ann done\nend 0 ann commit\nleave 0 ann\nobject x 4\noutcome 0 tri commit\n";
-
-#[test]
-fn run_with_watch(rt: HostRuntime) -> Result<(), Fail> {
-    let (status, text) = run_over(&rt, rt.alloc(), THIRD_PUT_FAILS, &EmptyGate)?;
-    assert_eq!(rt; status, Status::Done);
-    let Some(seen) = text.as_slice().strip_prefix(THIRD_PUT_FAILS_TEXT) else {
-        panic!(rt; "another text");
-    };
-    assert!(rt;
-        seen == b"seen x 1 4\n".as_slice() || seen == b"seen x 0 0\nseen x 1 4\n".as_slice()
-    );
-    assert_eq!(rt;
-        audit_of(rt.alloc(), THIRD_PUT_FAILS, text.as_slice())?,
         Status::Done
     );
     Ok(())
