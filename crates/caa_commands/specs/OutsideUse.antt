@@ -87,6 +87,12 @@ pub record Call (P : Type 0) : Type 0 where
 abbrev pub call_of : {P : Type 0} → Option Command → SourceUse → Left P → Call P
 call_of asked source left = record { asked = asked; source = source; left = left }
 
+-- the call for a command over a source and a device, by what they were before and what they are now, with the journal that is
+-- handed back
+abbrev pub call_over : {S P : Type 0} → SourceGhosts S → PlantGhosts P → Option Command → S → S → P → P → List Entry → Call P
+call_over sources plants asked source read_source plant left_plant journal =
+    call_of asked (source_use sources source read_source) (left_of (plant_use plants plant left_plant) journal)
+
 -- nothing was played, and the device is as it was
 pub record IsIdle {P : Type 0} (left : Left P) : Type 0 where
   pub unplayed : left.journal ≡ []

@@ -1,7 +1,7 @@
 ghost use Rattle.std.specs.Prelude.{◌≡◌, ◌≤◌, [], if◌then◌else◌, None, map, string_bytes};
 ghost use Rattle.caa_commands.specs.Commands.{command_of, without_threads};
 ghost use Rattle.caa_commands.specs.Findings.{is_played};
-ghost use Rattle.caa_commands.specs.OutsideUse.{source_use, sink_use, plant_use, left_of, call_of};
+ghost use Rattle.caa_commands.specs.OutsideUse.{sink_use, call_over};
 ghost use Rattle.caa_commands.specs.Calls.{Tells, Answers};
 ghost use Rattle.caa_commands.specs.Served.{MissesNothing};
 
@@ -86,18 +86,16 @@ pub fn top_quiet<S: Source, K: Sink, P: Plant>(
     plant: P,
 ) -> Ended<P>
     ensures answer { Answers
-        (call_of (without_threads (command_of (map string_bytes words.now)))
-        (source_use ⟦<S as Source>⟧ source.old source.new)
-        (left_of (plant_use ⟦<P as Plant>⟧ plant result.plant) result.journal.entries))
+        (call_over ⟦<S as Source>⟧ ⟦<P as Plant>⟧ (without_threads (command_of (map string_bytes words.now)))
+        source.old source.new plant result.plant result.journal.entries)
         (sink_use ⟦<K as Sink>⟧ sink.old sink.new)
         result.status }
 
     // Where nothing outside fails, what can be served is served, an audit tells what is to be found, and what is to be refused is
     // refused; or memory was wanting.
     ensures completeness { MissesNothing
-        (call_of (without_threads (command_of (map string_bytes words.now)))
-        (source_use ⟦<S as Source>⟧ source.old source.new)
-        (left_of (plant_use ⟦<P as Plant>⟧ plant result.plant) result.journal.entries))
+        (call_over ⟦<S as Source>⟧ ⟦<P as Plant>⟧ (without_threads (command_of (map string_bytes words.now)))
+        source.old source.new plant result.plant result.journal.entries)
         (sink_use ⟦<K as Sink>⟧ sink.old sink.new)
         result.status }
 
@@ -125,18 +123,16 @@ pub fn top<S: Source, K: Sink, P: Plant + Send, G: Gate + Sync, R: Threads + Wai
     gate: &G,
 ) -> Ended<P>
     ensures answer { Answers
-        (call_of (command_of (map string_bytes words.now))
-        (source_use ⟦<S as Source>⟧ source.old source.new)
-        (left_of (plant_use ⟦<P as Plant>⟧ plant result.plant) result.journal.entries))
+        (call_over ⟦<S as Source>⟧ ⟦<P as Plant>⟧ (command_of (map string_bytes words.now))
+        source.old source.new plant result.plant result.journal.entries)
         (sink_use ⟦<K as Sink>⟧ sink.old sink.new)
         result.status }
 
     // Where nothing outside fails, what can be served is served, an audit tells what is to be found, and what is to be refused is
     // refused; or memory was wanting.
     ensures completeness { MissesNothing
-        (call_of (command_of (map string_bytes words.now))
-        (source_use ⟦<S as Source>⟧ source.old source.new)
-        (left_of (plant_use ⟦<P as Plant>⟧ plant result.plant) result.journal.entries))
+        (call_over ⟦<S as Source>⟧ ⟦<P as Plant>⟧ (command_of (map string_bytes words.now))
+        source.old source.new plant result.plant result.journal.entries)
         (sink_use ⟦<K as Sink>⟧ sink.old sink.new)
         result.status }
 
