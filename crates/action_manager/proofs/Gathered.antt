@@ -6,7 +6,7 @@ use Rattle.action_manager.specs.declared.lock_view.Terms.{Terms}
 use Rattle.action_manager.specs.declared.housed.Housed.{Housed}
 use Rattle.action_manager.specs.declared.lock_view.View.{View}
 use Rattle.action_manager.specs.declared.seat.Seat.{Seat}
-use Rattle.action_manager.specs.Turns.{held, both_of, Has, Stands}
+use Rattle.action_manager.specs.inner.Turns.{held, both_of, Has, Stands}
 use Rattle.action_manager.specs.OwnEntries.{Journal, entries_by}
 use Rattle.std.proofs.lemmas.Bool.Decides.{nat_tests}
 use Rattle.action_manager.specs.Stepping.{IsAtRest}

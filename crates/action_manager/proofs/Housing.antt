@@ -12,7 +12,7 @@ use Rattle.place_plan.specs.declared.rules.machine.Answer.TheVariants as answer
 use Rattle.shared_views.specs.Telling.{cells_of, KeepsUp, Suits}
 use Rattle.action_manager.specs.declared.housed.Housed.{Housed}
 use Rattle.action_manager.specs.Publishing.{Publishes, HasRoom}
-use Rattle.action_manager.specs.Housed.{IsKept}
+use Rattle.action_manager.specs.inner.Housed.{IsKept}
 
 -- the newest entry stands first
 pub past_after : (old new : List Entry) (e : Entry) → new ≡ old ++ e ∷ [] → reverse new ≡ e ∷ reverse old

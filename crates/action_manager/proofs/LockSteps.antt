@@ -12,7 +12,8 @@ use Rattle.shared_views.proofs.Beginnings.{begins_itself, begins_further}
 use Rattle.action_manager.specs.declared.lock_view.View.{View}
 use Rattle.action_manager.specs.declared.lock_view.Terms.{Terms}
 use Rattle.action_manager.specs.OwnEntries.{Journal, Grows}
-use Rattle.action_manager.specs.Turns.{rested, maker, spent_view, both_of, held_if, held, Has, Stands, holders, Fits, IsAt, AtHome, Out, Kept, Returned, Drew, Came, Looked, HandedOn}
+use Rattle.action_manager.specs.inner.Turns.{maker, spent_view, both_of, held_if, held, Has, Stands, holders, Fits, IsAt, AtHome, Out, Kept, Returned, Drew, Came, Looked, HandedOn}
+use Rattle.action_manager.specs.Stepping.{rested}
 
 holders_set : (vs : List View) (i : ℕ) (v w : View) → get_elem? vs i ≡ some v → holders (set vs i w) + one_if v.holds ≡ holders vs + one_if w.holds
 holders_set [] i v w e = absurd (some-ne-none v (sym e))
@@ -101,9 +102,6 @@ held_seated v is = ap (λ (b : Bool). held_if b v.who v.seen v.taken) is
 
 pub held_both : (v w : View) → v.seated ≡ true → w.seated ≡ true → held (both_of v w) ≡ held v ++ held w
 held_both v w a b = held_seated (both_of v w) a ∙ sym (λ i. held_seated v a i ++ held_seated w b i)
-
-none_held : (v : View) (t : ℕ) → v.seated ≡ false → Has t (held v) → ⊥
-none_held v t is h = subst (λ (b : Bool). Has t (held_if b v.who v.seen v.taken)) is h
 
 module _ {M : Type 0} (terms : Terms) (its_journal : Journal) (Right : Terms → M → Type 0) (journal_of : M → Journal) where
   abbrev St : Type 0

@@ -21,10 +21,6 @@ use Rattle.action_manager.specs.Publishing.{values_of, publications_of, Publishe
 one_more : (plan : Plan) (past : List Entry) (e : Entry) → ends_play plan e ≡ true → publications_of plan (e ∷ past) ≡ publications_of plan past ++ values_of plan (e ∷ past) e.place ∷ []
 one_more plan past e is = ap (λ b. if b then publications_of plan past ++ values_of plan (e ∷ past) e.place ∷ [] else publications_of plan past) is
 
--- any other entry adds nothing
-none_more : (plan : Plan) (past : List Entry) (e : Entry) → ends_play plan e ≡ false → publications_of plan (e ∷ past) ≡ publications_of plan past
-none_more plan past e other = ap (λ b. if b then publications_of plan past ++ values_of plan (e ∷ past) e.place ∷ [] else publications_of plan past) other
-
 both_grow : {A B : Type 0} (b : Bool) (xs : List A) (ys : List B) (x : A) (y : B) → length xs ≡ length ys → length (if b then xs ++ x ∷ [] else xs) ≡ length (if b then ys ++ y ∷ [] else ys)
 both_grow true xs ys x y same = length-append xs (x ∷ []) ∙ (ap (λ n. n + 1) same ∙ sym (length-append ys (y ∷ [])))
 both_grow false xs ys x y same = same

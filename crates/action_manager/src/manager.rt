@@ -4,12 +4,12 @@ ghost use Rattle.std.specs.List.{range_with_len};
 ghost use Rattle.place_plan.specs.RulesOfJournals.Journals.{plays_ended};
 ghost use Rattle.shared_views.specs.Telling.{cells_of, IsFresh};
 ghost use Rattle.action_manager.specs.OwnEntries.{entries_by};
-ghost use Rattle.action_manager.specs.Turns.{maker, held, Has, Stands};
+ghost use Rattle.action_manager.specs.inner.Turns.{maker, held, Has, Stands};
 ghost use Rattle.action_manager.specs.Stepping.{IsAtRest, Steps, Looks};
 ghost use Rattle.action_manager.specs.Locks.{home_at, plan_at};
 ghost use Rattle.action_manager.specs.Openings.{IsUnresolved};
 ghost use Rattle.action_manager.specs.Publishing.{Publishes, book_of, new_observer};
-ghost use Rattle.action_manager.specs.Housed.{IsKept, IsRight};
+ghost use Rattle.action_manager.specs.inner.Housed.{IsKept, IsRight};
 ghost use Rattle.action_manager.specs.Tidings.{TellsAfter};
 ghost use Rattle.action_manager.specs.Seats.{IsNewSeat, participant_of, seen_by, told_to, stand, has_seat, HaveAll, IsLeastMissing, Accounts};
 

@@ -6,13 +6,14 @@ ghost use Rattle.place_plan.specs.RulesOfJournals.Journals.{LegalPast, IsLegal, 
 ghost use Rattle.place_plan.specs.RulesOfJournals.Machine.{Answers, made_fault};
 ghost use Rattle.place_plan.specs.RulesOfJournals.Attempts.{is_attempt};
 ghost use Rattle.place_plan.proofs.OnJournals.LegalProp.{LegalPast-prop};
-ghost use Rattle.journal_replay.specs.Device.{FitsJournal, HasValues, HasDrills, attempts_in};
+ghost use Rattle.journal_replay.specs.Device.{HasValues, HasDrills, attempts_in};
+ghost use Rattle.journal_replay.specs.inner.DeviceOfHall.{FitsJournal};
 ghost use Rattle.caa_base.specs.Outside.PlantState.{is_refused, is_drilled, after_put, after_try};
 ghost use Rattle.journal_replay.specs.Opening.{is_plant_fault};
 ghost use Rattle.std.proofs.Math.Nat.{le_of_eq};
 ghost use Rattle.std.proofs.Common.{sym};
 ghost use Rattle.journal_replay.specs.IsDue.{DeviceDecides};
-ghost use Rattle.journal_replay.specs.Duty.{MayWorkNow};
+ghost use Rattle.journal_replay.specs.inner.Duty.{MayWorkNow};
 
 use crate::answer::Due;
 use crate::audit::all_are_over;

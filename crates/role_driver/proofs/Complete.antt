@@ -19,7 +19,7 @@ use Rattle.place_plan.specs.RulesOfJournals.Roles.{is_over, is_over_after}
 use Rattle.place_plan.specs.RulesOfJournals.Journals.{IsComplete}
 use Rattle.action_manager.specs.declared.seat.Seat.{Seat}
 use Rattle.action_manager.specs.Seats.{has_seat, HaveAll, Accounts, participant_of, seen_by}
-use Rattle.role_driver.specs.Crew.{IsDone, IsMember, who_of}
+use Rattle.role_driver.specs.inner.Crew.{IsDone, IsMember, who_of}
 
 -- what was said once stays said
 any_longer : (p : Entry → Bool) (old more : List Entry) → list_any p (reverse old) ≡ true → list_any p (reverse (old ++ more)) ≡ true

@@ -5,7 +5,7 @@ use Rattle.std.proofs.lemmas.List.Elements.{All-head, All-tail, filter-append, f
 use Rattle.journal_text.specs.declared.looks.seens.Seen.{Seen}
 use Rattle.journal_text.specs.Watching.Looks.{last_watch}
 use Rattle.shared_views.specs.declared.observed.Reading.{Reading}
-use Rattle.role_driver.specs.Gathering.{with_last, look_of}
+use Rattle.role_driver.specs.inner.Gathering.{with_last, look_of}
 
 -- the readings before the last, among the first i
 abbrev pub kept : List Reading → Reading → ℕ → List Reading
@@ -39,14 +39,6 @@ mid_of P seens w rs last i d low x all =
     let later = filter (λ r. nat_lt r.ends last.ends) (drop (i + 1) rs) ++ last ∷ [] in (
       all_mid P (kept rs last i) (get_or rs i d) later (subst (All P) is all),
       omega (arith, length-append seens (map (look_of w) (kept rs last i)), length-map (kept rs last i) (look_of w), ap length is, length-append (kept rs last i) (get_or rs i d ∷ later)),
-    )
-
-pub end_of : (P : Reading → Type 0) (seens : List Seen) (w : ℕ) (rs : List Reading) (last : Reading) (i : ℕ) → length rs ≤ i → All P (with_last rs last)
-    → P last × (length (seens ++ map (look_of w) (kept rs last i)) < length seens + length (with_last rs last))
-end_of P seens w rs last i high all =
-    let is = at_end rs last i high in (
-      all_mid P (kept rs last i) last [] (subst (All P) is all),
-      omega (arith, length-append seens (map (look_of w) (kept rs last i)), length-map (kept rs last i) (look_of w), ap length is, length-append (kept rs last i) (last ∷ [])),
     )
 
 -- the watches don't fall

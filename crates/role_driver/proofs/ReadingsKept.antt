@@ -24,10 +24,10 @@ use Rattle.shared_views.specs.declared.observed.Reading.{Reading}
 use Rattle.shared_views.proofs.Readings.{was_read as read_then, still_read}
 use Rattle.action_manager.specs.Publishing.{publications_of}
 use Rattle.action_manager.specs.PublishingLaw.{PublishingLaw}
-use Rattle.role_driver.specs.Records.{was_read, ends_rise, is_record, is_news}
+use Rattle.role_driver.specs.inner.Records.{was_read, ends_rise, is_record, is_news}
 use Rattle.role_driver.specs.declared.watcher.Watcher.{Watcher}
-use Rattle.role_driver.specs.Watching.{Task, task_of}
-use Rattle.role_driver.specs.Gathering.{HasPublished, with_last}
+use Rattle.role_driver.specs.inner.Watching.{Task, task_of}
+use Rattle.role_driver.specs.inner.Gathering.{HasPublished, with_last}
 
 -- ---- readings
 

@@ -15,8 +15,8 @@ use Rattle.journal_text.specs.Watching.Looks.{last_watch}
 use Rattle.journal_text.specs.Texts.Text.{watched_object}
 use Rattle.journal_text.specs.Watching.Right.{is_committed, follows, is_followed, is_whole, next_seen, first_wrong_from}
 use Rattle.shared_views.specs.declared.observed.Reading.{Reading}
-use Rattle.role_driver.specs.Records.{ends_rise}
-use Rattle.role_driver.specs.Gathering.{look_of, IsBefore, AreRightSoFar}
+use Rattle.role_driver.specs.inner.Records.{ends_rise}
+use Rattle.role_driver.specs.inner.Gathering.{look_of, IsBefore, AreRightSoFar}
 
 -- the look of the first of these readings and the last
 abbrev first_of : List Reading → Reading → Reading
@@ -70,9 +70,6 @@ module _ (plan : Plan) (past : List Entry) where
       rises : (qs : List Reading) → is_rising_above r.ends (map (λ q. q.ends) (qs ++ last ∷ [])) ≡ true → nat_le r.ends (first_of qs last).ends ≡ true
       rises [] u = below r.ends last.ends (and_parts (nat_lt r.ends last.ends) _ u).0
       rises (q ∷ qs) u = below r.ends q.ends (and_parts (nat_lt r.ends q.ends) _ u).0
-
-  pub none_yet : AreRightSoFar plan past 0 []
-  none_yet = record { last = None; before = refl; right = λ more. refl; few = omega arith; order = omega arith; of_plan = All-nil (λ (s : Seen). s.watch < 0) }
 
   -- one watch more
   pub next_watch : (k : ℕ) (seens : List Seen) (rs : List Reading) (last : Reading) → AreRightSoFar plan past k seens → All (IsCommitted k) (rs ++ last ∷ []) → ends_rise (rs ++ last ∷ []) ≡ true → last.ends ≡ length plan.plays

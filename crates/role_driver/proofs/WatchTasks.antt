@@ -12,8 +12,8 @@ use Rattle.place_plan.proofs.OnDrafts.DraftKeeps.{keeps_rules}
 use Rattle.caa_base.specs.Written.Limits.{is_value}
 use Rattle.shared_views.specs.Committing.{Committed, Watching}
 use Rattle.role_driver.specs.declared.watch_room.Blank.{Blank}
-use Rattle.role_driver.specs.WatchRooms.{task_with}
-use Rattle.role_driver.specs.Gathering.{task_by}
+use Rattle.role_driver.specs.inner.WatchRooms.{task_with}
+use Rattle.role_driver.specs.inner.Gathering.{task_by}
 
 -- each watch of a closed plan is of one of its objects
 watches_below : (draft : Draft) → range_rule draft ≡ true → all_below (length draft.objects) draft.watches ≡ true

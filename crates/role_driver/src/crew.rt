@@ -1,5 +1,5 @@
 ghost use Rattle.std.specs.Prelude.{◌≡◌, [], length, map, All, IfOk, IfErr, vec_capacity};
-ghost use Rattle.role_driver.specs.Crew.{IsMember, who_of};
+ghost use Rattle.role_driver.specs.inner.Crew.{IsMember, who_of};
 ghost use Rattle.action_manager.specs.Managers.{IsSeatIn};
 ghost use Rattle.action_manager.specs.Seats.{participant_of, IsBeside};
 

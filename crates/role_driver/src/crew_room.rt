@@ -26,7 +26,7 @@ pub fn lowered_flags(alloc: Global, count: usize) -> Result<Vec<AtomicBool>, All
 }
 
 impl<M> CrewRoom<M> {
-    ghost use Rattle.role_driver.specs.CrewRooms.{IsRoomForAll};
+    ghost use Rattle.role_driver.specs.inner.CrewRooms.{IsRoomForAll};
 
     /// Takes the memory for so many seats.
     pub fn take(alloc: Global, count: usize) -> Result<CrewRoom<M>, AllocError>

@@ -1,5 +1,5 @@
 ghost use Rattle.std.specs.Prelude.{◌≡◌, [], length, map, vec_capacity};
-ghost use Rattle.role_driver.specs.Watching.{task_of, task_at};
+ghost use Rattle.role_driver.specs.inner.Watching.{task_of, task_at};
 
 use crate::watcher::Watcher;
 use std::snapshot::Snapshot;
@@ -15,7 +15,7 @@ pub struct Returns {
 
 impl Promise<Watcher> for Returns {
     ghost use Rattle.std.specs.Prelude.{◌≡◌};
-    ghost use Rattle.role_driver.specs.Watching.{task_of};
+    ghost use Rattle.role_driver.specs.inner.Watching.{task_of};
 
     ghost kept_by = { λ p r. task_of r ≡ task_of p.watcher.value };
 }

@@ -9,10 +9,10 @@ ghost use Rattle.action_manager.specs.Openings.{IsUnresolved};
 ghost use Rattle.action_manager.specs.Publishing.{Publishes};
 ghost use Rattle.action_manager.specs.Managers.{plan_in, handed_in, IsSeatIn};
 ghost use Rattle.action_manager.specs.Seats.{participant_of};
-ghost use Rattle.role_driver.specs.CrewRooms.{IsRoomForAll};
-ghost use Rattle.role_driver.specs.Watching.{task_of};
-ghost use Rattle.role_driver.specs.WatchRooms.{IsRoomFor, observer_of};
-ghost use Rattle.role_driver.specs.Gathering.{task_by};
+ghost use Rattle.role_driver.specs.inner.CrewRooms.{IsRoomForAll};
+ghost use Rattle.role_driver.specs.inner.Watching.{task_of};
+ghost use Rattle.role_driver.specs.inner.WatchRooms.{IsRoomFor, observer_of};
+ghost use Rattle.role_driver.specs.inner.Gathering.{task_by};
 
 use crate::all_seats::{close_done, drive_each};
 use crate::assigning::watchers_for;

@@ -30,7 +30,7 @@ pub struct WatchRoom {
 
 impl WatchRoom {
     ghost use Rattle.std.specs.Prelude.{map};
-    ghost use Rattle.role_driver.specs.WatchRooms.{IsRoomFor};
+    ghost use Rattle.role_driver.specs.inner.WatchRooms.{IsRoomFor};
 
     /// A blank for each watch, with room for a reading at each end of a play and one more.
     fn blanks(alloc: Global, plan: &Plan) -> Result<Vec<Blank>, AllocError>

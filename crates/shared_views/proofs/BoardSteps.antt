@@ -8,7 +8,7 @@ use lib.ListN.{get_elem?}
 use Rattle.crossbeam_utils.specs.Register.{Admits, TurnsAt, Forks, Merges}
 use Rattle.atomic_table.proofs.Lists.{at_set, at_snoc}
 use Rattle.shared_views.specs.Publications.{Changes, Known, Begins, given_after, last_given}
-use Rattle.shared_views.specs.Boards.{shown, row_after, shown_after, IsRight, Fits, Keeps, Sees, Follows}
+use Rattle.shared_views.specs.inner.Boards.{shown, row_after, shown_after, IsRight, Fits, Keeps, Sees, Follows}
 use Rattle.shared_views.specs.declared.board.Board.{Board}
 use Rattle.shared_views.specs.declared.board.Publication.{Publication}
 use Rattle.shared_views.specs.declared.board.View.{View}

@@ -6,7 +6,7 @@ use mathlib.Core.List.{IsPrefix}
 use prog.Atomic.{either}
 use Rattle.logbook.specs.Pages.{Cell, cell, keeps, no_nib, step, Moves, Goes}
 use Rattle.shared_views.specs.Publications.{Changes}
-use Rattle.shared_views.specs.Chronicles.{IsCounted, Adds}
+use Rattle.shared_views.specs.inner.Chronicles.{IsCounted, Adds}
 use Rattle.shared_views.proofs.Beginnings.{whole_beginning}
 
 adds_goes : (list v : List Changes) (e : Changes) (old : ℕ) → length v ≡ old → IsPrefix v list → (b : Bool) → (length list == old) ≡ b

@@ -15,7 +15,7 @@ use Rattle.caa_base.proofs.ListLemmas.{one_more_each}
 use Rattle.journal_text.specs.declared.looks.seens.Seen.{Seen}
 use Rattle.journal_text.specs.Texts.Text.{watched_object}
 use Rattle.journal_text.specs.Watching.Right.{is_committed}
-use Rattle.journal_text.specs.Watching.CommittedValues.{is_of_first, value_by_first, value_left_by_first, counts, Notes, lowest_after, value_after, TellsRestored, KnowsAbove, HasCommitted, value_by, HasWatched}
+use Rattle.journal_text.specs.inner.CommittedValues.{is_of_first, value_by_first, value_left_by_first, counts, Notes, lowest_after, value_after, TellsRestored, KnowsAbove, HasCommitted, value_by, HasWatched}
 use Rattle.journal_text.proofs.OnTexts.ValueLemmas.{within_any, any-same}
 
 -- ---- plays that are among the first
@@ -185,26 +185,6 @@ know-next plan chain ended o old new lowest entries i j d next within size h res
     (step_back plan chain ended o old new lowest (reverse entries) (reverse (take i entries)) (drop j entries) e size before restored tells says, noted plan restored more o (drop j entries) e tells notes)
 
 -- ---- the way from end to end
-
--- before the first step no value is known
-pub know-start : (plan : Plan) (ended : List ℕ) (o : ℕ) (past : List Entry) → KnowsAbove plan ended o (replicate (suc (length ended)) (initial_of plan o)) (length ended) past past []
-know-start plan ended o past = record {
-  size = length-replicate (suc (length ended)) (initial_of plan o);
-  low = omega arith;
-  initial = λ n l. get_or-replicate (suc (length ended)) n (initial_of plan o) (pos 0) (omega arith);
-  left = λ n l. refl;
-  known = λ n l m. absurd (omega arith);
-}
-
--- after the last step all are
-pub know-end : (plan : Plan) (ended : List ℕ) (o : ℕ) (values : List ℤ) (lowest : ℕ) (past later : List Entry) → KnowsAbove plan ended o values lowest past [] later → HasCommitted plan ended past o values
-know-end plan ended o values lowest past later h = record {
-  size = h.size;
-  each = λ n m. elim (cases_lt lowest n) [
-    | inl l ↦ h.known n l m
-    | inr l ↦ h.initial n l ∙ sym (h.left n l)
-  ];
-}
 
 -- ---- looks
 

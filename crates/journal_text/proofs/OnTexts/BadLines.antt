@@ -15,9 +15,9 @@ use Rattle.journal_text.specs.declared.texts.text_reader.TextError.{TextError}
 use Rattle.journal_text.specs.declared.texts.text_reader.TextError.TheVariants as error
 use Rattle.journal_text.specs.Watching.Looks.{Looks, AreInOrder, InOrderFrom, AreOfPlan, IsOfPlan, last_watch}
 use Rattle.journal_text.specs.Texts.Text.{seen_line, closing_lines, first_line, text_of}
-use Rattle.journal_text.specs.Texts.Words.{seen_in}
+use Rattle.journal_text.specs.inner.Words.{seen_in}
 use Rattle.journal_text.specs.Texts.TextOfJournal.{lines_shared, HasText, IsText, HasTooMany, IsFirstBad, Refuses, Reads, ReadsBack, TextsDiffer}
-use Rattle.journal_text.specs.Texts.TextSteps.{BeginsNoEntry, BeginsNoSeen, MayCome, EntriesRead, SeensRead, StopsEntries, RefusesAfter}
+use Rattle.journal_text.specs.inner.TextSteps.{BeginsNoEntry, BeginsNoSeen, MayCome, EntriesRead, SeensRead, StopsEntries, RefusesAfter}
 use Rattle.journal_text.proofs.OnTexts.EntryLines.{seen_in-line, IsLine, seen_line-is}
 use Rattle.journal_text.proofs.OnTexts.ReadingLemmas.{Tells, entry_lines, EachFits, tail_of, tail-no-entry, entries-same, entries-front, entries-shared, front-longest, shared-line, shared-none, shared-nothing, shared-front, shared-no_front}
 
@@ -239,17 +239,6 @@ good plan limit bytes text es r looks ss rest begins h q s end = record {
       (s.front ∙ ap (λ z. seen_lines plan ss ++ z) end ∙ append-nil (seen_lines plan ss)))) ∙ sym (text-split plan es ss);
 }
 
--- bytes with entries past the limit, or no memory
-pub stopped : (plan : Plan) (limit : ℕ) (bytes text : List ℕ) (e : TextError) → bytes ≡ first_line ++ text → StopsEntries plan limit text e → Refuses plan limit bytes e
-stopped plan limit bytes text (error.TooMany line) begins h = (
-  h.0,
-  record {
-    journal = h.1.entries;
-    rest = h.1.rest;
-    entries = h.1.fit;
-    many = h.1.many;
-    begins = begins ∙ ap (λ z. first_line ++ z) h.1.front ∙ sym (append_assoc first_line (entry_lines plan h.1.entries) h.1.rest);
-  },
 )
 stopped plan limit bytes text (error.BadLine line) begins h = absurd h
 stopped plan limit bytes text error.OutOfMemory begins h = tt

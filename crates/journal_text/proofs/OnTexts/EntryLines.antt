@@ -21,7 +21,7 @@ use Rattle.caa_base.specs.Written.Limits.{IsValue}
 use Rattle.journal_text.specs.declared.texts.entry_line.Fields.{Fields}
 use Rattle.journal_text.specs.Texts.Naming.{watch_in, is_well_named}
 use Rattle.journal_text.specs.Texts.Text.{participant_name, object_name, watched_object, seen_line, kind_word, object_words, restore_word, verdict_words, outcome_words, leave_words, field_words, entry_line}
-use Rattle.journal_text.specs.Texts.Words.{word_in, after_word, next_word, after_next, number_in, value_in, participant_in, object_in, exception_in, kind_in, nothing_more, naming, object_fields, work_fields, restore_mark, verdict_fields, end_fields, named_fields, leave_fields, fields_in, entry_with, entry_after, entry_in, seen_in, is_gap}
+use Rattle.journal_text.specs.inner.Words.{word_in, after_word, next_word, after_next, number_in, value_in, participant_in, object_in, exception_in, kind_in, nothing_more, naming, object_fields, work_fields, restore_mark, verdict_fields, end_fields, named_fields, leave_fields, fields_in, entry_with, entry_after, entry_in, seen_in, is_gap}
 use Rattle.journal_text.proofs.OnTexts.WordLemmas.{is_whole, word_in-whole, after_word-whole, begins-line, next_word-line, after_next-line, whole-decimal, whole-signed, number_in-decimal}
 use Rattle.journal_text.proofs.OnTexts.NamingLemmas.{participants-named, objects-named, exceptions-named, watches-named}
 use Rattle.journal_text.specs.declared.looks.seens.Seen.{Seen}

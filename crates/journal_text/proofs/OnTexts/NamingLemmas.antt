@@ -12,7 +12,7 @@ use Rattle.place_plan.specs.Plans.PlanValue.{Plan}
 use Rattle.place_plan.specs.Plans.Places.{no_graph, graph_at, exception_name}
 use Rattle.journal_text.specs.Texts.Naming.{index_among, watch_in, is_own_name, are_names, is_named_graph, is_own_watch, is_well_named}
 use Rattle.journal_text.specs.Texts.Text.{participant_name, object_name, watched_object}
-use Rattle.journal_text.specs.Texts.Words.{is_gap}
+use Rattle.journal_text.specs.inner.Words.{is_gap}
 use Rattle.journal_text.proofs.OnTexts.WordLemmas.{is_whole}
 
 -- ---- a name has no gap

@@ -14,9 +14,9 @@ use Rattle.place_plan.specs.RulesOfJournals.WellFormed.{IsWellFormed}
 use Rattle.journal_text.specs.declared.looks.seens.Seen.{Seen}
 use Rattle.journal_text.specs.Texts.Naming.{is_well_named}
 use Rattle.journal_text.specs.Texts.Text.{entry_line, seen_line, object_line, object_words, object_name, watched_object, action_name, ending_words, last_outcome, outcome_line, closing_lines}
-use Rattle.journal_text.specs.Texts.Words.{word_in, after_word, kind_in, entry_after, entry_in, seen_in}
+use Rattle.journal_text.specs.inner.Words.{word_in, after_word, kind_in, entry_after, entry_in, seen_in}
 use Rattle.journal_text.specs.Texts.TextOfJournal.{lines_shared}
-use Rattle.journal_text.specs.Texts.TextSteps.{BeginsNoEntry, BeginsNoSeen, MayCome}
+use Rattle.journal_text.specs.inner.TextSteps.{BeginsNoEntry, BeginsNoSeen, MayCome}
 use Rattle.journal_text.proofs.OnTexts.WordLemmas.{word_in-whole, begins-line, is_whole}
 use Rattle.journal_text.proofs.OnTexts.EntryLines.{entry_in-line, seen_in-line, line-words, IsLine, is_unbroken, entry_line-is}
 
@@ -104,19 +104,6 @@ shared-no_front (a ∷ r) (b ∷ c) x y n = by (cases_eq a b) (λ m. shared-no_f
 -- the same at an index
 pub shared-end : (text other : List ℕ) (i : ℕ) → length other ≤ i → lines_shared (drop i text) (drop i other) ≡ 0
 shared-end text other i h = ap (lines_shared (drop i text)) (drop_all i other h) ∙ shared-nothing (drop i text)
-
-pub shared-unlike : (text other : List ℕ) (i : ℕ) → i < length text → i < length other → (get_or text i 0 ≡ get_or other i 0 → ⊥) → lines_shared (drop i text) (drop i other) ≡ 0
-shared-unlike text other i h k n =
-    ap (lines_shared (drop i text)) (drop-cons other i 0 k) ∙ ap (λ t. lines_shared t (get_or other i 0 ∷ drop (suc i) other)) (drop-cons text i 0 h)
-    ∙ step-other (get_or text i 0) (get_or other i 0) (drop (suc i) text) (drop (suc i) other) n
-
-pub shared-like : (text other : List ℕ) (i : ℕ) → i < length text → i < length other → get_or text i 0 ≡ get_or other i 0
-    → lines_shared (drop i text) (drop i other) ≡ cond (get_or text i 0 == 10) (suc (lines_shared (drop (i + 1) text) (drop (i + 1) other))) (lines_shared (drop (i + 1) text) (drop (i + 1) other))
-shared-like text other i h k same =
-    rw add-one
-    (ap (lines_shared (drop i text)) (drop-cons other i 0 k) ∙ ap (λ t. lines_shared t (get_or other i 0 ∷ drop (suc i) other)) (drop-cons text i 0 h)
-    ∙ ap (λ b. lines_shared (get_or text i 0 ∷ drop (suc i) text) (b ∷ drop (suc i) other)) (sym same)
-    ∙ step-same (get_or text i 0) (drop (suc i) text) (drop (suc i) other))
 
 -- ---- what is no entry line
 

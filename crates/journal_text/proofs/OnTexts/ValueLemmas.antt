@@ -15,7 +15,7 @@ use Rattle.caa_base.specs.Written.Lists.{member}
 use Rattle.place_plan.specs.Plans.Places.{around}
 use Rattle.place_plan.specs.RulesOfJournals.Objects.{restores, writes, is_within_any, places_undone, value_outside, places_restoring}
 use Rattle.place_plan.specs.RulesOfJournals.WellFormed.{IsWellFormed, AllWellFormed, FieldsFit}
-use Rattle.journal_text.specs.Texts.KnownValues.{was_restored, was_undone, value_left, found_after, found_after_write, restored_after, restored_after_restore, LooksBack, HasValues}
+use Rattle.journal_text.specs.inner.KnownValues.{was_restored, was_undone, value_left, found_after, found_after_write, restored_after, restored_after_restore, LooksBack, HasValues}
 
 -- ---- tests of lists
 

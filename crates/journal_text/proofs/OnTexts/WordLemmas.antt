@@ -11,7 +11,7 @@ use Rattle.std.proofs.lemmas.Int.{ints}
 use Rattle.caa_base.specs.Written.Lines.{spaced, digits_after}
 use Rattle.caa_base.specs.Written.Limits.{IsValue}
 use Rattle.journal_text.specs.Texts.Naming.{index_among}
-use Rattle.journal_text.specs.Texts.Words.{is_gap, word_in, after_word, next_word, after_next, number_in}
+use Rattle.journal_text.specs.inner.Words.{is_gap, word_in, after_word, next_word, after_next, number_in}
 
 -- ---- words
 

@@ -1,6 +1,6 @@
 ghost use Rattle.std.specs.Prelude.{◌≡◌, ◌<◌};
 ghost use Rattle.journal_text.specs.Texts.Text.{participant_name, object_name};
-ghost use Rattle.journal_text.specs.Texts.Words.{participant_in, object_in, exception_in, kind_in, nothing_more, marked, naming, object_fields, work_fields, verdict_fields, end_fields, named_fields, leave_fields, fields_in, entry_after, entry_in};
+ghost use Rattle.journal_text.specs.inner.Words.{participant_in, object_in, exception_in, kind_in, nothing_more, marked, naming, object_fields, work_fields, verdict_fields, end_fields, named_fields, leave_fields, fields_in, entry_after, entry_in};
 
 use crate::texts::words::{goes_on, next_word, number_in, split_word, value_in};
 use caa_base::written::entry::{Entry, Exception, Kind, Object, Participant, Place};

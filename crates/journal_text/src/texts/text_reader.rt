@@ -5,7 +5,7 @@ ghost use Rattle.journal_text.specs.Texts.Naming.{is_well_named};
 ghost use Rattle.journal_text.specs.Texts.Text.{entry_line, object_lines, outcome_lines, closing_lines, seen_line, first_line, text_of};
 ghost use Rattle.journal_text.specs.Watching.Looks.{AreOfPlan};
 ghost use Rattle.journal_text.specs.Texts.TextOfJournal.{lines_shared, Reads, ReadsBack, TextsDiffer};
-ghost use Rattle.journal_text.specs.Texts.TextSteps.{IsAfter, EntryFound, SeenFound, EntriesRead, SeensRead, StopsEntries, RefusesAfter};
+ghost use Rattle.journal_text.specs.inner.TextSteps.{IsAfter, EntryFound, SeenFound, EntriesRead, SeensRead, StopsEntries, RefusesAfter};
 
 use crate::texts::entry_line::entry_in;
 use crate::looks::seen_line::{may_stand, seen_in};

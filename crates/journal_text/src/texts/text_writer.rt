@@ -6,7 +6,7 @@ ghost use Rattle.place_plan.specs.Plans.Places.{parent};
 ghost use Rattle.place_plan.specs.RulesOfJournals.Entries.{is_of};
 ghost use Rattle.place_plan.specs.RulesOfJournals.WellFormed.{IsWellFormed, AllWellFormed};
 ghost use Rattle.journal_text.specs.Texts.Text.{action_name, object_name, internal_name, interface_name, kind_word, object_words, restore_word, verdict_words, outcome_at, outcome_words, abort_words, leave_words, field_words, entry_line, object_lines, last_outcome, ending_words, outcome_lines, closing_lines, seen_line, text_of};
-ghost use Rattle.journal_text.specs.Texts.KnownValues.{value_found};
+ghost use Rattle.journal_text.specs.inner.KnownValues.{value_found};
 ghost use Rattle.journal_text.specs.Watching.Looks.{AreOfPlan};
 
 use crate::looks::seens::{Seen, Seens};

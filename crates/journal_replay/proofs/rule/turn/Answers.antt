@@ -4,7 +4,7 @@ use Rattle.place_plan.specs.RulesOfJournals.Roles.{register}
 use Rattle.place_plan.specs.RulesOfJournals.Machine.{work_entry}
 use Rattle.journal_laws.specs.Due.{due_of}
 use Rattle.journal_replay.specs.IsDue.{DeviceDecides}
-use Rattle.journal_replay.specs.Duty.{entry_of, MixesRight}
+use Rattle.journal_replay.specs.inner.Duty.{entry_of, MixesRight}
 use Rattle.journal_replay.specs.declared.duty.Duty.{Duty}
 use Rattle.journal_replay.proofs.DueEntries.{the_entry, device_decides}
 use Rattle.journal_replay.proofs.rule.turn.Goals as goal

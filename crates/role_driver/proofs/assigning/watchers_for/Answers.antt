@@ -1,8 +1,8 @@
 use Rattle.std.proofs.Common.{◌∙◌, ◌<◌, ap, arith, length, replicate}
 use Rattle.shared_views.specs.Committing.{Watching}
 use Rattle.role_driver.specs.declared.watch_room.Blank.{Blank}
-use Rattle.role_driver.specs.Watching.{task_of}
-use Rattle.role_driver.specs.WatchRooms.{task_with, observer_of}
+use Rattle.role_driver.specs.inner.Watching.{task_of}
+use Rattle.role_driver.specs.inner.WatchRooms.{task_with, observer_of}
 use Rattle.role_driver.proofs.Complete.{moved_on, all_first}
 use Rattle.role_driver.proofs.AllAlike.{last_alike}
 use Rattle.role_driver.proofs.assigning.watchers_for.Goals as goal

@@ -1,5 +1,5 @@
 use Rattle.std.proofs.Common.{◌≡◌, map, All}
-use Rattle.role_driver.specs.Crew.{IsMember, who_of}
+use Rattle.role_driver.specs.inner.Crew.{IsMember, who_of}
 use Rattle.role_driver.proofs.crew.drive_handed_back.Given as goal
 
 abbrev pub invariant-loop : goal.invariant-loop

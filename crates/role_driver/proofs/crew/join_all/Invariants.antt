@@ -1,7 +1,7 @@
 use Rattle.std.proofs.Common.{◌≡◌, ◌++◌, ◌+◌, length, map, All, vec_capacity, vec_len}
 use Rattle.action_manager.specs.Managers.{IsSeatIn}
 use Rattle.action_manager.specs.Seats.{participant_of}
-use Rattle.role_driver.specs.Crew.{IsMember, who_of}
+use Rattle.role_driver.specs.inner.Crew.{IsMember, who_of}
 use Rattle.role_driver.proofs.crew.join_all.Given as goal
 
 abbrev pub invariant-loop-member : goal.invariant-loop-member

@@ -1,7 +1,7 @@
 use Rattle.std.proofs.Common.{◌∙◌, ap}
 use Rattle.std.proofs.Math.Seq.{map-set_same}
 use Rattle.std.proofs.lemmas.List.Elements.{All-set}
-use Rattle.role_driver.specs.Crew.{IsMember, who_of}
+use Rattle.role_driver.specs.inner.Crew.{IsMember, who_of}
 use Rattle.role_driver.proofs.crew.round.Goals as goal
 
 pub loop-index-preserved : goal.loop-index-preserved

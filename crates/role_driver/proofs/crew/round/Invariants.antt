@@ -1,5 +1,5 @@
 use Rattle.std.proofs.Common.{◌≡◌, map, All, vec_len}
-use Rattle.role_driver.specs.Crew.{IsMember, who_of}
+use Rattle.role_driver.specs.inner.Crew.{IsMember, who_of}
 use Rattle.role_driver.proofs.crew.round.Given as goal
 
 abbrev pub invariant-loop-index : goal.invariant-loop-index

@@ -2,7 +2,7 @@ use Rattle.std.proofs.Common.{◌∙◌, ap, arith, length}
 use Rattle.action_manager.specs.Managers.{IsSeatIn}
 use Rattle.action_manager.specs.Seats.{participant_of}
 use Rattle.action_manager.proofs.Gathered.{all_more}
-use Rattle.role_driver.specs.Crew.{IsMember, who_of}
+use Rattle.role_driver.specs.inner.Crew.{IsMember, who_of}
 use Rattle.role_driver.proofs.Complete.{moved_on, all_first, who_is, member_is}
 use Rattle.role_driver.proofs.crew.start_all.Goals as goal
 

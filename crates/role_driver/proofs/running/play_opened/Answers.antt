@@ -6,8 +6,8 @@ use Rattle.action_manager.specs.Seats.{participant_of}
 use Rattle.role_driver.proofs.Complete.{order_counts}
 use Rattle.role_driver.proofs.WatchTasks.{blanks_known, same_length, tasks_are}
 use Rattle.role_driver.specs.declared.watch_room.Blank.{Blank}
-use Rattle.role_driver.specs.Watching.{task_of}
-use Rattle.role_driver.specs.WatchRooms.{task_with, observer_of}
+use Rattle.role_driver.specs.inner.Watching.{task_of}
+use Rattle.role_driver.specs.inner.WatchRooms.{task_with, observer_of}
 use Rattle.role_driver.proofs.running.play_opened.Goals as goal
 
 pub watchers_for-requires-clause-objects : goal.watchers_for-requires-clause-objects

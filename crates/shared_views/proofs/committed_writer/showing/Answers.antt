@@ -1,5 +1,5 @@
 use Rattle.std.proofs.Common.{◌≡◌, ◌∙◌, ap, fold, replicate, [], None}
-use Rattle.shared_views.specs.Boards.{shown, shown_after}
+use Rattle.shared_views.specs.inner.Boards.{shown, shown_after}
 use Rattle.shared_views.specs.declared.board.Board.{Board}
 use Rattle.shared_views.proofs.BoardSteps.{blank_right, stays}
 use Rattle.shared_views.proofs.committed_writer.showing.Goals as goal

@@ -3,7 +3,7 @@ use Rattle.place_plan.specs.Plans.PlanValue.{Plan}
 use Rattle.place_plan.specs.Plans.Places.{initials_of}
 use Rattle.place_plan.specs.RulesOfJournals.Journals.{LegalPast}
 use Rattle.place_plan.specs.RulesOfJournals.WellFormed.{AllWellFormed}
-use Rattle.action_manager.specs.Housed.{IsKept}
+use Rattle.action_manager.specs.inner.Housed.{IsKept}
 use Rattle.action_manager.specs.Publishing.{Publishes, HasRoom}
 use Rattle.action_manager.proofs.Housing.{past_after, did_suits, kept_silent, kept_did, silent_keeps}
 use Rattle.action_manager.proofs.housed.Housed.next.Goals as goal

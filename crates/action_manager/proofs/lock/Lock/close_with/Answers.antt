@@ -1,7 +1,7 @@
 use Rattle.std.proofs.Common.{rules, ◌≡◌, ◌∙◌, sym, Some, subst, IsSome}
 use mathlib.Core.Option.{some-injective}
 use mathlib.Core.List.{IsPrefix}
-use Rattle.action_manager.specs.Turns.{held, Stands}
+use Rattle.action_manager.specs.inner.Turns.{held, Stands}
 use Rattle.action_manager.proofs.LockSteps.{closes}
 use Rattle.action_manager.proofs.lock.Lock.close_with.Goals as goal
 

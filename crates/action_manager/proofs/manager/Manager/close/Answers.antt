@@ -1,5 +1,5 @@
 use Rattle.std.proofs.Common.{◌∙◌, ◌∷◌, ap, map, reverse, subst, sym}
-use Rattle.action_manager.specs.Turns.{held, Stands}
+use Rattle.action_manager.specs.inner.Turns.{held, Stands}
 use Rattle.action_manager.specs.Seats.{HaveAll, stand}
 use Rattle.action_manager.proofs.Gathered.{gathered_has, gathered_account}
 use Rattle.action_manager.proofs.manager.Manager.close.Goals as goal

@@ -1,5 +1,5 @@
 use Rattle.std.proofs.Common.{◌∙◌, ap, subst, ◌++◌, map, reverse, All}
-use Rattle.action_manager.specs.Turns.{held, both_of}
+use Rattle.action_manager.specs.inner.Turns.{held, both_of}
 use Rattle.action_manager.specs.Managers.{table_of, terms_in}
 use Rattle.action_manager.specs.Seats.{IsSeatOf, stand}
 use Rattle.action_manager.proofs.Gathered.{all_split, held_more}

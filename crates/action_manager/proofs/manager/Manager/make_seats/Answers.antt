@@ -3,7 +3,7 @@ use Rattle.std.proofs.lemmas.Grind.{common_steps}
 use Rattle.std.proofs.lemmas.List.FromFn.{get_or-map-range_with_len, length-map-range_with_len}
 use Rattle.action_manager.proofs.Gathered.{all_more, order_more}
 use Rattle.action_manager.specs.OwnEntries.{entries_by}
-use Rattle.action_manager.specs.Turns.{maker}
+use Rattle.action_manager.specs.inner.Turns.{maker}
 use Rattle.action_manager.specs.Managers.{table_of, terms_in, handed_in}
 use Rattle.action_manager.specs.Seats.{IsNewSeat, participant_of}
 use Rattle.action_manager.proofs.manager.Manager.make_seats.Goals as goal

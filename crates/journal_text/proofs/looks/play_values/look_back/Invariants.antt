@@ -1,5 +1,5 @@
 use Rattle.std.proofs.Common.{take, drop, reverse}
-use Rattle.journal_text.specs.Watching.CommittedValues.{TellsRestored, KnowsAbove}
+use Rattle.journal_text.specs.inner.CommittedValues.{TellsRestored, KnowsAbove}
 use Rattle.journal_text.proofs.looks.play_values.look_back.Given as goal
 
 abbrev pub invariant-loop-index : goal.invariant-loop-index

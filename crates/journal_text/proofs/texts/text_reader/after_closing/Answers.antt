@@ -1,7 +1,7 @@
 use Rattle.std.proofs.Common.{reverse, subst}
 use Rattle.std.proofs.lemmas.Result.{IfOk-weaker}
 use Rattle.journal_text.specs.Texts.Text.{object_lines, outcome_lines}
-use Rattle.journal_text.specs.Texts.TextSteps.{IsAfter}
+use Rattle.journal_text.specs.inner.TextSteps.{IsAfter}
 use Rattle.journal_text.proofs.OnTexts.Fronts.{after_both}
 use Rattle.journal_text.proofs.texts.text_reader.after_closing.Goals as goal
 

@@ -2,7 +2,7 @@ use Rattle.std.proofs.Common.{◌≡◌, ◌++◌, ℕ, List, ap, sym, ◌∙◌
 use Rattle.std.specs.Option.{MatchOption}
 use Rattle.std.proofs.lemmas.Bool.{both_ways}
 use Rattle.journal_text.specs.Texts.Text.{seen_line}
-use Rattle.journal_text.specs.Texts.TextSteps.{MayCome}
+use Rattle.journal_text.specs.inner.TextSteps.{MayCome}
 use Rattle.journal_text.proofs.OnTexts.ReadingLemmas.{no-seen}
 use Rattle.journal_text.proofs.texts.text_reader.next_seen.Goals as goal
 

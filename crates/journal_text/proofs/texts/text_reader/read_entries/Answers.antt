@@ -5,7 +5,7 @@ use Rattle.std.proofs.lemmas.List.Elements.{All-push}
 use Rattle.caa_base.specs.declared.written.entry.Entry.{Entry}
 use Rattle.place_plan.specs.RulesOfJournals.WellFormed.{IsWellFormed}
 use Rattle.journal_text.specs.Texts.Text.{entry_line}
-use Rattle.journal_text.specs.Texts.TextSteps.{EntryFound}
+use Rattle.journal_text.specs.inner.TextSteps.{EntryFound}
 use Rattle.journal_text.proofs.OnTexts.BadLines.{front-more}
 use Rattle.journal_text.proofs.texts.text_reader.read_entries.Goals as goal
 

@@ -4,7 +4,7 @@ use Rattle.std.proofs.lemmas.List.Elements.{All-push}
 use Rattle.journal_text.specs.declared.looks.seens.Seen.{Seen}
 use Rattle.journal_text.specs.Watching.Looks.{last_watch}
 use Rattle.journal_text.specs.Texts.Text.{seen_line}
-use Rattle.journal_text.specs.Texts.TextSteps.{SeenFound}
+use Rattle.journal_text.specs.inner.TextSteps.{SeenFound}
 use Rattle.journal_text.proofs.OnLooks.LooksLemmas.{InOrderFrom-push}
 use Rattle.journal_text.proofs.OnTexts.BadLines.{front-more, last_watch-push}
 use Rattle.journal_text.proofs.texts.text_reader.read_seens.Goals as goal

@@ -1,7 +1,7 @@
 use Rattle.std.proofs.Common.{◌≡◌, ◌++◌, ℕ, List, [], length, reverse, sym, subst, ap, ◌∙◌, arith}
 use Rattle.std.proofs.lemmas.Bool.{both_ways, eq-eqb, eqb-true}
 use Rattle.journal_text.specs.Texts.Text.{first_line, closing_lines, text_of}
-use Rattle.journal_text.specs.Texts.TextSteps.{IsAfter, EntriesRead, SeensRead, RefusesAfter}
+use Rattle.journal_text.specs.inner.TextSteps.{IsAfter, EntriesRead, SeensRead, RefusesAfter}
 use Rattle.journal_text.proofs.OnTexts.ReadingLemmas.{Tells}
 use Rattle.journal_text.proofs.OnTexts.BadLines.{bad-first, bad-closing, bad-rest, good, nothing-left}
 use Rattle.journal_text.proofs.texts.text_reader.read_text.Goals as goal

@@ -2,7 +2,7 @@ use Rattle.std.proofs.Common.{◌≡◌, ◌++◌, reverse, arith, ap, ◌∙◌
 use Rattle.std.specs.List.{flat_map, range_with_len}
 use Rattle.caa_base.specs.Written.Lines.{line}
 use Rattle.place_plan.specs.RulesOfJournals.Objects.{value_of}
-use Rattle.journal_text.specs.Texts.KnownValues.{value_found}
+use Rattle.journal_text.specs.inner.KnownValues.{value_found}
 use Rattle.journal_text.specs.Texts.Text.{object_words, object_line}
 use Rattle.journal_text.proofs.OnTexts.TextLemmas.{lines_more}
 use Rattle.journal_text.proofs.texts.text_writer.push_objects.Goals as goal

@@ -1,5 +1,5 @@
 use Rattle.std.proofs.Common.{◌≡◌, true, ◌∙◌, sym, subst}
-use Rattle.role_driver.specs.Records.{is_record}
+use Rattle.role_driver.specs.inner.Records.{is_record}
 use Rattle.role_driver.proofs.ReadingsKept.{record_stays}
 use Rattle.role_driver.proofs.watcher.Watcher.last_look.Goals as goal
 

@@ -1,6 +1,6 @@
 use Rattle.std.proofs.Common.{◌≡◌, true, [], ◌∷◌, ◌++◌, ◌∙◌, sym, subst}
 use Rattle.shared_views.specs.Committing.{IsReading}
-use Rattle.role_driver.specs.Records.{is_record, is_news}
+use Rattle.role_driver.specs.inner.Records.{is_record, is_news}
 use Rattle.role_driver.proofs.ReadingsKept.{record_stays, record_more}
 use Rattle.role_driver.proofs.watcher.Watcher.look.Goals as goal
 

@@ -3,8 +3,8 @@ use Rattle.std.specs.Prelude.{◌≡◌, [], false, length, drop, Option, Some, 
 use Rattle.logbook.specs.Pages.{Book}
 use Rattle.left_right.specs.Sides.{view}
 use Rattle.shared_views.specs.Publications.{Known}
-use Rattle.shared_views.specs.Chronicles.{head_of}
-use Rattle.shared_views.specs.Boards.{IsRight}
+use Rattle.shared_views.specs.inner.Chronicles.{head_of}
+use Rattle.shared_views.specs.inner.Boards.{IsRight}
 use Rattle.shared_views.specs.Committing.{Committed, Watching}
 use Rattle.shared_views.specs.declared.committed_writer.CommittedWriter.TheInside.{Inside as WriterInside}
 use Rattle.shared_views.specs.declared.observer.Observer.TheInside.{Inside as ObserverInside}

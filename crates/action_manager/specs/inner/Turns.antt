@@ -8,29 +8,9 @@ use Rattle.logbook.specs.Pages.{Book}
 use Rattle.place_plan.specs.Plans.PlanValue.{Plan}
 use Rattle.caa_base.specs.Written.Lists.{one_if}
 use Rattle.action_manager.specs.OwnEntries.{Journal, entries_by}
+use Rattle.action_manager.specs.Stepping.{terms_of, rested}
 use Rattle.action_manager.specs.declared.lock_view.View.{View}
 use Rattle.action_manager.specs.declared.lock_view.Terms.{Terms}
-
--- what a machine keeps to: its plan, its base, the cells of its places and its list of publications
-abbrev pub terms_of : Plan → ℕ → List ℕ → Book → Terms
-terms_of plan base cells book = record { plan = plan; base = base; cells = cells; book = book }
-
--- a seat of a participant that has no turn, and has seen these entries
-abbrev pub rested : Terms → ℕ → Journal → View
-rested terms who j =
-    record {
-      seated = true;
-      making = false;
-      terms = terms;
-      who = who;
-      next = 0;
-      holds = false;
-      ticket = 0;
-      has_book = false;
-      book = [];
-      seen = j;
-      taken = [];
-    }
 
 -- the maker, which has made n seats
 abbrev pub maker : Terms → ℕ → Journal → View
