@@ -1,5 +1,6 @@
 -- How a line of a text is taken apart without regard to whether it is well written: what was taken is written again and compared.
 use Rattle.std.specs.Prelude.{ℕ, ℤ, pos, neg_ℤ, ◌-◌, ◌^◌, ◌==◌, if◌then◌else◌, Bool, false, ◌||◌, List, [], ◌∷◌, length, drop, Option, Some, None, option_map, unwrap_or, bytes_eq, codes}
+use Rattle.std.specs.List.{find}
 use Rattle.caa_base.specs.Written.Limits.{most_value, most_count}
 use Rattle.caa_base.specs.declared.written.entry.Entry.{Entry}
 use Rattle.caa_base.specs.declared.written.entry.Kind.{Kind}
@@ -8,7 +9,8 @@ use Rattle.place_plan.specs.Plans.PlanValue.{Plan}
 use Rattle.place_plan.specs.Plans.Places.{action_at, parent, graph_at, exception_name}
 use Rattle.journal_text.specs.declared.looks.seens.Seen.{Seen}
 use Rattle.journal_text.specs.declared.texts.entry_line.Fields.{Fields}
-use Rattle.journal_text.specs.Texts.Text.{participant_name, object_name}
+use Rattle.journal_text.specs.declared.texts.entry_line.TheConstants.{KINDS}
+use Rattle.journal_text.specs.Texts.Text.{kind_word, participant_name, object_name}
 use Rattle.journal_text.specs.Texts.Naming.{index_among, watch_in}
 use Rattle.caa_base.specs.Written.Lines.{digits_within}
 
@@ -68,25 +70,7 @@ exception_in plan g word = index_among (exception_name plan g) word 0 (graph_at 
 
 -- the kind with this word
 abbrev pub kind_in : List ℕ → Option Kind
-kind_in word =
-    if bytes_eq word (codes "arrive") then Some kind.Arrive
-    else (if bytes_eq word (codes "withdraw") then Some kind.Withdraw
-    else (if bytes_eq word (codes "start") then Some kind.Start
-    else (if bytes_eq word (codes "read") then Some kind.Read
-    else (if bytes_eq word (codes "work") then Some kind.Work
-    else (if bytes_eq word (codes "write") then Some kind.Write
-    else (if bytes_eq word (codes "check") then Some kind.Check
-    else (if bytes_eq word (codes "putfault") then Some kind.PutFault
-    else (if bytes_eq word (codes "raise") then Some kind.Raise
-    else (if bytes_eq word (codes "inform") then Some kind.Inform
-    else (if bytes_eq word (codes "resolve") then Some kind.Resolve
-    else (if bytes_eq word (codes "handle") then Some kind.Handle
-    else (if bytes_eq word (codes "verdict") then Some kind.Verdict
-    else (if bytes_eq word (codes "abort") then Some kind.Abort
-    else (if bytes_eq word (codes "undo") then Some kind.Undo
-    else (if bytes_eq word (codes "restore") then Some kind.Restore
-    else (if bytes_eq word (codes "end") then Some kind.End
-    else (if bytes_eq word (codes "leave") then Some kind.Leave else None)))))))))))))))))
+kind_in word = find (λ k. bytes_eq (kind_word k) word) KINDS
 
 -- ---- what stands after the kind, the place and the name of an entry line
 

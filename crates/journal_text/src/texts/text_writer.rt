@@ -79,7 +79,7 @@ fn push_entries(text: &mut Vec<u8>, plan: &Plan, entries: &[Entry]) -> Result<()
 }
 
 /// Adds the lines that follow from the entries.
-fn push_closing(
+pub(crate) fn push_closing(
     alloc: Global,
     text: &mut Vec<u8>,
     plan: &Plan,
@@ -105,7 +105,7 @@ fn push_seens(text: &mut Vec<u8>, plan: &Plan, seens: &[Seen]) -> Result<(), Out
 
 /// Adds a line for each object, with its value after the entries.
 #[tactic(auto, using(crate::proofs::OnTexts::TextLemmas::lines_more))]
-pub(crate) fn push_objects(
+fn push_objects(
     alloc: Global,
     text: &mut Vec<u8>,
     plan: &Plan,
@@ -123,7 +123,7 @@ pub(crate) fn push_objects(
 
 /// Adds a line for each place, with its outcome after the entries.
 #[tactic(auto, using(crate::proofs::OnTexts::TextLemmas::lines_more))]
-pub(crate) fn push_outcomes(
+fn push_outcomes(
     alloc: Global,
     text: &mut Vec<u8>,
     plan: &Plan,
@@ -402,7 +402,7 @@ fn outcome_of(entry: &Entry) -> Outcome
 }
 
 /// The word of a kind.
-fn kind_word(kind: Kind) -> &'static [u8]
+pub(crate) fn kind_word(kind: Kind) -> &'static [u8]
     ensures { result.now ≡ kind_word kind }
 {
     match kind {
