@@ -207,4 +207,4 @@ pub bound_of_steps_counts : (bound_of_steps three_levels.plan ≡ 19) × (length
 bound_of_steps_counts = (refl, refl)
 
 pub bound_of_steps_is_too_low : IsTooLong bound_of_steps three_levels.plan three_levels.journal
-bound_of_steps_is_too_low = record { legal = three_levels.legal; complete = three_levels.complete; long = omega arith }
+bound_of_steps_is_too_low = record { legal = three_levels.worked.legal; complete = three_levels.worked.complete; long = omega arith }

@@ -9,6 +9,7 @@ use Rattle.caa_base.specs.declared.written.entry.Kind.{Kind}
 use Rattle.caa_base.specs.declared.written.entry.Kind.TheVariants as kind
 use Rattle.caa_base.specs.declared.written.entry.Verdict.TheVariants as verdict
 use Rattle.place_plan.specs.declared.drafts.draft_rows.RoleRow.{RoleRow}
+use Rattle.place_plan.specs.declared.drafts.draft.Draft.{Draft}
 use Rattle.place_plan.specs.Plans.PlanValue.{Plan}
 use Rattle.place_plan.specs.Plans.Bound.{action_bound}
 use Rattle.place_plan.specs.Plans.Places.{parent, roles_of, internal_of, handler_of, abort_row}
@@ -27,8 +28,7 @@ use Rattle.journal_laws.proofs.Phases.{is_open}
 use Rattle.journal_laws.proofs.Frozen.{frozen}
 use Rattle.journal_laws.proofs.InnerFirst.{legal_rest}
 use Rattle.worked_journals.proofs.Notation.{arrive, start, write, raise, resolve, handle, verdict_done, abort_naming, undo, restore_well, end_commit, end_aborted, leave, leave_carrying}
-use Rattle.worked_journals.proofs.Notation.{universal, program, handler, play, inner, least_cover_from, rule_at}
-use Rattle.worked_journals.proofs.Drafts.{draft_of, play_of, UnfoldsInto}
+use Rattle.worked_journals.proofs.Notation.{universal, program, handler, play, inner, played, unfolded, least_cover_from, rule_at, UnfoldsInto}
 use Rattle.worked_journals.proofs.TwoSiblings as two_siblings
 use Rattle.worked_journals.proofs.TwoSiblings.{ann, bob, x, mid, left, right}
 use Rattle.worked_journals.proofs.ThreeLevels as three_levels
@@ -86,13 +86,19 @@ resolves_early k = Row k
 abbrev pub with_right_handler : RoleRow → RoleRow
 with_right_handler role = record role { handlers = handler right (program [] verdict.Done) ∷ role.handlers }
 
-abbrev pub siblings : Plan
-siblings =
-    record two_siblings.plan {
-      actions = (record two_siblings.duo_action { roles = with_right_handler two_siblings.duo_a ∷ with_right_handler two_siblings.duo_b ∷ [] }) ∷ [];
+abbrev pub siblings_draft : Draft
+siblings_draft =
+    record two_siblings.draft {
+      actions =
+          (record two_siblings.duo_action {
+            roles = with_right_handler two_siblings.duo_a ∷ with_right_handler two_siblings.duo_b ∷ [];
+          }) ∷ [];
     }
 
-siblings_unfold : UnfoldsInto (draft_of siblings (play_of 0 (ann ∷ bob ∷ []) ∷ [])) siblings
+abbrev pub siblings : Plan
+siblings = record two_siblings.plan { actions = siblings_draft.actions }
+
+siblings_unfold : UnfoldsInto siblings_draft siblings
 unfolding unfold_at depth_within action_bound
 siblings_unfold = record { whole = refl; same = refl }
 
@@ -201,9 +207,9 @@ mid_n = record three_levels.mid_m { name = codes "n"; body = program [] verdict.
 abbrev pub outer_c : RoleRow
 outer_c = record three_levels.outer_a { name = codes "c" }
 
-abbrev pub levels : Plan
-levels =
-    record three_levels.plan {
+abbrev pub levels_draft : Draft
+levels_draft =
+    record three_levels.draft {
       participants = codes "ann" ∷ codes "bob" ∷ codes "cid" ∷ [];
       actions =
           three_levels.deep_action
@@ -212,13 +218,18 @@ levels =
             roles = three_levels.outer_a ∷ three_levels.outer_b ∷ outer_c ∷ [];
             nests = (record three_levels.outer_n { roles = 0 ∷ 2 ∷ [] }) ∷ [];
           }) ∷ [];
-      places =
-          play 2 (ann ∷ bob ∷ cid ∷ []) ((1 ∷ []) ∷ [])
-          ∷ inner (0 ∷ []) 0 1 (ann ∷ cid ∷ []) ((2 ∷ []) ∷ [])
-          ∷ inner (1 ∷ 0 ∷ []) 0 0 (ann ∷ []) [] ∷ [];
+      plays = played 2 (ann ∷ bob ∷ cid ∷ []) ∷ [];
     }
 
-levels_unfold : UnfoldsInto (draft_of levels (play_of 2 (ann ∷ bob ∷ cid ∷ []) ∷ [])) levels
+abbrev pub levels : Plan
+levels =
+    unfolded levels_draft
+    (play 2 (ann ∷ bob ∷ cid ∷ []) ((1 ∷ []) ∷ [])
+    ∷ inner (0 ∷ []) 0 1 (ann ∷ cid ∷ []) ((2 ∷ []) ∷ [])
+    ∷ inner (1 ∷ 0 ∷ []) 0 0 (ann ∷ []) [] ∷ [])
+    (0 ∷ [])
+
+levels_unfold : UnfoldsInto levels_draft levels
 unfolding unfold_at depth_within action_bound
 levels_unfold = record { whole = refl; same = refl }
 
