@@ -9,11 +9,11 @@ use Rattle.action_manager.specs.contracts.manager.Manager as manager
 use Rattle.action_manager.specs.contracts.seat.Seat as seat
 use Rattle.action_manager.proofs.SeatsCross.{seat_send, manager_sync}
 use Rattle.role_driver.proofs.ClosuresCross.{closure_send}
-use Rattle.role_driver.proofs.crew.start.Lts as lts
-use Rattle.role_driver.proofs.crew.start.Goals as goal
+use Rattle.role_driver.proofs.crew.start_one.Lts as lts
+use Rattle.role_driver.proofs.crew.start_one.Goals as goal
 
-pub spawn_with-requires-send-F : goal.spawn_with-requires-send-F
-spawn_with-requires-send-F g c κs within =
+pub start-requires-send-F : goal.start-requires-send-F
+start-requires-send-F g c κs within =
     let bounds = c.type_bounds in
     param_send 2 (lts.arg-2-2 g.row.E g.row.M g.row.G g.row.R g.E.laws g.M.laws g.G.laws g.R.laws g.M.Machine g.M.Machine-dict g.G.Gate g.G.Gate-dict g.R.Threads g.R.Threads-dict g.R.Wait g.R.Wait-dict κs)
     (arg_send _ denote.Exit.no _ (closure_send _
@@ -25,5 +25,5 @@ spawn_with-requires-send-F g c κs within =
     ∷ [])
     (shr_send (named 6) _ _ bounds.sync-R, (search (sendable, manager_sync), (search (sendable, seat_send), (shr_send _ _ _ flag_crosses.the_sync, (shr_send _ _ _ bounds.sync-G, tt)))))))
 
-pub spawn_with-requires-send-T : goal.spawn_with-requires-send-T
-spawn_with-requires-send-T g c κs within = search (sendable, seat_send)
+pub start-requires-send-T : goal.start-requires-send-T
+start-requires-send-T g c κs within = search (sendable, seat_send)
