@@ -39,7 +39,8 @@ KeepsSeat p r = IsBeside p.seat.value r × (participant_of r ≡ p.participant)
 
 pub seat_back : {M H : Type 0} (base_of : M → ℕ) (manager : Manager M) (promise_of : H → Belongs M) (m : Result H (Seat M)) (r : Seat M)
     → ComesBack promise_of KeepsSeat m r → IsMember base_of manager (λ h. (promise_of h).seat.value) m → IsSeatIn base_of manager r
-seat_back base_of manager promise_of (Ok h) r back member = beside_opened (table_of manager) (terms_in base_of manager) (promise_of h).seat.value r member back.0
+seat_back base_of manager promise_of (Ok h) r back member =
+    beside_opened (table_of manager) (terms_in base_of manager) (promise_of h).seat.value r member back.0
 seat_back base_of manager promise_of (Err s) r back member = subst (IsSeatIn base_of manager) (sym back) member
 
 pub who_back : {M H : Type 0} (promise_of : H → Belongs M) (m : Result H (Seat M)) (r : Seat M)

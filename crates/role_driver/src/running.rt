@@ -66,7 +66,15 @@ fn drive_in_scope<'s, E, M: Machine + Send, G: Gate + Sync, R: Threads + Wait + 
     ensures tasks { map task_of result.1.items ≡ map task_of watch.things.items }
 {
     let posts = post_all(scope, rt, watch.things, watch.started, over);
-    let mut members = start_all(scope, rt, manager, crew.things, crew.started, handed_back, gate);
+    let mut members = start_all(
+        scope,
+        rt,
+        manager,
+        crew.things,
+        crew.started,
+        handed_back,
+        gate,
+    );
     drive_handed_back(rt, manager, &mut members, gate);
     let seats = join_all(rt, members, crew.back);
     raise(over);

@@ -104,7 +104,9 @@ abbrev pub action_round : ℕ → ActionRow
 action_round action = record inner_committed.outer_action { nests = (record inner_committed.outer_n { actions = action ∷ [] }) ∷ [] }
 
 abbrev pub actions_eight_deep : List ActionRow
-actions_eight_deep = inner_committed.inner_action ∷ action_round 0 ∷ action_round 1 ∷ action_round 2 ∷ action_round 3 ∷ action_round 4 ∷ action_round 5 ∷ action_round 6 ∷ []
+actions_eight_deep =
+    inner_committed.inner_action ∷ action_round 0 ∷ action_round 1 ∷ action_round 2 ∷ action_round 3 ∷ action_round
+    4 ∷ action_round 5 ∷ action_round 6 ∷ []
 
 -- nesting goes eight deep at most, and this draft does
 abbrev pub nests_eight_deep : Draft
@@ -116,7 +118,9 @@ nests_eight_deep_is_whole = refl
 
 -- rule 8: nine deep
 abbrev pub nests_nine_deep : Draft
-nests_nine_deep = record inner_committed.draft { actions = actions_eight_deep ++ action_round 7 ∷ []; plays = played 8 (inner_committed.ann ∷ []) ∷ [] }
+nests_nine_deep =
+    record inner_committed.draft
+    { actions = actions_eight_deep ++ action_round 7 ∷ []; plays = played 8 (inner_committed.ann ∷ []) ∷ [] }
 
 nests_nine_deep_breaks : broken_rule nests_nine_deep ≡ Some 8
 unfolding unfold_at depth_within action_bound

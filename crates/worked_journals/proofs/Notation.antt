@@ -244,7 +244,8 @@ least_cover_from order xs x h =
     implied false b h e = absurd (false≢true e)
 
 -- a journal is complete where all its participants are over
-pub complete_from : (plan : Plan) (journal : List Entry) → each_below (length plan.participants) (is_over plan (reverse journal)) ≡ true → IsComplete plan journal
+pub complete_from : (plan : Plan) (journal : List Entry)
+    → each_below (length plan.participants) (is_over plan (reverse journal)) ≡ true → IsComplete plan journal
 complete_from plan journal h = at_below _ _ h
 
 -- each entry has fields that fit its kind
@@ -264,7 +265,8 @@ row_at plan zero (e ∷ past) h = h.1
 row_at plan (suc n) (e ∷ past) h = row_at plan n past h.0
 
 -- the rule that the entry with this index in a legal journal keeps
-pub rule_at : (plan : Plan) (journal : List Entry) (index : ℕ) → IsLegal plan journal → RowAt plan (length journal - suc index) (reverse journal)
+pub rule_at : (plan : Plan) (journal : List Entry) (index : ℕ) → IsLegal plan journal
+    → RowAt plan (length journal - suc index) (reverse journal)
 rule_at plan journal index h = row_at plan _ _ h
 
 -- ---- worked journals

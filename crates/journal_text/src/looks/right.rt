@@ -12,8 +12,8 @@ use crate::looks::seens::{Seen, Seens};
 use caa_base::written::entry::{Entry, Object, OutOfMemory, Place};
 use caa_base::written::journal::Journal;
 use caa_base::written::rows::Rows;
-use place_plan::rules::one_entry::ends_play;
 use place_plan::plans::plan::Plan;
+use place_plan::rules::one_entry::ends_play;
 use std::alloc::{AllocError, Global};
 
 /// The number of the first wrong look, counted from 0; none where all are right.

@@ -243,8 +243,5 @@ pub fn exception_in(plan: &Plan, graph: u32, word: &[u8]) -> Exception
 fn kind_in(word: &[u8]) -> Option<Kind>
     ensures { result ≡ kind_in word.now }
 {
-    KINDS
-        .iter()
-        .copied()
-        .find(|kind| kind_word(*kind) == word)
+    KINDS.iter().copied().find(|kind| kind_word(*kind) == word)
 }

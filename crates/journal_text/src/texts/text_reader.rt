@@ -7,9 +7,9 @@ ghost use Rattle.journal_text.specs.Watching.Looks.{AreOfPlan};
 ghost use Rattle.journal_text.specs.Texts.TextOfJournal.{lines_shared, Reads, ReadsBack, TextsDiffer};
 ghost use Rattle.journal_text.specs.inner.TextSteps.{IsAfter, EntryFound, SeenFound, EntriesRead, SeensRead, StopsEntries, RefusesAfter};
 
-use crate::texts::entry_line::entry_in;
 use crate::looks::seen_line::{may_stand, seen_in};
 use crate::looks::seens::{Seen, Seens};
+use crate::texts::entry_line::entry_in;
 use crate::texts::text_writer::{push_closing, push_entry, push_seen, write_text};
 use caa_base::written::entry::{Entry, OutOfMemory};
 use caa_base::written::journal::Journal;

@@ -11,11 +11,13 @@ ghost use Rattle.journal_text.specs.Watching.Looks.{AreOfPlan};
 
 use crate::looks::seens::{Seen, Seens};
 use crate::texts::values::{last_values, value_found};
-use caa_base::written::entry::{Entry, Exception, Kind, Object, OutOfMemory, Outcome, Place, Verdict};
+use caa_base::written::entry::{
+    Entry, Exception, Kind, Object, OutOfMemory, Outcome, Place, Verdict,
+};
 use caa_base::written::journal::Journal;
 use caa_base::written::line::{end_line, push_number, push_value, push_word};
-use place_plan::rules::one_entry::verdict_at;
 use place_plan::plans::plan::Plan;
+use place_plan::rules::one_entry::verdict_at;
 use std::alloc::{AllocError, Global};
 
 /// The text of a journal: one line for each entry, with the names of the plan, then the value of each object and the outcome of
