@@ -6,7 +6,7 @@ use Rattle.action_manager.specs.declared.lock_view.Terms.{Terms}
 use Rattle.action_manager.specs.declared.housed.Housed.{Housed}
 use Rattle.action_manager.specs.declared.lock_view.View.{View}
 use Rattle.action_manager.specs.declared.seat.Seat.{Seat}
-use Rattle.action_manager.specs.Turns.{held, both_of, Has, Stands}
+use Rattle.action_manager.specs.inner.Turns.{held, both_of, Has, Stands}
 use Rattle.action_manager.specs.OwnEntries.{Journal, entries_by}
 use Rattle.std.proofs.lemmas.Bool.Decides.{nat_tests}
 use Rattle.action_manager.specs.Stepping.{IsAtRest}
@@ -25,7 +25,8 @@ pub all_more : {X : Type 0} (P : X → Type 0) (xs : List X) (x : X) (ys : List 
 all_more P xs x ys is all p = subst (All P) (sym is) (All-append P xs (x ∷ []) all (all_one P x p))
 
 -- the numbers of the elements go on by one
-pub order_more : {X : Type 0} (f : X → ℕ) (xs : List X) (x : X) (ys : List X) (n : ℕ) → ys ≡ xs ++ x ∷ [] → map f xs ≡ range_with_len 0 n → f x ≡ n → map f ys ≡ range_with_len 0 (n + 1)
+pub order_more : {X : Type 0} (f : X → ℕ) (xs : List X) (x : X) (ys : List X) (n : ℕ) → ys ≡ xs ++ x ∷ []
+    → map f xs ≡ range_with_len 0 n → f x ≡ n → map f ys ≡ range_with_len 0 (n + 1)
 order_more f xs x ys n is order next =
     let zero_more : n ≡ 0 + n = omega arith in
     let last : f x ≡ 0 + n = next ∙ zero_more in
@@ -43,20 +44,28 @@ all_split P (y ∷ ys) x all =
     (all_cons P y ys (all 0 y (omega arith)) rest.0, rest.1)
 
 -- the stands of seats, of which the last is popped
-pub stands_popped : {M : Type 0} (old new : List (Seat M)) (s : Seat M) → old ≡ new ++ s ∷ [] → reverse (map stand old) ≡ stand s ∷ reverse (map stand new)
-stands_popped old new s is = ap (λ l. reverse (map stand l)) is ∙ (ap reverse (map-append stand new (s ∷ [])) ∙ reverse-append (map stand new) (stand s ∷ []))
+pub stands_popped : {M : Type 0} (old new : List (Seat M)) (s : Seat M) → old ≡ new ++ s ∷ []
+    → reverse (map stand old) ≡ stand s ∷ reverse (map stand new)
+stands_popped old new s is =
+    ap (λ l. reverse (map stand l)) is
+    ∙ (ap reverse (map-append stand new (s ∷ [])) ∙ reverse-append (map stand new) (stand s ∷ []))
 
 -- whom a seat at rest stands for
 pub held_at_rest : {M : Type 0} (terms : Terms) (m : Me (Option (Housed M)) View) → IsAtRest terms m → held m.0 ≡ (m.0.who, m.0.seen) ∷ []
 held_at_rest terms m rests = ap (λ x. held x.0) rests
 
 -- one seat more was taken in
-pub held_more : {M : Type 0} (terms : Terms) (v : View) (s : Seat M) (old new : List (Seat M)) → v.seated ≡ true → IsAtRest terms s.token.me → old ≡ new ++ s ∷ []
+pub held_more : {M : Type 0} (terms : Terms) (v : View) (s : Seat M) (old new : List (Seat M)) → v.seated ≡ true
+    → IsAtRest terms s.token.me → old ≡ new ++ s ∷ []
     → held (both_of v s.token.me.0) ++ reverse (map stand new) ≡ held v ++ reverse (map stand old)
 held_more terms v s old new seated rests is =
     let w = s.token.me.0 in
-    let both : held (both_of v w) ≡ held v ++ stand s ∷ [] = held_both v w seated (ap (λ x. x.0.seated) rests) ∙ ap (λ l. held v ++ l) (held_at_rest terms s.token.me rests) in
-    ap (λ l. l ++ reverse (map stand new)) both ∙ (append_assoc (held v) (stand s ∷ []) (reverse (map stand new)) ∙ ap (λ l. held v ++ l) (sym (stands_popped old new s is)))
+    let both : held (both_of v w) ≡ held v ++ stand s ∷ [] =
+    held_both v w seated (ap (λ x. x.0.seated) rests)
+    ∙ ap (λ l. held v ++ l) (held_at_rest terms s.token.me rests) in
+    ap (λ l. l ++ reverse (map stand new)) both
+    ∙ (append_assoc (held v) (stand s ∷ []) (reverse (map stand new))
+    ∙ ap (λ l. held v ++ l) (sym (stands_popped old new s is)))
 
 has_left : (t : ℕ) (xs ys : List (ℕ × Journal)) → Has t xs → Has t (xs ++ ys)
 has_left t [] ys h = elim h [ ]
@@ -81,7 +90,9 @@ stands_split book (x ∷ xs) ys h = let r = stands_split book xs ys h.1 in ((h.0
 
 unreverse : (book : Journal) (xs : List (ℕ × Journal)) → Stands book (reverse xs) → Stands book xs
 unreverse book [] h = tt
-unreverse book (x ∷ xs) h = let r = stands_split book (reverse xs) (x ∷ []) (subst (Stands book) (reverse_more x xs) h) in (r.1.0, unreverse book xs r.0)
+unreverse book (x ∷ xs) h = let r =
+    stands_split book (reverse xs) (x ∷ []) (subst (Stands book) (reverse_more x xs) h) in
+    (r.1.0, unreverse book xs r.0)
 
 is_or_has : (b : Bool) (rest : Bool) (t n : ℕ) (X : Type 0) → (n == t) ≡ b → (rest ≡ true → X) → (b || rest) ≡ true → (n ≡ t) ⊎ X
 is_or_has true rest t n X is later there = inl (grind (arith, nat_tests, is))
@@ -94,16 +105,23 @@ has_stand t (s ∷ seats) there = ⊎_elim (λ (e : s.participant ≡ t). inl (s
     (is_or_has (s.participant == t) (has_seat t seats) t s.participant (Has t (map stand seats)) refl (has_stand t seats) there)
 
 -- the seat that took in all others stands for each whose seat is in the list
-pub gathered_has : {M : Type 0} (t : ℕ) (seats rest : List (Seat M)) (last : Seat M) (list : List (ℕ × Journal)) → seats ≡ rest ++ last ∷ [] → list ≡ stand last ∷ reverse (map stand rest)
+pub gathered_has : {M : Type 0} (t : ℕ) (seats rest : List (Seat M)) (last : Seat M) (list : List (ℕ × Journal))
+    → seats ≡ rest ++ last ∷ [] → list ≡ stand last ∷ reverse (map stand rest)
     → has_seat t seats ≡ true → Has t list
-gathered_has t seats rest last list is taken there = subst (Has t) (stands_popped seats rest last is ∙ sym taken) (has_reverse t (map stand seats) (has_stand t seats there))
+gathered_has t seats rest last list is taken there =
+    subst (Has t) (stands_popped seats rest last is ∙ sym taken)
+    (has_reverse t (map stand seats) (has_stand t seats there))
 
 all_account : {M : Type 0} (book : Journal) (seats : List (Seat M)) → Stands book (map stand seats) → All (Accounts book) seats
 all_account book [] h = λ k d low. absurd (omega (arith, low))
 all_account book (s ∷ seats) h = all_cons (Accounts book) s seats
-    record { begins = h.0.0; alone = subst (λ t. entries_by t book ≡ entries_by t (seen_by s)) (sym s.who) h.0.1 } (all_account book seats h.1)
+    record { begins = h.0.0; alone = subst (λ t. entries_by t book ≡ entries_by t (seen_by s)) (sym s.who) h.0.1 }
+    (all_account book seats h.1)
 
 -- what the seat that took in all others stands for is the account of each of them
-pub gathered_account : {M : Type 0} (book : Journal) (seats rest : List (Seat M)) (last : Seat M) (list : List (ℕ × Journal)) → seats ≡ rest ++ last ∷ []
+pub gathered_account : {M : Type 0} (book : Journal) (seats rest : List (Seat M)) (last : Seat M)
+    (list : List (ℕ × Journal)) → seats ≡ rest ++ last ∷ []
     → list ≡ stand last ∷ reverse (map stand rest) → Stands book list → All (Accounts book) seats
-gathered_account book seats rest last list is taken h = all_account book seats (unreverse book (map stand seats) (subst (Stands book) (taken ∙ sym (stands_popped seats rest last is)) h))
+gathered_account book seats rest last list is taken h =
+    all_account book seats (unreverse book (map stand seats)
+    (subst (Stands book) (taken ∙ sym (stands_popped seats rest last is)) h))

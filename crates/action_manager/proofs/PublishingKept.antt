@@ -18,21 +18,23 @@ use Rattle.shared_views.specs.Committing.{Committed}
 use Rattle.action_manager.specs.Publishing.{values_of, publications_of, Publishes}
 
 -- the end of a play adds what it publishes
-one_more : (plan : Plan) (past : List Entry) (e : Entry) → ends_play plan e ≡ true → publications_of plan (e ∷ past) ≡ publications_of plan past ++ values_of plan (e ∷ past) e.place ∷ []
-one_more plan past e is = ap (λ b. if b then publications_of plan past ++ values_of plan (e ∷ past) e.place ∷ [] else publications_of plan past) is
+one_more : (plan : Plan) (past : List Entry) (e : Entry) → ends_play plan e ≡ true
+    → publications_of plan (e ∷ past) ≡ publications_of plan past ++ values_of plan (e ∷ past) e.place ∷ []
+one_more plan past e is =
+    ap (λ b. if b then publications_of plan past
+    ++ values_of plan (e ∷ past) e.place ∷ [] else publications_of plan past) is
 
--- any other entry adds nothing
-none_more : (plan : Plan) (past : List Entry) (e : Entry) → ends_play plan e ≡ false → publications_of plan (e ∷ past) ≡ publications_of plan past
-none_more plan past e other = ap (λ b. if b then publications_of plan past ++ values_of plan (e ∷ past) e.place ∷ [] else publications_of plan past) other
-
-both_grow : {A B : Type 0} (b : Bool) (xs : List A) (ys : List B) (x : A) (y : B) → length xs ≡ length ys → length (if b then xs ++ x ∷ [] else xs) ≡ length (if b then ys ++ y ∷ [] else ys)
+both_grow : {A B : Type 0} (b : Bool) (xs : List A) (ys : List B) (x : A) (y : B) → length xs ≡ length ys
+    → length (if b then xs ++ x ∷ [] else xs) ≡ length (if b then ys ++ y ∷ [] else ys)
 both_grow true xs ys x y same = length-append xs (x ∷ []) ∙ (ap (λ n. n + 1) same ∙ sym (length-append ys (y ∷ [])))
 both_grow false xs ys x y same = same
 
 -- as often was published as plays have ended
 pub as_many : (plan : Plan) (past : List Entry) → length (publications_of plan past) ≡ length (plays_ended plan past)
 as_many plan [] = refl
-as_many plan (e ∷ past) = both_grow (ends_play plan e) (publications_of plan past) (plays_ended plan past) (values_of plan (e ∷ past) e.place) e.place (as_many plan past)
+as_many plan (e ∷ past) =
+    both_grow (ends_play plan e) (publications_of plan past) (plays_ended plan past)
+    (values_of plan (e ∷ past) e.place) e.place (as_many plan past)
 
 no_elements : {A : Type 0} (xs : List A) → length xs ≡ 0 → xs ≡ []
 no_elements [] none = refl
@@ -43,25 +45,41 @@ pub none_published : (plan : Plan) (past : List Entry) → plays_ended plan past
 none_published plan past none = no_elements (publications_of plan past) (as_many plan past ∙ ap length none)
 
 -- a new writer, before any play has ended
-pub publishes_none : (plan : Plan) (past : List Entry) (w : Committed) → plays_ended plan past ≡ [] → w.initials ≡ initials_of plan → w.publications.list ≡ [] → Publishes plan past w
+pub publishes_none : (plan : Plan) (past : List Entry) (w : Committed) → plays_ended plan past ≡ []
+    → w.initials ≡ initials_of plan → w.publications.list ≡ [] → Publishes plan past w
 publishes_none plan past w none initials list =
     let same : w.publications.list ≡ publications_of plan past = list ∙ sym (none_published plan past none) in
-    record { initials = initials; first = subst (IsPrefix w.publications.list) same (begins_itself w.publications.list); all = λ fresh. same }
+    record {
+      initials = initials;
+      first = subst (IsPrefix w.publications.list) same (begins_itself w.publications.list);
+      all = λ fresh. same;
+    }
 
 was_fresh : {X : Type 0} (b : Bool) → (b ≡ true → X) → (X → ⊥) → b ≡ false
 was_fresh true told never = absurd (never (told refl))
 was_fresh false told never = refl
 
 -- the end of a play was published, or no memory was found
-pub an_end : {A E : Type 0} (plan : Plan) (past : List Entry) (e : Entry) (w w' : Committed) (changes : Changes) (r : Result A E) (late : E) → ends_play plan e ≡ true → changes ≡ values_of plan (e ∷ past) e.place
-    → w'.initials ≡ w.initials → MatchResult r (λ _. w'.publications.list ≡ w.publications.list ++ changes ∷ []) (λ _. w'.publications ≡ w.publications) → w'.is_stale ≡ is_err r
+pub an_end : {A E : Type 0} (plan : Plan) (past : List Entry) (e : Entry) (w w' : Committed) (changes : Changes)
+    (r : Result A E) (late : E) → ends_play plan e ≡ true → changes ≡ values_of plan (e ∷ past) e.place
+    → w'.initials ≡ w.initials
+    → MatchResult r (λ _. w'.publications.list ≡ w.publications.list ++ changes ∷ [])
+    (λ _. w'.publications ≡ w.publications) → w'.is_stale ≡ is_err r
     → (w.is_stale ≡ true → r ≡ Err late) → Publishes plan past w → Publishes plan (e ∷ past) w'
 an_end plan past e w w' changes (Ok a) late is same initials list marked stale k =
     let was : w.is_stale ≡ false = was_fresh w.is_stale stale (λ told. true≢false (ap is_err (sym told))) in
-    let all : w'.publications.list ≡ publications_of plan (e ∷ past) = list ∙ (ap (λ l. l ++ changes ∷ []) (k.all was) ∙ (ap (λ c. publications_of plan past ++ c ∷ []) same ∙ sym (one_more plan past e is))) in
-    record { initials = initials ∙ k.initials; first = subst (IsPrefix w'.publications.list) all (begins_itself w'.publications.list); all = λ fresh. all }
+    let all : w'.publications.list ≡ publications_of plan (e ∷ past) =
+    list ∙ (ap (λ l. l ++ changes ∷ []) (k.all was)
+    ∙ (ap (λ c. publications_of plan past ++ c ∷ []) same ∙ sym (one_more plan past e is))) in
+    record {
+      initials = initials ∙ k.initials;
+      first = subst (IsPrefix w'.publications.list) all (begins_itself w'.publications.list);
+      all = λ fresh. all;
+    }
 an_end plan past e w w' changes (Err x) late is same initials list marked stale k =
-    let further = begins_further w.publications.list (publications_of plan past) (publications_of plan (e ∷ past)) k.first (values_of plan (e ∷ past) e.place ∷ [], sym (one_more plan past e is)) in
+    let further =
+    begins_further w.publications.list (publications_of plan past) (publications_of plan (e ∷ past)) k.first
+    (values_of plan (e ∷ past) e.place ∷ [], sym (one_more plan past e is)) in
     record {
       initials = initials ∙ k.initials;
       first = subst (λ (l : Known). IsPrefix l.list (publications_of plan (e ∷ past))) (sym list) further;
@@ -69,15 +87,20 @@ an_end plan past e w w' changes (Err x) late is same initials list marked stale 
     }
 
 -- each object of a place is one of the plan's
-pub object_known : (plan : Plan) → IsClosed plan → (p i d : ℕ) → i < length (objects_of plan p) → get_or (objects_of plan p) i d < length plan.objects
-object_known plan closed p i d low = (is_playable plan closed).objects p (get_or (objects_of plan p) i d) (member_at (objects_of plan p) i d low)
+pub object_known : (plan : Plan) → IsClosed plan → (p i d : ℕ) → i < length (objects_of plan p)
+    → get_or (objects_of plan p) i d < length plan.objects
+object_known plan closed p i d low =
+    (is_playable plan closed).objects p (get_or (objects_of plan p) i d) (member_at (objects_of plan p) i d low)
 
-pub values_known : (plan : Plan) → IsClosed plan → (past : List Entry) (p : ℕ) (initials : List ℤ) → initials ≡ initials_of plan → All (λ c. c.0 < length initials) (values_of plan past p)
+pub values_known : (plan : Plan) → IsClosed plan → (past : List Entry) (p : ℕ) (initials : List ℤ)
+    → initials ≡ initials_of plan → All (λ c. c.0 < length initials) (values_of plan past p)
 values_known plan closed past p initials is =
     let wide : length initials ≡ length plan.objects = ap length is ∙ length-map plan.objects (λ o. o.initial) in
     subst (λ n. All (λ c. c.0 < n) (values_of plan past p)) (sym wide)
-    (All-map (λ (c : ℕ × ℤ). c.0 < length plan.objects) (λ o. (o, value_of plan past o)) (objects_of plan p) (λ k d low. object_known plan closed p k d low))
+    (All-map (λ (c : ℕ × ℤ). c.0 < length plan.objects) (λ o. (o, value_of plan past o)) (objects_of plan p)
+    (λ k d low. object_known plan closed p k d low))
 
 -- one element more
-pub mapped_more : (f : ℕ → ℕ × ℤ) (xs : List ℕ) (i d : ℕ) → i < length xs → map f (take i xs) ++ f (get_or xs i d) ∷ [] ≡ map f (take (i + 1) xs)
+pub mapped_more : (f : ℕ → ℕ × ℤ) (xs : List ℕ) (i d : ℕ) → i < length xs
+    → map f (take i xs) ++ f (get_or xs i d) ∷ [] ≡ map f (take (i + 1) xs)
 mapped_more f xs i d low = sym (ap (map f) (take_more xs i d low) ∙ map-append f (take i xs) (get_or xs i d ∷ []))

@@ -22,14 +22,18 @@ use Rattle.action_manager.proofs.handed.Handed.TheSendSync as handed_crosses
 use Rattle.action_manager.proofs.lock.Lock.TheSendSync as lock_crosses
 
 publishing_send : IsSend (Struct (shape publishing.the_type))
-publishing_send = struct_send (shape publishing.the_type) (writer_crosses.the_send, (search (crosses, sendable) depth 20, (search (crosses, sendable) depth 20, tt)))
+publishing_send =
+    struct_send (shape publishing.the_type)
+    (writer_crosses.the_send, (search (crosses, sendable) depth 20, (search (crosses, sendable) depth 20, tt)))
 
 module _ (M : RattleType) (s : IsSend M) where
   housed_send : IsSend (Struct (shape (housed.the_type M)))
   housed_send = struct_send (shape (housed.the_type M)) (s, (bulletin_send, (publishing_send, tt)))
 
   housed_row_send : IsSend (housed.the_row M)
-  housed_row_send = recorded_send (Struct (shape (housed.the_type M))) (housed.the_type M).D (housed.the_type M).to (housed.the_type M).to_one housed_send
+  housed_row_send =
+      recorded_send (Struct (shape (housed.the_type M))) (housed.the_type M).D (housed.the_type M).to
+      (housed.the_type M).to_one housed_send
 
   pub seat_send : IsSend (Struct (shape (seat.the_type M)))
   seat_send = struct_send (shape (seat.the_type M)) (
@@ -38,9 +42,13 @@ module _ (M : RattleType) (s : IsSend M) where
   )
 
   pub manager_sync : (g : machine.Ghosts M.Denot) → IsSync (Struct (shape (manager.the_type M g)))
-  manager_sync g = struct_sync (shape (manager.the_type M g))
-      (lock_crosses.the_field_sync (housed.the_row M) (home.ghosts M g home.no_dict) housed_row_send, (search sendable, (cells_cross.the_sync, (handed_crosses.the_field_sync, tt))))
+  manager_sync g = struct_sync (shape (manager.the_type M g)) (
+    lock_crosses.the_field_sync (housed.the_row M) (home.ghosts M g home.no_dict) housed_row_send,
+    (search sendable, (cells_cross.the_sync, (handed_crosses.the_field_sync, tt))),
+  )
 
   pub manager_send : (g : machine.Ghosts M.Denot) → IsSend (Struct (shape (manager.the_type M g)))
-  manager_send g = struct_send (shape (manager.the_type M g))
-      (lock_crosses.the_field_send (housed.the_row M) (home.ghosts M g home.no_dict) housed_row_send, (search sendable, (cells_cross.the_send, (handed_crosses.the_field_send, tt))))
+  manager_send g = struct_send (shape (manager.the_type M g)) (
+    lock_crosses.the_field_send (housed.the_row M) (home.ghosts M g home.no_dict) housed_row_send,
+    (search sendable, (cells_cross.the_send, (handed_crosses.the_field_send, tt))),
+  )

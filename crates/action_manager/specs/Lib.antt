@@ -1,11 +1,10 @@
 pub mod OwnEntries
-pub mod Turns
 pub mod Stepping
 pub mod Locks
-pub mod Housed
 pub mod Tidings
 pub mod Seats
 pub mod Openings
 pub mod Managers
 pub mod Publishing
 pub mod PublishingLaw
+pub mod inner

@@ -7,7 +7,7 @@ use Rattle.shared_views.specs.Telling.{cells_of}
 use Rattle.action_manager.specs.declared.lock_view.Terms.{Terms}
 use Rattle.action_manager.specs.declared.manager.Manager.{Manager}
 use Rattle.action_manager.specs.Publishing.{book_of}
-use Rattle.action_manager.specs.Turns.{terms_of}
+use Rattle.action_manager.specs.Stepping.{terms_of}
 use Rattle.action_manager.specs.Locks.{id_of, home_at, plan_at}
 use Rattle.action_manager.specs.Seats.{IsSeatOf}
 use Rattle.action_manager.specs.declared.seat.Seat.{Seat}

@@ -1,8 +1,9 @@
 -- What a seat's turns tell its owner.
-use Rattle.std.specs.Prelude.{◌≡◌, ℕ, [], Option}
+use Rattle.std.specs.Prelude.{◌≡◌, ℕ, true, false, List, [], Option}
 use mathlib.Core.List.{IsPrefix}
 use Rattle.atomic_table.specs.Table.{Me}
 use Rattle.caa_base.specs.Written.Mixing.{Worked}
+use Rattle.logbook.specs.Pages.{Book}
 use Rattle.place_plan.specs.Plans.PlanValue.{Plan}
 use Rattle.place_plan.specs.RulesOfJournals.Journals.{IsLegal}
 use Rattle.place_plan.specs.RulesOfJournals.Machine.{Answers}
@@ -10,7 +11,27 @@ use Rattle.place_plan.specs.declared.rules.machine.Answer.{Answer}
 use Rattle.action_manager.specs.declared.lock_view.Terms.{Terms}
 use Rattle.action_manager.specs.declared.lock_view.View.{View}
 use Rattle.action_manager.specs.OwnEntries.{Journal, entries_by}
-use Rattle.action_manager.specs.Turns.{rested}
+
+-- what a machine keeps to: its plan, its base, the cells of its places and its list of publications
+abbrev pub terms_of : Plan → ℕ → List ℕ → Book → Terms
+terms_of plan base cells book = record { plan = plan; base = base; cells = cells; book = book }
+
+-- a seat of a participant that has no turn, and has seen these entries
+abbrev pub rested : Terms → ℕ → Journal → View
+rested terms who j =
+    record {
+      seated = true;
+      making = false;
+      terms = terms;
+      who = who;
+      next = 0;
+      holds = false;
+      ticket = 0;
+      has_book = false;
+      book = [];
+      seen = j;
+      taken = [];
+    }
 
 -- a seat at the table is at rest: it has no ticket and no book, holds no slot, and has taken in nobody
 abbrev pub IsAtRest : {S : Type 0} → Terms → Me S View → Type 0

@@ -34,8 +34,8 @@ impl<M> Housed<M> {
 
 impl<M: Machine> Home for Housed<M> {
     ghost use Rattle.action_manager.specs.Publishing.{book_of};
-    ghost use Rattle.action_manager.specs.Turns.{terms_of};
-    ghost use Rattle.action_manager.specs.Housed.{IsRight};
+    ghost use Rattle.action_manager.specs.Stepping.{terms_of};
+    ghost use Rattle.action_manager.specs.inner.Housed.{IsRight};
 
     ghost journal = { λ h. M.journal_of h.machine };
 
@@ -46,7 +46,7 @@ impl<M: Machine> Home for Housed<M> {
 
 impl<M: Machine> Housed<M> {
     ghost use Rattle.action_manager.specs.Publishing.{book_of};
-    ghost use Rattle.action_manager.specs.Housed.{IsKept};
+    ghost use Rattle.action_manager.specs.inner.Housed.{IsKept};
     ghost use Rattle.action_manager.specs.Tidings.{TellsAfter};
 
     /// Makes the entry of a participant, and takes it in: it announces a Resolve, and publishes where a play ends.

@@ -1,7 +1,8 @@
 ghost use Rattle.std.specs.Prelude.{◌≡◌, ◌+◌, ◌<◌, ◌^◌, ℕ, [], ◌∷◌, length, true, false, IfOk, IfErr};
 ghost use mathlib.Core.List.{IsPrefix};
 ghost use Rattle.action_manager.specs.OwnEntries.{Grows};
-ghost use Rattle.action_manager.specs.Turns.{rested, maker, both_of, Fits, held, Has, Stands};
+ghost use Rattle.action_manager.specs.inner.Turns.{maker, both_of, Fits, held, Has, Stands};
+ghost use Rattle.action_manager.specs.Stepping.{rested};
 ghost use Rattle.action_manager.specs.Stepping.{IsAtRest, GrowsWithout};
 
 use crate::home::Home;

@@ -6,9 +6,9 @@ ghost use Rattle.action_manager.specs.Publishing.{values_of, Publishes, HasRoom,
 
 use caa_base::written::entry::{Entry, Object, OutOfMemory, Place};
 use journal_laws::is_well_formed;
+use place_plan::plans::plan::Plan;
 use place_plan::rules::machine::Machine;
 use place_plan::rules::one_entry::ends_play;
-use place_plan::plans::plan::Plan;
 use shared_views::{CommittedWriter, Observer};
 use std::alloc::Global;
 use std::sync::Wait;

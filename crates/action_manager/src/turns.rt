@@ -28,7 +28,7 @@ pub struct Turns<H> {
 }
 
 impl<H: Home> TableRule<Option<H>, View, About<H>> for Turns<H> {
-    ghost use Rattle.action_manager.specs.Turns.{Kept, maker};
+    ghost use Rattle.action_manager.specs.inner.Turns.{Kept, maker};
 
     ghost holds = { λ key. Kept (H.terms key.plan.value key.home.value) (H.journal key.home.value) H.right H.journal };
 
@@ -41,7 +41,7 @@ pub struct Draw<H> {
 }
 
 impl<H: Home> Play<Option<H>, View> for Draw<H> {
-    ghost use Rattle.action_manager.specs.Turns.{Drew};
+    ghost use Rattle.action_manager.specs.inner.Turns.{Drew};
 
     ghost then = { Drew };
 }
@@ -52,7 +52,7 @@ pub struct Look<H> {
 }
 
 impl<H: Home> Play<Option<H>, View> for Look<H> {
-    ghost use Rattle.action_manager.specs.Turns.{Looked};
+    ghost use Rattle.action_manager.specs.inner.Turns.{Looked};
 
     ghost then = { Looked H.right H.journal };
 }
@@ -63,7 +63,7 @@ pub struct HandOn<H> {
 }
 
 impl<H: Home> Play<Option<H>, View> for HandOn<H> {
-    ghost use Rattle.action_manager.specs.Turns.{HandedOn};
+    ghost use Rattle.action_manager.specs.inner.Turns.{HandedOn};
 
     ghost then = { HandedOn H.journal };
 }
@@ -73,7 +73,8 @@ pub struct Making;
 
 impl Split<View> for Making {
     ghost use Rattle.std.specs.Prelude.{◌+◌};
-    ghost use Rattle.action_manager.specs.Turns.{rested, maker};
+    ghost use Rattle.action_manager.specs.inner.Turns.{maker};
+    ghost use Rattle.action_manager.specs.Stepping.{rested};
 
     ghost left = { λ v. maker v.terms (v.next + 1) v.seen };
 
@@ -84,7 +85,7 @@ impl Split<View> for Making {
 pub struct TakesIn;
 
 impl Join<View> for TakesIn {
-    ghost use Rattle.action_manager.specs.Turns.{both_of, spent_view};
+    ghost use Rattle.action_manager.specs.inner.Turns.{both_of, spent_view};
 
     ghost both = { both_of };
 

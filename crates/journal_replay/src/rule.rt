@@ -10,7 +10,7 @@ ghost use Rattle.place_plan.specs.RulesOfJournals.Rules.{clamped, abort_of, undo
 ghost use Rattle.place_plan.specs.RulesOfJournals.Journals.{LegalPast, IsLegal, is_put};
 ghost use Rattle.journal_laws.specs.Due.{says, plainly, marked, naming, verdict_entry, due_waiting, due_restore, due_doomed, due_end, due_agreed, due_held, due_step, due_forward, due_handler, due_resolved, due_resolve, due_halted, due_hot, due_calm, due_inside, due_of, as_refused};
 ghost use Rattle.journal_replay.specs.IsDue.{IsDue};
-ghost use Rattle.journal_replay.specs.Duty.{entry_in, IsUnmixed, MixesRight, IsTurn};
+ghost use Rattle.journal_replay.specs.inner.Duty.{entry_in, IsUnmixed, MixesRight, IsTurn};
 
 use crate::answer::Due;
 use crate::duty::{Duty, Turn, Work};

@@ -1,5 +1,4 @@
 -- Lemmas on the text of a journal.
-pub mod Fronts
 pub mod TextLemmas
 pub mod ValueLemmas
 pub mod WordLemmas

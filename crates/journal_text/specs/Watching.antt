@@ -1,4 +1,3 @@
 -- What watchers saw, and whether it is right.
 pub mod Looks
-pub mod CommittedValues
 pub mod Right

@@ -1,7 +1,7 @@
 //! The text of a journal, both ways, and what watchers saw while it was made.
 #![tactic(auto)]
 
+pub mod looks;
 #[cfg(test)]
 mod tests;
 pub mod texts;
-pub mod looks;

@@ -2,9 +2,9 @@ ghost use Rattle.std.specs.Prelude.{◌≡◌, true, IfOk};
 ghost use Rattle.place_plan.specs.RulesOfJournals.WellFormed.{AllWellFormed};
 ghost use Rattle.journal_text.specs.Texts.Naming.{is_well_named};
 
-use crate::texts::naming::is_well_named;
 use crate::looks::right::first_wrong;
 use crate::looks::seens::Seens;
+use crate::texts::naming::is_well_named;
 use crate::texts::text_reader::{TextError, read};
 use crate::texts::text_writer::write;
 use caa_base::written::entry::{Entry, Kind, Participant};

@@ -5,7 +5,7 @@ ghost use Rattle.place_plan.specs.RulesOfJournals.Journals.{IsLegal, IsComplete}
 ghost use Rattle.action_manager.specs.Publishing.{Publishes};
 ghost use Rattle.action_manager.specs.Managers.{plan_in, handed_in, book_in, IsSeatIn};
 ghost use Rattle.action_manager.specs.Seats.{participant_of};
-ghost use Rattle.role_driver.specs.Crew.{IsDone};
+ghost use Rattle.role_driver.specs.inner.Crew.{IsDone};
 
 use crate::driving::drive;
 use action_manager::{Closed, Manager, Seat};

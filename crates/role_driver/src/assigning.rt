@@ -1,6 +1,6 @@
 ghost use Rattle.std.specs.Prelude.{◌≡◌, ◌<◌, [], All, length, map, replicate, vec_capacity};
-ghost use Rattle.role_driver.specs.Watching.{task_of};
-ghost use Rattle.role_driver.specs.WatchRooms.{task_with, observer_of};
+ghost use Rattle.role_driver.specs.inner.Watching.{task_of};
+ghost use Rattle.role_driver.specs.inner.WatchRooms.{task_with, observer_of};
 
 use crate::watch_room::Blank;
 use crate::watcher::Watcher;

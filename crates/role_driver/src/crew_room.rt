@@ -1,42 +1,27 @@
-ghost use Rattle.std.specs.Prelude.{◌≡◌, length, IfOk};
+ghost use Rattle.std.specs.Prelude.{IfOk};
 
-use crate::crew::Member;
+use crate::crew::Belongs;
+use crate::threads::ThreadRoom;
 use action_manager::Seat;
 use std::alloc::{AllocError, Global};
-use std::sync::atomic::AtomicBool;
 
 /// All the memory that the drivers of the seats of a machine need.
 #[derive(Drop)]
 pub struct CrewRoom<M> {
-    pub members: Vec<Member<M>>,
-    pub back: Vec<Seat<M>>,
+    pub threads: ThreadRoom<Seat<M>, Belongs<M>>,
     pub driven: Vec<Seat<M>>,
-    pub handed_back: Vec<AtomicBool>,
-}
-
-/// Flags that aren't raised.
-pub fn lowered_flags(alloc: Global, count: usize) -> Result<Vec<AtomicBool>, AllocError>
-    ensures { IfOk result (λ flags. length flags.items ≡ count) }
-{
-    let mut flags = Vec::new(alloc);
-    for _made in 0..count {
-        flags.push(AtomicBool::new(false))?;
-    }
-    Ok(flags)
 }
 
 impl<M> CrewRoom<M> {
-    ghost use Rattle.role_driver.specs.CrewRooms.{IsRoomForAll};
+    ghost use Rattle.role_driver.specs.inner.CrewRooms.{IsRoomForAll};
 
     /// Takes the memory for so many seats.
     pub fn take(alloc: Global, count: usize) -> Result<CrewRoom<M>, AllocError>
         ensures { IfOk result (λ r. IsRoomForAll count r) }
     {
         Ok(CrewRoom {
-            members: Vec::with_capacity(alloc, count)?,
-            back: Vec::with_capacity(alloc, count)?,
+            threads: ThreadRoom::take(alloc, count)?,
             driven: Vec::with_capacity(alloc, count)?,
-            handed_back: lowered_flags(alloc, count)?,
         })
     }
 }

@@ -10,8 +10,8 @@ ghost use Rattle.action_manager.specs.Seats.{participant_of, seen_by, told_to};
 ghost use Rattle.action_manager.specs.Stepping.{Steps};
 
 use action_manager::{Manager, Seat};
-use caa_base::written::entry::{Entry, Exception, Kind};
 use caa_base::outside::gate::Gate;
+use caa_base::written::entry::{Entry, Exception, Kind};
 use caa_base::written::work::WorkDone;
 use place_plan::rules::machine::{Answer, Machine};
 use std::sync::Wait;

@@ -9,13 +9,15 @@ use crate::crew::go_on;
 use crate::finish::finish;
 use crate::running::{Finished, RunError, run};
 use action_manager::{Closed, Manager, ManagerError, Opened, Seat};
-use caa_base::written::entry::{Exception, Kind, Participant, Place, Verdict};
 use caa_base::outside::gate::{EmptyGate, Gate};
 use caa_base::outside::memory::SurePlant;
+use caa_base::written::entry::{Exception, Kind, Participant, Place, Verdict};
 use journal_replay::hall::PlainHall;
-use place_plan::drafts::draft_rows::{AbortRow, ActionRow, GraphRow, HandlerRow, PlayRow, RoleRow, Step};
-use place_plan::rules::machine::{Answer, Machine};
+use place_plan::drafts::draft_rows::{
+    AbortRow, ActionRow, GraphRow, HandlerRow, PlayRow, RoleRow, Step,
+};
 use place_plan::plans::plan::Plan;
+use place_plan::rules::machine::{Answer, Machine};
 use shared_views::Reading;
 use std::alloc::Global;
 use std::sync::Wait;

@@ -2,8 +2,8 @@ ghost use Rattle.std.specs.Prelude.{◌≡◌, ◌<◌, ◌≤◌, ◌+◌, ◌%
 ghost use Rattle.place_plan.specs.RulesOfJournals.Journals.{IsComplete};
 ghost use Rattle.role_driver.specs.Schedule.{Acts, IsKept, TakesTurn};
 
-use caa_base::written::entry::Participant;
 use caa_base::outside::gate::Gate;
+use caa_base::written::entry::Participant;
 use caa_base::written::work::WorkDone;
 use journal_laws::{at_most_one, goes_on};
 use place_plan::rules::machine::{Answer, Machine};

@@ -1,14 +1,13 @@
 ghost use Rattle.std.specs.Prelude.{◌≡◌, IfOk};
 
-use crate::crew_room::lowered_flags;
-use crate::posts::Post;
+use crate::posts::Returns;
+use crate::threads::ThreadRoom;
 use crate::watcher::Watcher;
 use caa_base::written::entry::{Object, OutOfMemory};
 use journal_text::looks::seens::Seens;
 use place_plan::plans::plan::Plan;
 use shared_views::Reading;
 use std::alloc::{AllocError, Global};
-use std::sync::atomic::AtomicBool;
 
 /// Room for what is read of one object.
 #[derive(Drop)]
@@ -22,15 +21,13 @@ pub struct Blank {
 pub struct WatchRoom {
     pub blanks: Vec<Blank>,
     pub watchers: Vec<Watcher>,
-    pub posts: Vec<Post>,
-    pub back: Vec<Watcher>,
-    pub over: Vec<AtomicBool>,
+    pub threads: ThreadRoom<Watcher, Returns>,
     pub seens: Seens,
 }
 
 impl WatchRoom {
     ghost use Rattle.std.specs.Prelude.{map};
-    ghost use Rattle.role_driver.specs.WatchRooms.{IsRoomFor};
+    ghost use Rattle.role_driver.specs.inner.WatchRooms.{IsRoomFor};
 
     /// A blank for each watch, with room for a reading at each end of a play and one more.
     fn blanks(alloc: Global, plan: &Plan) -> Result<Vec<Blank>, AllocError>
@@ -55,9 +52,7 @@ impl WatchRoom {
         Ok(WatchRoom {
             blanks: WatchRoom::blanks(alloc, plan)?,
             watchers: Vec::with_capacity(alloc, count)?,
-            posts: Vec::with_capacity(alloc, count)?,
-            back: Vec::with_capacity(alloc, count)?,
-            over: lowered_flags(alloc, count)?,
+            threads: ThreadRoom::take(alloc, count)?,
             seens: Seens::with_room(alloc, looks)?,
         })
     }

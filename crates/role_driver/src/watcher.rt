@@ -1,5 +1,5 @@
 ghost use Rattle.std.specs.Prelude.{◌≡◌, ◌<◌, true, nat_lt, length};
-ghost use Rattle.role_driver.specs.Records.{is_record, is_news};
+ghost use Rattle.role_driver.specs.inner.Records.{is_record, is_news};
 
 use caa_base::written::entry::Object;
 use shared_views::{CommittedWriter, Observer, Reading};
@@ -27,8 +27,8 @@ pub struct Watcher {
 impl Watcher {
     ghost use Rattle.shared_views.specs.Publications.{Begins};
     ghost use Rattle.shared_views.specs.Committing.{IsReading};
-    ghost use Rattle.role_driver.specs.Watching.{task_of};
-    ghost use Rattle.role_driver.specs.Gathering.{task_by};
+    ghost use Rattle.role_driver.specs.inner.Watching.{task_of};
+    ghost use Rattle.role_driver.specs.inner.Gathering.{task_by};
 
     /// A watcher that has recorded nothing yet. It records no more than there is room for in the list, which is cleared.
     pub fn new(object: Object, observer: Observer, mut seen: Vec<Reading>) -> Watcher

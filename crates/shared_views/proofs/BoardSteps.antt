@@ -8,7 +8,7 @@ use lib.ListN.{get_elem?}
 use Rattle.crossbeam_utils.specs.Register.{Admits, TurnsAt, Forks, Merges}
 use Rattle.atomic_table.proofs.Lists.{at_set, at_snoc}
 use Rattle.shared_views.specs.Publications.{Changes, Known, Begins, given_after, last_given}
-use Rattle.shared_views.specs.Boards.{shown, row_after, shown_after, IsRight, Fits, Keeps, Sees, Follows}
+use Rattle.shared_views.specs.inner.Boards.{shown, row_after, shown_after, IsRight, Fits, Keeps, Sees, Follows}
 use Rattle.shared_views.specs.declared.board.Board.{Board}
 use Rattle.shared_views.specs.declared.board.Publication.{Publication}
 use Rattle.shared_views.specs.declared.board.View.{View}
@@ -25,7 +25,8 @@ some_on before after None more f = f
 some_on before after (Some k) more f = known_further k before after f more
 
 -- after a step in which one view changes, and publications come at most
-each_fits : (before after : Known) (views : List View) (seat : ℕ) (w : View) → Begins before after → Fits after w → ((j : ℕ) (u : View) → get_elem? views j ≡ some u → Fits before u)
+each_fits : (before after : Known) (views : List View) (seat : ℕ) (w : View) → Begins before after → Fits after w
+    → ((j : ℕ) (u : View) → get_elem? views j ≡ some u → Fits before u)
     → (j : ℕ) (u : View) → get_elem? (set views seat w) j ≡ some u → Fits after u
 each_fits before after views seat w more mine others j u e = ⊎_elim (λ (t : (j ≡ seat) × (w ≡ u)). subst (Fits after) t.1 mine)
     (λ (t : (j ≢ seat) × (get_elem? views j ≡ some u)). some_on before after u.known more (others j u t.1)) (at_set views seat j w u e)
@@ -54,24 +55,33 @@ forks seat v x views k at =
     let mine = k.each seat v at in
     record {
       right = k.right;
-      each = λ j u e. ⊎_elim (each_fits _ _ views seat v (known_itself x.publications) mine k.each j u) (λ same. subst (Fits x.publications) same mine) (at_snoc (set views seat v) v u j e);
+      each =
+          λ j u e. ⊎_elim (each_fits _ _ views seat v (known_itself x.publications) mine k.each j u)
+          (λ same. subst (Fits x.publications) same mine) (at_snoc (set views seat v) v u j e);
     }
 
 pub merges : (seat : ℕ) (v : View) (other : ℕ) (w : View) → Merges Keeps seat v other w w (record { known = None })
 merges seat v other w x views k at apart there =
     let all : Known = x.publications in
-    let its : Fits all w = ⊎_elim (λ (t : (other ≡ seat) × (w ≡ w)). absurd (apart t.0)) (λ (t : (other ≢ seat) × (get_elem? views other ≡ some w)). k.each other w t.1) (at_set views seat other w w there) in
+    let its : Fits all w =
+    ⊎_elim (λ (t : (other ≡ seat) × (w ≡ w)). absurd (apart t.0))
+    (λ (t : (other ≢ seat) × (get_elem? views other ≡ some w)). k.each other w t.1)
+    (at_set views seat other w w there) in
     record {
       right = k.right;
-      each = each_fits all all (set views seat w) other (record { known = None }) (known_itself all) tt (each_fits all all views seat w (known_itself all) its k.each);
+      each =
+          each_fits all all (set views seat w) other (record { known = None }) (known_itself all) tt
+          (each_fits all all views seat w (known_itself all) its k.each);
     }
 
 -- one change of an object that the row has
-one_change : (row : List (Option ℤ)) (c : ℕ × ℤ) (o : ℕ) → c.0 < length row → get_or (row_after row c) o None ≡ given_after o (get_or row o None) c
+one_change : (row : List (Option ℤ)) (c : ℕ × ℤ) (o : ℕ) → c.0 < length row
+    → get_or (row_after row c) o None ≡ given_after o (get_or row o None) c
 one_change row c o low = elim (cases_order o c.0) [
   | inl same ↦
       let is : (c.0 == o) ≡ true = grind (arith, nat_tests) in
-      (ap (λ i. get_or (row_after row c) i None) same ∙ get_or-set_same row c.0 (Some c.1) None low) ∙ ap (λ b. if b then Some c.1 else get_or row o None) (sym is)
+      (ap (λ i. get_or (row_after row c) i None) same ∙ get_or-set_same row c.0 (Some c.1) None low)
+      ∙ ap (λ b. if b then Some c.1 else get_or row o None) (sym is)
   | inr other ↦
       let far : o ≢ c.0 = λ same. elim other [ inl below ↦ omega (arith, below, same) | inr above ↦ omega (arith, above, same) ] in
       let is : (c.0 == o) ≡ false = grind (arith, nat_tests, far) in
@@ -79,9 +89,11 @@ one_change row c o low = elim (cases_order o c.0) [
 ]
 
 -- what the row has of an object after all changes
-all_changes : (n : ℕ) (row : List (Option ℤ)) (changes : Changes) (o : ℕ) → length row ≡ n → All (λ c. c.0 < n) changes → get_or (fold row_after row changes) o None ≡ fold (given_after o) (get_or row o None) changes
+all_changes : (n : ℕ) (row : List (Option ℤ)) (changes : Changes) (o : ℕ) → length row ≡ n → All (λ c. c.0 < n) changes
+    → get_or (fold row_after row changes) o None ≡ fold (given_after o) (get_or row o None) changes
 all_changes n row [] o wide low = refl
-all_changes n row (c ∷ cs) o wide low = all_changes n (row_after row c) cs o (length-set row c.0 (Some c.1) ∙ wide) (λ k d h. low (suc k) d (suc-le-suc h))
+all_changes n row (c ∷ cs) o wide low =
+    all_changes n (row_after row c) cs o (length-set row c.0 (Some c.1) ∙ wide) (λ k d h. low (suc k) d (suc-le-suc h))
     ∙ ap (λ b. fold (given_after o) b cs) (one_change row c o (subst (λ m. c.0 < m) (sym wide) (low 0 c (omega arith))))
 
 wide_still : (row : List (Option ℤ)) (changes : Changes) → length (fold row_after row changes) ≡ length row
@@ -101,7 +113,9 @@ publishes n x y p right wide low more is =
     let row : y.given.items ≡ fold row_after x.given.items changes = ap (λ s. s.0) is in
     let now : y.publications ≡ p.publications = ap (λ s. s.1) is in
     record {
-      right = λ o. (ap (λ r. get_or r o None) row ∙ (all_changes n x.given.items changes o wide low ∙ ap (λ b. fold (given_after o) b changes) (right o)))
+      right =
+          λ o. (ap (λ r. get_or r o None) row
+          ∙ (all_changes n x.given.items changes o wide low ∙ ap (λ b. fold (given_after o) b changes) (right o)))
           ∙ sym (ap (last_given o) (ap (λ k. k.list) now ∙ more) ∙ fold-append (fold (given_after o)) None all (changes ∷ []));
       wide = ap length row ∙ wide_still x.given.items changes;
       all = now;
@@ -113,11 +127,15 @@ same_right x y right is o = ap (λ s. get_or s.0 o None) is ∙ (right o ∙ sym
 
 -- nothing was published
 pub stays : (seat : ℕ) (v : View) (x y : Board) → IsRight x → shown y ≡ shown x → TurnsAt Keeps seat v x y Sees
-stays seat v x y right is = moves seat v x y (same_right x y right is) (subst (Begins x.publications) (sym (ap (λ s. s.1) is)) (known_itself x.publications))
+stays seat v x y right is =
+    moves seat v x y (same_right x y right is)
+    (subst (Begins x.publications) (sym (ap (λ s. s.1) is)) (known_itself x.publications))
 
 -- what waits to be shown is one publication
-pub shows_next : (x y : Board) (p : Publication) (waiting : List Publication) → IsRight x → waiting ≡ p ∷ [] → Follows x p → shown y ≡ fold shown_after (shown x) waiting → Publishes x y p
-shows_next x y p waiting right one f is = publishes (length x.given.items) x y p right refl f.low f.more (is ∙ ap (fold shown_after (shown x)) one)
+pub shows_next : (x y : Board) (p : Publication) (waiting : List Publication) → IsRight x → waiting ≡ p ∷ []
+    → Follows x p → shown y ≡ fold shown_after (shown x) waiting → Publishes x y p
+shows_next x y p waiting right one f is =
+    publishes (length x.given.items) x y p right refl f.low f.more (is ∙ ap (fold shown_after (shown x)) one)
 
 pub goes_on : (seat : ℕ) (v : View) (x y : Board) (p : Publication) → Follows x p → Publishes x y p → TurnsAt Keeps seat v x y Sees
 goes_on seat v x y p f b =

@@ -6,15 +6,17 @@ use mathlib.Core.List.{IsPrefix}
 use prog.Atomic.{either}
 use Rattle.logbook.specs.Pages.{Cell, cell, keeps, no_nib, step, Moves, Goes}
 use Rattle.shared_views.specs.Publications.{Changes}
-use Rattle.shared_views.specs.Chronicles.{IsCounted, Adds}
+use Rattle.shared_views.specs.inner.Chronicles.{IsCounted, Adds}
 use Rattle.shared_views.proofs.Beginnings.{whole_beginning}
 
 adds_goes : (list v : List Changes) (e : Changes) (old : ℕ) → length v ≡ old → IsPrefix v list → (b : Bool) → (length list == old) ≡ b
-    → Goes IsCounted (λ l. []) (λ xs ys (n : ℕ). Unit {0}) 0 (v, (no_nib, None)) (λ n. either (n == old) (old + 1) n) (Adds (step 0 old (old + 1) e) (v, (no_nib, None))) ((length list, true) ∷ (0, true) ∷ []) list
+    → Goes IsCounted (λ l. []) (λ xs ys (n : ℕ). Unit {0}) 0 (v, (no_nib, None)) (λ n. either (n == old) (old + 1) n)
+    (Adds (step 0 old (old + 1) e) (v, (no_nib, None))) ((length list, true) ∷ (0, true) ∷ []) list
 adds_goes list v e old len pre true is =
     let here : length list ≡ old = grind (arith, nat_tests) in
     let same : v ≡ list = whole_beginning v list pre (omega arith) in
-    let n : either (length list == old) (old + 1) (length list) ≡ length (list ++ e ∷ []) = rw is (omega (arith, length-append list (e ∷ []))) in (
+    let n : either (length list == old) (old + 1) (length list) ≡ length (list ++ e ∷ []) =
+    rw is (omega (arith, length-append list (e ∷ []))) in (
       keeps,
       e ∷ [],
       None,
@@ -37,8 +39,10 @@ adds_goes list v e old len pre false is =
 
 -- whatever the list is, the exchange adds the publication to all that was reached, or finds that the list is longer
 pub adds_moves : (v : List Changes) (e : Changes) (old : ℕ) → length v ≡ old
-    → Moves IsCounted (λ l. []) (λ xs ys (n : ℕ). Unit {0}) 0 (v, (no_nib, None)) (λ n. either (n == old) (old + 1) n) (Adds (step 0 old (old + 1) e) (v, (no_nib, None)))
+    → Moves IsCounted (λ l. []) (λ xs ys (n : ℕ). Unit {0}) 0 (v, (no_nib, None)) (λ n. either (n == old) (old + 1) n)
+    (Adds (step 0 old (old + 1) e) (v, (no_nib, None)))
 adds_moves v e old len cs list kept pre away =
     let P : List Cell → Type 0 = λ c. (0 < length c) × ((cell c 0).1 ≡ true)
-    × Goes IsCounted (λ l. []) (λ xs ys (n : ℕ). Unit {0}) 0 (v, (no_nib, None)) (λ n. either (n == old) (old + 1) n) (Adds (step 0 old (old + 1) e) (v, (no_nib, None))) c list in
+    × Goes IsCounted (λ l. []) (λ xs ys (n : ℕ). Unit {0}) 0 (v, (no_nib, None)) (λ n. either (n == old) (old + 1) n)
+    (Adds (step 0 old (old + 1) e) (v, (no_nib, None))) c list in
     subst P (sym kept) (omega arith, refl, adds_goes list v e old len pre (length list == old) refl)

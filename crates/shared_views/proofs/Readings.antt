@@ -11,10 +11,12 @@ was_read initials all o r is =
     let low : length all.list ≤ r.ends = le_of_eq (sym is.ends) in
     record { ends = le_of_eq is.ends; value = is.value ∙ ap (λ l. value_after initials l o) (sym (take_all r.ends all.list low)) }
 
-pub still_read : (initials : List ℤ) (before after : Known) (o : ℕ) (r : Reading) → Begins before after → WasRead initials before o r → WasRead initials after o r
+pub still_read : (initials : List ℤ) (before after : Known) (o : ℕ) (r : Reading) → Begins before after
+    → WasRead initials before o r → WasRead initials after o r
 still_read initials before after o r begins was =
     let rest = begins.list.0 in
-    let all : take r.ends after.list ≡ take r.ends before.list = ap (take r.ends) (sym begins.list.1) ∙ take-append-le r.ends before.list rest was.ends in
+    let all : take r.ends after.list ≡ take r.ends before.list =
+    ap (take r.ends) (sym begins.list.1) ∙ take-append-le r.ends before.list rest was.ends in
     record {
       ends = omega (arith, was.ends, beginning_length before.list after.list begins.list);
       value = was.value ∙ ap (λ l. value_after initials l o) (sym all);

@@ -12,4 +12,8 @@ told_send = search rules
 
 -- field by field, which a search doesn't reach in one go
 pub bulletin_send : IsSend (Struct (shape bulletin.the_type))
-bulletin_send = struct_send (shape bulletin.the_type) (search (crosses, sendable) depth 20, (search (crosses, sendable, told_send) depth 20, (search (crosses, sendable) depth 20, tt)))
+bulletin_send =
+    struct_send (shape bulletin.the_type) (
+      search (crosses, sendable) depth 20,
+      (search (crosses, sendable, told_send) depth 20, (search (crosses, sendable) depth 20, tt)),
+    )

@@ -1,6 +1,6 @@
 //! What observers read while the writer goes on, and the rule by which they read it.
 ghost use Rattle.std.specs.Prelude.{◌≡◌, ◌<◌, fold, length, replicate, IfOk, None};
-ghost use Rattle.shared_views.specs.Boards.{row_after};
+ghost use Rattle.shared_views.specs.inner.Boards.{row_after};
 
 use crate::observed::Reading;
 use crate::publications::Publications;
@@ -30,7 +30,7 @@ pub struct View {
 }
 
 impl Board {
-    ghost use Rattle.shared_views.specs.Boards.{IsRight};
+    ghost use Rattle.shared_views.specs.inner.Boards.{IsRight};
     ghost use Rattle.shared_views.specs.Committing.{IsReading};
 
     /// A board of this many objects, on which nothing was published.
@@ -83,7 +83,7 @@ fn give(given: &mut Vec<Option<i64>>, changes: &[(Object, i64)])
 }
 
 impl Absorb<Publication> for Board {
-    ghost use Rattle.shared_views.specs.Boards.{shown, shown_after};
+    ghost use Rattle.shared_views.specs.inner.Boards.{shown, shown_after};
 
     type State = ([Option<i64>; 0], Publications);
 
@@ -105,7 +105,7 @@ pub struct Published;
 
 impl Protocol<Board, View> for Published {
     ghost use Rattle.std.specs.Prelude.{None};
-    ghost use Rattle.shared_views.specs.Boards.{Keeps};
+    ghost use Rattle.shared_views.specs.inner.Boards.{Keeps};
 
     ghost holds = { Keeps };
 
@@ -116,7 +116,7 @@ impl Protocol<Board, View> for Published {
 pub struct Looks;
 
 impl Outcome<Board, View> for Looks {
-    ghost use Rattle.shared_views.specs.Boards.{Sees};
+    ghost use Rattle.shared_views.specs.inner.Boards.{Sees};
 
     ghost then = { Sees };
 }

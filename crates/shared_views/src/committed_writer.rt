@@ -1,6 +1,6 @@
 ghost use Rattle.std.specs.Prelude.{◌≡◌, ◌<◌, ◌∷◌, ◌++◌, [], true, false, All, length, replicate, drop, None, Some, IfOk, MatchResult};
 ghost use Rattle.left_right.specs.Sides.{view};
-ghost use Rattle.shared_views.specs.Boards.{IsRight, Follows};
+ghost use Rattle.shared_views.specs.inner.Boards.{IsRight, Follows};
 ghost use Rattle.shared_views.specs.Committing.{Committed, watching, IsReading};
 ghost use Rattle.place_plan.specs.Plans.Places.{initials_of};
 
@@ -41,7 +41,7 @@ pub struct CommittedWriter {
 
 impl Model for CommittedWriter {
     ghost use Rattle.shared_views.specs.Committing.{Committed};
-    ghost use Rattle.shared_views.specs.Seating.{committed, IsInOrder};
+    ghost use Rattle.shared_views.specs.inner.Seating.{committed, IsInOrder};
 
     ghost Value = { Committed };
 

@@ -1,6 +1,6 @@
 ghost use Rattle.std.specs.Prelude.{◌≡◌, ◌<◌, ◌⊎◌, length, replicate, Some, IfSome, IfNone, IfOk, IfErr};
 ghost use Rattle.left_right.specs.Sides.{view};
-ghost use Rattle.shared_views.specs.Boards.{IsRight};
+ghost use Rattle.shared_views.specs.inner.Boards.{IsRight};
 ghost use Rattle.shared_views.specs.Publications.{Begins};
 ghost use Rattle.shared_views.specs.Committing.{Watching, IsReading};
 
@@ -28,7 +28,7 @@ pub struct Observer {
 
 impl Model for Observer {
     ghost use Rattle.shared_views.specs.Committing.{Watching};
-    ghost use Rattle.shared_views.specs.Seating.{watching_view, IsPlaced};
+    ghost use Rattle.shared_views.specs.inner.Seating.{watching_view, IsPlaced};
 
     ghost Value = { Watching };
 

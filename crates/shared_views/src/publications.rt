@@ -1,6 +1,6 @@
 ghost use Rattle.std.specs.Prelude.{◌≡◌, nat_lt, if◌then◌else◌, [], ◌∷◌, ◌++◌, length, MatchBool};
 ghost use mathlib.Core.List.{IsPrefix};
-ghost use Rattle.shared_views.specs.Chronicles.{head_of};
+ghost use Rattle.shared_views.specs.inner.Chronicles.{head_of};
 ghost use Rattle.shared_views.specs.Publications.{Begins};
 
 use caa_base::written::entry::Object;
@@ -16,7 +16,7 @@ pub struct Chronicle;
 impl Rule<Changes, u64> for Chronicle {
     ghost use Rattle.std.specs.Prelude.{[]};
     ghost use base.Fml.{ftrue};
-    ghost use Rattle.shared_views.specs.Chronicles.{IsCounted};
+    ghost use Rattle.shared_views.specs.inner.Chronicles.{IsCounted};
 
     ghost holds = { λ cells list. IsCounted cells list };
 
@@ -44,7 +44,7 @@ impl Gain<Changes, u64> for Nothing {
 pub struct Add;
 
 impl Play<Changes, u64> for Add {
-    ghost use Rattle.shared_views.specs.Chronicles.{Adds};
+    ghost use Rattle.shared_views.specs.inner.Chronicles.{Adds};
 
     ghost then = { Adds };
 }

@@ -1,23 +1,25 @@
 -- The first action of a use fails, since a restore is refused: the second is not entered, and the failure is carried out.
 --
 -- The script: that of the journal with alternates, with the line "drill x 2" after "object x 1".
-use Rattle.std.proofs.Common.{◌≡◌, pos, List, [], ◌∷◌, reverse, refl, rules}
-use Rattle.cover_table.specs.Cover.{IsLeastCover}
+use Rattle.std.proofs.Common.{◌≡◌, pos, List, [], ◌∷◌, refl, rules}
 use Rattle.caa_base.specs.declared.written.entry.Entry.{Entry}
-use Rattle.place_plan.specs.Plans.PlanValue.{Plan}
-use Rattle.place_plan.specs.Plans.Places.{internal_of}
-use Rattle.place_plan.specs.RulesOfJournals.Objects.{value_of}
-use Rattle.place_plan.specs.RulesOfJournals.Journals.{IsLegal, IsComplete, puts_of}
+use Rattle.cover_table.specs.Cover.{IsLeastCover}
 use Rattle.place_plan.specs.RulesOfJournals.Attempts.{attempts_on}
-use Rattle.place_plan.specs.Plans.Bound.{bound, action_bound}
-use Rattle.worked_journals.proofs.Notation.{arrive, start, write, resolve, verdict_undo, undo, restore_well, restore_failed, end_undone, end_failed, leave, leave_carrying}
-use Rattle.worked_journals.proofs.Notation.{universal}
-use Rattle.worked_journals.proofs.Notation.{least_cover_from, complete_from, AreWellFormed}
+use Rattle.place_plan.specs.Plans.Bound.{action_bound}
+use Rattle.place_plan.specs.Drafts.DraftRules.{depth_within}
+use Rattle.place_plan.specs.Plans.Places.{internal_of}
+use Rattle.place_plan.specs.Plans.PlanValue.{Plan}
+use Rattle.place_plan.specs.Plans.Unfolding.{unfold_at}
+use Rattle.place_plan.specs.declared.drafts.draft.Draft.{Draft}
+use Rattle.worked_journals.proofs.Notation.{arrive, start, write, resolve, verdict_undo, undo, restore_well, restore_failed, end_undone, end_failed, leave, leave_carrying, universal, drill, least_cover_from, complete_from, IsWorked}
 use Rattle.worked_journals.proofs.Alternates as alternates
 use Rattle.worked_journals.proofs.Alternates.{ann, x}
 
+abbrev pub draft : Draft
+draft = record alternates.draft { drills = drill x 2 ∷ [] }
+
 abbrev pub plan : Plan
-plan = record alternates.plan { drills = (record { object = x; nth = 2 }) ∷ [] }
+plan = record alternates.plan { drills = draft.drills }
 
 -- ---- the journal
 
@@ -45,29 +47,21 @@ journal =
 pub universal_is_least : IsLeastCover (internal_of plan 0) (universal ∷ []) universal
 universal_is_least = least_cover_from _ _ _ refl
 
-pub legal : IsLegal plan journal
-legal = assumption (universal_is_least)
-
-pub complete : IsComplete plan journal
-complete = complete_from plan journal refl
-
--- what the objects hold at the end
-pub values : value_of plan (reverse journal) x ≡ pos 1
-values = refl
-
--- the puts that the device took
-pub puts : puts_of journal ≡ (x, pos 5) ∷ (x, pos 1) ∷ []
-puts = refl
+pub worked : IsWorked draft plan journal
+    (pos 1 ∷ [])
+    ((x, pos 5) ∷ (x, pos 1) ∷ [])
+    43
+unfolding unfold_at depth_within action_bound
+worked = record {
+  unfolds = record { whole = refl; same = refl };
+  legal = assumption (universal_is_least);
+  complete = complete_from plan journal refl;
+  well_formed = search rules;
+  leaves = refl;
+  taken = refl;
+  bounded = refl;
+}
 
 -- the device was asked three times, and refused the second
 pub attempts : attempts_on journal x ≡ write 1 ann x 5 ∷ restore_failed 1 ann x 1 ∷ restore_well 0 ann x 1 ∷ []
 attempts = refl
-
--- each entry has fields that fit its kind
-pub well_formed : AreWellFormed plan journal
-well_formed = search rules
-
--- how many entries a journal of the plan may have
-pub bounded : bound plan ≡ 43
-unfolding action_bound
-bounded = refl

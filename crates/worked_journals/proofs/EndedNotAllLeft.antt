@@ -4,27 +4,25 @@
 --   participant ann / participant bob / object x 0 / graph g / exception stop / end / action inner / use x / roles
 --   p q / body p / put x 5 / end / action outer / internal g / use x / roles a b / nest n inner a b / body a /
 --   enter n / raise stop / body b / enter n / handler a stop / handler b stop / end / play outer ann bob
-use Rattle.std.proofs.Common.{◌≡◌, ℕ, ℤ, pos, List, [], ◌∷◌, reverse, refl, codes, rules}
-use Rattle.cover_table.specs.Cover.{IsLeastCover}
+use Rattle.std.proofs.Common.{◌≡◌, ℕ, pos, List, [], ◌∷◌, refl, codes, rules}
 use Rattle.caa_base.specs.declared.written.entry.Entry.{Entry}
 use Rattle.caa_base.specs.declared.written.entry.Verdict.TheVariants as verdict
+use Rattle.cover_table.specs.Cover.{IsLeastCover}
+use Rattle.place_plan.specs.Plans.Bound.{action_bound}
+use Rattle.place_plan.specs.Drafts.DraftRules.{depth_within}
+use Rattle.place_plan.specs.Plans.Places.{internal_of}
+use Rattle.place_plan.specs.Plans.PlanValue.{Plan}
+use Rattle.place_plan.specs.Plans.Unfolding.{unfold_at}
+use Rattle.place_plan.specs.declared.drafts.draft.Draft.{Draft}
 use Rattle.place_plan.specs.declared.drafts.draft_rows.AbortRow.TheVariants as abort
-use Rattle.place_plan.specs.declared.drafts.draft_rows.GraphRow.{GraphRow}
 use Rattle.place_plan.specs.declared.drafts.draft_rows.ActionRow.{ActionRow}
+use Rattle.place_plan.specs.declared.drafts.draft_rows.GraphRow.{GraphRow}
 use Rattle.place_plan.specs.declared.drafts.draft_rows.NestRow.{NestRow}
 use Rattle.place_plan.specs.declared.drafts.draft_rows.RoleRow.{RoleRow}
 use Rattle.place_plan.specs.declared.drafts.draft_rows.Step.TheVariants as step
-use Rattle.place_plan.specs.Plans.PlanValue.{Plan}
-use Rattle.place_plan.specs.Plans.Places.{internal_of}
-use Rattle.place_plan.specs.RulesOfJournals.Objects.{value_of}
-use Rattle.place_plan.specs.RulesOfJournals.Journals.{IsLegal, IsComplete, puts_of}
-use Rattle.journal_laws.specs.Laws.{last_write, is_kept}
-use Rattle.place_plan.specs.Plans.Bound.{bound, action_bound}
-use Rattle.worked_journals.proofs.Notation.{plain_graph, arrive, start, write, raise, inform, resolve, handle, verdict_done, end_commit, leave}
-use Rattle.worked_journals.proofs.Notation.{universal, graph, object, program, handler, play, inner}
-use Rattle.worked_journals.proofs.Notation.{least_cover_from, complete_from, AreWellFormed}
+use Rattle.worked_journals.proofs.Notation.{plain_graph, arrive, start, write, raise, inform, resolve, handle, verdict_done, end_commit, leave, universal, graph, object, program, handler, role, nest, action, played, unfolded, play, inner, least_cover_from, complete_from, kept_value, IsWorked}
 
--- ---- the plan
+-- ---- the draft and its unfolding
 
 abbrev pub ann : ℕ
 ann = 0
@@ -48,90 +46,54 @@ g_graph =
     ∷ [])
 
 abbrev pub inner_p : RoleRow
-inner_p =
-    record {
-      name = codes "p";
-      body = program (step.Put x (pos 5) ∷ []) verdict.Done;
-      handlers = [];
-      abort = abort.Never;
-    }
+inner_p = role (codes "p") (program (step.Put x (pos 5) ∷ []) verdict.Done) [] abort.Never
 
 abbrev pub inner_q : RoleRow
-inner_q =
-    record {
-      name = codes "q";
-      body = program [] verdict.Done;
-      handlers = [];
-      abort = abort.Never;
-    }
+inner_q = role (codes "q") (program [] verdict.Done) [] abort.Never
 
 abbrev pub inner_action : ActionRow
-inner_action =
-    record {
-      name = codes "inner";
-      internal = 0;
-      interface = 0;
-      fault = universal;
-      objects = x ∷ [];
-      roles = inner_p ∷ inner_q ∷ [];
-      nests = [];
-    }
+inner_action = action (codes "inner") (x ∷ []) (inner_p ∷ inner_q ∷ []) []
 
 abbrev pub outer_a : RoleRow
 outer_a =
-    record {
-      name = codes "a";
-      body = program (step.Enter 0 ∷ step.Raise stop ∷ []) verdict.Done;
-      handlers = handler stop (program [] verdict.Done) ∷ [];
-      abort = abort.Never;
-    }
+    role
+    (codes "a")
+    (program (step.Enter 0 ∷ step.Raise stop ∷ []) verdict.Done)
+    (handler stop (program [] verdict.Done) ∷ [])
+    abort.Never
 
 abbrev pub outer_b : RoleRow
 outer_b =
-    record {
-      name = codes "b";
-      body = program (step.Enter 0 ∷ []) verdict.Done;
-      handlers = handler stop (program [] verdict.Done) ∷ [];
-      abort = abort.Never;
-    }
+    role
+    (codes "b")
+    (program (step.Enter 0 ∷ []) verdict.Done)
+    (handler stop (program [] verdict.Done) ∷ [])
+    abort.Never
 
 abbrev pub outer_n : NestRow
-outer_n =
-    record {
-      name = codes "n";
-      actions = 0 ∷ [];
-      roles = 0 ∷ 1 ∷ [];
-      maps = universal ∷ [];
-      undo = universal;
-      failure = universal;
-    }
+outer_n = nest (codes "n") (0 ∷ []) (0 ∷ 1 ∷ []) (universal ∷ [])
 
 abbrev pub outer_action : ActionRow
-outer_action =
-    record {
-      name = codes "outer";
-      internal = 1;
-      interface = 0;
-      fault = universal;
-      objects = x ∷ [];
-      roles = outer_a ∷ outer_b ∷ [];
-      nests = outer_n ∷ [];
-    }
+outer_action = record (action (codes "outer") (x ∷ []) (outer_a ∷ outer_b ∷ []) (outer_n ∷ [])) { internal = 1 }
 
-abbrev pub plan : Plan
-plan =
+abbrev pub draft : Draft
+draft =
     record {
       participants = codes "ann" ∷ codes "bob" ∷ [];
       objects = object (codes "x") 0 ∷ [];
       graphs = plain_graph ∷ g_graph ∷ [];
       actions = inner_action ∷ outer_action ∷ [];
-      places =
-          play 1 (ann ∷ bob ∷ []) ((1 ∷ []) ∷ [])
-          ∷ inner (0 ∷ []) 0 0 (ann ∷ bob ∷ []) [] ∷ [];
-      plays = 0 ∷ [];
+      plays = played 1 (ann ∷ bob ∷ []) ∷ [];
       drills = [];
       watches = [];
     }
+
+abbrev pub plan : Plan
+plan =
+    unfolded draft
+    (play 1 (ann ∷ bob ∷ []) ((1 ∷ []) ∷ [])
+    ∷ inner (0 ∷ []) 0 0 (ann ∷ bob ∷ []) [] ∷ [])
+    (0 ∷ [])
 
 -- ---- the journal
 
@@ -165,32 +127,20 @@ journal =
 pub stop_is_least : IsLeastCover (internal_of plan 0) (stop ∷ []) stop
 stop_is_least = least_cover_from _ _ _ refl
 
-pub legal : IsLegal plan journal
-legal = assumption (stop_is_least)
+pub worked : IsWorked draft plan journal
+    (pos 5 ∷ [])
+    ((x, pos 5) ∷ [])
+    48
+unfolding unfold_at depth_within action_bound
+worked = record {
+  unfolds = record { whole = refl; same = refl };
+  legal = assumption (stop_is_least);
+  complete = complete_from plan journal refl;
+  well_formed = search rules;
+  leaves = refl;
+  taken = refl;
+  bounded = refl;
+}
 
-pub complete : IsComplete plan journal
-complete = complete_from plan journal refl
-
--- what the objects hold at the end
-pub values : value_of plan (reverse journal) x ≡ pos 5
-values = refl
-
--- the puts that the device took
-pub puts : puts_of journal ≡ (x, pos 5) ∷ []
-puts = refl
-
--- each entry has fields that fit its kind
-pub well_formed : AreWellFormed plan journal
-well_formed = search rules
-
--- what the places leave that ended, with all round them, by commit or signal
-abbrev kept_value : ℕ → ℤ
-kept_value o = last_write plan (reverse journal) o (λ e. is_kept plan (reverse journal) e.place)
-
-pub kept_values : kept_value x ≡ pos 5
+pub kept_values : kept_value plan journal x ≡ pos 5
 kept_values = refl
-
--- how many entries a journal of the plan may have
-pub bounded : bound plan ≡ 48
-unfolding action_bound
-bounded = refl

@@ -3,24 +3,22 @@
 -- The script:
 --   participant ann / participant bob / object x 5 / action look / use x / roles a b / body a / read x / body b /
 --   work 2 / end / play look ann bob
-use Rattle.std.proofs.Common.{◌≡◌, ℕ, ℤ, pos, List, [], ◌∷◌, reverse, refl, codes, rules}
+use Rattle.std.proofs.Common.{◌≡◌, ℕ, pos, List, [], ◌∷◌, refl, codes, rules}
 use Rattle.caa_base.specs.Written.Mixing.{mix, state_after}
 use Rattle.caa_base.specs.declared.written.entry.Entry.{Entry}
 use Rattle.caa_base.specs.declared.written.entry.Verdict.TheVariants as verdict
+use Rattle.place_plan.specs.Plans.Bound.{action_bound}
+use Rattle.place_plan.specs.Drafts.DraftRules.{depth_within}
+use Rattle.place_plan.specs.Plans.PlanValue.{Plan}
+use Rattle.place_plan.specs.Plans.Unfolding.{unfold_at}
+use Rattle.place_plan.specs.declared.drafts.draft.Draft.{Draft}
 use Rattle.place_plan.specs.declared.drafts.draft_rows.AbortRow.TheVariants as abort
 use Rattle.place_plan.specs.declared.drafts.draft_rows.ActionRow.{ActionRow}
 use Rattle.place_plan.specs.declared.drafts.draft_rows.RoleRow.{RoleRow}
 use Rattle.place_plan.specs.declared.drafts.draft_rows.Step.TheVariants as step
-use Rattle.place_plan.specs.Plans.PlanValue.{Plan}
-use Rattle.place_plan.specs.RulesOfJournals.Objects.{value_of}
-use Rattle.place_plan.specs.RulesOfJournals.Journals.{IsLegal, IsComplete, puts_of}
-use Rattle.journal_laws.specs.Laws.{last_write, is_kept}
-use Rattle.place_plan.specs.Plans.Bound.{bound, action_bound}
-use Rattle.worked_journals.proofs.Notation.{plain_graph, arrive, start, read, work, verdict_done, end_commit, leave}
-use Rattle.worked_journals.proofs.Notation.{universal, object, program, play}
-use Rattle.worked_journals.proofs.Notation.{complete_from, AreWellFormed}
+use Rattle.worked_journals.proofs.Notation.{plain_graph, arrive, start, read, work, verdict_done, end_commit, leave, object, program, role, action, played, unfolded, play, complete_from, kept_value, IsWorked}
 
--- ---- the plan
+-- ---- the draft and its unfolding
 
 abbrev pub ann : ℕ
 ann = 0
@@ -32,47 +30,31 @@ abbrev pub x : ℕ
 x = 0
 
 abbrev pub look_a : RoleRow
-look_a =
-    record {
-      name = codes "a";
-      body = program (step.Read x ∷ []) verdict.Done;
-      handlers = [];
-      abort = abort.Never;
-    }
+look_a = role (codes "a") (program (step.Read x ∷ []) verdict.Done) [] abort.Never
 
 abbrev pub look_b : RoleRow
-look_b =
-    record {
-      name = codes "b";
-      body = program (step.Work 2 ∷ []) verdict.Done;
-      handlers = [];
-      abort = abort.Never;
-    }
+look_b = role (codes "b") (program (step.Work 2 ∷ []) verdict.Done) [] abort.Never
 
 abbrev pub look_action : ActionRow
-look_action =
-    record {
-      name = codes "look";
-      internal = 0;
-      interface = 0;
-      fault = universal;
-      objects = x ∷ [];
-      roles = look_a ∷ look_b ∷ [];
-      nests = [];
-    }
+look_action = action (codes "look") (x ∷ []) (look_a ∷ look_b ∷ []) []
 
-abbrev pub plan : Plan
-plan =
+abbrev pub draft : Draft
+draft =
     record {
       participants = codes "ann" ∷ codes "bob" ∷ [];
       objects = object (codes "x") 5 ∷ [];
       graphs = plain_graph ∷ [];
       actions = look_action ∷ [];
-      places = play 0 (ann ∷ bob ∷ []) [] ∷ [];
-      plays = 0 ∷ [];
+      plays = played 0 (ann ∷ bob ∷ []) ∷ [];
       drills = [];
       watches = [];
     }
+
+abbrev pub plan : Plan
+plan =
+    unfolded draft
+    (play 0 (ann ∷ bob ∷ []) [] ∷ [])
+    (0 ∷ [])
 
 -- ---- the journal
 
@@ -95,32 +77,20 @@ pub mixed : pos 1406932606 ≡ mix (pos 0) 2
 unfolding state_after
 mixed = refl
 
-pub legal : IsLegal plan journal
-legal = assumption (mixed)
+pub worked : IsWorked draft plan journal
+    (pos 5 ∷ [])
+    []
+    23
+unfolding unfold_at depth_within action_bound
+worked = record {
+  unfolds = record { whole = refl; same = refl };
+  legal = assumption (mixed);
+  complete = complete_from plan journal refl;
+  well_formed = search rules;
+  leaves = refl;
+  taken = refl;
+  bounded = refl;
+}
 
-pub complete : IsComplete plan journal
-complete = complete_from plan journal refl
-
--- what the objects hold at the end
-pub values : value_of plan (reverse journal) x ≡ pos 5
-values = refl
-
--- the puts that the device took
-pub puts : puts_of journal ≡ []
-puts = refl
-
--- each entry has fields that fit its kind
-pub well_formed : AreWellFormed plan journal
-well_formed = search rules
-
--- what the places leave that ended, with all round them, by commit or signal
-abbrev kept_value : ℕ → ℤ
-kept_value o = last_write plan (reverse journal) o (λ e. is_kept plan (reverse journal) e.place)
-
-pub kept_values : kept_value x ≡ pos 5
+pub kept_values : kept_value plan journal x ≡ pos 5
 kept_values = refl
-
--- how many entries a journal of the plan may have
-pub bounded : bound plan ≡ 23
-unfolding action_bound
-bounded = refl

@@ -1,13 +1,19 @@
 -- Words in which worked plans and journals are written, and what computing shows of them.
-use Rattle.std.proofs.Common.{◌≡◌, ℕ, pos, ◌+◌, ◌-◌, ◌^◌, ◌<◌, Bool, true, false, not, ◌&&◌, ◌||◌, List, [], ◌∷◌, length, map, reverse, zero, suc, arith, below_more}
-use Rattle.std.specs.Prelude.{nat_lt, codes}
+use Rattle.std.proofs.Common.{◌≡◌, ℕ, ℤ, pos, ◌+◌, ◌-◌, ◌^◌, ◌<◌, Bool, true, false, not, ◌&&◌, ◌||◌, List, [], ◌∷◌, length, map, reverse, zero, suc, arith, below_more}
+use Rattle.std.specs.Prelude.{nat_lt, codes, None}
+use Rattle.std.specs.List.{range_with_len}
 use Rattle.std.proofs.lemmas.Bool.{and_parts, false≢true, ltb-true}
 use Rattle.cover_table.specs.Cover.{CoverOrder, IsLeastCover, covers, covers_each}
 use Rattle.caa_base.specs.declared.written.entry.Entry.{Entry}
 use Rattle.caa_base.specs.declared.written.entry.Kind.{Kind}
 use Rattle.caa_base.specs.declared.written.entry.Kind.TheVariants as kind
 use Rattle.caa_base.specs.declared.written.entry.Verdict.{Verdict}
+use Rattle.caa_base.specs.declared.written.entry.Drill.{Drill}
+use Rattle.place_plan.specs.declared.drafts.draft.Draft.{Draft}
+use Rattle.place_plan.specs.declared.drafts.draft_rows.ActionRow.{ActionRow}
 use Rattle.place_plan.specs.declared.drafts.draft_rows.GraphRow.{GraphRow}
+use Rattle.place_plan.specs.declared.drafts.draft_rows.NestRow.{NestRow}
+use Rattle.place_plan.specs.declared.drafts.draft_rows.PlayRow.{PlayRow}
 use Rattle.place_plan.specs.declared.drafts.draft_rows.ObjectRow.{ObjectRow}
 use Rattle.place_plan.specs.declared.drafts.draft_rows.PlaceRow.{PlaceRow}
 use Rattle.place_plan.specs.declared.drafts.draft_rows.RoleRow.{RoleRow}
@@ -16,10 +22,15 @@ use Rattle.place_plan.specs.declared.drafts.draft_rows.Program.{Program}
 use Rattle.place_plan.specs.declared.drafts.draft_rows.Step.{Step}
 use Rattle.place_plan.specs.declared.drafts.draft_rows.AbortRow.{AbortRow}
 use Rattle.place_plan.specs.Plans.PlanValue.{Plan}
+use Rattle.place_plan.specs.Plans.Bound.{bound}
+use Rattle.place_plan.specs.Drafts.DraftRules.{broken_rule}
+use Rattle.place_plan.specs.RulesOfJournals.Objects.{value_of}
+use Rattle.place_plan.specs.Plans.Unfolding.{plan_of}
 use Rattle.place_plan.specs.RulesOfJournals.Roles.{is_over}
 use Rattle.place_plan.specs.RulesOfJournals.Rules.{MayFollow}
 use Rattle.place_plan.specs.RulesOfJournals.WellFormed.{IsWellFormed}
-use Rattle.place_plan.specs.RulesOfJournals.Journals.{LegalPast, IsLegal, IsComplete}
+use Rattle.place_plan.specs.RulesOfJournals.Journals.{LegalPast, IsLegal, IsComplete, puts_of}
+use Rattle.journal_laws.specs.Laws.{last_write, is_kept}
 
 -- ---- graphs
 
@@ -151,6 +162,46 @@ handler exception program = record { exception = exception; program = program }
 abbrev pub role : List ℕ → Program → List HandlerRow → AbortRow → RoleRow
 role name body handlers abort = record { name = name; body = body; handlers = handlers; abort = abort }
 
+-- a nested use of these actions by these roles, with what each exception of theirs is outside; undo and failure are `universal`
+abbrev pub nest : List ℕ → List ℕ → List ℕ → List ℕ → NestRow
+nest name actions roles maps =
+    record { name = name; actions = actions; roles = roles; maps = maps; undo = universal; failure = universal }
+
+-- an action that raises exceptions of graph 0, tells those of graph 0 outside, and raises `universal` at a refused put
+abbrev pub action : List ℕ → List ℕ → List RoleRow → List NestRow → ActionRow
+action name objects roles nests =
+    record {
+      name = name;
+      internal = 0;
+      interface = 0;
+      fault = universal;
+      objects = objects;
+      roles = roles;
+      nests = nests;
+    }
+
+-- the device refuses the nth put of this object
+abbrev pub drill : ℕ → ℕ → Drill
+drill object nth = record { object = object; nth = nth }
+
+-- who plays the roles of an action
+abbrev pub played : ℕ → List ℕ → PlayRow
+played action who = record { action = action; who = who }
+
+-- the plan that has the parts of a draft, with these places, of which these are plays
+abbrev pub unfolded : Draft → List PlaceRow → List ℕ → Plan
+unfolded draft places plays =
+    record {
+      participants = draft.participants;
+      objects = draft.objects;
+      graphs = draft.graphs;
+      actions = draft.actions;
+      places = places;
+      plays = plays;
+      drills = draft.drills;
+      watches = draft.watches;
+    }
+
 -- a play of an action: who plays its roles, and the places of its nested uses, of each those of its alternates
 abbrev pub play : ℕ → List ℕ → List (List ℕ) → PlaceRow
 play action roles children = record { around = []; nest = 0; action = action; roles = roles; children = children }
@@ -193,7 +244,8 @@ least_cover_from order xs x h =
     implied false b h e = absurd (false≢true e)
 
 -- a journal is complete where all its participants are over
-pub complete_from : (plan : Plan) (journal : List Entry) → each_below (length plan.participants) (is_over plan (reverse journal)) ≡ true → IsComplete plan journal
+pub complete_from : (plan : Plan) (journal : List Entry)
+    → each_below (length plan.participants) (is_over plan (reverse journal)) ≡ true → IsComplete plan journal
 complete_from plan journal h = at_below _ _ h
 
 -- each entry has fields that fit its kind
@@ -213,5 +265,33 @@ row_at plan zero (e ∷ past) h = h.1
 row_at plan (suc n) (e ∷ past) h = row_at plan n past h.0
 
 -- the rule that the entry with this index in a legal journal keeps
-pub rule_at : (plan : Plan) (journal : List Entry) (index : ℕ) → IsLegal plan journal → RowAt plan (length journal - suc index) (reverse journal)
+pub rule_at : (plan : Plan) (journal : List Entry) (index : ℕ) → IsLegal plan journal
+    → RowAt plan (length journal - suc index) (reverse journal)
 rule_at plan journal index h = row_at plan _ _ h
+
+-- ---- worked journals
+
+-- the draft breaks no rule, and unfolds into the plan
+pub record UnfoldsInto (draft : Draft) (plan : Plan) : Type 0 where
+  pub whole : broken_rule draft ≡ None
+  pub same : plan_of draft ≡ plan
+
+-- the value of each object at the end
+abbrev pub values_after : Plan → List Entry → List ℤ
+values_after plan journal = map (value_of plan (reverse journal)) (range_with_len 0 (length plan.objects))
+
+-- the value of an object that the places leave that ended, with all round them, by commit or signal
+abbrev pub kept_value : Plan → List Entry → ℕ → ℤ
+kept_value plan journal o = last_write plan (reverse journal) o (λ e. is_kept plan (reverse journal) e.place)
+
+-- what is shown of each journal that was worked out: it is a legal and complete one of the unfolding of this draft, its entries
+-- are well formed, it leaves these values, the device took these puts, and a journal of this plan has no more than so many entries
+pub record IsWorked (draft : Draft) (plan : Plan) (journal : List Entry)
+    (values : List ℤ) (puts : List (ℕ × ℤ)) (most : ℕ) : Type 0 where
+  pub unfolds : UnfoldsInto draft plan
+  pub legal : IsLegal plan journal
+  pub complete : IsComplete plan journal
+  pub well_formed : AreWellFormed plan journal
+  pub leaves : values_after plan journal ≡ values
+  pub taken : puts_of journal ≡ puts
+  pub bounded : bound plan ≡ most

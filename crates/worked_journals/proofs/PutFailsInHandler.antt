@@ -4,26 +4,24 @@
 --   participant ann / object x 0 / drill x 3 / drill x 4 / graph g / exception broken / end / action tri /
 --   internal g / fault broken / use x / roles r / body r / put x 1 / put x 2 / put x 3 / handler r broken / put x
 --   4 / end / play tri ann
-use Rattle.std.proofs.Common.{◌≡◌, ℕ, ℤ, pos, List, [], ◌∷◌, reverse, refl, codes, rules}
-use Rattle.cover_table.specs.Cover.{IsLeastCover}
+use Rattle.std.proofs.Common.{◌≡◌, ℕ, pos, List, [], ◌∷◌, refl, codes, rules}
 use Rattle.caa_base.specs.declared.written.entry.Entry.{Entry}
 use Rattle.caa_base.specs.declared.written.entry.Verdict.TheVariants as verdict
+use Rattle.cover_table.specs.Cover.{IsLeastCover}
+use Rattle.place_plan.specs.Plans.Bound.{action_bound}
+use Rattle.place_plan.specs.Drafts.DraftRules.{depth_within}
+use Rattle.place_plan.specs.Plans.Places.{internal_of}
+use Rattle.place_plan.specs.Plans.PlanValue.{Plan}
+use Rattle.place_plan.specs.Plans.Unfolding.{unfold_at}
+use Rattle.place_plan.specs.declared.drafts.draft.Draft.{Draft}
 use Rattle.place_plan.specs.declared.drafts.draft_rows.AbortRow.TheVariants as abort
-use Rattle.place_plan.specs.declared.drafts.draft_rows.GraphRow.{GraphRow}
 use Rattle.place_plan.specs.declared.drafts.draft_rows.ActionRow.{ActionRow}
+use Rattle.place_plan.specs.declared.drafts.draft_rows.GraphRow.{GraphRow}
 use Rattle.place_plan.specs.declared.drafts.draft_rows.RoleRow.{RoleRow}
 use Rattle.place_plan.specs.declared.drafts.draft_rows.Step.TheVariants as step
-use Rattle.place_plan.specs.Plans.PlanValue.{Plan}
-use Rattle.place_plan.specs.Plans.Places.{internal_of}
-use Rattle.place_plan.specs.RulesOfJournals.Objects.{value_of}
-use Rattle.place_plan.specs.RulesOfJournals.Journals.{IsLegal, IsComplete, puts_of}
-use Rattle.journal_laws.specs.Laws.{last_write, is_kept}
-use Rattle.place_plan.specs.Plans.Bound.{bound, action_bound}
-use Rattle.worked_journals.proofs.Notation.{plain_graph, arrive, start, write, put_fault, resolve, handle, verdict_undo, undo, restore_well, end_undone, leave}
-use Rattle.worked_journals.proofs.Notation.{universal, graph, object, program, handler, play}
-use Rattle.worked_journals.proofs.Notation.{least_cover_from, complete_from, AreWellFormed}
+use Rattle.worked_journals.proofs.Notation.{plain_graph, arrive, start, write, put_fault, resolve, handle, verdict_undo, undo, restore_well, end_undone, leave, universal, graph, object, program, handler, role, action, drill, played, unfolded, play, least_cover_from, complete_from, kept_value, IsWorked}
 
--- ---- the plan
+-- ---- the draft and its unfolding
 
 abbrev pub ann : ℕ
 ann = 0
@@ -45,37 +43,32 @@ g_graph =
 
 abbrev pub tri_r : RoleRow
 tri_r =
-    record {
-      name = codes "r";
-      body = program (step.Put x (pos 1) ∷ step.Put x (pos 2) ∷ step.Put x (pos 3) ∷ []) verdict.Done;
-      handlers = handler broken (program (step.Put x (pos 4) ∷ []) verdict.Done) ∷ [];
-      abort = abort.Never;
-    }
+    role
+    (codes "r")
+    (program (step.Put x (pos 1) ∷ step.Put x (pos 2) ∷ step.Put x (pos 3) ∷ []) verdict.Done)
+    (handler broken (program (step.Put x (pos 4) ∷ []) verdict.Done) ∷ [])
+    abort.Never
 
 abbrev pub tri_action : ActionRow
-tri_action =
-    record {
-      name = codes "tri";
-      internal = 1;
-      interface = 0;
-      fault = broken;
-      objects = x ∷ [];
-      roles = tri_r ∷ [];
-      nests = [];
-    }
+tri_action = record (action (codes "tri") (x ∷ []) (tri_r ∷ []) []) { internal = 1; fault = broken }
 
-abbrev pub plan : Plan
-plan =
+abbrev pub draft : Draft
+draft =
     record {
       participants = codes "ann" ∷ [];
       objects = object (codes "x") 0 ∷ [];
       graphs = plain_graph ∷ g_graph ∷ [];
       actions = tri_action ∷ [];
-      places = play 0 (ann ∷ []) [] ∷ [];
-      plays = 0 ∷ [];
-      drills = (record { object = x; nth = 3 }) ∷ (record { object = x; nth = 4 }) ∷ [];
+      plays = played 0 (ann ∷ []) ∷ [];
+      drills = drill x 3 ∷ drill x 4 ∷ [];
       watches = [];
     }
+
+abbrev pub plan : Plan
+plan =
+    unfolded draft
+    (play 0 (ann ∷ []) [] ∷ [])
+    (0 ∷ [])
 
 -- ---- the journal
 
@@ -100,32 +93,20 @@ journal =
 pub broken_is_least : IsLeastCover (internal_of plan 0) (broken ∷ []) broken
 broken_is_least = least_cover_from _ _ _ refl
 
-pub legal : IsLegal plan journal
-legal = assumption (broken_is_least)
+pub worked : IsWorked draft plan journal
+    (pos 0 ∷ [])
+    ((x, pos 1) ∷ (x, pos 2) ∷ (x, pos 0) ∷ [])
+    17
+unfolding unfold_at depth_within action_bound
+worked = record {
+  unfolds = record { whole = refl; same = refl };
+  legal = assumption (broken_is_least);
+  complete = complete_from plan journal refl;
+  well_formed = search rules;
+  leaves = refl;
+  taken = refl;
+  bounded = refl;
+}
 
-pub complete : IsComplete plan journal
-complete = complete_from plan journal refl
-
--- what the objects hold at the end
-pub values : value_of plan (reverse journal) x ≡ pos 0
-values = refl
-
--- the puts that the device took
-pub puts : puts_of journal ≡ (x, pos 1) ∷ (x, pos 2) ∷ (x, pos 0) ∷ []
-puts = refl
-
--- each entry has fields that fit its kind
-pub well_formed : AreWellFormed plan journal
-well_formed = search rules
-
--- what the places leave that ended, with all round them, by commit or signal
-abbrev kept_value : ℕ → ℤ
-kept_value o = last_write plan (reverse journal) o (λ e. is_kept plan (reverse journal) e.place)
-
-pub kept_values : kept_value x ≡ pos 0
+pub kept_values : kept_value plan journal x ≡ pos 0
 kept_values = refl
-
--- how many entries a journal of the plan may have
-pub bounded : bound plan ≡ 17
-unfolding action_bound
-bounded = refl

@@ -5,26 +5,24 @@
 --   exception right / exception far / cover mid left / cover mid right / end / action duo / internal tree / use x
 --   y / roles a b / body a / raise left / body b / raise left / handler a mid / put x 1 / handler b mid / put y 2
 --   / end / play duo ann bob
-use Rattle.std.proofs.Common.{◌≡◌, ℕ, ℤ, pos, List, [], ◌∷◌, reverse, refl, codes, rules}
-use Rattle.cover_table.specs.Cover.{IsLeastCover}
+use Rattle.std.proofs.Common.{◌≡◌, ℕ, pos, List, [], ◌∷◌, refl, codes, rules}
 use Rattle.caa_base.specs.declared.written.entry.Entry.{Entry}
 use Rattle.caa_base.specs.declared.written.entry.Verdict.TheVariants as verdict
+use Rattle.cover_table.specs.Cover.{IsLeastCover}
+use Rattle.place_plan.specs.Plans.Bound.{action_bound}
+use Rattle.place_plan.specs.Drafts.DraftRules.{depth_within}
+use Rattle.place_plan.specs.Plans.Places.{internal_of}
+use Rattle.place_plan.specs.Plans.PlanValue.{Plan}
+use Rattle.place_plan.specs.Plans.Unfolding.{unfold_at}
+use Rattle.place_plan.specs.declared.drafts.draft.Draft.{Draft}
 use Rattle.place_plan.specs.declared.drafts.draft_rows.AbortRow.TheVariants as abort
-use Rattle.place_plan.specs.declared.drafts.draft_rows.GraphRow.{GraphRow}
 use Rattle.place_plan.specs.declared.drafts.draft_rows.ActionRow.{ActionRow}
+use Rattle.place_plan.specs.declared.drafts.draft_rows.GraphRow.{GraphRow}
 use Rattle.place_plan.specs.declared.drafts.draft_rows.RoleRow.{RoleRow}
 use Rattle.place_plan.specs.declared.drafts.draft_rows.Step.TheVariants as step
-use Rattle.place_plan.specs.Plans.PlanValue.{Plan}
-use Rattle.place_plan.specs.Plans.Places.{internal_of}
-use Rattle.place_plan.specs.RulesOfJournals.Objects.{value_of}
-use Rattle.place_plan.specs.RulesOfJournals.Journals.{IsLegal, IsComplete, puts_of}
-use Rattle.journal_laws.specs.Laws.{last_write, is_kept}
-use Rattle.place_plan.specs.Plans.Bound.{bound, action_bound}
-use Rattle.worked_journals.proofs.Notation.{plain_graph, arrive, start, raise, resolve, verdict_undo, undo, restore_well, end_undone, leave}
-use Rattle.worked_journals.proofs.Notation.{universal, graph, object, program, handler, play}
-use Rattle.worked_journals.proofs.Notation.{least_cover_from, complete_from, AreWellFormed}
+use Rattle.worked_journals.proofs.Notation.{plain_graph, arrive, start, raise, resolve, verdict_undo, undo, restore_well, end_undone, leave, universal, graph, object, program, handler, role, action, played, unfolded, play, least_cover_from, complete_from, kept_value, IsWorked}
 
--- ---- the plan
+-- ---- the draft and its unfolding
 
 abbrev pub ann : ℕ
 ann = 0
@@ -64,46 +62,40 @@ tree_graph =
 
 abbrev pub duo_a : RoleRow
 duo_a =
-    record {
-      name = codes "a";
-      body = program (step.Raise left ∷ []) verdict.Done;
-      handlers = handler mid (program (step.Put x (pos 1) ∷ []) verdict.Done) ∷ [];
-      abort = abort.Never;
-    }
+    role
+    (codes "a")
+    (program (step.Raise left ∷ []) verdict.Done)
+    (handler mid (program (step.Put x (pos 1) ∷ []) verdict.Done) ∷ [])
+    abort.Never
 
 abbrev pub duo_b : RoleRow
 duo_b =
-    record {
-      name = codes "b";
-      body = program (step.Raise left ∷ []) verdict.Done;
-      handlers = handler mid (program (step.Put y (pos 2) ∷ []) verdict.Done) ∷ [];
-      abort = abort.Never;
-    }
+    role
+    (codes "b")
+    (program (step.Raise left ∷ []) verdict.Done)
+    (handler mid (program (step.Put y (pos 2) ∷ []) verdict.Done) ∷ [])
+    abort.Never
 
 abbrev pub duo_action : ActionRow
-duo_action =
-    record {
-      name = codes "duo";
-      internal = 1;
-      interface = 0;
-      fault = universal;
-      objects = x ∷ y ∷ [];
-      roles = duo_a ∷ duo_b ∷ [];
-      nests = [];
-    }
+duo_action = record (action (codes "duo") (x ∷ y ∷ []) (duo_a ∷ duo_b ∷ []) []) { internal = 1 }
 
-abbrev pub plan : Plan
-plan =
+abbrev pub draft : Draft
+draft =
     record {
       participants = codes "ann" ∷ codes "bob" ∷ [];
       objects = object (codes "x") 5 ∷ object (codes "y") 0 ∷ [];
       graphs = plain_graph ∷ tree_graph ∷ [];
       actions = duo_action ∷ [];
-      places = play 0 (ann ∷ bob ∷ []) [] ∷ [];
-      plays = 0 ∷ [];
+      plays = played 0 (ann ∷ bob ∷ []) ∷ [];
       drills = [];
       watches = [];
     }
+
+abbrev pub plan : Plan
+plan =
+    unfolded draft
+    (play 0 (ann ∷ bob ∷ []) [] ∷ [])
+    (0 ∷ [])
 
 -- ---- the journal
 
@@ -129,32 +121,20 @@ journal =
 pub left_is_least : IsLeastCover (internal_of plan 0) (left ∷ left ∷ []) left
 left_is_least = least_cover_from _ _ _ refl
 
-pub legal : IsLegal plan journal
-legal = assumption (left_is_least)
+pub worked : IsWorked draft plan journal
+    (pos 5 ∷ pos 0 ∷ [])
+    ((x, pos 5) ∷ (y, pos 0) ∷ [])
+    26
+unfolding unfold_at depth_within action_bound
+worked = record {
+  unfolds = record { whole = refl; same = refl };
+  legal = assumption (left_is_least);
+  complete = complete_from plan journal refl;
+  well_formed = search rules;
+  leaves = refl;
+  taken = refl;
+  bounded = refl;
+}
 
-pub complete : IsComplete plan journal
-complete = complete_from plan journal refl
-
--- what the objects hold at the end
-pub values : (value_of plan (reverse journal) x ≡ pos 5) × (value_of plan (reverse journal) y ≡ pos 0)
-values = (refl, refl)
-
--- the puts that the device took
-pub puts : puts_of journal ≡ (x, pos 5) ∷ (y, pos 0) ∷ []
-puts = refl
-
--- each entry has fields that fit its kind
-pub well_formed : AreWellFormed plan journal
-well_formed = search rules
-
--- what the places leave that ended, with all round them, by commit or signal
-abbrev kept_value : ℕ → ℤ
-kept_value o = last_write plan (reverse journal) o (λ e. is_kept plan (reverse journal) e.place)
-
-pub kept_values : (kept_value x ≡ pos 5) × (kept_value y ≡ pos 0)
+pub kept_values : (kept_value plan journal x ≡ pos 5) × (kept_value plan journal y ≡ pos 0)
 kept_values = (refl, refl)
-
--- how many entries a journal of the plan may have
-pub bounded : bound plan ≡ 26
-unfolding action_bound
-bounded = refl

@@ -176,7 +176,8 @@ abbrev pub works_wrong_value : List Entry
 works_wrong_value = with_other_entry 3 (work 0 bob 2 1406932607) first_path.journal
 
 pub works_wrong_value_is_illegal : IsLegal first_path.plan works_wrong_value → ⊥
-works_wrong_value_is_illegal h = absurd (omega (arith, ap nat_abs ((rule_at first_path.plan works_wrong_value 3 h).value ∙ sym first_path.mixed)))
+works_wrong_value_is_illegal h =
+    absurd (omega (arith, ap nat_abs ((rule_at first_path.plan works_wrong_value 3 h).value ∙ sym first_path.mixed)))
 
 -- a put of another value than the step says
 abbrev pub writes_wrong_value : List Entry
@@ -213,7 +214,9 @@ abbrev pub resolves_to_universal : List Entry
 resolves_to_universal = with_other_entry 5 (resolve 0 bob universal) two_siblings.journal
 
 pub resolves_to_universal_is_illegal : IsLegal two_siblings.plan resolves_to_universal → ⊥
-resolves_to_universal_is_illegal h = absurd (false≢true ((rule_at two_siblings.plan resolves_to_universal 5 h).least.least two_siblings.mid (omega arith) refl))
+resolves_to_universal_is_illegal h =
+    absurd (false≢true ((rule_at two_siblings.plan resolves_to_universal 5 h).least.least two_siblings.mid
+    (omega arith) refl))
 
 -- a Resolve to an exception that does not cover all
 abbrev pub resolves_to_uncovering : List Entry
@@ -299,7 +302,9 @@ abbrev pub signals_universal : List Entry
 signals_universal = with_other_entry 9 (end_signal 1 ann universal) two_signals.journal
 
 pub signals_universal_is_illegal : IsLegal two_signals.plan signals_universal → ⊥
-signals_universal_is_illegal h = absurd (false≢true ((rule_at two_signals.plan signals_universal 9 h).how.outcome.1.least two_signals.both (omega arith) refl))
+signals_universal_is_illegal h =
+    absurd (false≢true ((rule_at two_signals.plan signals_universal 9 h).how.outcome.1.least two_signals.both
+    (omega arith) refl))
 
 -- a verdict of another kind than the body has
 abbrev pub says_done_for_undo : List Entry
@@ -331,7 +336,9 @@ ends_undone_after_refusal_is_illegal h = let wrong = (rule_at restore_fails.plan
 
 -- an inner commit after the outer action has raised
 abbrev pub commits_after_doom : List Entry
-commits_after_doom = with_other_entry 8 (verdict_done 2 ann) (take 9 three_levels.journal) ++ raise 0 bob three_levels.stop ∷ end_commit 2 ann ∷ []
+commits_after_doom =
+    with_other_entry 8 (verdict_done 2 ann) (take 9 three_levels.journal)
+    ++ raise 0 bob three_levels.stop ∷ end_commit 2 ann ∷ []
 
 pub commits_after_doom_is_illegal : IsLegal three_levels.plan commits_after_doom → ⊥
 commits_after_doom_is_illegal h = absurd (true≢false (rule_at three_levels.plan commits_after_doom 10 h).how.spared)

@@ -181,7 +181,10 @@ pub leaves_at_own_verdict_is_too_lax : IsTooLax leaves_at_own_verdict ExitLaw fi
 leaves_at_own_verdict_is_too_lax = record {
   lets_through = assumption (first_path.mixed);
   refused = λ h. absurd (false≢true (rule_at first_path.plan bob_leaves_first 5 h).when);
-  breaks = λ law. absurd (true≢false (law 0 (entries_after 8 bob_leaves_first) (entries_before 8 bob_leaves_first) (end_commit 0 ann) refl refl).together);
+  breaks =
+      λ law. absurd (true≢false
+      (law 0 (entries_after 8 bob_leaves_first) (entries_before 8 bob_leaves_first)
+      (end_commit 0 ann) refl refl).together);
 }
 
 -- ---- a bound that counts the steps of a role alone
@@ -194,7 +197,9 @@ abbrev pub action_steps : ActionRow → ℕ → ℕ
 action_steps action roles = roles * (longest_body action.roles + longest_handler action.roles) + length action.objects + 4
 
 abbrev pub bound_of_steps : Plan → ℕ
-bound_of_steps plan = sum_by (λ (row : PlaceRow). action_steps (slice_index_or plan.actions row.action no_action) (length row.roles)) plan.places
+bound_of_steps plan =
+    sum_by (λ (row : PlaceRow). action_steps (slice_index_or plan.actions row.action no_action) (length row.roles))
+    plan.places
 
 -- a journal that is legal and complete, and longer than a bound allows
 pub record IsTooLong (bound : Plan → ℕ) (plan : Plan) (journal : List Entry) : Type 0 where
@@ -207,4 +212,4 @@ pub bound_of_steps_counts : (bound_of_steps three_levels.plan ≡ 19) × (length
 bound_of_steps_counts = (refl, refl)
 
 pub bound_of_steps_is_too_low : IsTooLong bound_of_steps three_levels.plan three_levels.journal
-bound_of_steps_is_too_low = record { legal = three_levels.legal; complete = three_levels.complete; long = omega arith }
+bound_of_steps_is_too_low = record { legal = three_levels.worked.legal; complete = three_levels.worked.complete; long = omega arith }

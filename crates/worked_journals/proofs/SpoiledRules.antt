@@ -9,6 +9,7 @@ use Rattle.caa_base.specs.declared.written.entry.Kind.{Kind}
 use Rattle.caa_base.specs.declared.written.entry.Kind.TheVariants as kind
 use Rattle.caa_base.specs.declared.written.entry.Verdict.TheVariants as verdict
 use Rattle.place_plan.specs.declared.drafts.draft_rows.RoleRow.{RoleRow}
+use Rattle.place_plan.specs.declared.drafts.draft.Draft.{Draft}
 use Rattle.place_plan.specs.Plans.PlanValue.{Plan}
 use Rattle.place_plan.specs.Plans.Bound.{action_bound}
 use Rattle.place_plan.specs.Plans.Places.{parent, roles_of, internal_of, handler_of, abort_row}
@@ -27,8 +28,7 @@ use Rattle.journal_laws.proofs.Phases.{is_open}
 use Rattle.journal_laws.proofs.Frozen.{frozen}
 use Rattle.journal_laws.proofs.InnerFirst.{legal_rest}
 use Rattle.worked_journals.proofs.Notation.{arrive, start, write, raise, resolve, handle, verdict_done, abort_naming, undo, restore_well, end_commit, end_aborted, leave, leave_carrying}
-use Rattle.worked_journals.proofs.Notation.{universal, program, handler, play, inner, least_cover_from, rule_at}
-use Rattle.worked_journals.proofs.Drafts.{draft_of, play_of, UnfoldsInto}
+use Rattle.worked_journals.proofs.Notation.{universal, program, handler, play, inner, played, unfolded, least_cover_from, rule_at, UnfoldsInto}
 use Rattle.worked_journals.proofs.TwoSiblings as two_siblings
 use Rattle.worked_journals.proofs.TwoSiblings.{ann, bob, x, mid, left, right}
 use Rattle.worked_journals.proofs.ThreeLevels as three_levels
@@ -86,13 +86,19 @@ resolves_early k = Row k
 abbrev pub with_right_handler : RoleRow → RoleRow
 with_right_handler role = record role { handlers = handler right (program [] verdict.Done) ∷ role.handlers }
 
-abbrev pub siblings : Plan
-siblings =
-    record two_siblings.plan {
-      actions = (record two_siblings.duo_action { roles = with_right_handler two_siblings.duo_a ∷ with_right_handler two_siblings.duo_b ∷ [] }) ∷ [];
+abbrev pub siblings_draft : Draft
+siblings_draft =
+    record two_siblings.draft {
+      actions =
+          (record two_siblings.duo_action {
+            roles = with_right_handler two_siblings.duo_a ∷ with_right_handler two_siblings.duo_b ∷ [];
+          }) ∷ [];
     }
 
-siblings_unfold : UnfoldsInto (draft_of siblings (play_of 0 (ann ∷ bob ∷ []) ∷ [])) siblings
+abbrev pub siblings : Plan
+siblings = record two_siblings.plan { actions = siblings_draft.actions }
+
+siblings_unfold : UnfoldsInto siblings_draft siblings
 unfolding unfold_at depth_within action_bound
 siblings_unfold = record { whole = refl; same = refl }
 
@@ -121,7 +127,10 @@ pub resolves_early_is_too_lax : IsTooLax resolves_early ResolutionLaw siblings l
 resolves_early_is_too_lax = record {
   lets_through = assumption (right_is_least);
   refused = λ h. absurd (false≢true (rule_at siblings left_comes_late 4 h).together);
-  breaks = λ law. absurd (false≢true ((law.handles 0).least (entries_after 5 left_comes_late) (entries_before 5 left_comes_late) (handle 0 bob right) refl refl).above);
+  breaks =
+      λ law. absurd (false≢true
+      ((law.handles 0).least (entries_after 5 left_comes_late) (entries_before 5 left_comes_late)
+      (handle 0 bob right) refl refl).above);
 }
 
 -- ---- a Handle of another exception than the resolved one
@@ -169,7 +178,10 @@ handles_another_is_too_lax = record {
   lets_through = assumption (mid_is_least);
   refused = λ h. let wrong = (rule_at siblings bob_handles_right 7 h).resolution in cc;
   breaks = λ law.
-      let both = (law.handles 0).one (entries_after 6 bob_handles_right) (entries_before 6 bob_handles_right) (entries_after 7 bob_handles_right) (entries_before 7 bob_handles_right) (handle 0 ann mid) (handle 0 bob right) refl refl refl refl in
+      let both =
+      (law.handles 0).one (entries_after 6 bob_handles_right) (entries_before 6 bob_handles_right)
+      (entries_after 7 bob_handles_right) (entries_before 7 bob_handles_right) (handle 0 ann mid)
+      (handle 0 bob right) refl refl refl refl in
       absurd (omega (arith, both));
 }
 
@@ -201,9 +213,9 @@ mid_n = record three_levels.mid_m { name = codes "n"; body = program [] verdict.
 abbrev pub outer_c : RoleRow
 outer_c = record three_levels.outer_a { name = codes "c" }
 
-abbrev pub levels : Plan
-levels =
-    record three_levels.plan {
+abbrev pub levels_draft : Draft
+levels_draft =
+    record three_levels.draft {
       participants = codes "ann" ∷ codes "bob" ∷ codes "cid" ∷ [];
       actions =
           three_levels.deep_action
@@ -212,13 +224,18 @@ levels =
             roles = three_levels.outer_a ∷ three_levels.outer_b ∷ outer_c ∷ [];
             nests = (record three_levels.outer_n { roles = 0 ∷ 2 ∷ [] }) ∷ [];
           }) ∷ [];
-      places =
-          play 2 (ann ∷ bob ∷ cid ∷ []) ((1 ∷ []) ∷ [])
-          ∷ inner (0 ∷ []) 0 1 (ann ∷ cid ∷ []) ((2 ∷ []) ∷ [])
-          ∷ inner (1 ∷ 0 ∷ []) 0 0 (ann ∷ []) [] ∷ [];
+      plays = played 2 (ann ∷ bob ∷ cid ∷ []) ∷ [];
     }
 
-levels_unfold : UnfoldsInto (draft_of levels (play_of 2 (ann ∷ bob ∷ cid ∷ []) ∷ [])) levels
+abbrev pub levels : Plan
+levels =
+    unfolded levels_draft
+    (play 2 (ann ∷ bob ∷ cid ∷ []) ((1 ∷ []) ∷ [])
+    ∷ inner (0 ∷ []) 0 1 (ann ∷ cid ∷ []) ((2 ∷ []) ∷ [])
+    ∷ inner (1 ∷ 0 ∷ []) 0 0 (ann ∷ []) [] ∷ [])
+    (0 ∷ [])
+
+levels_unfold : UnfoldsInto levels_draft levels
 unfolding unfold_at depth_within action_bound
 levels_unfold = record { whole = refl; same = refl }
 
@@ -268,7 +285,10 @@ pub outer_aborts_first_is_too_lax : IsTooLax outer_aborts_first InnerFirstLaw le
 outer_aborts_first_is_too_lax = record {
   lets_through = assumption (big_is_least);
   refused = λ h. absurd (false≢true (rule_at levels cid_aborts_first 11 h).together);
-  breaks = λ law. absurd (false≢true (law 1 2 (entries_after 11 cid_aborts_first) (entries_before 11 cid_aborts_first) (abort_naming 1 cid bad) refl refl refl refl));
+  breaks =
+      λ law. absurd (false≢true
+      (law 1 2 (entries_after 11 cid_aborts_first) (entries_before 11 cid_aborts_first)
+      (abort_naming 1 cid bad) refl refl refl refl));
 }
 
 -- ---- a commit in a doomed place
@@ -300,7 +320,8 @@ AtMostOneBy rules plan past =
 
 -- by the right rules that is a law
 pub at_most_one_by_rows : (plan : Plan) → Holds AtMostOne plan → Holds (AtMostOneBy Row) plan
-at_most_one_by_rows plan law past legal later before split e f = law before (legal_rest plan later before (subst (LegalPast plan) split legal)) e f
+at_most_one_by_rows plan law past legal later before split e f =
+    law before (legal_rest plan later before (subst (LegalPast plan) split legal)) e f
 
 -- bob raises when ann, in the innermost place, has said done: ann may then end that place as if all were well, and may also give up
 abbrev pub ann_commits_in_doom : List Entry
@@ -337,12 +358,15 @@ pub ann_commits_in_doom_value : value_of three_levels.plan (reverse ann_commits_
 ann_commits_in_doom_value = refl
 
 -- what breaks is the law that a participant has at most one entry: after bob's raise the journal no longer settles what ann does
-pub inner_commit_after_doom_is_too_lax : IsTooLax inner_commit_after_doom (AtMostOneBy inner_commit_after_doom) three_levels.plan ann_commits_in_doom
+pub inner_commit_after_doom_is_too_lax : IsTooLax inner_commit_after_doom
+    (AtMostOneBy inner_commit_after_doom) three_levels.plan ann_commits_in_doom
 inner_commit_after_doom_is_too_lax = record {
   lets_through = assumption (three_levels.big_is_least);
   refused = λ h. absurd (true≢false (rule_at three_levels.plan ann_commits_in_doom 10 h).how.spared);
   breaks = λ law.
-      let two = law (reverse (drop 10 ann_commits_in_doom)) (entries_before 10 ann_commits_in_doom) refl (end_commit 2 ann) (abort_naming 2 ann bad) (assumption) (assumption) refl in
+      let two =
+      law (reverse (drop 10 ann_commits_in_doom)) (entries_before 10 ann_commits_in_doom) refl (end_commit 2 ann)
+      (abort_naming 2 ann bad) (assumption) (assumption) refl in
       absurd (omega (arith, ap (λ e. code_of e.kind) two));
 }
 
@@ -393,6 +417,8 @@ carries_past_doom_is_too_lax = record {
   lets_through = assumption (three_levels.big_is_least);
   refused = carries_into_doom_is_illegal;
   breaks = λ quiet.
-      let same = quiet 1 (entries_after 13 carries_into_doom) (entries_before 13 carries_into_doom) (leave_carrying 2 ann universal) refl refl in
+      let same =
+      quiet 1 (entries_after 13 carries_into_doom) (entries_before 13 carries_into_doom)
+      (leave_carrying 2 ann universal) refl refl in
       absurd (omega (arith, ap length same));
 }

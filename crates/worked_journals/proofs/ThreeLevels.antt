@@ -6,27 +6,25 @@
 --   roles d / abort d bad / body d / put x 3 / end / action mid / interface f / use x / roles m / nest k deep m /
 --   abort m bad / body m / enter k / end / action outer / internal g / use x / roles a b / nest n mid a / map n
 --   bad bent / body a / enter n / body b / raise stop / handler a big / handler b big / end / play outer ann bob
-use Rattle.std.proofs.Common.{◌≡◌, ℕ, ℤ, pos, List, [], ◌∷◌, reverse, refl, codes, rules}
-use Rattle.cover_table.specs.Cover.{IsLeastCover}
+use Rattle.std.proofs.Common.{◌≡◌, ℕ, pos, List, [], ◌∷◌, refl, codes, rules}
 use Rattle.caa_base.specs.declared.written.entry.Entry.{Entry}
 use Rattle.caa_base.specs.declared.written.entry.Verdict.TheVariants as verdict
+use Rattle.cover_table.specs.Cover.{IsLeastCover}
+use Rattle.place_plan.specs.Plans.Bound.{action_bound}
+use Rattle.place_plan.specs.Drafts.DraftRules.{depth_within}
+use Rattle.place_plan.specs.Plans.Places.{internal_of}
+use Rattle.place_plan.specs.Plans.PlanValue.{Plan}
+use Rattle.place_plan.specs.Plans.Unfolding.{unfold_at}
+use Rattle.place_plan.specs.declared.drafts.draft.Draft.{Draft}
 use Rattle.place_plan.specs.declared.drafts.draft_rows.AbortRow.TheVariants as abort
-use Rattle.place_plan.specs.declared.drafts.draft_rows.GraphRow.{GraphRow}
 use Rattle.place_plan.specs.declared.drafts.draft_rows.ActionRow.{ActionRow}
+use Rattle.place_plan.specs.declared.drafts.draft_rows.GraphRow.{GraphRow}
 use Rattle.place_plan.specs.declared.drafts.draft_rows.NestRow.{NestRow}
 use Rattle.place_plan.specs.declared.drafts.draft_rows.RoleRow.{RoleRow}
 use Rattle.place_plan.specs.declared.drafts.draft_rows.Step.TheVariants as step
-use Rattle.place_plan.specs.Plans.PlanValue.{Plan}
-use Rattle.place_plan.specs.Plans.Places.{internal_of}
-use Rattle.place_plan.specs.RulesOfJournals.Objects.{value_of}
-use Rattle.place_plan.specs.RulesOfJournals.Journals.{IsLegal, IsComplete, puts_of}
-use Rattle.journal_laws.specs.Laws.{last_write, is_kept}
-use Rattle.place_plan.specs.Plans.Bound.{bound, action_bound}
-use Rattle.worked_journals.proofs.Notation.{plain_graph, arrive, start, write, raise, resolve, handle, verdict_done, abort_naming, undo, restore_well, end_commit, end_aborted, leave, leave_carrying}
-use Rattle.worked_journals.proofs.Notation.{universal, graph, object, program, handler, play, inner}
-use Rattle.worked_journals.proofs.Notation.{least_cover_from, complete_from, AreWellFormed}
+use Rattle.worked_journals.proofs.Notation.{plain_graph, arrive, start, write, raise, resolve, handle, verdict_done, abort_naming, undo, restore_well, end_commit, end_aborted, leave, leave_carrying, universal, graph, object, program, handler, role, nest, action, played, unfolded, play, inner, least_cover_from, complete_from, kept_value, IsWorked}
 
--- ---- the plan
+-- ---- the draft and its unfolding
 
 abbrev pub ann : ℕ
 ann = 0
@@ -70,114 +68,61 @@ f_graph =
     ∷ [])
 
 abbrev pub deep_d : RoleRow
-deep_d =
-    record {
-      name = codes "d";
-      body = program (step.Put x (pos 3) ∷ []) verdict.Done;
-      handlers = [];
-      abort = abort.Always bad;
-    }
+deep_d = role (codes "d") (program (step.Put x (pos 3) ∷ []) verdict.Done) [] (abort.Always bad)
 
 abbrev pub deep_action : ActionRow
-deep_action =
-    record {
-      name = codes "deep";
-      internal = 0;
-      interface = 2;
-      fault = universal;
-      objects = x ∷ [];
-      roles = deep_d ∷ [];
-      nests = [];
-    }
+deep_action = record (action (codes "deep") (x ∷ []) (deep_d ∷ []) []) { interface = 2 }
 
 abbrev pub mid_m : RoleRow
-mid_m =
-    record {
-      name = codes "m";
-      body = program (step.Enter 0 ∷ []) verdict.Done;
-      handlers = [];
-      abort = abort.Always bad;
-    }
+mid_m = role (codes "m") (program (step.Enter 0 ∷ []) verdict.Done) [] (abort.Always bad)
 
 abbrev pub mid_k : NestRow
-mid_k =
-    record {
-      name = codes "k";
-      actions = 0 ∷ [];
-      roles = 0 ∷ [];
-      maps = universal ∷ universal ∷ [];
-      undo = universal;
-      failure = universal;
-    }
+mid_k = nest (codes "k") (0 ∷ []) (0 ∷ []) (universal ∷ universal ∷ [])
 
 abbrev pub mid_action : ActionRow
-mid_action =
-    record {
-      name = codes "mid";
-      internal = 0;
-      interface = 2;
-      fault = universal;
-      objects = x ∷ [];
-      roles = mid_m ∷ [];
-      nests = mid_k ∷ [];
-    }
+mid_action = record (action (codes "mid") (x ∷ []) (mid_m ∷ []) (mid_k ∷ [])) { interface = 2 }
 
 abbrev pub outer_a : RoleRow
 outer_a =
-    record {
-      name = codes "a";
-      body = program (step.Enter 0 ∷ []) verdict.Done;
-      handlers = handler big (program [] verdict.Done) ∷ [];
-      abort = abort.Never;
-    }
+    role
+    (codes "a")
+    (program (step.Enter 0 ∷ []) verdict.Done)
+    (handler big (program [] verdict.Done) ∷ [])
+    abort.Never
 
 abbrev pub outer_b : RoleRow
 outer_b =
-    record {
-      name = codes "b";
-      body = program (step.Raise stop ∷ []) verdict.Done;
-      handlers = handler big (program [] verdict.Done) ∷ [];
-      abort = abort.Never;
-    }
+    role
+    (codes "b")
+    (program (step.Raise stop ∷ []) verdict.Done)
+    (handler big (program [] verdict.Done) ∷ [])
+    abort.Never
 
 abbrev pub outer_n : NestRow
-outer_n =
-    record {
-      name = codes "n";
-      actions = 1 ∷ [];
-      roles = 0 ∷ [];
-      maps = universal ∷ bent ∷ [];
-      undo = universal;
-      failure = universal;
-    }
+outer_n = nest (codes "n") (1 ∷ []) (0 ∷ []) (universal ∷ bent ∷ [])
 
 abbrev pub outer_action : ActionRow
-outer_action =
-    record {
-      name = codes "outer";
-      internal = 1;
-      interface = 0;
-      fault = universal;
-      objects = x ∷ [];
-      roles = outer_a ∷ outer_b ∷ [];
-      nests = outer_n ∷ [];
-    }
+outer_action = record (action (codes "outer") (x ∷ []) (outer_a ∷ outer_b ∷ []) (outer_n ∷ [])) { internal = 1 }
 
-abbrev pub plan : Plan
-plan =
+abbrev pub draft : Draft
+draft =
     record {
       participants = codes "ann" ∷ codes "bob" ∷ [];
       objects = object (codes "x") 0 ∷ [];
       graphs = plain_graph ∷ g_graph ∷ f_graph ∷ [];
       actions = deep_action ∷ mid_action ∷ outer_action ∷ [];
-      places =
-          play 2 (ann ∷ bob ∷ []) ((1 ∷ []) ∷ [])
-          ∷ inner (0 ∷ []) 0 1 (ann ∷ []) ((2 ∷ []) ∷ [])
-          ∷ inner (1 ∷ 0 ∷ []) 0 0 (ann ∷ []) [] ∷ [];
-      plays = 0 ∷ [];
+      plays = played 2 (ann ∷ bob ∷ []) ∷ [];
       drills = [];
       watches = [];
     }
+
+abbrev pub plan : Plan
+plan =
+    unfolded draft
+    (play 2 (ann ∷ bob ∷ []) ((1 ∷ []) ∷ [])
+    ∷ inner (0 ∷ []) 0 1 (ann ∷ []) ((2 ∷ []) ∷ [])
+    ∷ inner (1 ∷ 0 ∷ []) 0 0 (ann ∷ []) [] ∷ [])
+    (0 ∷ [])
 
 -- ---- the journal
 
@@ -216,32 +161,20 @@ journal =
 pub big_is_least : IsLeastCover (internal_of plan 0) (bent ∷ stop ∷ []) big
 big_is_least = least_cover_from _ _ _ refl
 
-pub legal : IsLegal plan journal
-legal = assumption (big_is_least)
+pub worked : IsWorked draft plan journal
+    (pos 0 ∷ [])
+    ((x, pos 3) ∷ (x, pos 0) ∷ (x, pos 0) ∷ [])
+    51
+unfolding unfold_at depth_within action_bound
+worked = record {
+  unfolds = record { whole = refl; same = refl };
+  legal = assumption (big_is_least);
+  complete = complete_from plan journal refl;
+  well_formed = search rules;
+  leaves = refl;
+  taken = refl;
+  bounded = refl;
+}
 
-pub complete : IsComplete plan journal
-complete = complete_from plan journal refl
-
--- what the objects hold at the end
-pub values : value_of plan (reverse journal) x ≡ pos 0
-values = refl
-
--- the puts that the device took
-pub puts : puts_of journal ≡ (x, pos 3) ∷ (x, pos 0) ∷ (x, pos 0) ∷ []
-puts = refl
-
--- each entry has fields that fit its kind
-pub well_formed : AreWellFormed plan journal
-well_formed = search rules
-
--- what the places leave that ended, with all round them, by commit or signal
-abbrev kept_value : ℕ → ℤ
-kept_value o = last_write plan (reverse journal) o (λ e. is_kept plan (reverse journal) e.place)
-
-pub kept_values : kept_value x ≡ pos 0
+pub kept_values : kept_value plan journal x ≡ pos 0
 kept_values = refl
-
--- how many entries a journal of the plan may have
-pub bounded : bound plan ≡ 51
-unfolding action_bound
-bounded = refl

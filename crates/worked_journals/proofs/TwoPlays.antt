@@ -3,23 +3,22 @@
 -- The script:
 --   participant ann / participant bob / object x 0 / action w / use x / roles r / body r / read x / add x 1 / end
 --   / play w ann / play w bob
-use Rattle.std.proofs.Common.{◌≡◌, ℕ, ℤ, pos, List, [], ◌∷◌, reverse, refl, codes, rules}
+use Rattle.std.proofs.Common.{◌≡◌, ℕ, pos, List, [], ◌∷◌, reverse, refl, codes, rules}
 use Rattle.caa_base.specs.declared.written.entry.Entry.{Entry}
 use Rattle.caa_base.specs.declared.written.entry.Verdict.TheVariants as verdict
+use Rattle.place_plan.specs.Plans.Bound.{action_bound}
+use Rattle.place_plan.specs.Drafts.DraftRules.{depth_within}
+use Rattle.place_plan.specs.RulesOfJournals.Journals.{committed_value}
+use Rattle.place_plan.specs.Plans.PlanValue.{Plan}
+use Rattle.place_plan.specs.Plans.Unfolding.{unfold_at}
+use Rattle.place_plan.specs.declared.drafts.draft.Draft.{Draft}
 use Rattle.place_plan.specs.declared.drafts.draft_rows.AbortRow.TheVariants as abort
 use Rattle.place_plan.specs.declared.drafts.draft_rows.ActionRow.{ActionRow}
 use Rattle.place_plan.specs.declared.drafts.draft_rows.RoleRow.{RoleRow}
 use Rattle.place_plan.specs.declared.drafts.draft_rows.Step.TheVariants as step
-use Rattle.place_plan.specs.Plans.PlanValue.{Plan}
-use Rattle.place_plan.specs.RulesOfJournals.Objects.{value_of}
-use Rattle.place_plan.specs.RulesOfJournals.Journals.{IsLegal, IsComplete, puts_of, committed_value}
-use Rattle.journal_laws.specs.Laws.{last_write, is_kept}
-use Rattle.place_plan.specs.Plans.Bound.{bound, action_bound}
-use Rattle.worked_journals.proofs.Notation.{plain_graph, arrive, start, read, write, verdict_done, end_commit, leave}
-use Rattle.worked_journals.proofs.Notation.{universal, object, program, play}
-use Rattle.worked_journals.proofs.Notation.{complete_from, AreWellFormed}
+use Rattle.worked_journals.proofs.Notation.{plain_graph, arrive, start, read, write, verdict_done, end_commit, leave, object, program, role, action, played, unfolded, play, complete_from, kept_value, IsWorked}
 
--- ---- the plan
+-- ---- the draft and its unfolding
 
 abbrev pub ann : ℕ
 ann = 0
@@ -31,40 +30,29 @@ abbrev pub x : ℕ
 x = 0
 
 abbrev pub w_r : RoleRow
-w_r =
-    record {
-      name = codes "r";
-      body = program (step.Read x ∷ step.Add x (pos 1) ∷ []) verdict.Done;
-      handlers = [];
-      abort = abort.Never;
-    }
+w_r = role (codes "r") (program (step.Read x ∷ step.Add x (pos 1) ∷ []) verdict.Done) [] abort.Never
 
 abbrev pub w_action : ActionRow
-w_action =
-    record {
-      name = codes "w";
-      internal = 0;
-      interface = 0;
-      fault = universal;
-      objects = x ∷ [];
-      roles = w_r ∷ [];
-      nests = [];
-    }
+w_action = action (codes "w") (x ∷ []) (w_r ∷ []) []
 
-abbrev pub plan : Plan
-plan =
+abbrev pub draft : Draft
+draft =
     record {
       participants = codes "ann" ∷ codes "bob" ∷ [];
       objects = object (codes "x") 0 ∷ [];
       graphs = plain_graph ∷ [];
       actions = w_action ∷ [];
-      places =
-          play 0 (ann ∷ []) []
-          ∷ play 0 (bob ∷ []) [] ∷ [];
-      plays = 0 ∷ 1 ∷ [];
+      plays = played 0 (ann ∷ []) ∷ played 0 (bob ∷ []) ∷ [];
       drills = [];
       watches = [];
     }
+
+abbrev pub plan : Plan
+plan =
+    unfolded draft
+    (play 0 (ann ∷ []) []
+    ∷ play 0 (bob ∷ []) [] ∷ [])
+    (0 ∷ 1 ∷ [])
 
 -- ---- the journal
 
@@ -86,38 +74,26 @@ journal =
     ∷ leave 1 bob
     ∷ []
 
-pub legal : IsLegal plan journal
-legal = assumption
+pub worked : IsWorked draft plan journal
+    (pos 2 ∷ [])
+    ((x, pos 1) ∷ (x, pos 2) ∷ [])
+    30
+unfolding unfold_at depth_within action_bound
+worked = record {
+  unfolds = record { whole = refl; same = refl };
+  legal = assumption;
+  complete = complete_from plan journal refl;
+  well_formed = search rules;
+  leaves = refl;
+  taken = refl;
+  bounded = refl;
+}
 
-pub complete : IsComplete plan journal
-complete = complete_from plan journal refl
-
--- what the objects hold at the end
-pub values : value_of plan (reverse journal) x ≡ pos 2
-values = refl
-
--- the puts that the device took
-pub puts : puts_of journal ≡ (x, pos 1) ∷ (x, pos 2) ∷ []
-puts = refl
+pub kept_values : kept_value plan journal x ≡ pos 2
+kept_values = refl
 
 -- what the object holds by the first none, one and two of the plays that ended
 pub committed_values :
     (committed_value plan (reverse journal) 0 x ≡ pos 0) × (committed_value plan (reverse journal) 1 x ≡ pos 1)
     × (committed_value plan (reverse journal) 2 x ≡ pos 2)
 committed_values = (refl, refl, refl)
-
--- each entry has fields that fit its kind
-pub well_formed : AreWellFormed plan journal
-well_formed = search rules
-
--- what the places leave that ended, with all round them, by commit or signal
-abbrev kept_value : ℕ → ℤ
-kept_value o = last_write plan (reverse journal) o (λ e. is_kept plan (reverse journal) e.place)
-
-pub kept_values : kept_value x ≡ pos 2
-kept_values = refl
-
--- how many entries a journal of the plan may have
-pub bounded : bound plan ≡ 30
-unfolding action_bound
-bounded = refl

@@ -1,10 +1,10 @@
 -- The texts of worked journals, worked by hand from the rules and shown by computing.
-use Rattle.std.proofs.Common.{◌≡◌, ℕ, List, [], ◌∷◌, ◌++◌, pos, refl, codes}
+use Rattle.std.proofs.Common.{◌≡◌, ℕ, List, [], ◌∷◌, ◌++◌, refl, codes}
 use Rattle.std.specs.Fmt.{digits}
 use Rattle.std.specs.List.{flat_map}
 use Rattle.place_plan.specs.Plans.PlanValue.{Plan}
 use Rattle.journal_text.specs.Texts.Text.{text_of}
-use Rattle.worked_journals.proofs.Notation.{plain_graph}
+use Rattle.worked_journals.proofs.Notation.{plain_graph, object}
 use Rattle.worked_journals.proofs.FirstPath as first_path
 use Rattle.worked_journals.proofs.InformedAtExit as informed_at_exit
 use Rattle.worked_journals.proofs.ThirdPutFails as third_put_fails
@@ -24,7 +24,7 @@ lines texts = flat_map (λ text. text ++ 10 ∷ []) texts
 abbrev no_play_plan : Plan
 no_play_plan = record {
   participants = [];
-  objects = (record { name = codes "x"; initial = pos 5 }) ∷ [];
+  objects = object (codes "x") 5 ∷ [];
   graphs = plain_graph ∷ [];
   actions = [];
   places = [];

@@ -15,7 +15,7 @@ use Rattle.caa_base.proofs.ListLemmas.{one_more_each}
 use Rattle.journal_text.specs.declared.looks.seens.Seen.{Seen}
 use Rattle.journal_text.specs.Texts.Text.{watched_object}
 use Rattle.journal_text.specs.Watching.Right.{is_committed}
-use Rattle.journal_text.specs.Watching.CommittedValues.{is_of_first, value_by_first, value_left_by_first, counts, Notes, lowest_after, value_after, TellsRestored, KnowsAbove, HasCommitted, value_by, HasWatched}
+use Rattle.journal_text.specs.inner.CommittedValues.{is_of_first, value_by_first, value_left_by_first, counts, Notes, lowest_after, value_after, TellsRestored, KnowsAbove, HasCommitted, value_by, HasWatched}
 use Rattle.journal_text.proofs.OnTexts.ValueLemmas.{within_any, any-same}
 
 -- ---- plays that are among the first
@@ -26,7 +26,8 @@ member_take q zero ps l = sym (le-ltb (index_of q ps) 0 (omega arith))
 member_take q (suc n) [] l = absurd (omega arith)
 member_take q (suc n) (p ∷ ps) l = by (p == q) (member_take q n ps (omega arith))
   where
-    by : (b : Bool) → member q (take n ps) ≡ nat_lt (index_of q ps) n → (b || member q (take n ps)) ≡ nat_lt (cond b 0 (suc (index_of q ps))) (suc n)
+    by : (b : Bool) → member q (take n ps) ≡ nat_lt (index_of q ps) n
+        → (b || member q (take n ps)) ≡ nat_lt (cond b 0 (suc (index_of q ps))) (suc n)
     by true h = sym (lt-ltb 0 (suc n) (omega arith))
     by false h = h ∙ sym (one_more_each (index_of q ps) n)
 
@@ -36,10 +37,13 @@ module _ (plan : Plan) where
   -- an entry that gives no value leaves it to those before it
   step_left : (keep : Entry → Bool) (past later : List Entry) (e : Entry) (o : ℕ)
       → (keep e ≡ true → (writes o e && not (is_within_any plan e.place (places_restoring o (filter keep later)))) ≡ false)
-      → value_outside plan (filter keep (e ∷ past)) o (places_restoring o (filter keep later)) ≡ value_outside plan (filter keep past) o (places_restoring o (filter keep (e ∷ later)))
+      → value_outside plan (filter keep (e ∷ past)) o (places_restoring o (filter keep later))
+      ≡ value_outside plan (filter keep past) o (places_restoring o (filter keep (e ∷ later)))
   step_left keep past later e o h = by (keep e) refl
     where
-      by : (b : Bool) → keep e ≡ b → value_outside plan (filter keep (e ∷ past)) o (places_restoring o (filter keep later)) ≡ value_outside plan (filter keep past) o (places_restoring o (filter keep (e ∷ later)))
+      by : (b : Bool) → keep e ≡ b
+          → value_outside plan (filter keep (e ∷ past)) o (places_restoring o (filter keep later))
+          ≡ value_outside plan (filter keep past) o (places_restoring o (filter keep (e ∷ later)))
       by true x = rw x (cond-false _ _ _ (h x))
       by false x = rw x refl
 
@@ -53,13 +57,20 @@ module _ (plan : Plan) where
   counts-is : {S : Type 0} (restored : HashSet ℕ S) (o : ℕ) (later : List Entry) (e : Entry) → TellsRestored restored o later
       → counts plan restored o e ≡ (writes o e && not (is_within_any plan e.place (places_restoring o later)))
   counts-is restored o later e h =
-      ap (λ b. writes o e && not b) (rw (h e.place, any-same (contains nat_eq restored) (λ a. member a (places_restoring o later)) (around plan e.place) h) (sym (within_any plan e.place (places_restoring o later))))
+      ap (λ b. writes o e && not b)
+      (rw (
+        h e.place,
+        any-same (contains nat_eq restored) (λ a. member a (places_restoring o later))
+            (around plan e.place) h,
+      ) (sym (within_any plan e.place (places_restoring o later))))
 
   -- what is noted of an entry
-  pub noted : {S : Type 0} (old new : HashSet ℕ S) (o : ℕ) (later : List Entry) (e : Entry) → TellsRestored old o later → Notes o e old new → TellsRestored new o (e ∷ later)
+  pub noted : {S : Type 0} (old new : HashSet ℕ S) (o : ℕ) (later : List Entry) (e : Entry) → TellsRestored old o later
+      → Notes o e old new → TellsRestored new o (e ∷ later)
   noted old new o later e h says p = says p ∙ ap (λ b. (restores o e && (e.place == p)) || b) (h p) ∙ by (restores o e)
     where
-      by : (r : Bool) → ((r && (e.place == p)) || member p (places_restoring o later)) ≡ member p (cond r (e.place ∷ places_restoring o later) (places_restoring o later))
+      by : (r : Bool) → ((r && (e.place == p)) || member p (places_restoring o later))
+          ≡ member p (cond r (e.place ∷ places_restoring o later) (places_restoring o later))
       by true = refl
       by false = refl
 
@@ -84,16 +95,21 @@ module _ (plan : Plan) where
 
     -- whether a write is undone is told by the entries of its own play
     pub within_kept : (ended : List ℕ) (n o : ℕ) (e : Entry) (later : List Entry) → is_of_first plan ended n e ≡ true
-        → is_within_any plan e.place (places_restoring o (filter (is_of_first plan ended n) later)) ≡ is_within_any plan e.place (places_restoring o later)
+        → is_within_any plan e.place (places_restoring o (filter (is_of_first plan ended n) later))
+        ≡ is_within_any plan e.place (places_restoring o later)
     within_kept ended n o e [] kept = refl
     within_kept ended n o e (f ∷ later) kept = by (is_of_first plan ended n f) (restores o f) refl refl (within_kept ended n o e later kept)
       where
         apart : is_of_first plan ended n f ≡ false → is_within plan e.place f.place ≡ false
-        apart x = false_from_ne_true _ (λ w. false≢true (sym x ∙ subst (λ q. member q (take n ended) ≡ true) (sym (same_top e.place f.place w)) kept))
+        apart x =
+            false_from_ne_true _ (λ w. false≢true
+            (sym x ∙ subst (λ q. member q (take n ended) ≡ true) (sym (same_top e.place f.place w)) kept))
 
         by : (k r : Bool) → is_of_first plan ended n f ≡ k → restores o f ≡ r
-            → is_within_any plan e.place (places_restoring o (filter (is_of_first plan ended n) later)) ≡ is_within_any plan e.place (places_restoring o later)
-            → is_within_any plan e.place (places_restoring o (filter (is_of_first plan ended n) (f ∷ later))) ≡ is_within_any plan e.place (places_restoring o (f ∷ later))
+            → is_within_any plan e.place (places_restoring o (filter (is_of_first plan ended n) later))
+            ≡ is_within_any plan e.place (places_restoring o later)
+            → is_within_any plan e.place (places_restoring o (filter (is_of_first plan ended n) (f ∷ later)))
+            ≡ is_within_any plan e.place (places_restoring o (f ∷ later))
         by true true x y ih = rw (x, y) (ap (λ b. is_within plan e.place f.place || b) ih)
         by true false x y ih = rw (x, y) ih
         by false true x y ih = rw (x, y, apart x) ih
@@ -109,13 +125,17 @@ module _ (plan : Plan) where
       kept_is : (n : ℕ) → n ≤ length ended → is_of_first plan ended n e ≡ nat_lt rank n
       kept_is n l = member_take (top_of plan e.place) n ended l
 
-      passed : (n : ℕ) → n ≤ lowest → (is_of_first plan ended n e ≡ true → (writes o e && not (is_within_any plan e.place (places_restoring o later))) ≡ false)
+      passed : (n : ℕ) → n ≤ lowest
+          → (is_of_first plan ended n e ≡ true
+          → (writes o e && not (is_within_any plan e.place (places_restoring o later))) ≡ false)
           → value_by_first plan ended all n o ≡ value_left_by_first plan ended past (e ∷ later) n o
       passed n l none =
-          h.left n l ∙ step_left (is_of_first plan ended n) past later e o (λ kept. ap (λ b. writes o e && not b) (within_kept ended n o e later kept) ∙ none kept)
+          h.left n l ∙ step_left (is_of_first plan ended n) past later e o
+          (λ kept. ap (λ b. writes o e && not b) (within_kept ended n o e later kept) ∙ none kept)
 
       untaken : (writes o e && not (is_within_any plan e.place (places_restoring o later))) ≡ false
-          → ((n : ℕ) → slice_index_or new n (pos 0) ≡ slice_index_or old n (pos 0)) → KnowsAbove plan ended o new lowest all past (e ∷ later)
+          → ((n : ℕ) → slice_index_or new n (pos 0) ≡ slice_index_or old n (pos 0))
+          → KnowsAbove plan ended o new lowest all past (e ∷ later)
       untaken none same = record {
         size = size ∙ h.size;
         low = h.low;
@@ -125,28 +145,36 @@ module _ (plan : Plan) where
       }
 
       -- of a play whose values are known
-      late : lowest ≤ rank → ((n : ℕ) → slice_index_or new n (pos 0) ≡ slice_index_or old n (pos 0)) → KnowsAbove plan ended o new lowest all past (e ∷ later)
+      late : lowest ≤ rank → ((n : ℕ) → slice_index_or new n (pos 0) ≡ slice_index_or old n (pos 0))
+          → KnowsAbove plan ended o new lowest all past (e ∷ later)
       late r same = record {
         size = size ∙ h.size;
         low = h.low;
         initial = λ n l. same n ∙ h.initial n l;
-        left = λ n l. passed n l (λ kept. absurd (false≢true (sym (le-ltb rank n (omega arith)) ∙ sym (kept_is n (omega (arith, h.low))) ∙ kept)));
+        left =
+            λ n l. passed n l (λ kept. absurd
+            (false≢true (sym (le-ltb rank n (omega arith)) ∙ sym (kept_is n (omega (arith, h.low))) ∙ kept)));
         known = λ n l m. same n ∙ h.known n l m;
       }
 
       taken : (writes o e && not (is_within_any plan e.place (places_restoring o later))) ≡ true → rank < lowest
-          → ((n : ℕ) → slice_index_or new n (pos 0) ≡ cond (nat_lt rank n && not (nat_lt lowest n)) e.value (slice_index_or old n (pos 0))) → KnowsAbove plan ended o new rank all past (e ∷ later)
+          → ((n : ℕ) → slice_index_or new n (pos 0)
+          ≡ cond (nat_lt rank n && not (nat_lt lowest n)) e.value (slice_index_or old n (pos 0)))
+          → KnowsAbove plan ended o new rank all past (e ∷ later)
       taken counted r says = record {
         size = size ∙ h.size;
         low = omega (arith, h.low);
         initial = λ n l. says n ∙ cond-false _ _ _ (and_left _ _ (le-ltb rank n l)) ∙ h.initial n (omega arith);
-        left = λ n l. passed n (omega arith) (λ kept. absurd (false≢true (sym (le-ltb rank n l) ∙ sym (kept_is n (omega (arith, h.low))) ∙ kept)));
+        left =
+            λ n l. passed n (omega arith)
+            (λ kept. absurd (false≢true (sym (le-ltb rank n l) ∙ sym (kept_is n (omega (arith, h.low))) ∙ kept)));
         known = λ n l m. elim (cases_lt lowest n) [
           | inl above ↦ says n ∙ cond-false _ _ _ (and_right _ _ (not_from_true _ (lt-ltb lowest n above))) ∙ h.known n above m
           | inr below ↦
               let kept = kept_is n m ∙ lt-ltb rank n l in
               says n ∙ cond-true _ _ _ (and_from _ _ (lt-ltb rank n l) (not_from_false _ (le-ltb lowest n below)))
-              ∙ sym (h.left n below ∙ step_found (is_of_first plan ended n) past later e o kept (ap (λ b. writes o e && not b) (within_kept ended n o e later kept) ∙ counted))
+              ∙ sym (h.left n below ∙ step_found (is_of_first plan ended n) past later e o kept
+              (ap (λ b. writes o e && not b) (within_kept ended n o e later kept) ∙ counted))
         ];
       }
 
@@ -161,9 +189,12 @@ module _ (plan : Plan) where
             | inr l ↦ and_left _ _ (le-ltb rank n l)
           ]
 
-          by : (b : Bool) → counts plan restored o e ≡ b → (rank < lowest) ⊎ (lowest ≤ rank) → KnowsAbove plan ended o new (lowest_after (counts plan restored o e) rank lowest) all past (e ∷ later)
+          by : (b : Bool) → counts plan restored o e ≡ b → (rank < lowest) ⊎ (lowest ≤ rank)
+              → KnowsAbove plan ended o new (lowest_after (counts plan restored o e) rank lowest) all past (e ∷ later)
           by false x c = rw x (untaken (sym (counts-is restored o later e tells) ∙ x) (λ n. says n ∙ (rw x refl)))
-          by true x (inl r) = rw (x, lt-ltb rank lowest r) (taken (sym (counts-is restored o later e tells) ∙ x) r (λ n. says n ∙ (rw x refl)))
+          by true x (inl r) =
+              rw (x, lt-ltb rank lowest r)
+              (taken (sym (counts-is restored o later e tells) ∙ x) r (λ n. says n ∙ (rw x refl)))
           by true x (inr r) = rw (x, le-ltb rank lowest r) (late r (λ n. says n ∙ (rw x (cond-false _ _ _ (none n r)))))
 
 -- one step back over the entries of a journal
@@ -175,51 +206,43 @@ pub know-next : (plan : Plan) → ((p q : ℕ) (qs : List ℕ) → around plan p
     let counted = counts plan restored o e in
     let rank = index_of (top_of plan e.place) ended in
     ((n : ℕ) → slice_index_or new n (pos 0) ≡ value_after counted rank lowest e n (slice_index_or old n (pos 0))) → Notes o e restored noted
-    → KnowsAbove plan ended o new (lowest_after counted rank lowest) (reverse entries) (reverse (take i entries)) (drop i entries) × TellsRestored noted o (drop i entries)
+    → KnowsAbove plan ended o new (lowest_after counted rank lowest) (reverse entries) (reverse (take i entries))
+    (drop i entries) × TellsRestored noted o (drop i entries)
 know-next plan chain ended o old new lowest entries i j d next within size h restored more tells says notes =
     let e = get_or entries i d in
-    let front : reverse (take j entries) ≡ e ∷ reverse (take i entries) = rw (← next, take_more entries i d within) (reverse-append (take i entries) (e ∷ [])) in
+    let front : reverse (take j entries) ≡ e ∷ reverse (take i entries) =
+    rw (← next, take_more entries i d within) (reverse-append (take i entries) (e ∷ [])) in
     let back : drop i entries ≡ e ∷ drop j entries = rw (← next, add-one) (drop-cons entries i d within) in
     let before : KnowsAbove plan ended o old lowest (reverse entries) (e ∷ reverse (take i entries)) (drop j entries) = rw (← front) h in
-    rw back
-    (step_back plan chain ended o old new lowest (reverse entries) (reverse (take i entries)) (drop j entries) e size before restored tells says, noted plan restored more o (drop j entries) e tells notes)
+    rw back (
+      step_back plan chain ended o old new lowest (reverse entries) (reverse (take i entries))
+          (drop j entries) e size before restored tells says,
+      noted plan restored more o (drop j entries) e tells notes,
+    )
 
 -- ---- the way from end to end
-
--- before the first step no value is known
-pub know-start : (plan : Plan) (ended : List ℕ) (o : ℕ) (past : List Entry) → KnowsAbove plan ended o (replicate (suc (length ended)) (initial_of plan o)) (length ended) past past []
-know-start plan ended o past = record {
-  size = length-replicate (suc (length ended)) (initial_of plan o);
-  low = omega arith;
-  initial = λ n l. get_or-replicate (suc (length ended)) n (initial_of plan o) (pos 0) (omega arith);
-  left = λ n l. refl;
-  known = λ n l m. absurd (omega arith);
-}
-
--- after the last step all are
-pub know-end : (plan : Plan) (ended : List ℕ) (o : ℕ) (values : List ℤ) (lowest : ℕ) (past later : List Entry) → KnowsAbove plan ended o values lowest past [] later → HasCommitted plan ended past o values
-know-end plan ended o values lowest past later h = record {
-  size = h.size;
-  each = λ n m. elim (cases_lt lowest n) [
-    | inl l ↦ h.known n l m
-    | inr l ↦ h.initial n l ∙ sym (h.left n l)
-  ];
-}
 
 -- ---- looks
 
 -- the value by any number of plays
-pub value_by_is : (plan : Plan) (past : List Entry) (o n : ℕ) (values : List ℤ) → HasCommitted plan (plays_ended plan past) past o values → value_by values n ≡ committed_value plan past n o
+pub value_by_is : (plan : Plan) (past : List Entry) (o n : ℕ) (values : List ℤ)
+    → HasCommitted plan (plays_ended plan past) past o values → value_by values n ≡ committed_value plan past n o
 value_by_is plan past o n values h = elim (cases_lt n (length values - 1)) [
   | inl l ↦ rw (lt-ltb n (length values - 1) l) (h.each n (omega (arith, h.size)))
   | inr l ↦
       let ended = plays_ended plan past in
       let all : length values - 1 ≡ length ended = omega (arith, h.size) in
-      let same : take n ended ≡ take (length ended) ended = take_all n ended (omega (arith, all)) ∙ sym (take_all (length ended) ended (omega arith)) in
-      rw (le-ltb n (length values - 1) l, all) (h.each (length ended) (omega arith) ∙ ap (λ ps. value_of plan (filter (λ e. member (top_of plan e.place) ps) past) o) (sym same))
+      let same : take n ended ≡ take (length ended) ended =
+      take_all n ended (omega (arith, all)) ∙ sym (take_all (length ended) ended (omega arith)) in
+      rw (le-ltb n (length values - 1) l, all)
+      (h.each (length ended) (omega arith)
+      ∙ ap (λ ps. value_of plan (filter (λ e. member (top_of plan e.place) ps) past) o) (sym same))
 ]
 
 -- a look is right by the table of its watch
-pub committed_is : (plan : Plan) (past : List Entry) (tables : List (List ℤ)) (s : Seen) → HasWatched plan (plays_ended plan past) past tables (length plan.watches) → s.watch < length plan.watches
+pub committed_is : (plan : Plan) (past : List Entry) (tables : List (List ℤ)) (s : Seen)
+    → HasWatched plan (plays_ended plan past) past tables (length plan.watches) → s.watch < length plan.watches
     → int_eq s.value (value_by (slice_index_or tables s.watch []) s.ends) ≡ is_committed plan past s
-committed_is plan past tables s h l = ap (int_eq s.value) (value_by_is plan past (watched_object plan s.watch) s.ends (slice_index_or tables s.watch []) (h.each s.watch l))
+committed_is plan past tables s h l =
+    ap (int_eq s.value) (value_by_is plan past (watched_object plan s.watch) s.ends (slice_index_or tables s.watch [])
+    (h.each s.watch l))

@@ -38,32 +38,43 @@ or_some None q (inl h) = absurd (false≢true h)
 or_some None q (inr h) = h
 or_some (Some s) q h = refl
 
-last_look-cons : (w : ℕ) (s : Seen) (seens : List Seen) → last_look w (s ∷ seens) ≡ option_or (last_look w seens) (if s.watch == w then Some s else None)
-last_look-cons w s seens = ap (find (λ (t : Seen). t.watch == w)) (reverse-append (s ∷ []) seens) ∙ find-append (λ (t : Seen). t.watch == w) (reverse seens) (s ∷ [])
+last_look-cons : (w : ℕ) (s : Seen) (seens : List Seen)
+    → last_look w (s ∷ seens) ≡ option_or (last_look w seens) (if s.watch == w then Some s else None)
+last_look-cons w s seens =
+    ap (find (λ (t : Seen). t.watch == w)) (reverse-append (s ∷ []) seens)
+    ∙ find-append (λ (t : Seen). t.watch == w) (reverse seens) (s ∷ [])
 
 has_head : (w : ℕ) (s : Seen) (seens : List Seen) → s.watch ≡ w → IsSome (last_look w (s ∷ seens))
 has_head w s seens e =
     subst (λ (o : Option Seen). IsSome o) (sym (last_look-cons w s seens))
-    (or_some (last_look w seens) (if s.watch == w then Some s else None) (inr (subst (λ (b : Bool). IsSome (if b then Some s else None)) (sym (eq-eqb s.watch w e)) refl)))
+    (or_some (last_look w seens) (if s.watch == w then Some s else None)
+    (inr (subst (λ (b : Bool). IsSome (if b then Some s else None)) (sym (eq-eqb s.watch w e)) refl)))
 
 has_tail : (w : ℕ) (s : Seen) (seens : List Seen) → IsSome (last_look w seens) → IsSome (last_look w (s ∷ seens))
 has_tail w s seens h =
-    subst (λ (o : Option Seen). IsSome o) (sym (last_look-cons w s seens)) (or_some (last_look w seens) (if s.watch == w then Some s else None) (inl h))
+    subst (λ (o : Option Seen). IsSome o) (sym (last_look-cons w s seens))
+    (or_some (last_look w seens) (if s.watch == w then Some s else None) (inl h))
 
 skip : (w : ℕ) (s : Seen) (seens : List Seen) → (s.watch ≡ w → ⊥) → last_look w (s ∷ seens) ≡ last_look w seens
 skip w s seens other =
-    last_look-cons w s seens ∙ ap (λ (b : Bool). option_or (last_look w seens) (if b then Some s else None)) (ne_eqb s.watch w other) ∙ or_none (last_look w seens)
+    last_look-cons w s seens
+    ∙ ap (λ (b : Bool). option_or (last_look w seens) (if b then Some s else None)) (ne_eqb s.watch w other)
+    ∙ or_none (last_look w seens)
 
 none_of : (w : ℕ) (seens : List Seen) → All (λ t. t.watch ≡ w → ⊥) seens → last_look w seens ≡ None
 none_of w [] h = refl
-none_of w (s ∷ seens) h = skip w s seens (All-head (λ t. t.watch ≡ w → ⊥) s seens h) ∙ none_of w seens (All-tail (λ t. t.watch ≡ w → ⊥) s seens h)
+none_of w (s ∷ seens) h =
+    skip w s seens (All-head (λ t. t.watch ≡ w → ⊥) s seens h)
+    ∙ none_of w seens (All-tail (λ t. t.watch ≡ w → ⊥) s seens h)
 
 missing : (w : ℕ) (seens : List Seen) → IsSome (last_look w seens) → last_look w seens ≡ None → ⊥
 missing w seens h none = false≢true (subst (λ (o : Option Seen). IsSome o) none h)
 
 module _ (P : Seen → Type 0) (w : ℕ) (s : Seen) (seens : List Seen) where
   last_tail : IfSome (last_look w (s ∷ seens)) P → IfSome (last_look w seens) P
-  last_tail h = by (last_look w seens) (if s.watch == w then Some s else None) (subst (λ (o : Option Seen). IfSome o P) (last_look-cons w s seens) h)
+  last_tail h =
+      by (last_look w seens) (if s.watch == w then Some s else None)
+      (subst (λ (o : Option Seen). IfSome o P) (last_look-cons w s seens) h)
     where
       by : (o q : Option Seen) → IfSome (option_or o q) P → IfSome o P
       by None q h = tt
@@ -72,7 +83,8 @@ module _ (P : Seen → Type 0) (w : ℕ) (s : Seen) (seens : List Seen) where
   last_head : last_look w seens ≡ None → s.watch ≡ w → IfSome (last_look w (s ∷ seens)) P → P s
   last_head none e h =
       let at : last_look w (s ∷ seens) ≡ Some s =
-      last_look-cons w s seens ∙ ap (λ (o : Option Seen). option_or o (if s.watch == w then Some s else None)) none ∙ ap (λ (b : Bool). if b then Some s else None) (eq-eqb s.watch w e) in
+      last_look-cons w s seens ∙ ap (λ (o : Option Seen). option_or o (if s.watch == w then Some s else None)) none
+      ∙ ap (λ (b : Bool). if b then Some s else None) (eq-eqb s.watch w e) in
       subst (λ (o : Option Seen). IfSome o P) at h
 
   last_cons : IfSome (last_look w seens) P → (last_look w seens ≡ None → s.watch ≡ w → P s) → IfSome (last_look w (s ∷ seens)) P
@@ -118,7 +130,9 @@ module _ (plan : Plan) where
 
   from_one : (b : Seen) → suc b.watch ≡ length plan.watches → IsAll b → AreFrom plan b.watch (b ∷ [])
   from_one b whole end = record {
-    of_plan = All-cons (λ (s : Seen). s.watch < length plan.watches) b [] (omega (arith, whole)) (All-nil (λ (s : Seen). s.watch < length plan.watches));
+    of_plan =
+        All-cons (λ (s : Seen). s.watch < length plan.watches) b [] (omega (arith, whole))
+        (All-nil (λ (s : Seen). s.watch < length plan.watches));
     order = AllPairs-cons Ordered b [] (All-nil (Ordered b)) (pairs_nil Ordered);
     rise = AllPairs-cons Rising b [] (All-nil (Rising b)) (pairs_nil Rising);
     each = λ w low l. has_head w b [] (omega (arith, low, l, whole));
@@ -132,10 +146,13 @@ module _ (plan : Plan) where
       within = All-head (λ (s : Seen). s.watch < length plan.watches) b [] h.of_plan
 
       by : (suc b.watch < length plan.watches) ⊎ (length plan.watches ≤ suc b.watch) → suc b.watch ≡ length plan.watches
-      by (inl more) = absurd (missing (suc b.watch) (b ∷ []) (h.each (suc b.watch) (omega arith) more) (skip (suc b.watch) b [] (λ e. omega (arith, e))))
+      by (inl more) =
+          absurd (missing (suc b.watch) (b ∷ []) (h.each (suc b.watch) (omega arith) more)
+          (skip (suc b.watch) b [] (λ e. omega (arith, e))))
       by (inr few) = omega (arith, few, within)
 
-  from_more : (b s : Seen) (seens : List Seen) → AreFrom plan s.watch (s ∷ seens) → Follows b s → IsFollowed plan b s → AreFrom plan b.watch (b ∷ s ∷ seens)
+  from_more : (b s : Seen) (seens : List Seen) → AreFrom plan s.watch (s ∷ seens) → Follows b s → IsFollowed plan b s
+      → AreFrom plan b.watch (b ∷ s ∷ seens)
   from_more b s seens h f g = record {
     of_plan = All-cons (λ (s : Seen). s.watch < length plan.watches) b (s ∷ seens)
         (omega (arith, low f, All-head (λ (s : Seen). s.watch < length plan.watches) s seens h.of_plan)) h.of_plan;
@@ -143,7 +160,11 @@ module _ (plan : Plan) where
         (All-cons (Ordered b) s seens (low f) (λ k d l. omega (arith, low f, later k d l))) h.order;
     rise = AllPairs-cons Rising b (s ∷ seens)
         (All-cons (Rising b) s seens (λ e. up f e)
-        (λ k d l e. omega (arith, up f (omega (arith, low f, later k d l, e)), pairs_head Rising s seens h.rise k d l (omega (arith, low f, later k d l, e))))) h.rise;
+        (λ k d l e. omega (
+          arith,
+          up f (omega (arith, low f, later k d l, e)),
+          pairs_head Rising s seens h.rise k d l (omega (arith, low f, later k d l, e)),
+        ))) h.rise;
     each = λ w above l. at w above l (cases_eq b.watch w);
     last = λ w. last_cons IsAll w b (s ∷ seens) (h.last w) (λ none e. end w none e g);
   }
@@ -171,7 +192,8 @@ module _ (plan : Plan) where
       end w none e (inl same) = absurd (missing w (s ∷ seens) (has_head w s seens (same ∙ e)) none)
       end w none e (inr all) = all
 
-  more_parts : (b s : Seen) (seens : List Seen) → AreFrom plan b.watch (b ∷ s ∷ seens) → AreFrom plan s.watch (s ∷ seens) × Follows b s × IsFollowed plan b s
+  more_parts : (b s : Seen) (seens : List Seen) → AreFrom plan b.watch (b ∷ s ∷ seens)
+      → AreFrom plan s.watch (s ∷ seens) × Follows b s × IsFollowed plan b s
   more_parts b s seens h = (rest, follow (cases_eq s.watch b.watch), followed (cases_eq s.watch b.watch))
     where
       order : All (Ordered b) (s ∷ seens)
@@ -184,10 +206,14 @@ module _ (plan : Plan) where
       later = pairs_head Ordered s seens (pairs_tail Ordered b (s ∷ seens) h.order)
 
       within : s.watch < length plan.watches
-      within = All-head (λ (s : Seen). s.watch < length plan.watches) s seens (All-tail (λ (s : Seen). s.watch < length plan.watches) b (s ∷ seens) h.of_plan)
+      within =
+          All-head (λ (s : Seen). s.watch < length plan.watches) s seens
+          (All-tail (λ (s : Seen). s.watch < length plan.watches) b (s ∷ seens) h.of_plan)
 
       none_before : (w : ℕ) → w < s.watch → last_look w (s ∷ seens) ≡ None
-      none_before w before = none_of w (s ∷ seens) (All-cons (λ (t : Seen). t.watch ≡ w → ⊥) s seens (λ e. omega (arith, before, e)) (λ k d l e. omega (arith, before, later k d l, e)))
+      none_before w before =
+          none_of w (s ∷ seens) (All-cons (λ (t : Seen). t.watch ≡ w → ⊥) s seens (λ e. omega (arith, before, e))
+          (λ k d l e. omega (arith, before, later k d l, e)))
 
       near : (suc b.watch < s.watch) ⊎ (s.watch ≤ suc b.watch) → s.watch ≤ suc b.watch
       near (inl far) =
@@ -201,7 +227,9 @@ module _ (plan : Plan) where
 
       followed : (s.watch ≡ b.watch) ⊎ (s.watch ≡ b.watch → ⊥) → IsFollowed plan b s
       followed (inl same) = inl same
-      followed (inr other) = inr (last_head IsAll b.watch b (s ∷ seens) (none_before b.watch (omega (arith, low, other))) refl (h.last b.watch))
+      followed (inr other) =
+          inr (last_head IsAll b.watch b (s ∷ seens) (none_before b.watch (omega (arith, low, other))) refl
+          (h.last b.watch))
 
       at : (w : ℕ) → s.watch ≤ w → w < length plan.watches → (b.watch ≡ w) ⊎ (b.watch ≡ w → ⊥) → IsSome (last_look w (s ∷ seens))
       at w above l (inl e) = has_head w s seens (omega (arith, low, above, e))
@@ -253,28 +281,36 @@ module _ (plan : Plan) (past : List Entry) where
 
   -- a right look, and right looks after it
   right_parts : (before : Option Seen) (s : Seen) (seens : List Seen) (i : ℕ) → first_wrong_from plan past before (s ∷ seens) i ≡ None
-      → (follows before s ≡ true) × (is_followed plan s (next_seen seens) ≡ true) × IsCommitted s × (first_wrong_from plan past (Some s) seens (suc i) ≡ None)
+      → (follows before s ≡ true) × (is_followed plan s (next_seen seens) ≡ true) × IsCommitted s
+      × (first_wrong_from plan past (Some s) seens (suc i) ≡ None)
   right_parts before s seens i e =
       let p = none_parts (is_right plan past before s (next_seen seens)) (first_wrong_from plan past (Some s) seens (suc i)) i e in
       let q = and_parts (follows before s) (is_followed plan s (next_seen seens) && is_committed plan past s) p.0 in
       let r = and_parts (is_followed plan s (next_seen seens)) (is_committed plan past s) q.1 in
       (q.0, r.0, (Decides-int_eq s.value (committed_value plan past s.ends (watched_object plan s.watch))).0 r.1, p.1)
 
-  right-from : (before : Option Seen) (s : Seen) (seens : List Seen) (i : ℕ) → follows before s ≡ true → is_followed plan s (next_seen seens) ≡ true → IsCommitted s → first_wrong_from plan past (Some s) seens (suc i) ≡ None
+  right-from : (before : Option Seen) (s : Seen) (seens : List Seen) (i : ℕ) → follows before s ≡ true
+      → is_followed plan s (next_seen seens) ≡ true → IsCommitted s
+      → first_wrong_from plan past (Some s) seens (suc i) ≡ None
       → first_wrong_from plan past before (s ∷ seens) i ≡ None
   right-from before s seens i f g v e =
       none-from (is_right plan past before s (next_seen seens)) (first_wrong_from plan past (Some s) seens (suc i)) i
       (and_from _ _ f (and_from _ _ g ((Decides-int_eq s.value (committed_value plan past s.ends (watched_object plan s.watch))).1 v))) e
 
   -- where no look is wrong, the looks from b on are of all watches from its own on
-  from_right : (b : Seen) (seens : List Seen) (i : ℕ) → is_followed plan b (next_seen seens) ≡ true → first_wrong_from plan past (Some b) seens i ≡ None → AreFrom plan b.watch (b ∷ seens) × All IsCommitted seens
-  from_right b [] i g e = (from_one plan b (eqb-true _ _ (none_parts (is_whole plan (Some b)) None i e).0) (eqb-true _ _ g), All-nil IsCommitted)
+  from_right : (b : Seen) (seens : List Seen) (i : ℕ) → is_followed plan b (next_seen seens) ≡ true
+      → first_wrong_from plan past (Some b) seens i ≡ None → AreFrom plan b.watch (b ∷ seens) × All IsCommitted seens
+  from_right b [] i g e = (
+    from_one plan b (eqb-true _ _ (none_parts (is_whole plan (Some b)) None i e).0) (eqb-true _ _ g),
+    All-nil IsCommitted,
+  )
   from_right b (s ∷ seens) i g e =
       let p = right_parts (Some b) s seens i e in
       let later = from_right s seens (suc i) p.1 p.3 in
       (from_more plan b s seens later.0 (follows_parts b s p.0) (followed_parts b s g), All-cons IsCommitted s seens p.2 later.1)
 
-  right_from : (b : Seen) (seens : List Seen) (i : ℕ) → AreFrom plan b.watch (b ∷ seens) → All IsCommitted seens → (is_followed plan b (next_seen seens) ≡ true) × (first_wrong_from plan past (Some b) seens i ≡ None)
+  right_from : (b : Seen) (seens : List Seen) (i : ℕ) → AreFrom plan b.watch (b ∷ seens) → All IsCommitted seens
+      → (is_followed plan b (next_seen seens) ≡ true) × (first_wrong_from plan past (Some b) seens i ≡ None)
   right_from b [] i h v = let p = one_parts plan b h in (eq-eqb _ _ p.1, none-from (is_whole plan (Some b)) None i (eq-eqb _ _ p.0) refl)
   right_from b (s ∷ seens) i h v =
       let p = more_parts plan b s seens h in
@@ -314,7 +350,9 @@ module _ (plan : Plan) (journal : List Entry) where
       by : (0 < length plan.watches) ⊎ (length plan.watches ≤ 0) → length plan.watches ≡ 0
       by (inl some) = absurd (missing 0 [] (h.each 0 some) refl)
       by (inr none) = omega (arith, none)
-  right_looks (s ∷ seens) h = right-from plan (reverse journal) None s seens 0 (eq-eqb _ _ first) later.0 (All-head (IsCommitted plan (reverse journal)) s seens h.value) later.1
+  right_looks (s ∷ seens) h =
+      right-from plan (reverse journal) None s seens 0 (eq-eqb _ _ first) later.0
+      (All-head (IsCommitted plan (reverse journal)) s seens h.value) later.1
     where
       within : s.watch < length plan.watches
       within = All-head (λ (s : Seen). s.watch < length plan.watches) s seens h.of_plan
@@ -323,7 +361,8 @@ module _ (plan : Plan) (journal : List Entry) where
       by (inl e) = e
       by (inr other) =
           absurd (missing 0 (s ∷ seens) (h.each 0 (omega (arith, within)))
-          (none_of 0 (s ∷ seens) (All-cons (λ (t : Seen). t.watch ≡ 0 → ⊥) s seens other (λ k d l e. other (omega (arith, pairs_head Ordered s seens h.order k d l, e))))))
+          (none_of 0 (s ∷ seens) (All-cons (λ (t : Seen). t.watch ≡ 0 → ⊥) s seens other
+          (λ k d l e. other (omega (arith, pairs_head Ordered s seens h.order k d l, e))))))
 
       first : s.watch ≡ 0
       first = by (cases_eq s.watch 0)

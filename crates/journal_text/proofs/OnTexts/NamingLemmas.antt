@@ -12,7 +12,7 @@ use Rattle.place_plan.specs.Plans.PlanValue.{Plan}
 use Rattle.place_plan.specs.Plans.Places.{no_graph, graph_at, exception_name}
 use Rattle.journal_text.specs.Texts.Naming.{index_among, watch_in, is_own_name, are_names, is_named_graph, is_own_watch, is_well_named}
 use Rattle.journal_text.specs.Texts.Text.{participant_name, object_name, watched_object}
-use Rattle.journal_text.specs.Texts.Words.{is_gap}
+use Rattle.journal_text.specs.inner.Words.{is_gap}
 use Rattle.journal_text.proofs.OnTexts.WordLemmas.{is_whole}
 
 -- ---- a name has no gap
@@ -27,7 +27,8 @@ no_gap b h = by (cases_eq b 32) (cases_eq b 10)
 
 whole-bytes : (word : List ℕ) → list_all is_name_byte word ≡ true → is_whole word ≡ true
 whole-bytes [] h = refl
-whole-bytes (b ∷ word) h = let p = and_parts (is_name_byte b) (list_all is_name_byte word) h in and_from _ _ (no_gap b p.0) (whole-bytes word p.1)
+whole-bytes (b ∷ word) h = let p = and_parts (is_name_byte b) (list_all is_name_byte word) h in
+    and_from _ _ (no_gap b p.0) (whole-bytes word p.1)
 
 pub whole-name : (word : List ℕ) → is_name word ≡ true → is_whole word ≡ true
 whole-name word h = whole-bytes word (and_parts (nat_le (length word) most_name_bytes) _ (and_parts (begins_with_letter word) _ h).1).1
@@ -43,7 +44,8 @@ all_at test (x ∷ xs) (suc i) h l = all_at test xs i (and_parts (test x) (list_
 -- what all numbers below n pass
 below : (test : ℕ → Bool) (n i : ℕ) → list_all test (range_with_len 0 n) ≡ true → i < n → test i ≡ true
 below test n i h l =
-    subst (λ k. test k ≡ true) (get_or-range_with_len 0 n i 0 l ∙ zero-add i) (all_at test (range_with_len 0 n) i h (omega (arith, length-range_with_len 0 n)))
+    subst (λ k. test k ≡ true) (get_or-range_with_len 0 n i 0 l ∙ zero-add i)
+    (all_at test (range_with_len 0 n) i h (omega (arith, length-range_with_len 0 n)))
 
 -- ---- the names of a well-named plan
 
@@ -52,19 +54,26 @@ pub record Named (name_of : ℕ → List ℕ) (n : ℕ) : Type 0 where
   pub own : (i : ℕ) → i < n → index_among name_of (name_of i) 0 n ≡ i
   pub whole : (i : ℕ) → i < n → is_whole (name_of i) ≡ true
 
-own_parts : (name_of : ℕ → List ℕ) (n i : ℕ) → are_names name_of n ≡ true → i < n → (is_name (name_of i) ≡ true) × ((index_among name_of (name_of i) 0 n == i) ≡ true)
-own_parts name_of n i h l = and_parts (is_name (name_of i)) (index_among name_of (name_of i) 0 n == i) (below (is_own_name name_of n) n i h l)
+own_parts : (name_of : ℕ → List ℕ) (n i : ℕ) → are_names name_of n ≡ true → i < n
+    → (is_name (name_of i) ≡ true) × ((index_among name_of (name_of i) 0 n == i) ≡ true)
+own_parts name_of n i h l =
+    and_parts (is_name (name_of i)) (index_among name_of (name_of i) 0 n == i) (below (is_own_name name_of n) n i h l)
 
 pub spelled_name : (name_of : ℕ → List ℕ) (n i : ℕ) → are_names name_of n ≡ true → i < n → is_name (name_of i) ≡ true
 spelled_name name_of n i h l = (own_parts name_of n i h l).0
 
 pub named : (name_of : ℕ → List ℕ) (n : ℕ) → are_names name_of n ≡ true → Named name_of n
-named name_of n h = record { own = λ i l. eqb-true _ _ (own_parts name_of n i h l).1; whole = λ i l. whole-name (name_of i) (spelled_name name_of n i h l) }
+named name_of n h =
+    record {
+      own = λ i l. eqb-true _ _ (own_parts name_of n i h l).1;
+      whole = λ i l. whole-name (name_of i) (spelled_name name_of n i h l);
+    }
 
 -- the parts of the test
 pub names_parts : (plan : Plan) → is_well_named plan ≡ true →
     (are_names (participant_name plan) (length plan.participants) ≡ true) × (are_names (object_name plan) (length plan.objects) ≡ true)
-    × (list_all (is_named_graph plan) (range_with_len 0 (length plan.graphs)) ≡ true) × (list_all (is_own_watch plan) (range_with_len 0 (length plan.watches)) ≡ true)
+    × (list_all (is_named_graph plan) (range_with_len 0 (length plan.graphs)) ≡ true)
+    × (list_all (is_own_watch plan) (range_with_len 0 (length plan.watches)) ≡ true)
 names_parts plan h =
     let a = and_parts (are_names (participant_name plan) (length plan.participants)) _ h in
     let b = and_parts (are_names (object_name plan) (length plan.objects)) _ a.1 in
@@ -92,10 +101,14 @@ exceptions-named plan g h = by (cases_lt g (length plan.graphs))
 watch-own : (plan : Plan) (w : ℕ) → is_well_named plan ≡ true → w < length plan.watches
     → (watched_object plan w < length plan.objects) × (watch_in plan (object_name plan (watched_object plan w)) ≡ w)
 watch-own plan w h l =
-    let p = and_parts (nat_lt (watched_object plan w) (length plan.objects)) (watch_in plan (object_name plan (watched_object plan w)) == w) (below (is_own_watch plan) (length plan.watches) w (names_parts plan h).3 l) in
+    let p =
+    and_parts (nat_lt (watched_object plan w) (length plan.objects))
+    (watch_in plan (object_name plan (watched_object plan w)) == w)
+    (below (is_own_watch plan) (length plan.watches) w (names_parts plan h).3 l) in
     (ltb-true _ _ p.0, eqb-true _ _ p.1)
 
-pub watched-within : (plan : Plan) (w : ℕ) → is_well_named plan ≡ true → w < length plan.watches → watched_object plan w < length plan.objects
+pub watched-within : (plan : Plan) (w : ℕ) → is_well_named plan ≡ true → w < length plan.watches
+    → watched_object plan w < length plan.objects
 watched-within plan w h l = (watch-own plan w h l).0
 
 pub watches-named : (plan : Plan) → is_well_named plan ≡ true → Named (λ w. object_name plan (watched_object plan w)) (length plan.watches)
@@ -106,7 +119,8 @@ watches-named plan h = record {
 
 -- ---- a test of all numbers, one after the other
 
-pub range_pass : (test : ℕ → Bool) (from n : ℕ) → from < n → test from ≡ true → list_all test (range_with_len (from + 1) (n - (from + 1))) ≡ list_all test (range_with_len from (n - from))
+pub range_pass : (test : ℕ → Bool) (from n : ℕ) → from < n → test from ≡ true
+    → list_all test (range_with_len (from + 1) (n - (from + 1))) ≡ list_all test (range_with_len from (n - from))
 range_pass test from n within pass =
     let left : n - from ≡ suc (n - (from + 1)) = omega arith in
     rw left (sym (ap (λ b. b && list_all test (range_with_len (from + 1) (n - (from + 1)))) pass))
@@ -119,13 +133,17 @@ range_fail test from n within fail =
 -- ---- a plan whose names differ is well named
 
 -- a word is the name of the first number alone that has it
-index_among-first : (name_of : ℕ → List ℕ) (word : List ℕ) (i from left : ℕ) → from ≤ i → i < from + left → name_of i ≡ word → ((k : ℕ) → from ≤ k → k < i → name_of k ≡ word → ⊥) → index_among name_of word from left ≡ i
+index_among-first : (name_of : ℕ → List ℕ) (word : List ℕ) (i from left : ℕ) → from ≤ i → i < from + left
+    → name_of i ≡ word → ((k : ℕ) → from ≤ k → k < i → name_of k ≡ word → ⊥) → index_among name_of word from left ≡ i
 index_among-first name_of word i from zero low high is none = absurd (omega (arith, low, high))
 index_among-first name_of word i from (suc left) low high is none =
     by (bytes_eq (name_of from) word) refl (cases_lt from i)
-    (λ before. index_among-first name_of word i (suc from) left (omega (arith, before)) (omega (arith, high)) is (λ k l w. none k (omega (arith, l)) w))
+    (λ before. index_among-first name_of word i (suc from) left (omega (arith, before)) (omega (arith, high)) is
+    (λ k l w. none k (omega (arith, l)) w))
   where
-    by : (b : Bool) → bytes_eq (name_of from) word ≡ b → (from < i) ⊎ (i ≤ from) → (from < i → index_among name_of word (suc from) left ≡ i) → (if b then from else index_among name_of word (suc from) left) ≡ i
+    by : (b : Bool) → bytes_eq (name_of from) word ≡ b → (from < i) ⊎ (i ≤ from)
+        → (from < i → index_among name_of word (suc from) left ≡ i)
+        → (if b then from else index_among name_of word (suc from) left) ≡ i
     by true e (inl before) later = absurd (none from (omega arith) before ((bytes_eq-Decides (name_of from) word).0 e))
     by true e (inr here) later = omega (arith, low, here)
     by false e (inl before) later = later before
@@ -140,8 +158,14 @@ all_below_pass test n h = list_all-from_AllPass test (range_with_len 0 n) (λ i 
     subst (λ k. test k ≡ true) (sym (get_or-range_with_len 0 n i d within ∙ zero-add i)) (h i within))
 
 -- names of which no two are the same lead to their numbers
-pub own_index : (name_of : ℕ → List ℕ) (n i : ℕ) → i < n → ((k : ℕ) → k < i → name_of k ≡ name_of i → ⊥) → (index_among name_of (name_of i) 0 n == i) ≡ true
-own_index name_of n i l differ = eq-eqb _ _ (index_among-first name_of (name_of i) i 0 n (omega arith) (omega (arith, l)) refl (λ k low w. differ k w))
+pub own_index : (name_of : ℕ → List ℕ) (n i : ℕ) → i < n → ((k : ℕ) → k < i → name_of k ≡ name_of i → ⊥)
+    → (index_among name_of (name_of i) 0 n == i) ≡ true
+own_index name_of n i l differ =
+    eq-eqb _ _ (index_among-first name_of (name_of i) i 0 n (omega arith) (omega (arith, l)) refl
+    (λ k low w. differ k w))
 
-pub are_names-from : (name_of : ℕ → List ℕ) (n : ℕ) → ((i : ℕ) → i < n → is_name (name_of i) ≡ true) → ((k i : ℕ) → k < i → i < n → name_of k ≡ name_of i → ⊥) → are_names name_of n ≡ true
-are_names-from name_of n spelled differ = all_below_pass (is_own_name name_of n) n (λ i l. and_from _ _ (spelled i l) (own_index name_of n i l (λ k w. differ k i w l)))
+pub are_names-from : (name_of : ℕ → List ℕ) (n : ℕ) → ((i : ℕ) → i < n → is_name (name_of i) ≡ true)
+    → ((k i : ℕ) → k < i → i < n → name_of k ≡ name_of i → ⊥) → are_names name_of n ≡ true
+are_names-from name_of n spelled differ =
+    all_below_pass (is_own_name name_of n) n
+    (λ i l. and_from _ _ (spelled i l) (own_index name_of n i l (λ k w. differ k i w l)))

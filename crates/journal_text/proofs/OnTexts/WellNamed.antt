@@ -32,7 +32,8 @@ module _ (plan : Plan) (h : HasOwnNames plan) where
   objects_named =
       let row_name = λ (row : ObjectRow). row.name in
       are_names-from (object_name plan) (length plan.objects)
-      (λ i l. subst (λ (name : List ℕ). is_name name ≡ true) (get_or-map row_name plan.objects i no_object [] l) (h.objects.spelled i [] (omega (arith, l, length-map plan.objects row_name))))
+      (λ i l. subst (λ (name : List ℕ). is_name name ≡ true) (get_or-map row_name plan.objects i no_object [] l)
+      (h.objects.spelled i [] (omega (arith, l, length-map plan.objects row_name))))
       objects_differ
 
   graph_named : (g : ℕ) → g < length plan.graphs → is_named_graph plan g ≡ true
@@ -43,16 +44,25 @@ module _ (plan : Plan) (h : HasOwnNames plan) where
   watched_within : (w : ℕ) → w < length plan.watches → watched_object plan w < length plan.objects
   watched_within w l = h.watched w 0 l
 
-  watched_differ : (v w : ℕ) → v < w → w < length plan.watches → object_name plan (watched_object plan v) ≡ object_name plan (watched_object plan w) → ⊥
-  watched_differ v w before l e = by (cases_lt (watched_object plan v) (watched_object plan w)) (cases_lt (watched_object plan w) (watched_object plan v))
+  watched_differ : (v w : ℕ) → v < w → w < length plan.watches
+      → object_name plan (watched_object plan v) ≡ object_name plan (watched_object plan w) → ⊥
+  watched_differ v w before l e =
+      by (cases_lt (watched_object plan v) (watched_object plan w))
+      (cases_lt (watched_object plan w) (watched_object plan v))
     where
-      by : (watched_object plan v < watched_object plan w) ⊎ (watched_object plan w ≤ watched_object plan v) → (watched_object plan w < watched_object plan v) ⊎ (watched_object plan v ≤ watched_object plan w) → ⊥
+      by : (watched_object plan v < watched_object plan w) ⊎ (watched_object plan w ≤ watched_object plan v)
+          → (watched_object plan w < watched_object plan v) ⊎ (watched_object plan v ≤ watched_object plan w) → ⊥
       by (inl less) q = objects_differ (watched_object plan v) (watched_object plan w) less (watched_within w l) e
-      by (inr p) (inl more) = objects_differ (watched_object plan w) (watched_object plan v) more (watched_within v (omega (arith, before, l))) (sym e)
+      by (inr p) (inl more) =
+          objects_differ (watched_object plan w) (watched_object plan v) more
+          (watched_within v (omega (arith, before, l))) (sym e)
       by (inr p) (inr q) = h.once v w 0 before l (omega (arith, p, q))
 
   watch_named : (w : ℕ) → w < length plan.watches → is_own_watch plan w ≡ true
-  watch_named w l = and_from _ _ (lt-ltb _ _ (watched_within w l)) (own_index (λ w. object_name plan (watched_object plan w)) (length plan.watches) w l (λ v before e. watched_differ v w before l e))
+  watch_named w l =
+      and_from _ _ (lt-ltb _ _ (watched_within w l))
+      (own_index (λ w. object_name plan (watched_object plan w)) (length plan.watches) w l
+      (λ v before e. watched_differ v w before l e))
 
   pub well_named : is_well_named plan ≡ true
   well_named =
@@ -68,7 +78,8 @@ differ_by : (f : List ℕ → ℕ) (a b : List ℕ) (i j : ℕ) → f a ≡ i �
 differ_by f a b i j own other before e = omega (arith, before, sym own ∙ ap f e ∙ other)
 
 -- names that are told by their numbers
-own_of : (names : List (List ℕ)) (name_of : ℕ → List ℕ) (n : ℕ) → length names ≡ n → ((i : ℕ) → i < n → name_of i ≡ slice_index_or names i []) → are_names name_of n ≡ true → AreOwnNames names
+own_of : (names : List (List ℕ)) (name_of : ℕ → List ℕ) (n : ℕ) → length names ≡ n
+    → ((i : ℕ) → i < n → name_of i ≡ slice_index_or names i []) → are_names name_of n ≡ true → AreOwnNames names
 own_of names name_of n long same h =
     let known = named name_of n h in
     let told = λ (i : ℕ) (d : List ℕ) (l : i < length names). same i (omega (arith, l, long)) ∙ get_or_default names i [] d l in
@@ -81,16 +92,22 @@ own_of names name_of n long same h =
     }
 
 -- each graph of a closed plan has a name for each exception
-each_named : (plan : Plan) → IsClosed plan → (g : ℕ) (d : GraphRow) → g < length plan.graphs → length (slice_index_or plan.graphs g d).names ≡ (slice_index_or plan.graphs g d).graph.count
-each_named plan closed = of_plan (λ (q : Plan). (g : ℕ) (d : GraphRow) → g < length q.graphs → length (slice_index_or q.graphs g d).names ≡ (slice_index_or q.graphs g d).graph.count) plan closed
-    (λ g d l. eqb-true _ _ (AllPass-from_list_all is_named closed.draft.graphs (and_parts (first_is_plain closed.draft.graphs) _ (keeps_of plan closed).graphs).1 g d l))
+each_named : (plan : Plan) → IsClosed plan → (g : ℕ) (d : GraphRow) → g < length plan.graphs
+    → length (slice_index_or plan.graphs g d).names ≡ (slice_index_or plan.graphs g d).graph.count
+each_named plan closed =
+    of_plan (λ (q : Plan). (g : ℕ) (d : GraphRow) → g < length q.graphs
+    → length (slice_index_or q.graphs g d).names ≡ (slice_index_or q.graphs g d).graph.count) plan closed
+    (λ g d l. eqb-true _ _ (AllPass-from_list_all is_named closed.draft.graphs
+    (and_parts (first_is_plain closed.draft.graphs) _ (keeps_of plan closed).graphs).1 g d l))
 
 module _ (plan : Plan) (closed : IsClosed plan) (h : is_well_named plan ≡ true) where
   own_graph : (g : ℕ) (d : GraphRow) → g < length plan.graphs → NamesExceptions (slice_index_or plan.graphs g d)
   own_graph g d l =
       let same : slice_index_or plan.graphs g no_graph ≡ slice_index_or plan.graphs g d = get_or_default plan.graphs g no_graph d l in
       subst NamesExceptions same (record {
-        own = own_of (slice_index_or plan.graphs g no_graph).names (exception_name plan g) (graph_at plan g).count (each_named plan closed g no_graph l) (λ x within. refl) (graph-named plan g h l);
+        own =
+            own_of (slice_index_or plan.graphs g no_graph).names (exception_name plan g) (graph_at plan g).count
+            (each_named plan closed g no_graph l) (λ x within. refl) (graph-named plan g h l);
         each = each_named plan closed g no_graph l;
       })
 
@@ -100,7 +117,9 @@ module _ (plan : Plan) (closed : IsClosed plan) (h : is_well_named plan ≡ true
       let watched = λ (w : ℕ) (d : ℕ) (l : w < length plan.watches). get_or_default plan.watches w 0 d l in
       let own = watches-named plan h in
       record {
-        participants = own_of plan.participants (participant_name plan) (length plan.participants) refl (λ i l. refl) (names_parts plan h).0;
+        participants =
+            own_of plan.participants (participant_name plan) (length plan.participants) refl (λ i l. refl)
+            (names_parts plan h).0;
         objects = own_of (map row_name plan.objects) (object_name plan) (length plan.objects) (length-map plan.objects row_name)
             (λ i l. sym (get_or-map row_name plan.objects i no_object [] l)) (names_parts plan h).1;
         graphs = own_graph;

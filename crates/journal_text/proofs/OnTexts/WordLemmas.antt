@@ -11,7 +11,7 @@ use Rattle.std.proofs.lemmas.Int.{ints}
 use Rattle.caa_base.specs.Written.Lines.{spaced, digits_after}
 use Rattle.caa_base.specs.Written.Limits.{IsValue}
 use Rattle.journal_text.specs.Texts.Naming.{index_among}
-use Rattle.journal_text.specs.Texts.Words.{is_gap, word_in, after_word, next_word, after_next, number_in}
+use Rattle.journal_text.specs.inner.Words.{is_gap, word_in, after_word, next_word, after_next, number_in}
 
 -- ---- words
 
@@ -43,13 +43,16 @@ pub begins-line : (words : List (List ℕ)) (text : List ℕ) → Begins (spaced
 begins-line [] text = refl
 begins-line (word ∷ words) text = refl
 
-pub next_word-line : (word : List ℕ) (words : List (List ℕ)) (text : List ℕ) → is_whole word ≡ true → next_word (spaced (word ∷ words) ++ 10 ∷ text) ≡ word
+pub next_word-line : (word : List ℕ) (words : List (List ℕ)) (text : List ℕ) → is_whole word ≡ true
+    → next_word (spaced (word ∷ words) ++ 10 ∷ text) ≡ word
 next_word-line word words text w =
     ap word_in (append_assoc word (spaced words) (10 ∷ text)) ∙ word_in-whole word (spaced words ++ 10 ∷ text) w (begins-line words text)
 
-pub after_next-line : (word : List ℕ) (words : List (List ℕ)) (text : List ℕ) → is_whole word ≡ true → after_next (spaced (word ∷ words) ++ 10 ∷ text) ≡ spaced words ++ 10 ∷ text
+pub after_next-line : (word : List ℕ) (words : List (List ℕ)) (text : List ℕ) → is_whole word ≡ true
+    → after_next (spaced (word ∷ words) ++ 10 ∷ text) ≡ spaced words ++ 10 ∷ text
 after_next-line word words text w =
-    ap after_word (append_assoc word (spaced words) (10 ∷ text)) ∙ after_word-whole word (spaced words ++ 10 ∷ text) w (begins-line words text)
+    ap after_word (append_assoc word (spaced words) (10 ∷ text))
+    ∙ after_word-whole word (spaced words ++ 10 ∷ text) w (begins-line words text)
 
 -- ---- numbers
 
@@ -62,7 +65,8 @@ whole-digit n h = grind (arith, nat_tests)
 
 pub whole-decimal : (n : ℕ) → n < 2 ^ 64 → is_whole (decimal n) ≡ true
 whole-decimal n h =
-    decimal_by_steps (λ m ds. is_whole ds ≡ true) whole-digit (λ m ds l k. whole-append ds ((48 + m % 10) ∷ []) k (whole-digit (m % 10) (omega arith))) n h
+    decimal_by_steps (λ m ds. is_whole ds ≡ true) whole-digit
+    (λ m ds l k. whole-append ds ((48 + m % 10) ∷ []) k (whole-digit (m % 10) (omega arith))) n h
 
 pub whole-signed : (z : ℤ) → IsValue z → is_whole (signed_decimal z) ≡ true
 whole-signed (pos n) h = whole-decimal n (omega (arith, ints, h.1))
@@ -79,7 +83,8 @@ number_in-decimal most n fits small =
 -- ---- names
 
 -- the search passes a name that differs
-pub index-passed : (name_of : ℕ → List ℕ) (word : List ℕ) (from n : ℕ) → from < n → bytes_eq (name_of from) word ≡ false → index_among name_of word (from + 1) (n - (from + 1)) ≡ index_among name_of word from (n - from)
+pub index-passed : (name_of : ℕ → List ℕ) (word : List ℕ) (from n : ℕ) → from < n → bytes_eq (name_of from) word ≡ false
+    → index_among name_of word (from + 1) (n - (from + 1)) ≡ index_among name_of word from (n - from)
 index-passed name_of word from n within other =
     let left : n - from ≡ suc (n - (from + 1)) = omega arith in
     rw (left, add-one) (sym (cond-false (bytes_eq (name_of from) word) from (index_among name_of word (suc from) (n - suc from)) other))

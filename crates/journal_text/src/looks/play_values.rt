@@ -5,7 +5,7 @@ ghost use Rattle.std.specs.List.{list_any};
 ghost use Rattle.std.specs.HashSet.{contains};
 ghost use Rattle.caa_base.specs.Written.Lists.{index_of};
 ghost use Rattle.place_plan.specs.Plans.Places.{around, top_of, initial_of};
-ghost use Rattle.journal_text.specs.Watching.CommittedValues.{TellsRanks, HasCommitted, counts, Notes, lowest_after, value_after};
+ghost use Rattle.journal_text.specs.inner.CommittedValues.{TellsRanks, HasCommitted, counts, Notes, lowest_after, value_after};
 
 use caa_base::written::entry::{Entry, Object, Place};
 use place_plan::plans::plan::Plan;

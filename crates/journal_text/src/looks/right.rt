@@ -4,7 +4,7 @@ ghost use Rattle.place_plan.specs.RulesOfJournals.Journals.{plays_ended};
 ghost use Rattle.journal_text.specs.Watching.Looks.{AreOfPlan};
 ghost use Rattle.journal_text.specs.Texts.Naming.{is_well_named};
 ghost use Rattle.journal_text.specs.Texts.Text.{watched_object};
-ghost use Rattle.journal_text.specs.Watching.CommittedValues.{value_by, HasWatched};
+ghost use Rattle.journal_text.specs.inner.CommittedValues.{value_by, HasWatched};
 ghost use Rattle.journal_text.specs.Watching.Right.{is_committed, follows, is_followed, is_whole, first_wrong, NoneIsWrong};
 
 use crate::looks::play_values::{committed_values, ranks_of};
@@ -12,8 +12,8 @@ use crate::looks::seens::{Seen, Seens};
 use caa_base::written::entry::{Entry, Object, OutOfMemory, Place};
 use caa_base::written::journal::Journal;
 use caa_base::written::rows::Rows;
-use place_plan::rules::one_entry::ends_play;
 use place_plan::plans::plan::Plan;
+use place_plan::rules::one_entry::ends_play;
 use std::alloc::{AllocError, Global};
 
 /// The number of the first wrong look, counted from 0; none where all are right.

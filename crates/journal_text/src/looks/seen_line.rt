@@ -1,8 +1,8 @@
 ghost use Rattle.std.specs.Prelude.{◌≡◌, ◌<◌, ◌↔◌, IsTrue, length};
 ghost use Rattle.journal_text.specs.Texts.Text.{object_name, watched_object};
 ghost use Rattle.journal_text.specs.Texts.Naming.{watch_in};
-ghost use Rattle.journal_text.specs.Texts.Words.{seen_in};
-ghost use Rattle.journal_text.specs.Texts.TextSteps.{MayStand};
+ghost use Rattle.journal_text.specs.inner.Words.{seen_in};
+ghost use Rattle.journal_text.specs.inner.TextSteps.{MayStand};
 
 use crate::looks::seens::Seen;
 use crate::texts::text_writer::object_name;

@@ -1,11 +1,34 @@
 ghost use Rattle.std.specs.Prelude.{◌≡◌, ◌<◌};
 ghost use Rattle.journal_text.specs.Texts.Text.{participant_name, object_name};
-ghost use Rattle.journal_text.specs.Texts.Words.{participant_in, object_in, exception_in, kind_in, nothing_more, marked, naming, object_fields, work_fields, verdict_fields, end_fields, named_fields, leave_fields, fields_in, entry_after, entry_in};
+ghost use Rattle.journal_text.specs.inner.Words.{participant_in, object_in, exception_in, kind_in, nothing_more, marked, naming, object_fields, work_fields, verdict_fields, end_fields, named_fields, leave_fields, fields_in, entry_after, entry_in};
 
+use crate::texts::text_writer::kind_word;
 use crate::texts::words::{goes_on, next_word, number_in, split_word, value_in};
 use caa_base::written::entry::{Entry, Exception, Kind, Object, Participant, Place};
 use caa_base::written::limits::MOST_COUNT;
 use place_plan::plans::plan::Plan;
+
+/// All kinds, in the order in which they are declared.
+pub(crate) const KINDS: [Kind; 18] = [
+    Kind::Arrive,
+    Kind::Withdraw,
+    Kind::Start,
+    Kind::Read,
+    Kind::Work,
+    Kind::Write,
+    Kind::Check,
+    Kind::PutFault,
+    Kind::Raise,
+    Kind::Inform,
+    Kind::Resolve,
+    Kind::Handle,
+    Kind::Verdict,
+    Kind::Abort,
+    Kind::Undo,
+    Kind::Restore,
+    Kind::End,
+    Kind::Leave,
+];
 
 /// What an entry says beside its kind, its place and its maker.
 pub struct Fields {
@@ -220,43 +243,5 @@ pub fn exception_in(plan: &Plan, graph: u32, word: &[u8]) -> Exception
 fn kind_in(word: &[u8]) -> Option<Kind>
     ensures { result ≡ kind_in word.now }
 {
-    if word == b"arrive".as_slice() {
-        Some(Kind::Arrive)
-    } else if word == b"withdraw".as_slice() {
-        Some(Kind::Withdraw)
-    } else if word == b"start".as_slice() {
-        Some(Kind::Start)
-    } else if word == b"read".as_slice() {
-        Some(Kind::Read)
-    } else if word == b"work".as_slice() {
-        Some(Kind::Work)
-    } else if word == b"write".as_slice() {
-        Some(Kind::Write)
-    } else if word == b"check".as_slice() {
-        Some(Kind::Check)
-    } else if word == b"putfault".as_slice() {
-        Some(Kind::PutFault)
-    } else if word == b"raise".as_slice() {
-        Some(Kind::Raise)
-    } else if word == b"inform".as_slice() {
-        Some(Kind::Inform)
-    } else if word == b"resolve".as_slice() {
-        Some(Kind::Resolve)
-    } else if word == b"handle".as_slice() {
-        Some(Kind::Handle)
-    } else if word == b"verdict".as_slice() {
-        Some(Kind::Verdict)
-    } else if word == b"abort".as_slice() {
-        Some(Kind::Abort)
-    } else if word == b"undo".as_slice() {
-        Some(Kind::Undo)
-    } else if word == b"restore".as_slice() {
-        Some(Kind::Restore)
-    } else if word == b"end".as_slice() {
-        Some(Kind::End)
-    } else if word == b"leave".as_slice() {
-        Some(Kind::Leave)
-    } else {
-        None
-    }
+    KINDS.iter().copied().find(|kind| kind_word(*kind) == word)
 }

@@ -2,15 +2,15 @@ ghost use Rattle.std.specs.Prelude.{◌≡◌, ◌≤◌, [], true, ◌<◌, len
 ghost use Rattle.caa_base.specs.declared.written.entry.OutOfMemory.{OutOfMemory};
 ghost use Rattle.place_plan.specs.RulesOfJournals.WellFormed.{IsWellFormed, AllWellFormed};
 ghost use Rattle.journal_text.specs.Texts.Naming.{is_well_named};
-ghost use Rattle.journal_text.specs.Texts.Text.{entry_line, object_lines, outcome_lines, closing_lines, seen_line, first_line, text_of};
+ghost use Rattle.journal_text.specs.Texts.Text.{text_of};
 ghost use Rattle.journal_text.specs.Watching.Looks.{AreOfPlan};
 ghost use Rattle.journal_text.specs.Texts.TextOfJournal.{lines_shared, Reads, ReadsBack, TextsDiffer};
-ghost use Rattle.journal_text.specs.Texts.TextSteps.{IsAfter, EntryFound, SeenFound, EntriesRead, SeensRead, StopsEntries, RefusesAfter};
+ghost use Rattle.journal_text.specs.inner.TextSteps.{IsAfter, EntryFound, SeenFound, EntriesRead, SeensRead, StopsEntries, RefusesAfter};
 
-use crate::texts::entry_line::entry_in;
 use crate::looks::seen_line::{may_stand, seen_in};
 use crate::looks::seens::{Seen, Seens};
-use crate::texts::text_writer::{push_entry, push_objects, push_outcomes, push_seen, write_text};
+use crate::texts::entry_line::entry_in;
+use crate::texts::text_writer::{push_closing, push_entry, push_seen, write_text};
 use caa_base::written::entry::{Entry, OutOfMemory};
 use caa_base::written::journal::Journal;
 use place_plan::plans::plan::Plan;
@@ -70,90 +70,6 @@ fn after_front<'a>(text: &'a [u8], front: &[u8]) -> Option<&'a [u8]>
     text.strip_prefix(front)
 }
 
-/// What bytes are left as after the first line of a text, where they begin with that.
-fn after_first_line(bytes: &[u8]) -> Option<&[u8]>
-    ensures { IsAfter (λ r. r.now) first_line bytes.now result }
-{
-    after_front(bytes, b"journal\n")
-}
-
-/// What a text is left as after the line of this entry, where it begins with that.
-fn after_entry<'a>(
-    alloc: Global,
-    plan: &Plan,
-    text: &'a [u8],
-    entry: &Entry,
-) -> Result<Option<&'a [u8]>, OutOfMemory>
-    requires { IsWellFormed plan.now entry.now }
-    ensures { IfOk result (λ after. IsAfter (λ r. r.now) (entry_line plan.now entry.now) text.now after) }
-{
-    let mut line = Vec::new(alloc);
-    push_entry(&mut line, plan, entry)?;
-    Ok(after_front(text, line.as_slice()))
-}
-
-/// What a text is left as after the line of this look, where it begins with that.
-fn after_seen<'a>(
-    alloc: Global,
-    plan: &Plan,
-    text: &'a [u8],
-    seen: &Seen,
-) -> Result<Option<&'a [u8]>, OutOfMemory>
-    requires { seen.now.watch < length plan.now.watches }
-    ensures { IfOk result (λ after. IsAfter (λ r. r.now) (seen_line plan.now seen.now) text.now after) }
-{
-    let mut line = Vec::new(alloc);
-    push_seen(&mut line, plan, seen)?;
-    Ok(after_front(text, line.as_slice()))
-}
-
-/// What a text is left as after the lines of all objects, where it begins with those.
-fn after_objects<'a>(
-    alloc: Global,
-    plan: &Plan,
-    text: &'a [u8],
-    entries: &[Entry],
-) -> Result<Option<&'a [u8]>, OutOfMemory>
-    requires { AllWellFormed plan.now entries.now }
-    ensures { IfOk result (λ after. IsAfter (λ r. r.now) (object_lines plan.now (reverse entries.now)) text.now after) }
-{
-    let mut objects = Vec::new(alloc);
-    push_objects(alloc, &mut objects, plan, entries)?;
-    Ok(after_front(text, objects.as_slice()))
-}
-
-/// What a text is left as after the lines of all outcomes, where it begins with those.
-fn after_outcomes<'a>(
-    alloc: Global,
-    plan: &Plan,
-    text: &'a [u8],
-    entries: &[Entry],
-) -> Result<Option<&'a [u8]>, OutOfMemory>
-    requires { AllWellFormed plan.now entries.now }
-    ensures { IfOk result (λ after. IsAfter (λ r. r.now) (outcome_lines plan.now (reverse entries.now)) text.now after) }
-{
-    let mut outcomes = Vec::new(alloc);
-    push_outcomes(alloc, &mut outcomes, plan, entries)?;
-    Ok(after_front(text, outcomes.as_slice()))
-}
-
-/// What a text is left as after the lines that follow from these entries, where it begins with those.
-fn after_closing<'a>(
-    alloc: Global,
-    plan: &Plan,
-    text: &'a [u8],
-    entries: &[Entry],
-) -> Result<Option<&'a [u8]>, OutOfMemory>
-    requires { AllWellFormed plan.now entries.now }
-    ensures { IfOk result (λ after. IsAfter (λ r. r.now) (closing_lines plan.now (reverse entries.now)) text.now after) }
-{
-    match after_objects(alloc, plan, text, entries) {
-        Ok(Some(rest)) => after_outcomes(alloc, plan, rest, entries),
-        Ok(None) => Ok(None),
-        Err(error) => Err(error),
-    }
-}
-
 /// The well-formed entry whose line a text begins with, and the rest of the text.
 fn next_entry<'a>(
     alloc: Global,
@@ -170,10 +86,11 @@ fn next_entry<'a>(
     if !is_well_formed(plan, &entry) {
         return Ok(None);
     }
-    match after_entry(alloc, plan, text, &entry) {
-        Ok(Some(rest)) => Ok(Some((entry, rest))),
-        Ok(None) => Ok(None),
-        Err(error) => Err(error),
+    let mut line = Vec::new(alloc);
+    push_entry(&mut line, plan, &entry)?;
+    match after_front(text, line.as_slice()) {
+        Some(rest) => Ok(Some((entry, rest))),
+        None => Ok(None),
     }
 }
 
@@ -191,10 +108,11 @@ fn next_seen<'a>(
     if !may_stand(plan, least, &seen) {
         return Ok(None);
     }
-    match after_seen(alloc, plan, text, &seen) {
-        Ok(Some(rest)) => Ok(Some((seen, rest))),
-        Ok(None) => Ok(None),
-        Err(error) => Err(error),
+    let mut line = Vec::new(alloc);
+    push_seen(&mut line, plan, &seen)?;
+    match after_front(text, line.as_slice()) {
+        Some(rest) => Ok(Some((seen, rest))),
+        None => Ok(None),
     }
 }
 
@@ -309,12 +227,13 @@ fn read_text(
     ensures { Reads plan.now limit bytes.now result }
 {
     plan.places();
-    let Some(text) = after_first_line(bytes) else {
+    let Some(text) = after_front(bytes, b"journal\n") else {
         return Err(refused_after(alloc, plan, bytes, &[], &[]));
     };
     let (entries, text) = read_entries(alloc, plan, text, limit)?;
-    let left = after_closing(alloc, plan, text, &entries)?;
-    let Some(text) = left else {
+    let mut closing = Vec::new(alloc);
+    push_closing(alloc, &mut closing, plan, &entries)?;
+    let Some(text) = after_front(text, closing.as_slice()) else {
         return Err(refused_after(alloc, plan, bytes, &entries, &[]));
     };
     let (seens, text) = read_seens(alloc, plan, text)?;

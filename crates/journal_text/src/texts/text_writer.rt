@@ -6,16 +6,18 @@ ghost use Rattle.place_plan.specs.Plans.Places.{parent};
 ghost use Rattle.place_plan.specs.RulesOfJournals.Entries.{is_of};
 ghost use Rattle.place_plan.specs.RulesOfJournals.WellFormed.{IsWellFormed, AllWellFormed};
 ghost use Rattle.journal_text.specs.Texts.Text.{action_name, object_name, internal_name, interface_name, kind_word, object_words, restore_word, verdict_words, outcome_at, outcome_words, abort_words, leave_words, field_words, entry_line, object_lines, last_outcome, ending_words, outcome_lines, closing_lines, seen_line, text_of};
-ghost use Rattle.journal_text.specs.Texts.KnownValues.{value_found};
+ghost use Rattle.journal_text.specs.inner.KnownValues.{value_found};
 ghost use Rattle.journal_text.specs.Watching.Looks.{AreOfPlan};
 
 use crate::looks::seens::{Seen, Seens};
 use crate::texts::values::{last_values, value_found};
-use caa_base::written::entry::{Entry, Exception, Kind, Object, OutOfMemory, Outcome, Place, Verdict};
+use caa_base::written::entry::{
+    Entry, Exception, Kind, Object, OutOfMemory, Outcome, Place, Verdict,
+};
 use caa_base::written::journal::Journal;
 use caa_base::written::line::{end_line, push_number, push_value, push_word};
-use place_plan::rules::one_entry::verdict_at;
 use place_plan::plans::plan::Plan;
+use place_plan::rules::one_entry::verdict_at;
 use std::alloc::{AllocError, Global};
 
 /// The text of a journal: one line for each entry, with the names of the plan, then the value of each object and the outcome of
@@ -79,7 +81,7 @@ fn push_entries(text: &mut Vec<u8>, plan: &Plan, entries: &[Entry]) -> Result<()
 }
 
 /// Adds the lines that follow from the entries.
-fn push_closing(
+pub(crate) fn push_closing(
     alloc: Global,
     text: &mut Vec<u8>,
     plan: &Plan,
@@ -105,7 +107,7 @@ fn push_seens(text: &mut Vec<u8>, plan: &Plan, seens: &[Seen]) -> Result<(), Out
 
 /// Adds a line for each object, with its value after the entries.
 #[tactic(auto, using(crate::proofs::OnTexts::TextLemmas::lines_more))]
-pub(crate) fn push_objects(
+fn push_objects(
     alloc: Global,
     text: &mut Vec<u8>,
     plan: &Plan,
@@ -123,7 +125,7 @@ pub(crate) fn push_objects(
 
 /// Adds a line for each place, with its outcome after the entries.
 #[tactic(auto, using(crate::proofs::OnTexts::TextLemmas::lines_more))]
-pub(crate) fn push_outcomes(
+fn push_outcomes(
     alloc: Global,
     text: &mut Vec<u8>,
     plan: &Plan,
@@ -402,7 +404,7 @@ fn outcome_of(entry: &Entry) -> Outcome
 }
 
 /// The word of a kind.
-fn kind_word(kind: Kind) -> &'static [u8]
+pub(crate) fn kind_word(kind: Kind) -> &'static [u8]
     ensures { result.now ≡ kind_word kind }
 {
     match kind {

@@ -2,7 +2,7 @@ ghost use Rattle.std.specs.Prelude.{◌≡◌, ◌<◌, ◌*◌, [], length, rev
 ghost use Rattle.std.specs.List.{list_any};
 ghost use Rattle.place_plan.specs.Plans.Places.{around};
 ghost use Rattle.place_plan.specs.RulesOfJournals.WellFormed.{IsWellFormed, AllWellFormed};
-ghost use Rattle.journal_text.specs.Texts.KnownValues.{was_restored, was_undone, value_found, found_after_write, found_after, restored_after_restore, restored_after, LooksBack, HasValues};
+ghost use Rattle.journal_text.specs.inner.KnownValues.{was_restored, was_undone, value_found, found_after_write, found_after, restored_after_restore, restored_after, LooksBack, HasValues};
 
 use caa_base::written::entry::{Entry, Kind, Object, Place};
 use place_plan::plans::plan::Plan;

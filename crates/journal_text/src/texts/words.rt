@@ -1,5 +1,5 @@
 ghost use Rattle.std.specs.Prelude.{◌≡◌, ◌≤◌};
-ghost use Rattle.journal_text.specs.Texts.Words.{is_gap, word_in, after_word, next_word, after_next, goes_on, number_in, value_in};
+ghost use Rattle.journal_text.specs.inner.Words.{is_gap, word_in, after_word, next_word, after_next, goes_on, number_in, value_in};
 
 use caa_base::written::digits::digits_within;
 use caa_base::written::limits::MOST_MAGNITUDE;

@@ -8,4 +8,6 @@ use Rattle.journal_replay.proofs.rule.due_end.Goals as goal
 pub returns-clause-entry : goal.returns-clause-entry
 returns-clause-entry c =
     let plan = c.args.plan.now in
-    ap Some c.naming.ensures.entry ∙ end_of_cover plan (is_playable plan c.is_closed.ensures) c.args.place c.args.by _ (signals (reverse c.args.journal.now) c.args.place (roles_of plan c.args.place)) c.least_signalled.ensures
+    ap Some c.naming.ensures.entry
+    ∙ end_of_cover plan (is_playable plan c.is_closed.ensures) c.args.place c.args.by _
+    (signals (reverse c.args.journal.now) c.args.place (roles_of plan c.args.place)) c.least_signalled.ensures

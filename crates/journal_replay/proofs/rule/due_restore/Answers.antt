@@ -6,4 +6,5 @@ use Rattle.journal_replay.proofs.rule.due_restore.Goals as goal
 pub value_at_start-value-requires : goal.value_at_start-value-requires
 value_at_start-value-requires c =
     let plan = c.args.plan.now in
-    restore_fits plan (is_playable plan c.is_closed.ensures) (reverse c.args.journal.now) c.args.place c.args.by c.in-Some.object c.in-Some.ensures
+    restore_fits plan (is_playable plan c.is_closed.ensures)
+    (reverse c.args.journal.now) c.args.place c.args.by c.in-Some.object c.in-Some.ensures

@@ -10,18 +10,23 @@ pub value_at-value-requires : goal.value_at-value-requires
 value_at-value-requires c =
     let plan = c.args.plan.now in
     let next : Some (step.Read c.in-Some-Read.object) ≡ c.args.step = grind arith in
-    read_fits plan (is_playable plan c.is_closed.ensures) (reverse c.args.journal.now) c.args.place c.args.by c.in-Some-Read.object (next ∙ c.requires.step)
+    read_fits plan (is_playable plan c.is_closed.ensures)
+    (reverse c.args.journal.now) c.args.place c.args.by c.in-Some-Read.object (next ∙ c.requires.step)
 
 pub clamped-value-requires-clause-register : goal.clamped-value-requires-clause-register
 clamped-value-requires-clause-register c =
     let plan = c.args.plan.now in
     let past = reverse c.args.journal.now in
     let same : to_z w64 (of_z w64 c.args.from) ≡ c.args.from = omega (arith, ints) in
-    subst IsValue (sym (same ∙ c.requires.start)) (register_fits plan past c.args.place c.args.by (c.is_well_formed.ensures past c.requires.legal))
+    subst IsValue (sym (same ∙ c.requires.start))
+    (register_fits plan past c.args.place c.args.by (c.is_well_formed.ensures past c.requires.legal))
 
 pub clamped-value-requires-clause-number : goal.clamped-value-requires-clause-number
 clamped-value-requires-clause-number c =
     let plan = c.args.plan.now in
     let same : to_z w64 (of_z w64 c.in-Some-Add.number) ≡ c.in-Some-Add.number = omega (arith, ints) in
     let next : Some (step.Add c.in-Some-Add.object c.in-Some-Add.number) ≡ c.args.step = grind arith in
-    subst IsValue (sym same) (added_fits plan (is_playable plan c.is_closed.ensures) (reverse c.args.journal.now) c.args.place c.args.by c.in-Some-Add.object c.in-Some-Add.number (next ∙ c.requires.step))
+    subst IsValue (sym same)
+    (added_fits plan (is_playable plan c.is_closed.ensures)
+    (reverse c.args.journal.now) c.args.place c.args.by c.in-Some-Add.object c.in-Some-Add.number
+    (next ∙ c.requires.step))

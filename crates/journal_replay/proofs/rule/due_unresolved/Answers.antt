@@ -13,5 +13,7 @@ returns-clause-entry c =
     let t = c.args.by in
     let playable = is_playable plan c.is_closed.ensures in
     let together : all_are_halted plan past p ≡ true = sym c.all_are_halted.ensures ∙ c.if-not-all_are_halted.false in
-    c.due_resolve.ensures.entry ∙ resolve_of_cover plan playable p t _ (exceptions_raised plan past p) (not-true _ c.requires.hot) c.least_raised.ensures
+    c.due_resolve.ensures.entry
+    ∙ resolve_of_cover plan playable p t _ (exceptions_raised plan past p)
+    (not-true _ c.requires.hot) c.least_raised.ensures
     ∙ sym (halted_due plan playable p t past together)

@@ -4,7 +4,7 @@ use Rattle.place_plan.specs.RulesOfJournals.Roles.{register}
 use Rattle.place_plan.specs.RulesOfJournals.Machine.{work_entry}
 use Rattle.journal_laws.specs.Due.{due_of}
 use Rattle.journal_replay.specs.IsDue.{DeviceDecides}
-use Rattle.journal_replay.specs.Duty.{entry_of, MixesRight}
+use Rattle.journal_replay.specs.inner.Duty.{entry_of, MixesRight}
 use Rattle.journal_replay.specs.declared.duty.Duty.{Duty}
 use Rattle.journal_replay.proofs.DueEntries.{the_entry, device_decides}
 use Rattle.journal_replay.proofs.rule.turn.Goals as goal
@@ -15,10 +15,16 @@ returns-in-Mix c =
     let past = reverse c.args.journal.now.entries in
     let work = c.in-Mix.work in
     let same = ap (λ (es : List Entry). due_of plan (reverse es) c.args.by) c.as_slice-entries.ensures in
-    let found = subst (λ (d : Duty). Some (entry_of c.args.by d) ≡ due_of plan (reverse c.as_slice-entries.result.now) c.args.by) c.in-Mix.is c.in-Some.ensures.entry in
-    let start = subst (λ (d : Duty). MixesRight plan (reverse c.as_slice-entries.result.now) c.args.by (Some d)) c.in-Mix.is c.in-Some.ensures.mixes in
+    let found =
+    subst (λ (d : Duty). Some (entry_of c.args.by d)
+    ≡ due_of plan (reverse c.as_slice-entries.result.now) c.args.by) c.in-Mix.is c.in-Some.ensures.entry in
+    let start =
+    subst (λ (d : Duty). MixesRight plan (reverse c.as_slice-entries.result.now) c.args.by (Some d)) c.in-Mix.is
+    c.in-Some.ensures.mixes in
     record {
-      next = the_entry plan past (c.due_is_right.ensures past c.requires.legal) c.args.by (work_entry work.place c.args.by work.rounds work.from) (found ∙ same) refl;
+      next =
+          the_entry plan past (c.due_is_right.ensures past c.requires.legal) c.args.by
+          (work_entry work.place c.args.by work.rounds work.from) (found ∙ same) refl;
       start = start ∙ ap (λ (es : List Entry). register plan (reverse es) work.place c.args.by) c.as_slice-entries.ensures;
     }
 
@@ -27,9 +33,12 @@ returns-then-asks_device c =
     let plan = c.args.plan.now in
     let past = reverse c.args.journal.now.entries in
     let same = ap (λ (es : List Entry). due_of plan (reverse es) c.args.by) c.as_slice-entries.ensures in
-    let found = subst (λ (d : Duty). Some (entry_of c.args.by d) ≡ due_of plan (reverse c.as_slice-entries.result.now) c.args.by) c.in-Make.is c.in-Some.ensures.entry in (
+    let found =
+    subst (λ (d : Duty). Some (entry_of c.args.by d)
+    ≡ due_of plan (reverse c.as_slice-entries.result.now) c.args.by) c.in-Make.is c.in-Some.ensures.entry in (
       subst (DeviceDecides plan past c.args.by c.in-Make.entry) (sym c.refused.ensures)
-          (device_decides plan past (c.due_is_right.ensures past c.requires.legal) c.args.by c.in-Make.entry (found ∙ same) (sym c.asks_device.ensures ∙ c.if-asks_device.true)),
+          (device_decides plan past (c.due_is_right.ensures past c.requires.legal) c.args.by c.in-Make.entry
+          (found ∙ same) (sym c.asks_device.ensures ∙ c.if-asks_device.true)),
       refl,
     )
 
@@ -38,7 +47,10 @@ returns-else-asks_device c =
     let plan = c.args.plan.now in
     let past = reverse c.args.journal.now.entries in
     let same = ap (λ (es : List Entry). due_of plan (reverse es) c.args.by) c.as_slice-entries.ensures in
-    let found = subst (λ (d : Duty). Some (entry_of c.args.by d) ≡ due_of plan (reverse c.as_slice-entries.result.now) c.args.by) c.in-Make.is c.in-Some.ensures.entry in (
-      the_entry plan past (c.due_is_right.ensures past c.requires.legal) c.args.by c.in-Make.entry (found ∙ same) (sym c.asks_device.ensures ∙ c.if-asks_device.false),
+    let found =
+    subst (λ (d : Duty). Some (entry_of c.args.by d)
+    ≡ due_of plan (reverse c.as_slice-entries.result.now) c.args.by) c.in-Make.is c.in-Some.ensures.entry in (
+      the_entry plan past (c.due_is_right.ensures past c.requires.legal) c.args.by c.in-Make.entry (found ∙ same)
+          (sym c.asks_device.ensures ∙ c.if-asks_device.false),
       subst (λ (d : Duty). MixesRight plan (reverse c.as_slice-entries.result.now) c.args.by (Some d)) c.in-Make.is c.in-Some.ensures.mixes,
     )

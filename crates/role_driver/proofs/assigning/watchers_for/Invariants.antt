@@ -1,6 +1,6 @@
 use Rattle.std.proofs.Common.{◌≡◌, ◌+◌, ◌<◌, ◌++◌, All, length, map, replicate, vec_capacity, vec_len}
-use Rattle.role_driver.specs.Watching.{task_of}
-use Rattle.role_driver.specs.WatchRooms.{task_with, observer_of}
+use Rattle.role_driver.specs.inner.Watching.{task_of}
+use Rattle.role_driver.specs.inner.WatchRooms.{task_with, observer_of}
 use Rattle.role_driver.proofs.assigning.watchers_for.Given as goal
 
 abbrev pub invariant-loop-blank : goal.invariant-loop-blank
@@ -10,5 +10,6 @@ invariant-loop-blank g l =
       room : vec_len l.watchers + length left ≡ vec_capacity l.watchers;
       observers : l.observers.items ≡ replicate (length left) observer;
       objects : All (λ b. b.object < length observer.initials) left;
-      tasks : map task_of l.watchers.items ++ map (λ b. task_with observer b.object) left ≡ map (λ b. task_with observer b.object) l.fn.blanks.items;
+      tasks : map task_of l.watchers.items ++ map (λ b. task_with observer b.object) left
+          ≡ map (λ b. task_with observer b.object) l.fn.blanks.items;
     }

@@ -1,5 +1,5 @@
 use Rattle.std.proofs.Common.{◌≡◌, ◌++◌, length, map}
-use Rattle.role_driver.specs.Gathering.{look_of}
+use Rattle.role_driver.specs.inner.Gathering.{look_of}
 use Rattle.role_driver.proofs.LooksAdded.{kept}
 use Rattle.role_driver.proofs.gathering.add_looks.Given as goal
 

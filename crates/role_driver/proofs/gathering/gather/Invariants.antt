@@ -1,6 +1,6 @@
 use Rattle.std.proofs.Common.{◌≡◌, ◌*◌, length, map, reverse, suc}
-use Rattle.role_driver.specs.Watching.{task_of}
-use Rattle.role_driver.specs.Gathering.{task_by, AreRightSoFar}
+use Rattle.role_driver.specs.inner.Watching.{task_of}
+use Rattle.role_driver.specs.inner.Gathering.{task_by, AreRightSoFar}
 use Rattle.role_driver.proofs.gathering.gather.Given as goal
 
 abbrev pub invariant-loop-watch : goal.invariant-loop-watch

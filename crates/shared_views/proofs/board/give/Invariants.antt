@@ -1,5 +1,5 @@
 use Rattle.std.proofs.Common.{◌≡◌, fold, take}
-use Rattle.shared_views.specs.Boards.{row_after}
+use Rattle.shared_views.specs.inner.Boards.{row_after}
 use Rattle.shared_views.proofs.board.give.Given as goal
 
 abbrev pub invariant-loop-change : goal.invariant-loop-change

@@ -9,5 +9,8 @@ publish_as-writer-requires g c next is =
 
 pub returns-clause-wide : goal.returns-clause-wide
 returns-clause-wide g c =
-    let w = c.requires.waits in let values = ok_part c.publish_as-writer.result.1 _ _ (c.publish_as-writer.ensures.succeeds tt) c.publish_as-writer.ensures.values in
+    let w = c.requires.waits in
+    let values =
+    ok_part c.publish_as-writer.result.1 _ _
+    (c.publish_as-writer.ensures.succeeds tt) c.publish_as-writer.ensures.values in
     (shows_next c.args.writer.desk.shown.value c.publish_as-writer.result.0.desk.shown.value w.0 _ c.requires.right w.1 w.2 values.1.0).wide

@@ -10,5 +10,7 @@ join_seat-requires g c =
       c.requires.table.1,
       c.requires.table.2,
       omega (arith, sized.0),
-      joins (home.terms key.plan.value key.home.value) (home.journal key.home.value) home.right home.journal kept.id other.id kept.me.0 other.me.0 k.0 o.0 k.1 o.1 k.2 o.2,
+      joins (home.terms key.plan.value key.home.value)
+          (home.journal key.home.value) home.right home.journal kept.id other.id kept.me.0 other.me.0 k.0 o.0 k.1 o.1
+          k.2 o.2,
     )

@@ -1,5 +1,5 @@
 use Rattle.std.proofs.Common.{◌∙◌, ◌∷◌, ap, map, reverse, subst, sym}
-use Rattle.action_manager.specs.Turns.{held, Stands}
+use Rattle.action_manager.specs.inner.Turns.{held, Stands}
 use Rattle.action_manager.specs.Seats.{HaveAll, stand}
 use Rattle.action_manager.proofs.Gathered.{gathered_has, gathered_account}
 use Rattle.action_manager.proofs.manager.Manager.close.Goals as goal
@@ -15,5 +15,8 @@ pub returns-in-Some-pop-clause-accounts : goal.returns-in-Some-pop-clause-accoun
 returns-in-Some-pop-clause-accounts g c =
     let rest = c.pop.new.self.items in
     let whole = c.gather-kept.ensures.all ∙ ap (λ t. (t.me.0.who, t.me.0.seen) ∷ reverse (map stand rest)) c.into_token.ensures in
-    let stands = subst (λ m. Stands (g.M.Machine.journal_of m) (held c.gather-kept.result.me.0)) (sym c.of.ensures.machine) c.shut_with.ensures.stands in
-    gathered_account (g.M.Machine.journal_of c.of.result.machine) c.args.seats.items rest c.in-Some-pop.last _ c.in-Some-pop.ensures.items whole stands
+    let stands =
+    subst (λ m. Stands (g.M.Machine.journal_of m) (held c.gather-kept.result.me.0))
+    (sym c.of.ensures.machine) c.shut_with.ensures.stands in
+    gathered_account (g.M.Machine.journal_of c.of.result.machine) c.args.seats.items rest c.in-Some-pop.last _
+    c.in-Some-pop.ensures.items whole stands

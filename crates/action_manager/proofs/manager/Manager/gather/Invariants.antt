@@ -1,5 +1,5 @@
 use Rattle.std.proofs.Common.{◌≡◌, ◌++◌, true, false, length, map, reverse, All}
-use Rattle.action_manager.specs.Turns.{held}
+use Rattle.action_manager.specs.inner.Turns.{held}
 use Rattle.action_manager.specs.Managers.{table_of, terms_in}
 use Rattle.action_manager.specs.Seats.{IsSeatOf, stand}
 use Rattle.action_manager.proofs.manager.Manager.gather.Given as goal

@@ -1,6 +1,6 @@
 use Rattle.std.proofs.Common.{◌≡◌, [], map, All, vec_capacity, vec_len}
 use Rattle.std.specs.List.{range_with_len}
-use Rattle.action_manager.specs.Turns.{maker}
+use Rattle.action_manager.specs.inner.Turns.{maker}
 use Rattle.action_manager.specs.Managers.{table_of, terms_in, handed_in}
 use Rattle.action_manager.specs.Seats.{IsNewSeat, participant_of}
 use Rattle.action_manager.proofs.manager.Manager.make_seats.Given as goal

@@ -1,5 +1,5 @@
 use Rattle.std.proofs.Common.{subst, ◌<◌, ℕ}
-use Rattle.action_manager.specs.Turns.{held, Has}
+use Rattle.action_manager.specs.inner.Turns.{held, Has}
 use Rattle.action_manager.proofs.manager.Manager.shut_with.Goals as goal
 
 pub close_with-requires-clause-all : goal.close_with-requires-clause-all

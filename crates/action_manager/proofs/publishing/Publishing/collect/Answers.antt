@@ -10,9 +10,11 @@ pub value-requires : goal.value-requires
 value-requires g c =
     let plan = g.M.Machine.plan_of c.args.machine.now in let objects = c.objects_of-objects.result.now in let i = c.loop-index.index in
     let closed : IsClosed plan = subst IsClosed c.plan.ensures c.is_closed.ensures in
-    let same : objects ≡ objects_of plan c.args.place = c.objects_of-objects.ensures ∙ ap (λ p. objects_of p c.args.place) c.plan-2.ensures in
+    let same : objects ≡ objects_of plan c.args.place =
+    c.objects_of-objects.ensures ∙ ap (λ p. objects_of p c.args.place) c.plan-2.ensures in
     let low : i < length objects = omega (arith, c.loop-index-test.true, c.loop-index.invariant.end) in
-    subst (λ l. slice_index_or l i 0 < length plan.objects) (sym same) (object_known plan closed c.args.place i 0 (subst (λ l. i < length l) same low))
+    subst (λ l. slice_index_or l i 0 < length plan.objects) (sym same)
+    (object_known plan closed c.args.place i 0 (subst (λ l. i < length l) same low))
 
 pub loop-index-preserved : goal.loop-index-preserved
 loop-index-preserved g c =
@@ -25,7 +27,9 @@ loop-index-preserved g c =
       end = refl;
       writer = inv.writer;
       room = c.push_reserved.ensures.capacity ∙ inv.room;
-      changes = pushed ∙ (ap (λ l. l ++ (o, c.value.result) ∷ []) inv.changes ∙ (ap (λ v. map (λ o. (o, value_of plan past o)) (take i objects) ++ (o, v) ∷ []) c.value.ensures
+      changes =
+          pushed ∙ (ap (λ l. l ++ (o, c.value.result) ∷ []) inv.changes
+          ∙ (ap (λ v. map (λ o. (o, value_of plan past o)) (take i objects) ++ (o, v) ∷ []) c.value.ensures
           ∙ mapped_more (λ o. (o, value_of plan past o)) objects i 0 low));
     }
 
@@ -33,5 +37,7 @@ pub returns-clause-changes : goal.returns-clause-changes
 returns-clause-changes g c =
     let plan = g.M.Machine.plan_of c.args.machine.now in let past = reverse (g.M.Machine.journal_of c.args.machine.now) in
     let objects = c.objects_of-objects.result.now in
-    let same : objects ≡ objects_of plan c.args.place = c.objects_of-objects.ensures ∙ ap (λ p. objects_of p c.args.place) c.plan-2.ensures in
-    c.loop-index.invariant.changes ∙ ap (map (λ o. (o, value_of plan past o))) (take_all c.loop-index.index objects c.loop-index-test.false ∙ same)
+    let same : objects ≡ objects_of plan c.args.place =
+    c.objects_of-objects.ensures ∙ ap (λ p. objects_of p c.args.place) c.plan-2.ensures in
+    c.loop-index.invariant.changes
+    ∙ ap (map (λ o. (o, value_of plan past o))) (take_all c.loop-index.index objects c.loop-index-test.false ∙ same)

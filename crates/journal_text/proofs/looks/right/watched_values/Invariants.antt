@@ -1,5 +1,5 @@
 use Rattle.std.proofs.Common.{reverse}
-use Rattle.journal_text.specs.Watching.CommittedValues.{HasWatched}
+use Rattle.journal_text.specs.inner.CommittedValues.{HasWatched}
 use Rattle.journal_text.proofs.looks.right.watched_values.Given as goal
 
 abbrev pub invariant-loop-watch : goal.invariant-loop-watch

@@ -5,5 +5,7 @@ use Rattle.journal_text.proofs.texts.entry_line.object_in.Goals as goal
 
 pub loop-object-preserved : goal.loop-object-preserved
 loop-object-preserved c =
-    let other : bytes_eq (object_name c.args.plan.now c.loop-object.object) c.args.word.now ≡ false = ap (λ name. bytes_eq name c.args.word.now) (sym c.object_name.ensures) ∙ sym c.eq.ensures ∙ c.if-eq.false in
-    index-passed (object_name c.args.plan.now) c.args.word.now c.loop-object.object (length c.args.plan.now.objects) (omega arith) other ∙ c.loop-object.invariant
+    let other : bytes_eq (object_name c.args.plan.now c.loop-object.object) c.args.word.now ≡ false =
+    ap (λ name. bytes_eq name c.args.word.now) (sym c.object_name.ensures) ∙ sym c.eq.ensures ∙ c.if-eq.false in
+    index-passed (object_name c.args.plan.now) c.args.word.now c.loop-object.object (length c.args.plan.now.objects)
+    (omega arith) other ∙ c.loop-object.invariant

@@ -6,4 +6,6 @@ use Rattle.journal_text.proofs.texts.naming.has_named_objects.Given as goal
 
 abbrev pub invariant-loop-object : goal.invariant-loop-object
 invariant-loop-object l =
-    list_all (is_own_name (object_name l.plan) (length l.plan.objects)) (range_with_len l.object (length l.plan.objects - l.object)) ≡ list_all (is_own_name (object_name l.plan) (length l.plan.objects)) (range_with_len 0 (length l.plan.objects))
+    list_all (is_own_name (object_name l.plan) (length l.plan.objects))
+    (range_with_len l.object (length l.plan.objects - l.object))
+    ≡ list_all (is_own_name (object_name l.plan) (length l.plan.objects)) (range_with_len 0 (length l.plan.objects))

@@ -5,4 +5,5 @@ use Rattle.journal_text.proofs.texts.naming.has_own_watches.Given as goal
 
 abbrev pub invariant-loop-watch : goal.invariant-loop-watch
 invariant-loop-watch l =
-    list_all (is_own_watch l.plan) (range_with_len l.watch (length l.plan.watches - l.watch)) ≡ list_all (is_own_watch l.plan) (range_with_len 0 (length l.plan.watches))
+    list_all (is_own_watch l.plan) (range_with_len l.watch (length l.plan.watches - l.watch))
+    ≡ list_all (is_own_watch l.plan) (range_with_len 0 (length l.plan.watches))

@@ -6,4 +6,7 @@ use Rattle.journal_text.proofs.texts.naming.is_named_graph.Given as goal
 
 abbrev pub invariant-loop-exception : goal.invariant-loop-exception
 invariant-loop-exception l =
-    list_all (is_own_name (exception_name l.plan l.graph) (graph_at l.plan l.graph).count) (range_with_len l.exception ((graph_at l.plan l.graph).count - l.exception)) ≡ list_all (is_own_name (exception_name l.plan l.graph) (graph_at l.plan l.graph).count) (range_with_len 0 ((graph_at l.plan l.graph).count))
+    list_all (is_own_name (exception_name l.plan l.graph) (graph_at l.plan l.graph).count)
+    (range_with_len l.exception ((graph_at l.plan l.graph).count - l.exception))
+    ≡ list_all (is_own_name (exception_name l.plan l.graph) (graph_at l.plan l.graph).count)
+    (range_with_len 0 ((graph_at l.plan l.graph).count))

@@ -11,12 +11,16 @@ returns-then-not-is_well_formed c =
     no-entry c.args.plan.now c.args.text.now c.entry_in.result c.requires (omega (arith, c.places.ensures)) c.entry_in.ensures
     (λ e rest found fit same.
     let one : e ≡ c.in-Some.entry = cc (found, c.in-Some.is) in
-    both_ways c.is_well_formed.result c.if-not-is_well_formed.true (c.is_well_formed.ensures.1 (subst (IsWellFormed c.args.plan.now) one fit)))
+    both_ways c.is_well_formed.result c.if-not-is_well_formed.true
+    (c.is_well_formed.ensures.1 (subst (IsWellFormed c.args.plan.now) one fit)))
 
 pub returns-in-Ok-None : goal.returns-in-Ok-None
 returns-in-Ok-None c =
     let none : (rest : List ℕ) → c.args.text.now ≡ entry_line c.args.plan.now c.in-Some.entry ++ rest → ⊥ =
-    subst (λ o. MatchOption o ((rest : List ℕ) → c.args.text.now ≡ entry_line c.args.plan.now c.in-Some.entry ++ rest → ⊥) (λ rest. c.args.text.now ≡ entry_line c.args.plan.now c.in-Some.entry ++ rest.now)) c.in-Ok-None.field-0-is c.in-Ok-None.ensures in
+    subst (λ o. MatchOption o
+    ((rest : List ℕ) → c.args.text.now ≡ entry_line c.args.plan.now c.in-Some.entry ++ rest → ⊥)
+    (λ rest. c.args.text.now ≡ entry_line c.args.plan.now c.in-Some.entry ++ rest.now)) c.in-Ok-None.field-0-is
+    c.in-Ok-None.ensures in
     no-entry c.args.plan.now c.args.text.now c.entry_in.result c.requires (omega (arith, c.places.ensures)) c.entry_in.ensures
     (λ e rest found fit same.
     let one : e ≡ c.in-Some.entry = cc (found, c.in-Some.is) in

@@ -2,7 +2,7 @@ use Rattle.std.proofs.Common.{◌≡◌, ◌++◌, ℕ, List, ap, sym, ◌∙◌
 use Rattle.std.specs.Option.{MatchOption}
 use Rattle.std.proofs.lemmas.Bool.{both_ways}
 use Rattle.journal_text.specs.Texts.Text.{seen_line}
-use Rattle.journal_text.specs.Texts.TextSteps.{MayCome}
+use Rattle.journal_text.specs.inner.TextSteps.{MayCome}
 use Rattle.journal_text.proofs.OnTexts.ReadingLemmas.{no-seen}
 use Rattle.journal_text.proofs.texts.text_reader.next_seen.Goals as goal
 
@@ -19,6 +19,7 @@ returns-in-Ok-None c =
     let seen = c.seen_in-seen.result in
     let text = c.args.text.now in
     let none : (rest : List ℕ) → text ≡ seen_line c.args.plan.now seen ++ rest → ⊥ =
-    subst (λ o. MatchOption o ((rest : List ℕ) → text ≡ seen_line c.args.plan.now seen ++ rest → ⊥) (λ rest. text ≡ seen_line c.args.plan.now seen ++ rest.now)) c.in-Ok-None.field-0-is c.in-Ok-None.ensures in
+    subst (λ o. MatchOption o ((rest : List ℕ) → text ≡ seen_line c.args.plan.now seen ++ rest → ⊥)
+    (λ rest. text ≡ seen_line c.args.plan.now seen ++ rest.now)) c.in-Ok-None.field-0-is c.in-Ok-None.ensures in
     no-seen c.args.plan.now c.args.least text seen c.requires c.seen_in-seen.ensures
     (λ s rest found fit same. none rest (same ∙ ap (λ k. seen_line c.args.plan.now k ++ rest) (sym found)))

@@ -8,4 +8,6 @@ pub returns : goal.returns
 returns c =
     let es = c.args.entries.now in
     let all : take c.loop-entry.entry-index es ≡ es = take_all _ _ (omega arith) in
-    fill_by_all (last_outcome (reverse es)) c.loop-entry.outcomes.items (length c.args.plan.now.places) None c.loop-entry.invariant.each (λ p h. rw all at (c.loop-entry.invariant.told p h))
+    fill_by_all (last_outcome (reverse es)) c.loop-entry.outcomes.items
+    (length c.args.plan.now.places) None c.loop-entry.invariant.each
+    (λ p h. rw all at (c.loop-entry.invariant.told p h))

@@ -15,7 +15,9 @@ loop-place-preserved c =
     let p = c.loop-place.place in
     let d = c.index.result.now in
     let at : get_or c.in_ok-outcomes.outcomes.items p d ≡ last_outcome past p =
-    rw c.in_ok-outcomes.ensures (get_or-map-range_with_len (last_outcome past) 0 (length c.args.plan.now.places) p p d (omega arith) (omega arith)) in
+    rw c.in_ok-outcomes.ensures
+    (get_or-map-range_with_len (last_outcome past) 0 (length c.args.plan.now.places) p p d (omega arith)
+    (omega arith)) in
     let told : c.index.result.now ≡ last_outcome past p = c.index.ensures ∙ at in
     let more = lines_more (outcome_line c.args.plan.now past) c.args.text.now.items p in
     cc (c.in_ok-push_ending.ensures)

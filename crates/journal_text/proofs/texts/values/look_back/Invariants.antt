@@ -1,5 +1,5 @@
 use Rattle.std.proofs.Common.{take, drop, reverse}
-use Rattle.journal_text.specs.Texts.KnownValues.{LooksBack}
+use Rattle.journal_text.specs.inner.KnownValues.{LooksBack}
 use Rattle.journal_text.proofs.texts.values.look_back.Given as goal
 
 abbrev pub invariant-loop-index : goal.invariant-loop-index

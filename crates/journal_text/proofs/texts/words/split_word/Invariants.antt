@@ -1,5 +1,5 @@
 use Rattle.std.proofs.Common.{◌≡◌, ◌++◌, take, drop}
-use Rattle.journal_text.specs.Texts.Words.{word_in, after_word}
+use Rattle.journal_text.specs.inner.Words.{word_in, after_word}
 use Rattle.journal_text.proofs.texts.words.split_word.Given as goal
 
 abbrev pub invariant-loop-index : goal.invariant-loop-index

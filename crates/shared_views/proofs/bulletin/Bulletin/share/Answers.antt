@@ -16,6 +16,8 @@ returns-clause-same c =
 pub returns-clause-told : goal.returns-clause-told
 returns-clause-told c = λ x there.
     let items = c.args.self.now.told.items in let place = c.args.place in let it = c.index_mut.result.now in
-    let low : place < length items = subst (λ n. place < n) (sym c.requires.set.long) (subst (λ l. place < length l) (sym c.requires.ours) c.requires.place) in
+    let low : place < length items =
+    subst (λ n. place < n) (sym c.requires.set.long)
+    (subst (λ l. place < length l) (sym c.requires.ours) c.requires.place) in
     let same : it ≡ told_at c.args.self.now place = c.index_mut.ensures.value ∙ get_or_default items place it told.Nothing low in
     c.share.ensures.told x (subst (IsTold c.args.cells.now place x) (sym same) there)

@@ -16,8 +16,11 @@ pub share-requires-in-Handle-clause-told : goal.share-requires-in-Handle-clause-
 share-requires-in-Handle-clause-told c =
     let k = c.requires.follows.1 in let suits = c.requires.follows.2 in
     let b = c.args.self.now in let p = c.args.entry.place in
-    let low : p < length (cells_of b) = subst (λ l. p < length l) (sym c.requires.ours) suits.inside in
-    (c.args.entry.arg, subst (λ l. IsTold l p c.args.entry.arg (told_at b p)) c.requires.ours (told_there c.requires.follows.0 b p c.args.entry.arg k low (suits.carried c.in-Handle.is)))
+    let low : p < length (cells_of b) = subst (λ l. p < length l) (sym c.requires.ours) suits.inside in (
+      c.args.entry.arg,
+      subst (λ l. IsTold l p c.args.entry.arg (told_at b p)) c.requires.ours
+          (told_there c.requires.follows.0 b p c.args.entry.arg k low (suits.carried c.in-Handle.is)),
+    )
 
 pub returns-in-Resolve-clause-told : goal.returns-in-Resolve-clause-told
 returns-in-Resolve-clause-told c =
@@ -34,4 +37,6 @@ returns-in-Handle-clause-told c =
     let b = c.args.self.now in let p = c.args.entry.place in
     let low : p < length (cells_of b) = subst (λ l. p < length l) (sym c.requires.ours) suits.inside in
     subst (λ (x : Kind). TellsOf x c.args.cells.now c.args.entry c.share-in-Handle.result) (sym c.in-Handle.is)
-    (c.share-in-Handle.ensures.told c.args.entry.arg (subst (λ l. IsTold l p c.args.entry.arg (told_at b p)) c.requires.ours (told_there c.requires.follows.0 b p c.args.entry.arg k low (suits.carried c.in-Handle.is))))
+    (c.share-in-Handle.ensures.told c.args.entry.arg
+    (subst (λ l. IsTold l p c.args.entry.arg (told_at b p)) c.requires.ours
+    (told_there c.requires.follows.0 b p c.args.entry.arg k low (suits.carried c.in-Handle.is))))

@@ -1,6 +1,6 @@
 use Rattle.std.proofs.Common.{◌≡◌, ◌∙◌, ◌<◌, ◌++◌, ◌∷◌, [], ℕ, All, length, drop, ap, sym, subst}
 use Rattle.shared_views.specs.Publications.{Changes}
-use Rattle.shared_views.specs.Boards.{IsRight, Follows}
+use Rattle.shared_views.specs.inner.Boards.{IsRight, Follows}
 use Rattle.shared_views.specs.declared.board.Board.{Board}
 use Rattle.shared_views.specs.declared.board.Publication.{Publication}
 use Rattle.shared_views.proofs.committed_writer.CommittedWriter.add.Goals as goal

@@ -12,5 +12,6 @@ compare_exchange-found-requires c =
       book,
       pen.0 ∙ book,
       offer.0,
-      rw (ap (λ w. w.key) h, pen.1, offer.1, offer.3) (adds_moves c.self.inside.reached.log c.args.changes.now.items c.self.inside.ends (sym c.self.invariant)),
+      rw (ap (λ w. w.key) h, pen.1, offer.1, offer.3)
+          (adds_moves c.self.inside.reached.log c.args.changes.now.items c.self.inside.ends (sym c.self.invariant)),
     )

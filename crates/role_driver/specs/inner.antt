@@ -1,0 +1,8 @@
+-- What the code keeps and finds its answers by: no contract of a public call cites it.
+pub mod Threads
+pub mod Crew
+pub mod CrewRooms
+pub mod Gathering
+pub mod Records
+pub mod WatchRooms
+pub mod Watching

@@ -1,0 +1,19 @@
+-- Watchers, and the threads that they look in.
+use Rattle.std.specs.Prelude.{ℕ, ℤ, List, Result}
+use Rattle.logbook.specs.Pages.{Book}
+use Rattle.role_driver.specs.declared.watcher.Watcher.{Watcher}
+use Rattle.role_driver.specs.inner.Threads.{of_started}
+
+-- what a watcher is to watch: an object, by its initial values and by one list of publications
+pub record Task : Type 0 where
+  pub object : ℕ
+  pub initials : List ℤ
+  pub book : Book
+
+-- the task of a watcher
+abbrev pub task_of : Watcher → Task
+task_of w = record { object = w.object; initials = w.observer.initials; book = w.observer.known.book }
+
+-- the task of a watcher that has a thread, or of one that was handed back
+abbrev pub task_at : {H : Type 0} → (H → Watcher) → Result H Watcher → Task
+task_at watcher_of r = of_started (λ h. task_of (watcher_of h)) task_of r
