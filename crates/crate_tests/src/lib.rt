@@ -6,6 +6,16 @@ mod base;
 #[cfg(test)]
 mod covers;
 #[cfg(test)]
+mod drafts;
+#[cfg(test)]
+mod driving;
+#[cfg(test)]
 mod graphs;
 #[cfg(test)]
+mod journal_texts;
+#[cfg(test)]
+mod replays;
+#[cfg(test)]
 mod top_calls;
+#[cfg(test)]
+mod views;

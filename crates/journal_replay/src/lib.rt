@@ -7,5 +7,3 @@ mod duty;
 pub mod hall;
 mod look_back;
 pub mod rule;
-#[cfg(test)]
-mod tests;

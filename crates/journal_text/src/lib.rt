@@ -2,6 +2,4 @@
 #![tactic(auto)]
 
 pub mod looks;
-#[cfg(test)]
-mod tests;
 pub mod texts;

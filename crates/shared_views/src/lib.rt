@@ -20,6 +20,3 @@ pub use observed::{ReadRefused, Reading, reading_stands};
 pub use observer::Observer;
 pub use publications::Publications;
 pub use send_sync::{may_cross, may_share};
-
-#[cfg(test)]
-mod tests;

@@ -267,8 +267,3 @@ pub fn draft(
         watches: Rows::from_vec(Vec::new(alloc)),
     })
 }
-
-#[cfg(test)]
-mod plan_tests;
-#[cfg(test)]
-mod use_tests;

@@ -5,9 +5,6 @@ ghost use Rattle.journal_replay.specs.Hall.{journal_in};
 ghost use Rattle.action_manager.specs.Managers.{IsSeatIn, book_in};
 ghost use Rattle.action_manager.specs.Publishing.{new_observer};
 
-use crate::crew::go_on;
-use crate::finish::finish;
-use crate::running::{Finished, RunError, run};
 use action_manager::{Closed, Manager, ManagerError, Opened, Seat};
 use caa_base::outside::gate::{EmptyGate, Gate};
 use caa_base::outside::memory::SurePlant;
@@ -18,6 +15,9 @@ use place_plan::drafts::draft_rows::{
 };
 use place_plan::plans::plan::Plan;
 use place_plan::rules::machine::{Answer, Machine};
+use role_driver::finish::finish;
+use role_driver::go_on;
+use role_driver::running::{Finished, RunError, run};
 use shared_views::Reading;
 use std::alloc::Global;
 use std::sync::Wait;

@@ -1,6 +1,5 @@
 //! Drafts of one action that nests nothing: what its plan reads, and which rule a wrong draft breaks.
 
-use crate::{PLAIN, action, draft, numbers, plain_role, play};
 use caa_base::written::entry::{Drill, Entry, Kind, Object, Participant, Verdict};
 use caa_base::written::rows::Rows;
 use place_plan::drafts::draft::Draft;
@@ -9,6 +8,7 @@ use place_plan::plans::plan::{Plan, PlanError};
 use place_plan::rules::value::value_at;
 use std::alloc::Global;
 use std::test::Fail;
+use trial_drafts::{PLAIN, action, draft, numbers, plain_role, play};
 
 /// What differs in the drafts of these tests: each has two participants, and one action, `look`.
 #[derive(Clone, Copy)]

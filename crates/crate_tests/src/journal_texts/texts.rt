@@ -2,13 +2,13 @@ ghost use Rattle.std.specs.Prelude.{◌≡◌, true, IfOk};
 ghost use Rattle.place_plan.specs.RulesOfJournals.WellFormed.{AllWellFormed};
 ghost use Rattle.journal_text.specs.Texts.Naming.{is_well_named};
 
-use crate::looks::right::first_wrong;
-use crate::looks::seens::Seens;
-use crate::texts::naming::is_well_named;
-use crate::texts::text_reader::{TextError, read};
-use crate::texts::text_writer::write;
 use caa_base::written::entry::{Entry, Kind, Participant};
 use caa_base::written::journal::Journal;
+use journal_text::looks::right::first_wrong;
+use journal_text::looks::seens::Seens;
+use journal_text::texts::naming::is_well_named;
+use journal_text::texts::text_reader::{TextError, read};
+use journal_text::texts::text_writer::write;
 use place_plan::plans::plan::Plan;
 use place_plan::rules::well_formed::is_well_formed;
 use std::alloc::Global;

@@ -1,6 +1,5 @@
 //! Drafts with nested uses: what they unfold into, and which rule a wrong one breaks.
 
-use crate::{Exceptions, Maps, action, draft, nest, play, program, role};
 use caa_base::written::entry::Verdict;
 use caa_base::written::rows::Rows;
 use place_plan::drafts::close::broken_part;
@@ -12,6 +11,7 @@ use place_plan::plans::plan::{Plan, PlanError};
 use place_plan::plans::unfolded::{Size, unfolded};
 use std::alloc::Global;
 use std::test::Fail;
+use trial_drafts::{Exceptions, Maps, action, draft, nest, play, program, role};
 
 /// A nested use: its actions, the roles that play it, and the exceptions that it maps.
 #[derive(Clone, Copy)]
