@@ -1,8 +1,6 @@
 pub mod Pieces
 pub mod Numbering
-pub mod Marks
 pub mod LineCuts
-pub mod WordCuts
 pub mod Speaking
 pub mod NamesCounted
 pub mod Steadiness
@@ -19,4 +17,3 @@ pub mod WellRead
 pub mod LineNumbers
 pub mod Named
 pub mod PlainLines
-pub mod PlaysKept

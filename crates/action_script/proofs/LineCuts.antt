@@ -16,14 +16,12 @@ end_of text = position_or_len (λ b. b == 10) text
 abbrev pub pieces_of : List ℕ → List (List ℕ)
 pieces_of text = slice_split (λ b. b == 10) text
 
--- where one is found, they stand before it
-pub end_found : (text : List ℕ) (place : ℕ) → position (λ b. b == 10) text ≡ Some place → place ≡ end_of text
-end_found text place h = sym (cond_some (nat_lt (end_of text) (length text)) (end_of text) place h).1
-
--- where none is found, all do
-pub end_whole : (text : List ℕ) → position (λ b. b == 10) text ≡ None → length text ≡ end_of text
-end_whole text h =
-    omega (arith, ltb-false (end_of text) (length text) (failed (nat_lt (end_of text) (length text)) (end_of text) h), prefix_len-le-length (λ b. not (b == 10)) text)
+-- they stand before the first line feed, where there is one, and else all do
+pub end_found : (text : List ℕ) (place : Option ℕ) → IsFirstByte (is_byte 10) text place → unwrap_or place (length text) ≡ end_of text
+end_found text None none =
+    sym (position_or_len_is (λ b. b == 10) text (length text) 0 (omega arith) (λ k below. false_from_ne_true (slice_index text k == 10) (none k (omega arith) below)) (λ past. absurd (omega (arith, past))))
+end_found text (Some place) first =
+    sym (position_or_len_is (λ b. b == 10) text place 0 (omega (arith, first.0.high)) (λ k below. false_from_ne_true (slice_index text k == 10) (first.0.before k (omega arith) below)) (λ within. first.1))
 
 pub without_empty_last-cons : (piece : List ℕ) (pieces : List (List ℕ)) → pieces ≢ [] → without_empty_last (piece ∷ pieces) ≡ piece ∷ without_empty_last pieces
 without_empty_last-cons piece [] h = absurd (h refl)

@@ -8,7 +8,7 @@ use Rattle.caa_base.specs.Names.{is_name}
 use Rattle.std.proofs.lemmas.Option.{cond_some, slice_get-map, slice_get_read}
 use Rattle.std.proofs.lemmas.List.Sums.{position_or_len_is}
 use Rattle.std.proofs.lemmas.Map.Keys.{apart_from_distinct}
-use Rattle.action_script.specs.NumberedNames.{is_among, with_name, number_in, IsNameOf}
+use Rattle.action_script.specs.NumberedNames.{is_among, with_name, number_in}
 use Rattle.action_script.proofs.Steadiness.{bytes_eq-same}
 
 -- the bytes of some keys
@@ -80,49 +80,3 @@ number_in-absent word keys h =
     let i = position_or_len (λ k. bytes_eq word k.now) keys in
     let past = ltb-false i (length keys) (none_is_past (nat_lt i (length keys)) i (sym h)) in
     omega (arith, past, number_in-keys word keys, number_in-within (bytes_of keys) word, length-bytes_of keys)
-
--- ---- a name at a place
-
-holds_at : (test : List ℕ → Bool) (names : List (List ℕ)) (i : ℕ) (name : List ℕ) → list_all test names ≡ true → slice_get names i ≡ Some name → test name ≡ true
-holds_at test [] i name all there = absurd cc
-holds_at test (first ∷ names) zero name all there = let p = and_parts (test first) _ all in subst (λ n. test n ≡ true) (some_same first name there) p.0
-  where
-    some_same : (a b : List ℕ) → Some a ≡ Some b → a ≡ b
-    some_same a b h = cc
-holds_at test (first ∷ names) (suc i) name all there = holds_at test names i name (and_parts (test first) _ all).1 there
-
-among_there : (names : List (List ℕ)) (i : ℕ) (name : List ℕ) → slice_get names i ≡ Some name → is_among names name ≡ true
-among_there [] i name there = absurd cc
-among_there (first ∷ names) zero name there = let same : first ≡ name = cc in rw (← same, bytes_eq-same first) refl
-among_there (first ∷ names) (suc i) name there = ap (λ b. bytes_eq name first || b) (among_there names i name there) ∙ or_true (bytes_eq name first)
-  where
-    or_true : (b : Bool) → (b || true) ≡ true
-    or_true true = refl
-    or_true false = refl
-
-swapped : (a b : List ℕ) → bytes_eq a b ≡ false → bytes_eq b a ≡ false
-swapped a b apart = elim (cases_Bool (bytes_eq b a)) [
-  | inl same ↦ absurd (true≢false (sym (bytes_eq-same a) ∙ ap (bytes_eq a) (sym ((bytes_eq-Decides b a).0 same)) ∙ apart))
-  | inr other ↦ other
-]
-
--- names differ, so a name has the number of the place where it stands
-number_there : (keys : List (Bor (List ℕ))) (i : ℕ) (k : Bor (List ℕ)) → IsDistinct (λ a b. bytes_eq a.now b.now) keys → i < length keys → k ≡ get_or keys i k → i ≡ number_in (bytes_of keys) k.now
-number_there keys i k apart within is =
-    sym (number_in-keys k.now keys ∙ position_or_len_is (λ x. bytes_eq k.now x.now) keys i k (omega (arith, within)) before here)
-  where
-    before : (j : ℕ) → j < i → bytes_eq k.now (get_or keys j k).now ≡ false
-    before j l = swapped (get_or keys j k).now k.now (subst (λ (x : Bor (List ℕ)). bytes_eq (get_or keys j k).now x.now ≡ false) (sym is) (apart_from_distinct (λ a b. bytes_eq a.now b.now) keys j i k apart l within))
-
-    here : i < length keys → bytes_eq k.now (get_or keys i k).now ≡ true
-    here l = subst (λ (x : Bor (List ℕ)). bytes_eq k.now x.now ≡ true) is (bytes_eq-same k.now)
-
--- what stands at a place of a table of names is a name, and has this place for its number
-pub name_there : (keys : List (Bor (List ℕ))) (i : ℕ) (k : Bor (List ℕ)) → list_all is_name (bytes_of keys) ≡ true → IsDistinct (λ a b. bytes_eq a.now b.now) keys → i < length keys → k ≡ get_or keys i k → IsNameOf (bytes_of keys) k.now i
-name_there keys i k all apart within is =
-    let there : slice_get (bytes_of keys) i ≡ Some k.now = slice_get-map (λ x. x.now) keys i ∙ ap (option_map (λ x. x.now)) (slice_get_read keys (length keys) i k refl within is) in
-    record {
-      name = holds_at is_name (bytes_of keys) i k.now all there;
-      among = among_there (bytes_of keys) i k.now there;
-      number = number_there keys i k apart within is;
-    }

@@ -42,16 +42,3 @@ begins_comment (b ∷ rest) = b == 35
 abbrev pub says_nothing : List (List ℕ) → Bool
 says_nothing [] = true
 says_nothing (word ∷ words) = begins_comment word
-
--- ---- a text that is cut piece by piece
-
--- no byte from one place of a text up to another is one of these: the first of them from the one on is the first from the other on
-abbrev pub IsPassed : (ℕ → Bool) → List ℕ → ℕ → ℕ → Type 0
-IsPassed p text from to = from + position_or_len p (drop from text) ≡ to + position_or_len p (drop to text)
-
--- the words of a line before `start` are these, and no byte from there up to `at` is a blank
-pub record AreCut (line : List ℕ) (words : List (List ℕ)) (start at : ℕ) : Type 0 where
-  pub cut : words_of line ≡ words ++ words_of (drop start line)
-  pub begun : start ≤ at
-  pub within : at ≤ length line
-  pub passed : IsPassed is_blank line start at

@@ -9,79 +9,54 @@ use Rattle.action_script.specs.declared.form.Form.TheVariants as form
 use Rattle.action_script.specs.declared.kind.LineKind.{LineKind}
 use Rattle.action_script.specs.declared.kind.LineKind.TheVariants as kind
 
+-- how a form is worded: the kind of its line, and what the words of the line after the first say
+pub record Wording : Type 0 where
+  pub kind : LineKind
+  pub fields : List Field
+
+abbrev pub wording_of : Form → Wording
+wording_of (form.Participant n) = record { kind = kind.Participant; fields = field.Name n ∷ [] }
+wording_of (form.Object n v) = record { kind = kind.Object; fields = field.Name n ∷ field.Value v ∷ [] }
+wording_of (form.Drill n k) = record { kind = kind.Drill; fields = field.Name n ∷ field.Count k ∷ [] }
+wording_of (form.Watch n) = record { kind = kind.Watch; fields = field.Name n ∷ [] }
+wording_of (form.Graph n) = record { kind = kind.Graph; fields = field.Name n ∷ [] }
+wording_of (form.Action n) = record { kind = kind.Action; fields = field.Name n ∷ [] }
+wording_of (form.Play n list) = record { kind = kind.Play; fields = field.Name n ∷ map field.Name list }
+wording_of (form.Exception n) = record { kind = kind.Exception; fields = field.Name n ∷ [] }
+wording_of (form.Cover n m) = record { kind = kind.Cover; fields = field.Name n ∷ field.Name m ∷ [] }
+wording_of form.End = record { kind = kind.End; fields = [] }
+wording_of (form.Internal n) = record { kind = kind.Internal; fields = field.Name n ∷ [] }
+wording_of (form.Interface n) = record { kind = kind.Interface; fields = field.Name n ∷ [] }
+wording_of (form.Fault n) = record { kind = kind.Fault; fields = field.Name n ∷ [] }
+wording_of (form.Uses list) = record { kind = kind.Use; fields = map field.Name list }
+wording_of (form.Roles list) = record { kind = kind.Roles; fields = map field.Name list }
+wording_of (form.Nest n m list) = record { kind = kind.Nest; fields = field.Name n ∷ field.Name m ∷ map field.Name list }
+wording_of (form.Map n m o) = record { kind = kind.Map; fields = field.Name n ∷ field.Name m ∷ field.Name o ∷ [] }
+wording_of (form.MapUndo n m) = record { kind = kind.MapUndo; fields = field.Name n ∷ field.Name m ∷ [] }
+wording_of (form.MapFailure n m) = record { kind = kind.MapFailure; fields = field.Name n ∷ field.Name m ∷ [] }
+wording_of (form.Alternate n m) = record { kind = kind.Alternate; fields = field.Name n ∷ field.Name m ∷ [] }
+wording_of (form.Abort n m) = record { kind = kind.Abort; fields = field.Name n ∷ field.Name m ∷ [] }
+wording_of (form.AbortTest n t v m) = record { kind = kind.AbortTest; fields = field.Name n ∷ field.Test t ∷ field.Value v ∷ field.Name m ∷ [] }
+wording_of (form.Body n) = record { kind = kind.Body; fields = field.Name n ∷ [] }
+wording_of (form.Handler n m) = record { kind = kind.Handler; fields = field.Name n ∷ field.Name m ∷ [] }
+wording_of (form.ReadStep n) = record { kind = kind.Read; fields = field.Name n ∷ [] }
+wording_of (form.PutStep n v) = record { kind = kind.Put; fields = field.Name n ∷ field.Value v ∷ [] }
+wording_of (form.AddStep n v) = record { kind = kind.Add; fields = field.Name n ∷ field.Value v ∷ [] }
+wording_of (form.WorkStep k) = record { kind = kind.Work; fields = field.Count k ∷ [] }
+wording_of (form.CheckStep t v n) = record { kind = kind.Check; fields = field.Test t ∷ field.Value v ∷ field.Name n ∷ [] }
+wording_of (form.RaiseStep n) = record { kind = kind.Raise; fields = field.Name n ∷ [] }
+wording_of (form.EnterStep n) = record { kind = kind.Enter; fields = field.Name n ∷ [] }
+wording_of form.DoneLine = record { kind = kind.Done; fields = [] }
+wording_of (form.SignalLine n) = record { kind = kind.Signal; fields = field.Name n ∷ [] }
+wording_of form.UndoLine = record { kind = kind.Undo; fields = [] }
+
 -- the kind of a form
 abbrev pub kind_of : Form → LineKind
-kind_of (form.Participant n) = kind.Participant
-kind_of (form.Object n v) = kind.Object
-kind_of (form.Drill n k) = kind.Drill
-kind_of (form.Watch n) = kind.Watch
-kind_of (form.Graph n) = kind.Graph
-kind_of (form.Action n) = kind.Action
-kind_of (form.Play n list) = kind.Play
-kind_of (form.Exception n) = kind.Exception
-kind_of (form.Cover n m) = kind.Cover
-kind_of form.End = kind.End
-kind_of (form.Internal n) = kind.Internal
-kind_of (form.Interface n) = kind.Interface
-kind_of (form.Fault n) = kind.Fault
-kind_of (form.Uses list) = kind.Use
-kind_of (form.Roles list) = kind.Roles
-kind_of (form.Nest n m list) = kind.Nest
-kind_of (form.Map n m o) = kind.Map
-kind_of (form.MapUndo n m) = kind.MapUndo
-kind_of (form.MapFailure n m) = kind.MapFailure
-kind_of (form.Alternate n m) = kind.Alternate
-kind_of (form.Abort n m) = kind.Abort
-kind_of (form.AbortTest n t v m) = kind.AbortTest
-kind_of (form.Body n) = kind.Body
-kind_of (form.Handler n m) = kind.Handler
-kind_of (form.ReadStep n) = kind.Read
-kind_of (form.PutStep n v) = kind.Put
-kind_of (form.AddStep n v) = kind.Add
-kind_of (form.WorkStep k) = kind.Work
-kind_of (form.CheckStep t v n) = kind.Check
-kind_of (form.RaiseStep n) = kind.Raise
-kind_of (form.EnterStep n) = kind.Enter
-kind_of form.DoneLine = kind.Done
-kind_of (form.SignalLine n) = kind.Signal
-kind_of form.UndoLine = kind.Undo
+kind_of form = (wording_of form).kind
 
 -- what the words of its line after the first say
 abbrev pub fields_of : Form → List Field
-fields_of (form.Participant n) = field.Name n ∷ []
-fields_of (form.Object n v) = field.Name n ∷ field.Value v ∷ []
-fields_of (form.Drill n k) = field.Name n ∷ field.Count k ∷ []
-fields_of (form.Watch n) = field.Name n ∷ []
-fields_of (form.Graph n) = field.Name n ∷ []
-fields_of (form.Action n) = field.Name n ∷ []
-fields_of (form.Play n list) = field.Name n ∷ map field.Name list
-fields_of (form.Exception n) = field.Name n ∷ []
-fields_of (form.Cover n m) = field.Name n ∷ field.Name m ∷ []
-fields_of form.End = []
-fields_of (form.Internal n) = field.Name n ∷ []
-fields_of (form.Interface n) = field.Name n ∷ []
-fields_of (form.Fault n) = field.Name n ∷ []
-fields_of (form.Uses list) = map field.Name list
-fields_of (form.Roles list) = map field.Name list
-fields_of (form.Nest n m list) = field.Name n ∷ field.Name m ∷ map field.Name list
-fields_of (form.Map n m o) = field.Name n ∷ field.Name m ∷ field.Name o ∷ []
-fields_of (form.MapUndo n m) = field.Name n ∷ field.Name m ∷ []
-fields_of (form.MapFailure n m) = field.Name n ∷ field.Name m ∷ []
-fields_of (form.Alternate n m) = field.Name n ∷ field.Name m ∷ []
-fields_of (form.Abort n m) = field.Name n ∷ field.Name m ∷ []
-fields_of (form.AbortTest n t v m) = field.Name n ∷ field.Test t ∷ field.Value v ∷ field.Name m ∷ []
-fields_of (form.Body n) = field.Name n ∷ []
-fields_of (form.Handler n m) = field.Name n ∷ field.Name m ∷ []
-fields_of (form.ReadStep n) = field.Name n ∷ []
-fields_of (form.PutStep n v) = field.Name n ∷ field.Value v ∷ []
-fields_of (form.AddStep n v) = field.Name n ∷ field.Value v ∷ []
-fields_of (form.WorkStep k) = field.Count k ∷ []
-fields_of (form.CheckStep t v n) = field.Test t ∷ field.Value v ∷ field.Name n ∷ []
-fields_of (form.RaiseStep n) = field.Name n ∷ []
-fields_of (form.EnterStep n) = field.Name n ∷ []
-fields_of form.DoneLine = []
-fields_of (form.SignalLine n) = field.Name n ∷ []
-fields_of form.UndoLine = []
+fields_of form = (wording_of form).fields
 
 -- the names among some fields, by their numbers
 abbrev pub numbers_in : List Field → List ℕ

@@ -6,7 +6,5 @@ pub mod CutLines
 pub mod Asked
 pub mod ScriptValue
 pub mod Spelling
-pub mod MetPlays
 pub mod SoFar
 pub mod Printing
-pub mod FewOrMany

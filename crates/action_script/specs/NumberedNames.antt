@@ -1,7 +1,6 @@
 -- How the names of a script are numbered: one that is new where it stands goes behind those that came before it.
-use Rattle.std.specs.Prelude.{◌≡◌, ℕ, ◌+◌, Bool, true, if◌then◌else◌, List, [], ◌∷◌, ◌++◌, bytes_eq}
+use Rattle.std.specs.Prelude.{ℕ, ◌+◌, Bool, if◌then◌else◌, List, [], ◌∷◌, ◌++◌, bytes_eq}
 use Rattle.std.specs.List.{list_any}
-use Rattle.caa_base.specs.Names.{is_name}
 
 -- a word is among these names
 abbrev pub is_among : List (List ℕ) → List ℕ → Bool
@@ -20,9 +19,3 @@ with_names names (word ∷ words) = with_names (with_name names word) words
 abbrev pub number_in : List (List ℕ) → List ℕ → ℕ
 number_in [] word = 0
 number_in (name ∷ names) word = if bytes_eq word name then 0 else 1 + number_in names word
-
--- the word is a name, it is among these, and this is its place
-pub record IsNameOf (names : List (List ℕ)) (word : List ℕ) (place : ℕ) : Type 0 where
-  pub name : is_name word ≡ true
-  pub among : is_among names word ≡ true
-  pub number : place ≡ number_in names word

@@ -1,6 +1,5 @@
 -- What was read of a script so far, line by line.
-use Rattle.std.specs.Prelude.{◌≡◌, ℕ, ◌+◌, true, List, [], ◌∷◌, ◌++◌, map, Option, Some, None, option_map, slice_get, Result, Ok, Err}
-use Rattle.std.specs.List.{list_all}
+use Rattle.std.specs.Prelude.{◌≡◌, ℕ, ◌+◌, List, [], ◌∷◌, ◌++◌, map, Option, Some, None, Result, Ok, Err}
 use Rattle.action_script.specs.declared.script_error.ScriptCause.{ScriptCause}
 use Rattle.action_script.specs.declared.script_error.ScriptError.{ScriptError}
 use Rattle.action_script.specs.declared.kind.Section.{Section}
@@ -8,15 +7,10 @@ use Rattle.action_script.specs.declared.kind.Section.TheVariants as section
 use Rattle.action_script.specs.declared.script.Line.{Line}
 use Rattle.action_script.specs.declared.reader.Reader.{Reader}
 use Rattle.action_script.specs.Asked.{Said}
-use Rattle.action_script.specs.declared.kind.LineKind.{LineKind}
-use Rattle.action_script.specs.declared.kind.LineKind.TheVariants as kind
-use Rattle.action_script.specs.declared.met_plays.MetPlays.{MetPlays}
 use Rattle.action_script.specs.Kinds.{goes_to}
-use Rattle.action_script.specs.Forms.{form_by}
-use Rattle.action_script.specs.MetPlays.{IsMet}
 use Rattle.action_script.specs.CutLines.{lines_of}
-use Rattle.action_script.specs.NumberedNames.{is_among, with_names}
-use Rattle.action_script.specs.Spelling.{names_of, field_of, Numbered, line_by, line_of, before, said_from, script_names}
+use Rattle.action_script.specs.NumberedNames.{with_names}
+use Rattle.action_script.specs.Spelling.{names_of, Numbered, line_by, line_of, before, said_from, script_names}
 
 -- the number of the next line, where the reader is, the names, and the lines that say something
 pub record SoFar : Type 0 where
@@ -38,26 +32,6 @@ with_said s said = record {
   lines = s.lines ++ line_by (with_names s.names (names_of said.asked)) (record { number = s.line; said = said }) ∷ [];
 }
 
--- what the next line says was taken
-abbrev pub TookSaid : SoFar → Said → SoFar → Type 0
-TookSaid old said new = new ≡ with_said old said
-
--- a line was taken, which isn't counted yet: it says something or nothing, and has no fault
-abbrev pub TakenLine : Result (Option Said) ScriptCause → SoFar → SoFar → Type 0
-TakenLine (Ok None) old new = new ≡ old
-TakenLine (Ok (Some said)) old new = TookSaid old said new
-TakenLine (Err c) old new = ⊥
-
--- the next line of these bytes was taken, and isn't counted yet
-abbrev pub IsTaken : SoFar → List ℕ → SoFar → Type 0
-IsTaken old line new = TakenLine (line_of old.section line) old new
-
--- a line says something, and is of this kind
-pub record SaysKind (s : Section) (line : List ℕ) (kind : LineKind) : Type 0 where
-  pub said : Said
-  pub says : line_of s line ≡ Ok (Some said)
-  pub same : said.kind ≡ kind
-
 -- after one more line
 abbrev pub after : SoFar → Option Said → SoFar
 after s None = record s { line = s.line + 1 }
@@ -67,18 +41,6 @@ after s (Some said) = record (with_said s said) { line = s.line + 1 }
 abbrev pub TookLine : Result (Option Said) ScriptCause → SoFar → SoFar → Type 0
 TookLine (Ok said) old new = new ≡ after old said
 TookLine (Err c) old new = ⊥
-
--- a line with this text says at the top what the line at this place says, all names of which are there
-pub record SaysAgain (s : SoFar) (line : List ℕ) (place : ℕ) : Type 0 where
-  pub said : Said
-  pub says : line_of section.Top line ≡ Ok (Some said)
-  pub play : said.kind ≡ kind.Play
-  pub known : list_all (is_among s.names) (names_of said.asked) ≡ true
-  pub form : option_map (λ l. l.form) (slice_get s.lines place) ≡ Some (form_by said.kind (map (field_of s.names) said.asked))
-
--- each play line that was met says what the line at its place says
-abbrev pub KeepsPlays : MetPlays → SoFar → Type 0
-KeepsPlays plays s = (line : List ℕ) (place : ℕ) → IsMet plays line place → SaysAgain s line place
 
 -- the next line of these bytes was taken
 abbrev pub Took : SoFar → List ℕ → SoFar → Type 0

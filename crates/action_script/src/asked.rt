@@ -119,8 +119,10 @@ fn fill_asked<'a>(
 {
     asked.clear();
     for (index, word) in words.iter().enumerate() {
-        let part = parts.get(index).copied().unwrap_or(Part::Name);
-        asked.push(Asked { part, word })?;
+        asked.push(Asked {
+            part: part_at(parts, index),
+            word,
+        })?;
     }
     Ok(())
 }

@@ -1,12 +1,11 @@
 ghost use Rattle.std.specs.Prelude.{◌≡◌, ◌≤◌, ◌++◌, length, map, IfOk, OnOk, IsTrue};
 ghost use Rattle.action_script.specs.Kinds.{takes};
-ghost use Rattle.action_script.specs.FewOrMany.{most_few};
 ghost use Rattle.action_script.specs.Forms.{kind_of, fields_of, form_by, name_in, name_at, value_at, count_at, test_at, names_from};
 
 use crate::field::Field;
 use crate::kind::LineKind;
-use crate::numbers::{MOST_FEW, Numbers};
 use caa_base::entry::Test;
+use caa_base::rows::Rows;
 use std::alloc::{AllocError, Global};
 
 /// What one line of a script says. Each name is given by its number among the names of the script.
@@ -25,7 +24,7 @@ pub enum Form {
     /// An action of this name begins.
     Action(u32),
     /// The action is played by these participants.
-    Play(u32, Numbers),
+    Play(u32, Rows<u32>),
     /// The graph has an exception of this name.
     Exception(u32),
     /// In the graph the first exception covers the second.
@@ -39,11 +38,11 @@ pub enum Form {
     /// A refused put raises this exception.
     Fault(u32),
     /// The action uses these objects.
-    Uses(Numbers),
+    Uses(Rows<u32>),
     /// The action has these roles.
-    Roles(Numbers),
+    Roles(Rows<u32>),
     /// A nested use of this name, of this action, filled by these roles.
-    Nest(u32, u32, Numbers),
+    Nest(u32, u32, Rows<u32>),
     /// The nested use carries the first exception out as the second.
     Map(u32, u32, u32),
     /// The nested use carries this exception out where it was undone.
@@ -125,32 +124,16 @@ fn test_at(fields: &[Field], index: usize) -> Test
     }
 }
 
-/// The names that these few fields say. It takes no memory.
-fn few_names(fields: &[Field]) -> Numbers
-    requires { length fields.now ≤ most_few }
-    ensures { result ≡ names_from fields.now 0 }
-{
-    let mut names = [0; MOST_FEW];
-    for (index, field) in fields.iter().enumerate() {
-        names[index] = name_in(Some(*field));
-    }
-    Numbers::few(&names[..fields.len()])
-}
-
 /// The names that the fields from an index on say.
-fn names_from(alloc: Global, fields: &[Field], index: usize) -> Result<Numbers, AllocError>
+fn names_from(alloc: Global, fields: &[Field], index: usize) -> Result<Rows<u32>, AllocError>
     requires { index ≤ length fields.now }
     ensures { IfOk result (λ names. names ≡ names_from fields.now index) }
 {
-    let fields = &fields[index..];
-    if fields.len() <= MOST_FEW {
-        return Ok(few_names(fields));
-    }
-    let names = fields
+    let names = fields[index..]
         .iter()
         .map(|field| name_in(Some(*field)))
         .collect(alloc)?;
-    Ok(Numbers::from_vec(names))
+    Ok(Rows::from_vec(names))
 }
 
 /// Adds the fields that these names say.
@@ -174,98 +157,51 @@ fn name_fields(alloc: Global, first: &[u32], list: &[u32]) -> Result<Vec<Field>,
 }
 
 impl Form {
-    /// Which kind of line says it.
-    pub(crate) fn kind(&self) -> LineKind
-        ensures { result ≡ kind_of self.now }
+    /// Which kind of line says it, and what the words of the line after the first say.
+    pub(crate) fn wording(&self, alloc: Global) -> Result<(LineKind, Vec<Field>), AllocError>
+        ensures { IfOk result (λ line. (line.0 ≡ kind_of self.now) × (line.1.items ≡ fields_of self.now)) }
     {
-        match self {
-            Form::Participant(..) => LineKind::Participant,
-            Form::Object(..) => LineKind::Object,
-            Form::Drill(..) => LineKind::Drill,
-            Form::Watch(..) => LineKind::Watch,
-            Form::Graph(..) => LineKind::Graph,
-            Form::Action(..) => LineKind::Action,
-            Form::Play(..) => LineKind::Play,
-            Form::Exception(..) => LineKind::Exception,
-            Form::Cover(..) => LineKind::Cover,
-            Form::End => LineKind::End,
-            Form::Internal(..) => LineKind::Internal,
-            Form::Interface(..) => LineKind::Interface,
-            Form::Fault(..) => LineKind::Fault,
-            Form::Uses(..) => LineKind::Use,
-            Form::Roles(..) => LineKind::Roles,
-            Form::Nest(..) => LineKind::Nest,
-            Form::Map(..) => LineKind::Map,
-            Form::MapUndo(..) => LineKind::MapUndo,
-            Form::MapFailure(..) => LineKind::MapFailure,
-            Form::Alternate(..) => LineKind::Alternate,
-            Form::Abort(..) => LineKind::Abort,
-            Form::AbortTest(..) => LineKind::AbortTest,
-            Form::Body(..) => LineKind::Body,
-            Form::Handler(..) => LineKind::Handler,
-            Form::ReadStep(..) => LineKind::Read,
-            Form::PutStep(..) => LineKind::Put,
-            Form::AddStep(..) => LineKind::Add,
-            Form::WorkStep(..) => LineKind::Work,
-            Form::CheckStep(..) => LineKind::Check,
-            Form::RaiseStep(..) => LineKind::Raise,
-            Form::EnterStep(..) => LineKind::Enter,
-            Form::DoneLine => LineKind::Done,
-            Form::SignalLine(..) => LineKind::Signal,
-            Form::UndoLine => LineKind::Undo,
-        }
-    }
-
-    /// What the words of its line after the first say.
-    pub(crate) fn fields(&self, alloc: Global) -> Result<Vec<Field>, AllocError>
-        ensures { IfOk result (λ fields. fields.items ≡ fields_of self.now) }
-    {
-        match self {
-            Form::Participant(first)
-            | Form::Watch(first)
-            | Form::Graph(first)
-            | Form::Action(first)
-            | Form::Exception(first)
-            | Form::Internal(first)
-            | Form::Interface(first)
-            | Form::Fault(first)
-            | Form::Body(first)
-            | Form::ReadStep(first)
-            | Form::RaiseStep(first)
-            | Form::EnterStep(first)
-            | Form::SignalLine(first) => name_fields(alloc, &[*first], &[]),
-            Form::Object(first, value)
-            | Form::PutStep(first, value)
-            | Form::AddStep(first, value) => [Field::Name(*first), Field::Value(*value)].to_vec(
-                alloc,
-            ),
-            Form::Drill(first, count) => [Field::Name(*first), Field::Count(*count)].to_vec(alloc),
-            Form::Play(first, list) => name_fields(alloc, &[*first], list.items()),
-            Form::Cover(first, second)
-            | Form::MapUndo(first, second)
-            | Form::MapFailure(first, second)
-            | Form::Alternate(first, second)
-            | Form::Abort(first, second)
-            | Form::Handler(first, second) => name_fields(alloc, &[*first, *second], &[]),
-            Form::End | Form::DoneLine | Form::UndoLine => Ok(Vec::new(alloc)),
-            Form::Uses(list) | Form::Roles(list) => name_fields(alloc, &[], list.items()),
-            Form::Nest(first, second, list) => name_fields(alloc, &[*first, *second], list.items()),
-            Form::Map(first, second, third) => name_fields(alloc, &[*first, *second, *third], &[]),
-            Form::AbortTest(first, test, value, second) => [
-                Field::Name(*first),
+        Ok(match self {
+            Form::Participant(first) => (LineKind::Participant, name_fields(alloc, &[*first], &[])?),
+            Form::Object(object, value) => (LineKind::Object, [Field::Name(*object), Field::Value(*value)].to_vec(alloc)?),
+            Form::Drill(object, count) => (LineKind::Drill, [Field::Name(*object), Field::Count(*count)].to_vec(alloc)?),
+            Form::Watch(first) => (LineKind::Watch, name_fields(alloc, &[*first], &[])?),
+            Form::Graph(first) => (LineKind::Graph, name_fields(alloc, &[*first], &[])?),
+            Form::Action(first) => (LineKind::Action, name_fields(alloc, &[*first], &[])?),
+            Form::Play(first, list) => (LineKind::Play, name_fields(alloc, &[*first], list.as_slice())?),
+            Form::Exception(first) => (LineKind::Exception, name_fields(alloc, &[*first], &[])?),
+            Form::Cover(first, second) => (LineKind::Cover, name_fields(alloc, &[*first, *second], &[])?),
+            Form::End => (LineKind::End, Vec::new(alloc)),
+            Form::Internal(first) => (LineKind::Internal, name_fields(alloc, &[*first], &[])?),
+            Form::Interface(first) => (LineKind::Interface, name_fields(alloc, &[*first], &[])?),
+            Form::Fault(first) => (LineKind::Fault, name_fields(alloc, &[*first], &[])?),
+            Form::Uses(list) => (LineKind::Use, name_fields(alloc, &[], list.as_slice())?),
+            Form::Roles(list) => (LineKind::Roles, name_fields(alloc, &[], list.as_slice())?),
+            Form::Nest(first, second, list) => (LineKind::Nest, name_fields(alloc, &[*first, *second], list.as_slice())?),
+            Form::Map(first, second, third) => (LineKind::Map, name_fields(alloc, &[*first, *second, *third], &[])?),
+            Form::MapUndo(first, second) => (LineKind::MapUndo, name_fields(alloc, &[*first, *second], &[])?),
+            Form::MapFailure(first, second) => (LineKind::MapFailure, name_fields(alloc, &[*first, *second], &[])?),
+            Form::Alternate(first, second) => (LineKind::Alternate, name_fields(alloc, &[*first, *second], &[])?),
+            Form::Abort(first, second) => (LineKind::Abort, name_fields(alloc, &[*first, *second], &[])?),
+            Form::AbortTest(role, test, value, exception) => (LineKind::AbortTest, [
+                Field::Name(*role),
                 Field::Test(*test),
                 Field::Value(*value),
-                Field::Name(*second),
-            ]
-            .to_vec(alloc),
-            Form::WorkStep(count) => [Field::Count(*count)].to_vec(alloc),
-            Form::CheckStep(test, value, first) => [
-                Field::Test(*test),
-                Field::Value(*value),
-                Field::Name(*first),
-            ]
-            .to_vec(alloc),
-        }
+                Field::Name(*exception),
+            ].to_vec(alloc)?),
+            Form::Body(first) => (LineKind::Body, name_fields(alloc, &[*first], &[])?),
+            Form::Handler(first, second) => (LineKind::Handler, name_fields(alloc, &[*first, *second], &[])?),
+            Form::ReadStep(first) => (LineKind::Read, name_fields(alloc, &[*first], &[])?),
+            Form::PutStep(object, value) => (LineKind::Put, [Field::Name(*object), Field::Value(*value)].to_vec(alloc)?),
+            Form::AddStep(object, value) => (LineKind::Add, [Field::Name(*object), Field::Value(*value)].to_vec(alloc)?),
+            Form::WorkStep(count) => (LineKind::Work, [Field::Count(*count)].to_vec(alloc)?),
+            Form::CheckStep(test, value, exception) => (LineKind::Check, [Field::Test(*test), Field::Value(*value), Field::Name(*exception)].to_vec(alloc)?),
+            Form::RaiseStep(first) => (LineKind::Raise, name_fields(alloc, &[*first], &[])?),
+            Form::EnterStep(first) => (LineKind::Enter, name_fields(alloc, &[*first], &[])?),
+            Form::DoneLine => (LineKind::Done, Vec::new(alloc)),
+            Form::SignalLine(first) => (LineKind::Signal, name_fields(alloc, &[*first], &[])?),
+            Form::UndoLine => (LineKind::Undo, Vec::new(alloc)),
+        })
     }
 
     /// The form of a kind and its fields.

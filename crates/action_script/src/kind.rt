@@ -1,7 +1,9 @@
-ghost use Rattle.std.specs.Prelude.{◌≡◌};
-ghost use Rattle.action_script.specs.Kinds.{word_of, parts_of, may_go_on, takes, at_top, in_graph, in_action, in_program, in_body, stands_in, goes_to};
+ghost use Rattle.std.specs.Prelude.{◌≡◌, true, false};
+ghost use Rattle.action_script.specs.Kinds.{row, row_of, word_of, parts_of, takes, at_top, in_graph, in_action, in_program, in_body, is_at, stands_in, goes_to};
 
 use crate::field::Part;
+use crate::field::Part::{Count, Name, Rounds, Test, Value};
+use std::marker::Model;
 
 /// Where the reader of a script is.
 #[derive(Clone, Copy, Debug, PartialEq, Eq)]
@@ -164,103 +166,164 @@ pub const KINDS: [LineKind; 34] = [
     LineKind::Watch,
 ];
 
+/// Where a line may stand.
+#[derive(Clone, Copy, Debug)]
+pub enum Place {
+    /// Outside all graphs and actions.
+    Top,
+    /// In a graph.
+    Graph,
+    /// In an action, be it in a body or a handler or not.
+    Action,
+    /// In a body or a handler.
+    Program,
+    /// In a body.
+    Body,
+    /// In a graph or an action.
+    Block,
+}
+
+impl Place {
+    /// Whether the reader is there.
+    fn is_at(self, section: Section) -> bool
+        ensures { result ≡ is_at self section }
+    {
+        match self {
+            Place::Top => section.at_top(),
+            Place::Graph => section.in_graph(),
+            Place::Action => section.in_action(),
+            Place::Program => section.in_program(),
+            Place::Body => section.in_body(),
+            Place::Block => !section.at_top(),
+        }
+    }
+}
+
+/// What all lines of a kind have in common.
+#[derive(Drop)]
+struct KindRow {
+    /// The word that begins the line.
+    word: &'static [u8],
+    /// What the words after the first are asked to be; where names may go on, these are the fewest.
+    parts: &'static [Part],
+    /// Whether further names may follow.
+    goes_on: bool,
+    /// Where the line may stand.
+    place: Place,
+    /// Where the reader is after it; none where it stays where it was.
+    leads_to: Option<Section>,
+}
+
+impl Model for KindRow {
+    ghost use Rattle.action_script.specs.Kinds.{KindRow as Row};
+
+    ghost Value = { Row };
+
+    ghost view = { λ r. record { word = r.word.now; parts = r.parts.now; goes_on = r.goes_on; place = r.place; leads_to = r.leads_to } };
+}
+
+/// The row of a kind whose lines have just these words.
+fn row(
+    word: &'static [u8],
+    parts: &'static [Part],
+    place: Place,
+    leads_to: Option<Section>,
+) -> KindRow
+    ensures { result ≡ row word.now parts.now false place leads_to }
+{
+    KindRow {
+        word,
+        parts,
+        goes_on: false,
+        place,
+        leads_to,
+    }
+}
+
+/// The row of a kind whose lines may have further names.
+fn row_with_more(
+    word: &'static [u8],
+    parts: &'static [Part],
+    place: Place,
+    leads_to: Option<Section>,
+) -> KindRow
+    ensures { result ≡ row word.now parts.now true place leads_to }
+{
+    KindRow {
+        word,
+        parts,
+        goes_on: true,
+        place,
+        leads_to,
+    }
+}
+
 impl LineKind {
+    /// The table of the kinds.
+    fn row(self) -> KindRow
+        ensures { result ≡ row_of self }
+    {
+        match self {
+            LineKind::Participant => row(b"participant", &[Name], Place::Top, None),
+            LineKind::Object => row(b"object", &[Name, Value], Place::Top, None),
+            LineKind::Drill => row(b"drill", &[Name, Count], Place::Top, None),
+            LineKind::Watch => row(b"watch", &[Name], Place::Top, None),
+            LineKind::Graph => row(b"graph", &[Name], Place::Top, Some(Section::Graph)),
+            LineKind::Action => row(b"action", &[Name], Place::Top, Some(Section::Action)),
+            LineKind::Play => row_with_more(b"play", &[Name, Name], Place::Top, None),
+            LineKind::Exception => row(b"exception", &[Name], Place::Graph, None),
+            LineKind::Cover => row(b"cover", &[Name, Name], Place::Graph, None),
+            LineKind::End => row(b"end", &[], Place::Block, Some(Section::Top)),
+            LineKind::Internal => row(b"internal", &[Name], Place::Action, Some(Section::Action)),
+            LineKind::Interface => row(b"interface", &[Name], Place::Action, Some(Section::Action)),
+            LineKind::Fault => row(b"fault", &[Name], Place::Action, Some(Section::Action)),
+            LineKind::Use => row_with_more(b"use", &[Name], Place::Action, Some(Section::Action)),
+            LineKind::Roles => row_with_more(b"roles", &[Name], Place::Action, Some(Section::Action)),
+            LineKind::Nest => row_with_more(b"nest", &[Name, Name, Name], Place::Action, Some(Section::Action)),
+            LineKind::Map => row(b"map", &[Name, Name, Name], Place::Action, Some(Section::Action)),
+            LineKind::MapUndo => row(b"mapundo", &[Name, Name], Place::Action, Some(Section::Action)),
+            LineKind::MapFailure => row(b"mapfailure", &[Name, Name], Place::Action, Some(Section::Action)),
+            LineKind::Alternate => row(b"alternate", &[Name, Name], Place::Action, Some(Section::Action)),
+            LineKind::Abort => row(b"abort", &[Name, Name], Place::Action, Some(Section::Action)),
+            LineKind::AbortTest => row(b"abort", &[Name, Test, Value, Name], Place::Action, Some(Section::Action)),
+            LineKind::Body => row(b"body", &[Name], Place::Action, Some(Section::Body)),
+            LineKind::Handler => row(b"handler", &[Name, Name], Place::Action, Some(Section::Handler)),
+            LineKind::Read => row(b"read", &[Name], Place::Program, None),
+            LineKind::Put => row(b"put", &[Name, Value], Place::Program, None),
+            LineKind::Add => row(b"add", &[Name, Value], Place::Program, None),
+            LineKind::Work => row(b"work", &[Rounds], Place::Program, None),
+            LineKind::Check => row(b"check", &[Test, Value, Name], Place::Program, None),
+            LineKind::Raise => row(b"raise", &[Name], Place::Program, None),
+            LineKind::Enter => row(b"enter", &[Name], Place::Body, None),
+            LineKind::Done => row(b"done", &[], Place::Program, Some(Section::Action)),
+            LineKind::Signal => row(b"signal", &[Name], Place::Program, Some(Section::Action)),
+            LineKind::Undo => row(b"undo", &[], Place::Program, Some(Section::Action)),
+        }
+    }
+
     /// The word that begins the line.
     pub fn word(self) -> &'static [u8]
         ensures { result.now ≡ word_of self }
     {
-        match self {
-            LineKind::Participant => b"participant",
-            LineKind::Object => b"object",
-            LineKind::Drill => b"drill",
-            LineKind::Watch => b"watch",
-            LineKind::Graph => b"graph",
-            LineKind::Action => b"action",
-            LineKind::Play => b"play",
-            LineKind::Exception => b"exception",
-            LineKind::Cover => b"cover",
-            LineKind::End => b"end",
-            LineKind::Internal => b"internal",
-            LineKind::Interface => b"interface",
-            LineKind::Fault => b"fault",
-            LineKind::Use => b"use",
-            LineKind::Roles => b"roles",
-            LineKind::Nest => b"nest",
-            LineKind::Map => b"map",
-            LineKind::MapUndo => b"mapundo",
-            LineKind::MapFailure => b"mapfailure",
-            LineKind::Alternate => b"alternate",
-            LineKind::Abort | LineKind::AbortTest => b"abort",
-            LineKind::Body => b"body",
-            LineKind::Handler => b"handler",
-            LineKind::Read => b"read",
-            LineKind::Put => b"put",
-            LineKind::Add => b"add",
-            LineKind::Work => b"work",
-            LineKind::Check => b"check",
-            LineKind::Raise => b"raise",
-            LineKind::Enter => b"enter",
-            LineKind::Done => b"done",
-            LineKind::Signal => b"signal",
-            LineKind::Undo => b"undo",
-        }
+        self.row().word
     }
 
     /// What the words after the first are asked to be; where names may go on, these are the fewest.
     pub fn parts(self) -> &'static [Part]
         ensures { result.now ≡ parts_of self }
     {
-        match self {
-            LineKind::Participant
-            | LineKind::Watch
-            | LineKind::Graph
-            | LineKind::Action
-            | LineKind::Exception
-            | LineKind::Internal
-            | LineKind::Interface
-            | LineKind::Fault
-            | LineKind::Use
-            | LineKind::Roles
-            | LineKind::Body
-            | LineKind::Read
-            | LineKind::Raise
-            | LineKind::Enter
-            | LineKind::Signal => &[Part::Name],
-            LineKind::Object | LineKind::Put | LineKind::Add => &[Part::Name, Part::Value],
-            LineKind::Drill => &[Part::Name, Part::Count],
-            LineKind::Play
-            | LineKind::Cover
-            | LineKind::MapUndo
-            | LineKind::MapFailure
-            | LineKind::Alternate
-            | LineKind::Abort
-            | LineKind::Handler => &[Part::Name, Part::Name],
-            LineKind::End | LineKind::Done | LineKind::Undo => &[],
-            LineKind::Nest | LineKind::Map => &[Part::Name, Part::Name, Part::Name],
-            LineKind::AbortTest => &[Part::Name, Part::Test, Part::Value, Part::Name],
-            LineKind::Work => &[Part::Rounds],
-            LineKind::Check => &[Part::Test, Part::Value, Part::Name],
-        }
-    }
-
-    /// Whether further names may follow.
-    pub fn may_go_on(self) -> bool
-        ensures { result ≡ may_go_on self }
-    {
-        matches!(
-            self,
-            LineKind::Play | LineKind::Use | LineKind::Roles | LineKind::Nest
-        )
+        self.row().parts
     }
 
     /// Whether the line has so many words after the first.
     pub fn takes(self, count: usize) -> bool
         ensures { result ≡ takes self count }
     {
-        if self.may_go_on() {
-            self.parts().len() <= count
+        let row = self.row();
+        if row.goes_on {
+            row.parts.len() <= count
         } else {
-            self.parts().len() == count
+            row.parts.len() == count
         }
     }
 
@@ -268,82 +331,13 @@ impl LineKind {
     pub fn stands_in(self, section: Section) -> bool
         ensures { result ≡ stands_in self section }
     {
-        match self {
-            LineKind::Participant
-            | LineKind::Object
-            | LineKind::Drill
-            | LineKind::Watch
-            | LineKind::Graph
-            | LineKind::Action
-            | LineKind::Play => section.at_top(),
-            LineKind::Exception | LineKind::Cover => section.in_graph(),
-            LineKind::End => !section.at_top(),
-            LineKind::Internal
-            | LineKind::Interface
-            | LineKind::Fault
-            | LineKind::Use
-            | LineKind::Roles
-            | LineKind::Nest
-            | LineKind::Map
-            | LineKind::MapUndo
-            | LineKind::MapFailure
-            | LineKind::Alternate
-            | LineKind::Abort
-            | LineKind::AbortTest
-            | LineKind::Body
-            | LineKind::Handler => section.in_action(),
-            LineKind::Read
-            | LineKind::Put
-            | LineKind::Add
-            | LineKind::Work
-            | LineKind::Check
-            | LineKind::Raise
-            | LineKind::Done
-            | LineKind::Signal
-            | LineKind::Undo => section.in_program(),
-            LineKind::Enter => section.in_body(),
-        }
+        self.row().place.is_at(section)
     }
 
     /// Where the reader is after the line.
     pub fn goes_to(self, section: Section) -> Section
         ensures { result ≡ goes_to self section }
     {
-        match self {
-            LineKind::Participant
-            | LineKind::Object
-            | LineKind::Drill
-            | LineKind::Watch
-            | LineKind::Play
-            | LineKind::Exception
-            | LineKind::Cover
-            | LineKind::Read
-            | LineKind::Put
-            | LineKind::Add
-            | LineKind::Work
-            | LineKind::Check
-            | LineKind::Raise
-            | LineKind::Enter => section,
-            LineKind::Graph => Section::Graph,
-            LineKind::Action
-            | LineKind::Internal
-            | LineKind::Interface
-            | LineKind::Fault
-            | LineKind::Use
-            | LineKind::Roles
-            | LineKind::Nest
-            | LineKind::Map
-            | LineKind::MapUndo
-            | LineKind::MapFailure
-            | LineKind::Alternate
-            | LineKind::Abort
-            | LineKind::AbortTest
-            | LineKind::Done
-            | LineKind::Signal
-            | LineKind::Undo => Section::Action,
-            LineKind::End => Section::Top,
-            LineKind::Body => Section::Body,
-            LineKind::Handler => Section::Handler,
-        }
+        self.row().leads_to.unwrap_or(section)
     }
 }

@@ -3,14 +3,11 @@
 #![tactic(auto)]
 
 mod asked;
-mod classes;
 pub mod cuts;
 mod field;
 pub mod form;
 mod kind;
-mod met_plays;
 mod names;
-pub mod numbers;
 pub mod printer;
 pub mod reader;
 pub mod script;

@@ -1,9 +1,8 @@
 ghost use Rattle.std.specs.Prelude.{◌≡◌, ◌<◌, ◌+◌, ◌^◌, length, [], is_some, true, IfSome, IfOk, IfErr, OnOk};
-ghost use Rattle.action_script.specs.NumberedNames.{IsNameOf, with_name, number_in};
+ghost use Rattle.action_script.specs.NumberedNames.{with_name, number_in};
 ghost use Rattle.caa_base.specs.Names.{is_name};
 ghost use Rattle.action_script.specs.declared.script_error.ScriptCause.TheVariants as cause;
 
-use crate::classes::{WORD_CLASSES, class_of};
 use crate::script_error::ScriptCause;
 use caa_base::name::{Name, is_name};
 use indexmap::IndexSet;
@@ -11,13 +10,9 @@ use std::alloc::Global;
 use std::marker::Model;
 
 /// The names of a script, seen as their list: a name that is new goes behind those that came before it.
-///
-/// A script has the same names again and again, so the one that was met last in a class of words is tried before the whole table.
 #[derive(Drop)]
 pub struct NameTable<'a> {
     names: IndexSet<&'a [u8]>,
-    /// For each class of words, the number of the name that was met last in it.
-    met: [u32; WORD_CLASSES],
 }
 
 impl<'a> Model for NameTable<'a> {
@@ -39,7 +34,6 @@ impl<'a> NameTable<'a> {
     {
         NameTable {
             names: IndexSet::new(alloc),
-            met: [0; WORD_CLASSES],
         }
     }
 
@@ -55,18 +49,6 @@ impl<'a> NameTable<'a> {
         Ok(number as u32)
     }
 
-    /// The number of a word, where it is the name that was met last in this class.
-    fn met_in(&self, class: usize, word: &[u8]) -> Option<u32>
-        requires { class < 4096 }
-        ensures { IfSome result (λ number. IsNameOf self.now word.now number) }
-    {
-        let number = self.met[class];
-        match self.names.as_slice().get(number as usize) {
-            Some(name) if *name == word => Some(number),
-            _ => None,
-        }
-    }
-
     /// The number of a name, which goes to the end where it isn't there already; none for a word that is no name.
     pub fn take(&mut self, word: &'a [u8]) -> Result<Option<u32>, ScriptCause>
         requires room { length self.old + 1 < 2 ^ 32 }
@@ -75,15 +57,10 @@ impl<'a> NameTable<'a> {
         ensures number { IfOk result (λ number. IfSome number (λ n. n ≡ number_in self.new word.now)) }
         ensures refused { IfErr result (λ e. e ≡ cause.OutOfMemory) }
     {
-        let class = class_of(word);
-        if let Some(number) = self.met_in(class, word) {
-            return Ok(Some(number));
-        }
         if !is_name(word) {
             return Ok(None);
         }
         let number = self.add(word)?;
-        self.met[class] = number;
         Ok(Some(number))
     }
 

@@ -44,8 +44,8 @@ fn push_line(
 ) -> Result<(), OutOfMemory>
     ensures { OnOk result (text.new.items ≡ text.old.items ++ line_text names.now line.now) }
 {
-    let fields = line.form.fields(alloc)?;
-    text.extend_from_slice(line.form.kind().word())?;
+    let (kind, fields) = line.form.wording(alloc)?;
+    text.extend_from_slice(kind.word())?;
     push_fields(text, names, &fields)?;
     end_line(text)
 }

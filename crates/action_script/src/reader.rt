@@ -1,18 +1,16 @@
-ghost use Rattle.std.specs.Prelude.{◌≡◌, ◌≢◌, ◌+◌, ◌-◌, ◌<◌, ◌≤◌, ◌^◌, [], length, drop, map, Some, Ok, Err, IfSome, IfOk, IfErr, OnOk};
+ghost use Rattle.std.specs.Prelude.{◌≡◌, ◌≢◌, ◌+◌, ◌-◌, ◌<◌, ◌≤◌, ◌^◌, [], length, map, Some, Ok, Err, IfOk, IfErr, OnOk};
 ghost use Rattle.caa_base.specs.Limits.{most_script_bytes};
-ghost use Rattle.action_script.specs.CutLines.{lines_of, words_of};
+ghost use Rattle.action_script.specs.CutLines.{lines_of};
 ghost use Rattle.action_script.specs.Spelling.{IsOfKind, said_with, line_of, said_from, Spells, HasFirstFault};
-ghost use Rattle.action_script.specs.SoFar.{so_far, TookSaid, IsTaken, SaysKind, SaysAgain, KeepsPlays, Took, HasRead};
+ghost use Rattle.action_script.specs.SoFar.{so_far, with_said, Took, HasRead};
 ghost use Rattle.action_script.specs.declared.script_error.ScriptCause.TheVariants as cause;
 ghost use Rattle.action_script.specs.declared.kind.Section.TheVariants as section;
 
 use crate::asked::{fault_of_words, take_fields};
-use crate::classes::class_of_line;
-use crate::cuts::cut_line;
+use crate::cuts::{cut_line, words_of};
 use crate::field::Field;
 use crate::form::Form;
 use crate::kind::{LineKind, Section};
-use crate::met_plays::MetPlays;
 use crate::names::NameTable;
 use crate::script::{Line, Script};
 use crate::script_error::{ScriptCause, ScriptError};
@@ -28,33 +26,27 @@ struct Reader<'a> {
     section: Section,
     names: NameTable<'a>,
     lines: Vec<Line>,
-    /// The plays among them that were met last.
-    plays: MetPlays<'a>,
-    /// Room for the words of one line.
-    words: Vec<&'a [u8]>,
-    /// Room for what its words after the first say.
+    /// Room for what the words of one line after the first say.
     fields: Vec<Field>,
 }
 
 impl<'a> Reader<'a> {
-    /// Takes the next line, which is of this kind; `words` are its words.
+    /// Takes the next line, which is of this kind; `words` are its words after the first. It isn't counted yet.
     fn take_said(
         &mut self,
         alloc: Global,
         kind: LineKind,
-        line: &'a [u8],
+        line: &[u8],
+        words: &[&'a [u8]],
     ) -> Result<(), ScriptCause>
         requires room { length self.old.names + length line.now < 2 ^ 32 }
-        requires words { map (λ w. w.now) self.old.words.items ≡ words_of line.now }
-        requires kind { IsOfKind self.old.section line.now kind (drop 1 (map (λ w. w.now) self.old.words.items)) }
+        requires kind { IsOfKind self.old.section line.now kind (map (λ w. w.now) words.now) }
         ensures says { OnOk result (
-            line_of self.old.section line.now ≡ Ok (Some (said_with kind (drop 1 (map (λ w. w.now) self.old.words.items))))) }
+            line_of self.old.section line.now ≡ Ok (Some (said_with kind (map (λ w. w.now) words.now)))) }
         ensures taken { OnOk result (
-            TookSaid (so_far self.old) (said_with kind (drop 1 (map (λ w. w.now) self.old.words.items))) (so_far self.new)) }
-        ensures plays { OnOk result (self.new.plays ≡ self.old.plays) }
+            so_far self.new ≡ with_said (so_far self.old) (said_with kind (map (λ w. w.now) words.now))) }
         ensures refused { IfErr result (λ e. e ≢ cause.OutOfMemory → line_of self.old.section line.now ≡ Err e) }
     {
-        let words = &self.words[1..];
         if !take_fields(&mut self.fields, &mut self.names, kind.parts(), words)? {
             let of_words = fault_of_words(alloc, kind.parts(), words)?;
             return Err(fault_of(line, of_words));
@@ -68,91 +60,17 @@ impl<'a> Reader<'a> {
         Ok(())
     }
 
-    /// Takes the next line by its words, and tells its kind, if it says something.
-    fn take_anew(&mut self, alloc: Global, line: &'a [u8]) -> Result<Option<LineKind>, ScriptCause>
-        requires room { length self.old.names + length line.now < 2 ^ 32 }
-        ensures taken { OnOk result (IsTaken (so_far self.old) line.now (so_far self.new)) }
-        ensures kind { IfOk result (λ kind. IfSome kind (SaysKind self.old.section line.now)) }
-        ensures plays { OnOk result (self.new.plays ≡ self.old.plays) }
-        ensures refused { IfErr result (λ e. e ≢ cause.OutOfMemory → line_of self.old.section line.now ≡ Err e) }
-    {
-        let kind = kind_of_line(&mut self.words, self.section, line)?;
-        if let Some(kind) = kind {
-            self.take_said(alloc, kind, line)?;
-        }
-        Ok(kind)
-    }
-
-    /// Takes the next line, which stands at the top and says once more what the line at a place says.
-    fn take_again(&mut self, alloc: Global, line: &[u8], place: u32) -> Result<(), ScriptCause>
-        requires top { self.old.section ≡ section.Top }
-        requires again { SaysAgain (so_far self.old) line.now place }
-        ensures taken { OnOk result (IsTaken (so_far self.old) line.now (so_far self.new)) }
-        ensures plays { OnOk result (self.new.plays ≡ self.old.plays) }
-        ensures refused { IfErr result (λ e. e ≡ cause.OutOfMemory) }
-    {
-        let Form::Play(action, who) = &self.lines[place as usize].form else {
-            unreachable!();
-        };
-        let form = Form::Play(*action, who.again(alloc)?);
-        self.lines.push(Line {
-            number: self.line,
-            form,
-        })?;
-        Ok(())
-    }
-
-    /// Takes the next line, which stands at the top. A play that was met says the same as then.
-    fn take_at_top(&mut self, alloc: Global, line: &'a [u8]) -> Result<(), ScriptCause>
-        requires top { self.old.section ≡ section.Top }
-        requires few { length self.old.lines.items < 2 ^ 32 }
-        requires room { length self.old.names + length line.now < 2 ^ 32 }
-        requires plays { KeepsPlays self.old.plays (so_far self.old) }
-        ensures taken { OnOk result (IsTaken (so_far self.old) line.now (so_far self.new)) }
-        ensures plays { OnOk result (KeepsPlays self.new.plays (so_far self.new)) }
-        ensures refused { IfErr result (λ e. e ≢ cause.OutOfMemory → line_of self.old.section line.now ≡ Err e) }
-    {
-        let class = class_of_line(line);
-        match self.plays.place_of(class, line) {
-            Some(place) => self.take_again(alloc, line, place)?,
-            None => {
-                let place = self.lines.len() as u32;
-                if let Some(LineKind::Play) = self.take_anew(alloc, line)? {
-                    self.plays.keep(class, line, place);
-                }
-            }
-        }
-        Ok(())
-    }
-
-    /// Takes the next line, which isn't counted yet.
-    fn take_uncounted(&mut self, alloc: Global, line: &'a [u8]) -> Result<(), ScriptCause>
-        requires few { length self.old.lines.items < 2 ^ 32 }
-        requires room { length self.old.names + length line.now < 2 ^ 32 }
-        requires plays { KeepsPlays self.old.plays (so_far self.old) }
-        ensures taken { OnOk result (IsTaken (so_far self.old) line.now (so_far self.new)) }
-        ensures plays { OnOk result (KeepsPlays self.new.plays (so_far self.new)) }
-        ensures refused { IfErr result (λ e. e ≢ cause.OutOfMemory → line_of self.old.section line.now ≡ Err e) }
-    {
-        if self.section.at_top() {
-            self.take_at_top(alloc, line)
-        } else {
-            self.take_anew(alloc, line)?;
-            Ok(())
-        }
-    }
-
     /// Takes the next line.
     fn take_text(&mut self, alloc: Global, line: &'a [u8]) -> Result<(), ScriptCause>
         requires few { self.old.line < 2 ^ 32 - 1 }
-        requires lines { length self.old.lines.items < 2 ^ 32 }
         requires room { length self.old.names + length line.now < 2 ^ 32 }
-        requires plays { KeepsPlays self.old.plays (so_far self.old) }
         ensures taken { OnOk result (Took (so_far self.old) line.now (so_far self.new)) }
-        ensures plays { OnOk result (KeepsPlays self.new.plays (so_far self.new)) }
         ensures refused { IfErr result (λ e. e ≢ cause.OutOfMemory → line_of self.old.section line.now ≡ Err e) }
     {
-        self.take_uncounted(alloc, line)?;
+        let words = words_of(alloc, line)?;
+        if let Some((kind, more)) = kind_of_line(self.section, line, &words)? {
+            self.take_said(alloc, kind, line, more)?;
+        }
         self.line += 1;
         Ok(())
     }
@@ -160,11 +78,8 @@ impl<'a> Reader<'a> {
     /// Takes the next line, or names its number and its fault.
     fn take_line(&mut self, alloc: Global, line: &'a [u8]) -> Result<(), ScriptError>
         requires few { self.old.line < 2 ^ 32 - 1 }
-        requires lines { length self.old.lines.items < 2 ^ 32 }
         requires room { length self.old.names + length line.now < 2 ^ 32 }
-        requires plays { KeepsPlays self.old.plays (so_far self.old) }
         ensures taken { OnOk result (Took (so_far self.old) line.now (so_far self.new)) }
-        ensures plays { OnOk result (KeepsPlays self.new.plays (so_far self.new)) }
         ensures refused { IfErr result (λ e. e.cause ≢ cause.OutOfMemory → line_of self.old.section line.now ≡ Err e.cause) }
         ensures place { IfErr result (λ e. e.line ≡ self.old.line) }
     {
@@ -192,8 +107,6 @@ fn read_lines(alloc: Global, bytes: &[u8]) -> Result<Reader<'_>, ScriptError>
         section: Section::Top,
         names: NameTable::new(alloc),
         lines: Vec::new(alloc),
-        plays: MetPlays::new(),
-        words: Vec::new(alloc),
         fields: Vec::new(alloc),
     };
     let mut rest = bytes;

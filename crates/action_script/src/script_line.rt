@@ -1,15 +1,13 @@
-ghost use Rattle.std.specs.Prelude.{◌≡◌, ◌≢◌, ◌==◌, ◌<◌, ◌&&◌, if◌then◌else◌, not, map, drop, find, Ok, Err, Some, None, IfSome, IfNone, IfOk, IfErr, true, false};
+ghost use Rattle.std.specs.Prelude.{◌≡◌, if◌then◌else◌, map, Ok, Err, None, IfSome, IfOk, IfErr};
 ghost use Rattle.std.specs.List.{list_all};
-ghost use Rattle.caa_base.specs.Lists.{is_empty};
-ghost use Rattle.action_script.specs.CutLines.{is_plain, words_of, says_nothing};
+ghost use Rattle.action_script.specs.CutLines.{is_plain, words_of, begins_comment};
 ghost use Rattle.action_script.specs.Spelling.{is_here, kind_here, line_of, IsOfKind};
 ghost use Rattle.action_script.specs.declared.script_error.ScriptCause.TheVariants as cause;
 
-use crate::cuts::{fill_words, is_blank};
+use crate::cuts::is_blank;
 use crate::kind::{KINDS, LineKind, Section};
 use crate::script_error::ScriptCause;
 use caa_base::limits::MOST_LINE_BYTES;
-use std::alloc::AllocError;
 
 fn is_plain(byte: u8) -> bool
     ensures { result ≡ is_plain byte }
@@ -24,23 +22,11 @@ fn are_plain(line: &[u8]) -> bool
     line.iter().all(|byte| is_plain(*byte))
 }
 
-/// What stands in a line from its first word on, if it says something: an empty line says nothing, nor does a comment.
-fn said_part(line: &[u8]) -> Option<&[u8]>
-    ensures nothing { IfNone result (says_nothing (words_of line.now) ≡ true) }
-    ensures words { IfSome result (λ part. words_of part.now ≡ words_of line.now) }
-    ensures something { IfSome result (λ part. says_nothing (words_of line.now) ≡ false) }
+/// Whether this word begins a comment.
+fn begins_comment(word: &[u8]) -> bool
+    ensures { result ≡ begins_comment word.now }
 {
-    let mut rest = line;
-    while let Some((byte, more)) = rest.split_first() {
-        if *byte == b'#' {
-            return None;
-        }
-        if !is_blank(*byte) {
-            return Some(rest);
-        }
-        rest = more;
-    }
-    None
+    word.first() == Some(&b'#')
 }
 
 /// Whether a line is of this kind that begins with this word and has so many more, where the reader is here.
@@ -73,29 +59,28 @@ pub fn fault_of(line: &[u8], of_words: ScriptCause) -> ScriptCause
     }
 }
 
-/// The kind of a line where the reader is here, if it says something; `words` becomes its words then.
-pub fn kind_of_line<'a>(
-    words: &mut Vec<&'a [u8]>,
+/// The kind of a line with these words where the reader is here, and its words after the first, if it says something.
+pub fn kind_of_line<'b, 'a>(
     section: Section,
-    line: &'a [u8],
-) -> Result<Option<LineKind>, ScriptCause>
+    line: &[u8],
+    words: &'b [&'a [u8]],
+) -> Result<Option<(LineKind, &'b [&'a [u8]])>, ScriptCause>
+    requires words { map (λ w. w.now) words.now ≡ words_of line.now }
     ensures nothing { IfOk result (λ kind. kind ≡ None → line_of section line.now ≡ Ok None) }
-    ensures words { IfOk result (λ kind. IfSome kind (λ k. map (λ w. w.now) words.new.items ≡ words_of line.now)) }
-    ensures kind { IfOk result (λ kind. IfSome kind (λ k. IsOfKind section line.now k (drop 1 (map (λ w. w.now) words.new.items)))) }
-    ensures refused { IfErr result (λ e. e ≢ cause.OutOfMemory → line_of section line.now ≡ Err e) }
+    ensures kind { IfOk result (λ kind. IfSome kind (λ k. IsOfKind section line.now k.0 (map (λ w. w.now) k.1.now))) }
+    ensures refused { IfErr result (λ e. line_of section line.now ≡ Err e) }
 {
     if line.len() > MOST_LINE_BYTES {
         return Err(ScriptCause::TooLong);
     }
-    let Some(part) = said_part(line) else {
-        return Ok(None);
-    };
-    fill_words(words, part)?;
     let Some((word, more)) = words.split_first() else {
         return Ok(None);
     };
+    if begins_comment(word) {
+        return Ok(None);
+    }
     match kind_here(section, word, more.len()) {
-        Some(kind) => Ok(Some(kind)),
+        Some(kind) => Ok(Some((kind, more))),
         None => Err(ScriptCause::BadLine),
     }
 }
