@@ -1,14 +1,14 @@
 -- What a machine's entry is to the bulletin beside it.
 use Rattle.std.proofs.Common.{◌≡◌, ℕ, ◌<◌, List, [], ◌∷◌, ◌++◌, length, reverse, vec_capacity, Option, refl, sym, ap, ◌∙◌, subst, arith}
 use Rattle.std.proofs.lemmas.List.{reverse-append}
-use Rattle.caa_base.specs.Mixing.{Worked}
-use Rattle.caa_base.specs.declared.entry.Entry.{Entry}
-use Rattle.place_plan.specs.PlanValue.{Plan}
-use Rattle.place_plan.specs.Rules.{Row, MayResolve, MayHandle}
-use Rattle.place_plan.specs.WellFormed.{AllWellFormed, IsWellFormed}
-use Rattle.place_plan.specs.Machine.{Did, Answers}
-use Rattle.place_plan.specs.declared.machine.Answer.{Answer}
-use Rattle.place_plan.specs.declared.machine.Answer.TheVariants as answer
+use Rattle.caa_base.specs.Written.Mixing.{Worked}
+use Rattle.caa_base.specs.declared.written.entry.Entry.{Entry}
+use Rattle.place_plan.specs.Plans.PlanValue.{Plan}
+use Rattle.place_plan.specs.RulesOfJournals.Rules.{Row, MayResolve, MayHandle}
+use Rattle.place_plan.specs.RulesOfJournals.WellFormed.{AllWellFormed, IsWellFormed}
+use Rattle.place_plan.specs.RulesOfJournals.Machine.{Did, Answers}
+use Rattle.place_plan.specs.declared.rules.machine.Answer.{Answer}
+use Rattle.place_plan.specs.declared.rules.machine.Answer.TheVariants as answer
 use Rattle.shared_views.specs.Telling.{cells_of, KeepsUp, Suits}
 use Rattle.action_manager.specs.declared.housed.Housed.{Housed}
 use Rattle.action_manager.specs.Publishing.{Publishes, HasRoom}

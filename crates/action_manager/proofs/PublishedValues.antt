@@ -4,15 +4,15 @@ use Rattle.std.specs.Prelude.{fold, unwrap_or, slice_index_or}
 use Rattle.std.proofs.lemmas.Bool.{and_parts, and_from, eqb-true, eq-eqb, false≢true, cases_Bool, cases_lt}
 use Rattle.std.proofs.lemmas.List.{take-append-le, take_all, length-append}
 use Rattle.std.proofs.lemmas.List.Sums.{fold-append}
-use Rattle.caa_base.specs.declared.entry.Entry.{Entry}
-use Rattle.caa_base.specs.declared.entry.Kind.TheVariants as kind
-use Rattle.caa_base.specs.Lists.{member}
-use Rattle.place_plan.specs.declared.draft_rows.ObjectRow.{ObjectRow}
-use Rattle.place_plan.specs.PlanValue.{Plan}
-use Rattle.place_plan.specs.Places.{parent, objects_of, uses, no_object, initials_of}
-use Rattle.place_plan.specs.Entries.{is_of}
-use Rattle.place_plan.specs.Objects.{value_of}
-use Rattle.place_plan.specs.Journals.{LegalPast, ends_play, plays_ended, committed_value}
+use Rattle.caa_base.specs.declared.written.entry.Entry.{Entry}
+use Rattle.caa_base.specs.declared.written.entry.Kind.TheVariants as kind
+use Rattle.caa_base.specs.Written.Lists.{member}
+use Rattle.place_plan.specs.declared.drafts.draft_rows.ObjectRow.{ObjectRow}
+use Rattle.place_plan.specs.Plans.PlanValue.{Plan}
+use Rattle.place_plan.specs.Plans.Places.{parent, objects_of, uses, no_object, initials_of}
+use Rattle.place_plan.specs.RulesOfJournals.Entries.{is_of}
+use Rattle.place_plan.specs.RulesOfJournals.Objects.{value_of}
+use Rattle.place_plan.specs.RulesOfJournals.Journals.{LegalPast, ends_play, plays_ended, committed_value}
 use Rattle.journal_laws.specs.Laws.{Holds, CommitLaw}
 use Rattle.shared_views.specs.Publications.{Changes, given_after, last_given, value_after}
 use Rattle.action_manager.specs.Publishing.{values_of, publications_of}

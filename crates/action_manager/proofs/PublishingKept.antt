@@ -4,14 +4,14 @@ use Rattle.std.specs.Prelude.{MatchResult, is_err}
 use mathlib.Core.List.{IsPrefix}
 use Rattle.std.proofs.lemmas.List.{take_more, map-append, length-map}
 use Rattle.std.proofs.lemmas.List.Elements.{All-map}
-use Rattle.place_plan.specs.Closed.{IsClosed}
-use Rattle.place_plan.specs.Places.{objects_of, initials_of}
-use Rattle.place_plan.proofs.Casts.{member_at}
-use Rattle.place_plan.specs.Objects.{value_of}
-use Rattle.place_plan.specs.Journals.{ends_play, plays_ended}
+use Rattle.place_plan.specs.Plans.Closed.{IsClosed}
+use Rattle.place_plan.specs.Plans.Places.{objects_of, initials_of}
+use Rattle.place_plan.proofs.OnPlans.Casts.{member_at}
+use Rattle.place_plan.specs.RulesOfJournals.Objects.{value_of}
+use Rattle.place_plan.specs.RulesOfJournals.Journals.{ends_play, plays_ended}
 use Rattle.journal_laws.proofs.PlayablePlan.{is_playable}
-use Rattle.caa_base.specs.declared.entry.Entry.{Entry}
-use Rattle.place_plan.specs.PlanValue.{Plan}
+use Rattle.caa_base.specs.declared.written.entry.Entry.{Entry}
+use Rattle.place_plan.specs.Plans.PlanValue.{Plan}
 use Rattle.shared_views.specs.Publications.{Changes, Known}
 use Rattle.shared_views.proofs.Beginnings.{begins_itself, begins_further}
 use Rattle.shared_views.specs.Committing.{Committed}

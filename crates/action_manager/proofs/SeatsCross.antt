@@ -11,7 +11,7 @@ use Rattle.shared_views.proofs.bulletin.Announcement.TheSendSync as told_crosses
 use Rattle.shared_views.proofs.cells.ResolutionCells.TheSendSync as cells_cross
 use Rattle.shared_views.proofs.Sent.{bulletin_send}
 use Rattle.shared_views.proofs.committed_writer.CommittedWriter.TheSendSync as writer_crosses
-use Rattle.place_plan.specs.declared.machine.Machine as machine
+use Rattle.place_plan.specs.declared.rules.machine.Machine as machine
 use Rattle.action_manager.specs.contracts.publishing.Publishing as publishing
 use Rattle.action_manager.specs.contracts.housed.Housed as housed
 use Rattle.action_manager.specs.contracts.housed.HousedHome.TheImpl as home

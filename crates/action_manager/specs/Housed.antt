@@ -1,7 +1,7 @@
 -- When what lies in the slot is right.
 use Rattle.std.specs.Prelude.{◌≡◌, ℕ, List, length, reverse, vec_capacity}
-use Rattle.caa_base.specs.declared.entry.Entry.{Entry}
-use Rattle.place_plan.specs.PlanValue.{Plan}
+use Rattle.caa_base.specs.declared.written.entry.Entry.{Entry}
+use Rattle.place_plan.specs.Plans.PlanValue.{Plan}
 use Rattle.shared_views.specs.Telling.{cells_of, KeepsUp}
 use Rattle.action_manager.specs.declared.lock_view.Terms.{Terms}
 use Rattle.action_manager.specs.declared.housed.Housed.{Housed}

@@ -1,6 +1,6 @@
 -- A turn lock, as its owner sees it.
 use Rattle.atomic_table.specs.Seated.{TableId}
-use Rattle.place_plan.specs.PlanValue.{Plan}
+use Rattle.place_plan.specs.Plans.PlanValue.{Plan}
 use Rattle.action_manager.specs.declared.lock.Lock.{Lock}
 
 -- its table, which tells it from other locks

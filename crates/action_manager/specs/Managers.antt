@@ -1,7 +1,7 @@
 -- A manager, as its owner sees it.
 use Rattle.std.specs.Prelude.{ℕ, List}
 use Rattle.atomic_table.specs.Seated.{TableId}
-use Rattle.place_plan.specs.PlanValue.{Plan}
+use Rattle.place_plan.specs.Plans.PlanValue.{Plan}
 use Rattle.logbook.specs.Pages.{Book}
 use Rattle.shared_views.specs.Telling.{cells_of}
 use Rattle.action_manager.specs.declared.lock_view.Terms.{Terms}

@@ -2,11 +2,11 @@
 use Rattle.std.specs.Prelude.{◌≡◌, ◌≤◌, ◌<◌, ℕ, false, List, [], ◌∷◌, ◌++◌, length, map, if◌then◌else◌}
 use mathlib.Core.List.{IsPrefix}
 use Rattle.logbook.specs.Pages.{Book}
-use Rattle.caa_base.specs.declared.entry.Entry.{Entry}
-use Rattle.place_plan.specs.PlanValue.{Plan}
-use Rattle.place_plan.specs.Places.{objects_of, initials_of}
-use Rattle.place_plan.specs.Objects.{value_of}
-use Rattle.place_plan.specs.Journals.{ends_play}
+use Rattle.caa_base.specs.declared.written.entry.Entry.{Entry}
+use Rattle.place_plan.specs.Plans.PlanValue.{Plan}
+use Rattle.place_plan.specs.Plans.Places.{objects_of, initials_of}
+use Rattle.place_plan.specs.RulesOfJournals.Objects.{value_of}
+use Rattle.place_plan.specs.RulesOfJournals.Journals.{ends_play}
 use Rattle.shared_views.specs.Publications.{Changes}
 use Rattle.shared_views.specs.Committing.{Committed, Watching}
 use Rattle.action_manager.specs.declared.publishing.Publishing.{Publishing}

@@ -1,9 +1,9 @@
 -- What the plays of a legal journal publish is what they commit.
 use Rattle.std.specs.Prelude.{◌≡◌, ◌≤◌, ℕ, List, length, take}
-use Rattle.caa_base.specs.declared.entry.Entry.{Entry}
-use Rattle.place_plan.specs.PlanValue.{Plan}
-use Rattle.place_plan.specs.Places.{initials_of}
-use Rattle.place_plan.specs.Journals.{plays_ended, committed_value}
+use Rattle.caa_base.specs.declared.written.entry.Entry.{Entry}
+use Rattle.place_plan.specs.Plans.PlanValue.{Plan}
+use Rattle.place_plan.specs.Plans.Places.{initials_of}
+use Rattle.place_plan.specs.RulesOfJournals.Journals.{plays_ended, committed_value}
 use Rattle.shared_views.specs.Publications.{value_after}
 use Rattle.action_manager.specs.Publishing.{publications_of}
 

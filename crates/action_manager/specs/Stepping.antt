@@ -2,11 +2,11 @@
 use Rattle.std.specs.Prelude.{◌≡◌, ℕ, [], Option}
 use mathlib.Core.List.{IsPrefix}
 use Rattle.atomic_table.specs.Table.{Me}
-use Rattle.caa_base.specs.Mixing.{Worked}
-use Rattle.place_plan.specs.PlanValue.{Plan}
-use Rattle.place_plan.specs.Journals.{IsLegal}
-use Rattle.place_plan.specs.Machine.{Answers}
-use Rattle.place_plan.specs.declared.machine.Answer.{Answer}
+use Rattle.caa_base.specs.Written.Mixing.{Worked}
+use Rattle.place_plan.specs.Plans.PlanValue.{Plan}
+use Rattle.place_plan.specs.RulesOfJournals.Journals.{IsLegal}
+use Rattle.place_plan.specs.RulesOfJournals.Machine.{Answers}
+use Rattle.place_plan.specs.declared.rules.machine.Answer.{Answer}
 use Rattle.action_manager.specs.declared.lock_view.Terms.{Terms}
 use Rattle.action_manager.specs.declared.lock_view.View.{View}
 use Rattle.action_manager.specs.OwnEntries.{Journal, entries_by}

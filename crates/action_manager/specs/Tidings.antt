@@ -1,7 +1,7 @@
 -- What a step tells its seat.
 use Rattle.std.specs.Prelude.{◌≡◌, ℕ, List, Result, Ok, Err}
-use Rattle.place_plan.specs.declared.machine.Answer.{Answer}
-use Rattle.place_plan.specs.declared.machine.Answer.TheVariants as answer
+use Rattle.place_plan.specs.declared.rules.machine.Answer.{Answer}
+use Rattle.place_plan.specs.declared.rules.machine.Answer.TheVariants as answer
 use Rattle.shared_views.specs.Noted.{Noted}
 use Rattle.shared_views.specs.Telling.{TellsOf}
 use Rattle.shared_views.specs.declared.bulletin.Announcement.{Announcement}

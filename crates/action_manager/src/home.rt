@@ -1,6 +1,6 @@
 ghost use Rattle.std.specs.Prelude.{List};
-ghost use Rattle.caa_base.specs.declared.entry.Entry.{Entry as JournalEntry};
-ghost use Rattle.place_plan.specs.PlanValue.{Plan as PlanValue};
+ghost use Rattle.caa_base.specs.declared.written.entry.Entry.{Entry as JournalEntry};
+ghost use Rattle.place_plan.specs.Plans.PlanValue.{Plan as PlanValue};
 ghost use Rattle.action_manager.specs.declared.lock_view.Terms.{Terms as TermsValue};
 
 /// What may lie in the slot of a turn lock: it has a journal, and is right by some terms or not.

@@ -1,13 +1,13 @@
 ghost use Rattle.std.specs.Prelude.{◌≡◌, ◌<◌, length};
-ghost use Rattle.place_plan.specs.Machine.{Answers};
+ghost use Rattle.place_plan.specs.RulesOfJournals.Machine.{Answers};
 ghost use Rattle.shared_views.specs.Telling.{cells_of};
 
 use crate::home::Home;
 use crate::publishing::Publishing;
-use caa_base::entry::Participant;
-use caa_base::work::WorkDone;
+use caa_base::written::entry::Participant;
+use caa_base::written::work::WorkDone;
 use journal_laws::is_well_formed;
-use place_plan::machine::{Answer, Machine};
+use place_plan::rules::machine::{Answer, Machine};
 use shared_views::{Announcement, Bulletin, CommittedWriter, ResolutionCells};
 use std::sync::Wait;
 

@@ -9,7 +9,7 @@ use crate::turns::{
     About, Draw, HOME, HandOn, Look, Making, SERVING, TICKET, TakesIn, Token, Turntable,
 };
 use atomic_table::{Closed, Refused, Table};
-use place_plan::plan::Plan;
+use place_plan::plans::plan::Plan;
 use std::alloc::Global;
 use std::snapshot::Snapshot;
 use std::sync::Wait;

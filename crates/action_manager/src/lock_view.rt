@@ -1,5 +1,5 @@
-use caa_base::entry::Entry;
-use place_plan::plan::Plan;
+use caa_base::written::entry::Entry;
+use place_plan::plans::plan::Plan;
 use std::collections::LinkedList;
 use std::marker::Model;
 

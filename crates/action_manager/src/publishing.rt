@@ -1,14 +1,14 @@
 ghost use Rattle.std.specs.Prelude.{◌≡◌, ◌<◌, [], ◌∷◌, List, length, reverse, replicate, IfOk, vec_capacity};
-ghost use Rattle.caa_base.specs.declared.entry.Entry.{Entry as JournalEntry};
-ghost use Rattle.place_plan.specs.Places.{initials_of};
-ghost use Rattle.place_plan.specs.Journals.{plays_ended};
+ghost use Rattle.caa_base.specs.declared.written.entry.Entry.{Entry as JournalEntry};
+ghost use Rattle.place_plan.specs.Plans.Places.{initials_of};
+ghost use Rattle.place_plan.specs.RulesOfJournals.Journals.{plays_ended};
 ghost use Rattle.action_manager.specs.Publishing.{values_of, Publishes, HasRoom, book_of, new_observer};
 
-use caa_base::entry::{Entry, Object, OutOfMemory, Place};
+use caa_base::written::entry::{Entry, Object, OutOfMemory, Place};
 use journal_laws::is_well_formed;
-use place_plan::machine::Machine;
-use place_plan::one_entry::ends_play;
-use place_plan::plan::Plan;
+use place_plan::rules::machine::Machine;
+use place_plan::rules::one_entry::ends_play;
+use place_plan::plans::plan::Plan;
 use shared_views::{CommittedWriter, Observer};
 use std::alloc::Global;
 use std::sync::Wait;

@@ -3,7 +3,7 @@ ghost use Rattle.action_manager.specs.OwnEntries.{entries_by};
 
 use crate::housed::Housed;
 use crate::turns::Token;
-use caa_base::entry::Participant;
+use caa_base::written::entry::Participant;
 use shared_views::{Announcement, NoteRefused, PlaceNote};
 use std::mem;
 

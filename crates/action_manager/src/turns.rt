@@ -1,7 +1,7 @@
 use crate::home::Home;
 use crate::lock_view::View;
 use atomic_table::{Join, Play, Seat as TableSeat, Split, Table, TableRule};
-use place_plan::plan::Plan;
+use place_plan::plans::plan::Plan;
 use std::alloc::Global;
 use std::marker::PhantomData;
 use std::snapshot::Snapshot;

@@ -3,14 +3,14 @@ use Rattle.std.proofs.Common.{◌≡◌, ℕ, ℤ, pos, zero, suc, ◌+◌, ◌<
 use Rattle.std.proofs.lemmas.Bool.{and_parts, leb-true, le-leb}
 use Rattle.std.proofs.lemmas.Bool.Decides.{nat_tests}
 use Rattle.std.proofs.lemmas.Slice.Eq.{bytes_eq-Decides}
-use Rattle.caa_base.specs.declared.entry.Test.{Test}
-use Rattle.caa_base.specs.declared.entry.Test.TheVariants as test
+use Rattle.caa_base.specs.declared.written.entry.Test.{Test}
+use Rattle.caa_base.specs.declared.written.entry.Test.TheVariants as test
 use Rattle.action_script.specs.declared.field.Part.{Part}
 use Rattle.action_script.specs.declared.field.Part.TheVariants as part
 use Rattle.action_script.specs.declared.field.Field.{Field}
 use Rattle.action_script.specs.declared.field.Field.TheVariants as field
 use Rattle.action_script.specs.ScriptWords.{value_of, count_of, rounds_of, test_of}
-use Rattle.caa_base.specs.Names.{is_name}
+use Rattle.caa_base.specs.Written.Names.{is_name}
 use Rattle.action_script.specs.NumberedNames.{is_among, number_in}
 use Rattle.action_script.specs.Spelling.{is_part, is_name_part, field_by}
 use Rattle.action_script.specs.Printing.{field_word, fits_part}

@@ -4,16 +4,16 @@ use Rattle.std.specs.List.{list_all}
 use Rattle.std.proofs.lemmas.Bool.{and_parts, leb-true, le-leb}
 use Rattle.std.proofs.lemmas.Bool.Decides.{nat_tests}
 use Rattle.std.proofs.lemmas.Slice.Eq.{bytes_eq-Decides}
-use Rattle.caa_base.specs.declared.entry.Test.{Test}
-use Rattle.caa_base.specs.declared.entry.Test.TheVariants as test
+use Rattle.caa_base.specs.declared.written.entry.Test.{Test}
+use Rattle.caa_base.specs.declared.written.entry.Test.TheVariants as test
 use Rattle.action_script.specs.declared.field.Part.{Part}
 use Rattle.action_script.specs.declared.field.Part.TheVariants as part
 use Rattle.action_script.specs.declared.kind.LineKind.{LineKind}
 use Rattle.action_script.specs.declared.kind.LineKind.TheVariants as kind
-use Rattle.caa_base.specs.Lines.{at_most}
+use Rattle.caa_base.specs.Written.Lines.{at_most}
 use Rattle.action_script.specs.ScriptWords.{leads_well, natural_of, negative_of, value_of, count_of, rounds_of, test_of, test_word}
-use Rattle.caa_base.specs.Lists.{is_empty}
-use Rattle.caa_base.specs.Names.{is_letter, is_digit, is_name_byte, is_name}
+use Rattle.caa_base.specs.Written.Lists.{is_empty}
+use Rattle.caa_base.specs.Written.Names.{is_letter, is_digit, is_name_byte, is_name}
 use Rattle.action_script.specs.CutLines.{begins_comment}
 use Rattle.action_script.specs.Kinds.{word_of}
 use Rattle.action_script.specs.Spelling.{is_part}

@@ -8,7 +8,7 @@ use Rattle.std.proofs.lemmas.List.{append-nil}
 use Rattle.std.proofs.lemmas.List.Folds.{list_all-append}
 use Rattle.std.proofs.lemmas.List.Splits.{slice_split_at, slice_split_none}
 use Rattle.action_script.specs.CutLines.{filled_of, is_blank, is_plain, words_of, lines_of, without_empty_last}
-use Rattle.caa_base.specs.Lines.{spaced}
+use Rattle.caa_base.specs.Written.Lines.{spaced}
 use Rattle.action_script.proofs.LineCuts.{without_empty_last-cons}
 use Rattle.action_script.proofs.Pieces.{some_piece}
 use Rattle.action_script.proofs.Inky.{is_inky, IsWord}

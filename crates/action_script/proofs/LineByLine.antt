@@ -9,7 +9,7 @@ use Rattle.action_script.specs.declared.script_error.ScriptError.{ScriptError}
 use Rattle.action_script.specs.declared.kind.Section.TheVariants as section
 use Rattle.action_script.specs.declared.script.Line.{Line}
 use Rattle.action_script.specs.Asked.{Said}
-use Rattle.caa_base.specs.Limits.{most_script_bytes}
+use Rattle.caa_base.specs.Written.Limits.{most_script_bytes}
 use Rattle.action_script.specs.CutLines.{lines_of}
 use Rattle.action_script.specs.Kinds.{goes_to, at_top}
 use Rattle.action_script.specs.NumberedNames.{with_names}

@@ -4,7 +4,7 @@ use Rattle.std.specs.List.{list_all, list_any, position_or_len, IsDistinct}
 use Rattle.std.proofs.lemmas.List.Recursion.{is_position_or_len}
 use Rattle.std.proofs.lemmas.Bool.{ltb-false, and_parts, cases_Bool}
 use Rattle.std.proofs.lemmas.Slice.Eq.{bytes_eq-Decides}
-use Rattle.caa_base.specs.Names.{is_name}
+use Rattle.caa_base.specs.Written.Names.{is_name}
 use Rattle.std.proofs.lemmas.Option.{cond_some, slice_get-map, slice_get_read}
 use Rattle.std.proofs.lemmas.List.Sums.{position_or_len_is}
 use Rattle.std.proofs.lemmas.Map.Keys.{apart_from_distinct}

@@ -7,9 +7,9 @@ use Rattle.std.proofs.lemmas.Bool.Decides.{nat_tests}
 use Rattle.std.proofs.lemmas.Fmt.{decimal_digit, first_decimal, decimal_nonempty, digits_decimal, digits_value-decimal, decimal-digits_value}
 use Rattle.std.proofs.lemmas.Str.Parse.{IsNumeralModel, numerals_by_fold}
 use Rattle.action_script.specs.ScriptWords.{leads_well, natural_of, at_least_one, negative_of, value_of, count_of, rounds_of}
-use Rattle.caa_base.specs.Names.{is_digit}
-use Rattle.caa_base.specs.Limits.{is_value}
-use Rattle.caa_base.specs.Lines.{digits_after, at_most}
+use Rattle.caa_base.specs.Written.Names.{is_digit}
+use Rattle.caa_base.specs.Written.Limits.{is_value}
+use Rattle.caa_base.specs.Written.Lines.{digits_after, at_most}
 
 own : IsNumeralModel (λ ds. list_all is_digit ds ≡ true) (digits_after 0)
 own = numerals_by_fold _ (search rules) digits_after (search rules)

@@ -3,7 +3,7 @@ use Rattle.std.proofs.Common.{◌≡◌, ◌≢◌, ℕ, ◌+◌, ◌≤◌, Boo
 use Rattle.std.specs.List.{list_all, slice_split, onto_first}
 use Rattle.std.proofs.lemmas.Bool.{and_parts, le-ltb}
 use Rattle.std.proofs.lemmas.Slice.Eq.{bytes_eq-Decides}
-use Rattle.caa_base.specs.Limits.{most_line_bytes}
+use Rattle.caa_base.specs.Written.Limits.{most_line_bytes}
 use Rattle.action_script.specs.declared.script_error.ScriptCause.{ScriptCause}
 use Rattle.action_script.specs.declared.script_error.ScriptCause.TheVariants as cause
 use Rattle.action_script.specs.declared.field.Part.{Part}

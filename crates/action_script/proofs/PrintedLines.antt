@@ -12,7 +12,7 @@ use Rattle.action_script.specs.declared.form.Form.{Form}
 use Rattle.action_script.specs.declared.kind.Section.{Section}
 use Rattle.action_script.specs.declared.kind.LineKind.{LineKind}
 use Rattle.action_script.specs.declared.kind.LineKind.TheVariants as kind
-use Rattle.caa_base.specs.Limits.{most_line_bytes}
+use Rattle.caa_base.specs.Written.Limits.{most_line_bytes}
 use Rattle.action_script.specs.CutLines.{words_of, is_plain}
 use Rattle.action_script.specs.Asked.{Asked}
 use Rattle.action_script.specs.Kinds.{word_of, parts_of, takes, stands_in}

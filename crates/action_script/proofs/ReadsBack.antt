@@ -7,7 +7,7 @@ use Rattle.action_script.specs.declared.form.Form.{Form}
 use Rattle.action_script.specs.declared.kind.Section.{Section}
 use Rattle.action_script.specs.declared.kind.Section.TheVariants as section
 use Rattle.action_script.specs.declared.script.Line.{Line}
-use Rattle.caa_base.specs.Limits.{most_script_bytes}
+use Rattle.caa_base.specs.Written.Limits.{most_script_bytes}
 use Rattle.action_script.specs.CutLines.{lines_of}
 use Rattle.action_script.specs.Kinds.{word_of, parts_of, takes, stands_in, goes_to}
 use Rattle.action_script.specs.NumberedNames.{with_names}

@@ -8,7 +8,7 @@ use Rattle.action_script.specs.declared.field.Part.{Part}
 use Rattle.action_script.specs.declared.kind.Section.{Section}
 use Rattle.action_script.specs.declared.kind.LineKind.{LineKind}
 use Rattle.action_script.specs.Asked.{Said}
-use Rattle.caa_base.specs.Limits.{most_line_bytes}
+use Rattle.caa_base.specs.Written.Limits.{most_line_bytes}
 use Rattle.action_script.specs.CutLines.{words_of, is_plain, begins_comment}
 use Rattle.action_script.specs.Kinds.{word_of, parts_of, takes, kinds}
 use Rattle.action_script.proofs.NamesCounted.{length-words_of}

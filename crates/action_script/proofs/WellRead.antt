@@ -12,10 +12,10 @@ use Rattle.action_script.specs.declared.field.Part.TheVariants as part
 use Rattle.action_script.specs.declared.form.Form.{Form}
 use Rattle.action_script.specs.declared.kind.Section.{Section}
 use Rattle.action_script.specs.declared.kind.Section.TheVariants as section
-use Rattle.caa_base.specs.Lists.{is_empty}
-use Rattle.caa_base.specs.Limits.{most_script_bytes, most_line_bytes}
+use Rattle.caa_base.specs.Written.Lists.{is_empty}
+use Rattle.caa_base.specs.Written.Limits.{most_script_bytes, most_line_bytes}
 use Rattle.action_script.specs.CutLines.{filled_of, lines_of, words_of, is_blank}
-use Rattle.caa_base.specs.Lines.{spaced}
+use Rattle.caa_base.specs.Written.Lines.{spaced}
 use Rattle.action_script.specs.Asked.{Asked, Said}
 use Rattle.action_script.specs.Kinds.{word_of, parts_of, takes, stands_in, goes_to, at_top}
 use Rattle.action_script.specs.NumberedNames.{is_among, with_names}

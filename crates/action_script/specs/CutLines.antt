@@ -1,7 +1,7 @@
 -- How the bytes of a script are cut into lines, and a line into words.
 use Rattle.std.specs.Prelude.{◌≡◌, ℕ, ◌+◌, ◌≤◌, ◌==◌, nat_le, if◌then◌else◌, Bool, true, false, not, ◌&&◌, ◌||◌, List, [], ◌∷◌, ◌++◌, filter, drop, length}
 use Rattle.std.specs.List.{slice_split, position_or_len}
-use Rattle.caa_base.specs.Lists.{is_empty}
+use Rattle.caa_base.specs.Written.Lists.{is_empty}
 
 -- ---- lines
 

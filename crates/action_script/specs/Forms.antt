@@ -1,7 +1,7 @@
 -- What the lines of a script say, as forms: each form is of one kind, and its fields are what the words after the first say.
 use Rattle.std.specs.Prelude.{ℕ, ℤ, pos, List, [], ◌∷◌, map, drop, Option, Some, slice_get}
-use Rattle.caa_base.specs.declared.entry.Test.{Test}
-use Rattle.caa_base.specs.declared.entry.Test.TheVariants as test
+use Rattle.caa_base.specs.declared.written.entry.Test.{Test}
+use Rattle.caa_base.specs.declared.written.entry.Test.TheVariants as test
 use Rattle.action_script.specs.declared.field.Field.{Field}
 use Rattle.action_script.specs.declared.field.Field.TheVariants as field
 use Rattle.action_script.specs.declared.form.Form.{Form}

@@ -11,9 +11,9 @@ use Rattle.action_script.specs.declared.kind.Section.{Section}
 use Rattle.action_script.specs.declared.kind.Section.TheVariants as section
 use Rattle.action_script.specs.declared.script.Line.{Line}
 use Rattle.action_script.specs.ScriptWords.{test_word}
-use Rattle.caa_base.specs.Names.{is_name, name_at}
-use Rattle.caa_base.specs.Limits.{most_line_bytes, most_count, is_value}
-use Rattle.caa_base.specs.Lines.{spaced}
+use Rattle.caa_base.specs.Written.Names.{is_name, name_at}
+use Rattle.caa_base.specs.Written.Limits.{most_line_bytes, most_count, is_value}
+use Rattle.caa_base.specs.Written.Lines.{spaced}
 use Rattle.action_script.specs.Asked.{Said}
 use Rattle.action_script.specs.Kinds.{word_of, parts_of, takes, stands_in, goes_to, at_top}
 use Rattle.action_script.specs.Forms.{kind_of, fields_of}

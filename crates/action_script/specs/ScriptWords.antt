@@ -1,12 +1,12 @@
 -- The words of a script: names, numbers and tests.
 use Rattle.std.specs.Prelude.{ℕ, ℤ, pos, negsuc, zero, suc, ◌==◌, if◌then◌else◌, Bool, false, not, ◌&&◌, ◌||◌, List, [], ◌∷◌, Option, Some, None, option_map, bytes_eq, codes}
 use Rattle.std.specs.List.{list_all}
-use Rattle.caa_base.specs.Lists.{is_empty}
-use Rattle.caa_base.specs.Names.{is_digit}
-use Rattle.caa_base.specs.Limits.{most_value, most_count}
-use Rattle.caa_base.specs.declared.entry.Test.{Test}
-use Rattle.caa_base.specs.declared.entry.Test.TheVariants as test
-use Rattle.caa_base.specs.Lines.{digits_after, at_most}
+use Rattle.caa_base.specs.Written.Lists.{is_empty}
+use Rattle.caa_base.specs.Written.Names.{is_digit}
+use Rattle.caa_base.specs.Written.Limits.{most_value, most_count}
+use Rattle.caa_base.specs.declared.written.entry.Test.{Test}
+use Rattle.caa_base.specs.declared.written.entry.Test.TheVariants as test
+use Rattle.caa_base.specs.Written.Lines.{digits_after, at_most}
 
 -- ---- numbers
 

@@ -1,7 +1,7 @@
 -- What the bytes of a script spell: its lines and names, or its first fault.
 use Rattle.std.specs.Prelude.{◌≡◌, ℕ, pos, ◌+◌, nat_lt, ◌≤◌, if◌then◌else◌, Bool, true, false, not, ◌&&◌, List, [], ◌∷◌, length, map, filter, Option, Some, None, is_some, unwrap_or, slice_get, Result, Ok, Err, bytes_eq, find}
 use Rattle.std.specs.List.{list_all, flat_map}
-use Rattle.caa_base.specs.declared.entry.Test.TheVariants as test
+use Rattle.caa_base.specs.declared.written.entry.Test.TheVariants as test
 use Rattle.action_script.specs.declared.script_error.ScriptCause.{ScriptCause}
 use Rattle.action_script.specs.declared.script_error.ScriptCause.TheVariants as cause
 use Rattle.action_script.specs.declared.script_error.ScriptError.{ScriptError}
@@ -15,8 +15,8 @@ use Rattle.action_script.specs.declared.kind.LineKind.{LineKind}
 use Rattle.action_script.specs.declared.script.Line.{Line}
 use Rattle.action_script.specs.Asked.{Asked, Said}
 use Rattle.action_script.specs.ScriptWords.{value_of, count_of, rounds_of, test_of}
-use Rattle.caa_base.specs.Names.{is_name}
-use Rattle.caa_base.specs.Limits.{most_script_bytes, most_line_bytes}
+use Rattle.caa_base.specs.Written.Names.{is_name}
+use Rattle.caa_base.specs.Written.Limits.{most_script_bytes, most_line_bytes}
 use Rattle.action_script.specs.CutLines.{lines_of, words_of, is_plain, begins_comment}
 use Rattle.action_script.specs.Kinds.{word_of, parts_of, takes, stands_in, goes_to, at_top, kinds}
 use Rattle.action_script.specs.NumberedNames.{with_names, number_in}

@@ -8,8 +8,8 @@ use crate::field::{Field, Part};
 use crate::names::NameTable;
 use crate::script_error::ScriptCause;
 use crate::word::{count_of, rounds_of, test_of, value_of};
-use caa_base::entry::Test;
-use caa_base::name::is_name;
+use caa_base::written::entry::Test;
+use caa_base::written::name::is_name;
 use std::alloc::{AllocError, Global};
 use std::marker::Model;
 

@@ -1,4 +1,4 @@
-use caa_base::entry::Test;
+use caa_base::written::entry::Test;
 
 /// What a word of a line is asked to be.
 #[derive(Clone, Copy, Debug, PartialEq, Eq)]

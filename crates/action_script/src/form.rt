@@ -4,8 +4,8 @@ ghost use Rattle.action_script.specs.Forms.{kind_of, fields_of, form_by, name_in
 
 use crate::field::Field;
 use crate::kind::LineKind;
-use caa_base::entry::Test;
-use caa_base::rows::Rows;
+use caa_base::written::entry::Test;
+use caa_base::written::rows::Rows;
 use std::alloc::{AllocError, Global};
 
 /// What one line of a script says. Each name is given by its number among the names of the script.

@@ -1,10 +1,10 @@
 ghost use Rattle.std.specs.Prelude.{◌≡◌, ◌<◌, ◌+◌, ◌^◌, length, [], is_some, true, IfSome, IfOk, IfErr, OnOk};
 ghost use Rattle.action_script.specs.NumberedNames.{with_name, number_in};
-ghost use Rattle.caa_base.specs.Names.{is_name};
+ghost use Rattle.caa_base.specs.Written.Names.{is_name};
 ghost use Rattle.action_script.specs.declared.script_error.ScriptCause.TheVariants as cause;
 
 use crate::script_error::ScriptCause;
-use caa_base::name::{Name, is_name};
+use caa_base::written::name::{Name, is_name};
 use indexmap::IndexSet;
 use std::alloc::Global;
 use std::marker::Model;
@@ -18,7 +18,7 @@ pub struct NameTable<'a> {
 impl<'a> Model for NameTable<'a> {
     ghost use Rattle.std.specs.Prelude.{◌≡◌, List, ℕ, map, true};
     ghost use Rattle.std.specs.List.{list_all};
-    ghost use Rattle.caa_base.specs.Names.{is_name};
+    ghost use Rattle.caa_base.specs.Written.Names.{is_name};
 
     ghost Value = { List (List ℕ) };
 

@@ -1,16 +1,16 @@
 ghost use Rattle.std.specs.Prelude.{◌≡◌, ◌≤◌, ◌∷◌, ◌++◌, [], length, map, Ok, OnOk, IfOk};
 ghost use Rattle.std.specs.List.{flat_map};
-ghost use Rattle.caa_base.specs.Limits.{most_script_bytes};
-ghost use Rattle.caa_base.specs.Lines.{spaced};
+ghost use Rattle.caa_base.specs.Written.Limits.{most_script_bytes};
+ghost use Rattle.caa_base.specs.Written.Lines.{spaced};
 ghost use Rattle.action_script.specs.Spelling.{Spells};
 ghost use Rattle.action_script.specs.Printing.{reread_of, field_word, line_text, text_of};
 
 use crate::field::Field;
 use crate::script::{Line, Script};
 use crate::word::test_word;
-use caa_base::entry::OutOfMemory;
-use caa_base::line::{end_line, push_number, push_value, push_word};
-use caa_base::name::{Name, name_at};
+use caa_base::written::entry::OutOfMemory;
+use caa_base::written::line::{end_line, push_number, push_value, push_word};
+use caa_base::written::name::{Name, name_at};
 use std::alloc::Global;
 
 /// Adds the word that says a field, after a space.

@@ -1,5 +1,5 @@
 ghost use Rattle.std.specs.Prelude.{◌≡◌, ◌≢◌, ◌+◌, ◌-◌, ◌<◌, ◌≤◌, ◌^◌, [], length, map, Some, Ok, Err, IfOk, IfErr, OnOk};
-ghost use Rattle.caa_base.specs.Limits.{most_script_bytes};
+ghost use Rattle.caa_base.specs.Written.Limits.{most_script_bytes};
 ghost use Rattle.action_script.specs.CutLines.{lines_of};
 ghost use Rattle.action_script.specs.Spelling.{IsOfKind, said_with, line_of, said_from, Spells, HasFirstFault};
 ghost use Rattle.action_script.specs.SoFar.{so_far, with_said, Took, HasRead};
@@ -15,7 +15,7 @@ use crate::names::NameTable;
 use crate::script::{Line, Script};
 use crate::script_error::{ScriptCause, ScriptError};
 use crate::script_line::{fault_of, kind_of_line};
-use caa_base::limits::MOST_SCRIPT_BYTES;
+use caa_base::written::limits::MOST_SCRIPT_BYTES;
 use std::alloc::Global;
 
 /// What was read of a script so far.

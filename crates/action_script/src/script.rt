@@ -5,8 +5,8 @@ ghost use Rattle.action_script.specs.Forms.{numbers_of};
 ghost use Rattle.action_script.specs.Printing.{AreScript, AreBelow, is_sound, forms_of, numbered_from};
 
 use crate::form::Form;
-use caa_base::entry::OutOfMemory;
-use caa_base::name::Name;
+use caa_base::written::entry::OutOfMemory;
+use caa_base::written::name::Name;
 use std::alloc::{AllocError, Global};
 use std::marker::Model;
 

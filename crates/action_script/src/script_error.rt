@@ -1,7 +1,7 @@
 ghost use Rattle.std.specs.Prelude.{◌≡◌};
 ghost use Rattle.action_script.specs.declared.script_error.ScriptCause.TheVariants as cause;
 
-use caa_base::entry::OutOfMemory;
+use caa_base::written::entry::OutOfMemory;
 use std::alloc::{AllocError, AllocFailed};
 use thiserror::Error;
 

@@ -7,7 +7,7 @@ ghost use Rattle.action_script.specs.declared.script_error.ScriptCause.TheVarian
 use crate::cuts::is_blank;
 use crate::kind::{KINDS, LineKind, Section};
 use crate::script_error::ScriptCause;
-use caa_base::limits::MOST_LINE_BYTES;
+use caa_base::written::limits::MOST_LINE_BYTES;
 
 fn is_plain(byte: u8) -> bool
     ensures { result ≡ is_plain byte }

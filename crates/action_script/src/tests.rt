@@ -4,8 +4,8 @@ use crate::printer::print;
 use crate::reader::read;
 use crate::script::Script;
 use crate::script_error::{ScriptCause, ScriptError};
-use caa_base::entry::Test;
-use caa_base::name::Name;
+use caa_base::written::entry::Test;
+use caa_base::written::name::Name;
 use std::alloc::{AllocError, Global};
 use std::test::Fail;
 

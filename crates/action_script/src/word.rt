@@ -2,14 +2,14 @@ ghost use Rattle.std.specs.Prelude.{◌≡◌, ◌≤◌, ◌&&◌, ◌<◌, IfS
 ghost use Rattle.std.specs.Option.{ForSome};
 ghost use Rattle.std.specs.List.{list_all};
 ghost use Rattle.action_script.specs.ScriptWords.{leads_well, natural_of, negative_of, value_of, count_of, rounds_of, test_of, test_word};
-ghost use Rattle.caa_base.specs.Limits.{most_value};
-ghost use Rattle.caa_base.specs.Lines.{at_most};
-ghost use Rattle.caa_base.specs.Names.{is_digit};
+ghost use Rattle.caa_base.specs.Written.Limits.{most_value};
+ghost use Rattle.caa_base.specs.Written.Lines.{at_most};
+ghost use Rattle.caa_base.specs.Written.Names.{is_digit};
 
-use caa_base::digits::digits_within;
-use caa_base::entry::Test;
-use caa_base::limits::{self, MOST_MAGNITUDE};
-use caa_base::name::is_digit;
+use caa_base::written::digits::digits_within;
+use caa_base::written::entry::Test;
+use caa_base::written::limits::{self, MOST_MAGNITUDE};
+use caa_base::written::name::is_digit;
 
 /// The greatest count, and the greatest number of rounds.
 const MOST_COUNT: u64 = limits::MOST_COUNT as u64;

@@ -1,7 +1,7 @@
 -- What a count does that goes up by one, and stops at the last number that it can show.
 use Rattle.std.proofs.Common.{◌≡◌, ℕ, ◌+◌, ◌-◌, ◌^◌, ◌<◌, ◌≤◌, Bool, true, false, cond, nat_lt, refl, arith}
 use Rattle.std.proofs.lemmas.Bool.{ltb-false}
-use Rattle.caa_base.specs.Counts.{counted_up, Rose, CountsFault}
+use Rattle.caa_base.specs.Outside.Counts.{counted_up, Rose, CountsFault}
 
 -- a count after one more is one more, or it stood at its end
 by_test : (b : Bool) (n after : ℕ) → nat_lt n (2 ^ 64 - 1) ≡ b → after ≡ cond b (n + 1) n → after < 2 ^ 64 - 1 → after ≡ n + 1

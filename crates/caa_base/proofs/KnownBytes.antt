@@ -2,9 +2,9 @@
 use Rattle.std.proofs.Common.{◌≡◌, ℕ, ◌+◌, List, ◌++◌, Option, Some, None, Result, Ok, Err, IfErr, IsErrAnd, refl, ap, subst, append_assoc, sym, take, drop, ◌∙◌}
 use Rattle.std.specs.Io.KnownBytes.{append_known, prepend_known}
 use lib.Seq.{take-add}
-use Rattle.caa_base.specs.Reading.{TookAtMost, TookUntil}
-use Rattle.caa_base.specs.declared.reading.ReadError.{ReadError}
-use Rattle.caa_base.specs.declared.reading.ReadError.TheVariants.{OutOfMemory}
+use Rattle.caa_base.specs.Outside.Reading.{TookAtMost, TookUntil}
+use Rattle.caa_base.specs.declared.outside.reading.ReadError.{ReadError}
+use Rattle.caa_base.specs.declared.outside.reading.ReadError.TheVariants.{OutOfMemory}
 
 -- two pieces appended, one after the other
 pub append_known-append_known : (known : Option (List ℕ)) (xs ys : List ℕ) → append_known (append_known known xs) ys ≡ append_known known (xs ++ ys)

@@ -3,7 +3,7 @@ use Rattle.std.proofs.Common.{◌≡◌, ℕ, ◌==◌, ◌<◌, ◌≤◌, Bool
 use Rattle.std.specs.List.{list_all, range_with_len}
 use Rattle.std.proofs.lemmas.Bool.{and_parts, and_from, or_cases, or_left, or_right, eqb-true, eq-eqb, false≢true, cases_lt, lt-ltb, le-ltb}
 use Rattle.std.proofs.lemmas.Option.{none-some}
-use Rattle.caa_base.specs.Lists.{member, index_of, is_at, is_empty, Rises, first_not, last_or, last_of}
+use Rattle.caa_base.specs.Written.Lists.{member, index_of, is_at, is_empty, Rises, first_not, last_or, last_of}
 
 -- ---- choices by a test
 

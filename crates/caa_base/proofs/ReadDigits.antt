@@ -1,7 +1,7 @@
 -- Numbers that are read digit by digit.
 use Rattle.std.proofs.Common.{◌≡◌, ℕ, ◌+◌, ◌-◌, ◌*◌, ◌<◌, ◌≤◌, List, [], ◌∷◌, Some, None, arith}
 use Rattle.std.proofs.lemmas.Bool.Decides.{nat_tests}
-use Rattle.caa_base.specs.Lines.{digits_after, at_most}
+use Rattle.caa_base.specs.Written.Lines.{digits_after, at_most}
 
 -- more digits never make a number less
 pub digits_after-ge : (n : ℕ) (digits : List ℕ) → n ≤ digits_after n digits

@@ -2,7 +2,7 @@
 use Rattle.std.proofs.Common.{◌≡◌, ℤ, pos, negsuc, ◌+◌, true, arith}
 use Rattle.std.proofs.lemmas.Int.{ints}
 use Rattle.std.proofs.lemmas.Bool.{leb-true, le-leb}
-use Rattle.caa_base.specs.Limits.{IsValue, is_value, most_value}
+use Rattle.caa_base.specs.Written.Limits.{IsValue, is_value, most_value}
 
 -- what passes the test lies in the range
 pub value_from : (v : ℤ) → is_value v ≡ true → IsValue v

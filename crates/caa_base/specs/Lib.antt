@@ -1,11 +1,2 @@
-pub mod Counts
-pub mod Journal
-pub mod Limits
-pub mod Lines
-pub mod Lists
-pub mod Memory
-pub mod Mixing
-pub mod Names
-pub mod PlantState
-pub mod Reading
-pub mod Writing
+pub mod Written
+pub mod Outside

@@ -1,7 +1,7 @@
-use crate::entry::{Failed, OutOfMemory};
-use crate::limits::{MOST_VALUE, is_value};
-use crate::plant::PlantError;
-use crate::reading::ReadError;
+use crate::written::entry::{Failed, OutOfMemory};
+use crate::written::limits::{MOST_VALUE, is_value};
+use crate::outside::plant::PlantError;
+use crate::outside::reading::ReadError;
 use std::test::Fail;
 
 #[test]

@@ -2,7 +2,7 @@
 use Rattle.std.proofs.Common.{◌≡◌, ◌≢◌, ℕ, List, Ok, Err, Result, inr, subst}
 use Rattle.action_script.specs.Spelling.{reading_of}
 use Rattle.action_script.specs.ScriptValue.{Script}
-use Rattle.place_plan.specs.PlanValue.{Plan}
+use Rattle.place_plan.specs.Plans.PlanValue.{Plan}
 use Rattle.script_checker.specs.declared.check_error.CheckError.{CheckError}
 use Rattle.script_checker.specs.declared.check_error.CheckCause.TheVariants as cause
 use Rattle.script_checker.specs.Compiled.{IsAnswer, planned, refused, wanting, IsPlanOf, IsFirstRefused}

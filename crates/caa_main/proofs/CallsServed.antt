@@ -1,16 +1,16 @@
 -- What can be served is served, what is to be found is told, and what is to be refused is refused; or memory was wanting.
 use Rattle.std.proofs.Common.{◌≡◌, ℕ, ◌+◌, ◌<◌, ◌≤◌, true, false, List, [], ◌++◌, length, length-append, Option, Some, None, IfSome, Ok, Err, inl, inr, ◌⊎◌, refl, sym, ap, ◌∙◌, subst, subst₂, arith}
 use Rattle.std.specs.Io.KnownBytes.{append_known}
-use Rattle.caa_base.specs.Counts.{Rose}
-use Rattle.caa_base.specs.Limits.{most_script_bytes}
-use Rattle.caa_base.specs.Reading.{TookOff, TookUntil}
-use Rattle.caa_base.specs.declared.entry.Entry.{Entry}
-use Rattle.caa_base.specs.declared.reading.ReadError.{ReadError}
-use Rattle.caa_base.specs.declared.reading.ReadError.TheVariants as error
+use Rattle.caa_base.specs.Outside.Counts.{Rose}
+use Rattle.caa_base.specs.Written.Limits.{most_script_bytes}
+use Rattle.caa_base.specs.Outside.Reading.{TookOff, TookUntil}
+use Rattle.caa_base.specs.declared.written.entry.Entry.{Entry}
+use Rattle.caa_base.specs.declared.outside.reading.ReadError.{ReadError}
+use Rattle.caa_base.specs.declared.outside.reading.ReadError.TheVariants as error
 use Rattle.action_script.specs.ScriptValue.{Script}
 use Rattle.script_checker.specs.Compiled.{IsFirstRefused}
-use Rattle.journal_text.specs.declared.seens.Seen.{Seen}
-use Rattle.place_plan.specs.PlanValue.{Plan}
+use Rattle.journal_text.specs.declared.looks.seens.Seen.{Seen}
+use Rattle.place_plan.specs.Plans.PlanValue.{Plan}
 use Rattle.caa_main.specs.declared.command.Command.{Command}
 use Rattle.caa_main.specs.declared.command.Command.TheVariants as command
 use Rattle.caa_main.specs.declared.fault.Refusal.{Refusal}

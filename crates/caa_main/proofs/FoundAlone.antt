@@ -4,19 +4,19 @@ use Rattle.std.specs.List.{slice_get}
 use Rattle.std.proofs.lemmas.Bool.{cases_lt}
 use Rattle.std.proofs.lemmas.List.{take-take, take_all}
 use Rattle.std.proofs.lemmas.Option.{get_or_from_slice_get}
-use Rattle.caa_base.specs.declared.entry.Entry.{Entry}
-use Rattle.caa_base.specs.Limits.{most_audited}
-use Rattle.place_plan.specs.PlanValue.{Plan}
-use Rattle.place_plan.specs.Rules.{MayFollow}
-use Rattle.place_plan.specs.Journals.{LegalPast, IsLegal, IsComplete}
+use Rattle.caa_base.specs.declared.written.entry.Entry.{Entry}
+use Rattle.caa_base.specs.Written.Limits.{most_audited}
+use Rattle.place_plan.specs.Plans.PlanValue.{Plan}
+use Rattle.place_plan.specs.RulesOfJournals.Rules.{MayFollow}
+use Rattle.place_plan.specs.RulesOfJournals.Journals.{LegalPast, IsLegal, IsComplete}
 use Rattle.journal_replay.specs.Audited.{IsFirstIllegal, IsUnfinished}
-use Rattle.place_plan.proofs.LatestValues.{reverse_more}
+use Rattle.place_plan.proofs.OnJournals.LatestValues.{reverse_more}
 use Rattle.journal_replay.proofs.Prefixes.{legal_front}
-use Rattle.journal_text.specs.declared.seens.Seen.{Seen}
-use Rattle.journal_text.specs.declared.text_reader.TextError.TheVariants as error
-use Rattle.journal_text.specs.TextOfJournal.{IsText, HasTooMany, IsFirstBad}
-use Rattle.journal_text.proofs.ReadingLemmas.{Tells}
-use Rattle.journal_text.proofs.BadLines.{texts-differ, reads-back}
+use Rattle.journal_text.specs.declared.looks.seens.Seen.{Seen}
+use Rattle.journal_text.specs.declared.texts.text_reader.TextError.TheVariants as error
+use Rattle.journal_text.specs.Texts.TextOfJournal.{IsText, HasTooMany, IsFirstBad}
+use Rattle.journal_text.proofs.OnTexts.ReadingLemmas.{Tells}
+use Rattle.journal_text.proofs.OnTexts.BadLines.{texts-differ, reads-back}
 use Rattle.caa_main.specs.declared.fault.Refusal.{Refusal}
 use Rattle.caa_main.specs.declared.finding.Finding.{Finding}
 use Rattle.caa_main.specs.declared.finding.Finding.TheVariants as finding

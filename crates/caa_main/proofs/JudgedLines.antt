@@ -3,13 +3,13 @@ use Rattle.std.proofs.Common.{◌≡◌, ◌⊎◌, inl, inr, ℕ, suc, ◌+◌,
 use Rattle.std.specs.List.{flat_map, range_with_len}
 use Rattle.std.proofs.lemmas.List.{length-append}
 use Rattle.std.proofs.lemmas.List.FromFn.{length-range_with_len}
-use Rattle.caa_base.specs.declared.entry.Entry.{Entry}
-use Rattle.caa_base.specs.Lines.{spaced, line}
-use Rattle.place_plan.specs.PlanValue.{Plan}
-use Rattle.journal_text.specs.declared.seens.Seen.{Seen}
-use Rattle.journal_text.specs.Text.{participant_name, kind_word, field_words, entry_line, object_line, outcome_line, closing_lines, seen_line, first_line, text_of}
-use Rattle.journal_text.specs.TextOfJournal.{lines_shared}
-use Rattle.journal_text.specs.Right.{is_right, is_whole, next_seen, first_wrong_from}
+use Rattle.caa_base.specs.declared.written.entry.Entry.{Entry}
+use Rattle.caa_base.specs.Written.Lines.{spaced, line}
+use Rattle.place_plan.specs.Plans.PlanValue.{Plan}
+use Rattle.journal_text.specs.declared.looks.seens.Seen.{Seen}
+use Rattle.journal_text.specs.Texts.Text.{participant_name, kind_word, field_words, entry_line, object_line, outcome_line, closing_lines, seen_line, first_line, text_of}
+use Rattle.journal_text.specs.Texts.TextOfJournal.{lines_shared}
+use Rattle.journal_text.specs.Watching.Right.{is_right, is_whole, next_seen, first_wrong_from}
 use Rattle.journal_replay.specs.Audited.{IsFirstIllegal, IsUnfinished}
 use Rattle.caa_main.specs.Judging.{wrong_look, IsIllegalAt}
 

@@ -3,12 +3,12 @@ use Rattle.std.proofs.Common.{◌≡◌, ℕ, ◌+◌, ◌≤◌, ◌==◌, nat_
 use Rattle.std.specs.List.{flat_map, slice_split}
 use Rattle.std.proofs.lemmas.Bool.{ltb-false, leb-true, and_parts}
 use Rattle.std.proofs.lemmas.List.{length-map}
-use Rattle.caa_base.specs.Limits.{most_script_bytes, most_places, most_entries}
-use Rattle.caa_base.specs.Lists.{is_empty}
-use Rattle.place_plan.specs.PlanValue.{Plan}
-use Rattle.place_plan.specs.Unfolding.{plan_of}
-use Rattle.place_plan.specs.Bound.{bound}
-use Rattle.place_plan.proofs.DraftKeeps.{keeps_rules}
+use Rattle.caa_base.specs.Written.Limits.{most_script_bytes, most_places, most_entries}
+use Rattle.caa_base.specs.Written.Lists.{is_empty}
+use Rattle.place_plan.specs.Plans.PlanValue.{Plan}
+use Rattle.place_plan.specs.Plans.Unfolding.{plan_of}
+use Rattle.place_plan.specs.Plans.Bound.{bound}
+use Rattle.place_plan.proofs.OnDrafts.DraftKeeps.{keeps_rules}
 use Rattle.action_script.specs.declared.script_error.ScriptCause.{ScriptCause}
 use Rattle.action_script.specs.declared.script_error.ScriptCause.TheVariants as cause
 use Rattle.action_script.specs.declared.script_error.ScriptError.{ScriptError}
@@ -26,9 +26,9 @@ use Rattle.action_script.proofs.Speaking.{speaks, speaks-short}
 use Rattle.action_script.proofs.WellRead.{well_read}
 use Rattle.script_checker.proofs.AcceptedDraft.{breaks_none}
 use Rattle.script_checker.proofs.NamesKept.{own_names_of}
-use Rattle.journal_text.proofs.ReadingLemmas.{Tells}
+use Rattle.journal_text.proofs.OnTexts.ReadingLemmas.{Tells}
 use Rattle.caa_main.specs.Scripts.{HasPlan}
-use Rattle.journal_text.proofs.WellNamed.{well_named}
+use Rattle.journal_text.proofs.OnTexts.WellNamed.{well_named}
 
 -- ---- the lines of a text are no longer than the text
 

@@ -2,10 +2,10 @@
 use Rattle.std.proofs.Common.{◌≡◌, ℕ, ◌-◌, List, sym, subst, arith, length, get_or, reverse}
 use Rattle.std.specs.List.{All}
 use Rattle.std.proofs.lemmas.List.{reverse-reverse, length-reverse, get_or-reverse}
-use Rattle.caa_base.specs.declared.entry.Entry.{Entry}
-use Rattle.place_plan.specs.PlanValue.{Plan}
-use Rattle.place_plan.specs.Journals.{LegalPast, IsLegal}
-use Rattle.place_plan.specs.WellFormed.{IsWellFormed, AllWellFormed}
+use Rattle.caa_base.specs.declared.written.entry.Entry.{Entry}
+use Rattle.place_plan.specs.Plans.PlanValue.{Plan}
+use Rattle.place_plan.specs.RulesOfJournals.Journals.{LegalPast, IsLegal}
+use Rattle.place_plan.specs.RulesOfJournals.WellFormed.{IsWellFormed, AllWellFormed}
 
 pub all_reversed : (P : Entry → Type 0) (es : List Entry) → All P (reverse es) → All P es
 all_reversed P es h k d l =

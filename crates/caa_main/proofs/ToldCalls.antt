@@ -1,7 +1,7 @@
 -- A call answers what it came to, once that is told.
 use Rattle.std.proofs.Common.{◌≡◌, List, Option, sym, subst₂}
-use Rattle.caa_base.specs.declared.entry.Entry.{Entry}
-use Rattle.caa_base.specs.declared.plant.Plant.{Ghosts}
+use Rattle.caa_base.specs.declared.written.entry.Entry.{Entry}
+use Rattle.caa_base.specs.declared.outside.plant.Plant.{Ghosts}
 use Rattle.caa_main.specs.declared.command.Command.{Command}
 use Rattle.caa_main.specs.declared.finding.Finding.{Finding}
 use Rattle.caa_main.specs.declared.status.Status.{Status}

@@ -1,18 +1,18 @@
 -- How a call of the program ends, and what it leaves.
 use Rattle.std.specs.Prelude.{◌≡◌, ◌⊎◌, ℕ, ◌≤◌, if◌then◌else◌, true, List, [], length, Some, None, IfSome}
 use Rattle.std.specs.Io.KnownBytes.{append_known}
-use Rattle.caa_base.specs.Counts.{counted_up}
-use Rattle.caa_base.specs.Reading.{emptied, TookUntil}
-use Rattle.caa_base.specs.Writing.{WrotePart}
-use Rattle.caa_base.specs.declared.entry.Entry.{Entry}
-use Rattle.caa_base.specs.declared.reading.ReadError.{ReadError}
-use Rattle.caa_base.specs.declared.reading.ReadError.TheVariants as error
-use Rattle.place_plan.specs.PlanValue.{Plan}
+use Rattle.caa_base.specs.Outside.Counts.{counted_up}
+use Rattle.caa_base.specs.Outside.Reading.{emptied, TookUntil}
+use Rattle.caa_base.specs.Outside.Writing.{WrotePart}
+use Rattle.caa_base.specs.declared.written.entry.Entry.{Entry}
+use Rattle.caa_base.specs.declared.outside.reading.ReadError.{ReadError}
+use Rattle.caa_base.specs.declared.outside.reading.ReadError.TheVariants as error
+use Rattle.place_plan.specs.Plans.PlanValue.{Plan}
 use Rattle.script_checker.specs.PlanSizes.{counts_of}
 use Rattle.role_driver.specs.Schedule.{GrewBy, first_of_seed}
-use Rattle.journal_text.specs.declared.seens.Seen.{Seen}
-use Rattle.journal_text.specs.Right.{first_wrong}
-use Rattle.journal_text.specs.Text.{text_of}
+use Rattle.journal_text.specs.declared.looks.seens.Seen.{Seen}
+use Rattle.journal_text.specs.Watching.Right.{first_wrong}
+use Rattle.journal_text.specs.Texts.Text.{text_of}
 use Rattle.caa_main.specs.declared.command.Command.{Command}
 use Rattle.caa_main.specs.declared.command.Command.TheVariants as command
 use Rattle.caa_main.specs.declared.fault.Fault.TheVariants as fault

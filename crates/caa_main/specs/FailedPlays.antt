@@ -1,12 +1,12 @@
 -- What a play leaves.
 use Rattle.std.specs.Prelude.{◌≡◌, ℕ, ◌+◌, ◌-◌, ◌^◌, ◌<◌, ◌==◌, Bool, ◌&&◌, List, reverse, IfSome, is_none}
 use Rattle.std.specs.List.{list_any}
-use Rattle.caa_base.specs.declared.entry.Entry.{Entry}
-use Rattle.caa_base.specs.declared.entry.Kind.TheVariants as kind
-use Rattle.place_plan.specs.PlanValue.{Plan}
-use Rattle.place_plan.specs.Places.{parent}
-use Rattle.place_plan.specs.Entries.{is_of}
-use Rattle.place_plan.specs.Journals.{IsLegal, IsComplete, faults_in}
+use Rattle.caa_base.specs.declared.written.entry.Entry.{Entry}
+use Rattle.caa_base.specs.declared.written.entry.Kind.TheVariants as kind
+use Rattle.place_plan.specs.Plans.PlanValue.{Plan}
+use Rattle.place_plan.specs.Plans.Places.{parent}
+use Rattle.place_plan.specs.RulesOfJournals.Entries.{is_of}
+use Rattle.place_plan.specs.RulesOfJournals.Journals.{IsLegal, IsComplete, faults_in}
 use Rattle.journal_laws.specs.Laws.{KeepsLaws}
 use Rattle.journal_replay.specs.Device.{HasValues, HasDrills}
 use Rattle.caa_main.specs.OutsideUse.{Left}

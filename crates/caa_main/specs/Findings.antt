@@ -1,6 +1,6 @@
 -- What a call of the program may come to: the status and the text of each.
 use Rattle.std.specs.Prelude.{ℕ, Bool, true, false, List, [], ◌∷◌, codes, decimal}
-use Rattle.caa_base.specs.Lines.{line}
+use Rattle.caa_base.specs.Written.Lines.{line}
 use Rattle.script_checker.specs.declared.plan_counts.PlanCounts.{PlanCounts}
 use Rattle.caa_main.specs.declared.fault.Fault.{Fault}
 use Rattle.caa_main.specs.declared.fault.Fault.TheVariants as fault

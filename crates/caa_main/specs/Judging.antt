@@ -1,12 +1,12 @@
 -- What an audit finds in the text of a journal.
 use Rattle.std.specs.Prelude.{◌≡◌, ◌⊎◌, ℕ, ◌+◌, List, [], ◌∷◌, length, Option, Some, None}
-use Rattle.caa_base.specs.declared.entry.Entry.{Entry}
-use Rattle.caa_base.specs.Limits.{most_audited}
-use Rattle.place_plan.specs.PlanValue.{Plan}
-use Rattle.place_plan.specs.Journals.{IsLegal, IsComplete}
-use Rattle.journal_text.specs.declared.seens.Seen.{Seen}
-use Rattle.journal_text.specs.TextOfJournal.{IsText, HasTooMany, IsFirstBad}
-use Rattle.journal_text.specs.Right.{first_wrong}
+use Rattle.caa_base.specs.declared.written.entry.Entry.{Entry}
+use Rattle.caa_base.specs.Written.Limits.{most_audited}
+use Rattle.place_plan.specs.Plans.PlanValue.{Plan}
+use Rattle.place_plan.specs.RulesOfJournals.Journals.{IsLegal, IsComplete}
+use Rattle.journal_text.specs.declared.looks.seens.Seen.{Seen}
+use Rattle.journal_text.specs.Texts.TextOfJournal.{IsText, HasTooMany, IsFirstBad}
+use Rattle.journal_text.specs.Watching.Right.{first_wrong}
 use Rattle.journal_replay.specs.Audited.{IsFirstIllegal, IsUnfinished}
 use Rattle.caa_main.specs.declared.fault.Fault.TheVariants as fault
 use Rattle.caa_main.specs.declared.fault.Refusal.{Refusal}

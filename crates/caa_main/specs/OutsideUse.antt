@@ -1,10 +1,10 @@
 -- How a call of the program used the source, the sink and the device that it was handed.
 use Rattle.std.specs.Prelude.{◌≡◌, ◌⊎◌, ℕ, List, [], Option}
-use Rattle.caa_base.specs.PlantState.{PlantState, Drilling}
-use Rattle.caa_base.specs.declared.entry.Entry.{Entry}
-use Rattle.caa_base.specs.declared.source.Source.{Ghosts as SourceGhosts}
-use Rattle.caa_base.specs.declared.sink.Sink.{Ghosts as SinkGhosts}
-use Rattle.caa_base.specs.declared.plant.Plant.{Ghosts as PlantGhosts}
+use Rattle.caa_base.specs.Outside.PlantState.{PlantState, Drilling}
+use Rattle.caa_base.specs.declared.written.entry.Entry.{Entry}
+use Rattle.caa_base.specs.declared.outside.source.Source.{Ghosts as SourceGhosts}
+use Rattle.caa_base.specs.declared.outside.sink.Sink.{Ghosts as SinkGhosts}
+use Rattle.caa_base.specs.declared.outside.plant.Plant.{Ghosts as PlantGhosts}
 use Rattle.caa_main.specs.declared.command.Command.{Command}
 
 -- what a source had left before and has left now, where it tells that; its counts of faults before and now

@@ -14,7 +14,7 @@ use Rattle.script_checker.specs.declared.check_error.CheckCause.TheVariants as c
 use Rattle.script_checker.specs.declared.plan_counts.PlanCounts.{PlanCounts}
 use Rattle.script_checker.specs.Compiled.{IsPlanOf, IsFirstRefused}
 use Rattle.script_checker.specs.PlanSizes.{counts_of}
-use Rattle.place_plan.specs.PlanValue.{Plan}
+use Rattle.place_plan.specs.Plans.PlanValue.{Plan}
 use Rattle.caa_main.specs.declared.fault.Fault.{Fault}
 use Rattle.caa_main.specs.declared.fault.Fault.TheVariants as fault
 use Rattle.caa_main.specs.declared.fault.Refusal.{Refusal}

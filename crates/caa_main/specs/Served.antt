@@ -1,9 +1,9 @@
 -- Which calls are served, and which are turned away, where no read and no write fails.
 use Rattle.std.specs.Prelude.{◌≡◌, ◌⊎◌, ℕ, ◌<◌, ◌≤◌, List, length, Some}
 use Rattle.std.specs.Io.KnownBytes.{append_known}
-use Rattle.caa_base.specs.Counts.{Rose}
-use Rattle.caa_base.specs.declared.entry.Entry.{Entry}
-use Rattle.place_plan.specs.PlanValue.{Plan}
+use Rattle.caa_base.specs.Outside.Counts.{Rose}
+use Rattle.caa_base.specs.declared.written.entry.Entry.{Entry}
+use Rattle.place_plan.specs.Plans.PlanValue.{Plan}
 use Rattle.caa_main.specs.declared.command.Command.{Command}
 use Rattle.caa_main.specs.declared.command.Command.TheVariants as command
 use Rattle.caa_main.specs.declared.fault.Refusal.{Refusal}

@@ -1,10 +1,10 @@
 ghost use Rattle.std.specs.Prelude.{◌≡◌, ◌++◌, IfOk, OnOk};
-ghost use Rattle.caa_base.specs.Lines.{spaced};
+ghost use Rattle.caa_base.specs.Written.Lines.{spaced};
 ghost use Rattle.caa_main.specs.Findings.{fault_phrase, fault_names, refusal_text};
 
-use caa_base::entry::OutOfMemory;
-use caa_base::line::{end_line, push_number, push_word};
-use caa_base::name::Name;
+use caa_base::written::entry::OutOfMemory;
+use caa_base::written::line::{end_line, push_number, push_word};
+use caa_base::written::name::Name;
 use std::alloc::Global;
 
 /// What is wrong with an input that is refused, with the names that are told of it.

@@ -3,8 +3,8 @@ ghost use Rattle.caa_main.specs.Findings.{text_bytes, status_of, is_played, need
 
 use crate::fault::Refusal;
 use crate::status::Status;
-use caa_base::entry::OutOfMemory;
-use caa_base::line::{end_line, push_number, push_word};
+use caa_base::written::entry::OutOfMemory;
+use caa_base::written::line::{end_line, push_number, push_word};
 use script_checker::plan_counts::PlanCounts;
 use std::alloc::Global;
 

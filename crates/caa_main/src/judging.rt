@@ -1,22 +1,22 @@
 //! The judge of a journal.
 
 ghost use Rattle.std.specs.Prelude.{◌≡◌, ◌<◌, ◌+◌, ◌^◌, ℕ, List, true, length, IfOk};
-ghost use Rattle.caa_base.specs.Limits.{most_audited};
-ghost use Rattle.place_plan.specs.Journals.{IsLegal, IsComplete};
-ghost use Rattle.journal_text.specs.Text.{text_of};
-ghost use Rattle.journal_text.specs.TextOfJournal.{HasText};
-ghost use Rattle.journal_text.specs.Looks.{AreOfPlan};
-ghost use Rattle.journal_text.specs.Naming.{is_well_named};
+ghost use Rattle.caa_base.specs.Written.Limits.{most_audited};
+ghost use Rattle.place_plan.specs.RulesOfJournals.Journals.{IsLegal, IsComplete};
+ghost use Rattle.journal_text.specs.Texts.Text.{text_of};
+ghost use Rattle.journal_text.specs.Texts.TextOfJournal.{HasText};
+ghost use Rattle.journal_text.specs.Watching.Looks.{AreOfPlan};
+ghost use Rattle.journal_text.specs.Texts.Naming.{is_well_named};
 ghost use Rattle.caa_main.specs.Judging.{wrong_look, Judges};
 
-use caa_base::entry::OutOfMemory;
-use caa_base::journal::Journal;
-use caa_base::limits::MOST_AUDITED;
+use caa_base::written::entry::OutOfMemory;
+use caa_base::written::journal::Journal;
+use caa_base::written::limits::MOST_AUDITED;
 use journal_replay::audit::audit;
-use journal_text::right::first_wrong;
-use journal_text::seens::Seens;
-use journal_text::text_reader::{TextError, read};
-use place_plan::plan::Plan;
+use journal_text::looks::right::first_wrong;
+use journal_text::looks::seens::Seens;
+use journal_text::texts::text_reader::{TextError, read};
+use place_plan::plans::plan::Plan;
 use std::alloc::Global;
 
 /// What was found in the text of a journal.

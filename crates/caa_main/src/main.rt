@@ -14,9 +14,9 @@ mod top;
 
 use crate::status::Status;
 use crate::top::top;
-use caa_base::gate::EmptyGate;
-use caa_base::memory::MemPlant;
-use caa_base::standard::{StdSink, StdSource};
+use caa_base::outside::gate::EmptyGate;
+use caa_base::outside::memory::MemPlant;
+use caa_base::outside::standard::{StdSink, StdSource};
 use std::alloc::AllocError;
 use std::env;
 use std::io::ErrorKind;

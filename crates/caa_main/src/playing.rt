@@ -1,9 +1,9 @@
 //! Plays of a plan over a device, and what they come to.
 
 ghost use Rattle.std.specs.Prelude.{◌≡◌, ◌<◌, ◌^◌, [], true, IfOk, IfErr};
-ghost use Rattle.place_plan.specs.WellFormed.{AllWellFormed};
-ghost use Rattle.journal_text.specs.Looks.{AreOfPlan};
-ghost use Rattle.journal_text.specs.Naming.{is_well_named};
+ghost use Rattle.place_plan.specs.RulesOfJournals.WellFormed.{AllWellFormed};
+ghost use Rattle.journal_text.specs.Watching.Looks.{AreOfPlan};
+ghost use Rattle.journal_text.specs.Texts.Naming.{is_well_named};
 ghost use Rattle.journal_replay.specs.Hall.{plan_in, plant_in, journal_in, base_in};
 ghost use Rattle.journal_replay.specs.Device.{attempts_in};
 ghost use Rattle.caa_main.specs.declared.finding.Finding.{Finding};
@@ -12,15 +12,15 @@ ghost use Rattle.caa_main.specs.OutsideUse.{plant_use, left_of, IsIdle};
 ghost use Rattle.caa_main.specs.Calls.{EndsAs, DoesNotBegin, SimComesTo, RunComesTo};
 
 use crate::finding::Finding;
-use caa_base::entry::{Entry, Kind};
-use caa_base::gate::Gate;
-use caa_base::journal::Journal;
-use caa_base::plant::Plant;
+use caa_base::written::entry::{Entry, Kind};
+use caa_base::outside::gate::Gate;
+use caa_base::written::journal::Journal;
+use caa_base::outside::plant::Plant;
 use journal_laws::{is_well_formed, keeps_laws};
 use journal_replay::hall::{OpenCause, PlainHall};
-use journal_text::seens::Seens;
-use journal_text::text_writer::write;
-use place_plan::plan::Plan;
+use journal_text::looks::seens::Seens;
+use journal_text::texts::text_writer::write;
+use place_plan::plans::plan::Plan;
 use role_driver::running::{Finished, RunError, run};
 use role_driver::sim::sim;
 use std::alloc::Global;

@@ -2,7 +2,7 @@
 
 ghost use Rattle.std.specs.Prelude.{◌≡◌, true, [], Ok, IfOk, IfErr, OnOk};
 ghost use Rattle.action_script.specs.Spelling.{reading_of};
-ghost use Rattle.journal_text.specs.Naming.{is_well_named};
+ghost use Rattle.journal_text.specs.Texts.Naming.{is_well_named};
 ghost use Rattle.caa_main.specs.Scripts.{HasPlan, IsCounted, HasNoPlan, IsSpelling, IsCause, declared_after, declared_at, exception_at};
 
 use crate::fault::{Fault, Refusal};
@@ -10,9 +10,9 @@ use action_script::form::Form;
 use action_script::reader::read;
 use action_script::script::Script;
 use action_script::script_error::ScriptCause;
-use caa_base::entry::OutOfMemory;
-use caa_base::name::{Name, name_at};
-use place_plan::plan::Plan;
+use caa_base::written::entry::OutOfMemory;
+use caa_base::written::name::{Name, name_at};
+use place_plan::plans::plan::Plan;
 use script_checker::check_error::{CheckCause, CheckError};
 use script_checker::compile::{compile, count};
 use script_checker::own_names::has_own_names;

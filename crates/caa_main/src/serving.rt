@@ -1,8 +1,8 @@
 //! What the commands come to over the input, before anything is written.
 
 ghost use Rattle.std.specs.Prelude.{◌≡◌, ◌≢◌, ◌<◌, ◌≤◌, None, Some, true, IfSome};
-ghost use Rattle.caa_base.specs.Limits.{most_audit_bytes};
-ghost use Rattle.journal_text.specs.Naming.{is_well_named};
+ghost use Rattle.caa_base.specs.Written.Limits.{most_audit_bytes};
+ghost use Rattle.journal_text.specs.Texts.Naming.{is_well_named};
 ghost use Rattle.caa_main.specs.declared.command.Command.{Command};
 ghost use Rattle.caa_main.specs.Commands.{without_threads, HasSeed};
 ghost use Rattle.caa_main.specs.OutsideUse.{source_use, plant_use, left_of, call_of};
@@ -16,12 +16,12 @@ use crate::inputs::find_journal;
 use crate::judging::{Judgement, judge};
 use crate::playing::{Decision, run_plan, simulate};
 use crate::scripts::{NoPlan, counts_of, plan_of};
-use caa_base::gate::Gate;
-use caa_base::limits::{MOST_AUDIT_BYTES, MOST_AUDITED, MOST_SCRIPT_BYTES};
-use caa_base::plant::Plant;
-use caa_base::reading::{ReadError, read_all};
-use caa_base::source::Source;
-use place_plan::plan::Plan;
+use caa_base::outside::gate::Gate;
+use caa_base::written::limits::{MOST_AUDIT_BYTES, MOST_AUDITED, MOST_SCRIPT_BYTES};
+use caa_base::outside::plant::Plant;
+use caa_base::outside::reading::{ReadError, read_all};
+use caa_base::outside::source::Source;
+use place_plan::plans::plan::Plan;
 use std::alloc::Global;
 use std::sync::Wait;
 use std::thread::Threads;

@@ -1,4 +1,4 @@
-use caa_base::journal::Journal;
+use caa_base::written::journal::Journal;
 
 /// How a call of the program ended. Its number is the exit status of the program.
 #[derive(Clone, Copy, Debug, PartialEq, Eq)]

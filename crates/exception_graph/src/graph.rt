@@ -6,7 +6,7 @@ ghost use Rattle.exception_graph.specs.Graph.{HasUniversal, IsRefusal};
 use crate::closing::tell_chains;
 use crate::cycles::first_in_cycle;
 use crate::graph_error::GraphError;
-use caa_base::entry::OutOfMemory;
+use caa_base::written::entry::OutOfMemory;
 use cover_table::{BoxedTable, MOST_EXCEPTIONS, TableError};
 use std::alloc::Global;
 use std::marker::Model;

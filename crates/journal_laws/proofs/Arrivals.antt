@@ -2,24 +2,24 @@
 use Rattle.std.proofs.Common.{◌≡◌, ℕ, ◌==◌, ◌<◌, Bool, true, false, cond, ◌&&◌, ◌||◌, List, [], ◌∷◌, Some, None, Option, refl, sym, ap, ◌∙◌, subst, subst₂, arith, inl, inr, ◌⊎◌}
 use Rattle.std.specs.List.{list_any}
 use Rattle.std.proofs.lemmas.Bool.{and_parts, or_cases, or_left, or_right, or_from, eqb-true, eq-eqb, false≢true, both_ways, false_from_ne_true}
-use Rattle.caa_base.specs.declared.entry.Entry.{Entry}
-use Rattle.caa_base.specs.declared.entry.Kind.{Kind}
-use Rattle.caa_base.specs.declared.entry.Kind.TheVariants as kind
-use Rattle.place_plan.specs.declared.draft_rows.Step.{Step}
-use Rattle.place_plan.specs.declared.draft_rows.Step.TheVariants as step
-use Rattle.place_plan.specs.PlanValue.{Plan}
-use Rattle.caa_base.specs.Lists.{member, first_of, first_not}
-use Rattle.place_plan.specs.Places.{around, parent, roles_of, alternates_of, plays_of}
-use Rattle.place_plan.specs.Entries.{is_in, is_by, has, has_by}
-use Rattle.place_plan.specs.Whereabouts.{inside, stays, is_inside, all_are_inside, has_started, has_ended}
-use Rattle.place_plan.specs.Raising.{is_raised, is_doomed, is_calm}
-use Rattle.place_plan.specs.Roles.{next_step, is_able, next_play}
-use Rattle.place_plan.specs.Rules.{Row, MayArrive, place_entered, arrival}
-use Rattle.place_plan.specs.Journals.{LegalPast}
+use Rattle.caa_base.specs.declared.written.entry.Entry.{Entry}
+use Rattle.caa_base.specs.declared.written.entry.Kind.{Kind}
+use Rattle.caa_base.specs.declared.written.entry.Kind.TheVariants as kind
+use Rattle.place_plan.specs.declared.drafts.draft_rows.Step.{Step}
+use Rattle.place_plan.specs.declared.drafts.draft_rows.Step.TheVariants as step
+use Rattle.place_plan.specs.Plans.PlanValue.{Plan}
+use Rattle.caa_base.specs.Written.Lists.{member, first_of, first_not}
+use Rattle.place_plan.specs.Plans.Places.{around, parent, roles_of, alternates_of, plays_of}
+use Rattle.place_plan.specs.RulesOfJournals.Entries.{is_in, is_by, has, has_by}
+use Rattle.place_plan.specs.RulesOfJournals.Whereabouts.{inside, stays, is_inside, all_are_inside, has_started, has_ended}
+use Rattle.place_plan.specs.RulesOfJournals.Raising.{is_raised, is_doomed, is_calm}
+use Rattle.place_plan.specs.RulesOfJournals.Roles.{next_step, is_able, next_play}
+use Rattle.place_plan.specs.RulesOfJournals.Rules.{Row, MayArrive, place_entered, arrival}
+use Rattle.place_plan.specs.RulesOfJournals.Journals.{LegalPast}
 use Rattle.journal_laws.proofs.Playable.{IsTree}
 use Rattle.caa_base.proofs.ListLemmas.{all_at, at_same, chosen, first_not_fails}
-use Rattle.place_plan.proofs.PlaysRise.{plays_in}
-use Rattle.place_plan.proofs.EntryKinds.{of_kind, both_same}
+use Rattle.place_plan.proofs.OnPlans.PlaysRise.{plays_in}
+use Rattle.place_plan.proofs.OnJournals.EntryKinds.{of_kind, both_same}
 use Rattle.journal_laws.proofs.Tree.{in_within, arrives_in}
 use Rattle.journal_laws.proofs.Phases.{calm_open}
 use Rattle.journal_laws.proofs.Busy.{doom_stays}

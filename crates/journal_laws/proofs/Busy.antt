@@ -2,22 +2,22 @@
 use Rattle.std.proofs.Common.{◌≡◌, ℕ, ◌==◌, Bool, true, false, not, cond, ◌&&◌, ◌||◌, List, [], ◌∷◌, ◌++◌, Some, None, Option, refl, sym, ◌∙◌, subst, arith, inl, inr}
 use Rattle.std.specs.List.{list_any}
 use Rattle.std.proofs.lemmas.Bool.{and_parts, and_from, or_cases, or_left, or_right, or_from, eqb-true, eq-eqb, false≢true, not-true, not_from_false, cases_Bool, false_from_ne_true, both_ways, MatchBool-at_false}
-use Rattle.caa_base.specs.declared.entry.Entry.{Entry}
-use Rattle.caa_base.specs.declared.entry.Kind.{Kind}
-use Rattle.caa_base.specs.declared.entry.Kind.TheVariants as kind
-use Rattle.place_plan.specs.PlanValue.{Plan}
-use Rattle.caa_base.specs.Lists.{member, is_empty, first_of}
-use Rattle.place_plan.specs.Places.{around, parent, roles_of, plays_of}
-use Rattle.place_plan.specs.Entries.{is_in, is_by, has, has_by}
-use Rattle.place_plan.specs.Whereabouts.{inside, has_started, has_ended, is_undoing, is_live, is_going}
-use Rattle.place_plan.specs.Raising.{raises_in, exceptions_raised, is_raised, is_doomed, is_calm, is_hot}
-use Rattle.place_plan.specs.Roles.{has_given_after, has_given, all_have_given, is_in_handler, is_able, has_aborted, all_have_aborted, next_play}
-use Rattle.place_plan.specs.Rules.{Row, MayArrive, AskForUndo, HaveAgreed, EndsAgreed, MayEnd, arrival}
-use Rattle.place_plan.specs.Journals.{LegalPast}
+use Rattle.caa_base.specs.declared.written.entry.Entry.{Entry}
+use Rattle.caa_base.specs.declared.written.entry.Kind.{Kind}
+use Rattle.caa_base.specs.declared.written.entry.Kind.TheVariants as kind
+use Rattle.place_plan.specs.Plans.PlanValue.{Plan}
+use Rattle.caa_base.specs.Written.Lists.{member, is_empty, first_of}
+use Rattle.place_plan.specs.Plans.Places.{around, parent, roles_of, plays_of}
+use Rattle.place_plan.specs.RulesOfJournals.Entries.{is_in, is_by, has, has_by}
+use Rattle.place_plan.specs.RulesOfJournals.Whereabouts.{inside, has_started, has_ended, is_undoing, is_live, is_going}
+use Rattle.place_plan.specs.RulesOfJournals.Raising.{raises_in, exceptions_raised, is_raised, is_doomed, is_calm, is_hot}
+use Rattle.place_plan.specs.RulesOfJournals.Roles.{has_given_after, has_given, all_have_given, is_in_handler, is_able, has_aborted, all_have_aborted, next_play}
+use Rattle.place_plan.specs.RulesOfJournals.Rules.{Row, MayArrive, AskForUndo, HaveAgreed, EndsAgreed, MayEnd, arrival}
+use Rattle.place_plan.specs.RulesOfJournals.Journals.{LegalPast}
 use Rattle.journal_laws.proofs.Playable.{IsTree}
 use Rattle.caa_base.proofs.ListLemmas.{all_at, chosen, first_not_fails}
-use Rattle.place_plan.proofs.PlaysRise.{plays_in}
-use Rattle.place_plan.proofs.EntryKinds.{of_kind}
+use Rattle.place_plan.proofs.OnPlans.PlaysRise.{plays_in}
+use Rattle.place_plan.proofs.OnJournals.EntryKinds.{of_kind}
 use Rattle.journal_laws.proofs.Tree.{arrives_in}
 
 -- something that was raised stays raised

@@ -1,17 +1,17 @@
 -- What every legal past of a plan keeps, besides where its participants are: all laws are drawn from these four records.
 use Rattle.std.proofs.Common.{◌≡◌, ℕ, ◌<◌, ◌+◌, ◌⊎◌, true, false, not, ◌||◌, List, Some, None, count_by, slice_get, is_none}
 use Rattle.cover_table.specs.Cover.{IsLeastCover}
-use Rattle.caa_base.specs.declared.entry.Entry.{Entry}
-use Rattle.caa_base.specs.declared.entry.Kind.TheVariants as kind
-use Rattle.place_plan.specs.declared.draft_rows.Step.TheVariants as step
-use Rattle.place_plan.specs.PlanValue.{Plan}
-use Rattle.caa_base.specs.Lists.{member}
-use Rattle.place_plan.specs.Places.{around, parent, roles_of, alternates_of, nest_number, body_of, internal_of, handler_of}
-use Rattle.place_plan.specs.Entries.{has, has_by}
-use Rattle.place_plan.specs.Whereabouts.{inside, stays, has_started, has_ended, is_undoing, is_left_in_silence}
-use Rattle.place_plan.specs.Raising.{has_handled, exceptions_raised, is_raised, is_doomed, is_halted, all_are_halted, exception_resolved, exception_handled}
-use Rattle.place_plan.specs.Objects.{is_tried, has_failed}
-use Rattle.place_plan.specs.Roles.{position, next_step, has_given_after, all_have_given, is_handling, wants_undo, all_have_aborted}
+use Rattle.caa_base.specs.declared.written.entry.Entry.{Entry}
+use Rattle.caa_base.specs.declared.written.entry.Kind.TheVariants as kind
+use Rattle.place_plan.specs.declared.drafts.draft_rows.Step.TheVariants as step
+use Rattle.place_plan.specs.Plans.PlanValue.{Plan}
+use Rattle.caa_base.specs.Written.Lists.{member}
+use Rattle.place_plan.specs.Plans.Places.{around, parent, roles_of, alternates_of, nest_number, body_of, internal_of, handler_of}
+use Rattle.place_plan.specs.RulesOfJournals.Entries.{has, has_by}
+use Rattle.place_plan.specs.RulesOfJournals.Whereabouts.{inside, stays, has_started, has_ended, is_undoing, is_left_in_silence}
+use Rattle.place_plan.specs.RulesOfJournals.Raising.{has_handled, exceptions_raised, is_raised, is_doomed, is_halted, all_are_halted, exception_resolved, exception_handled}
+use Rattle.place_plan.specs.RulesOfJournals.Objects.{is_tried, has_failed}
+use Rattle.place_plan.specs.RulesOfJournals.Roles.{position, next_step, has_given_after, all_have_given, is_handling, wants_undo, all_have_aborted}
 use Rattle.journal_laws.specs.Laws.{AskedForUndo, is_restore}
 
 -- ---- what was raised, and whom it halted

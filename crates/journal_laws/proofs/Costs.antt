@@ -3,20 +3,20 @@ use Rattle.std.proofs.Common.{◌≡◌, sum_by, ap₂, ℕ, ◌==◌, ◌<◌, 
 use Rattle.std.proofs.lemmas.List.Sums.{sum_by-cons}
 use Rattle.std.proofs.lemmas.Bool.{or_cases, eqb-true, false≢true, cases_eq}
 use Rattle.std.proofs.lemmas.Option.{get_or_from_slice_get}
-use Rattle.caa_base.specs.declared.entry.Entry.{Entry}
-use Rattle.caa_base.specs.declared.entry.Kind.TheVariants as kind
-use Rattle.place_plan.specs.declared.draft_rows.RoleRow.{RoleRow}
-use Rattle.place_plan.specs.declared.draft_rows.HandlerRow.{HandlerRow}
-use Rattle.place_plan.specs.declared.draft_rows.PlaceRow.{PlaceRow}
-use Rattle.place_plan.specs.PlanValue.{Plan}
-use Rattle.caa_base.specs.Lists.{member, index_of, one_if}
-use Rattle.place_plan.specs.Places.{roles_of, objects_of, action_at, action_in, place_at, no_role, no_place, handler_in, body_of, handler_of}
-use Rattle.place_plan.specs.Entries.{is_in, is_by, has, has_by}
-use Rattle.place_plan.specs.Whereabouts.{has_started, has_ended, is_undoing}
-use Rattle.place_plan.specs.Raising.{has_handled, halts_in, is_halted}
-use Rattle.place_plan.specs.Objects.{is_tried}
-use Rattle.place_plan.specs.Roles.{advances, or_idle, has_aborted}
-use Rattle.place_plan.specs.Bound.{longest_body, longest_of, longest_handler, action_bound, row_bound}
+use Rattle.caa_base.specs.declared.written.entry.Entry.{Entry}
+use Rattle.caa_base.specs.declared.written.entry.Kind.TheVariants as kind
+use Rattle.place_plan.specs.declared.drafts.draft_rows.RoleRow.{RoleRow}
+use Rattle.place_plan.specs.declared.drafts.draft_rows.HandlerRow.{HandlerRow}
+use Rattle.place_plan.specs.declared.drafts.draft_rows.PlaceRow.{PlaceRow}
+use Rattle.place_plan.specs.Plans.PlanValue.{Plan}
+use Rattle.caa_base.specs.Written.Lists.{member, index_of, one_if}
+use Rattle.place_plan.specs.Plans.Places.{roles_of, objects_of, action_at, action_in, place_at, no_role, no_place, handler_in, body_of, handler_of}
+use Rattle.place_plan.specs.RulesOfJournals.Entries.{is_in, is_by, has, has_by}
+use Rattle.place_plan.specs.RulesOfJournals.Whereabouts.{has_started, has_ended, is_undoing}
+use Rattle.place_plan.specs.RulesOfJournals.Raising.{has_handled, halts_in, is_halted}
+use Rattle.place_plan.specs.RulesOfJournals.Objects.{is_tried}
+use Rattle.place_plan.specs.RulesOfJournals.Roles.{advances, or_idle, has_aborted}
+use Rattle.place_plan.specs.Plans.Bound.{longest_body, longest_of, longest_handler, action_bound, row_bound}
 
 -- ---- sums
 

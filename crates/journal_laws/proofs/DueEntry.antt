@@ -1,8 +1,8 @@
 -- The computed entry is the right one: it may follow, nothing else of its maker may, and who is over has none.
 use Rattle.std.proofs.Common.{◌≡◌, ℕ, List, None, refl, ap, sym, ◌∙◌}
-use Rattle.caa_base.specs.declared.entry.Entry.{Entry}
-use Rattle.place_plan.specs.PlanValue.{Plan}
-use Rattle.place_plan.specs.Journals.{LegalPast, HasNoEntry}
+use Rattle.caa_base.specs.declared.written.entry.Entry.{Entry}
+use Rattle.place_plan.specs.Plans.PlanValue.{Plan}
+use Rattle.place_plan.specs.RulesOfJournals.Journals.{LegalPast, HasNoEntry}
 use Rattle.journal_laws.specs.Laws.{Holds, AtMostOne}
 use Rattle.journal_laws.specs.Due.{due_of, DueIsRight}
 use Rattle.journal_laws.proofs.Playable.{IsPlayable}

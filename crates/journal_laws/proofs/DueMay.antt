@@ -1,22 +1,22 @@
 -- What is due may follow, and so may the device's other answer to what it asks of it.
 use Rattle.std.proofs.Common.{◌≡◌, ℕ, ℤ, ◌+ℤ◌, true, false, not, ◌&&◌, ◌||◌, List, [], ◌∷◌, Some, None, Option, refl, sym, ap, ◌∙◌, subst, inl, inr, is_none}
 use Rattle.std.proofs.lemmas.Bool.{and_parts, and_from, or_left, or_right, or_parts, not-true, not-false, not_from_false, cond-true, cond-false, both_ways}
-use Rattle.caa_base.specs.Mixing.{mix}
-use Rattle.caa_base.specs.declared.entry.Entry.{Entry}
-use Rattle.caa_base.specs.declared.entry.Kind.TheVariants as kind
-use Rattle.caa_base.specs.declared.entry.Verdict.{Verdict}
-use Rattle.caa_base.specs.declared.entry.Verdict.TheVariants as verdict
-use Rattle.place_plan.specs.declared.draft_rows.Step.{Step}
-use Rattle.place_plan.specs.declared.draft_rows.Step.TheVariants as step
-use Rattle.place_plan.specs.PlanValue.{Plan}
-use Rattle.caa_base.specs.Lists.{member, same_option}
-use Rattle.place_plan.specs.Places.{roles_of, internal_of, interface_of, handler_of, abort_row}
-use Rattle.place_plan.specs.Whereabouts.{inside, all_are_inside, has_started, has_ended, is_undoing, is_going}
-use Rattle.place_plan.specs.Raising.{has_handled, exceptions_raised, is_raised, is_doomed, is_calm, is_hot, is_halted, all_are_halted, exception_resolved}
-use Rattle.place_plan.specs.Objects.{holder_of, objects_are_ready, value_of, next_restore}
-use Rattle.place_plan.specs.Roles.{register, program_of, next_step, next_raise, has_given, all_have_given, is_handling, was_refused_in_handler, is_able, wants_undo, signals, has_aborted, all_have_aborted, next_play}
-use Rattle.place_plan.specs.Rules.{MayFollow, put_of, clamped, place_entered, verdict_due, breaks_off, abort_of, undone_mark, exception_carried, HaveAgreed, SignalsLeast}
-use Rattle.place_plan.specs.Journals.{LegalPast, is_put}
+use Rattle.caa_base.specs.Written.Mixing.{mix}
+use Rattle.caa_base.specs.declared.written.entry.Entry.{Entry}
+use Rattle.caa_base.specs.declared.written.entry.Kind.TheVariants as kind
+use Rattle.caa_base.specs.declared.written.entry.Verdict.{Verdict}
+use Rattle.caa_base.specs.declared.written.entry.Verdict.TheVariants as verdict
+use Rattle.place_plan.specs.declared.drafts.draft_rows.Step.{Step}
+use Rattle.place_plan.specs.declared.drafts.draft_rows.Step.TheVariants as step
+use Rattle.place_plan.specs.Plans.PlanValue.{Plan}
+use Rattle.caa_base.specs.Written.Lists.{member, same_option}
+use Rattle.place_plan.specs.Plans.Places.{roles_of, internal_of, interface_of, handler_of, abort_row}
+use Rattle.place_plan.specs.RulesOfJournals.Whereabouts.{inside, all_are_inside, has_started, has_ended, is_undoing, is_going}
+use Rattle.place_plan.specs.RulesOfJournals.Raising.{has_handled, exceptions_raised, is_raised, is_doomed, is_calm, is_hot, is_halted, all_are_halted, exception_resolved}
+use Rattle.place_plan.specs.RulesOfJournals.Objects.{holder_of, objects_are_ready, value_of, next_restore}
+use Rattle.place_plan.specs.RulesOfJournals.Roles.{register, program_of, next_step, next_raise, has_given, all_have_given, is_handling, was_refused_in_handler, is_able, wants_undo, signals, has_aborted, all_have_aborted, next_play}
+use Rattle.place_plan.specs.RulesOfJournals.Rules.{MayFollow, put_of, clamped, place_entered, verdict_due, breaks_off, abort_of, undone_mark, exception_carried, HaveAgreed, SignalsLeast}
+use Rattle.place_plan.specs.RulesOfJournals.Journals.{LegalPast, is_put}
 use Rattle.journal_laws.specs.Laws.{Holds}
 use Rattle.journal_laws.specs.Due.{says, plainly, marked, naming, verdict_entry, least_of, as_refused, due_of, due_at, due_inside, due_arrival, due_waiting, due_live, due_restore, due_doomed, due_signal, due_end, due_agreed, due_held, due_step, due_forward, due_body, due_handler, due_answer, due_resolved, due_resolve, due_halted, due_running, due_hot, due_calm}
 use Rattle.journal_laws.proofs.Playable.{IsPlayable}

@@ -1,29 +1,29 @@
 -- What may follow is what is due: the computed entry is the only one of its maker.
 use Rattle.std.proofs.Common.{◌≡◌, ℕ, ℤ, pos, ◌+ℤ◌, ◌==◌, Bool, true, false, not, cond, ◌&&◌, ◌⊎◌, List, [], ◌∷◌, Some, None, Option, refl, sym, ap, ◌∙◌, subst, inl, inr, MatchBool, MatchOption, is_none}
 use Rattle.std.proofs.lemmas.Bool.{and_parts, or_cases, eq-eqb, false≢true, not-true, cases_Bool, cond-true, cond-false, or_from, false_from_ne_true, both_ways}
-use Rattle.caa_base.specs.Mixing.{mix}
-use Rattle.caa_base.specs.declared.entry.Entry.{Entry}
-use Rattle.caa_base.specs.declared.entry.Kind.{Kind}
-use Rattle.caa_base.specs.declared.entry.Kind.TheVariants as kind
-use Rattle.caa_base.specs.declared.entry.Verdict.{Verdict}
-use Rattle.caa_base.specs.declared.entry.Verdict.TheVariants as verdict
-use Rattle.place_plan.specs.declared.draft_rows.Step.{Step}
-use Rattle.place_plan.specs.declared.draft_rows.Step.TheVariants as step
-use Rattle.place_plan.specs.PlanValue.{Plan}
-use Rattle.caa_base.specs.Lists.{member}
-use Rattle.place_plan.specs.Places.{roles_of, internal_of, interface_of, handler_of, abort_row}
-use Rattle.place_plan.specs.Whereabouts.{inside, has_started, has_ended, is_undoing}
-use Rattle.place_plan.specs.Raising.{has_handled, exceptions_raised, is_raised, is_calm, is_hot, is_halted, exception_resolved}
-use Rattle.place_plan.specs.Objects.{holder_of, value_of}
-use Rattle.place_plan.specs.Roles.{register, program_of, next_step, next_raise, has_given, is_handling, is_in_handler, is_able, signals, has_aborted, all_have_aborted, next_play}
-use Rattle.place_plan.specs.Rules.{Row, MayArrive, MayFollow, Names, SaysVerdict, IsPlain, put_of, is_check, clamped, place_entered, arrival, verdict_due, unhandled_verdict, breaks_off, abort_of, undone_mark, exception_carried, AskForUndo, EndsUndone, EndsAgreed, SignalsLeast}
-use Rattle.place_plan.specs.Journals.{LegalPast}
+use Rattle.caa_base.specs.Written.Mixing.{mix}
+use Rattle.caa_base.specs.declared.written.entry.Entry.{Entry}
+use Rattle.caa_base.specs.declared.written.entry.Kind.{Kind}
+use Rattle.caa_base.specs.declared.written.entry.Kind.TheVariants as kind
+use Rattle.caa_base.specs.declared.written.entry.Verdict.{Verdict}
+use Rattle.caa_base.specs.declared.written.entry.Verdict.TheVariants as verdict
+use Rattle.place_plan.specs.declared.drafts.draft_rows.Step.{Step}
+use Rattle.place_plan.specs.declared.drafts.draft_rows.Step.TheVariants as step
+use Rattle.place_plan.specs.Plans.PlanValue.{Plan}
+use Rattle.caa_base.specs.Written.Lists.{member}
+use Rattle.place_plan.specs.Plans.Places.{roles_of, internal_of, interface_of, handler_of, abort_row}
+use Rattle.place_plan.specs.RulesOfJournals.Whereabouts.{inside, has_started, has_ended, is_undoing}
+use Rattle.place_plan.specs.RulesOfJournals.Raising.{has_handled, exceptions_raised, is_raised, is_calm, is_hot, is_halted, exception_resolved}
+use Rattle.place_plan.specs.RulesOfJournals.Objects.{holder_of, value_of}
+use Rattle.place_plan.specs.RulesOfJournals.Roles.{register, program_of, next_step, next_raise, has_given, is_handling, is_in_handler, is_able, signals, has_aborted, all_have_aborted, next_play}
+use Rattle.place_plan.specs.RulesOfJournals.Rules.{Row, MayArrive, MayFollow, Names, SaysVerdict, IsPlain, put_of, is_check, clamped, place_entered, arrival, verdict_due, unhandled_verdict, breaks_off, abort_of, undone_mark, exception_carried, AskForUndo, EndsUndone, EndsAgreed, SignalsLeast}
+use Rattle.place_plan.specs.RulesOfJournals.Journals.{LegalPast}
 use Rattle.journal_laws.specs.Laws.{Holds, as_taken}
 use Rattle.journal_laws.specs.Due.{says, plainly, naming, verdict_entry, due_of, due_held, due_step, due_forward, due_body, due_handler, due_end}
 use Rattle.journal_laws.proofs.Playable.{IsPlayable}
 use Rattle.journal_laws.proofs.Core.{Core}
 use Rattle.caa_base.proofs.ListLemmas.{all_at, chosen}
-use Rattle.place_plan.proofs.EntryKinds.{of_kind}
+use Rattle.place_plan.proofs.OnJournals.EntryKinds.{of_kind}
 use Rattle.journal_laws.proofs.Busy.{abort_doomed}
 use Rattle.journal_laws.proofs.Holding.{ended_started, undoing_started}
 use Rattle.journal_laws.proofs.Phases.{IsOpen, going_parts, open_parts, open_from, calm_open, hot_open, open_either, calm_from, hot_from, not_hot, not_calm}

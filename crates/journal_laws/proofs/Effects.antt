@@ -3,23 +3,23 @@ use Rattle.std.proofs.Common.{◌≡◌, ℕ, ◌==◌, ◌<◌, ◌⊎◌, Bool
 use Rattle.std.specs.List.{list_any, list_all}
 use Rattle.std.proofs.lemmas.List.Folds.{list_any-append}
 use Rattle.std.proofs.lemmas.Bool.{and_parts, and_from, and_cases, not_from_true, not_from_false, or_cases, or_left, or_right, or_parts, eqb-true, cases_eq, eq-eqb, false≢true, cases_Bool, false_from_ne_true, true_from_ne_false, both_ways}
-use Rattle.caa_base.specs.declared.entry.Entry.{Entry}
-use Rattle.caa_base.specs.declared.entry.Kind.{Kind}
-use Rattle.caa_base.specs.declared.entry.Kind.TheVariants as kind
-use Rattle.place_plan.specs.PlanValue.{Plan}
-use Rattle.caa_base.specs.Lists.{member}
-use Rattle.place_plan.specs.Places.{around, roles_of, uses, is_within}
-use Rattle.place_plan.specs.Entries.{code_of, is_of, is_in, has, newest}
-use Rattle.place_plan.specs.Whereabouts.{has_started, has_ended, is_undoing, is_live}
-use Rattle.place_plan.specs.Objects.{restores, writes, holder_of, is_within_any, places_undone, value_outside}
-use Rattle.place_plan.specs.Roles.{signals}
-use Rattle.place_plan.specs.Rules.{Row, MayPut, MayEnd, EndsUndone, EndsAgreed}
-use Rattle.place_plan.specs.Journals.{LegalPast, AllOver}
+use Rattle.caa_base.specs.declared.written.entry.Entry.{Entry}
+use Rattle.caa_base.specs.declared.written.entry.Kind.{Kind}
+use Rattle.caa_base.specs.declared.written.entry.Kind.TheVariants as kind
+use Rattle.place_plan.specs.Plans.PlanValue.{Plan}
+use Rattle.caa_base.specs.Written.Lists.{member}
+use Rattle.place_plan.specs.Plans.Places.{around, roles_of, uses, is_within}
+use Rattle.place_plan.specs.RulesOfJournals.Entries.{code_of, is_of, is_in, has, newest}
+use Rattle.place_plan.specs.RulesOfJournals.Whereabouts.{has_started, has_ended, is_undoing, is_live}
+use Rattle.place_plan.specs.RulesOfJournals.Objects.{restores, writes, holder_of, is_within_any, places_undone, value_outside}
+use Rattle.place_plan.specs.RulesOfJournals.Roles.{signals}
+use Rattle.place_plan.specs.RulesOfJournals.Rules.{Row, MayPut, MayEnd, EndsUndone, EndsAgreed}
+use Rattle.place_plan.specs.RulesOfJournals.Journals.{LegalPast, AllOver}
 use Rattle.journal_laws.specs.Laws.{Holds, EffectLaw, RestoresFit, Splits, is_restore, is_kept_mark, is_kept, last_write, has_failed_restore}
 use Rattle.journal_laws.proofs.Playable.{IsPlayable}
 use Rattle.caa_base.proofs.ListLemmas.{chosen, all_at}
-use Rattle.place_plan.proofs.EntryKinds.{of_kind}
-use Rattle.place_plan.proofs.LatestValues.{restores_round}
+use Rattle.place_plan.proofs.OnJournals.EntryKinds.{of_kind}
+use Rattle.place_plan.proofs.OnJournals.LatestValues.{restores_round}
 use Rattle.journal_laws.proofs.Tree.{in_within, live_within}
 use Rattle.journal_laws.proofs.Phases.{going_parts}
 use Rattle.journal_laws.proofs.Holding.{live_uses, holds_within}

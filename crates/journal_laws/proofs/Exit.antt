@@ -1,22 +1,22 @@
 -- A place ends once, after each of its roles has given its verdict or given up, and then it is only left.
 use Rattle.std.proofs.Common.{◌≡◌, ℕ, Bool, true, false, ◌||◌, List, [], ◌∷◌, ◌++◌, refl, sym, subst, inl, inr, ◌⊎◌, append_assoc, MatchBool}
 use Rattle.std.proofs.lemmas.Bool.{or_left, or_right, eqb-true, false≢true, false_from_ne_true, true_from_ne_false, both_ways}
-use Rattle.caa_base.specs.declared.entry.Entry.{Entry}
-use Rattle.caa_base.specs.declared.entry.Kind.{Kind}
-use Rattle.caa_base.specs.declared.entry.Kind.TheVariants as kind
-use Rattle.place_plan.specs.PlanValue.{Plan}
-use Rattle.caa_base.specs.Lists.{member}
-use Rattle.place_plan.specs.Places.{roles_of}
-use Rattle.place_plan.specs.Entries.{is_in, has, has_by}
-use Rattle.place_plan.specs.Whereabouts.{has_ended, is_undoing}
-use Rattle.place_plan.specs.Roles.{has_given, all_have_given, wants_undo, has_aborted, all_have_aborted}
-use Rattle.place_plan.specs.Rules.{Row, MayEnd, EndsUndone, EndsAgreed}
-use Rattle.place_plan.specs.Journals.{LegalPast}
+use Rattle.caa_base.specs.declared.written.entry.Entry.{Entry}
+use Rattle.caa_base.specs.declared.written.entry.Kind.{Kind}
+use Rattle.caa_base.specs.declared.written.entry.Kind.TheVariants as kind
+use Rattle.place_plan.specs.Plans.PlanValue.{Plan}
+use Rattle.caa_base.specs.Written.Lists.{member}
+use Rattle.place_plan.specs.Plans.Places.{roles_of}
+use Rattle.place_plan.specs.RulesOfJournals.Entries.{is_in, has, has_by}
+use Rattle.place_plan.specs.RulesOfJournals.Whereabouts.{has_ended, is_undoing}
+use Rattle.place_plan.specs.RulesOfJournals.Roles.{has_given, all_have_given, wants_undo, has_aborted, all_have_aborted}
+use Rattle.place_plan.specs.RulesOfJournals.Rules.{Row, MayEnd, EndsUndone, EndsAgreed}
+use Rattle.place_plan.specs.RulesOfJournals.Journals.{LegalPast}
 use Rattle.journal_laws.specs.Laws.{Holds, Splits, ExitLaw}
 use Rattle.journal_laws.proofs.Playable.{IsPlayable}
 use Rattle.journal_laws.proofs.Core.{Core}
 use Rattle.caa_base.proofs.ListLemmas.{all_at}
-use Rattle.place_plan.proofs.EntryKinds.{of_kind}
+use Rattle.place_plan.proofs.OnJournals.EntryKinds.{of_kind}
 use Rattle.journal_laws.proofs.Lives.{live_parts}
 use Rattle.journal_laws.proofs.Busy.{not_given}
 use Rattle.journal_laws.proofs.InnerFirst.{legal_rest}

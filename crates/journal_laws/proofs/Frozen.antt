@@ -2,21 +2,21 @@
 use Rattle.std.proofs.Common.{◌≡◌, ℕ, ◌==◌, Bool, true, false, not, cond, ◌&&◌, ◌||◌, List, ◌∷◌, Some, None, Option, refl, subst, arith, inl, inr, MatchOption}
 use Rattle.std.specs.List.{list_any, list_all}
 use Rattle.std.proofs.lemmas.Bool.{and_parts, or_cases, or_parts, eqb-true, false≢true, false_from_ne_true, both_ways}
-use Rattle.caa_base.specs.declared.entry.Entry.{Entry}
-use Rattle.caa_base.specs.declared.entry.Kind.{Kind}
-use Rattle.caa_base.specs.declared.entry.Kind.TheVariants as kind
-use Rattle.caa_base.specs.declared.entry.Verdict.{Verdict}
-use Rattle.place_plan.specs.PlanValue.{Plan}
-use Rattle.place_plan.specs.Places.{parent, roles_of}
-use Rattle.place_plan.specs.Entries.{has}
-use Rattle.place_plan.specs.Whereabouts.{is_going, is_left_in_silence}
-use Rattle.place_plan.specs.Raising.{has_handled, carries_into, exceptions_raised, is_doomed, is_calm, is_hot, is_halted, exception_resolved}
-use Rattle.place_plan.specs.Roles.{has_given, all_have_given, is_able, is_in_handler, verdict_of, is_undo, wants_undo, has_aborted, all_have_aborted}
-use Rattle.place_plan.specs.Rules.{Row, MayLeave, MayFollow, Names, SaysVerdict, verdict_due, is_deaf}
-use Rattle.place_plan.specs.Journals.{LegalPast}
+use Rattle.caa_base.specs.declared.written.entry.Entry.{Entry}
+use Rattle.caa_base.specs.declared.written.entry.Kind.{Kind}
+use Rattle.caa_base.specs.declared.written.entry.Kind.TheVariants as kind
+use Rattle.caa_base.specs.declared.written.entry.Verdict.{Verdict}
+use Rattle.place_plan.specs.Plans.PlanValue.{Plan}
+use Rattle.place_plan.specs.Plans.Places.{parent, roles_of}
+use Rattle.place_plan.specs.RulesOfJournals.Entries.{has}
+use Rattle.place_plan.specs.RulesOfJournals.Whereabouts.{is_going, is_left_in_silence}
+use Rattle.place_plan.specs.RulesOfJournals.Raising.{has_handled, carries_into, exceptions_raised, is_doomed, is_calm, is_hot, is_halted, exception_resolved}
+use Rattle.place_plan.specs.RulesOfJournals.Roles.{has_given, all_have_given, is_able, is_in_handler, verdict_of, is_undo, wants_undo, has_aborted, all_have_aborted}
+use Rattle.place_plan.specs.RulesOfJournals.Rules.{Row, MayLeave, MayFollow, Names, SaysVerdict, verdict_due, is_deaf}
+use Rattle.place_plan.specs.RulesOfJournals.Journals.{LegalPast}
 use Rattle.journal_laws.proofs.Playable.{IsTree}
 use Rattle.caa_base.proofs.ListLemmas.{at_same}
-use Rattle.place_plan.proofs.EntryKinds.{of_kind}
+use Rattle.place_plan.proofs.OnJournals.EntryKinds.{of_kind}
 use Rattle.journal_laws.proofs.Phases.{IsOpen, calm_open, hot_open, open_either, is_open, open_parts, open_from}
 use Rattle.journal_laws.proofs.Raised.{busy_inside, parent_round}
 

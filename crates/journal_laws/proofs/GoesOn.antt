@@ -1,10 +1,10 @@
 -- Some participant has an entry, as long as one isn't over: where nothing is due, no place is live, and then all are over.
 use Rattle.std.proofs.Common.{◌≡◌, ℕ, ◌<◌, ◌≤◌, Bool, true, false, List, Some, None, Option, length, refl, sym, subst, arith, suc, zero, inl, inr, ◌⊎◌}
 use Rattle.std.proofs.lemmas.Bool.{cases_Bool, cases_eq, cases_lt, false_from_ne_true, both_ways}
-use Rattle.caa_base.specs.declared.entry.Entry.{Entry}
-use Rattle.place_plan.specs.PlanValue.{Plan}
-use Rattle.place_plan.specs.Whereabouts.{is_live}
-use Rattle.place_plan.specs.Journals.{LegalPast, AllOver}
+use Rattle.caa_base.specs.declared.written.entry.Entry.{Entry}
+use Rattle.place_plan.specs.Plans.PlanValue.{Plan}
+use Rattle.place_plan.specs.RulesOfJournals.Whereabouts.{is_live}
+use Rattle.place_plan.specs.RulesOfJournals.Journals.{LegalPast, AllOver}
 use Rattle.journal_laws.specs.Laws.{Holds, GoesOn, HasEntry}
 use Rattle.journal_laws.specs.Due.{due_of, DueIsRight}
 use Rattle.journal_laws.proofs.Playable.{IsPlayable}

@@ -1,20 +1,20 @@
 -- In a tree of places, an object is held by a live place inside all others that use it, and objects are touched only there.
 use Rattle.std.proofs.Common.{◌≡◌, ℕ, ◌==◌, Bool, true, false, not, cond, ◌&&◌, ◌||◌, List, [], ◌∷◌, Some, None, Option, refl, sym, ap, ◌∙◌, subst, inl, inr, MatchBool}
 use Rattle.std.proofs.lemmas.Bool.{and_parts, and_from, or_cases, or_right, eqb-true, false≢true, cases_Bool, false_from_ne_true, both_ways}
-use Rattle.caa_base.specs.declared.entry.Entry.{Entry}
-use Rattle.caa_base.specs.declared.entry.Kind.{Kind}
-use Rattle.caa_base.specs.declared.entry.Kind.TheVariants as kind
-use Rattle.place_plan.specs.PlanValue.{Plan}
-use Rattle.caa_base.specs.Lists.{member, same_option}
-use Rattle.place_plan.specs.Places.{around, parent, uses, is_within, objects_of}
-use Rattle.place_plan.specs.Whereabouts.{inside, has_started, has_ended, is_undoing, is_live}
-use Rattle.place_plan.specs.Objects.{holder_of}
-use Rattle.place_plan.specs.Rules.{Row, MayStart, MayEnd, EndsUndone, EndsAgreed}
-use Rattle.place_plan.specs.Journals.{LegalPast}
+use Rattle.caa_base.specs.declared.written.entry.Entry.{Entry}
+use Rattle.caa_base.specs.declared.written.entry.Kind.{Kind}
+use Rattle.caa_base.specs.declared.written.entry.Kind.TheVariants as kind
+use Rattle.place_plan.specs.Plans.PlanValue.{Plan}
+use Rattle.caa_base.specs.Written.Lists.{member, same_option}
+use Rattle.place_plan.specs.Plans.Places.{around, parent, uses, is_within, objects_of}
+use Rattle.place_plan.specs.RulesOfJournals.Whereabouts.{inside, has_started, has_ended, is_undoing, is_live}
+use Rattle.place_plan.specs.RulesOfJournals.Objects.{holder_of}
+use Rattle.place_plan.specs.RulesOfJournals.Rules.{Row, MayStart, MayEnd, EndsUndone, EndsAgreed}
+use Rattle.place_plan.specs.RulesOfJournals.Journals.{LegalPast}
 use Rattle.journal_laws.specs.Laws.{Holds, HolderIsInnermost}
 use Rattle.journal_laws.proofs.Playable.{IsTree}
 use Rattle.caa_base.proofs.ListLemmas.{all_at}
-use Rattle.place_plan.proofs.EntryKinds.{of_kind}
+use Rattle.place_plan.proofs.OnJournals.EntryKinds.{of_kind}
 use Rattle.journal_laws.proofs.Lives.{live_parts, live_from, going_live}
 use Rattle.journal_laws.proofs.Tree.{in_within, live_within}
 use Rattle.journal_laws.proofs.Busy.{IsBusy, AllBusy, all_busy, not_ending, live_of}

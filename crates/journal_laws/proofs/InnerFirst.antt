@@ -2,21 +2,21 @@
 use Rattle.std.proofs.Common.{◌≡◌, ℕ, ◌==◌, true, List, [], ◌∷◌, ◌++◌, Some, refl, sym, ap, ◌∙◌, subst, arith, inl, inr}
 use Rattle.std.specs.List.{list_any, list_all}
 use Rattle.std.proofs.lemmas.Bool.{or_cases, or_left, or_right, eqb-true, eq-eqb, false≢true, both_ways, true_from_ne_false}
-use Rattle.caa_base.specs.declared.entry.Entry.{Entry}
-use Rattle.caa_base.specs.declared.entry.Kind.{Kind}
-use Rattle.caa_base.specs.declared.entry.Kind.TheVariants as kind
-use Rattle.place_plan.specs.PlanValue.{Plan}
-use Rattle.caa_base.specs.Lists.{member}
-use Rattle.place_plan.specs.Places.{around, roles_of}
-use Rattle.place_plan.specs.Entries.{is_in}
-use Rattle.place_plan.specs.Whereabouts.{inside, is_inside, has_started}
-use Rattle.place_plan.specs.Raising.{is_raised, is_doomed}
-use Rattle.place_plan.specs.Rules.{Row, MayAbort}
-use Rattle.place_plan.specs.Journals.{LegalPast}
+use Rattle.caa_base.specs.declared.written.entry.Entry.{Entry}
+use Rattle.caa_base.specs.declared.written.entry.Kind.{Kind}
+use Rattle.caa_base.specs.declared.written.entry.Kind.TheVariants as kind
+use Rattle.place_plan.specs.Plans.PlanValue.{Plan}
+use Rattle.caa_base.specs.Written.Lists.{member}
+use Rattle.place_plan.specs.Plans.Places.{around, roles_of}
+use Rattle.place_plan.specs.RulesOfJournals.Entries.{is_in}
+use Rattle.place_plan.specs.RulesOfJournals.Whereabouts.{inside, is_inside, has_started}
+use Rattle.place_plan.specs.RulesOfJournals.Raising.{is_raised, is_doomed}
+use Rattle.place_plan.specs.RulesOfJournals.Rules.{Row, MayAbort}
+use Rattle.place_plan.specs.RulesOfJournals.Journals.{LegalPast}
 use Rattle.journal_laws.specs.Laws.{Holds, InnerFirstLaw}
 use Rattle.journal_laws.proofs.Playable.{IsTree}
 use Rattle.caa_base.proofs.ListLemmas.{all_at, at_same}
-use Rattle.place_plan.proofs.EntryKinds.{of_kind}
+use Rattle.place_plan.proofs.OnJournals.EntryKinds.{of_kind}
 use Rattle.journal_laws.proofs.Tree.{live_within, in_within}
 use Rattle.journal_laws.proofs.Busy.{doom_stays, all_busy, AllBusy}
 

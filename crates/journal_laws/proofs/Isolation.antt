@@ -1,20 +1,20 @@
 -- In a tree of places, live places that use one object stand inside one another, and an object is touched only by its holder.
 use Rattle.std.proofs.Common.{◌≡◌, ℕ, ◌==◌, true, ◌||◌, List, [], ◌∷◌, Some, None, Option, refl, sym, ap, ◌∙◌, subst, inl, inr}
 use Rattle.std.proofs.lemmas.Bool.{and_from, or_cases, or_left, or_right, eqb-true, false≢true, both_ways}
-use Rattle.caa_base.specs.declared.entry.Entry.{Entry}
-use Rattle.caa_base.specs.declared.entry.Kind.{Kind}
-use Rattle.caa_base.specs.declared.entry.Kind.TheVariants as kind
-use Rattle.place_plan.specs.PlanValue.{Plan}
-use Rattle.caa_base.specs.Lists.{member}
-use Rattle.place_plan.specs.Places.{around, uses, is_within, objects_of}
-use Rattle.place_plan.specs.Whereabouts.{is_undoing, is_live}
-use Rattle.place_plan.specs.Objects.{holder_of, is_tried}
-use Rattle.place_plan.specs.Rules.{Row, MayRestore}
-use Rattle.place_plan.specs.Journals.{LegalPast}
+use Rattle.caa_base.specs.declared.written.entry.Entry.{Entry}
+use Rattle.caa_base.specs.declared.written.entry.Kind.{Kind}
+use Rattle.caa_base.specs.declared.written.entry.Kind.TheVariants as kind
+use Rattle.place_plan.specs.Plans.PlanValue.{Plan}
+use Rattle.caa_base.specs.Written.Lists.{member}
+use Rattle.place_plan.specs.Plans.Places.{around, uses, is_within, objects_of}
+use Rattle.place_plan.specs.RulesOfJournals.Whereabouts.{is_undoing, is_live}
+use Rattle.place_plan.specs.RulesOfJournals.Objects.{holder_of, is_tried}
+use Rattle.place_plan.specs.RulesOfJournals.Rules.{Row, MayRestore}
+use Rattle.place_plan.specs.RulesOfJournals.Journals.{LegalPast}
 use Rattle.journal_laws.specs.Laws.{Holds, IsolationLaw, touches_object}
 use Rattle.journal_laws.proofs.Playable.{IsTree}
 use Rattle.caa_base.proofs.ListLemmas.{first_not_fails}
-use Rattle.place_plan.proofs.EntryKinds.{of_kind}
+use Rattle.place_plan.proofs.OnJournals.EntryKinds.{of_kind}
 use Rattle.journal_laws.proofs.Lives.{live_from}
 use Rattle.journal_laws.proofs.Tree.{in_within}
 use Rattle.journal_laws.proofs.Busy.{live_of}

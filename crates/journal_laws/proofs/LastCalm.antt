@@ -3,20 +3,20 @@
 use Rattle.std.proofs.Common.{◌≡◌, ℕ, ◌==◌, ◌<◌, ◌≤◌, true, false, List, [], ◌∷◌, Some, None, Option, length, refl, sym, ap, ◌∙◌, subst, arith, slice_get, inl, inr, ◌⊎◌}
 use Rattle.std.proofs.lemmas.Bool.{or_cases, or_left, or_right, eqb-true, eq-eqb, false≢true, cases_lt, cases_order, true_from_ne_false, both_ways, cond-false}
 use Rattle.std.proofs.lemmas.Option.{slice_get_within, slice_get-get_or}
-use Rattle.caa_base.specs.declared.entry.Entry.{Entry}
-use Rattle.caa_base.specs.declared.entry.Kind.TheVariants as kind
-use Rattle.place_plan.specs.declared.draft_rows.Step.{Step}
-use Rattle.place_plan.specs.declared.draft_rows.Step.TheVariants as step
-use Rattle.place_plan.specs.PlanValue.{Plan}
-use Rattle.caa_base.specs.Lists.{member, first_of, same_option}
-use Rattle.place_plan.specs.Places.{parent, roles_of, objects_of, nest_number, body_of}
-use Rattle.place_plan.specs.Entries.{has_by}
-use Rattle.place_plan.specs.Whereabouts.{inside, is_inside, has_started, has_ended, is_undoing, is_live}
-use Rattle.place_plan.specs.Raising.{has_handled, is_raised, is_doomed, is_calm}
-use Rattle.place_plan.specs.Objects.{holder_of}
-use Rattle.place_plan.specs.Roles.{position, next_step, next_raise, has_given}
-use Rattle.place_plan.specs.Rules.{place_entered}
-use Rattle.place_plan.specs.Journals.{LegalPast}
+use Rattle.caa_base.specs.declared.written.entry.Entry.{Entry}
+use Rattle.caa_base.specs.declared.written.entry.Kind.TheVariants as kind
+use Rattle.place_plan.specs.declared.drafts.draft_rows.Step.{Step}
+use Rattle.place_plan.specs.declared.drafts.draft_rows.Step.TheVariants as step
+use Rattle.place_plan.specs.Plans.PlanValue.{Plan}
+use Rattle.caa_base.specs.Written.Lists.{member, first_of, same_option}
+use Rattle.place_plan.specs.Plans.Places.{parent, roles_of, objects_of, nest_number, body_of}
+use Rattle.place_plan.specs.RulesOfJournals.Entries.{has_by}
+use Rattle.place_plan.specs.RulesOfJournals.Whereabouts.{inside, is_inside, has_started, has_ended, is_undoing, is_live}
+use Rattle.place_plan.specs.RulesOfJournals.Raising.{has_handled, is_raised, is_doomed, is_calm}
+use Rattle.place_plan.specs.RulesOfJournals.Objects.{holder_of}
+use Rattle.place_plan.specs.RulesOfJournals.Roles.{position, next_step, next_raise, has_given}
+use Rattle.place_plan.specs.RulesOfJournals.Rules.{place_entered}
+use Rattle.place_plan.specs.RulesOfJournals.Journals.{LegalPast}
 use Rattle.journal_laws.specs.Due.{due_hot, due_calm, due_body, due_forward, due_arrival}
 use Rattle.journal_laws.proofs.Playable.{IsPlayable}
 use Rattle.caa_base.proofs.ListLemmas.{all_from, same_at}

@@ -3,21 +3,21 @@
 use Rattle.std.proofs.Common.{◌≡◌, ℕ, ◌==◌, ◌<◌, Bool, true, false, not, cond, ◌||◌, List, [], ◌∷◌, Some, None, Option, length, refl, sym, ap, ◌∙◌, subst, arith, slice_get, inl, inr, is_none}
 use Rattle.std.specs.List.{list_any}
 use Rattle.std.proofs.lemmas.Bool.{or_cases, or_left, or_right, or_parts, eqb-true, eq-eqb, false≢true, not-false, true_from_ne_false, both_ways}
-use Rattle.caa_base.specs.declared.entry.Entry.{Entry}
-use Rattle.caa_base.specs.declared.entry.Kind.TheVariants as kind
-use Rattle.caa_base.specs.declared.entry.Verdict.TheVariants as verdict
-use Rattle.place_plan.specs.declared.draft_rows.Step.{Step}
-use Rattle.place_plan.specs.declared.draft_rows.Step.TheVariants as step
-use Rattle.place_plan.specs.PlanValue.{Plan}
-use Rattle.caa_base.specs.Lists.{member, is_empty, first_of}
-use Rattle.place_plan.specs.Places.{around, parent, roles_of, uses, internal_of, interface_of, handler_of}
-use Rattle.place_plan.specs.Entries.{is_by}
-use Rattle.place_plan.specs.Whereabouts.{inside, is_inside, all_are_inside, has_started, has_ended, is_undoing, is_live}
-use Rattle.place_plan.specs.Raising.{has_handled, exceptions_raised, is_raised, is_doomed, is_halted, all_are_halted, exception_resolved, exception_handled}
-use Rattle.place_plan.specs.Objects.{holder_of, next_restore}
-use Rattle.place_plan.specs.Roles.{program_in, position, register, next_step, next_raise, raise_of, has_given, all_have_given, was_refused_in_handler, wants_undo, signals, has_aborted}
-use Rattle.place_plan.specs.Rules.{breaks_off}
-use Rattle.place_plan.specs.Journals.{LegalPast}
+use Rattle.caa_base.specs.declared.written.entry.Entry.{Entry}
+use Rattle.caa_base.specs.declared.written.entry.Kind.TheVariants as kind
+use Rattle.caa_base.specs.declared.written.entry.Verdict.TheVariants as verdict
+use Rattle.place_plan.specs.declared.drafts.draft_rows.Step.{Step}
+use Rattle.place_plan.specs.declared.drafts.draft_rows.Step.TheVariants as step
+use Rattle.place_plan.specs.Plans.PlanValue.{Plan}
+use Rattle.caa_base.specs.Written.Lists.{member, is_empty, first_of}
+use Rattle.place_plan.specs.Plans.Places.{around, parent, roles_of, uses, internal_of, interface_of, handler_of}
+use Rattle.place_plan.specs.RulesOfJournals.Entries.{is_by}
+use Rattle.place_plan.specs.RulesOfJournals.Whereabouts.{inside, is_inside, all_are_inside, has_started, has_ended, is_undoing, is_live}
+use Rattle.place_plan.specs.RulesOfJournals.Raising.{has_handled, exceptions_raised, is_raised, is_doomed, is_halted, all_are_halted, exception_resolved, exception_handled}
+use Rattle.place_plan.specs.RulesOfJournals.Objects.{holder_of, next_restore}
+use Rattle.place_plan.specs.RulesOfJournals.Roles.{program_in, position, register, next_step, next_raise, raise_of, has_given, all_have_given, was_refused_in_handler, wants_undo, signals, has_aborted}
+use Rattle.place_plan.specs.RulesOfJournals.Rules.{breaks_off}
+use Rattle.place_plan.specs.RulesOfJournals.Journals.{LegalPast}
 use Rattle.journal_laws.specs.Due.{plainly, marked, verdict_entry, due_restore, due_doomed, due_hot, due_halted, due_running, due_answer, due_handler, due_step, due_held, due_agreed, due_end}
 use Rattle.journal_laws.proofs.Playable.{IsPlayable}
 use Rattle.caa_base.proofs.ListLemmas.{all_from, same_at}

@@ -1,5 +1,5 @@
 -- All laws of a journal.
-use Rattle.place_plan.specs.PlanValue.{Plan}
+use Rattle.place_plan.specs.Plans.PlanValue.{Plan}
 use Rattle.journal_laws.specs.Laws.{Holds, KeepsLaws}
 use Rattle.journal_laws.proofs.Playable.{IsPlayable}
 use Rattle.journal_laws.proofs.CoreKept.{core}

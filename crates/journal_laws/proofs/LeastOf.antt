@@ -3,7 +3,7 @@ use Rattle.std.proofs.Common.{◌≡◌, ℕ, ◌<◌, ◌≤◌, ◌+◌, suc, 
 use Rattle.std.specs.List.{range_with_len}
 use Rattle.std.proofs.lemmas.Bool.{and_parts, and_from, or_cases, or_left, or_right, eqb-true, eq-eqb, false≢true, not-false, not-true, not_from_false, cases_Bool, cases_eq, both_ways}
 use Rattle.cover_table.specs.Cover.{CoverOrder, covers, covers_each, IsLeastCover, IsSound, SetsHaveLeastCovers}
-use Rattle.caa_base.specs.Lists.{member}
+use Rattle.caa_base.specs.Written.Lists.{member}
 use Rattle.journal_laws.specs.Due.{is_least, least_of}
 use Rattle.caa_base.proofs.ListLemmas.{all_at, all_from, first_not_fails, first_not_none}
 

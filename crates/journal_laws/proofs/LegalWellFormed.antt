@@ -2,25 +2,25 @@
 use Rattle.std.proofs.Common.{◌≡◌, ℕ, pos, ◌⊎◌, Bool, true, false, cond, List, [], ◌∷◌, Option, Some, None, refl, sym, subst, arith, inl, inr, MatchBool}
 use Rattle.std.proofs.lemmas.List.Elements.{All-nil, All-cons}
 use Rattle.std.proofs.lemmas.Bool.{ltb-true, leb-true}
-use Rattle.caa_base.specs.declared.entry.Entry.{Entry}
-use Rattle.caa_base.specs.declared.entry.Kind.{Kind}
-use Rattle.caa_base.specs.declared.entry.Kind.TheVariants as kind
-use Rattle.place_plan.specs.declared.draft_rows.Step.TheVariants as step
-use Rattle.place_plan.specs.PlanValue.{Plan}
-use Rattle.place_plan.specs.Places.{parent, roles_of, objects_of, uses, abort_row, internal_of, interface_of}
-use Rattle.place_plan.specs.Entries.{is_in}
-use Rattle.place_plan.specs.Whereabouts.{is_undoing}
-use Rattle.place_plan.specs.Objects.{before_start, is_tried}
-use Rattle.place_plan.specs.Roles.{register, signals}
-use Rattle.place_plan.specs.Rules.{Row, MayFollow, MayEnd, MayLeave, EndsUndone, EndsAgreed, SignalsLeast, abort_of, exception_carried}
-use Rattle.place_plan.specs.Journals.{LegalPast}
-use Rattle.place_plan.specs.WellFormed.{FieldsFit, MayShowException, MayCarry, IsWellFormed, AllWellFormed}
-use Rattle.caa_base.specs.Limits.{IsValue, most_count}
+use Rattle.caa_base.specs.declared.written.entry.Entry.{Entry}
+use Rattle.caa_base.specs.declared.written.entry.Kind.{Kind}
+use Rattle.caa_base.specs.declared.written.entry.Kind.TheVariants as kind
+use Rattle.place_plan.specs.declared.drafts.draft_rows.Step.TheVariants as step
+use Rattle.place_plan.specs.Plans.PlanValue.{Plan}
+use Rattle.place_plan.specs.Plans.Places.{parent, roles_of, objects_of, uses, abort_row, internal_of, interface_of}
+use Rattle.place_plan.specs.RulesOfJournals.Entries.{is_in}
+use Rattle.place_plan.specs.RulesOfJournals.Whereabouts.{is_undoing}
+use Rattle.place_plan.specs.RulesOfJournals.Objects.{before_start, is_tried}
+use Rattle.place_plan.specs.RulesOfJournals.Roles.{register, signals}
+use Rattle.place_plan.specs.RulesOfJournals.Rules.{Row, MayFollow, MayEnd, MayLeave, EndsUndone, EndsAgreed, SignalsLeast, abort_of, exception_carried}
+use Rattle.place_plan.specs.RulesOfJournals.Journals.{LegalPast}
+use Rattle.place_plan.specs.RulesOfJournals.WellFormed.{FieldsFit, MayShowException, MayCarry, IsWellFormed, AllWellFormed}
+use Rattle.caa_base.specs.Written.Limits.{IsValue, most_count}
 use Rattle.journal_laws.specs.Laws.{Holds}
 use Rattle.journal_laws.proofs.Playable.{IsPlayable}
 use Rattle.journal_laws.proofs.Core.{Core}
 use Rattle.caa_base.proofs.ListLemmas.{first_not_fails}
-use Rattle.place_plan.proofs.EntryKinds.{of_kind}
+use Rattle.place_plan.proofs.OnJournals.EntryKinds.{of_kind}
 use Rattle.journal_laws.proofs.Outcome.{undone_marks, below_two}
 use Rattle.journal_laws.proofs.Makers.{maker_role}
 use Rattle.journal_laws.proofs.Ranges.{mix_in_range, named_fields, abort_below, place_known, step_fits, raise_in_range, put_in_range, carried_in_range, verdict_fields, values_in_range}

@@ -1,25 +1,25 @@
 -- Length law: no legal journal has more entries than the bound says, since each entry spends something that was not spent before.
 use Rattle.std.proofs.Common.{◌≡◌, ℕ, ◌==◌, ◌<◌, ◌≤◌, ◌+◌, ◌⊎◌, Bool, true, false, not, cond, ◌&&◌, ◌||◌, List, [], ◌∷◌, Option, Some, None, refl, ◌∙◌, subst, subst₂, arith, length, inl, inr, MatchOption}
 use Rattle.std.proofs.lemmas.Bool.{and_parts, and_from, or_cases, or_left, or_right, eqb-true, eq-eqb, false≢true, not-true, not_from_false, cases_Bool, false_from_ne_true, both_ways}
-use Rattle.caa_base.specs.declared.entry.Entry.{Entry}
-use Rattle.caa_base.specs.declared.entry.Kind.{Kind}
-use Rattle.caa_base.specs.declared.entry.Kind.TheVariants as kind
-use Rattle.place_plan.specs.PlanValue.{Plan}
-use Rattle.caa_base.specs.Lists.{one_if}
-use Rattle.place_plan.specs.Places.{objects_of}
-use Rattle.place_plan.specs.Entries.{is_in, is_by, has, has_by}
-use Rattle.place_plan.specs.Whereabouts.{inside, has_started, has_ended, is_undoing}
-use Rattle.place_plan.specs.Raising.{has_handled, carries_into, is_calm, is_hot, is_halted, exception_resolved}
-use Rattle.place_plan.specs.Objects.{is_tried}
-use Rattle.place_plan.specs.Roles.{has_given_after, has_given, is_handling, was_refused_in_handler, is_in_handler, is_able, has_aborted}
-use Rattle.place_plan.specs.Rules.{Row, MayVerdict, SaysVerdict, unhandled_verdict}
-use Rattle.place_plan.specs.Journals.{LegalPast}
-use Rattle.place_plan.specs.Bound.{row_bound, bound}
+use Rattle.caa_base.specs.declared.written.entry.Entry.{Entry}
+use Rattle.caa_base.specs.declared.written.entry.Kind.{Kind}
+use Rattle.caa_base.specs.declared.written.entry.Kind.TheVariants as kind
+use Rattle.place_plan.specs.Plans.PlanValue.{Plan}
+use Rattle.caa_base.specs.Written.Lists.{one_if}
+use Rattle.place_plan.specs.Plans.Places.{objects_of}
+use Rattle.place_plan.specs.RulesOfJournals.Entries.{is_in, is_by, has, has_by}
+use Rattle.place_plan.specs.RulesOfJournals.Whereabouts.{inside, has_started, has_ended, is_undoing}
+use Rattle.place_plan.specs.RulesOfJournals.Raising.{has_handled, carries_into, is_calm, is_hot, is_halted, exception_resolved}
+use Rattle.place_plan.specs.RulesOfJournals.Objects.{is_tried}
+use Rattle.place_plan.specs.RulesOfJournals.Roles.{has_given_after, has_given, is_handling, was_refused_in_handler, is_in_handler, is_able, has_aborted}
+use Rattle.place_plan.specs.RulesOfJournals.Rules.{Row, MayVerdict, SaysVerdict, unhandled_verdict}
+use Rattle.place_plan.specs.RulesOfJournals.Journals.{LegalPast}
+use Rattle.place_plan.specs.Plans.Bound.{row_bound, bound}
 use Rattle.journal_laws.specs.Laws.{Holds, IsBounded}
 use Rattle.journal_laws.proofs.Playable.{IsPlayable}
 use Rattle.journal_laws.proofs.Core.{Core}
 use Rattle.caa_base.proofs.ListLemmas.{first_not_fails}
-use Rattle.place_plan.proofs.EntryKinds.{of_kind, both_same}
+use Rattle.place_plan.proofs.OnJournals.EntryKinds.{of_kind, both_same}
 use Rattle.journal_laws.proofs.Newest.{newest_stands, stands_newest}
 use Rattle.journal_laws.proofs.Phases.{calm_open, hot_open, going_parts}
 use Rattle.journal_laws.proofs.Raised.{plain_calm, unhandled_fault}

@@ -1,17 +1,17 @@
 -- The maker of an entry has a role in its place, and who puts an object there finds it, and each place round it, going on.
 use Rattle.std.proofs.Common.{◌≡◌, ℕ, ◌==◌, true, List, refl, sym, subst, inl, inr}
 use Rattle.std.proofs.lemmas.Bool.{or_cases, or_right, eqb-true}
-use Rattle.caa_base.specs.declared.entry.Entry.{Entry}
-use Rattle.caa_base.specs.declared.entry.Kind.{Kind}
-use Rattle.caa_base.specs.declared.entry.Kind.TheVariants as kind
-use Rattle.place_plan.specs.PlanValue.{Plan}
-use Rattle.caa_base.specs.Lists.{member}
-use Rattle.place_plan.specs.Places.{around, roles_of, is_within}
-use Rattle.place_plan.specs.Whereabouts.{is_going}
-use Rattle.place_plan.specs.Rules.{Row, MayPut, MayFollow}
-use Rattle.place_plan.specs.Journals.{LegalPast}
+use Rattle.caa_base.specs.declared.written.entry.Entry.{Entry}
+use Rattle.caa_base.specs.declared.written.entry.Kind.{Kind}
+use Rattle.caa_base.specs.declared.written.entry.Kind.TheVariants as kind
+use Rattle.place_plan.specs.Plans.PlanValue.{Plan}
+use Rattle.caa_base.specs.Written.Lists.{member}
+use Rattle.place_plan.specs.Plans.Places.{around, roles_of, is_within}
+use Rattle.place_plan.specs.RulesOfJournals.Whereabouts.{is_going}
+use Rattle.place_plan.specs.RulesOfJournals.Rules.{Row, MayPut, MayFollow}
+use Rattle.place_plan.specs.RulesOfJournals.Journals.{LegalPast}
 use Rattle.journal_laws.proofs.Playable.{IsTree}
-use Rattle.place_plan.proofs.EntryKinds.{of_kind}
+use Rattle.place_plan.proofs.OnJournals.EntryKinds.{of_kind}
 use Rattle.journal_laws.proofs.Raised.{role_inside, busy_inside}
 use Rattle.journal_laws.proofs.Frozen.{able_open}
 use Rattle.journal_laws.proofs.Arrivals.{arrives_with_role}

@@ -2,11 +2,11 @@
 use Rattle.std.proofs.Common.{◌≡◌, ℕ, Bool, true, false, cond, ◌||◌, List, [], ◌∷◌, Some, None, refl}
 use Rattle.std.specs.List.{list_any}
 use Rattle.std.proofs.lemmas.Bool.{false≢true}
-use Rattle.caa_base.specs.declared.entry.Entry.{Entry}
-use Rattle.caa_base.specs.declared.entry.Kind.TheVariants as kind
-use Rattle.place_plan.specs.Entries.{is_by, has, is_in}
-use Rattle.place_plan.specs.Raising.{newest_arg, has_handled}
-use Rattle.place_plan.specs.Roles.{is_handling, has_given_after}
+use Rattle.caa_base.specs.declared.written.entry.Entry.{Entry}
+use Rattle.caa_base.specs.declared.written.entry.Kind.TheVariants as kind
+use Rattle.place_plan.specs.RulesOfJournals.Entries.{is_by, has, is_in}
+use Rattle.place_plan.specs.RulesOfJournals.Raising.{newest_arg, has_handled}
+use Rattle.place_plan.specs.RulesOfJournals.Roles.{is_handling, has_given_after}
 
 -- where the newest has an exception, one stands
 pub newest_stands : (test : Entry → Bool) (past : List Entry) (x : ℕ) → newest_arg test past ≡ Some x → list_any test past ≡ true

@@ -2,21 +2,21 @@
 use Rattle.std.proofs.Common.{◌≡◌, ℕ, ◌==◌, ◌<◌, ◌⊎◌, Bool, true, false, cond, ◌||◌, List, [], ◌∷◌, Some, refl, subst, arith, inl, inr, count_by, MatchBool}
 use Rattle.std.specs.List.{list_any}
 use Rattle.std.proofs.lemmas.Bool.{or_cases, or_left, or_right, eqb-true, false_from_ne_true, both_ways}
-use Rattle.caa_base.specs.declared.entry.Entry.{Entry}
-use Rattle.caa_base.specs.declared.entry.Kind.{Kind}
-use Rattle.caa_base.specs.declared.entry.Kind.TheVariants as kind
-use Rattle.place_plan.specs.PlanValue.{Plan}
-use Rattle.place_plan.specs.Places.{uses, objects_of, roles_of}
-use Rattle.place_plan.specs.Entries.{is_in, has, newest}
-use Rattle.place_plan.specs.Whereabouts.{has_ended, is_undoing}
-use Rattle.place_plan.specs.Objects.{is_tried, has_failed}
-use Rattle.place_plan.specs.Roles.{signals}
-use Rattle.place_plan.specs.Rules.{Row, MayEnd, EndsUndone, EndsAgreed, SignalsLeast, undone_mark}
-use Rattle.place_plan.specs.Journals.{LegalPast}
+use Rattle.caa_base.specs.declared.written.entry.Entry.{Entry}
+use Rattle.caa_base.specs.declared.written.entry.Kind.{Kind}
+use Rattle.caa_base.specs.declared.written.entry.Kind.TheVariants as kind
+use Rattle.place_plan.specs.Plans.PlanValue.{Plan}
+use Rattle.place_plan.specs.Plans.Places.{uses, objects_of, roles_of}
+use Rattle.place_plan.specs.RulesOfJournals.Entries.{is_in, has, newest}
+use Rattle.place_plan.specs.RulesOfJournals.Whereabouts.{has_ended, is_undoing}
+use Rattle.place_plan.specs.RulesOfJournals.Objects.{is_tried, has_failed}
+use Rattle.place_plan.specs.RulesOfJournals.Roles.{signals}
+use Rattle.place_plan.specs.RulesOfJournals.Rules.{Row, MayEnd, EndsUndone, EndsAgreed, SignalsLeast, undone_mark}
+use Rattle.place_plan.specs.RulesOfJournals.Journals.{LegalPast}
 use Rattle.journal_laws.specs.Laws.{Holds, OutcomeLaw, RestoresFit, is_restore}
 use Rattle.journal_laws.proofs.Core.{Tries}
 use Rattle.caa_base.proofs.ListLemmas.{chosen, first_not_none}
-use Rattle.place_plan.proofs.EntryKinds.{of_kind}
+use Rattle.place_plan.proofs.OnJournals.EntryKinds.{of_kind}
 use Rattle.journal_laws.proofs.Tried.{count_next, tries}
 
 -- ---- lists

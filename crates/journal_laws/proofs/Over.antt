@@ -1,18 +1,18 @@
 -- A participant is over just when it is in no place and has no next play.
 use Rattle.std.proofs.Common.{◌≡◌, ℕ, ◌==◌, true, List, [], ◌∷◌, Some, None, Option, refl, sym, ap, ◌∙◌, subst, arith, inl, inr}
 use Rattle.std.proofs.lemmas.Bool.{or_cases, or_left, or_right, eqb-true, eq-eqb, both_ways, cases_order}
-use Rattle.caa_base.specs.declared.entry.Entry.{Entry}
-use Rattle.caa_base.specs.declared.entry.Kind.TheVariants as kind
-use Rattle.place_plan.specs.PlanValue.{Plan}
-use Rattle.caa_base.specs.Lists.{member, last_of}
-use Rattle.place_plan.specs.Places.{around, roles_of, is_within, plays_of}
-use Rattle.place_plan.specs.Entries.{has_by}
-use Rattle.place_plan.specs.Whereabouts.{inside}
-use Rattle.place_plan.specs.Roles.{next_play, is_over, is_over_after}
-use Rattle.place_plan.specs.Journals.{LegalPast}
+use Rattle.caa_base.specs.declared.written.entry.Entry.{Entry}
+use Rattle.caa_base.specs.declared.written.entry.Kind.TheVariants as kind
+use Rattle.place_plan.specs.Plans.PlanValue.{Plan}
+use Rattle.caa_base.specs.Written.Lists.{member, last_of}
+use Rattle.place_plan.specs.Plans.Places.{around, roles_of, is_within, plays_of}
+use Rattle.place_plan.specs.RulesOfJournals.Entries.{has_by}
+use Rattle.place_plan.specs.RulesOfJournals.Whereabouts.{inside}
+use Rattle.place_plan.specs.RulesOfJournals.Roles.{next_play, is_over, is_over_after}
+use Rattle.place_plan.specs.RulesOfJournals.Journals.{LegalPast}
 use Rattle.journal_laws.proofs.Playable.{IsPlayable}
 use Rattle.caa_base.proofs.ListLemmas.{first_not_none, first_not_nowhere, last_member, last_greatest, no_last}
-use Rattle.place_plan.proofs.PlaysRise.{plays_in, in_plays, plays_rise}
+use Rattle.place_plan.proofs.OnPlans.PlaysRise.{plays_in, in_plays, plays_rise}
 use Rattle.journal_laws.proofs.Tree.{in_within}
 use Rattle.journal_laws.proofs.Raised.{role_inside}
 use Rattle.journal_laws.proofs.Innermost.{stays_within}

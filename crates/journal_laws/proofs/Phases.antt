@@ -1,10 +1,10 @@
 -- How far a place has come: it waits, is calm or hot, is doomed, is being undone, or has ended.
 use Rattle.std.proofs.Common.{◌≡◌, ℕ, Bool, true, false, not, ◌&&◌, ◌||◌, List, refl, inl, inr}
 use Rattle.std.proofs.lemmas.Bool.{and_parts, and_from, or_cases, not-true, not_from_false, cases_Bool}
-use Rattle.caa_base.specs.declared.entry.Entry.{Entry}
-use Rattle.place_plan.specs.PlanValue.{Plan}
-use Rattle.place_plan.specs.Whereabouts.{has_started, has_ended, is_undoing, is_live, is_going}
-use Rattle.place_plan.specs.Raising.{is_raised, is_doomed, is_calm, is_hot}
+use Rattle.caa_base.specs.declared.written.entry.Entry.{Entry}
+use Rattle.place_plan.specs.Plans.PlanValue.{Plan}
+use Rattle.place_plan.specs.RulesOfJournals.Whereabouts.{has_started, has_ended, is_undoing, is_live, is_going}
+use Rattle.place_plan.specs.RulesOfJournals.Raising.{is_raised, is_doomed, is_calm, is_hot}
 
 -- ---- one phase or another
 

@@ -1,14 +1,14 @@
 -- What the laws need of a plan: its places are a tree, each use of a place leads its roles on, and all numbers are in range.
 use Rattle.std.proofs.Common.{◌≡◌, ℕ, ◌<◌, true, false, List, [], ◌∷◌, length, slice_get, Option, Some}
 use Rattle.cover_table.specs.Cover.{IsSound, SetsHaveLeastCovers}
-use Rattle.place_plan.specs.declared.draft_rows.Step.{Step}
-use Rattle.place_plan.specs.declared.draft_rows.Step.TheVariants as step
-use Rattle.place_plan.specs.PlanValue.{Plan}
-use Rattle.caa_base.specs.Lists.{member, is_empty, Rises}
-use Rattle.place_plan.specs.Places.{around, parent, roles_of, objects_of, uses, alternates_of, nest_number, nest_of, body_of, abort_row, internal_of, interface_of, fault_of, map_signal, initial_of}
-use Rattle.place_plan.specs.Roles.{program_in}
-use Rattle.place_plan.specs.DraftRules.{holds_step, step_in_range, verdict_in_range, abort_in_range}
-use Rattle.caa_base.specs.Limits.{IsValue}
+use Rattle.place_plan.specs.declared.drafts.draft_rows.Step.{Step}
+use Rattle.place_plan.specs.declared.drafts.draft_rows.Step.TheVariants as step
+use Rattle.place_plan.specs.Plans.PlanValue.{Plan}
+use Rattle.caa_base.specs.Written.Lists.{member, is_empty, Rises}
+use Rattle.place_plan.specs.Plans.Places.{around, parent, roles_of, objects_of, uses, alternates_of, nest_number, nest_of, body_of, abort_row, internal_of, interface_of, fault_of, map_signal, initial_of}
+use Rattle.place_plan.specs.RulesOfJournals.Roles.{program_in}
+use Rattle.place_plan.specs.Drafts.DraftRules.{holds_step, step_in_range, verdict_in_range, abort_in_range}
+use Rattle.caa_base.specs.Written.Limits.{IsValue}
 
 -- q is right inside p, and t has a role there
 abbrev pub LeadsInside : Plan → ℕ → ℕ → ℕ → Type 0

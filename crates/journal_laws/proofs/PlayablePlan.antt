@@ -2,32 +2,32 @@
 use Rattle.std.proofs.Common.{◌≡◌, ℕ, ◌<◌, ◌≤◌, ◌==◌, nat_lt, true, false, not, List, [], ◌∷◌, length, slice_index_or, slice_get, Option, Some, None, zero, suc, refl, sym, ap, ◌∙◌, subst, inl, inr, arith, zero-add}
 use Rattle.std.specs.List.{list_all}
 use Rattle.std.proofs.lemmas.Bool.{and_parts, or_cases, eqb-true, false≢true, ltb-true, lt-ltb, not-true, cases_Bool}
-use Rattle.place_plan.specs.declared.draft.Draft.{Draft}
-use Rattle.place_plan.specs.declared.draft_rows.ObjectRow.{ObjectRow}
-use Rattle.place_plan.specs.declared.draft_rows.PlaceRow.{PlaceRow}
-use Rattle.place_plan.specs.declared.draft_rows.ActionRow.{ActionRow}
-use Rattle.place_plan.specs.declared.draft_rows.NestRow.{NestRow}
-use Rattle.place_plan.specs.declared.draft_rows.RoleRow.{RoleRow}
-use Rattle.place_plan.specs.declared.draft_rows.HandlerRow.{HandlerRow}
-use Rattle.place_plan.specs.declared.draft_rows.Program.{Program}
-use Rattle.place_plan.specs.declared.draft_rows.Step.{Step}
-use Rattle.place_plan.specs.declared.draft_rows.Step.TheVariants as step
-use Rattle.place_plan.specs.PlanValue.{Plan}
-use Rattle.caa_base.specs.Lists.{member, index_of, is_empty, first_of, Rises}
-use Rattle.place_plan.specs.Places.{place_at, action_at, around, parent, roles_of, role_row, body_of, handler_in, abort_row, objects_of, uses, alternates_of, nest_number, nest_of, nest_in, internal_of, interface_of, fault_of, map_signal, initial_of, no_action, no_role, no_nest, no_place, no_object}
-use Rattle.place_plan.specs.Roles.{program_in, or_idle}
-use Rattle.caa_base.specs.Limits.{IsValue, is_value}
-use Rattle.place_plan.specs.Unfolding.{plan_of, cast_of}
-use Rattle.place_plan.specs.DraftRules.{KeepsParts, all_below, exceptions_of, graphs_in_range, objects_in_range, parts_in_range, nest_in_range, role_in_range, program_in_range, handler_in_range, verdict_in_range, abort_in_range, step_in_range, is_rising, play_in_range, nest_fits, roles_enter, entered_by, filled_by, holds_step, holds_role, holds_nest, holds_action}
-use Rattle.place_plan.specs.Closed.{IsClosed, AreSound}
+use Rattle.place_plan.specs.declared.drafts.draft.Draft.{Draft}
+use Rattle.place_plan.specs.declared.drafts.draft_rows.ObjectRow.{ObjectRow}
+use Rattle.place_plan.specs.declared.drafts.draft_rows.PlaceRow.{PlaceRow}
+use Rattle.place_plan.specs.declared.drafts.draft_rows.ActionRow.{ActionRow}
+use Rattle.place_plan.specs.declared.drafts.draft_rows.NestRow.{NestRow}
+use Rattle.place_plan.specs.declared.drafts.draft_rows.RoleRow.{RoleRow}
+use Rattle.place_plan.specs.declared.drafts.draft_rows.HandlerRow.{HandlerRow}
+use Rattle.place_plan.specs.declared.drafts.draft_rows.Program.{Program}
+use Rattle.place_plan.specs.declared.drafts.draft_rows.Step.{Step}
+use Rattle.place_plan.specs.declared.drafts.draft_rows.Step.TheVariants as step
+use Rattle.place_plan.specs.Plans.PlanValue.{Plan}
+use Rattle.caa_base.specs.Written.Lists.{member, index_of, is_empty, first_of, Rises}
+use Rattle.place_plan.specs.Plans.Places.{place_at, action_at, around, parent, roles_of, role_row, body_of, handler_in, abort_row, objects_of, uses, alternates_of, nest_number, nest_of, nest_in, internal_of, interface_of, fault_of, map_signal, initial_of, no_action, no_role, no_nest, no_place, no_object}
+use Rattle.place_plan.specs.RulesOfJournals.Roles.{program_in, or_idle}
+use Rattle.caa_base.specs.Written.Limits.{IsValue, is_value}
+use Rattle.place_plan.specs.Plans.Unfolding.{plan_of, cast_of}
+use Rattle.place_plan.specs.Drafts.DraftRules.{KeepsParts, all_below, exceptions_of, graphs_in_range, objects_in_range, parts_in_range, nest_in_range, role_in_range, program_in_range, handler_in_range, verdict_in_range, abort_in_range, step_in_range, is_rising, play_in_range, nest_fits, roles_enter, entered_by, filled_by, holds_step, holds_role, holds_nest, holds_action}
+use Rattle.place_plan.specs.Plans.Closed.{IsClosed, AreSound}
 use Rattle.caa_base.proofs.ListLemmas.{all_at, get_passes, at_row, all_imply, as_filled}
-use Rattle.place_plan.proofs.Passing.{past_end, below_or_not}
-use Rattle.place_plan.proofs.DraftKeeps.{initials_range, graphs_range, objects_range, parts_range, plays_range, has_roles, all_nests_fit}
+use Rattle.place_plan.proofs.OnPlans.Passing.{past_end, below_or_not}
+use Rattle.place_plan.proofs.OnDrafts.DraftKeeps.{initials_range, graphs_range, objects_range, parts_range, plays_range, has_roles, all_nests_fit}
 use Rattle.caa_base.proofs.ValueRange.{value_from}
-use Rattle.place_plan.proofs.Subtrees.{IsPlaced, IsKnown, use_of}
-use Rattle.place_plan.proofs.UnfoldedPlan.{IsUnfolded, is_unfolded, known_in, chain_of, child_of, child_after, in_table, row_rises, rows_apart}
-use Rattle.place_plan.proofs.Casts.{all_cast, action_is, use_there, from_picked, in_picked, member_at}
-use Rattle.place_plan.proofs.ClosedPlan.{action_passes, keeps_of, of_plan, made_graphs, made_players, member_index, other_index}
+use Rattle.place_plan.proofs.OnPlans.Subtrees.{IsPlaced, IsKnown, use_of}
+use Rattle.place_plan.proofs.OnPlans.UnfoldedPlan.{IsUnfolded, is_unfolded, known_in, chain_of, child_of, child_after, in_table, row_rises, rows_apart}
+use Rattle.place_plan.proofs.OnPlans.Casts.{all_cast, action_is, use_there, from_picked, in_picked, member_at}
+use Rattle.place_plan.proofs.OnPlans.ClosedPlan.{action_passes, keeps_of, of_plan, made_graphs, made_players, member_index, other_index}
 use Rattle.journal_laws.proofs.Playable.{IsTree, IsPlayable, LeadsInside}
 use Rattle.journal_laws.proofs.EnterSteps.{get_all, entered_member, entered_at, entered_order, filled_rises, Fills, filled_is, filled_has, role_enters, handler_passes, enters_none, player_at, index_is}
 

@@ -5,20 +5,20 @@ use Rattle.std.proofs.lemmas.List.{take-append-le, take_all, length-append}
 use Rattle.std.proofs.lemmas.List.Folds.{list_any-append}
 use Rattle.std.proofs.Math.Bool.{or-false}
 use Rattle.std.proofs.lemmas.Bool.{and_parts, and_from, or_cases, or_left, or_right, or_parts, eqb-true, eq-eqb, false≢true, cases_Bool, false_from_ne_true, both_ways}
-use Rattle.caa_base.specs.declared.entry.Entry.{Entry}
-use Rattle.caa_base.specs.declared.entry.Kind.{Kind}
-use Rattle.caa_base.specs.declared.entry.Kind.TheVariants as kind
-use Rattle.place_plan.specs.PlanValue.{Plan}
-use Rattle.caa_base.specs.Lists.{member, last_or}
-use Rattle.place_plan.specs.Places.{around, parent, top_of, uses, is_within}
-use Rattle.place_plan.specs.Entries.{is_of, is_in}
-use Rattle.place_plan.specs.Whereabouts.{has_started, has_ended, is_live}
-use Rattle.place_plan.specs.Objects.{restores, writes, holder_of, is_within_any, places_undone, value_outside, value_of}
-use Rattle.place_plan.specs.Journals.{LegalPast, ends_play, plays_ended, committed_value}
+use Rattle.caa_base.specs.declared.written.entry.Entry.{Entry}
+use Rattle.caa_base.specs.declared.written.entry.Kind.{Kind}
+use Rattle.caa_base.specs.declared.written.entry.Kind.TheVariants as kind
+use Rattle.place_plan.specs.Plans.PlanValue.{Plan}
+use Rattle.caa_base.specs.Written.Lists.{member, last_or}
+use Rattle.place_plan.specs.Plans.Places.{around, parent, top_of, uses, is_within}
+use Rattle.place_plan.specs.RulesOfJournals.Entries.{is_of, is_in}
+use Rattle.place_plan.specs.RulesOfJournals.Whereabouts.{has_started, has_ended, is_live}
+use Rattle.place_plan.specs.RulesOfJournals.Objects.{restores, writes, holder_of, is_within_any, places_undone, value_outside, value_of}
+use Rattle.place_plan.specs.RulesOfJournals.Journals.{LegalPast, ends_play, plays_ended, committed_value}
 use Rattle.journal_laws.specs.Laws.{Holds, CommitLaw, touches_object}
 use Rattle.journal_laws.proofs.Playable.{IsTree, IsPlayable}
 use Rattle.caa_base.proofs.ListLemmas.{last_member}
-use Rattle.place_plan.proofs.EntryKinds.{of_kind}
+use Rattle.place_plan.proofs.OnJournals.EntryKinds.{of_kind}
 use Rattle.journal_laws.proofs.Lives.{live_parts, live_from}
 use Rattle.journal_laws.proofs.Tree.{in_within}
 use Rattle.journal_laws.proofs.InnerFirst.{legal_rest}

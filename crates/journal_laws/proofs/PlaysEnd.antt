@@ -7,17 +7,17 @@ use Rattle.std.proofs.lemmas.Map.Made.{length-le_from_is_member}
 use Rattle.std.proofs.lemmas.List.Folds.{list_any-append}
 use Rattle.std.proofs.lemmas.Bool.{and_parts, and_from, or_cases, or_left, or_right, or_parts, eqb-true, eq-eqb, false≢true, cases_Bool, false_from_ne_true, both_ways}
 use Rattle.std.proofs.Math.Bool.{or-false}
-use Rattle.caa_base.specs.declared.entry.Entry.{Entry}
-use Rattle.caa_base.specs.declared.entry.Kind.TheVariants as kind
-use Rattle.place_plan.specs.PlanValue.{Plan}
-use Rattle.caa_base.specs.Lists.{member, is_empty, first_of, Rises}
-use Rattle.place_plan.specs.Places.{around, parent, roles_of}
-use Rattle.place_plan.specs.Entries.{is_of, is_in}
-use Rattle.place_plan.specs.Whereabouts.{has_ended}
-use Rattle.place_plan.specs.Journals.{LegalPast, AllOver, ends_play, plays_ended}
+use Rattle.caa_base.specs.declared.written.entry.Entry.{Entry}
+use Rattle.caa_base.specs.declared.written.entry.Kind.TheVariants as kind
+use Rattle.place_plan.specs.Plans.PlanValue.{Plan}
+use Rattle.caa_base.specs.Written.Lists.{member, is_empty, first_of, Rises}
+use Rattle.place_plan.specs.Plans.Places.{around, parent, roles_of}
+use Rattle.place_plan.specs.RulesOfJournals.Entries.{is_of, is_in}
+use Rattle.place_plan.specs.RulesOfJournals.Whereabouts.{has_ended}
+use Rattle.place_plan.specs.RulesOfJournals.Journals.{LegalPast, AllOver, ends_play, plays_ended}
 use Rattle.journal_laws.proofs.Playable.{IsPlayable}
-use Rattle.place_plan.proofs.EntryKinds.{of_kind}
-use Rattle.place_plan.proofs.PlaysRise.{in_plays}
+use Rattle.place_plan.proofs.OnJournals.EntryKinds.{of_kind}
+use Rattle.place_plan.proofs.OnPlans.PlaysRise.{in_plays}
 use Rattle.journal_laws.proofs.Lives.{live_parts}
 use Rattle.journal_laws.proofs.Holding.{end_live}
 use Rattle.journal_laws.proofs.Exit.{end_row}

@@ -3,24 +3,24 @@ use Rattle.std.proofs.Common.{◌≡◌, ℕ, ◌==◌, Bool, true, false, not, 
 use Rattle.std.specs.List.{list_all}
 use Rattle.std.proofs.lemmas.Bool.{and_parts, and_from, or_cases, or_left, or_right, or_from, eqb-true, eq-eqb, false≢true, not-true, cases_Bool, false_from_ne_true, both_ways}
 use Rattle.cover_table.specs.Cover.{IsLeastCover}
-use Rattle.caa_base.specs.declared.entry.Entry.{Entry}
-use Rattle.caa_base.specs.declared.entry.Kind.{Kind}
-use Rattle.caa_base.specs.declared.entry.Kind.TheVariants as kind
-use Rattle.place_plan.specs.PlanValue.{Plan}
-use Rattle.caa_base.specs.Lists.{member, is_empty, first_of}
-use Rattle.place_plan.specs.Places.{around, parent, roles_of, plays_of, internal_of, handler_of}
-use Rattle.place_plan.specs.Entries.{is_by, has_by}
-use Rattle.place_plan.specs.Whereabouts.{inside, inside_after}
-use Rattle.place_plan.specs.Raising.{has_handled, raises_in, carries_into, exceptions_raised, is_raised, is_calm, is_hot, is_halted, all_are_halted, exception_resolved, exception_handled}
-use Rattle.place_plan.specs.Roles.{has_given, is_able, is_in_handler, is_handling, was_refused_in_handler, next_play}
-use Rattle.place_plan.specs.Rules.{Row, MayArrive, arrival}
-use Rattle.place_plan.specs.Journals.{LegalPast}
+use Rattle.caa_base.specs.declared.written.entry.Entry.{Entry}
+use Rattle.caa_base.specs.declared.written.entry.Kind.{Kind}
+use Rattle.caa_base.specs.declared.written.entry.Kind.TheVariants as kind
+use Rattle.place_plan.specs.Plans.PlanValue.{Plan}
+use Rattle.caa_base.specs.Written.Lists.{member, is_empty, first_of}
+use Rattle.place_plan.specs.Plans.Places.{around, parent, roles_of, plays_of, internal_of, handler_of}
+use Rattle.place_plan.specs.RulesOfJournals.Entries.{is_by, has_by}
+use Rattle.place_plan.specs.RulesOfJournals.Whereabouts.{inside, inside_after}
+use Rattle.place_plan.specs.RulesOfJournals.Raising.{has_handled, raises_in, carries_into, exceptions_raised, is_raised, is_calm, is_hot, is_halted, all_are_halted, exception_resolved, exception_handled}
+use Rattle.place_plan.specs.RulesOfJournals.Roles.{has_given, is_able, is_in_handler, is_handling, was_refused_in_handler, next_play}
+use Rattle.place_plan.specs.RulesOfJournals.Rules.{Row, MayArrive, arrival}
+use Rattle.place_plan.specs.RulesOfJournals.Journals.{LegalPast}
 use Rattle.journal_laws.specs.Laws.{Holds}
 use Rattle.journal_laws.proofs.Playable.{IsTree}
 use Rattle.journal_laws.proofs.Core.{Raises}
 use Rattle.caa_base.proofs.ListLemmas.{all_at, at_same, chosen, first_not_fails}
-use Rattle.place_plan.proofs.PlaysRise.{plays_in}
-use Rattle.place_plan.proofs.EntryKinds.{of_kind, both_same}
+use Rattle.place_plan.proofs.OnPlans.PlaysRise.{plays_in}
+use Rattle.place_plan.proofs.OnJournals.EntryKinds.{of_kind, both_same}
 use Rattle.journal_laws.proofs.Tree.{arrives_in}
 use Rattle.journal_laws.proofs.Busy.{IsBusy, AllBusy, all_busy, raised_stays}
 use Rattle.journal_laws.proofs.InnerFirst.{round_round}

@@ -6,35 +6,35 @@ use Rattle.std.proofs.lemmas.Int.{ints}
 use Rattle.std.proofs.lemmas.List.Elements.{All-nil, All-cons, All-append}
 use Rattle.std.proofs.lemmas.Option.{some_pair_parts}
 use Rattle.std.proofs.lemmas.Bool.{and_parts, eqb-true, ltb-true, false≢true, cases_Bool}
-use Rattle.caa_base.specs.Mixing.{mix, residue, state_after}
-use Rattle.caa_base.specs.declared.entry.Entry.{Entry}
-use Rattle.caa_base.specs.declared.entry.Kind.{Kind}
-use Rattle.caa_base.specs.declared.entry.Kind.TheVariants as kind
-use Rattle.caa_base.specs.declared.entry.Verdict.{Verdict}
-use Rattle.caa_base.specs.declared.entry.Verdict.TheVariants as verdict
-use Rattle.place_plan.specs.declared.draft_rows.PlaceRow.{PlaceRow}
-use Rattle.place_plan.specs.declared.draft_rows.AbortRow.{AbortRow}
-use Rattle.place_plan.specs.declared.draft_rows.AbortRow.TheVariants as abort
-use Rattle.place_plan.specs.declared.draft_rows.Step.{Step}
-use Rattle.place_plan.specs.declared.draft_rows.Step.TheVariants as step
-use Rattle.place_plan.specs.PlanValue.{Plan}
-use Rattle.caa_base.specs.Lists.{member, is_at}
-use Rattle.place_plan.specs.Places.{parent, roles_of, no_place, internal_of, interface_of, fault_of, handler_of, map_signal, nest_of}
-use Rattle.place_plan.specs.Entries.{is_in, is_by, newest}
-use Rattle.place_plan.specs.Whereabouts.{is_left_in_silence}
-use Rattle.place_plan.specs.Raising.{has_handled, exceptions_raised, raises_in, is_calm, is_hot, exception_handled, exception_resolved}
-use Rattle.place_plan.specs.Objects.{is_within_any, value_outside, places_undone}
-use Rattle.place_plan.specs.Roles.{position, register, program_of, next_step, next_raise, raise_of, meets, has_given, is_handling, verdict_at, verdict_of, signal_in, signals}
-use Rattle.place_plan.specs.Rules.{Row, Names, SaysVerdict, MayVerdict, clamped, put_of, final_verdict, unhandled_verdict, breaks_off, handler_verdict, verdict_due, abort_of, abort_mapped, outcome_mapped, is_deaf, exception_carried}
-use Rattle.place_plan.specs.Journals.{LegalPast}
-use Rattle.place_plan.specs.DraftRules.{step_in_range, verdict_in_range, abort_in_range}
-use Rattle.caa_base.specs.Limits.{is_value, IsValue, most_value}
-use Rattle.place_plan.specs.WellFormed.{MayShowException}
+use Rattle.caa_base.specs.Written.Mixing.{mix, residue, state_after}
+use Rattle.caa_base.specs.declared.written.entry.Entry.{Entry}
+use Rattle.caa_base.specs.declared.written.entry.Kind.{Kind}
+use Rattle.caa_base.specs.declared.written.entry.Kind.TheVariants as kind
+use Rattle.caa_base.specs.declared.written.entry.Verdict.{Verdict}
+use Rattle.caa_base.specs.declared.written.entry.Verdict.TheVariants as verdict
+use Rattle.place_plan.specs.declared.drafts.draft_rows.PlaceRow.{PlaceRow}
+use Rattle.place_plan.specs.declared.drafts.draft_rows.AbortRow.{AbortRow}
+use Rattle.place_plan.specs.declared.drafts.draft_rows.AbortRow.TheVariants as abort
+use Rattle.place_plan.specs.declared.drafts.draft_rows.Step.{Step}
+use Rattle.place_plan.specs.declared.drafts.draft_rows.Step.TheVariants as step
+use Rattle.place_plan.specs.Plans.PlanValue.{Plan}
+use Rattle.caa_base.specs.Written.Lists.{member, is_at}
+use Rattle.place_plan.specs.Plans.Places.{parent, roles_of, no_place, internal_of, interface_of, fault_of, handler_of, map_signal, nest_of}
+use Rattle.place_plan.specs.RulesOfJournals.Entries.{is_in, is_by, newest}
+use Rattle.place_plan.specs.RulesOfJournals.Whereabouts.{is_left_in_silence}
+use Rattle.place_plan.specs.RulesOfJournals.Raising.{has_handled, exceptions_raised, raises_in, is_calm, is_hot, exception_handled, exception_resolved}
+use Rattle.place_plan.specs.RulesOfJournals.Objects.{is_within_any, value_outside, places_undone}
+use Rattle.place_plan.specs.RulesOfJournals.Roles.{position, register, program_of, next_step, next_raise, raise_of, meets, has_given, is_handling, verdict_at, verdict_of, signal_in, signals}
+use Rattle.place_plan.specs.RulesOfJournals.Rules.{Row, Names, SaysVerdict, MayVerdict, clamped, put_of, final_verdict, unhandled_verdict, breaks_off, handler_verdict, verdict_due, abort_of, abort_mapped, outcome_mapped, is_deaf, exception_carried}
+use Rattle.place_plan.specs.RulesOfJournals.Journals.{LegalPast}
+use Rattle.place_plan.specs.Drafts.DraftRules.{step_in_range, verdict_in_range, abort_in_range}
+use Rattle.caa_base.specs.Written.Limits.{is_value, IsValue, most_value}
+use Rattle.place_plan.specs.RulesOfJournals.WellFormed.{MayShowException}
 use Rattle.cover_table.specs.Cover.{CoverOrder}
 use Rattle.journal_laws.proofs.Playable.{IsPlayable}
 use Rattle.caa_base.proofs.ListLemmas.{chosen, at_same}
 use Rattle.caa_base.proofs.ValueRange.{value_from}
-use Rattle.place_plan.proofs.EntryKinds.{of_kind}
+use Rattle.place_plan.proofs.OnJournals.EntryKinds.{of_kind}
 use Rattle.journal_laws.proofs.Makers.{maker_role}
 
 -- ---- values

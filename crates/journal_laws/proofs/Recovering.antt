@@ -1,16 +1,16 @@
 -- What the core says of one role in a place that is calm or hot: whether it is halted, in its handler, or has given its verdict.
 use Rattle.std.proofs.Common.{◌≡◌, ℕ, true, false, not, List, Some, refl, sym, ◌∙◌, subst, inl, inr, is_none}
 use Rattle.std.proofs.lemmas.Bool.{and_parts, not-true, false_from_ne_true, both_ways, cases_Bool, cond-true}
-use Rattle.caa_base.specs.declared.entry.Entry.{Entry}
-use Rattle.caa_base.specs.declared.entry.Kind.TheVariants as kind
-use Rattle.place_plan.specs.PlanValue.{Plan}
-use Rattle.caa_base.specs.Lists.{member}
-use Rattle.place_plan.specs.Places.{roles_of, handler_of}
-use Rattle.place_plan.specs.Entries.{is_in, is_by}
-use Rattle.place_plan.specs.Whereabouts.{inside}
-use Rattle.place_plan.specs.Raising.{has_handled, is_raised, is_doomed, is_halted, exception_resolved}
-use Rattle.place_plan.specs.Roles.{has_given_after, has_given, all_have_given, is_handling, was_refused_in_handler, is_in_handler, has_aborted, all_have_aborted}
-use Rattle.place_plan.specs.Journals.{LegalPast}
+use Rattle.caa_base.specs.declared.written.entry.Entry.{Entry}
+use Rattle.caa_base.specs.declared.written.entry.Kind.TheVariants as kind
+use Rattle.place_plan.specs.Plans.PlanValue.{Plan}
+use Rattle.caa_base.specs.Written.Lists.{member}
+use Rattle.place_plan.specs.Plans.Places.{roles_of, handler_of}
+use Rattle.place_plan.specs.RulesOfJournals.Entries.{is_in, is_by}
+use Rattle.place_plan.specs.RulesOfJournals.Whereabouts.{inside}
+use Rattle.place_plan.specs.RulesOfJournals.Raising.{has_handled, is_raised, is_doomed, is_halted, exception_resolved}
+use Rattle.place_plan.specs.RulesOfJournals.Roles.{has_given_after, has_given, all_have_given, is_handling, was_refused_in_handler, is_in_handler, has_aborted, all_have_aborted}
+use Rattle.place_plan.specs.RulesOfJournals.Journals.{LegalPast}
 use Rattle.journal_laws.specs.Laws.{Holds}
 use Rattle.journal_laws.specs.Due.{due_of, due_calm, due_hot, due_resolved, due_agreed}
 use Rattle.journal_laws.proofs.Playable.{IsPlayable}

@@ -3,23 +3,23 @@
 use Rattle.std.proofs.Common.{◌≡◌, ℕ, ◌==◌, Bool, true, false, cond, ◌&&◌, ◌||◌, List, [], ◌∷◌, ◌++◌, Some, None, refl, sym, ◌∙◌, subst, inl, inr, is_none}
 use Rattle.std.specs.List.{list_any}
 use Rattle.std.proofs.lemmas.Bool.{and_from, or_left, eqb-true, eq-eqb, cases_Bool, false_from_ne_true, both_ways}
-use Rattle.caa_base.specs.declared.entry.Entry.{Entry}
-use Rattle.caa_base.specs.declared.entry.Kind.{Kind}
-use Rattle.caa_base.specs.declared.entry.Kind.TheVariants as kind
-use Rattle.place_plan.specs.PlanValue.{Plan}
-use Rattle.caa_base.specs.Lists.{member}
-use Rattle.place_plan.specs.Places.{roles_of, handler_of}
-use Rattle.place_plan.specs.Entries.{is_in, is_by, has}
-use Rattle.place_plan.specs.Whereabouts.{has_ended}
-use Rattle.place_plan.specs.Raising.{is_raised, newest_arg, exception_resolved, exception_handled, has_handled}
-use Rattle.place_plan.specs.Roles.{has_given_after, has_given, all_have_given, has_aborted}
-use Rattle.place_plan.specs.Rules.{Row}
-use Rattle.place_plan.specs.Journals.{LegalPast}
+use Rattle.caa_base.specs.declared.written.entry.Entry.{Entry}
+use Rattle.caa_base.specs.declared.written.entry.Kind.{Kind}
+use Rattle.caa_base.specs.declared.written.entry.Kind.TheVariants as kind
+use Rattle.place_plan.specs.Plans.PlanValue.{Plan}
+use Rattle.caa_base.specs.Written.Lists.{member}
+use Rattle.place_plan.specs.Plans.Places.{roles_of, handler_of}
+use Rattle.place_plan.specs.RulesOfJournals.Entries.{is_in, is_by, has}
+use Rattle.place_plan.specs.RulesOfJournals.Whereabouts.{has_ended}
+use Rattle.place_plan.specs.RulesOfJournals.Raising.{is_raised, newest_arg, exception_resolved, exception_handled, has_handled}
+use Rattle.place_plan.specs.RulesOfJournals.Roles.{has_given_after, has_given, all_have_given, has_aborted}
+use Rattle.place_plan.specs.RulesOfJournals.Rules.{Row}
+use Rattle.place_plan.specs.RulesOfJournals.Journals.{LegalPast}
 use Rattle.journal_laws.specs.Laws.{Holds, Splits, HandlesLeast, Answered, IsAnswered, ResolutionLaw}
 use Rattle.journal_laws.proofs.Playable.{IsPlayable}
 use Rattle.journal_laws.proofs.Core.{Core}
 use Rattle.caa_base.proofs.ListLemmas.{all_at}
-use Rattle.place_plan.proofs.EntryKinds.{of_kind}
+use Rattle.place_plan.proofs.OnJournals.EntryKinds.{of_kind}
 use Rattle.journal_laws.proofs.InnerFirst.{legal_rest, started_filled}
 use Rattle.journal_laws.proofs.Holding.{ended_started}
 use Rattle.journal_laws.proofs.Arrivals.{one_has}

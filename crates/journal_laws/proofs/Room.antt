@@ -2,18 +2,18 @@
 -- aloud, the alternates in which anybody has arrived have ended.
 use Rattle.std.proofs.Common.{◌≡◌, ℕ, ◌==◌, Bool, true, false, not, cond, List, [], ◌∷◌, Some, None, refl, sym, ap, ◌∙◌, subst, arith, suc, inl, inr, is_none}
 use Rattle.std.proofs.lemmas.Bool.{and_parts, eqb-true, cases_order, false≢true, false_from_ne_true, both_ways}
-use Rattle.caa_base.specs.declared.entry.Entry.{Entry}
-use Rattle.caa_base.specs.declared.entry.Kind.TheVariants as kind
-use Rattle.place_plan.specs.declared.draft_rows.Step.TheVariants as step
-use Rattle.place_plan.specs.PlanValue.{Plan}
-use Rattle.caa_base.specs.Lists.{is_empty, first_of, next_after, last_or, last_of, Rises}
-use Rattle.place_plan.specs.Places.{parent, alternates_of, nest_number, next_in, next_alternate}
-use Rattle.place_plan.specs.Entries.{has_by, is_in, newest}
-use Rattle.place_plan.specs.Whereabouts.{inside, has_ended, is_undone, is_left_in_silence}
-use Rattle.place_plan.specs.Raising.{has_handled, is_calm}
-use Rattle.place_plan.specs.Roles.{position, next_step}
-use Rattle.place_plan.specs.Rules.{place_entered}
-use Rattle.place_plan.specs.Journals.{LegalPast}
+use Rattle.caa_base.specs.declared.written.entry.Entry.{Entry}
+use Rattle.caa_base.specs.declared.written.entry.Kind.TheVariants as kind
+use Rattle.place_plan.specs.declared.drafts.draft_rows.Step.TheVariants as step
+use Rattle.place_plan.specs.Plans.PlanValue.{Plan}
+use Rattle.caa_base.specs.Written.Lists.{is_empty, first_of, next_after, last_or, last_of, Rises}
+use Rattle.place_plan.specs.Plans.Places.{parent, alternates_of, nest_number, next_in, next_alternate}
+use Rattle.place_plan.specs.RulesOfJournals.Entries.{has_by, is_in, newest}
+use Rattle.place_plan.specs.RulesOfJournals.Whereabouts.{inside, has_ended, is_undone, is_left_in_silence}
+use Rattle.place_plan.specs.RulesOfJournals.Raising.{has_handled, is_calm}
+use Rattle.place_plan.specs.RulesOfJournals.Roles.{position, next_step}
+use Rattle.place_plan.specs.RulesOfJournals.Rules.{place_entered}
+use Rattle.place_plan.specs.RulesOfJournals.Journals.{LegalPast}
 use Rattle.journal_laws.proofs.Playable.{IsPlayable}
 use Rattle.caa_base.proofs.ListLemmas.{first_not_none, last_member, member_above}
 use Rattle.journal_laws.proofs.Arrivals.{left_arrived, left_ended, settled}

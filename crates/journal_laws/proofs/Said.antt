@@ -1,22 +1,22 @@
 -- What the roles have said: in their handlers, without one, before an undo and before an end.
 use Rattle.std.proofs.Common.{◌≡◌, ℕ, ◌==◌, Bool, true, false, not, cond, ◌&&◌, ◌⊎◌, List, [], ◌∷◌, Some, None, refl, sym, ap, ◌∙◌, subst, inl, inr, MatchBool, MatchOption, is_none}
 use Rattle.std.proofs.lemmas.Bool.{and_from, and_left, and_right, or_cases, or_left, or_right, or_parts, eqb-true, eq-eqb, false≢true, not_from_true, cases_Bool, false_from_ne_true, both_ways}
-use Rattle.caa_base.specs.declared.entry.Entry.{Entry}
-use Rattle.caa_base.specs.declared.entry.Kind.{Kind}
-use Rattle.caa_base.specs.declared.entry.Kind.TheVariants as kind
-use Rattle.caa_base.specs.declared.entry.Verdict.TheVariants as verdict
-use Rattle.place_plan.specs.PlanValue.{Plan}
-use Rattle.place_plan.specs.Places.{handler_of}
-use Rattle.place_plan.specs.Entries.{is_in, is_by, has, has_by}
-use Rattle.place_plan.specs.Whereabouts.{has_started, has_ended, is_undoing, is_live, is_going}
-use Rattle.place_plan.specs.Raising.{has_handled, is_raised, is_doomed, is_hot, exception_resolved}
-use Rattle.place_plan.specs.Roles.{has_given_after, has_given, all_have_given, is_handling, wants_undo, all_have_aborted}
-use Rattle.place_plan.specs.Rules.{Row, MayFollow, SaysVerdict, verdict_due, AskForUndo, EndsUndone, EndsAgreed}
-use Rattle.place_plan.specs.Journals.{LegalPast}
+use Rattle.caa_base.specs.declared.written.entry.Entry.{Entry}
+use Rattle.caa_base.specs.declared.written.entry.Kind.{Kind}
+use Rattle.caa_base.specs.declared.written.entry.Kind.TheVariants as kind
+use Rattle.caa_base.specs.declared.written.entry.Verdict.TheVariants as verdict
+use Rattle.place_plan.specs.Plans.PlanValue.{Plan}
+use Rattle.place_plan.specs.Plans.Places.{handler_of}
+use Rattle.place_plan.specs.RulesOfJournals.Entries.{is_in, is_by, has, has_by}
+use Rattle.place_plan.specs.RulesOfJournals.Whereabouts.{has_started, has_ended, is_undoing, is_live, is_going}
+use Rattle.place_plan.specs.RulesOfJournals.Raising.{has_handled, is_raised, is_doomed, is_hot, exception_resolved}
+use Rattle.place_plan.specs.RulesOfJournals.Roles.{has_given_after, has_given, all_have_given, is_handling, wants_undo, all_have_aborted}
+use Rattle.place_plan.specs.RulesOfJournals.Rules.{Row, MayFollow, SaysVerdict, verdict_due, AskForUndo, EndsUndone, EndsAgreed}
+use Rattle.place_plan.specs.RulesOfJournals.Journals.{LegalPast}
 use Rattle.journal_laws.specs.Laws.{AskedForUndo}
 use Rattle.journal_laws.proofs.Playable.{IsTree}
 use Rattle.journal_laws.proofs.Core.{Raises}
-use Rattle.place_plan.proofs.EntryKinds.{of_kind, both_same}
+use Rattle.place_plan.proofs.OnJournals.EntryKinds.{of_kind, both_same}
 use Rattle.caa_base.proofs.ListLemmas.{chosen}
 use Rattle.journal_laws.proofs.Busy.{abort_doomed}
 use Rattle.journal_laws.proofs.Newest.{newest_stands, stands_newest}

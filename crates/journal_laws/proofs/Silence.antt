@@ -2,17 +2,17 @@
 use Rattle.std.proofs.Common.{◌≡◌, ℕ, ◌==◌, Bool, true, false, not, List, [], ◌∷◌, None, refl, subst, sym, inl, inr, is_none}
 use Rattle.std.specs.List.{list_any}
 use Rattle.std.proofs.lemmas.Bool.{and_parts, or_parts, eqb-true, false≢true, cases_Bool, true_from_ne_false, both_ways}
-use Rattle.caa_base.specs.declared.entry.Entry.{Entry}
-use Rattle.caa_base.specs.declared.entry.Kind.{Kind}
-use Rattle.caa_base.specs.declared.entry.Kind.TheVariants as kind
-use Rattle.place_plan.specs.PlanValue.{Plan}
-use Rattle.place_plan.specs.Places.{next_alternate}
-use Rattle.place_plan.specs.Entries.{is_in, newest}
-use Rattle.place_plan.specs.Whereabouts.{has_ended, is_undone, is_left_in_silence}
-use Rattle.place_plan.specs.Rules.{Row, MayFollow}
-use Rattle.place_plan.specs.Journals.{LegalPast}
+use Rattle.caa_base.specs.declared.written.entry.Entry.{Entry}
+use Rattle.caa_base.specs.declared.written.entry.Kind.{Kind}
+use Rattle.caa_base.specs.declared.written.entry.Kind.TheVariants as kind
+use Rattle.place_plan.specs.Plans.PlanValue.{Plan}
+use Rattle.place_plan.specs.Plans.Places.{next_alternate}
+use Rattle.place_plan.specs.RulesOfJournals.Entries.{is_in, newest}
+use Rattle.place_plan.specs.RulesOfJournals.Whereabouts.{has_ended, is_undone, is_left_in_silence}
+use Rattle.place_plan.specs.RulesOfJournals.Rules.{Row, MayFollow}
+use Rattle.place_plan.specs.RulesOfJournals.Journals.{LegalPast}
 use Rattle.journal_laws.proofs.Playable.{IsTree}
-use Rattle.place_plan.proofs.EntryKinds.{of_kind}
+use Rattle.place_plan.proofs.OnJournals.EntryKinds.{of_kind}
 use Rattle.journal_laws.proofs.Lives.{live_parts}
 use Rattle.journal_laws.proofs.Holding.{end_live}
 

@@ -1,23 +1,23 @@
 -- In a tree of places, the roles of a live place are in it, or in places inside it.
 use Rattle.std.proofs.Common.{◌≡◌, ℕ, ◌==◌, Bool, true, false, cond, ◌&&◌, List, [], ◌∷◌, Some, None, Option, refl, subst, inl, inr, slice_get}
 use Rattle.std.proofs.lemmas.Bool.{or_cases, or_left, or_right, or_parts, eqb-true, eq-eqb, false≢true, cases_Bool, both_ways}
-use Rattle.caa_base.specs.declared.entry.Entry.{Entry}
-use Rattle.caa_base.specs.declared.entry.Kind.{Kind}
-use Rattle.caa_base.specs.declared.entry.Kind.TheVariants as kind
-use Rattle.place_plan.specs.declared.draft_rows.Step.{Step}
-use Rattle.place_plan.specs.declared.draft_rows.Step.TheVariants as step
-use Rattle.place_plan.specs.PlanValue.{Plan}
-use Rattle.caa_base.specs.Lists.{member}
-use Rattle.place_plan.specs.Places.{around, parent, roles_of, is_within, alternates_of}
-use Rattle.place_plan.specs.Entries.{has_by}
-use Rattle.place_plan.specs.Whereabouts.{inside, all_are_inside, is_inside, has_started, has_ended}
-use Rattle.place_plan.specs.Raising.{is_calm, exception_handled}
-use Rattle.place_plan.specs.Roles.{is_able, position, program_in, next_step}
-use Rattle.place_plan.specs.Rules.{Row, MayArrive, place_entered, arrival}
-use Rattle.place_plan.specs.Journals.{LegalPast}
+use Rattle.caa_base.specs.declared.written.entry.Entry.{Entry}
+use Rattle.caa_base.specs.declared.written.entry.Kind.{Kind}
+use Rattle.caa_base.specs.declared.written.entry.Kind.TheVariants as kind
+use Rattle.place_plan.specs.declared.drafts.draft_rows.Step.{Step}
+use Rattle.place_plan.specs.declared.drafts.draft_rows.Step.TheVariants as step
+use Rattle.place_plan.specs.Plans.PlanValue.{Plan}
+use Rattle.caa_base.specs.Written.Lists.{member}
+use Rattle.place_plan.specs.Plans.Places.{around, parent, roles_of, is_within, alternates_of}
+use Rattle.place_plan.specs.RulesOfJournals.Entries.{has_by}
+use Rattle.place_plan.specs.RulesOfJournals.Whereabouts.{inside, all_are_inside, is_inside, has_started, has_ended}
+use Rattle.place_plan.specs.RulesOfJournals.Raising.{is_calm, exception_handled}
+use Rattle.place_plan.specs.RulesOfJournals.Roles.{is_able, position, program_in, next_step}
+use Rattle.place_plan.specs.RulesOfJournals.Rules.{Row, MayArrive, place_entered, arrival}
+use Rattle.place_plan.specs.RulesOfJournals.Journals.{LegalPast}
 use Rattle.journal_laws.proofs.Playable.{IsTree}
 use Rattle.caa_base.proofs.ListLemmas.{all_at, at_same, chosen, first_not_fails}
-use Rattle.place_plan.proofs.EntryKinds.{of_kind}
+use Rattle.place_plan.proofs.OnJournals.EntryKinds.{of_kind}
 
 -- the place that t is in is p, or inside it
 abbrev pub in_within : Plan → Option ℕ → ℕ → Bool

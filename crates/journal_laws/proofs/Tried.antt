@@ -2,20 +2,20 @@
 use Rattle.std.proofs.Common.{◌≡◌, ℕ, ◌==◌, ◌+◌, Bool, true, false, cond, ◌&&◌, ◌||◌, List, [], ◌∷◌, refl, subst, subst₂, arith, inl, inr, count_by}
 use Rattle.std.proofs.lemmas.List.Sums.{sum_by-cons}
 use Rattle.std.proofs.lemmas.Bool.{or_cases, or_right, or_parts, eqb-true, false≢true}
-use Rattle.caa_base.specs.declared.entry.Entry.{Entry}
-use Rattle.caa_base.specs.declared.entry.Kind.{Kind}
-use Rattle.caa_base.specs.declared.entry.Kind.TheVariants as kind
-use Rattle.place_plan.specs.PlanValue.{Plan}
-use Rattle.place_plan.specs.Places.{objects_of}
-use Rattle.place_plan.specs.Entries.{is_in, has}
-use Rattle.place_plan.specs.Whereabouts.{is_undoing}
-use Rattle.place_plan.specs.Objects.{is_tried, has_failed}
-use Rattle.place_plan.specs.Rules.{Row}
-use Rattle.place_plan.specs.Journals.{LegalPast}
+use Rattle.caa_base.specs.declared.written.entry.Entry.{Entry}
+use Rattle.caa_base.specs.declared.written.entry.Kind.{Kind}
+use Rattle.caa_base.specs.declared.written.entry.Kind.TheVariants as kind
+use Rattle.place_plan.specs.Plans.PlanValue.{Plan}
+use Rattle.place_plan.specs.Plans.Places.{objects_of}
+use Rattle.place_plan.specs.RulesOfJournals.Entries.{is_in, has}
+use Rattle.place_plan.specs.RulesOfJournals.Whereabouts.{is_undoing}
+use Rattle.place_plan.specs.RulesOfJournals.Objects.{is_tried, has_failed}
+use Rattle.place_plan.specs.RulesOfJournals.Rules.{Row}
+use Rattle.place_plan.specs.RulesOfJournals.Journals.{LegalPast}
 use Rattle.journal_laws.specs.Laws.{Holds, is_restore}
 use Rattle.journal_laws.proofs.Core.{Tries}
 use Rattle.caa_base.proofs.ListLemmas.{first_not_fails}
-use Rattle.place_plan.proofs.EntryKinds.{of_kind, both_same}
+use Rattle.place_plan.proofs.OnJournals.EntryKinds.{of_kind, both_same}
 
 -- ---- counts
 

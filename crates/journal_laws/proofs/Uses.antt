@@ -2,25 +2,25 @@
 -- comes to an alternate only once it has left all earlier ones in silence.
 use Rattle.std.proofs.Common.{◌≡◌, ℕ, ℤ, ◌==◌, ◌<◌, Bool, true, false, not, cond, ◌&&◌, ◌||◌, List, [], ◌∷◌, Some, None, Option, refl, sym, ap, ◌∙◌, subst, subst₂, arith, suc, slice_get, inl, inr, ◌⊎◌}
 use Rattle.std.proofs.lemmas.Bool.{and_parts, and_from, or_cases, or_left, or_right, or_parts, eqb-true, eq-eqb, false≢true, cases_Bool, cases_order, cases_lt, both_ways, not-true, true_from_ne_false, not_from_false}
-use Rattle.caa_base.specs.declared.entry.Entry.{Entry}
-use Rattle.caa_base.specs.declared.entry.Kind.{Kind}
-use Rattle.caa_base.specs.declared.entry.Kind.TheVariants as kind
-use Rattle.place_plan.specs.declared.draft_rows.Step.{Step}
-use Rattle.place_plan.specs.declared.draft_rows.Step.TheVariants as step
-use Rattle.place_plan.specs.PlanValue.{Plan}
-use Rattle.caa_base.specs.Lists.{member, is_at}
-use Rattle.place_plan.specs.Places.{parent, alternates_of, nest_number, body_of}
-use Rattle.place_plan.specs.Entries.{is_by, has_by}
-use Rattle.place_plan.specs.Whereabouts.{inside, is_left_in_silence}
-use Rattle.place_plan.specs.Raising.{has_handled, is_calm}
-use Rattle.place_plan.specs.Roles.{advances, program_in, program_of, position, next_step}
-use Rattle.place_plan.specs.Rules.{Row, MayArrive, put_of, is_check}
-use Rattle.place_plan.specs.Journals.{LegalPast}
+use Rattle.caa_base.specs.declared.written.entry.Entry.{Entry}
+use Rattle.caa_base.specs.declared.written.entry.Kind.{Kind}
+use Rattle.caa_base.specs.declared.written.entry.Kind.TheVariants as kind
+use Rattle.place_plan.specs.declared.drafts.draft_rows.Step.{Step}
+use Rattle.place_plan.specs.declared.drafts.draft_rows.Step.TheVariants as step
+use Rattle.place_plan.specs.Plans.PlanValue.{Plan}
+use Rattle.caa_base.specs.Written.Lists.{member, is_at}
+use Rattle.place_plan.specs.Plans.Places.{parent, alternates_of, nest_number, body_of}
+use Rattle.place_plan.specs.RulesOfJournals.Entries.{is_by, has_by}
+use Rattle.place_plan.specs.RulesOfJournals.Whereabouts.{inside, is_left_in_silence}
+use Rattle.place_plan.specs.RulesOfJournals.Raising.{has_handled, is_calm}
+use Rattle.place_plan.specs.RulesOfJournals.Roles.{advances, program_in, program_of, position, next_step}
+use Rattle.place_plan.specs.RulesOfJournals.Rules.{Row, MayArrive, put_of, is_check}
+use Rattle.place_plan.specs.RulesOfJournals.Journals.{LegalPast}
 use Rattle.journal_laws.specs.Laws.{Holds}
 use Rattle.journal_laws.proofs.Playable.{IsPlayable}
 use Rattle.journal_laws.proofs.Core.{PassedEnter}
 use Rattle.caa_base.proofs.ListLemmas.{at_same, same_at, first_not_fails, first_not_before}
-use Rattle.place_plan.proofs.EntryKinds.{of_kind, both_same, from_both}
+use Rattle.place_plan.proofs.OnJournals.EntryKinds.{of_kind, both_same, from_both}
 use Rattle.journal_laws.proofs.Newest.{newest_none}
 use Rattle.journal_laws.proofs.Phases.{calm_open}
 use Rattle.journal_laws.proofs.Raised.{plain_calm, raises}

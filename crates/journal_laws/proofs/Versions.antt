@@ -4,20 +4,20 @@ use Rattle.std.proofs.Common.{◌≡◌, ℕ, ◌==◌, Bool, true, false, ◌&&
 use Rattle.std.specs.List.{list_any}
 use Rattle.std.proofs.lemmas.List.Folds.{list_any-append}
 use Rattle.std.proofs.lemmas.Bool.{and_parts, and_from, or_cases, or_left, or_right, or_parts, or_from, eqb-true, eq-eqb, false≢true, cases_Bool, false_from_ne_true, both_ways}
-use Rattle.caa_base.specs.declared.entry.Entry.{Entry}
-use Rattle.caa_base.specs.declared.entry.Kind.{Kind}
-use Rattle.caa_base.specs.declared.entry.Kind.TheVariants as kind
-use Rattle.place_plan.specs.PlanValue.{Plan}
-use Rattle.caa_base.specs.Lists.{member}
-use Rattle.place_plan.specs.Places.{objects_of, uses, is_within}
-use Rattle.place_plan.specs.Whereabouts.{has_started, has_ended, is_live}
-use Rattle.place_plan.specs.Objects.{holder_of, is_within_any, value_outside, value_of, before_start, is_tried}
-use Rattle.place_plan.specs.Rules.{Row, MayPut, MayRestore}
-use Rattle.place_plan.specs.Journals.{LegalPast}
+use Rattle.caa_base.specs.declared.written.entry.Entry.{Entry}
+use Rattle.caa_base.specs.declared.written.entry.Kind.{Kind}
+use Rattle.caa_base.specs.declared.written.entry.Kind.TheVariants as kind
+use Rattle.place_plan.specs.Plans.PlanValue.{Plan}
+use Rattle.caa_base.specs.Written.Lists.{member}
+use Rattle.place_plan.specs.Plans.Places.{objects_of, uses, is_within}
+use Rattle.place_plan.specs.RulesOfJournals.Whereabouts.{has_started, has_ended, is_live}
+use Rattle.place_plan.specs.RulesOfJournals.Objects.{holder_of, is_within_any, value_outside, value_of, before_start, is_tried}
+use Rattle.place_plan.specs.RulesOfJournals.Rules.{Row, MayPut, MayRestore}
+use Rattle.place_plan.specs.RulesOfJournals.Journals.{LegalPast}
 use Rattle.journal_laws.specs.Laws.{Holds, DeviceLaw, last_put}
 use Rattle.journal_laws.proofs.Playable.{IsTree}
 use Rattle.caa_base.proofs.ListLemmas.{first_not_fails}
-use Rattle.place_plan.proofs.EntryKinds.{of_kind}
+use Rattle.place_plan.proofs.OnJournals.EntryKinds.{of_kind}
 use Rattle.journal_laws.proofs.Lives.{live_parts, live_from}
 use Rattle.journal_laws.proofs.Tree.{in_within}
 use Rattle.journal_laws.proofs.Busy.{live_of}

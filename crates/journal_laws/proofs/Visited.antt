@@ -1,26 +1,26 @@
 -- What every legal past keeps of visits, and that who has given its verdict has done its body.
 use Rattle.std.proofs.Common.{◌≡◌, ℕ, ◌==◌, ◌<◌, Bool, true, false, not, cond, ◌&&◌, List, [], ◌∷◌, Some, None, Option, refl, sym, ap, ◌∙◌, subst, subst₂, inl, inr, MatchOption, is_none, suc, slice_get}
 use Rattle.std.proofs.lemmas.Bool.{and_parts, or_cases, or_right, eqb-true, false≢true, cases_Bool, both_ways, not-true, false_from_ne_true}
-use Rattle.caa_base.specs.declared.entry.Entry.{Entry}
-use Rattle.caa_base.specs.declared.entry.Kind.{Kind}
-use Rattle.caa_base.specs.declared.entry.Kind.TheVariants as kind
-use Rattle.caa_base.specs.declared.entry.Verdict.{Verdict}
-use Rattle.place_plan.specs.declared.draft_rows.Step.{Step}
-use Rattle.place_plan.specs.PlanValue.{Plan}
-use Rattle.caa_base.specs.Lists.{member}
-use Rattle.place_plan.specs.Places.{around, roles_of, plays_of}
-use Rattle.place_plan.specs.Entries.{has_by}
-use Rattle.place_plan.specs.Whereabouts.{inside}
-use Rattle.place_plan.specs.Raising.{is_raised, is_calm, is_hot}
-use Rattle.place_plan.specs.Roles.{advances, program_of, position, next_step, has_given, is_able, is_in_handler}
-use Rattle.place_plan.specs.Rules.{Row, SaysVerdict, final_verdict, verdict_due}
-use Rattle.place_plan.specs.Journals.{LegalPast}
+use Rattle.caa_base.specs.declared.written.entry.Entry.{Entry}
+use Rattle.caa_base.specs.declared.written.entry.Kind.{Kind}
+use Rattle.caa_base.specs.declared.written.entry.Kind.TheVariants as kind
+use Rattle.caa_base.specs.declared.written.entry.Verdict.{Verdict}
+use Rattle.place_plan.specs.declared.drafts.draft_rows.Step.{Step}
+use Rattle.place_plan.specs.Plans.PlanValue.{Plan}
+use Rattle.caa_base.specs.Written.Lists.{member}
+use Rattle.place_plan.specs.Plans.Places.{around, roles_of, plays_of}
+use Rattle.place_plan.specs.RulesOfJournals.Entries.{has_by}
+use Rattle.place_plan.specs.RulesOfJournals.Whereabouts.{inside}
+use Rattle.place_plan.specs.RulesOfJournals.Raising.{is_raised, is_calm, is_hot}
+use Rattle.place_plan.specs.RulesOfJournals.Roles.{advances, program_of, position, next_step, has_given, is_able, is_in_handler}
+use Rattle.place_plan.specs.RulesOfJournals.Rules.{Row, SaysVerdict, final_verdict, verdict_due}
+use Rattle.place_plan.specs.RulesOfJournals.Journals.{LegalPast}
 use Rattle.journal_laws.specs.Laws.{Holds}
 use Rattle.journal_laws.proofs.Playable.{IsTree, IsPlayable}
 use Rattle.journal_laws.proofs.Core.{Visits}
 use Rattle.caa_base.proofs.ListLemmas.{first_not_before}
-use Rattle.place_plan.proofs.PlaysRise.{plays_rise, in_plays}
-use Rattle.place_plan.proofs.EntryKinds.{of_kind, both_same}
+use Rattle.place_plan.proofs.OnPlans.PlaysRise.{plays_rise, in_plays}
+use Rattle.place_plan.proofs.OnJournals.EntryKinds.{of_kind, both_same}
 use Rattle.journal_laws.proofs.Tree.{in_within, arrives_in}
 use Rattle.journal_laws.proofs.Busy.{raised_stays}
 use Rattle.journal_laws.proofs.Phases.{not_hot}

@@ -1,21 +1,21 @@
 -- Where no participant has an entry and no place is live, all are over: a play that waits would start.
 use Rattle.std.proofs.Common.{◌≡◌, ℕ, ◌<◌, true, false, List, [], ◌∷◌, Some, None, Option, length, refl, sym, ap, ◌∙◌, subst, inl, inr}
 use Rattle.std.proofs.lemmas.Bool.{and_parts, or_left, eq-eqb, cases_order, false_from_ne_true, both_ways}
-use Rattle.caa_base.specs.declared.entry.Entry.{Entry}
-use Rattle.caa_base.specs.declared.entry.Kind.TheVariants as kind
-use Rattle.place_plan.specs.PlanValue.{Plan}
-use Rattle.caa_base.specs.Lists.{member, same_option, is_empty, first_of, first_not}
-use Rattle.place_plan.specs.Places.{around, parent, roles_of, objects_of, uses, plays_of}
-use Rattle.place_plan.specs.Entries.{has_by}
-use Rattle.place_plan.specs.Whereabouts.{inside, is_inside, all_are_inside, has_started, has_ended, is_live}
-use Rattle.place_plan.specs.Raising.{is_doomed}
-use Rattle.place_plan.specs.Objects.{holder_of, objects_are_ready}
-use Rattle.place_plan.specs.Roles.{next_play}
-use Rattle.place_plan.specs.Journals.{LegalPast, AllOver}
+use Rattle.caa_base.specs.declared.written.entry.Entry.{Entry}
+use Rattle.caa_base.specs.declared.written.entry.Kind.TheVariants as kind
+use Rattle.place_plan.specs.Plans.PlanValue.{Plan}
+use Rattle.caa_base.specs.Written.Lists.{member, same_option, is_empty, first_of, first_not}
+use Rattle.place_plan.specs.Plans.Places.{around, parent, roles_of, objects_of, uses, plays_of}
+use Rattle.place_plan.specs.RulesOfJournals.Entries.{has_by}
+use Rattle.place_plan.specs.RulesOfJournals.Whereabouts.{inside, is_inside, all_are_inside, has_started, has_ended, is_live}
+use Rattle.place_plan.specs.RulesOfJournals.Raising.{is_doomed}
+use Rattle.place_plan.specs.RulesOfJournals.Objects.{holder_of, objects_are_ready}
+use Rattle.place_plan.specs.RulesOfJournals.Roles.{next_play}
+use Rattle.place_plan.specs.RulesOfJournals.Journals.{LegalPast, AllOver}
 use Rattle.journal_laws.specs.Due.{due_of, due_at, due_inside, due_arrival}
 use Rattle.journal_laws.proofs.Playable.{IsPlayable}
 use Rattle.caa_base.proofs.ListLemmas.{all_from, same_at, first_not_fails, first_not_none, first_not_before}
-use Rattle.place_plan.proofs.PlaysRise.{in_plays}
+use Rattle.place_plan.proofs.OnPlans.PlaysRise.{in_plays}
 use Rattle.journal_laws.proofs.Lives.{live_from, going_live}
 use Rattle.journal_laws.proofs.Tree.{in_within}
 use Rattle.journal_laws.proofs.Innermost.{within_itself}

@@ -2,25 +2,25 @@
 use Rattle.std.proofs.Common.{◌≡◌, ℕ, ℤ, ◌==◌, ◌<◌, ◌≤◌, ◌+◌, Bool, true, false, not, cond, ◌&&◌, List, [], ◌∷◌, Option, Some, None, refl, ap, subst, subst₂, arith, suc, zero, length, inl, inr, slice_get, is_none}
 use Rattle.std.proofs.lemmas.Bool.{and_parts, and_from, or_parts, eq-eqb, false≢true, not-true, cases_Bool, both_ways}
 use Rattle.std.proofs.lemmas.Option.{slice_get_within}
-use Rattle.caa_base.specs.declared.entry.Entry.{Entry}
-use Rattle.caa_base.specs.declared.entry.Kind.{Kind}
-use Rattle.caa_base.specs.declared.entry.Kind.TheVariants as kind
-use Rattle.place_plan.specs.declared.draft_rows.Step.{Step}
-use Rattle.place_plan.specs.PlanValue.{Plan}
-use Rattle.caa_base.specs.Lists.{is_at, one_if}
-use Rattle.place_plan.specs.Places.{parent, action_at, body_of}
-use Rattle.place_plan.specs.Entries.{is_by}
-use Rattle.place_plan.specs.Whereabouts.{is_left_in_silence}
-use Rattle.place_plan.specs.Raising.{has_handled, exception_handled}
-use Rattle.place_plan.specs.Roles.{advances, position, program_in, program_of, next_step}
-use Rattle.place_plan.specs.Rules.{Row, MayLeave, is_check, put_of}
-use Rattle.place_plan.specs.Journals.{LegalPast}
-use Rattle.place_plan.specs.Bound.{longest_body, longest_handler}
+use Rattle.caa_base.specs.declared.written.entry.Entry.{Entry}
+use Rattle.caa_base.specs.declared.written.entry.Kind.{Kind}
+use Rattle.caa_base.specs.declared.written.entry.Kind.TheVariants as kind
+use Rattle.place_plan.specs.declared.drafts.draft_rows.Step.{Step}
+use Rattle.place_plan.specs.Plans.PlanValue.{Plan}
+use Rattle.caa_base.specs.Written.Lists.{is_at, one_if}
+use Rattle.place_plan.specs.Plans.Places.{parent, action_at, body_of}
+use Rattle.place_plan.specs.RulesOfJournals.Entries.{is_by}
+use Rattle.place_plan.specs.RulesOfJournals.Whereabouts.{is_left_in_silence}
+use Rattle.place_plan.specs.RulesOfJournals.Raising.{has_handled, exception_handled}
+use Rattle.place_plan.specs.RulesOfJournals.Roles.{advances, position, program_in, program_of, next_step}
+use Rattle.place_plan.specs.RulesOfJournals.Rules.{Row, MayLeave, is_check, put_of}
+use Rattle.place_plan.specs.RulesOfJournals.Journals.{LegalPast}
+use Rattle.place_plan.specs.Plans.Bound.{longest_body, longest_handler}
 use Rattle.journal_laws.specs.Laws.{Holds}
 use Rattle.journal_laws.proofs.Playable.{IsPlayable}
 use Rattle.journal_laws.proofs.Core.{Core}
 use Rattle.caa_base.proofs.ListLemmas.{at_same}
-use Rattle.place_plan.proofs.EntryKinds.{of_kind, both_same}
+use Rattle.place_plan.proofs.OnJournals.EntryKinds.{of_kind, both_same}
 use Rattle.journal_laws.proofs.Newest.{stands_newest, newest_none}
 use Rattle.journal_laws.proofs.Raised.{parent_round}
 use Rattle.journal_laws.proofs.Arrivals.{inside_arrived, inside_not_left}

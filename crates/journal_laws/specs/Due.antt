@@ -2,23 +2,23 @@
 use Rattle.std.specs.Prelude.{◌≡◌, ℕ, ℤ, pos, ◌+ℤ◌, Bool, true, not, ◌&&◌, ◌||◌, if◌then◌else◌, List, [], ◌∷◌, Option, Some, None, is_none}
 use Rattle.std.specs.List.{list_all, range_with_len}
 use Rattle.cover_table.specs.Cover.{CoverOrder, covers, covers_each}
-use Rattle.caa_base.specs.Mixing.{mix}
-use Rattle.caa_base.specs.declared.entry.Entry.{Entry}
-use Rattle.caa_base.specs.declared.entry.Kind.{Kind}
-use Rattle.caa_base.specs.declared.entry.Kind.TheVariants as kind
-use Rattle.caa_base.specs.declared.entry.Verdict.{Verdict}
-use Rattle.caa_base.specs.declared.entry.Verdict.TheVariants as verdict
-use Rattle.place_plan.specs.declared.draft_rows.Step.{Step}
-use Rattle.place_plan.specs.declared.draft_rows.Step.TheVariants as step
-use Rattle.place_plan.specs.PlanValue.{Plan}
-use Rattle.caa_base.specs.Lists.{first_not, same_option}
-use Rattle.place_plan.specs.Places.{roles_of, internal_of, interface_of, handler_of, abort_row}
-use Rattle.place_plan.specs.Whereabouts.{inside, all_are_inside, has_started, has_ended, is_undoing}
-use Rattle.place_plan.specs.Raising.{has_handled, exceptions_raised, is_raised, is_doomed, is_halted, all_are_halted, exception_resolved}
-use Rattle.place_plan.specs.Objects.{holder_of, objects_are_ready, value_of, before_start, next_restore}
-use Rattle.place_plan.specs.Roles.{register, program_of, next_step, next_raise, has_given, all_have_given, wants_undo, signals, has_aborted, all_have_aborted, next_play, is_over}
-use Rattle.place_plan.specs.Rules.{MayFollow, place_entered, clamped, breaks_off, abort_of, undone_mark, exception_carried}
-use Rattle.place_plan.specs.Journals.{HasNoEntry, is_put}
+use Rattle.caa_base.specs.Written.Mixing.{mix}
+use Rattle.caa_base.specs.declared.written.entry.Entry.{Entry}
+use Rattle.caa_base.specs.declared.written.entry.Kind.{Kind}
+use Rattle.caa_base.specs.declared.written.entry.Kind.TheVariants as kind
+use Rattle.caa_base.specs.declared.written.entry.Verdict.{Verdict}
+use Rattle.caa_base.specs.declared.written.entry.Verdict.TheVariants as verdict
+use Rattle.place_plan.specs.declared.drafts.draft_rows.Step.{Step}
+use Rattle.place_plan.specs.declared.drafts.draft_rows.Step.TheVariants as step
+use Rattle.place_plan.specs.Plans.PlanValue.{Plan}
+use Rattle.caa_base.specs.Written.Lists.{first_not, same_option}
+use Rattle.place_plan.specs.Plans.Places.{roles_of, internal_of, interface_of, handler_of, abort_row}
+use Rattle.place_plan.specs.RulesOfJournals.Whereabouts.{inside, all_are_inside, has_started, has_ended, is_undoing}
+use Rattle.place_plan.specs.RulesOfJournals.Raising.{has_handled, exceptions_raised, is_raised, is_doomed, is_halted, all_are_halted, exception_resolved}
+use Rattle.place_plan.specs.RulesOfJournals.Objects.{holder_of, objects_are_ready, value_of, before_start, next_restore}
+use Rattle.place_plan.specs.RulesOfJournals.Roles.{register, program_of, next_step, next_raise, has_given, all_have_given, wants_undo, signals, has_aborted, all_have_aborted, next_play, is_over}
+use Rattle.place_plan.specs.RulesOfJournals.Rules.{MayFollow, place_entered, clamped, breaks_off, abort_of, undone_mark, exception_carried}
+use Rattle.place_plan.specs.RulesOfJournals.Journals.{HasNoEntry, is_put}
 use Rattle.journal_laws.specs.Laws.{as_taken}
 
 -- ---- what an entry says

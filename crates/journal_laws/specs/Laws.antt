@@ -2,19 +2,19 @@
 use Rattle.std.specs.Prelude.{◌≡◌, ℕ, ℤ, ◌==◌, ◌+◌, ◌<◌, ◌≤◌, ◌⊎◌, ◌↔◌, Bool, true, false, ◌&&◌, ◌||◌, if◌then◌else◌, List, [], ◌∷◌, ◌++◌, length, count_by, Option, Some, None, is_none, suc}
 use Rattle.std.specs.List.{list_any, list_all}
 use Rattle.cover_table.specs.Cover.{IsLeastCover}
-use Rattle.caa_base.specs.declared.entry.Entry.{Entry}
-use Rattle.caa_base.specs.declared.entry.Kind.{Kind}
-use Rattle.caa_base.specs.declared.entry.Kind.TheVariants as kind
-use Rattle.place_plan.specs.PlanValue.{Plan}
-use Rattle.caa_base.specs.Lists.{member}
-use Rattle.place_plan.specs.Places.{around, parent, is_within, roles_of, uses, initial_of, internal_of, handler_of}
-use Rattle.place_plan.specs.Entries.{is_of, is_in, is_by, has, has_by, newest}
-use Rattle.place_plan.specs.Whereabouts.{inside, stays, is_live, has_ended, has_started}
-use Rattle.place_plan.specs.Raising.{exceptions_raised, is_raised, exception_resolved}
-use Rattle.place_plan.specs.Objects.{holder_of, value_of, writes, has_failed}
-use Rattle.place_plan.specs.Rules.{MayFollow}
-use Rattle.place_plan.specs.Journals.{LegalPast, AllOver, is_put, plays_ended, committed_value}
-use Rattle.place_plan.specs.Bound.{bound}
+use Rattle.caa_base.specs.declared.written.entry.Entry.{Entry}
+use Rattle.caa_base.specs.declared.written.entry.Kind.{Kind}
+use Rattle.caa_base.specs.declared.written.entry.Kind.TheVariants as kind
+use Rattle.place_plan.specs.Plans.PlanValue.{Plan}
+use Rattle.caa_base.specs.Written.Lists.{member}
+use Rattle.place_plan.specs.Plans.Places.{around, parent, is_within, roles_of, uses, initial_of, internal_of, handler_of}
+use Rattle.place_plan.specs.RulesOfJournals.Entries.{is_of, is_in, is_by, has, has_by, newest}
+use Rattle.place_plan.specs.RulesOfJournals.Whereabouts.{inside, stays, is_live, has_ended, has_started}
+use Rattle.place_plan.specs.RulesOfJournals.Raising.{exceptions_raised, is_raised, exception_resolved}
+use Rattle.place_plan.specs.RulesOfJournals.Objects.{holder_of, value_of, writes, has_failed}
+use Rattle.place_plan.specs.RulesOfJournals.Rules.{MayFollow}
+use Rattle.place_plan.specs.RulesOfJournals.Journals.{LegalPast, AllOver, is_put, plays_ended, committed_value}
+use Rattle.place_plan.specs.Plans.Bound.{bound}
 
 -- what a law says holds of every legal journal of the plan
 abbrev pub Holds : (Plan → List Entry → Type 0) → Plan → Type 0

@@ -3,9 +3,9 @@
 
 ghost use Rattle.journal_laws.specs.Laws.{Holds, AtMostOne, GoesOn, IsBounded, InsideIsInnermost, HolderIsInnermost, DeviceLaw, CommitLaw, KeepsLaws};
 ghost use Rattle.journal_laws.specs.Due.{DueIsRight};
-ghost use Rattle.place_plan.specs.WellFormed.{AllWellFormed};
+ghost use Rattle.place_plan.specs.RulesOfJournals.WellFormed.{AllWellFormed};
 
-use place_plan::plan::Plan;
+use place_plan::plans::plan::Plan;
 
 /// The entry that is computed for a participant is the one that may follow.
 pub fn due_is_right(plan: &Plan)

@@ -1,15 +1,15 @@
 ghost use Rattle.std.specs.Prelude.{◌≡◌, ◌↔◌, reverse, IsTrue};
-ghost use Rattle.place_plan.specs.Rules.{MayFollow};
-ghost use Rattle.place_plan.specs.Journals.{LegalPast, AllOver};
+ghost use Rattle.place_plan.specs.RulesOfJournals.Rules.{MayFollow};
+ghost use Rattle.place_plan.specs.RulesOfJournals.Journals.{LegalPast, AllOver};
 ghost use Rattle.journal_replay.specs.IsDue.{IsRefusalOf};
 ghost use Rattle.journal_replay.specs.Audited.{Audited};
 
 use crate::look_back::places::is_over;
 use crate::rule::{asks_device, entry_due, refused};
-use caa_base::entry::Entry;
-use caa_base::journal::Journal;
+use caa_base::written::entry::Entry;
+use caa_base::written::journal::Journal;
 use journal_laws::due_is_right;
-use place_plan::plan::Plan;
+use place_plan::plans::plan::Plan;
 use thiserror::Error;
 
 /// A journal isn't legal and complete.

@@ -1,13 +1,13 @@
 ghost use Rattle.std.specs.Prelude.{◌≡◌, ◌<◌, ◌≤◌, ◌+◌, ◌-◌, ◌^◌, ◌∷◌, ◌++◌, [], length, reverse, true, false, is_some, IfOk, IfErr, IfSome, OnOk, OnErr, IsTrue, ◌↔◌, ◌⊎◌, if◌then◌else◌};
-ghost use Rattle.caa_base.specs.Counts.{CountsFault};
-ghost use Rattle.place_plan.specs.Bound.{bound};
-ghost use Rattle.place_plan.specs.Rules.{MayFollow};
-ghost use Rattle.place_plan.specs.Journals.{LegalPast, IsLegal, is_fault, faults_in};
-ghost use Rattle.place_plan.specs.Machine.{Answers, made_fault};
-ghost use Rattle.place_plan.specs.Attempts.{is_attempt};
-ghost use Rattle.place_plan.proofs.LegalProp.{LegalPast-prop};
+ghost use Rattle.caa_base.specs.Outside.Counts.{CountsFault};
+ghost use Rattle.place_plan.specs.Plans.Bound.{bound};
+ghost use Rattle.place_plan.specs.RulesOfJournals.Rules.{MayFollow};
+ghost use Rattle.place_plan.specs.RulesOfJournals.Journals.{LegalPast, IsLegal, is_fault, faults_in};
+ghost use Rattle.place_plan.specs.RulesOfJournals.Machine.{Answers, made_fault};
+ghost use Rattle.place_plan.specs.RulesOfJournals.Attempts.{is_attempt};
+ghost use Rattle.place_plan.proofs.OnJournals.LegalProp.{LegalPast-prop};
 ghost use Rattle.journal_replay.specs.Device.{FitsJournal, HasValues, HasDrills, attempts_in};
-ghost use Rattle.caa_base.specs.PlantState.{is_refused, is_drilled, after_put, after_try};
+ghost use Rattle.caa_base.specs.Outside.PlantState.{is_refused, is_drilled, after_put, after_try};
 ghost use Rattle.journal_replay.specs.Opening.{is_plant_fault};
 ghost use Rattle.std.proofs.Math.Nat.{le_of_eq};
 ghost use Rattle.std.proofs.Common.{sym};
@@ -18,14 +18,14 @@ use crate::answer::Due;
 use crate::audit::all_are_over;
 use crate::duty::{Turn, Work};
 use crate::rule::turn;
-use caa_base::entry::{Drill, Entry, Failed, Object, OutOfMemory, Participant};
-use caa_base::journal::Journal;
-use caa_base::plant::{Plant, PlantError};
-use caa_base::work::WorkDone;
+use caa_base::written::entry::{Drill, Entry, Failed, Object, OutOfMemory, Participant};
+use caa_base::written::journal::Journal;
+use caa_base::outside::plant::{Plant, PlantError};
+use caa_base::written::work::WorkDone;
 use journal_laws::{is_bounded, is_well_formed, last_put_is_value};
-use place_plan::machine::{Answer, Machine};
-use place_plan::plan::Plan;
-use place_plan::value::value_at;
+use place_plan::rules::machine::{Answer, Machine};
+use place_plan::plans::plan::Plan;
+use place_plan::rules::value::value_at;
 use std::alloc::Global;
 use thiserror::Error;
 
@@ -41,7 +41,7 @@ pub enum OpenCause {
 }
 
 impl From<PlantError> for OpenCause {
-    ghost use Rattle.caa_base.specs.declared.plant.PlantError.{PlantError};
+    ghost use Rattle.caa_base.specs.declared.outside.plant.PlantError.{PlantError};
     ghost use Rattle.journal_replay.specs.Opening.{cause_of};
 
     ghost from_gives = { λ error cause. cause ≡ cause_of error };

@@ -1,13 +1,13 @@
 ghost use Rattle.std.specs.Prelude.{◌≡◌, ◌<◌, ◌+ℤ◌, true, false, not, is_none, length, reverse, Some, None};
-ghost use Rattle.caa_base.specs.declared.entry.Kind.TheVariants as kind;
-ghost use Rattle.caa_base.specs.Limits.{IsValue};
-ghost use Rattle.place_plan.specs.Places.{roles_of, handler_of, abort_row};
-ghost use Rattle.place_plan.specs.Entries.{is_of, is_by, newest};
-ghost use Rattle.place_plan.specs.Raising.{is_raised, exception_resolved};
-ghost use Rattle.place_plan.specs.Objects.{next_restore};
-ghost use Rattle.place_plan.specs.Roles.{register, program_of, next_step, signals};
-ghost use Rattle.place_plan.specs.Rules.{clamped, abort_of, undone_mark, abort_mapped, exception_carried};
-ghost use Rattle.place_plan.specs.Journals.{LegalPast, IsLegal, is_put};
+ghost use Rattle.caa_base.specs.declared.written.entry.Kind.TheVariants as kind;
+ghost use Rattle.caa_base.specs.Written.Limits.{IsValue};
+ghost use Rattle.place_plan.specs.Plans.Places.{roles_of, handler_of, abort_row};
+ghost use Rattle.place_plan.specs.RulesOfJournals.Entries.{is_of, is_by, newest};
+ghost use Rattle.place_plan.specs.RulesOfJournals.Raising.{is_raised, exception_resolved};
+ghost use Rattle.place_plan.specs.RulesOfJournals.Objects.{next_restore};
+ghost use Rattle.place_plan.specs.RulesOfJournals.Roles.{register, program_of, next_step, signals};
+ghost use Rattle.place_plan.specs.RulesOfJournals.Rules.{clamped, abort_of, undone_mark, abort_mapped, exception_carried};
+ghost use Rattle.place_plan.specs.RulesOfJournals.Journals.{LegalPast, IsLegal, is_put};
 ghost use Rattle.journal_laws.specs.Due.{says, plainly, marked, naming, verdict_entry, due_waiting, due_restore, due_doomed, due_end, due_agreed, due_held, due_step, due_forward, due_handler, due_resolved, due_resolve, due_halted, due_hot, due_calm, due_inside, due_of, as_refused};
 ghost use Rattle.journal_replay.specs.IsDue.{IsDue};
 ghost use Rattle.journal_replay.specs.Duty.{entry_in, IsUnmixed, MixesRight, IsTurn};
@@ -30,13 +30,13 @@ use crate::look_back::verdicts::{
     all_have_aborted, all_have_given, has_aborted, has_given_after, has_said, least_signalled,
     wants_undo, was_refused_in_handler,
 };
-use caa_base::entry::{Entry, Exception, Kind, Object, Participant, Place, Verdict};
-use caa_base::journal::Journal;
-use caa_base::limits::MOST_VALUE;
+use caa_base::written::entry::{Entry, Exception, Kind, Object, Participant, Place, Verdict};
+use caa_base::written::journal::Journal;
+use caa_base::written::limits::MOST_VALUE;
 use journal_laws::{due_is_right, is_well_formed};
-use place_plan::draft_rows::{AbortRow, Step};
-use place_plan::plan::Plan;
-use place_plan::value::value_at;
+use place_plan::drafts::draft_rows::{AbortRow, Step};
+use place_plan::plans::plan::Plan;
+use place_plan::rules::value::value_at;
 
 // ---- what an entry says
 

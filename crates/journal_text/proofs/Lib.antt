@@ -1,13 +1,2 @@
-pub mod Fronts
-pub mod TextLemmas
-pub mod LooksLemmas
-pub mod ValueLemmas
-pub mod WordLemmas
-pub mod NamingLemmas
-pub mod WellNamed
-pub mod EntryLines
-pub mod ReadingLemmas
-pub mod BadLines
-pub mod CommittedFits
-pub mod CommittedLemmas
-pub mod RightLooks
+pub mod OnTexts
+pub mod OnLooks

@@ -1,9 +1,2 @@
-pub mod Looks
-pub mod Naming
-pub mod Text
-pub mod KnownValues
-pub mod CommittedValues
-pub mod Words
-pub mod TextOfJournal
-pub mod TextSteps
-pub mod Right
+pub mod Texts
+pub mod Watching

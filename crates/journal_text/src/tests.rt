@@ -1,16 +1,16 @@
 ghost use Rattle.std.specs.Prelude.{◌≡◌, true, IfOk};
-ghost use Rattle.place_plan.specs.WellFormed.{AllWellFormed};
-ghost use Rattle.journal_text.specs.Naming.{is_well_named};
+ghost use Rattle.place_plan.specs.RulesOfJournals.WellFormed.{AllWellFormed};
+ghost use Rattle.journal_text.specs.Texts.Naming.{is_well_named};
 
-use crate::naming::is_well_named;
-use crate::right::first_wrong;
-use crate::seens::Seens;
-use crate::text_reader::{TextError, read};
-use crate::text_writer::write;
-use caa_base::entry::{Entry, Kind, Participant};
-use caa_base::journal::Journal;
-use place_plan::plan::Plan;
-use place_plan::well_formed::is_well_formed;
+use crate::texts::naming::is_well_named;
+use crate::looks::right::first_wrong;
+use crate::looks::seens::Seens;
+use crate::texts::text_reader::{TextError, read};
+use crate::texts::text_writer::write;
+use caa_base::written::entry::{Entry, Kind, Participant};
+use caa_base::written::journal::Journal;
+use place_plan::plans::plan::Plan;
+use place_plan::rules::well_formed::is_well_formed;
 use std::alloc::Global;
 use std::process::Abort;
 use std::test::Fail;

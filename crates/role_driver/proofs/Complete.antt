@@ -9,14 +9,14 @@ use Rattle.std.proofs.lemmas.List.FromFn.{length-range_with_len}
 use mathlib.Core.List.{IsPrefix}
 use Rattle.action_manager.specs.declared.manager.Manager.{Manager}
 use Rattle.action_manager.specs.Managers.{plan_in, IsSeatIn}
-use Rattle.caa_base.specs.declared.entry.Entry.{Entry}
-use Rattle.caa_base.specs.declared.entry.Kind.TheVariants as kind
-use Rattle.place_plan.specs.PlanValue.{Plan}
-use Rattle.caa_base.specs.Lists.{last_of}
-use Rattle.place_plan.specs.Places.{plays_of}
-use Rattle.place_plan.specs.Entries.{is_by}
-use Rattle.place_plan.specs.Roles.{is_over, is_over_after}
-use Rattle.place_plan.specs.Journals.{IsComplete}
+use Rattle.caa_base.specs.declared.written.entry.Entry.{Entry}
+use Rattle.caa_base.specs.declared.written.entry.Kind.TheVariants as kind
+use Rattle.place_plan.specs.Plans.PlanValue.{Plan}
+use Rattle.caa_base.specs.Written.Lists.{last_of}
+use Rattle.place_plan.specs.Plans.Places.{plays_of}
+use Rattle.place_plan.specs.RulesOfJournals.Entries.{is_by}
+use Rattle.place_plan.specs.RulesOfJournals.Roles.{is_over, is_over_after}
+use Rattle.place_plan.specs.RulesOfJournals.Journals.{IsComplete}
 use Rattle.action_manager.specs.declared.seat.Seat.{Seat}
 use Rattle.action_manager.specs.Seats.{has_seat, HaveAll, Accounts, participant_of, seen_by}
 use Rattle.role_driver.specs.Crew.{IsDone, IsMember, who_of}

@@ -3,10 +3,10 @@ use Rattle.std.proofs.Common.{◌≡◌, ℕ, ◌+◌, ◌-◌, ◌*◌, ◌%◌
 use Rattle.std.proofs.lemmas.Bool.{cases_lt}
 use Rattle.std.proofs.lemmas.Nat.{mod-mul-add}
 use Rattle.std.proofs.Math.Nat.{mod-lt, mod-add-div'}
-use Rattle.caa_base.specs.declared.entry.Entry.{Entry}
-use Rattle.place_plan.specs.PlanValue.{Plan}
+use Rattle.caa_base.specs.declared.written.entry.Entry.{Entry}
+use Rattle.place_plan.specs.Plans.PlanValue.{Plan}
 use Rattle.journal_laws.specs.Laws.{HasEntry}
-use Rattle.place_plan.specs.Journals.{HasNoEntry}
+use Rattle.place_plan.specs.RulesOfJournals.Journals.{HasNoEntry}
 use Rattle.role_driver.specs.Schedule.{participant_asked}
 
 -- from any number, going round n, one comes to each number below n

@@ -1,13 +1,13 @@
 -- After its work is done, a participant makes its entry.
 use Rattle.std.proofs.Common.{◌≡◌, ℕ, ℤ, List, refl, reverse, sym, ap, ◌∙◌, subst, Some, None}
-use Rattle.caa_base.specs.Mixing.{Worked}
-use Rattle.caa_base.specs.declared.entry.Entry.{Entry}
-use Rattle.place_plan.specs.PlanValue.{Plan}
-use Rattle.place_plan.specs.Roles.{register}
-use Rattle.place_plan.specs.Rules.{MayFollow}
-use Rattle.place_plan.specs.Machine.{Answers, work_entry}
-use Rattle.place_plan.specs.declared.machine.Answer.{Answer}
-use Rattle.place_plan.specs.declared.machine.Answer.TheVariants as answer
+use Rattle.caa_base.specs.Written.Mixing.{Worked}
+use Rattle.caa_base.specs.declared.written.entry.Entry.{Entry}
+use Rattle.place_plan.specs.Plans.PlanValue.{Plan}
+use Rattle.place_plan.specs.RulesOfJournals.Roles.{register}
+use Rattle.place_plan.specs.RulesOfJournals.Rules.{MayFollow}
+use Rattle.place_plan.specs.RulesOfJournals.Machine.{Answers, work_entry}
+use Rattle.place_plan.specs.declared.rules.machine.Answer.{Answer}
+use Rattle.place_plan.specs.declared.rules.machine.Answer.TheVariants as answer
 use Rattle.journal_laws.specs.Laws.{AtMostOne}
 
 -- the work that is due is of one place, and of so many rounds

@@ -2,8 +2,8 @@
 use Rattle.std.proofs.Common.{◌≡◌, ℕ, ◌+◌, ◌<◌, ◌≤◌, nat_lt, Bool, true, cond, List, [], ◌∷◌, ◌++◌, filter, length, map, take, drop, get_or, All, sym, ap, ◌∙◌, subst, arith, append_assoc}
 use Rattle.std.proofs.lemmas.List.{take-append-drop, take_all, length-append, length-map}
 use Rattle.std.proofs.lemmas.List.Elements.{All-head, All-tail, filter-append, filter_more}
-use Rattle.journal_text.specs.declared.seens.Seen.{Seen}
-use Rattle.journal_text.specs.Looks.{last_watch}
+use Rattle.journal_text.specs.declared.looks.seens.Seen.{Seen}
+use Rattle.journal_text.specs.Watching.Looks.{last_watch}
 use Rattle.shared_views.specs.declared.observed.Reading.{Reading}
 use Rattle.role_driver.specs.Gathering.{with_last, look_of}
 

@@ -11,12 +11,12 @@ use Rattle.std.proofs.lemmas.Bool.Decides.{nat_tests, Decides-int_eq}
 use Rattle.std.proofs.lemmas.List.{take-append-le, length-map, get_or-map}
 use Rattle.std.proofs.lemmas.List.Folds.{list_all-append}
 use Rattle.std.proofs.lemmas.List.Elements.{All-nil, All-cons}
-use Rattle.caa_base.specs.declared.entry.Entry.{Entry}
-use Rattle.place_plan.specs.PlanValue.{Plan}
-use Rattle.place_plan.specs.DraftRules.{is_rising_above, all_below}
-use Rattle.place_plan.specs.Places.{initials_of}
-use Rattle.place_plan.specs.Journals.{committed_value}
-use Rattle.place_plan.proofs.DraftKeeps.{few_objects}
+use Rattle.caa_base.specs.declared.written.entry.Entry.{Entry}
+use Rattle.place_plan.specs.Plans.PlanValue.{Plan}
+use Rattle.place_plan.specs.Drafts.DraftRules.{is_rising_above, all_below}
+use Rattle.place_plan.specs.Plans.Places.{initials_of}
+use Rattle.place_plan.specs.RulesOfJournals.Journals.{committed_value}
+use Rattle.place_plan.proofs.OnDrafts.DraftKeeps.{few_objects}
 use Rattle.journal_laws.specs.Laws.{CommitLaw}
 use Rattle.shared_views.specs.Publications.{Known, Begins, value_after}
 use Rattle.shared_views.specs.Committing.{Committed, Watching, IsReading, WasRead}

@@ -6,14 +6,14 @@ use Rattle.std.proofs.lemmas.Bool.Decides.{nat_tests}
 use Rattle.std.proofs.lemmas.List.{length-append, length-map}
 use Rattle.std.proofs.lemmas.List.Elements.{All-append, All-nil, All-cons, All-head, All-tail, All-weaker}
 use Rattle.std.proofs.Math.Nat.{suc-mul}
-use Rattle.caa_base.specs.declared.entry.Entry.{Entry}
-use Rattle.place_plan.specs.PlanValue.{Plan}
-use Rattle.place_plan.specs.DraftRules.{is_rising_above}
-use Rattle.place_plan.specs.Journals.{committed_value}
-use Rattle.journal_text.specs.declared.seens.Seen.{Seen}
-use Rattle.journal_text.specs.Looks.{last_watch}
-use Rattle.journal_text.specs.Text.{watched_object}
-use Rattle.journal_text.specs.Right.{is_committed, follows, is_followed, is_whole, next_seen, first_wrong_from}
+use Rattle.caa_base.specs.declared.written.entry.Entry.{Entry}
+use Rattle.place_plan.specs.Plans.PlanValue.{Plan}
+use Rattle.place_plan.specs.Drafts.DraftRules.{is_rising_above}
+use Rattle.place_plan.specs.RulesOfJournals.Journals.{committed_value}
+use Rattle.journal_text.specs.declared.looks.seens.Seen.{Seen}
+use Rattle.journal_text.specs.Watching.Looks.{last_watch}
+use Rattle.journal_text.specs.Texts.Text.{watched_object}
+use Rattle.journal_text.specs.Watching.Right.{is_committed, follows, is_followed, is_whole, next_seen, first_wrong_from}
 use Rattle.shared_views.specs.declared.observed.Reading.{Reading}
 use Rattle.role_driver.specs.Records.{ends_rise}
 use Rattle.role_driver.specs.Gathering.{look_of, IsBefore, AreRightSoFar}

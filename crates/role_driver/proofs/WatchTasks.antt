@@ -4,12 +4,12 @@ use Rattle.std.specs.List.{list_all}
 use Rattle.std.proofs.lemmas.Bool.{and_parts, ltb-true}
 use Rattle.std.proofs.lemmas.List.{length-map}
 use Rattle.std.proofs.lemmas.List.Elements.{All-nil, All-cons}
-use Rattle.place_plan.specs.declared.draft.Draft.{Draft}
-use Rattle.place_plan.specs.PlanValue.{Plan}
-use Rattle.place_plan.specs.Closed.{IsClosed}
-use Rattle.place_plan.specs.DraftRules.{all_below, action_in_range, play_in_range, drill_in_range, range_rule}
-use Rattle.place_plan.proofs.DraftKeeps.{keeps_rules}
-use Rattle.caa_base.specs.Limits.{is_value}
+use Rattle.place_plan.specs.declared.drafts.draft.Draft.{Draft}
+use Rattle.place_plan.specs.Plans.PlanValue.{Plan}
+use Rattle.place_plan.specs.Plans.Closed.{IsClosed}
+use Rattle.place_plan.specs.Drafts.DraftRules.{all_below, action_in_range, play_in_range, drill_in_range, range_rule}
+use Rattle.place_plan.proofs.OnDrafts.DraftKeeps.{keeps_rules}
+use Rattle.caa_base.specs.Written.Limits.{is_value}
 use Rattle.shared_views.specs.Committing.{Committed, Watching}
 use Rattle.role_driver.specs.declared.watch_room.Blank.{Blank}
 use Rattle.role_driver.specs.WatchRooms.{task_with}

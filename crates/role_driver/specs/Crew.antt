@@ -1,6 +1,6 @@
 -- Seats that are driven to their end, and the threads that drive them.
 use Rattle.std.specs.Prelude.{◌≡◌, ℕ, true, reverse, Result, Ok, Err}
-use Rattle.place_plan.specs.Roles.{is_over}
+use Rattle.place_plan.specs.RulesOfJournals.Roles.{is_over}
 use Rattle.action_manager.specs.Managers.{plan_in, IsSeatIn}
 use Rattle.action_manager.specs.Seats.{participant_of, seen_by}
 use Rattle.action_manager.specs.declared.manager.Manager.{Manager}

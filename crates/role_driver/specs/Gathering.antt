@@ -1,13 +1,13 @@
 -- The looks of all watches, once all that was committed is published.
 use Rattle.std.specs.Prelude.{◌≡◌, ◌<◌, ◌≤◌, ◌*◌, ℕ, nat_lt, List, [], ◌∷◌, ◌++◌, filter, length, suc, Option, Some, None}
 use Rattle.std.specs.List.{All}
-use Rattle.caa_base.specs.declared.entry.Entry.{Entry}
-use Rattle.place_plan.specs.PlanValue.{Plan}
-use Rattle.place_plan.specs.Places.{initials_of}
-use Rattle.place_plan.specs.Journals.{LegalPast, AllOver}
-use Rattle.journal_text.specs.declared.seens.Seen.{Seen}
-use Rattle.journal_text.specs.Looks.{last_watch}
-use Rattle.journal_text.specs.Right.{first_wrong_from}
+use Rattle.caa_base.specs.declared.written.entry.Entry.{Entry}
+use Rattle.place_plan.specs.Plans.PlanValue.{Plan}
+use Rattle.place_plan.specs.Plans.Places.{initials_of}
+use Rattle.place_plan.specs.RulesOfJournals.Journals.{LegalPast, AllOver}
+use Rattle.journal_text.specs.declared.looks.seens.Seen.{Seen}
+use Rattle.journal_text.specs.Watching.Looks.{last_watch}
+use Rattle.journal_text.specs.Watching.Right.{first_wrong_from}
 use Rattle.shared_views.specs.Committing.{Committed}
 use Rattle.shared_views.specs.declared.observed.Reading.{Reading}
 use Rattle.action_manager.specs.Publishing.{publications_of}

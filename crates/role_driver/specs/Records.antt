@@ -2,8 +2,8 @@
 use Rattle.std.specs.Prelude.{ℕ, ℤ, ◌-◌, nat_le, nat_lt, Bool, ◌&&◌, ◌||◌, List, length, map, take, slice_index_or}
 use Rattle.std.specs.List.{list_all}
 use Rattle.std.specs.Ordering.{int_eq}
-use Rattle.caa_base.specs.Lists.{is_empty}
-use Rattle.place_plan.specs.DraftRules.{is_rising}
+use Rattle.caa_base.specs.Written.Lists.{is_empty}
+use Rattle.place_plan.specs.Drafts.DraftRules.{is_rising}
 use Rattle.shared_views.specs.Publications.{Known, value_after}
 use Rattle.shared_views.specs.declared.observed.Reading.{Reading}
 

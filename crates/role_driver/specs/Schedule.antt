@@ -1,10 +1,10 @@
 -- Who makes the next entry, where one participant after another is asked.
 use Rattle.std.specs.Prelude.{◌≡◌, ℕ, ◌+◌, ◌/◌, ◌%◌, ◌<◌, List, [], ◌∷◌, ◌++◌, length, reverse, suc}
-use Rattle.caa_base.specs.Mixing.{state_after}
-use Rattle.caa_base.specs.declared.entry.Entry.{Entry}
-use Rattle.place_plan.specs.PlanValue.{Plan}
-use Rattle.place_plan.specs.Rules.{MayFollow}
-use Rattle.place_plan.specs.Journals.{HasNoEntry}
+use Rattle.caa_base.specs.Written.Mixing.{state_after}
+use Rattle.caa_base.specs.declared.written.entry.Entry.{Entry}
+use Rattle.place_plan.specs.Plans.PlanValue.{Plan}
+use Rattle.place_plan.specs.RulesOfJournals.Rules.{MayFollow}
+use Rattle.place_plan.specs.RulesOfJournals.Journals.{HasNoEntry}
 
 -- ---- one turn
 

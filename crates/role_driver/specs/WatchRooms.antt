@@ -1,6 +1,6 @@
 -- What is made ready for the watchers before anything is played.
 use Rattle.std.specs.Prelude.{◌≡◌, ◌*◌, ℕ, [], length, map, suc, vec_capacity}
-use Rattle.place_plan.specs.PlanValue.{Plan}
+use Rattle.place_plan.specs.Plans.PlanValue.{Plan}
 use Rattle.shared_views.specs.Committing.{Watching}
 use Rattle.action_manager.specs.declared.manager.Manager.{Manager}
 use Rattle.action_manager.specs.Managers.{plan_in, book_in}

@@ -1,7 +1,7 @@
 ghost use Rattle.std.specs.Prelude.{◌≡◌, [], length, map, reverse, All, vec_capacity};
 ghost use Rattle.std.specs.List.{range_with_len};
 ghost use mathlib.Core.List.{IsPrefix};
-ghost use Rattle.place_plan.specs.Journals.{IsLegal, IsComplete};
+ghost use Rattle.place_plan.specs.RulesOfJournals.Journals.{IsLegal, IsComplete};
 ghost use Rattle.action_manager.specs.Publishing.{Publishes};
 ghost use Rattle.action_manager.specs.Managers.{plan_in, handed_in, book_in, IsSeatIn};
 ghost use Rattle.action_manager.specs.Seats.{participant_of};
@@ -9,8 +9,8 @@ ghost use Rattle.role_driver.specs.Crew.{IsDone};
 
 use crate::driving::drive;
 use action_manager::{Closed, Manager, Seat};
-use caa_base::gate::Gate;
-use place_plan::machine::Machine;
+use caa_base::outside::gate::Gate;
+use place_plan::rules::machine::Machine;
 use std::sync::Wait;
 
 /// Drives each seat to its end, one after another.

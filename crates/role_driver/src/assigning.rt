@@ -5,7 +5,7 @@ ghost use Rattle.role_driver.specs.WatchRooms.{task_with, observer_of};
 use crate::watch_room::Blank;
 use crate::watcher::Watcher;
 use action_manager::Manager;
-use place_plan::machine::Machine;
+use place_plan::rules::machine::Machine;
 use shared_views::Observer;
 
 /// A watcher for each blank, by the manager's observers.

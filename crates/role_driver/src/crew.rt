@@ -5,10 +5,10 @@ ghost use Rattle.action_manager.specs.Seats.{participant_of, IsBeside};
 
 use crate::driving::{drive, step_and_ask};
 use action_manager::{Manager, Seat};
-use caa_base::entry::Participant;
-use caa_base::gate::Gate;
-use caa_base::work::WorkDone;
-use place_plan::machine::{Answer, Machine};
+use caa_base::written::entry::Participant;
+use caa_base::outside::gate::Gate;
+use caa_base::written::work::WorkDone;
+use place_plan::rules::machine::{Answer, Machine};
 use std::snapshot::Snapshot;
 use std::sync::Wait;
 use std::sync::atomic::{AtomicBool, Ordering};

@@ -1,7 +1,7 @@
 ghost use Rattle.std.specs.Prelude.{◌≡◌, ◌<◌, true, reverse, IfSome, IfNone};
 ghost use mathlib.Core.List.{IsPrefix};
-ghost use Rattle.place_plan.specs.Roles.{is_over};
-ghost use Rattle.place_plan.specs.Journals.{IsLegal};
+ghost use Rattle.place_plan.specs.RulesOfJournals.Roles.{is_over};
+ghost use Rattle.place_plan.specs.RulesOfJournals.Journals.{IsLegal};
 ghost use Rattle.shared_views.specs.Noted.{Noted};
 ghost use Rattle.shared_views.specs.Telling.{IsTold};
 ghost use Rattle.shared_views.specs.declared.bulletin.Announcement.TheVariants.{Noted as IsNoted};
@@ -10,10 +10,10 @@ ghost use Rattle.action_manager.specs.Seats.{participant_of, seen_by, told_to};
 ghost use Rattle.action_manager.specs.Stepping.{Steps};
 
 use action_manager::{Manager, Seat};
-use caa_base::entry::{Entry, Exception, Kind};
-use caa_base::gate::Gate;
-use caa_base::work::WorkDone;
-use place_plan::machine::{Answer, Machine};
+use caa_base::written::entry::{Entry, Exception, Kind};
+use caa_base::outside::gate::Gate;
+use caa_base::written::work::WorkDone;
+use place_plan::rules::machine::{Answer, Machine};
 use std::sync::Wait;
 
 /// Asks the cell of a Handle's place, by the note that the seat has of it, which exception is handled. The note leaves the seat.

@@ -1,11 +1,11 @@
 ghost use Rattle.std.specs.Prelude.{◌≡◌, ◌≤◌};
-ghost use Rattle.place_plan.specs.Journals.{IsLegal, IsComplete};
+ghost use Rattle.place_plan.specs.RulesOfJournals.Journals.{IsLegal, IsComplete};
 ghost use Rattle.role_driver.specs.Schedule.{GrewBy, always_least};
 
 use crate::turn::take_turn;
-use caa_base::gate::Gate;
+use caa_base::outside::gate::Gate;
 use journal_laws::is_bounded;
-use place_plan::machine::Machine;
+use place_plan::rules::machine::Machine;
 
 /// Plays a machine to its end: as long as somebody has an entry, the least such participant makes its own. It takes no memory.
 ///

@@ -1,16 +1,16 @@
 ghost use Rattle.std.specs.Prelude.{◌≡◌, ◌<◌, ◌≤◌, ◌+◌, ◌*◌, ◌++◌, [], All, None, length, map, reverse, suc};
-ghost use Rattle.caa_base.specs.Limits.{IsValue};
-ghost use Rattle.journal_text.specs.Looks.{AreOfPlan, last_watch};
-ghost use Rattle.journal_text.specs.Right.{first_wrong};
-ghost use Rattle.journal_text.specs.Text.{watched_object};
+ghost use Rattle.caa_base.specs.Written.Limits.{IsValue};
+ghost use Rattle.journal_text.specs.Watching.Looks.{AreOfPlan, last_watch};
+ghost use Rattle.journal_text.specs.Watching.Right.{first_wrong};
+ghost use Rattle.journal_text.specs.Texts.Text.{watched_object};
 ghost use Rattle.role_driver.specs.Watching.{task_of};
 ghost use Rattle.role_driver.specs.Gathering.{HasPublished, task_by, with_last, look_of, AreRightSoFar};
 
 use crate::watcher::Watcher;
 use action_manager::publishes_committed;
 use journal_laws::{ends_commit, is_well_formed};
-use journal_text::seens::{Seen, Seens};
-use place_plan::machine::Machine;
+use journal_text::looks::seens::{Seen, Seens};
+use place_plan::rules::machine::Machine;
 use shared_views::{CommittedWriter, Reading};
 
 /// A reading, as a look of a watch.

@@ -1,12 +1,12 @@
 ghost use Rattle.std.specs.Prelude.{◌≡◌, ◌<◌, ◌≤◌, ◌^◌};
-ghost use Rattle.place_plan.specs.Journals.{IsLegal, IsComplete};
+ghost use Rattle.place_plan.specs.RulesOfJournals.Journals.{IsLegal, IsComplete};
 ghost use Rattle.role_driver.specs.Schedule.{GrewBy, first_of_seed};
 
 use crate::turn::take_turn;
-use caa_base::gate::EmptyGate;
-use caa_base::work::next_state;
+use caa_base::outside::gate::EmptyGate;
+use caa_base::written::work::next_state;
 use journal_laws::is_bounded;
-use place_plan::machine::Machine;
+use place_plan::rules::machine::Machine;
 
 /// Plays a machine to its end, by the schedule of a seed. It takes no memory.
 ///

@@ -1,12 +1,12 @@
 ghost use Rattle.std.specs.Prelude.{◌≡◌, ◌<◌, ◌≤◌, ◌+◌, ◌%◌, length, MatchBool};
-ghost use Rattle.place_plan.specs.Journals.{IsComplete};
+ghost use Rattle.place_plan.specs.RulesOfJournals.Journals.{IsComplete};
 ghost use Rattle.role_driver.specs.Schedule.{Acts, IsKept, TakesTurn};
 
-use caa_base::entry::Participant;
-use caa_base::gate::Gate;
-use caa_base::work::WorkDone;
+use caa_base::written::entry::Participant;
+use caa_base::outside::gate::Gate;
+use caa_base::written::work::WorkDone;
 use journal_laws::{at_most_one, goes_on};
-use place_plan::machine::{Answer, Machine};
+use place_plan::rules::machine::{Answer, Machine};
 
 /// Lets a participant make its entry, and says whether it had one. Mixing work is done here, once the gate was called.
 fn act<M: Machine, G: Gate>(machine: &mut M, by: Participant, gate: &G) -> bool

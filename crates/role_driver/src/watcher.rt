@@ -1,7 +1,7 @@
 ghost use Rattle.std.specs.Prelude.{◌≡◌, ◌<◌, true, nat_lt, length};
 ghost use Rattle.role_driver.specs.Records.{is_record, is_news};
 
-use caa_base::entry::Object;
+use caa_base::written::entry::Object;
 use shared_views::{CommittedWriter, Observer, Reading};
 use std::sync::Wait;
 use std::sync::atomic::{AtomicBool, Ordering};

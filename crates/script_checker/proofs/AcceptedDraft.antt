@@ -2,14 +2,14 @@
 use Rattle.std.proofs.Common.{◌≡◌, ℕ, ◌≤◌, ◌==◌, true, not, List, None, length, slice_index_or, refl, sym, subst, ◌∙◌, arith, suc}
 use Rattle.std.specs.List.{list_all}
 use Rattle.std.proofs.lemmas.Bool.{le-leb, and_parts, and_from}
-use Rattle.caa_base.specs.Lists.{is_empty}
-use Rattle.caa_base.specs.declared.entry.Drill.{Drill}
-use Rattle.place_plan.specs.declared.draft_rows.ActionRow.{ActionRow}
-use Rattle.place_plan.specs.declared.draft_rows.ObjectRow.{ObjectRow}
-use Rattle.place_plan.specs.declared.draft_rows.PlayRow.{PlayRow}
-use Rattle.place_plan.specs.Places.{no_action}
-use Rattle.place_plan.specs.declared.draft.Draft.{Draft}
-use Rattle.place_plan.specs.DraftRules.{size_rule, graph_rule, order_rule, enter_rule, fill_rule, fills, nest_fills, all_below, all_differ, face_rule, has_one_face, depth_rule, handlers_differ, bound_rule, KeepsParts, object_rule, holds_action, holds_role, holds_nest, range_rule, exceptions_of, action_in_range, handler_rule, maps_all, broken_rule}
+use Rattle.caa_base.specs.Written.Lists.{is_empty}
+use Rattle.caa_base.specs.declared.written.entry.Drill.{Drill}
+use Rattle.place_plan.specs.declared.drafts.draft_rows.ActionRow.{ActionRow}
+use Rattle.place_plan.specs.declared.drafts.draft_rows.ObjectRow.{ObjectRow}
+use Rattle.place_plan.specs.declared.drafts.draft_rows.PlayRow.{PlayRow}
+use Rattle.place_plan.specs.Plans.Places.{no_action}
+use Rattle.place_plan.specs.declared.drafts.draft.Draft.{Draft}
+use Rattle.place_plan.specs.Drafts.DraftRules.{size_rule, graph_rule, order_rule, enter_rule, fill_rule, fills, nest_fills, all_below, all_differ, face_rule, has_one_face, depth_rule, handlers_differ, bound_rule, KeepsParts, object_rule, holds_action, holds_role, holds_nest, range_rule, exceptions_of, action_in_range, handler_rule, maps_all, broken_rule}
 use Rattle.action_script.specs.declared.kind.Section.TheVariants as section
 use Rattle.action_script.specs.declared.script.Line.{Line}
 use Rattle.action_script.specs.Printing.{is_sound, forms_of, lead_to_top}
@@ -25,9 +25,9 @@ use Rattle.script_checker.proofs.NestTests.{uses_filled, filled_test, uses_faced
 use Rattle.script_checker.proofs.HandlersKept.{HandlersDiffer, differ_kept}
 use Rattle.script_checker.proofs.HeldKept.{AreHeld, held_in, uses_held, held_kept}
 use Rattle.script_checker.proofs.DepthsKept.{AreShallow, depths_kept, depths_within}
-use Rattle.place_plan.specs.Bound.{bound}
-use Rattle.place_plan.specs.Unfolding.{plan_of}
-use Rattle.place_plan.specs.Weights.{counted, at, played_weight}
+use Rattle.place_plan.specs.Plans.Bound.{bound}
+use Rattle.place_plan.specs.Plans.Unfolding.{plan_of}
+use Rattle.place_plan.specs.Plans.Weights.{counted, at, played_weight}
 use Rattle.script_checker.proofs.WeightsKept.{AreWeighed, weights_kept}
 use Rattle.script_checker.proofs.SizesTold.{places_told, entries_told}
 use Rattle.script_checker.proofs.OrderKept.{IsInOrder, order_kept}
@@ -35,7 +35,7 @@ use Rattle.script_checker.proofs.PlaysKept.{play_right, PlaysRight, plays_kept, 
 use Rattle.script_checker.proofs.GraphsKept.{IsPlainFirst, first_kept, rows_first, rows_named, rows_many, rows_count}
 use Rattle.script_checker.proofs.RangesKept.{action_right, is_valued, drill_below}
 use Rattle.script_checker.proofs.MapsKept.{use_mapped, AreMapped, maps_kept, mapped_at_first}
-use Rattle.caa_base.specs.Limits.{most_participants, most_objects, most_actions, most_watches, most_drills, most_graphs, most_places, most_entries}
+use Rattle.caa_base.specs.Written.Limits.{most_participants, most_objects, most_actions, most_watches, most_drills, most_graphs, most_places, most_entries}
 
 module _ (names : List (List ℕ)) (lines : List Line) (lead : lead_to_top section.Top (forms_of lines) ≡ true) (sound : list_all (is_sound names) (forms_of lines) ≡ true) (accepted : AreAccepted names (nothing_yet names) lines) (draft : Draft) (drafted : IsDraftOf names (declared_after names (nothing_yet names) lines) draft) where
   abbrev last : SoFar

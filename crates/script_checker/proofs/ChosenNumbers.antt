@@ -4,8 +4,8 @@ use Rattle.std.proofs.lemmas.Bool.{and_from, and_right, or_parts, or_from, or_ri
 use Rattle.std.proofs.Math.Seq.{take-suc}
 use Rattle.std.specs.List.{list_all}
 use Rattle.std.proofs.lemmas.List.Folds.{list_any-append, list_all_more}
-use Rattle.caa_base.specs.Lists.{member, index_of}
-use Rattle.place_plan.specs.DraftRules.{is_rising, is_rising_above}
+use Rattle.caa_base.specs.Written.Lists.{member, index_of}
+use Rattle.place_plan.specs.Drafts.DraftRules.{is_rising, is_rising_above}
 use Rattle.script_checker.specs.Numbers.{is_among, has_twice, are_once_among, chosen_from, places_once, set_from, flags_of}
 use Rattle.script_checker.proofs.NumberTables.{among_is_member}
 

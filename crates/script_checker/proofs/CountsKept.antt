@@ -1,8 +1,8 @@
 -- An accepted script declares no more parts than the limits allow.
 use Rattle.std.proofs.Common.{◌≡◌, ℕ, suc, ◌+◌, ◌<◌, ◌≤◌, nat_le, false, List, [], ◌∷◌, ◌++◌, length, Option, Some, None, refl, arith, length-append}
 use Rattle.std.proofs.lemmas.Bool.{leb-false}
-use Rattle.caa_base.specs.declared.entry.Verdict.{Verdict}
-use Rattle.caa_base.specs.declared.entry.Verdict.TheVariants as verdict
+use Rattle.caa_base.specs.declared.written.entry.Verdict.{Verdict}
+use Rattle.caa_base.specs.declared.written.entry.Verdict.TheVariants as verdict
 use Rattle.action_script.specs.declared.form.Form.{Form}
 use Rattle.action_script.specs.declared.form.Form.TheVariants as form
 use Rattle.script_checker.specs.declared.parts.Block.{Block}
@@ -13,7 +13,7 @@ use Rattle.script_checker.specs.Causes.{is_past_limit}
 use Rattle.script_checker.specs.After.{closed_if, ended, with_said, action_row}
 use Rattle.script_checker.proofs.Choosing.{within}
 use Rattle.script_checker.proofs.Accepted.{IsKept}
-use Rattle.caa_base.specs.Limits.{most_participants, most_objects, most_drills, most_watches, most_graphs, most_actions}
+use Rattle.caa_base.specs.Written.Limits.{most_participants, most_objects, most_drills, most_watches, most_graphs, most_actions}
 
 -- ---- one list more
 

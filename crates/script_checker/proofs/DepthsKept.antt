@@ -2,15 +2,15 @@
 use Rattle.std.proofs.Common.{◌≡◌, ℕ, suc, zero, ◌+◌, ◌<◌, ◌≤◌, nat_lt, nat_le, Bool, true, false, List, [], ◌∷◌, ◌++◌, length, slice_index_or, Option, Some, None, refl, arith, length-append, below_more}
 use Rattle.std.specs.List.{list_all}
 use Rattle.std.proofs.lemmas.Bool.{and_parts, ltb-true, lt-ltb, leb-false, le-leb, and_from}
-use Rattle.caa_base.specs.Limits.{most_depth}
-use Rattle.caa_base.specs.Lists.{index_of}
-use Rattle.caa_base.specs.declared.entry.Verdict.{Verdict}
-use Rattle.caa_base.specs.declared.entry.Verdict.TheVariants as verdict
-use Rattle.place_plan.specs.declared.draft_rows.ActionRow.{ActionRow}
-use Rattle.place_plan.specs.declared.draft_rows.NestRow.{NestRow}
-use Rattle.place_plan.specs.Places.{no_action, no_nest}
-use Rattle.place_plan.specs.DraftRules.{all_below, deepest_of, deepest, depth_within, depths_fit}
-use Rattle.place_plan.specs.Weights.{counted, at}
+use Rattle.caa_base.specs.Written.Limits.{most_depth}
+use Rattle.caa_base.specs.Written.Lists.{index_of}
+use Rattle.caa_base.specs.declared.written.entry.Verdict.{Verdict}
+use Rattle.caa_base.specs.declared.written.entry.Verdict.TheVariants as verdict
+use Rattle.place_plan.specs.declared.drafts.draft_rows.ActionRow.{ActionRow}
+use Rattle.place_plan.specs.declared.drafts.draft_rows.NestRow.{NestRow}
+use Rattle.place_plan.specs.Plans.Places.{no_action, no_nest}
+use Rattle.place_plan.specs.Drafts.DraftRules.{all_below, deepest_of, deepest, depth_within, depths_fit}
+use Rattle.place_plan.specs.Plans.Weights.{counted, at}
 use Rattle.action_script.specs.declared.form.Form.{Form}
 use Rattle.action_script.specs.declared.form.Form.TheVariants as form
 use Rattle.script_checker.specs.declared.parts.Block.{Block}

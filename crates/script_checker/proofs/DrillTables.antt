@@ -3,7 +3,7 @@ use Rattle.std.proofs.Common.{◌≡◌, ℕ, Bool, true, false, cond, List, [],
 use Rattle.std.specs.List.{list_any}
 use Rattle.std.proofs.lemmas.List.Folds.{list_any-append}
 use Rattle.std.specs.HashSet.{HashSet, contains}
-use Rattle.caa_base.specs.declared.entry.Drill.{Drill}
+use Rattle.caa_base.specs.declared.written.entry.Drill.{Drill}
 use Rattle.script_checker.specs.Causes.{is_drill}
 use Rattle.script_checker.specs.DrillTable.{same_put, HasPutsOf}
 

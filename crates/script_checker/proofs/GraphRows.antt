@@ -4,8 +4,8 @@ use Rattle.std.proofs.lemmas.Bool.{false≢true}
 use Rattle.std.proofs.lemmas.Slice.Eq.{bytes_eq-Decides}
 use Rattle.cover_table.specs.Cover.{CoverOrder, IsSound}
 use Rattle.exception_graph.specs.Chains.{IsOrderOf}
-use Rattle.caa_base.specs.declared.entry.Verdict.{Verdict}
-use Rattle.place_plan.specs.declared.draft_rows.GraphRow.{GraphRow}
+use Rattle.caa_base.specs.declared.written.entry.Verdict.{Verdict}
+use Rattle.place_plan.specs.declared.drafts.draft_rows.GraphRow.{GraphRow}
 use Rattle.action_script.specs.NumberedNames.{number_in}
 use Rattle.action_script.specs.declared.form.Form.{Form}
 use Rattle.action_script.specs.declared.form.Form.TheVariants as form

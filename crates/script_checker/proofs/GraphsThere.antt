@@ -3,8 +3,8 @@
 use Rattle.std.proofs.Common.{◌≡◌, ℕ, suc, ◌+◌, ◌<◌, nat_lt, Bool, true, false, List, [], ◌∷◌, ◌++◌, length, Option, Some, None, refl, sym, arith, length-append}
 use Rattle.std.specs.List.{list_all}
 use Rattle.std.proofs.lemmas.Bool.{false≢true, ltb-true, lt-ltb, not-false}
-use Rattle.caa_base.specs.Lists.{index_of}
-use Rattle.caa_base.specs.declared.entry.Verdict.{Verdict}
+use Rattle.caa_base.specs.Written.Lists.{index_of}
+use Rattle.caa_base.specs.declared.written.entry.Verdict.{Verdict}
 use Rattle.action_script.specs.declared.form.Form.{Form}
 use Rattle.action_script.specs.declared.form.Form.TheVariants as form
 use Rattle.action_script.specs.declared.kind.Section.{Section}

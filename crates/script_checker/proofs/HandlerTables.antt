@@ -3,10 +3,10 @@ use Rattle.std.proofs.Common.{◌≡◌, ℕ, ◌<◌, List, [], ◌∷◌, ◌+
 use Rattle.std.specs.List.{list_any}
 use Rattle.std.proofs.lemmas.List.{map-set, map-append, get_or-map}
 use Rattle.std.proofs.Math.ListN as seq
-use Rattle.caa_base.specs.Lists.{member}
-use Rattle.place_plan.specs.declared.draft_rows.HandlerRow.{HandlerRow}
-use Rattle.place_plan.specs.declared.draft_rows.RoleRow.{RoleRow}
-use Rattle.place_plan.specs.Places.{no_role}
+use Rattle.caa_base.specs.Written.Lists.{member}
+use Rattle.place_plan.specs.declared.drafts.draft_rows.HandlerRow.{HandlerRow}
+use Rattle.place_plan.specs.declared.drafts.draft_rows.RoleRow.{RoleRow}
+use Rattle.place_plan.specs.Plans.Places.{no_role}
 use Rattle.script_checker.specs.Causes.{handles}
 use Rattle.script_checker.specs.After.{with_program}
 use Rattle.script_checker.specs.Handled.{exceptions_of, handled_by}

@@ -2,16 +2,16 @@
 use Rattle.std.proofs.Common.{◌≡◌, ℕ, ◌==◌, Bool, true, false, not, List, [], ◌∷◌, ◌++◌, slice_index_or, Option, Some, None, refl, sym, ◌∙◌, subst}
 use Rattle.std.specs.List.{list_all, list_any}
 use Rattle.std.proofs.lemmas.Bool.{and_parts, false≢true, not-true, or_parts}
-use Rattle.caa_base.specs.Lists.{member, index_of}
-use Rattle.caa_base.specs.declared.entry.Verdict.{Verdict}
-use Rattle.caa_base.specs.declared.entry.Verdict.TheVariants as verdict
-use Rattle.place_plan.specs.declared.draft_rows.ActionRow.{ActionRow}
-use Rattle.place_plan.specs.declared.draft_rows.AbortRow.TheVariants as abort
-use Rattle.place_plan.specs.declared.draft_rows.RoleRow.{RoleRow}
-use Rattle.place_plan.specs.declared.draft_rows.HandlerRow.{HandlerRow}
-use Rattle.place_plan.specs.declared.draft_rows.Program.{Program}
-use Rattle.place_plan.specs.Places.{no_role}
-use Rattle.place_plan.specs.DraftRules.{all_differ, handlers_differ}
+use Rattle.caa_base.specs.Written.Lists.{member, index_of}
+use Rattle.caa_base.specs.declared.written.entry.Verdict.{Verdict}
+use Rattle.caa_base.specs.declared.written.entry.Verdict.TheVariants as verdict
+use Rattle.place_plan.specs.declared.drafts.draft_rows.ActionRow.{ActionRow}
+use Rattle.place_plan.specs.declared.drafts.draft_rows.AbortRow.TheVariants as abort
+use Rattle.place_plan.specs.declared.drafts.draft_rows.RoleRow.{RoleRow}
+use Rattle.place_plan.specs.declared.drafts.draft_rows.HandlerRow.{HandlerRow}
+use Rattle.place_plan.specs.declared.drafts.draft_rows.Program.{Program}
+use Rattle.place_plan.specs.Plans.Places.{no_role}
+use Rattle.place_plan.specs.Drafts.DraftRules.{all_differ, handlers_differ}
 use Rattle.action_script.specs.declared.form.Form.{Form}
 use Rattle.action_script.specs.declared.form.Form.TheVariants as form
 use Rattle.script_checker.specs.declared.parts.Block.{Block}

@@ -2,19 +2,19 @@
 use Rattle.std.proofs.Common.{◌≡◌, ℕ, nat_lt, Bool, true, false, not, ◌&&◌, List, [], ◌∷◌, ◌++◌, length, slice_index_or, Option, Some, None, refl, subst}
 use Rattle.std.specs.List.{list_all}
 use Rattle.std.proofs.lemmas.Bool.{and_parts, false≢true, and_from, not-false, or_parts}
-use Rattle.caa_base.specs.Lists.{member, index_of, is_empty}
-use Rattle.caa_base.specs.declared.entry.Verdict.{Verdict}
-use Rattle.caa_base.specs.declared.entry.Verdict.TheVariants as verdict
-use Rattle.place_plan.specs.declared.draft_rows.ActionRow.{ActionRow}
-use Rattle.place_plan.specs.declared.draft_rows.AbortRow.TheVariants as abort
-use Rattle.place_plan.specs.declared.draft_rows.RoleRow.{RoleRow}
-use Rattle.place_plan.specs.declared.draft_rows.NestRow.{NestRow}
-use Rattle.place_plan.specs.declared.draft_rows.HandlerRow.{HandlerRow}
-use Rattle.place_plan.specs.declared.draft_rows.Program.{Program}
-use Rattle.place_plan.specs.declared.draft_rows.Step.{Step}
-use Rattle.place_plan.specs.declared.draft_rows.Step.TheVariants as step
-use Rattle.place_plan.specs.Places.{no_action, no_role, no_nest}
-use Rattle.place_plan.specs.DraftRules.{all_below, holds_step, holds_role}
+use Rattle.caa_base.specs.Written.Lists.{member, index_of, is_empty}
+use Rattle.caa_base.specs.declared.written.entry.Verdict.{Verdict}
+use Rattle.caa_base.specs.declared.written.entry.Verdict.TheVariants as verdict
+use Rattle.place_plan.specs.declared.drafts.draft_rows.ActionRow.{ActionRow}
+use Rattle.place_plan.specs.declared.drafts.draft_rows.AbortRow.TheVariants as abort
+use Rattle.place_plan.specs.declared.drafts.draft_rows.RoleRow.{RoleRow}
+use Rattle.place_plan.specs.declared.drafts.draft_rows.NestRow.{NestRow}
+use Rattle.place_plan.specs.declared.drafts.draft_rows.HandlerRow.{HandlerRow}
+use Rattle.place_plan.specs.declared.drafts.draft_rows.Program.{Program}
+use Rattle.place_plan.specs.declared.drafts.draft_rows.Step.{Step}
+use Rattle.place_plan.specs.declared.drafts.draft_rows.Step.TheVariants as step
+use Rattle.place_plan.specs.Plans.Places.{no_action, no_role, no_nest}
+use Rattle.place_plan.specs.Drafts.DraftRules.{all_below, holds_step, holds_role}
 use Rattle.action_script.specs.declared.form.Form.{Form}
 use Rattle.action_script.specs.declared.form.Form.TheVariants as form
 use Rattle.script_checker.specs.declared.parts.Block.{Block}

@@ -5,13 +5,13 @@ use Rattle.std.proofs.lemmas.Bool.{and_parts, or_parts, eq-eqb, ltb-false, ltb-t
 use Rattle.std.proofs.lemmas.List.{get_or-map, get_or_default, map-append, length-append, length-map}
 use Rattle.std.proofs.lemmas.List.Elements.{All-push, All-nil, All-map}
 use Rattle.std.proofs.lemmas.List.Quantifiers.{all_pairs_push}
-use Rattle.caa_base.specs.Names.{is_name, name_at}
-use Rattle.caa_base.specs.Lists.{member, index_of}
-use Rattle.caa_base.specs.declared.entry.Verdict.{Verdict}
-use Rattle.caa_base.specs.declared.entry.Verdict.TheVariants as verdict
-use Rattle.place_plan.specs.declared.draft_rows.GraphRow.{GraphRow}
-use Rattle.place_plan.specs.declared.draft_rows.ObjectRow.{ObjectRow}
-use Rattle.place_plan.specs.PlanValue.{Plan}
+use Rattle.caa_base.specs.Written.Names.{is_name, name_at}
+use Rattle.caa_base.specs.Written.Lists.{member, index_of}
+use Rattle.caa_base.specs.declared.written.entry.Verdict.{Verdict}
+use Rattle.caa_base.specs.declared.written.entry.Verdict.TheVariants as verdict
+use Rattle.place_plan.specs.declared.drafts.draft_rows.GraphRow.{GraphRow}
+use Rattle.place_plan.specs.declared.drafts.draft_rows.ObjectRow.{ObjectRow}
+use Rattle.place_plan.specs.Plans.PlanValue.{Plan}
 use Rattle.action_script.specs.declared.form.Form.{Form}
 use Rattle.action_script.specs.declared.form.Form.TheVariants as form
 use Rattle.action_script.specs.declared.script.Line.{Line}
@@ -30,7 +30,7 @@ use Rattle.script_checker.specs.DeclaredSoFar.{SoFar, nothing_yet}
 use Rattle.script_checker.specs.Causes.{is_unknown, is_twice}
 use Rattle.script_checker.specs.After.{goes_on, closed_if, settled_if, settled, ended, with_said, after}
 use Rattle.script_checker.specs.Compiled.{exception_name, declared_after, AreAccepted, IsRowOf, AreRowsOf, IsPlanOf}
-use Rattle.place_plan.specs.OwnNames.{AreOwnNames, NamesExceptions, HasOwnNames}
+use Rattle.place_plan.specs.Plans.OwnNames.{AreOwnNames, NamesExceptions, HasOwnNames}
 use Rattle.script_checker.proofs.Choosing.{known}
 use Rattle.script_checker.proofs.GraphRows.{found}
 

@@ -3,7 +3,7 @@ use Rattle.std.proofs.Common.{◌≡◌, ℕ, ◌+◌, ◌-◌, ◌<◌, ◌≤�
 use Rattle.std.proofs.lemmas.Bool.{false≢true, or_parts, cases_eq, cases_Bool, leb-true, le-leb, lt-ltb, ltb-true, eq-eqb, ne_eqb}
 use Rattle.std.proofs.lemmas.List.{length-append, length-set, get_or-set_other, get_or_past}
 use Rattle.std.proofs.lemmas.Grind.{get_or-set_at}
-use Rattle.caa_base.specs.Lists.{index_of}
+use Rattle.caa_base.specs.Written.Lists.{index_of}
 use Rattle.caa_base.proofs.ListLemmas.{index_within}
 use Rattle.script_checker.specs.Numbers.{is_among, most_names}
 use Rattle.script_checker.specs.NumberTable.{near_names, is_near, are_close, base_of, base_or, keeps_base, place_or_most, AreNearPlaces}

@@ -9,9 +9,9 @@ use Rattle.std.specs.Option.{option_eq}
 use Rattle.std.specs.List.{position_or_len}
 use Rattle.std.proofs.lemmas.List.Recursion.{is_position_or_len}
 use Rattle.std.specs.HashMap.{HashMap, get}
-use Rattle.caa_base.specs.Lists.{member, index_of}
+use Rattle.caa_base.specs.Written.Lists.{member, index_of}
 use Rattle.caa_base.proofs.ListLemmas.{one_more_each, index_within}
-use Rattle.place_plan.specs.DraftRules.{all_differ}
+use Rattle.place_plan.specs.Drafts.DraftRules.{all_differ}
 use Rattle.script_checker.specs.Numbers.{is_among, has_twice}
 use Rattle.script_checker.specs.NumberTable.{AreFarPlaces, few_names, is_near, base_of}
 

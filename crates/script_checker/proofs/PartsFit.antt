@@ -3,17 +3,17 @@ use Rattle.std.proofs.Common.{◌≡◌, ℕ, ◌+◌, ◌≤◌, nat_le, Bool, 
 use Rattle.std.proofs.lemmas.List.{length-map}
 use Rattle.std.specs.List.{list_all}
 use Rattle.std.proofs.lemmas.Bool.{and_parts, false≢true, ltb-false, le-leb, and_from}
-use Rattle.caa_base.specs.Lists.{is_empty, index_of}
-use Rattle.caa_base.specs.Names.{name_at}
-use Rattle.caa_base.specs.declared.entry.Verdict.{Verdict}
-use Rattle.caa_base.specs.declared.entry.Verdict.TheVariants as verdict
-use Rattle.place_plan.specs.declared.draft_rows.AbortRow.TheVariants as abort
-use Rattle.place_plan.specs.declared.draft_rows.RoleRow.{RoleRow}
-use Rattle.place_plan.specs.declared.draft_rows.NestRow.{NestRow}
-use Rattle.place_plan.specs.declared.draft_rows.HandlerRow.{HandlerRow}
-use Rattle.place_plan.specs.declared.draft_rows.Program.{Program}
-use Rattle.place_plan.specs.Places.{no_role, no_nest}
-use Rattle.place_plan.specs.DraftRules.{program_fits, role_fits, nest_fits, action_fits}
+use Rattle.caa_base.specs.Written.Lists.{is_empty, index_of}
+use Rattle.caa_base.specs.Written.Names.{name_at}
+use Rattle.caa_base.specs.declared.written.entry.Verdict.{Verdict}
+use Rattle.caa_base.specs.declared.written.entry.Verdict.TheVariants as verdict
+use Rattle.place_plan.specs.declared.drafts.draft_rows.AbortRow.TheVariants as abort
+use Rattle.place_plan.specs.declared.drafts.draft_rows.RoleRow.{RoleRow}
+use Rattle.place_plan.specs.declared.drafts.draft_rows.NestRow.{NestRow}
+use Rattle.place_plan.specs.declared.drafts.draft_rows.HandlerRow.{HandlerRow}
+use Rattle.place_plan.specs.declared.drafts.draft_rows.Program.{Program}
+use Rattle.place_plan.specs.Plans.Places.{no_role, no_nest}
+use Rattle.place_plan.specs.Drafts.DraftRules.{program_fits, role_fits, nest_fits, action_fits}
 use Rattle.action_script.specs.declared.form.Form.{Form}
 use Rattle.action_script.specs.declared.form.Form.TheVariants as form
 use Rattle.script_checker.specs.declared.parts.Block.{Block}
@@ -29,7 +29,7 @@ use Rattle.script_checker.proofs.Accepted.{IsKept, filled}
 use Rattle.script_checker.proofs.ActionsGrow.{all_push, ends_action, closed_actions, said_actions}
 use Rattle.script_checker.proofs.ListsChange.{all_change, all_set, all_mapped}
 use Rattle.script_checker.proofs.CountsKept.{few_more}
-use Rattle.caa_base.specs.Limits.{most_steps, most_roles, most_nests, most_alternates}
+use Rattle.caa_base.specs.Written.Limits.{most_steps, most_roles, most_nests, most_alternates}
 
 -- the steps of what is being declared, and the roles so far
 abbrev pub ProgramsFit : SoFar → Type 0

@@ -2,14 +2,14 @@
 use Rattle.std.proofs.Common.{◌≡◌, ℕ, true, false, List, [], ◌∷◌, ◌++◌, length, Option, Some, None, refl, sym, subst, ◌∙◌, arith}
 use Rattle.std.specs.List.{list_all}
 use Rattle.std.proofs.lemmas.Bool.{and_parts, and_from, false_from_ne_true}
-use Rattle.caa_base.specs.declared.entry.Verdict.TheVariants as verdict
-use Rattle.place_plan.specs.declared.draft.Draft.{Draft}
-use Rattle.place_plan.specs.declared.draft_rows.ActionRow.{ActionRow}
-use Rattle.place_plan.specs.declared.draft_rows.PlayRow.{PlayRow}
-use Rattle.place_plan.specs.Bound.{bound}
-use Rattle.place_plan.specs.DraftRules.{KeepsParts, action_in_range, play_in_range, nest_fills}
-use Rattle.place_plan.specs.Unfolding.{plan_of}
-use Rattle.place_plan.specs.Weights.{counted, at, played_weight, own_entries}
+use Rattle.caa_base.specs.declared.written.entry.Verdict.TheVariants as verdict
+use Rattle.place_plan.specs.declared.drafts.draft.Draft.{Draft}
+use Rattle.place_plan.specs.declared.drafts.draft_rows.ActionRow.{ActionRow}
+use Rattle.place_plan.specs.declared.drafts.draft_rows.PlayRow.{PlayRow}
+use Rattle.place_plan.specs.Plans.Bound.{bound}
+use Rattle.place_plan.specs.Drafts.DraftRules.{KeepsParts, action_in_range, play_in_range, nest_fills}
+use Rattle.place_plan.specs.Plans.Unfolding.{plan_of}
+use Rattle.place_plan.specs.Plans.Weights.{counted, at, played_weight, own_entries}
 use Rattle.action_script.specs.declared.form.Form.{Form}
 use Rattle.action_script.specs.declared.form.Form.TheVariants as form
 use Rattle.action_script.specs.declared.kind.Section.{Section}

@@ -2,22 +2,22 @@
 use Rattle.std.proofs.Common.{◌≡◌, ℕ, suc, zero, ◌+◌, ◌<◌, ◌≤◌, nat_lt, Bool, true, false, not, ◌&&◌, is_some, List, [], ◌∷◌, ◌++◌, length, replicate, slice_set, Option, Some, None, unwrap_or, refl, sym, arith, length-append}
 use Rattle.std.specs.List.{list_all}
 use Rattle.std.proofs.lemmas.Bool.{and_parts, false≢true, lt-ltb, eqb-true, and_from, not-false, or_parts}
-use Rattle.caa_base.specs.Lists.{member, index_of, is_empty}
-use Rattle.caa_base.specs.declared.entry.Drill.{Drill}
-use Rattle.caa_base.specs.declared.entry.Verdict.{Verdict}
-use Rattle.caa_base.specs.declared.entry.Verdict.TheVariants as verdict
-use Rattle.caa_base.specs.Limits.{is_value}
-use Rattle.place_plan.specs.declared.draft_rows.ActionRow.{ActionRow}
-use Rattle.place_plan.specs.declared.draft_rows.ObjectRow.{ObjectRow}
-use Rattle.place_plan.specs.declared.draft_rows.AbortRow.{AbortRow}
-use Rattle.place_plan.specs.declared.draft_rows.AbortRow.TheVariants as abort
-use Rattle.place_plan.specs.declared.draft_rows.RoleRow.{RoleRow}
-use Rattle.place_plan.specs.declared.draft_rows.NestRow.{NestRow}
-use Rattle.place_plan.specs.declared.draft_rows.Program.{Program}
-use Rattle.place_plan.specs.declared.draft_rows.Step.{Step}
-use Rattle.place_plan.specs.declared.draft_rows.Step.TheVariants as step
-use Rattle.place_plan.specs.Places.{no_role, no_nest}
-use Rattle.place_plan.specs.DraftRules.{is_rising, all_below, step_in_range, verdict_in_range, abort_in_range, program_in_range, handler_in_range, role_in_range, nest_in_range}
+use Rattle.caa_base.specs.Written.Lists.{member, index_of, is_empty}
+use Rattle.caa_base.specs.declared.written.entry.Drill.{Drill}
+use Rattle.caa_base.specs.declared.written.entry.Verdict.{Verdict}
+use Rattle.caa_base.specs.declared.written.entry.Verdict.TheVariants as verdict
+use Rattle.caa_base.specs.Written.Limits.{is_value}
+use Rattle.place_plan.specs.declared.drafts.draft_rows.ActionRow.{ActionRow}
+use Rattle.place_plan.specs.declared.drafts.draft_rows.ObjectRow.{ObjectRow}
+use Rattle.place_plan.specs.declared.drafts.draft_rows.AbortRow.{AbortRow}
+use Rattle.place_plan.specs.declared.drafts.draft_rows.AbortRow.TheVariants as abort
+use Rattle.place_plan.specs.declared.drafts.draft_rows.RoleRow.{RoleRow}
+use Rattle.place_plan.specs.declared.drafts.draft_rows.NestRow.{NestRow}
+use Rattle.place_plan.specs.declared.drafts.draft_rows.Program.{Program}
+use Rattle.place_plan.specs.declared.drafts.draft_rows.Step.{Step}
+use Rattle.place_plan.specs.declared.drafts.draft_rows.Step.TheVariants as step
+use Rattle.place_plan.specs.Plans.Places.{no_role, no_nest}
+use Rattle.place_plan.specs.Drafts.DraftRules.{is_rising, all_below, step_in_range, verdict_in_range, abort_in_range, program_in_range, handler_in_range, role_in_range, nest_in_range}
 use Rattle.action_script.specs.declared.form.Form.{Form}
 use Rattle.action_script.specs.declared.form.Form.TheVariants as form
 use Rattle.action_script.specs.declared.kind.Section.{Section}

@@ -1,13 +1,13 @@
 -- What the tables of sizes tell of a draft with the actions that have ended.
 use Rattle.std.proofs.Common.{◌≡◌, ℕ, ◌<◌, List, length, subst, arith}
-use Rattle.caa_base.specs.Limits.{most_depth}
-use Rattle.place_plan.specs.declared.draft.Draft.{Draft}
-use Rattle.place_plan.specs.declared.draft_rows.ActionRow.{ActionRow}
-use Rattle.place_plan.specs.Bound.{bound}
-use Rattle.place_plan.specs.DraftRules.{KeepsParts}
-use Rattle.place_plan.specs.Unfolding.{plan_of}
-use Rattle.place_plan.specs.Weights.{counted, at, played_weight, own_entries}
-use Rattle.place_plan.proofs.Weighing.{counted_places, counted_bound}
+use Rattle.caa_base.specs.Written.Limits.{most_depth}
+use Rattle.place_plan.specs.declared.drafts.draft.Draft.{Draft}
+use Rattle.place_plan.specs.declared.drafts.draft_rows.ActionRow.{ActionRow}
+use Rattle.place_plan.specs.Plans.Bound.{bound}
+use Rattle.place_plan.specs.Drafts.DraftRules.{KeepsParts}
+use Rattle.place_plan.specs.Plans.Unfolding.{plan_of}
+use Rattle.place_plan.specs.Plans.Weights.{counted, at, played_weight, own_entries}
+use Rattle.place_plan.proofs.OnPlans.Weighing.{counted_places, counted_bound}
 use Rattle.script_checker.specs.DeclaredSoFar.{SoFar}
 use Rattle.script_checker.proofs.DepthsKept.{AreShallow}
 use Rattle.script_checker.proofs.WeightsTell.{IsWeight, own_weights, own_at, weighs}

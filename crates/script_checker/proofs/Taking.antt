@@ -2,9 +2,9 @@
 use Rattle.std.proofs.Common.{◌≡◌, ◌≢◌, ℕ, suc, ◌+◌, ◌<◌, ◌≤◌, List, [], ◌∷◌, ◌++◌, length, take, drop, get_or, Err, refl, sym, ap, ◌∙◌, subst, arith, add-one}
 use Rattle.std.proofs.Math.Seq.{drop-cons, take-suc}
 use Rattle.std.proofs.lemmas.List.{take-append-drop, take_all}
-use Rattle.place_plan.specs.declared.draft_rows.GraphRow.{GraphRow}
-use Rattle.place_plan.specs.PlanValue.{Plan}
-use Rattle.place_plan.specs.Unfolding.{plan_of}
+use Rattle.place_plan.specs.declared.drafts.draft_rows.GraphRow.{GraphRow}
+use Rattle.place_plan.specs.Plans.PlanValue.{Plan}
+use Rattle.place_plan.specs.Plans.Unfolding.{plan_of}
 use Rattle.action_script.specs.declared.script.Line.{Line}
 use Rattle.action_script.specs.ScriptValue.{Script}
 use Rattle.script_checker.specs.declared.check_error.CheckCause.{CheckCause}

@@ -1,8 +1,8 @@
 -- What the draft of a script comes to whose lines were all taken.
 use Rattle.std.proofs.Common.{◌≡◌, List, length, None, refl, sym, ap, ◌∙◌, subst}
-use Rattle.place_plan.specs.declared.draft_rows.GraphRow.{GraphRow}
-use Rattle.place_plan.specs.DraftRules.{broken_rule}
-use Rattle.place_plan.specs.Unfolding.{plan_of}
+use Rattle.place_plan.specs.declared.drafts.draft_rows.GraphRow.{GraphRow}
+use Rattle.place_plan.specs.Drafts.DraftRules.{broken_rule}
+use Rattle.place_plan.specs.Plans.Unfolding.{plan_of}
 use Rattle.action_script.specs.Printing.{AreScript, forms_of}
 use Rattle.action_script.specs.ScriptValue.{Script}
 use Rattle.script_checker.specs.DeclaredSoFar.{SoFar}

@@ -1,7 +1,7 @@
 -- The values and the rounds of a script's lines are in range.
 use Rattle.std.proofs.Common.{◌≡◌, ℕ, ℤ, nat_le, Bool, true, ◌&&◌, List, length}
 use Rattle.std.proofs.lemmas.Bool.{and_parts}
-use Rattle.caa_base.specs.Limits.{is_value, most_count}
+use Rattle.caa_base.specs.Written.Limits.{is_value, most_count}
 use Rattle.action_script.specs.declared.form.Form.{Form}
 use Rattle.action_script.specs.Kinds.{takes, parts_of}
 use Rattle.action_script.specs.Forms.{kind_of, fields_of}

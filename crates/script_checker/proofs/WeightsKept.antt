@@ -3,14 +3,14 @@ use Rattle.std.proofs.Common.{◌≡◌, ℕ, ◌+◌, ◌<◌, ◌≤◌, nat_l
 use Rattle.std.specs.List.{list_all}
 use Rattle.std.proofs.lemmas.Bool.{and_parts, ltb-true, ltb-false}
 use Rattle.std.proofs.lemmas.List.Sums.{sum_by-append, sum_by-cons}
-use Rattle.caa_base.specs.declared.entry.Verdict.{Verdict}
-use Rattle.caa_base.specs.declared.entry.Verdict.TheVariants as verdict
-use Rattle.place_plan.specs.declared.draft_rows.ActionRow.{ActionRow}
-use Rattle.place_plan.specs.declared.draft_rows.NestRow.{NestRow}
-use Rattle.place_plan.specs.declared.draft_rows.PlayRow.{PlayRow}
-use Rattle.place_plan.specs.Places.{no_action}
-use Rattle.place_plan.specs.DraftRules.{all_below}
-use Rattle.place_plan.specs.Weights.{counted, at, nested_weight, own_entries, played_weight}
+use Rattle.caa_base.specs.declared.written.entry.Verdict.{Verdict}
+use Rattle.caa_base.specs.declared.written.entry.Verdict.TheVariants as verdict
+use Rattle.place_plan.specs.declared.drafts.draft_rows.ActionRow.{ActionRow}
+use Rattle.place_plan.specs.declared.drafts.draft_rows.NestRow.{NestRow}
+use Rattle.place_plan.specs.declared.drafts.draft_rows.PlayRow.{PlayRow}
+use Rattle.place_plan.specs.Plans.Places.{no_action}
+use Rattle.place_plan.specs.Drafts.DraftRules.{all_below}
+use Rattle.place_plan.specs.Plans.Weights.{counted, at, nested_weight, own_entries, played_weight}
 use Rattle.action_script.specs.declared.form.Form.{Form}
 use Rattle.action_script.specs.declared.form.Form.TheVariants as form
 use Rattle.script_checker.specs.declared.parts.Block.{Block}
@@ -27,7 +27,7 @@ use Rattle.script_checker.proofs.NestTests.{same_action, uses_there, there_test}
 use Rattle.script_checker.proofs.PlaysKept.{play_right, PlaysRight, plays_kept}
 use Rattle.script_checker.proofs.DepthsKept.{at_longer, at_last, action_last, nests_there}
 use Rattle.script_checker.proofs.WeightsTell.{IsWeight}
-use Rattle.caa_base.specs.Limits.{most_places, most_entries}
+use Rattle.caa_base.specs.Written.Limits.{most_places, most_entries}
 
 -- ---- one action more
 

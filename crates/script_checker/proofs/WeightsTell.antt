@@ -3,11 +3,11 @@ use Rattle.std.proofs.Common.{◌≡◌, ℕ, suc, zero, ◌+◌, ◌<◌, ◌�
 use Rattle.std.specs.List.{list_all}
 use Rattle.std.proofs.lemmas.Bool.{and_parts, ltb-true}
 use Rattle.std.proofs.lemmas.List.Sums.{sum_by-cons}
-use Rattle.place_plan.specs.declared.draft_rows.ActionRow.{ActionRow}
-use Rattle.place_plan.specs.declared.draft_rows.NestRow.{NestRow}
-use Rattle.place_plan.specs.Places.{no_action}
-use Rattle.place_plan.specs.DraftRules.{all_below, deepest_of, deepest}
-use Rattle.place_plan.specs.Weights.{counted, at, nested_weight, weight}
+use Rattle.place_plan.specs.declared.drafts.draft_rows.ActionRow.{ActionRow}
+use Rattle.place_plan.specs.declared.drafts.draft_rows.NestRow.{NestRow}
+use Rattle.place_plan.specs.Plans.Places.{no_action}
+use Rattle.place_plan.specs.Drafts.DraftRules.{all_below, deepest_of, deepest}
+use Rattle.place_plan.specs.Plans.Weights.{counted, at, nested_weight, weight}
 use Rattle.caa_base.proofs.ListLemmas.{at_row}
 use Rattle.script_checker.proofs.DepthsKept.{IsDepth}
 

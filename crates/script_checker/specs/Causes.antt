@@ -1,21 +1,21 @@
 -- The causes for which a line is refused, by what the lines before it declare.
 use Rattle.std.specs.Prelude.{◌≡◌, ℕ, ◌+◌, ◌==◌, nat_lt, nat_le, Bool, true, false, not, ◌&&◌, ◌||◌, length, is_some}
 use Rattle.std.specs.List.{list_all, list_any}
-use Rattle.caa_base.specs.declared.entry.Drill.{Drill}
+use Rattle.caa_base.specs.declared.written.entry.Drill.{Drill}
 use Rattle.cover_table.specs.Cover.{most_exceptions}
 use Rattle.exception_graph.specs.Chains.{IsFirstInCycle, IsFirstUnjoined}
-use Rattle.place_plan.specs.declared.draft_rows.AbortRow.{AbortRow}
-use Rattle.place_plan.specs.declared.draft_rows.AbortRow.TheVariants as abort
-use Rattle.place_plan.specs.declared.draft_rows.HandlerRow.{HandlerRow}
-use Rattle.caa_base.specs.Lists.{member, index_of, is_empty}
-use Rattle.caa_base.specs.Limits.{most_participants, most_objects, most_actions, most_graphs, most_roles, most_nests, most_alternates, most_steps, most_watches, most_drills, most_depth, most_places, most_entries}
-use Rattle.place_plan.specs.DraftRules.{roles_enter}
+use Rattle.place_plan.specs.declared.drafts.draft_rows.AbortRow.{AbortRow}
+use Rattle.place_plan.specs.declared.drafts.draft_rows.AbortRow.TheVariants as abort
+use Rattle.place_plan.specs.declared.drafts.draft_rows.HandlerRow.{HandlerRow}
+use Rattle.caa_base.specs.Written.Lists.{member, index_of, is_empty}
+use Rattle.caa_base.specs.Written.Limits.{most_participants, most_objects, most_actions, most_graphs, most_roles, most_nests, most_alternates, most_steps, most_watches, most_drills, most_depth, most_places, most_entries}
+use Rattle.place_plan.specs.Drafts.DraftRules.{roles_enter}
 use Rattle.action_script.specs.declared.form.Form.{Form}
 use Rattle.action_script.specs.declared.form.Form.TheVariants as form
 use Rattle.script_checker.specs.declared.check_error.CheckCause.{CheckCause}
 use Rattle.script_checker.specs.declared.check_error.CheckCause.TheVariants as cause
 use Rattle.script_checker.specs.Blocks.{is_in_graph, is_in_action}
-use Rattle.place_plan.specs.Weights.{counted, at}
+use Rattle.place_plan.specs.Plans.Weights.{counted, at}
 use Rattle.script_checker.specs.Numbers.{is_among, has_twice}
 use Rattle.script_checker.specs.DeclaredSoFar.{SoFar, inner, outer, face, face_of, action_of, nest_of, said_of, role_of}
 

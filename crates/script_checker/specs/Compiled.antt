@@ -2,11 +2,11 @@
 use Rattle.std.specs.Prelude.{◌≡◌, ℕ, ◌<◌, List, [], ◌∷◌, ◌++◌, map, length, slice_index_or, codes, None, Result, Ok, Err}
 use Rattle.cover_table.specs.Cover.{IsSound}
 use Rattle.exception_graph.specs.Chains.{IsOrderOf}
-use Rattle.place_plan.specs.declared.draft.Draft.{Draft}
-use Rattle.place_plan.specs.declared.draft_rows.GraphRow.{GraphRow}
-use Rattle.place_plan.specs.DraftRules.{broken_rule}
-use Rattle.place_plan.specs.PlanValue.{Plan}
-use Rattle.place_plan.specs.Unfolding.{plan_of}
+use Rattle.place_plan.specs.declared.drafts.draft.Draft.{Draft}
+use Rattle.place_plan.specs.declared.drafts.draft_rows.GraphRow.{GraphRow}
+use Rattle.place_plan.specs.Drafts.DraftRules.{broken_rule}
+use Rattle.place_plan.specs.Plans.PlanValue.{Plan}
+use Rattle.place_plan.specs.Plans.Unfolding.{plan_of}
 use Rattle.action_script.specs.declared.form.Form.{Form}
 use Rattle.action_script.specs.declared.script.Line.{Line}
 use Rattle.action_script.specs.ScriptValue.{Script}

@@ -1,14 +1,14 @@
 -- What the lines of a script up to some line have declared.
 use Rattle.std.specs.Prelude.{ℕ, ◌+◌, false, List, [], ◌∷◌, slice_index_or, Option, None, unwrap_or, codes}
-use Rattle.caa_base.specs.declared.entry.Drill.{Drill}
-use Rattle.place_plan.specs.declared.draft_rows.ObjectRow.{ObjectRow}
-use Rattle.place_plan.specs.declared.draft_rows.ActionRow.{ActionRow}
-use Rattle.place_plan.specs.declared.draft_rows.RoleRow.{RoleRow}
-use Rattle.place_plan.specs.declared.draft_rows.NestRow.{NestRow}
-use Rattle.place_plan.specs.declared.draft_rows.PlayRow.{PlayRow}
-use Rattle.place_plan.specs.declared.draft_rows.Step.{Step}
-use Rattle.caa_base.specs.Lists.{index_of}
-use Rattle.place_plan.specs.Places.{no_action, no_nest, no_role}
+use Rattle.caa_base.specs.declared.written.entry.Drill.{Drill}
+use Rattle.place_plan.specs.declared.drafts.draft_rows.ObjectRow.{ObjectRow}
+use Rattle.place_plan.specs.declared.drafts.draft_rows.ActionRow.{ActionRow}
+use Rattle.place_plan.specs.declared.drafts.draft_rows.RoleRow.{RoleRow}
+use Rattle.place_plan.specs.declared.drafts.draft_rows.NestRow.{NestRow}
+use Rattle.place_plan.specs.declared.drafts.draft_rows.PlayRow.{PlayRow}
+use Rattle.place_plan.specs.declared.drafts.draft_rows.Step.{Step}
+use Rattle.caa_base.specs.Written.Lists.{index_of}
+use Rattle.place_plan.specs.Plans.Places.{no_action, no_nest, no_role}
 use Rattle.action_script.specs.NumberedNames.{number_in}
 use Rattle.script_checker.specs.declared.parts.Block.{Block}
 use Rattle.script_checker.specs.declared.parts.Block.TheVariants as block

@@ -1,7 +1,7 @@
 -- The exceptions that roles handle.
 use Rattle.std.specs.Prelude.{ℕ, List, map}
-use Rattle.place_plan.specs.declared.draft_rows.HandlerRow.{HandlerRow}
-use Rattle.place_plan.specs.declared.draft_rows.RoleRow.{RoleRow}
+use Rattle.place_plan.specs.declared.drafts.draft_rows.HandlerRow.{HandlerRow}
+use Rattle.place_plan.specs.declared.drafts.draft_rows.RoleRow.{RoleRow}
 
 -- the exceptions that some handlers are for
 abbrev pub exceptions_of : List HandlerRow → List ℕ

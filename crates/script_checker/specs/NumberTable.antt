@@ -1,7 +1,7 @@
 -- What the tables of a list of names say of it.
 use Rattle.std.specs.Prelude.{◌≡◌, ◌≤◌, ◌<◌, ◌+◌, ◌-◌, ◌&&◌, ◌||◌, if◌then◌else◌, ℕ, Bool, true, false, nat_eq, nat_le, nat_lt, List, [], ◌∷◌, length, slice_index_or, Some}
 use Rattle.std.specs.HashMap.{HashMap, get}
-use Rattle.caa_base.specs.Lists.{index_of}
+use Rattle.caa_base.specs.Written.Lists.{index_of}
 use Rattle.script_checker.specs.Numbers.{is_among, most_names}
 
 -- so many names of a list are found without its tables

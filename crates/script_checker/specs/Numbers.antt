@@ -1,7 +1,7 @@
 -- Words on lists of numbers.
 use Rattle.std.specs.Prelude.{ℕ, ◌+◌, nat_lt, if◌then◌else◌, Bool, false, not, ◌&&◌, ◌||◌, List, [], ◌∷◌, length, map, Option, Some, None}
 use Rattle.std.specs.List.{list_all}
-use Rattle.caa_base.specs.Lists.{member, index_of}
+use Rattle.caa_base.specs.Written.Lists.{member, index_of}
 
 -- names of a list: so many that their number and the place of each are below the greatest number of 32 bits
 abbrev pub most_names : ℕ

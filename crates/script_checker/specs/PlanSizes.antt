@@ -1,7 +1,7 @@
 -- How large the plan of a script is.
 use Rattle.std.specs.Prelude.{◌≡◌, length}
-use Rattle.place_plan.specs.PlanValue.{Plan}
-use Rattle.place_plan.specs.Bound.{bound}
+use Rattle.place_plan.specs.Plans.PlanValue.{Plan}
+use Rattle.place_plan.specs.Plans.Bound.{bound}
 use Rattle.action_script.specs.ScriptValue.{Script}
 use Rattle.script_checker.specs.declared.plan_counts.PlanCounts.{PlanCounts}
 use Rattle.script_checker.specs.Compiled.{IsPlanOf}

@@ -1,10 +1,10 @@
 -- The sizes that a `play` line is judged by, once its names and roles are right.
 use Rattle.std.specs.Prelude.{◌≡◌, ℕ, List, ◌∷◌, ◌++◌, length}
-use Rattle.place_plan.specs.declared.draft.Draft.{Draft}
-use Rattle.place_plan.specs.Bound.{bound}
-use Rattle.place_plan.specs.DraftRules.{KeepsParts}
-use Rattle.place_plan.specs.Unfolding.{plan_of}
-use Rattle.place_plan.specs.Weights.{counted}
+use Rattle.place_plan.specs.declared.drafts.draft.Draft.{Draft}
+use Rattle.place_plan.specs.Plans.Bound.{bound}
+use Rattle.place_plan.specs.Drafts.DraftRules.{KeepsParts}
+use Rattle.place_plan.specs.Plans.Unfolding.{plan_of}
+use Rattle.place_plan.specs.Plans.Weights.{counted}
 use Rattle.action_script.specs.declared.form.Form.TheVariants as form
 use Rattle.action_script.specs.declared.script.Line.{Line}
 use Rattle.action_script.specs.ScriptValue.{Script}

@@ -1,10 +1,10 @@
 //! What a line adds to what is declared.
 
 ghost use Rattle.std.specs.Prelude.{◌≡◌, ◌<◌, ◌≤◌, ◌+◌, ◌-◌, ◌++◌, ◌∷◌, [], true, false, length, map, slice_get, slice_index_or, slice_set, Some, None, OnOk, IfOk};
-ghost use Rattle.caa_base.specs.Limits.{most_roles};
-ghost use Rattle.caa_base.specs.Names.{name_at};
+ghost use Rattle.caa_base.specs.Written.Limits.{most_roles};
+ghost use Rattle.caa_base.specs.Written.Names.{name_at};
 ghost use Rattle.cover_table.specs.Cover.{most_exceptions};
-ghost use Rattle.place_plan.specs.Places.{no_nest};
+ghost use Rattle.place_plan.specs.Plans.Places.{no_nest};
 ghost use Rattle.script_checker.specs.DeclaredSoFar.{nothing_said};
 ghost use Rattle.script_checker.specs.Causes.{is_unknown, is_twice, is_past_limit};
 ghost use Rattle.script_checker.specs.After.{step_of, verdict_of, goes_on, is_of_parts, is_of_action, is_use, is_outside, settled, closed, with_step, with_opening, idle_role, with_abort, with_graph, begun, action_row, with_depth, with_places, with_bound, with_action_row, with_action, without_parts, with_play, with_said};
@@ -20,14 +20,14 @@ use crate::number_list::NumberList;
 use crate::parts::{Block, DeclaredGraph, NestSaid, Opening};
 use crate::role_list::RoleList;
 use action_script::form::Form;
-use caa_base::entry::{Drill, OutOfMemory, Verdict};
-use caa_base::name::{Name, name_at};
-use caa_base::rows::Rows;
-use place_plan::action_size;
-use place_plan::draft_rows::{
+use caa_base::written::entry::{Drill, OutOfMemory, Verdict};
+use caa_base::written::name::{Name, name_at};
+use caa_base::written::rows::Rows;
+use place_plan::plans::action_size;
+use place_plan::drafts::draft_rows::{
     AbortRow, ActionRow, NestRow, ObjectRow, PlayRow, Program, RoleRow, Step,
 };
-use place_plan::object_list::ObjectList;
+use place_plan::drafts::object_list::ObjectList;
 use std::alloc::{AllocError, Global};
 use std::mem::replace;
 

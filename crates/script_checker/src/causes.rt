@@ -2,10 +2,10 @@
 
 ghost use Rattle.std.specs.Prelude.{◌≡◌, ◌≤◌, nat_le, length, map, not, ◌||◌, slice_index_or, IfOk};
 ghost use Rattle.std.specs.List.{list_any, list_all};
-ghost use Rattle.caa_base.specs.Limits.{most_steps};
-ghost use Rattle.caa_base.specs.Lists.{member, index_of};
-ghost use Rattle.place_plan.specs.DraftRules.{roles_enter};
-ghost use Rattle.place_plan.specs.Weights.{counted, at};
+ghost use Rattle.caa_base.specs.Written.Limits.{most_steps};
+ghost use Rattle.caa_base.specs.Written.Lists.{member, index_of};
+ghost use Rattle.place_plan.specs.Drafts.DraftRules.{roles_enter};
+ghost use Rattle.place_plan.specs.Plans.Weights.{counted, at};
 ghost use Rattle.script_checker.specs.Numbers.{is_among};
 ghost use Rattle.script_checker.specs.DeclaredSoFar.{nest_of, said_of, role_of, face, inner};
 ghost use Rattle.script_checker.specs.Causes.{is_action, is_unknown, is_drill, is_said, handles, is_twice, is_filled_by, is_unfilled, fills_twice, enters_otherwise, holds, holds_all, is_not_held, is_deepest, is_too_deep, places_with, is_past_limit, bound_with, is_past_bound, has_other_face};
@@ -19,14 +19,14 @@ use crate::lookups::{
 };
 use crate::parts::Block;
 use action_script::form::Form;
-use caa_base::limits::{
+use caa_base::written::limits::{
     MOST_ACTIONS, MOST_ALTERNATES, MOST_DEPTH, MOST_DRILLS, MOST_ENTRIES, MOST_GRAPHS, MOST_NESTS,
     MOST_OBJECTS, MOST_PARTICIPANTS, MOST_PLACES, MOST_ROLES, MOST_STEPS, MOST_WATCHES,
 };
 use cover_table::MOST_EXCEPTIONS;
-use place_plan::draft_rows::AbortRow;
-use place_plan::tables::{counted_sum, number_at};
-use place_plan::uses::roles_enter;
+use place_plan::drafts::draft_rows::AbortRow;
+use place_plan::plans::tables::{counted_sum, number_at};
+use place_plan::drafts::uses::roles_enter;
 use std::alloc::{AllocError, Global};
 
 // ---- a name that isn't declared

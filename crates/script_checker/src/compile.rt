@@ -1,5 +1,5 @@
 ghost use Rattle.std.specs.Prelude.{◌≡◌, ◌≢◌, ◌<◌, ◌^◌, false, length, [], Some, None, OnOk, IfOk, IfErr, IfSome, MatchOption};
-ghost use Rattle.place_plan.specs.Unfolding.{plan_of};
+ghost use Rattle.place_plan.specs.Plans.Unfolding.{plan_of};
 ghost use Rattle.script_checker.specs.DeclaredSoFar.{nothing_yet};
 ghost use Rattle.script_checker.specs.Causes.{HasCause, ends_graph};
 ghost use Rattle.script_checker.specs.Numbers.{chosen_from};
@@ -26,14 +26,14 @@ use crate::lookups::{are_among, places_once};
 use crate::plan_counts::PlanCounts;
 use action_script::form::Form;
 use action_script::script::Script;
-use caa_base::entry::OutOfMemory;
-use caa_base::name::Name;
-use caa_base::rows::Rows;
+use caa_base::written::entry::OutOfMemory;
+use caa_base::written::name::Name;
+use caa_base::written::rows::Rows;
 use exception_graph::Graph;
-use place_plan::draft::Draft;
-use place_plan::draft_rows::GraphRow;
-use place_plan::object_list::ObjectList;
-use place_plan::plan::{Plan, PlanError};
+use place_plan::drafts::draft::Draft;
+use place_plan::drafts::draft_rows::GraphRow;
+use place_plan::drafts::object_list::ObjectList;
+use place_plan::plans::plan::{Plan, PlanError};
 use std::alloc::{AllocError, Global};
 
 /// The first cause of a line that its names alone tell.

@@ -1,5 +1,5 @@
 ghost use Rattle.std.specs.Prelude.{◌≡◌, ◌≤◌, ◌<◌, true, false, length, All, IfOk};
-ghost use Rattle.caa_base.specs.Limits.{most_roles};
+ghost use Rattle.caa_base.specs.Written.Limits.{most_roles};
 ghost use Rattle.cover_table.specs.Cover.{most_exceptions};
 ghost use Rattle.script_checker.specs.Blocks.{is_in_graph};
 ghost use Rattle.script_checker.specs.Numbers.{has_twice};
@@ -10,10 +10,10 @@ use crate::number_list::NumberList;
 use crate::parts::{Block, DeclaredGraph, NestSaid, Opening};
 use crate::role_list::RoleList;
 use action_script::script::Script;
-use caa_base::name::Name;
-use caa_base::rows::Rows;
-use place_plan::draft_rows::{ActionRow, NestRow, ObjectRow, PlayRow, Step};
-use place_plan::object_list::ObjectList;
+use caa_base::written::name::Name;
+use caa_base::written::rows::Rows;
+use place_plan::drafts::draft_rows::{ActionRow, NestRow, ObjectRow, PlayRow, Step};
+use place_plan::drafts::object_list::ObjectList;
 use std::alloc::{AllocError, Global};
 
 /// What the lines of a script have declared so far, by the numbers of names.

@@ -2,7 +2,7 @@ ghost use Rattle.std.specs.Prelude.{◌≡◌, ◌++◌, ◌∷◌, [], length, 
 ghost use Rattle.std.specs.List.{list_any};
 ghost use Rattle.script_checker.specs.Causes.{is_drill};
 
-use caa_base::entry::Drill;
+use caa_base::written::entry::Drill;
 use std::alloc::{AllocError, Global};
 use std::collections::HashSet;
 use std::marker::Model;
@@ -19,7 +19,7 @@ pub struct DrillList {
 
 impl Model for DrillList {
     ghost use Rattle.std.specs.Prelude.{List};
-    ghost use Rattle.caa_base.specs.declared.entry.Drill.{Drill};
+    ghost use Rattle.caa_base.specs.declared.written.entry.Drill.{Drill};
     ghost use Rattle.script_checker.specs.DrillTable.{HasPutsOf};
 
     ghost Value = { List Drill };

@@ -12,11 +12,11 @@ use crate::check_error::CheckCause;
 use crate::declared::Declared;
 use crate::parts::Block;
 use action_script::form::Form;
-use caa_base::entry::OutOfMemory;
-use caa_base::name::Name;
-use caa_base::rows::Rows;
+use caa_base::written::entry::OutOfMemory;
+use caa_base::written::name::Name;
+use caa_base::written::rows::Rows;
 use exception_graph::{Graph, GraphError};
-use place_plan::draft_rows::GraphRow;
+use place_plan::drafts::draft_rows::GraphRow;
 use std::alloc::Global;
 
 /// Whether the line ends a graph.

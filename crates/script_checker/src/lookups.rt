@@ -2,16 +2,16 @@
 
 ghost use Rattle.std.specs.Prelude.{◌≡◌, ◌==◌, ◌≤◌, true, false, not, length, map, replicate, slice_index_or, slice_set, IfOk};
 ghost use Rattle.std.specs.List.{list_all};
-ghost use Rattle.caa_base.specs.Lists.{index_of};
-ghost use Rattle.place_plan.specs.Places.{no_action};
+ghost use Rattle.caa_base.specs.Written.Lists.{index_of};
+ghost use Rattle.place_plan.specs.Plans.Places.{no_action};
 ghost use Rattle.script_checker.specs.Numbers.{is_among, most_names, has_twice, are_once_among, places_once, set_from, flags_of};
 ghost use Rattle.script_checker.specs.DeclaredSoFar.{exceptions_at, inner, outer, nest_of, face_of};
 ghost use Rattle.script_checker.specs.View.{so_far};
 
 use crate::declared::Declared;
 use crate::number_list::NumberList;
-use place_plan::differing::all_differ;
-use place_plan::object_list::ObjectList;
+use place_plan::drafts::differing::all_differ;
+use place_plan::drafts::object_list::ObjectList;
 use std::alloc::{AllocError, Global};
 
 /// So many numbers are told apart without a table, which takes less time.

@@ -1,6 +1,6 @@
 ghost use Rattle.std.specs.Prelude.{◌≡◌, ◌==◌, ◌<◌, ◌≤◌, ◌+◌, ◌++◌, ◌∷◌, ℕ, not, [], false, length, max, min, nat_eq, position, set, slice_get, slice_index_or, take, None, Some, OnOk, OnErr, IfOk, IfSome, IfNone};
 ghost use Rattle.std.specs.Option.{option_eq};
-ghost use Rattle.caa_base.specs.Lists.{member, index_of, is_empty};
+ghost use Rattle.caa_base.specs.Written.Lists.{member, index_of, is_empty};
 ghost use Rattle.script_checker.specs.Numbers.{is_among, most_names};
 ghost use Rattle.script_checker.specs.NumberTable.{few_names, is_near, are_close, base_of, base_or, keeps_base};
 

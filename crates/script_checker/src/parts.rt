@@ -1,7 +1,7 @@
 //! The parts of what the lines of a script have declared so far.
 
 use crate::number_list::NumberList;
-use caa_base::rows::Rows;
+use caa_base::written::rows::Rows;
 
 /// Where a line stands.
 #[derive(Clone, Copy, Debug, PartialEq, Eq)]

@@ -1,14 +1,14 @@
 ghost use Rattle.std.specs.Prelude.{◌≡◌, ◌<◌, ◌++◌, ◌∷◌, [], length, map, slice_index_or, slice_set, Some, OnOk, OnErr, IfOk};
 ghost use Rattle.std.specs.List.{list_any};
-ghost use Rattle.place_plan.specs.Places.{no_role};
+ghost use Rattle.place_plan.specs.Plans.Places.{no_role};
 ghost use Rattle.script_checker.specs.Causes.{handles};
 ghost use Rattle.script_checker.specs.After.{with_program};
 ghost use Rattle.script_checker.specs.Handled.{exceptions_of};
 
 use crate::number_list::NumberList;
 use crate::parts::Opening;
-use caa_base::rows::Rows;
-use place_plan::draft_rows::{AbortRow, HandlerRow, Program, RoleRow};
+use caa_base::written::rows::Rows;
+use place_plan::drafts::draft_rows::{AbortRow, HandlerRow, Program, RoleRow};
 use std::alloc::{AllocError, Global};
 use std::marker::Model;
 use std::mem::replace;
@@ -26,7 +26,7 @@ pub struct RoleList {
 
 impl Model for RoleList {
     ghost use Rattle.std.specs.Prelude.{List, ◌≡◌, map};
-    ghost use Rattle.place_plan.specs.declared.draft_rows.RoleRow.{RoleRow};
+    ghost use Rattle.place_plan.specs.declared.drafts.draft_rows.RoleRow.{RoleRow};
     ghost use Rattle.script_checker.specs.Handled.{handled_by};
 
     ghost Value = { List RoleRow };

@@ -1,9 +1,9 @@
 -- What is kept of the resolutions in a journal.
 use Rattle.std.specs.Prelude.{◌≡◌, ℕ, ◌<◌, Bool, true, false, List, length, slice_index_or, Option, Some, None}
-use Rattle.caa_base.specs.declared.entry.Kind.{Kind}
-use Rattle.caa_base.specs.declared.entry.Kind.TheVariants as kind
-use Rattle.caa_base.specs.declared.entry.Entry.{Entry}
-use Rattle.place_plan.specs.Raising.{exception_resolved}
+use Rattle.caa_base.specs.declared.written.entry.Kind.{Kind}
+use Rattle.caa_base.specs.declared.written.entry.Kind.TheVariants as kind
+use Rattle.caa_base.specs.declared.written.entry.Entry.{Entry}
+use Rattle.place_plan.specs.RulesOfJournals.Raising.{exception_resolved}
 use Rattle.shared_views.specs.Noted.{Noted, IsOf}
 use Rattle.shared_views.specs.RefusedNotes.{place_refused}
 use Rattle.shared_views.specs.declared.bulletin.Bulletin.{Bulletin}

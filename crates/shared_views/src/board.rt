@@ -5,7 +5,7 @@ ghost use Rattle.shared_views.specs.Boards.{row_after};
 use crate::observed::Reading;
 use crate::publications::Publications;
 use atomic_table::{Join, Split};
-use caa_base::entry::{Object, OutOfMemory};
+use caa_base::written::entry::{Object, OutOfMemory};
 use crossbeam_utils::rule::{Outcome, Protocol};
 use left_right::Absorb;
 use std::alloc::{AllocError, Global};

@@ -1,9 +1,9 @@
 ghost use Rattle.std.specs.Prelude.{◌≡◌, ◌<◌, ℕ, true, false, List, ◌∷◌, length, slice_index_or, slice_set, replicate, IfOk};
-ghost use Rattle.caa_base.specs.declared.entry.Entry.{Entry as JournalEntry};
+ghost use Rattle.caa_base.specs.declared.written.entry.Entry.{Entry as JournalEntry};
 
 use crate::cells::{Announcer, ResolutionCells};
 use crate::notes::{NoteRefused, PlaceNote};
-use caa_base::entry::{Entry, Exception, Kind, OutOfMemory, Place};
+use caa_base::written::entry::{Entry, Exception, Kind, OutOfMemory, Place};
 use std::alloc::Global;
 use std::snapshot::Snapshot;
 

@@ -4,7 +4,7 @@ ghost use Rattle.shared_views.specs.Noted.{IsOf};
 use crate::bulletin::{Announcement, Bulletin};
 use crate::notes::{NoteRefused, PlaceNote};
 use crate::send_sync::{may_cross, may_share};
-use caa_base::entry::{Exception, OutOfMemory, Place};
+use caa_base::written::entry::{Exception, OutOfMemory, Place};
 use once_cell::race::OnceBox;
 use std::alloc::Global;
 use std::marker::Model;

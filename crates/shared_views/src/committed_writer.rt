@@ -2,17 +2,17 @@ ghost use Rattle.std.specs.Prelude.{◌≡◌, ◌<◌, ◌∷◌, ◌++◌, [],
 ghost use Rattle.left_right.specs.Sides.{view};
 ghost use Rattle.shared_views.specs.Boards.{IsRight, Follows};
 ghost use Rattle.shared_views.specs.Committing.{Committed, watching, IsReading};
-ghost use Rattle.place_plan.specs.Places.{initials_of};
+ghost use Rattle.place_plan.specs.Plans.Places.{initials_of};
 
 use crate::board::{Board, Looks, Publication};
 use crate::observed::Reading;
 use crate::observer::{BoardWriter, Observer};
 use crate::publications::{Head, Publications};
 use crate::send_sync::may_cross;
-use caa_base::entry::{Object, OutOfMemory};
+use caa_base::written::entry::{Object, OutOfMemory};
 use core::mem::replace_with;
 use left_right::writer::Writer;
-use place_plan::plan::Plan;
+use place_plan::plans::plan::Plan;
 use std::alloc::Global;
 use std::marker::Model;
 use std::sync::Wait;

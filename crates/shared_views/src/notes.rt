@@ -1,6 +1,6 @@
 ghost use Rattle.std.specs.Prelude.{◌≡◌};
 
-use caa_base::entry::Place;
+use caa_base::written::entry::Place;
 use once_cell::race::Note;
 use std::marker::Model;
 

@@ -2,7 +2,7 @@ ghost use Rattle.shared_views.specs.Publications.{Begins};
 ghost use Rattle.shared_views.specs.Committing.{IsReading, WasRead};
 
 use crate::publications::Publications;
-use caa_base::entry::Object;
+use caa_base::written::entry::Object;
 
 /// What is read of an object: after how many publications, and its value after them.
 #[derive(Clone, Copy, Debug, PartialEq, Eq)]

@@ -7,7 +7,7 @@ ghost use Rattle.shared_views.specs.Committing.{Watching, IsReading};
 use crate::board::{Board, Looks, Publication, Published, Tells, View};
 use crate::observed::{ReadRefused, Reading};
 use crate::publications::Publications;
-use caa_base::entry::{Object, OutOfMemory};
+use caa_base::written::entry::{Object, OutOfMemory};
 use left_right::reader::Reader;
 use left_right::writer::Writer;
 use std::alloc::Global;

@@ -3,7 +3,7 @@ ghost use mathlib.Core.List.{IsPrefix};
 ghost use Rattle.shared_views.specs.Chronicles.{head_of};
 ghost use Rattle.shared_views.specs.Publications.{Begins};
 
-use caa_base::entry::Object;
+use caa_base::written::entry::Object;
 use logbook::{Gain, Offer, Plain, Play, Rule, Seen, Start, Word};
 use std::marker::Model;
 

@@ -1,7 +1,7 @@
 ghost use Rattle.std.specs.Prelude.{◌≡◌, length, replicate, true};
 
 use super::*;
-use place_plan::plan::Plan;
+use place_plan::plans::plan::Plan;
 use std::alloc::Global;
 use std::sync::Wait;
 use std::test::Fail;

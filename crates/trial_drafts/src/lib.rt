@@ -3,15 +3,15 @@
 
 ghost use Rattle.std.specs.Prelude.{◌≡◌, ◌<◌, [], ◌∷◌, codes, map, IsTrue, All, IfOk};
 
-use caa_base::entry::{Drill, Exception, Object, OutOfMemory, Participant, Verdict};
-use caa_base::name::Name;
-use caa_base::rows::Rows;
+use caa_base::written::entry::{Drill, Exception, Object, OutOfMemory, Participant, Verdict};
+use caa_base::written::name::Name;
+use caa_base::written::rows::Rows;
 use exception_graph::Graph;
-use place_plan::draft::Draft;
-use place_plan::draft_rows::{
+use place_plan::drafts::draft::Draft;
+use place_plan::drafts::draft_rows::{
     AbortRow, ActionRow, GraphRow, HandlerRow, NestRow, ObjectRow, PlayRow, Program, RoleRow, Step,
 };
-use place_plan::object_list::ObjectList;
+use place_plan::drafts::object_list::ObjectList;
 use std::alloc::{AllocError, AllocFailed, Global};
 use thiserror::Error;
 

@@ -1,12 +1,12 @@
 //! Drafts of one action that nests nothing: what its plan reads, and which rule a wrong draft breaks.
 
 use crate::{PLAIN, action, draft, numbers, plain_role, play};
-use caa_base::entry::{Drill, Entry, Kind, Object, Participant, Verdict};
-use caa_base::rows::Rows;
-use place_plan::draft::Draft;
-use place_plan::draft_rows::{AbortRow, ActionRow, GraphRow, PlayRow, RoleRow, Step};
-use place_plan::plan::{Plan, PlanError};
-use place_plan::value::value_at;
+use caa_base::written::entry::{Drill, Entry, Kind, Object, Participant, Verdict};
+use caa_base::written::rows::Rows;
+use place_plan::drafts::draft::Draft;
+use place_plan::drafts::draft_rows::{AbortRow, ActionRow, GraphRow, PlayRow, RoleRow, Step};
+use place_plan::plans::plan::{Plan, PlanError};
+use place_plan::rules::value::value_at;
 use std::alloc::Global;
 use std::test::Fail;
 

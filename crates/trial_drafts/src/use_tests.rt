@@ -1,15 +1,15 @@
 //! Drafts with nested uses: what they unfold into, and which rule a wrong one breaks.
 
 use crate::{Exceptions, Maps, action, draft, nest, play, program, role};
-use caa_base::entry::Verdict;
-use caa_base::rows::Rows;
-use place_plan::close::broken_part;
-use place_plan::draft::Draft;
-use place_plan::draft_rows::{
+use caa_base::written::entry::Verdict;
+use caa_base::written::rows::Rows;
+use place_plan::drafts::close::broken_part;
+use place_plan::drafts::draft::Draft;
+use place_plan::drafts::draft_rows::{
     AbortRow, ActionRow, GraphRow, HandlerRow, NestRow, PlayRow, RoleRow, Step,
 };
-use place_plan::plan::{Plan, PlanError};
-use place_plan::unfolded::{Size, unfolded};
+use place_plan::plans::plan::{Plan, PlanError};
+use place_plan::plans::unfolded::{Size, unfolded};
 use std::alloc::Global;
 use std::test::Fail;
 

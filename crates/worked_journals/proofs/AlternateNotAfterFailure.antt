@@ -3,13 +3,13 @@
 -- The script: that of the journal with alternates, with the line "drill x 2" after "object x 1".
 use Rattle.std.proofs.Common.{◌≡◌, pos, List, [], ◌∷◌, reverse, refl, rules}
 use Rattle.cover_table.specs.Cover.{IsLeastCover}
-use Rattle.caa_base.specs.declared.entry.Entry.{Entry}
-use Rattle.place_plan.specs.PlanValue.{Plan}
-use Rattle.place_plan.specs.Places.{internal_of}
-use Rattle.place_plan.specs.Objects.{value_of}
-use Rattle.place_plan.specs.Journals.{IsLegal, IsComplete, puts_of}
-use Rattle.place_plan.specs.Attempts.{attempts_on}
-use Rattle.place_plan.specs.Bound.{bound, action_bound}
+use Rattle.caa_base.specs.declared.written.entry.Entry.{Entry}
+use Rattle.place_plan.specs.Plans.PlanValue.{Plan}
+use Rattle.place_plan.specs.Plans.Places.{internal_of}
+use Rattle.place_plan.specs.RulesOfJournals.Objects.{value_of}
+use Rattle.place_plan.specs.RulesOfJournals.Journals.{IsLegal, IsComplete, puts_of}
+use Rattle.place_plan.specs.RulesOfJournals.Attempts.{attempts_on}
+use Rattle.place_plan.specs.Plans.Bound.{bound, action_bound}
 use Rattle.worked_journals.proofs.Notation.{arrive, start, write, resolve, verdict_undo, undo, restore_well, restore_failed, end_undone, end_failed, leave, leave_carrying}
 use Rattle.worked_journals.proofs.Notation.{universal}
 use Rattle.worked_journals.proofs.Notation.{least_cover_from, complete_from, AreWellFormed}

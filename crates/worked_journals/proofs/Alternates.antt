@@ -5,17 +5,17 @@
 --   action good / use x / roles r / body r / read x / add x 2 / end /
 --   action outer / use x / roles s / nest n bad s / alternate n good / body s / enter n / end / play outer ann
 use Rattle.std.proofs.Common.{◌≡◌, ℕ, ℤ, pos, List, [], ◌∷◌, reverse, refl, codes, rules}
-use Rattle.caa_base.specs.declared.entry.Entry.{Entry}
-use Rattle.caa_base.specs.declared.entry.Verdict.TheVariants as verdict
-use Rattle.place_plan.specs.declared.draft_rows.AbortRow.TheVariants as abort
-use Rattle.place_plan.specs.declared.draft_rows.ActionRow.{ActionRow}
-use Rattle.place_plan.specs.declared.draft_rows.NestRow.{NestRow}
-use Rattle.place_plan.specs.declared.draft_rows.RoleRow.{RoleRow}
-use Rattle.place_plan.specs.declared.draft_rows.Step.TheVariants as step
-use Rattle.place_plan.specs.PlanValue.{Plan}
-use Rattle.place_plan.specs.Objects.{value_of}
-use Rattle.place_plan.specs.Journals.{IsLegal, IsComplete, puts_of}
-use Rattle.place_plan.specs.Bound.{bound, action_bound}
+use Rattle.caa_base.specs.declared.written.entry.Entry.{Entry}
+use Rattle.caa_base.specs.declared.written.entry.Verdict.TheVariants as verdict
+use Rattle.place_plan.specs.declared.drafts.draft_rows.AbortRow.TheVariants as abort
+use Rattle.place_plan.specs.declared.drafts.draft_rows.ActionRow.{ActionRow}
+use Rattle.place_plan.specs.declared.drafts.draft_rows.NestRow.{NestRow}
+use Rattle.place_plan.specs.declared.drafts.draft_rows.RoleRow.{RoleRow}
+use Rattle.place_plan.specs.declared.drafts.draft_rows.Step.TheVariants as step
+use Rattle.place_plan.specs.Plans.PlanValue.{Plan}
+use Rattle.place_plan.specs.RulesOfJournals.Objects.{value_of}
+use Rattle.place_plan.specs.RulesOfJournals.Journals.{IsLegal, IsComplete, puts_of}
+use Rattle.place_plan.specs.Plans.Bound.{bound, action_bound}
 use Rattle.journal_laws.specs.Laws.{last_write, is_kept}
 use Rattle.worked_journals.proofs.Notation.{plain_graph, arrive, start, read, write, verdict_done, verdict_undo, undo, restore_well, end_undone, end_commit, leave}
 use Rattle.worked_journals.proofs.Notation.{universal, object, program, play, inner}

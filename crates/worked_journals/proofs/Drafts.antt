@@ -1,16 +1,16 @@
 -- Drafts of worked plans: each breaks no rule, and unfolds into the plan that was worked out by hand. Some are spoiled by one
 -- change: each breaks the rule of drafts that it is meant to break.
 use Rattle.std.proofs.Common.{◌≡◌, ℕ, List, [], ◌∷◌, ◌++◌, Some, None, refl}
-use Rattle.caa_base.specs.declared.entry.Verdict.TheVariants as verdict
-use Rattle.place_plan.specs.declared.draft.Draft.{Draft}
-use Rattle.place_plan.specs.declared.draft_rows.ActionRow.{ActionRow}
-use Rattle.place_plan.specs.declared.draft_rows.PlaceRow.{PlaceRow}
-use Rattle.place_plan.specs.declared.draft_rows.PlayRow.{PlayRow}
-use Rattle.place_plan.specs.PlanValue.{Plan}
-use Rattle.place_plan.specs.Bound.{action_bound}
-use Rattle.place_plan.specs.Unfolding.{plan_of, unfold_at, plays_from, tops_from}
-use Rattle.caa_base.specs.Limits.{most_depth}
-use Rattle.place_plan.specs.DraftRules.{broken_rule, depth_within}
+use Rattle.caa_base.specs.declared.written.entry.Verdict.TheVariants as verdict
+use Rattle.place_plan.specs.declared.drafts.draft.Draft.{Draft}
+use Rattle.place_plan.specs.declared.drafts.draft_rows.ActionRow.{ActionRow}
+use Rattle.place_plan.specs.declared.drafts.draft_rows.PlaceRow.{PlaceRow}
+use Rattle.place_plan.specs.declared.drafts.draft_rows.PlayRow.{PlayRow}
+use Rattle.place_plan.specs.Plans.PlanValue.{Plan}
+use Rattle.place_plan.specs.Plans.Bound.{action_bound}
+use Rattle.place_plan.specs.Plans.Unfolding.{plan_of, unfold_at, plays_from, tops_from}
+use Rattle.caa_base.specs.Written.Limits.{most_depth}
+use Rattle.place_plan.specs.Drafts.DraftRules.{broken_rule, depth_within}
 use Rattle.worked_journals.proofs.Notation.{plain_graph, universal, program, play, inner}
 use Rattle.worked_journals.proofs.ThreeLevels.{ann, bob}
 use Rattle.worked_journals.proofs.FirstPath as first_path

@@ -3,23 +3,23 @@ use Rattle.std.proofs.Common.{◌≡◌, ℕ, pos, ◌+◌, ◌-◌, ◌^◌, �
 use Rattle.std.specs.Prelude.{nat_lt, codes}
 use Rattle.std.proofs.lemmas.Bool.{and_parts, false≢true, ltb-true}
 use Rattle.cover_table.specs.Cover.{CoverOrder, IsLeastCover, covers, covers_each}
-use Rattle.caa_base.specs.declared.entry.Entry.{Entry}
-use Rattle.caa_base.specs.declared.entry.Kind.{Kind}
-use Rattle.caa_base.specs.declared.entry.Kind.TheVariants as kind
-use Rattle.caa_base.specs.declared.entry.Verdict.{Verdict}
-use Rattle.place_plan.specs.declared.draft_rows.GraphRow.{GraphRow}
-use Rattle.place_plan.specs.declared.draft_rows.ObjectRow.{ObjectRow}
-use Rattle.place_plan.specs.declared.draft_rows.PlaceRow.{PlaceRow}
-use Rattle.place_plan.specs.declared.draft_rows.RoleRow.{RoleRow}
-use Rattle.place_plan.specs.declared.draft_rows.HandlerRow.{HandlerRow}
-use Rattle.place_plan.specs.declared.draft_rows.Program.{Program}
-use Rattle.place_plan.specs.declared.draft_rows.Step.{Step}
-use Rattle.place_plan.specs.declared.draft_rows.AbortRow.{AbortRow}
-use Rattle.place_plan.specs.PlanValue.{Plan}
-use Rattle.place_plan.specs.Roles.{is_over}
-use Rattle.place_plan.specs.Rules.{MayFollow}
-use Rattle.place_plan.specs.WellFormed.{IsWellFormed}
-use Rattle.place_plan.specs.Journals.{LegalPast, IsLegal, IsComplete}
+use Rattle.caa_base.specs.declared.written.entry.Entry.{Entry}
+use Rattle.caa_base.specs.declared.written.entry.Kind.{Kind}
+use Rattle.caa_base.specs.declared.written.entry.Kind.TheVariants as kind
+use Rattle.caa_base.specs.declared.written.entry.Verdict.{Verdict}
+use Rattle.place_plan.specs.declared.drafts.draft_rows.GraphRow.{GraphRow}
+use Rattle.place_plan.specs.declared.drafts.draft_rows.ObjectRow.{ObjectRow}
+use Rattle.place_plan.specs.declared.drafts.draft_rows.PlaceRow.{PlaceRow}
+use Rattle.place_plan.specs.declared.drafts.draft_rows.RoleRow.{RoleRow}
+use Rattle.place_plan.specs.declared.drafts.draft_rows.HandlerRow.{HandlerRow}
+use Rattle.place_plan.specs.declared.drafts.draft_rows.Program.{Program}
+use Rattle.place_plan.specs.declared.drafts.draft_rows.Step.{Step}
+use Rattle.place_plan.specs.declared.drafts.draft_rows.AbortRow.{AbortRow}
+use Rattle.place_plan.specs.Plans.PlanValue.{Plan}
+use Rattle.place_plan.specs.RulesOfJournals.Roles.{is_over}
+use Rattle.place_plan.specs.RulesOfJournals.Rules.{MayFollow}
+use Rattle.place_plan.specs.RulesOfJournals.WellFormed.{IsWellFormed}
+use Rattle.place_plan.specs.RulesOfJournals.Journals.{LegalPast, IsLegal, IsComplete}
 
 -- ---- graphs
 

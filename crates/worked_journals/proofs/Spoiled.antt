@@ -2,8 +2,8 @@
 use Rattle.std.proofs.Common.{ℕ, ◌++◌, List, [], ◌∷◌, suc, take, drop, arith, refl, sym, ◌∙◌, ap, ℤ, Option, Some, None}
 use Rattle.std.specs.Prelude.{nat_abs}
 use Rattle.std.proofs.lemmas.Bool.{false≢true, true≢false}
-use Rattle.caa_base.specs.declared.entry.Entry.{Entry}
-use Rattle.place_plan.specs.Journals.{IsLegal, IsComplete}
+use Rattle.caa_base.specs.declared.written.entry.Entry.{Entry}
+use Rattle.place_plan.specs.RulesOfJournals.Journals.{IsLegal, IsComplete}
 use Rattle.worked_journals.proofs.Notation.{arrive, withdraw, read, work, write, check, end_signal, raise, resolve, handle, verdict_done, abort, abort_naming, restore_well, end_commit, end_undone, leave, leave_carrying, universal, rule_at}
 use Rattle.worked_journals.proofs.Alternates as alternates
 use Rattle.worked_journals.proofs.AlternateNotAfterFailure as alternate_not_after_failure

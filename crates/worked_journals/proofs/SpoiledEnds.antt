@@ -5,21 +5,21 @@ use Rattle.std.proofs.Common.{◌≡◌, ℕ, pos, ◌+◌, ◌*◌, ◌<◌, Bo
 use Rattle.std.specs.Prelude.{slice_index_or, nat_abs}
 use Rattle.std.specs.List.{list_any}
 use Rattle.std.proofs.lemmas.Bool.{false≢true, true≢false}
-use Rattle.caa_base.specs.declared.entry.Entry.{Entry}
-use Rattle.caa_base.specs.declared.entry.Kind.TheVariants as kind
-use Rattle.place_plan.specs.declared.draft_rows.ActionRow.{ActionRow}
-use Rattle.place_plan.specs.declared.draft_rows.PlaceRow.{PlaceRow}
-use Rattle.place_plan.specs.PlanValue.{Plan}
-use Rattle.caa_base.specs.Lists.{first_not}
-use Rattle.place_plan.specs.Places.{objects_of, no_action}
-use Rattle.place_plan.specs.Entries.{has}
-use Rattle.place_plan.specs.Whereabouts.{inside, all_are_inside, has_started, has_ended, is_undoing}
-use Rattle.place_plan.specs.Raising.{is_doomed}
-use Rattle.place_plan.specs.Objects.{writes, is_tried, value_of, before_start, next_restore}
-use Rattle.place_plan.specs.Roles.{has_given}
-use Rattle.place_plan.specs.Rules.{Row, IsPlain, Names, EndsAgreed, undone_mark, exception_carried}
-use Rattle.place_plan.specs.Bound.{longest_body, longest_handler}
-use Rattle.place_plan.specs.Journals.{IsLegal, IsComplete}
+use Rattle.caa_base.specs.declared.written.entry.Entry.{Entry}
+use Rattle.caa_base.specs.declared.written.entry.Kind.TheVariants as kind
+use Rattle.place_plan.specs.declared.drafts.draft_rows.ActionRow.{ActionRow}
+use Rattle.place_plan.specs.declared.drafts.draft_rows.PlaceRow.{PlaceRow}
+use Rattle.place_plan.specs.Plans.PlanValue.{Plan}
+use Rattle.caa_base.specs.Written.Lists.{first_not}
+use Rattle.place_plan.specs.Plans.Places.{objects_of, no_action}
+use Rattle.place_plan.specs.RulesOfJournals.Entries.{has}
+use Rattle.place_plan.specs.RulesOfJournals.Whereabouts.{inside, all_are_inside, has_started, has_ended, is_undoing}
+use Rattle.place_plan.specs.RulesOfJournals.Raising.{is_doomed}
+use Rattle.place_plan.specs.RulesOfJournals.Objects.{writes, is_tried, value_of, before_start, next_restore}
+use Rattle.place_plan.specs.RulesOfJournals.Roles.{has_given}
+use Rattle.place_plan.specs.RulesOfJournals.Rules.{Row, IsPlain, Names, EndsAgreed, undone_mark, exception_carried}
+use Rattle.place_plan.specs.Plans.Bound.{longest_body, longest_handler}
+use Rattle.place_plan.specs.RulesOfJournals.Journals.{IsLegal, IsComplete}
 use Rattle.journal_laws.specs.Laws.{ExitLaw, OutcomeLaw, EffectLaw, IsolationLaw}
 use Rattle.worked_journals.proofs.Notation.{arrive, start, read, work, verdict_done, end_commit, end_undone, leave, complete_from, rule_at}
 use Rattle.worked_journals.proofs.Spoiled.{ends_undone_after_refusal, ends_undone_after_refusal_is_illegal}

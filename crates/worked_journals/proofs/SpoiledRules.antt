@@ -4,23 +4,23 @@ use Rattle.std.proofs.Common.{◌≡◌, ℕ, pos, Bool, true, false, not, ◌&&
 use Rattle.std.specs.Prelude.{is_none}
 use Rattle.std.proofs.lemmas.Bool.{false≢true, true≢false}
 use Rattle.cover_table.specs.Cover.{IsLeastCover}
-use Rattle.caa_base.specs.declared.entry.Entry.{Entry}
-use Rattle.caa_base.specs.declared.entry.Kind.{Kind}
-use Rattle.caa_base.specs.declared.entry.Kind.TheVariants as kind
-use Rattle.caa_base.specs.declared.entry.Verdict.TheVariants as verdict
-use Rattle.place_plan.specs.declared.draft_rows.RoleRow.{RoleRow}
-use Rattle.place_plan.specs.PlanValue.{Plan}
-use Rattle.place_plan.specs.Bound.{action_bound}
-use Rattle.place_plan.specs.Places.{parent, roles_of, internal_of, handler_of, abort_row}
-use Rattle.place_plan.specs.Entries.{code_of, is_in, is_by, newest}
-use Rattle.place_plan.specs.Whereabouts.{inside, has_ended, is_undoing, is_going, is_left_in_silence}
-use Rattle.place_plan.specs.Raising.{has_handled, exceptions_raised, is_doomed, is_hot, exception_resolved}
-use Rattle.place_plan.specs.Objects.{value_of}
-use Rattle.place_plan.specs.Roles.{register, all_have_given, wants_undo, signals, has_aborted}
-use Rattle.place_plan.specs.Rules.{Row, Names, abort_of, SignalsLeast, EndsUndone, outcome_mapped}
-use Rattle.place_plan.specs.Unfolding.{unfold_at}
-use Rattle.place_plan.specs.DraftRules.{depth_within}
-use Rattle.place_plan.specs.Journals.{LegalPast, IsLegal}
+use Rattle.caa_base.specs.declared.written.entry.Entry.{Entry}
+use Rattle.caa_base.specs.declared.written.entry.Kind.{Kind}
+use Rattle.caa_base.specs.declared.written.entry.Kind.TheVariants as kind
+use Rattle.caa_base.specs.declared.written.entry.Verdict.TheVariants as verdict
+use Rattle.place_plan.specs.declared.drafts.draft_rows.RoleRow.{RoleRow}
+use Rattle.place_plan.specs.Plans.PlanValue.{Plan}
+use Rattle.place_plan.specs.Plans.Bound.{action_bound}
+use Rattle.place_plan.specs.Plans.Places.{parent, roles_of, internal_of, handler_of, abort_row}
+use Rattle.place_plan.specs.RulesOfJournals.Entries.{code_of, is_in, is_by, newest}
+use Rattle.place_plan.specs.RulesOfJournals.Whereabouts.{inside, has_ended, is_undoing, is_going, is_left_in_silence}
+use Rattle.place_plan.specs.RulesOfJournals.Raising.{has_handled, exceptions_raised, is_doomed, is_hot, exception_resolved}
+use Rattle.place_plan.specs.RulesOfJournals.Objects.{value_of}
+use Rattle.place_plan.specs.RulesOfJournals.Roles.{register, all_have_given, wants_undo, signals, has_aborted}
+use Rattle.place_plan.specs.RulesOfJournals.Rules.{Row, Names, abort_of, SignalsLeast, EndsUndone, outcome_mapped}
+use Rattle.place_plan.specs.Plans.Unfolding.{unfold_at}
+use Rattle.place_plan.specs.Drafts.DraftRules.{depth_within}
+use Rattle.place_plan.specs.RulesOfJournals.Journals.{LegalPast, IsLegal}
 use Rattle.journal_laws.specs.Laws.{Holds, Splits, as_taken, AtMostOne, ResolutionLaw, InnerFirstLaw}
 use Rattle.journal_laws.proofs.Playable.{IsTree}
 use Rattle.journal_laws.proofs.Phases.{is_open}

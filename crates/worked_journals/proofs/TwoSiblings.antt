@@ -7,19 +7,19 @@
 --   / end / play duo ann bob
 use Rattle.std.proofs.Common.{◌≡◌, ℕ, ℤ, pos, List, [], ◌∷◌, reverse, refl, codes, rules}
 use Rattle.cover_table.specs.Cover.{IsLeastCover}
-use Rattle.caa_base.specs.declared.entry.Entry.{Entry}
-use Rattle.caa_base.specs.declared.entry.Verdict.TheVariants as verdict
-use Rattle.place_plan.specs.declared.draft_rows.AbortRow.TheVariants as abort
-use Rattle.place_plan.specs.declared.draft_rows.GraphRow.{GraphRow}
-use Rattle.place_plan.specs.declared.draft_rows.ActionRow.{ActionRow}
-use Rattle.place_plan.specs.declared.draft_rows.RoleRow.{RoleRow}
-use Rattle.place_plan.specs.declared.draft_rows.Step.TheVariants as step
-use Rattle.place_plan.specs.PlanValue.{Plan}
-use Rattle.place_plan.specs.Places.{internal_of}
-use Rattle.place_plan.specs.Objects.{value_of}
-use Rattle.place_plan.specs.Journals.{IsLegal, IsComplete, puts_of}
+use Rattle.caa_base.specs.declared.written.entry.Entry.{Entry}
+use Rattle.caa_base.specs.declared.written.entry.Verdict.TheVariants as verdict
+use Rattle.place_plan.specs.declared.drafts.draft_rows.AbortRow.TheVariants as abort
+use Rattle.place_plan.specs.declared.drafts.draft_rows.GraphRow.{GraphRow}
+use Rattle.place_plan.specs.declared.drafts.draft_rows.ActionRow.{ActionRow}
+use Rattle.place_plan.specs.declared.drafts.draft_rows.RoleRow.{RoleRow}
+use Rattle.place_plan.specs.declared.drafts.draft_rows.Step.TheVariants as step
+use Rattle.place_plan.specs.Plans.PlanValue.{Plan}
+use Rattle.place_plan.specs.Plans.Places.{internal_of}
+use Rattle.place_plan.specs.RulesOfJournals.Objects.{value_of}
+use Rattle.place_plan.specs.RulesOfJournals.Journals.{IsLegal, IsComplete, puts_of}
 use Rattle.journal_laws.specs.Laws.{last_write, is_kept}
-use Rattle.place_plan.specs.Bound.{bound, action_bound}
+use Rattle.place_plan.specs.Plans.Bound.{bound, action_bound}
 use Rattle.worked_journals.proofs.Notation.{plain_graph, arrive, start, write, raise, resolve, handle, verdict_done, end_commit, leave}
 use Rattle.worked_journals.proofs.Notation.{universal, graph, object, program, handler, play}
 use Rattle.worked_journals.proofs.Notation.{least_cover_from, complete_from, AreWellFormed}

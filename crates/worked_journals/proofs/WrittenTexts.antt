@@ -2,8 +2,8 @@
 use Rattle.std.proofs.Common.{◌≡◌, ℕ, List, [], ◌∷◌, ◌++◌, pos, refl, codes}
 use Rattle.std.specs.Fmt.{digits}
 use Rattle.std.specs.List.{flat_map}
-use Rattle.place_plan.specs.PlanValue.{Plan}
-use Rattle.journal_text.specs.Text.{text_of}
+use Rattle.place_plan.specs.Plans.PlanValue.{Plan}
+use Rattle.journal_text.specs.Texts.Text.{text_of}
 use Rattle.worked_journals.proofs.Notation.{plain_graph}
 use Rattle.worked_journals.proofs.FirstPath as first_path
 use Rattle.worked_journals.proofs.InformedAtExit as informed_at_exit

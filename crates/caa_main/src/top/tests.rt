@@ -1,8 +1,8 @@
 use super::*;
-use caa_base::entry::{Participant, Place};
-use caa_base::gate::EmptyGate;
-use caa_base::memory::{MemPlant, MemSink, MemSource};
-use caa_base::one_byte::{OneByteSink, OneByteSource};
+use caa_base::written::entry::{Participant, Place};
+use caa_base::outside::gate::EmptyGate;
+use caa_base::outside::memory::{MemPlant, MemSink, MemSource};
+use caa_base::outside::one_byte::{OneByteSink, OneByteSource};
 use std::alloc::AllocError;
 use std::sync::atomic::{AtomicBool, AtomicU64, Ordering};
 use std::test::Fail;

@@ -1,5 +1,5 @@
 use Rattle.std.proofs.Common.{◌≡◌, ℕ, ◌<◌, ◌≤◌, length}
-use Rattle.place_plan.specs.Places.{objects_of}
+use Rattle.place_plan.specs.Plans.Places.{objects_of}
 use Rattle.action_manager.proofs.publishing.most_objects.Given as goal
 
 abbrev pub invariant-loop-place : goal.invariant-loop-place

@@ -1,5 +1,5 @@
 use Rattle.std.proofs.Common.{◌≡◌, ◌≤◌, List, ℕ, Ok, length, sym, subst, rules}
-use Rattle.caa_base.specs.Limits.{most_script_bytes}
+use Rattle.caa_base.specs.Written.Limits.{most_script_bytes}
 use Rattle.action_script.specs.Spelling.{reading_of}
 use Rattle.action_script.specs.Printing.{text_of, reread_of}
 use Rattle.action_script.proofs.ReadsBack.{reads_back}

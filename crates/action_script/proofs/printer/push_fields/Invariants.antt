@@ -1,5 +1,5 @@
 use Rattle.std.proofs.Common.{◌≡◌, ◌++◌, map, drop}
-use Rattle.caa_base.specs.Lines.{spaced}
+use Rattle.caa_base.specs.Written.Lines.{spaced}
 use Rattle.action_script.specs.Printing.{field_word}
 use Rattle.action_script.proofs.printer.push_fields.Given as goal
 

@@ -1,5 +1,5 @@
 use Rattle.std.proofs.Common.{◌≡◌, ◌+◌, [], reverse, sym, ap, ◌∙◌, subst, subst₂, inl, IfSome}
-use Rattle.place_plan.specs.Journals.{IsLegal, IsComplete, faults_in}
+use Rattle.place_plan.specs.RulesOfJournals.Journals.{IsLegal, IsComplete, faults_in}
 use Rattle.journal_replay.specs.Device.{HasValues, HasDrills}
 use Rattle.role_driver.specs.Schedule.{GrewBy, first_of_seed}
 use Rattle.caa_main.specs.FailedPlays.{IsPlayed}

@@ -1,6 +1,6 @@
 use Rattle.std.proofs.Common.{refl, Ok, Err}
 use Rattle.caa_main.proofs.Answers.{plan_answered, refusal_answered, unplannable}
-use Rattle.journal_text.proofs.WellNamed.{well_named}
+use Rattle.journal_text.proofs.OnTexts.WellNamed.{well_named}
 use Rattle.caa_main.proofs.scripts.plan_of.Goals as goal
 
 pub returns-clause-refused : goal.returns-clause-refused

@@ -1,6 +1,6 @@
 use Rattle.std.proofs.Common.{◌∙◌, Some, ap, reverse}
-use Rattle.place_plan.specs.Places.{roles_of}
-use Rattle.place_plan.specs.Roles.{signals}
+use Rattle.place_plan.specs.Plans.Places.{roles_of}
+use Rattle.place_plan.specs.RulesOfJournals.Roles.{signals}
 use Rattle.journal_laws.proofs.PlayablePlan.{is_playable}
 use Rattle.journal_replay.proofs.CoverSoFar.{end_of_cover}
 use Rattle.journal_replay.proofs.rule.due_end.Goals as goal

@@ -1,7 +1,7 @@
 use Rattle.std.proofs.Common.{◌≡◌, ◌∙◌, arith, reverse, subst, sym, Some, to_z, of_z, w64}
 use Rattle.std.proofs.lemmas.Int.{ints}
-use Rattle.place_plan.specs.declared.draft_rows.Step.TheVariants as step
-use Rattle.caa_base.specs.Limits.{IsValue}
+use Rattle.place_plan.specs.declared.drafts.draft_rows.Step.TheVariants as step
+use Rattle.caa_base.specs.Written.Limits.{IsValue}
 use Rattle.journal_laws.proofs.PlayablePlan.{is_playable}
 use Rattle.journal_replay.proofs.StepsFit.{register_fits, read_fits, added_fits}
 use Rattle.journal_replay.proofs.rule.due_step.Goals as goal

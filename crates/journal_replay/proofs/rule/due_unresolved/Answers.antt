@@ -1,6 +1,6 @@
 use Rattle.std.proofs.Common.{◌≡◌, ◌∙◌, true, reverse, sym}
 use Rattle.std.proofs.lemmas.Bool.{not-true}
-use Rattle.place_plan.specs.Raising.{exceptions_raised, all_are_halted}
+use Rattle.place_plan.specs.RulesOfJournals.Raising.{exceptions_raised, all_are_halted}
 use Rattle.journal_laws.proofs.PlayablePlan.{is_playable}
 use Rattle.journal_replay.proofs.CoverSoFar.{resolve_of_cover, halted_due}
 use Rattle.journal_replay.proofs.rule.due_unresolved.Goals as goal

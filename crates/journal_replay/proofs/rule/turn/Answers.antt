@@ -1,7 +1,7 @@
 use Rattle.std.proofs.Common.{◌≡◌, ◌∙◌, ap, sym, subst, reverse, refl, List, Some}
-use Rattle.caa_base.specs.declared.entry.Entry.{Entry}
-use Rattle.place_plan.specs.Roles.{register}
-use Rattle.place_plan.specs.Machine.{work_entry}
+use Rattle.caa_base.specs.declared.written.entry.Entry.{Entry}
+use Rattle.place_plan.specs.RulesOfJournals.Roles.{register}
+use Rattle.place_plan.specs.RulesOfJournals.Machine.{work_entry}
 use Rattle.journal_laws.specs.Due.{due_of}
 use Rattle.journal_replay.specs.IsDue.{DeviceDecides}
 use Rattle.journal_replay.specs.Duty.{entry_of, MixesRight}

@@ -1,5 +1,5 @@
 use Rattle.std.proofs.Common.{◌≡◌, length}
-use Rattle.place_plan.specs.WellFormed.{AllWellFormed}
+use Rattle.place_plan.specs.RulesOfJournals.WellFormed.{AllWellFormed}
 use Rattle.journal_text.proofs.tests.journal_of.Given as goal
 
 abbrev pub invariant-loop-entry : goal.invariant-loop-entry

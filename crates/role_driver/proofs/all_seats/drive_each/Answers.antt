@@ -1,5 +1,5 @@
 use Rattle.std.proofs.Common.{◌≡◌, ◌∙◌, ap, sym, subst, arith, length, true, reverse}
-use Rattle.place_plan.specs.Roles.{is_over}
+use Rattle.place_plan.specs.RulesOfJournals.Roles.{is_over}
 use Rattle.action_manager.specs.Managers.{plan_in, IsSeatIn}
 use Rattle.action_manager.specs.Seats.{participant_of, seen_by}
 use Rattle.action_manager.proofs.Gathered.{all_more}

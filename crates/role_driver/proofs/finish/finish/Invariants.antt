@@ -1,5 +1,5 @@
 use Rattle.std.proofs.Common.{◌≡◌, ◌≤◌, ◌-◌, length}
-use Rattle.place_plan.specs.Bound.{bound}
+use Rattle.place_plan.specs.Plans.Bound.{bound}
 use Rattle.role_driver.specs.Schedule.{GrewBy, always_least}
 use Rattle.role_driver.proofs.finish.finish.Given as goal
 

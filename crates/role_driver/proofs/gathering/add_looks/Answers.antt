@@ -1,8 +1,8 @@
 use Rattle.std.proofs.Common.{◌≤◌, pos, length, slice_index_or, ap, subst, sym, arith}
 use Rattle.std.proofs.lemmas.Bool.{lt-ltb}
-use Rattle.caa_base.specs.Limits.{IsValue}
-use Rattle.journal_text.specs.declared.seens.Seen.{Seen}
-use Rattle.journal_text.specs.Looks.{last_watch}
+use Rattle.caa_base.specs.Written.Limits.{IsValue}
+use Rattle.journal_text.specs.declared.looks.seens.Seen.{Seen}
+use Rattle.journal_text.specs.Watching.Looks.{last_watch}
 use Rattle.shared_views.specs.declared.observed.Reading.{Reading}
 use Rattle.role_driver.proofs.LooksAdded.{kept, mid_of, watch_within}
 use Rattle.role_driver.proofs.gathering.add_looks.Goals as goal

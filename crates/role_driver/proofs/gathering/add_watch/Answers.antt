@@ -1,12 +1,12 @@
 use Rattle.std.proofs.Common.{◌≡◌, ◌∙◌, length, reverse, suc, ap, subst, sym, arith, filter, nat_lt}
 use Rattle.std.proofs.lemmas.List.Elements.{All-weaker}
-use Rattle.caa_base.specs.Limits.{IsValue}
-use Rattle.place_plan.specs.Closed.{IsClosed}
-use Rattle.place_plan.specs.Journals.{committed_value}
-use Rattle.place_plan.specs.WellFormed.{AllWellFormed}
+use Rattle.caa_base.specs.Written.Limits.{IsValue}
+use Rattle.place_plan.specs.Plans.Closed.{IsClosed}
+use Rattle.place_plan.specs.RulesOfJournals.Journals.{committed_value}
+use Rattle.place_plan.specs.RulesOfJournals.WellFormed.{AllWellFormed}
 use Rattle.journal_laws.specs.Laws.{Holds, CommitLaw}
-use Rattle.journal_text.specs.Text.{watched_object}
-use Rattle.journal_text.proofs.CommittedFits.{committed_fits}
+use Rattle.journal_text.specs.Texts.Text.{watched_object}
+use Rattle.journal_text.proofs.OnLooks.CommittedFits.{committed_fits}
 use Rattle.shared_views.specs.declared.observed.Reading.{Reading}
 use Rattle.action_manager.specs.PublishingLaw.{PublishingLaw}
 use Rattle.role_driver.specs.Watching.{Task}

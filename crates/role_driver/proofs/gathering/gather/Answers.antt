@@ -1,7 +1,7 @@
 use Rattle.std.proofs.Common.{◌≡◌, ◌∙◌, length, reverse, ap, subst, sym, arith}
 use Rattle.std.proofs.Math.Seq.{map-set_same}
-use Rattle.place_plan.specs.PlanValue.{Plan}
-use Rattle.journal_text.specs.Text.{watched_object}
+use Rattle.place_plan.specs.Plans.PlanValue.{Plan}
+use Rattle.journal_text.specs.Texts.Text.{watched_object}
 use Rattle.role_driver.specs.Watching.{task_of}
 use Rattle.role_driver.specs.Gathering.{task_by, AreRightSoFar}
 use Rattle.role_driver.proofs.ReadingsKept.{task_among}

@@ -1,6 +1,6 @@
 use Rattle.std.proofs.Common.{rules, ◌∙◌, length, sym, ap}
 use Rattle.std.proofs.lemmas.List.{length-map}
-use Rattle.place_plan.specs.PlanValue.{Plan}
+use Rattle.place_plan.specs.Plans.PlanValue.{Plan}
 use Rattle.action_manager.specs.Managers.{plan_in}
 use Rattle.action_manager.specs.Seats.{participant_of}
 use Rattle.role_driver.proofs.Complete.{order_counts}

@@ -1,5 +1,5 @@
 use Rattle.std.proofs.Common.{◌≡◌, ◌∙◌, ◌/◌, suc, arith, ap, refl, sym, subst, length}
-use Rattle.caa_base.specs.Mixing.{next_state, state_after}
+use Rattle.caa_base.specs.Written.Mixing.{next_state, state_after}
 use Rattle.role_driver.specs.Schedule.{TakesTurn, first_of_seed}
 use Rattle.role_driver.proofs.Grown.{none_yet, one_more}
 use Rattle.role_driver.proofs.sim.sim.Goals as goal

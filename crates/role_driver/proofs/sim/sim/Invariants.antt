@@ -1,6 +1,6 @@
 use Rattle.std.proofs.Common.{◌≡◌, ◌<◌, ◌≤◌, ◌-◌, ◌^◌, length}
-use Rattle.caa_base.specs.Mixing.{state_after}
-use Rattle.place_plan.specs.Bound.{bound}
+use Rattle.caa_base.specs.Written.Mixing.{state_after}
+use Rattle.place_plan.specs.Plans.Bound.{bound}
 use Rattle.role_driver.specs.Schedule.{GrewBy, first_of_seed}
 use Rattle.role_driver.proofs.sim.sim.Given as goal
 

@@ -1,7 +1,7 @@
 use Rattle.std.proofs.Common.{◌≡◌, ◌∙◌, arith, reverse, subst, to_z, of_z, w64, Some}
 use Rattle.std.proofs.lemmas.Int.{ints}
 use Rattle.journal_laws.specs.Laws.{Holds, AtMostOne}
-use Rattle.place_plan.specs.Machine.{Answers}
+use Rattle.place_plan.specs.RulesOfJournals.Machine.{Answers}
 use Rattle.role_driver.proofs.Hints.{work_then_did}
 use Rattle.role_driver.proofs.turn.act.Goals as goal
 

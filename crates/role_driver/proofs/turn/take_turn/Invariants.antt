@@ -1,5 +1,5 @@
 use Rattle.std.proofs.Common.{◌≡◌, ◌<◌, ◌≤◌, ℕ, length, reverse}
-use Rattle.place_plan.specs.Journals.{HasNoEntry}
+use Rattle.place_plan.specs.RulesOfJournals.Journals.{HasNoEntry}
 use Rattle.role_driver.specs.Schedule.{participant_asked}
 use Rattle.role_driver.proofs.turn.take_turn.Given as goal
 

@@ -1,8 +1,8 @@
 use Rattle.std.proofs.Common.{Err, sym, ap, ◌∙◌}
 use Rattle.std.proofs.lemmas.Option.{none-some}
-use Rattle.place_plan.specs.DraftRules.{broken_rule}
-use Rattle.place_plan.specs.declared.draft.Draft.{Draft}
-use Rattle.place_plan.specs.Unfolding.{plan_of}
+use Rattle.place_plan.specs.Drafts.DraftRules.{broken_rule}
+use Rattle.place_plan.specs.declared.drafts.draft.Draft.{Draft}
+use Rattle.place_plan.specs.Plans.Unfolding.{plan_of}
 use Rattle.script_checker.specs.Compiled.IsAnswer.{planned, wanting}
 use Rattle.script_checker.specs.View.{so_far}
 use Rattle.script_checker.proofs.Taking.{answer_refused, planned_by}

@@ -1,6 +1,6 @@
 use Rattle.std.proofs.Common.{◌+◌, ◌==◌, ℕ, not, false, true, replicate, take, get_or, refl, sym, ap, ◌∙◌, ◌≡◌, arith}
 use Rattle.std.proofs.lemmas.List.Folds.{list_any_more}
-use Rattle.caa_base.specs.Lists.{index_of}
+use Rattle.caa_base.specs.Written.Lists.{index_of}
 use Rattle.script_checker.specs.Numbers.{flags_of}
 use Rattle.script_checker.proofs.ChosenNumbers.{none_set, one_more_set, once_more, counts_one, counts_none}
 use Rattle.script_checker.proofs.lookups.flags_of.Goals as goal

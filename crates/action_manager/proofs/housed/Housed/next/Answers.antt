@@ -1,8 +1,8 @@
 use Rattle.std.proofs.Common.{rules, ◌≡◌, ◌∙◌, sym, ap, subst, length, reverse, vec_capacity}
-use Rattle.place_plan.specs.PlanValue.{Plan}
-use Rattle.place_plan.specs.Places.{initials_of}
-use Rattle.place_plan.specs.Journals.{LegalPast}
-use Rattle.place_plan.specs.WellFormed.{AllWellFormed}
+use Rattle.place_plan.specs.Plans.PlanValue.{Plan}
+use Rattle.place_plan.specs.Plans.Places.{initials_of}
+use Rattle.place_plan.specs.RulesOfJournals.Journals.{LegalPast}
+use Rattle.place_plan.specs.RulesOfJournals.WellFormed.{AllWellFormed}
 use Rattle.action_manager.specs.Housed.{IsKept}
 use Rattle.action_manager.specs.Publishing.{Publishes, HasRoom}
 use Rattle.action_manager.proofs.Housing.{past_after, did_suits, kept_silent, kept_did, silent_keeps}

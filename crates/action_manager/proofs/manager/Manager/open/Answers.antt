@@ -1,6 +1,6 @@
 use Rattle.std.proofs.Common.{◌∙◌, sym, ap, length, map}
 use Rattle.std.specs.List.{range_with_len}
-use Rattle.place_plan.specs.PlanValue.{Plan}
+use Rattle.place_plan.specs.Plans.PlanValue.{Plan}
 use Rattle.action_manager.specs.OwnEntries.{entries_by}
 use Rattle.action_manager.proofs.manager.Manager.open.Goals as goal
 

@@ -1,8 +1,8 @@
 use Rattle.std.proofs.Common.{rules, ◌<◌, ◌^◌, ℕ, ◌∙◌, ◌≡◌, ap, sym, subst, arith, length, reverse}
 use Rattle.action_manager.specs.OwnEntries.{Journal, Grows}
-use Rattle.place_plan.specs.PlanValue.{Plan}
-use Rattle.place_plan.specs.Journals.{LegalPast}
-use Rattle.place_plan.specs.Machine.{Answers}
+use Rattle.place_plan.specs.Plans.PlanValue.{Plan}
+use Rattle.place_plan.specs.RulesOfJournals.Journals.{LegalPast}
+use Rattle.place_plan.specs.RulesOfJournals.Machine.{Answers}
 use Rattle.action_manager.specs.Stepping.{GrowsWithout, Steps}
 use Rattle.action_manager.specs.Seats.{seen_by}
 use Rattle.action_manager.proofs.Answering.{answer_grows, did_makes, did_fits}

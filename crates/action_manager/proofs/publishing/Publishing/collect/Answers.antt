@@ -1,8 +1,8 @@
 use Rattle.std.proofs.Common.{rules, ◌≡◌, ◌<◌, ◌++◌, ◌∷◌, [], length, map, take, reverse, refl, sym, ap, ◌∙◌, subst, arith, slice_index_or}
 use Rattle.std.proofs.lemmas.List.{take_all}
-use Rattle.place_plan.specs.Closed.{IsClosed}
-use Rattle.place_plan.specs.Places.{objects_of}
-use Rattle.place_plan.specs.Objects.{value_of}
+use Rattle.place_plan.specs.Plans.Closed.{IsClosed}
+use Rattle.place_plan.specs.Plans.Places.{objects_of}
+use Rattle.place_plan.specs.RulesOfJournals.Objects.{value_of}
 use Rattle.action_manager.proofs.PublishingKept.{object_known, mapped_more}
 use Rattle.action_manager.proofs.publishing.Publishing.collect.Goals as goal
 

@@ -1,5 +1,5 @@
 use Rattle.std.proofs.Common.{◌≡◌, length, map, take, reverse, vec_capacity}
-use Rattle.place_plan.specs.Objects.{value_of}
+use Rattle.place_plan.specs.RulesOfJournals.Objects.{value_of}
 use Rattle.action_manager.proofs.publishing.Publishing.collect.Given as goal
 
 abbrev pub invariant-loop-index : goal.invariant-loop-index

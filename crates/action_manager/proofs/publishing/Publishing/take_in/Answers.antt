@@ -1,8 +1,8 @@
 use Rattle.std.proofs.Common.{rules, true, ◌≡◌, ◌<◌, ◌∷◌, All, length, reverse, sym, ap, ◌∙◌, subst, arith}
-use Rattle.place_plan.specs.PlanValue.{Plan}
-use Rattle.place_plan.specs.Closed.{IsClosed}
-use Rattle.place_plan.specs.Journals.{LegalPast, ends_play}
-use Rattle.place_plan.specs.WellFormed.{AllWellFormed, IsWellFormed}
+use Rattle.place_plan.specs.Plans.PlanValue.{Plan}
+use Rattle.place_plan.specs.Plans.Closed.{IsClosed}
+use Rattle.place_plan.specs.RulesOfJournals.Journals.{LegalPast, ends_play}
+use Rattle.place_plan.specs.RulesOfJournals.WellFormed.{AllWellFormed, IsWellFormed}
 use Rattle.shared_views.specs.declared.committed_writer.PublishError.TheVariants.{Stale}
 use Rattle.action_manager.specs.Publishing.{values_of, Publishes}
 use Rattle.action_manager.proofs.PublishingKept.{values_known, an_end}

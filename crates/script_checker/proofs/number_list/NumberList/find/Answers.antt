@@ -1,6 +1,6 @@
 use Rattle.std.proofs.Common.{◌≡◌, ◌-◌, ◌∙◌, length, slice_index_or, ap, sym, arith}
 use Rattle.std.proofs.lemmas.List.{get_or_read_under}
-use Rattle.caa_base.specs.Lists.{index_of}
+use Rattle.caa_base.specs.Written.Lists.{index_of}
 use Rattle.script_checker.specs.Numbers.{most_names}
 use Rattle.script_checker.proofs.NearNames.{near_found, near_missing}
 use Rattle.script_checker.proofs.number_list.NumberList.find.Goals as goal

@@ -1,5 +1,5 @@
 use Rattle.std.proofs.Common.{◌==◌, position, take, ap, sym, ◌∙◌}
-use Rattle.caa_base.specs.Lists.{index_of}
+use Rattle.caa_base.specs.Written.Lists.{index_of}
 use Rattle.script_checker.specs.NumberTable.{few_names}
 use Rattle.script_checker.proofs.NumberTables.{found_early}
 use Rattle.script_checker.proofs.number_list.NumberList.find_far.Goals as goal

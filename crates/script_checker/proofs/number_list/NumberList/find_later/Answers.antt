@@ -1,5 +1,5 @@
 use Rattle.std.proofs.Common.{◌≡◌, ◌==◌, ℕ, List, None, false, position, take, ap, sym, subst, ◌∙◌, length, arith}
-use Rattle.caa_base.specs.Lists.{index_of}
+use Rattle.caa_base.specs.Written.Lists.{index_of}
 use Rattle.caa_base.proofs.ListLemmas.{index_within}
 use Rattle.script_checker.specs.NumberTable.{few_names, is_near, base_of}
 use Rattle.script_checker.proofs.NumberTables.{IsLater, not_early, found_at, not_told, told_wrong}

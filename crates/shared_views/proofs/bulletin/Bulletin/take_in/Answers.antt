@@ -1,5 +1,5 @@
 use Rattle.std.proofs.Common.{◌<◌, sym, subst, length}
-use Rattle.caa_base.specs.declared.entry.Kind.{Kind}
+use Rattle.caa_base.specs.declared.written.entry.Kind.{Kind}
 use Rattle.shared_views.specs.Telling.{cells_of, IsTold, told_at, TellsOf}
 use Rattle.shared_views.proofs.KeepingUp.{told_there, told_now}
 use Rattle.shared_views.proofs.bulletin.Bulletin.take_in.Goals as goal

@@ -1,6 +1,0 @@
-use Rattle.std.proofs.Common.{◌≡◌, ◌<◌, ◌^◌}
-use Rattle.caa_base.specs.Mixing.{state_after}
-use Rattle.caa_base.proofs.work.mix.Given as goal
-
-abbrev pub invariant-loop-round : goal.invariant-loop-round
-invariant-loop-round l = record { small : l.state < 2 ^ 31; value : l.state ≡ state_after l.start l._round }

@@ -1,0 +1,11 @@
+//! Counts that stop at the last number that they can show.
+
+ghost use Rattle.std.specs.Prelude.{◌≡◌};
+ghost use Rattle.caa_base.specs.Outside.Counts.{counted_up};
+
+/// A count after one more.
+pub(crate) fn counted_up(count: u64) -> u64
+    ensures { result ≡ counted_up count }
+{
+    if count < u64::MAX { count + 1 } else { count }
+}

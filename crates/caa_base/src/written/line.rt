@@ -1,0 +1,70 @@
+//! Lines of text: words with one space between each two, and a line feed. Where no memory is found a part may have been added.
+
+ghost use Rattle.std.specs.Prelude.{◌≡◌, ◌∷◌, ◌++◌, [], decimal, is_ok, OnOk};
+ghost use Rattle.std.specs.Fmt.{signed_decimal};
+ghost use Rattle.caa_base.specs.Written.Lines.{spaced};
+
+use crate::written::entry::OutOfMemory;
+use std::io;
+use std::io::Write;
+
+/// The answer of `write!` to a text in memory, which fails only where no memory was found.
+fn in_memory(answer: io::Result<()>) -> Result<(), OutOfMemory>
+    ensures { is_ok result ≡ is_ok answer }
+{
+    match answer {
+        Ok(()) => Ok(()),
+        Err(_) => Err(OutOfMemory),
+    }
+}
+
+/// Adds a word, after a space.
+pub fn push_word(text: &mut Vec<u8>, word: &[u8]) -> Result<(), OutOfMemory>
+    ensures { OnOk result (text.new.items ≡ text.old.items ++ spaced (word.now ∷ [])) }
+{
+    text.push(b' ')?;
+    text.extend_from_slice(word)?;
+    Ok(())
+}
+
+/// Adds a number, after a space.
+pub fn push_number(text: &mut Vec<u8>, number: u64) -> Result<(), OutOfMemory>
+    ensures { OnOk result (text.new.items ≡ text.old.items ++ spaced (decimal number ∷ [])) }
+{
+    in_memory(write!(text, " {number}"))
+}
+
+/// Adds a value, after a space.
+pub fn push_value(text: &mut Vec<u8>, value: i64) -> Result<(), OutOfMemory>
+    ensures { OnOk result (text.new.items ≡ text.old.items ++ spaced (signed_decimal value ∷ [])) }
+{
+    in_memory(write!(text, " {value}"))
+}
+
+/// Ends the line.
+pub fn end_line(text: &mut Vec<u8>) -> Result<(), OutOfMemory>
+    ensures { OnOk result (text.new.items ≡ text.old.items ++ 10 ∷ []) }
+{
+    text.push(b'\n')?;
+    Ok(())
+}
+
+#[cfg(test)]
+mod tests {
+    use super::*;
+    use std::test::Fail;
+
+    #[test]
+    fn makes_a_line_of_words(rt: HostRuntime) -> Result<(), Fail> {
+        let mut text = Vec::from_slice(rt.alloc(), b"read")?;
+        push_number(&mut text, 18_446_744_073_709_551_615)?;
+        push_word(&mut text, b"ann")?;
+        push_value(&mut text, -1_000_000_000_000)?;
+        end_line(&mut text)?;
+        assert_eq!(rt;
+            text.as_slice(),
+            b"read 18446744073709551615 ann -1000000000000\n".as_slice()
+        );
+        Ok(())
+    }
+}

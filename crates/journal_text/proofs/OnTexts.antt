@@ -1,0 +1,10 @@
+-- Lemmas on the text of a journal.
+pub mod Fronts
+pub mod TextLemmas
+pub mod ValueLemmas
+pub mod WordLemmas
+pub mod NamingLemmas
+pub mod WellNamed
+pub mod EntryLines
+pub mod ReadingLemmas
+pub mod BadLines

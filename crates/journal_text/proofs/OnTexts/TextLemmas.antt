@@ -1,0 +1,22 @@
+-- Lemmas on the text of a journal.
+use Rattle.std.proofs.Common.{◌≡◌, ℕ, ◌+◌, ◌==◌, true, false, if◌then◌else◌, List, ◌∷◌, ◌++◌, Some, arith, zero-add}
+use Rattle.std.specs.List.{flat_map, range_with_len}
+use Rattle.std.proofs.lemmas.List.{flat_map_more}
+use Rattle.std.proofs.lemmas.Bool.Decides.{nat_tests}
+use Rattle.caa_base.specs.declared.written.entry.Entry.{Entry}
+use Rattle.caa_base.specs.declared.written.entry.Kind.TheVariants as kind
+use Rattle.place_plan.specs.RulesOfJournals.Entries.{is_of}
+use Rattle.journal_text.specs.Texts.Text.{outcome_at, last_outcome}
+use Rattle.caa_base.proofs.ListLemmas.{range_more}
+
+-- the line of one number more
+pub lines_more : (line_of : ℕ → List ℕ) (text : List ℕ) (n : ℕ) → (text ++ flat_map line_of (range_with_len 0 n)) ++ line_of n ≡ text ++ flat_map line_of (range_with_len 0 (n + 1))
+lines_more line_of text n = rw (range_more 0 n, zero-add n) (flat_map_more line_of text (range_with_len 0 n) n)
+
+-- an End gives its place an outcome
+pub last_outcome-after_end : (e : Entry) (past : List Entry) (p : ℕ) → is_of kind.End e ≡ true → last_outcome (e ∷ past) p ≡ (if e.place == p then Some (outcome_at e) else last_outcome past p)
+last_outcome-after_end e past p h = grind (arith, nat_tests)
+
+-- an entry of another kind gives none
+pub last_outcome-after_other : (e : Entry) (past : List Entry) (p : ℕ) → is_of kind.End e ≡ false → last_outcome (e ∷ past) p ≡ last_outcome past p
+last_outcome-after_other e past p h = grind (arith, nat_tests)

@@ -1,7 +1,0 @@
-use Rattle.std.proofs.Common.{◌≡◌, ◌-◌}
-use Rattle.place_plan.specs.Places.{graph_at, exception_name}
-use Rattle.journal_text.specs.Naming.{index_among}
-use Rattle.journal_text.proofs.entry_line.exception_in.Given as goal
-
-abbrev pub invariant-loop-exception : goal.invariant-loop-exception
-invariant-loop-exception l = index_among (exception_name l.plan l.graph) l.word l.exception ((graph_at l.plan l.graph).count - l.exception) ≡ index_among (exception_name l.plan l.graph) l.word 0 ((graph_at l.plan l.graph).count)

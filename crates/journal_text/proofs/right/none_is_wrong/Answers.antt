@@ -1,5 +1,0 @@
-use Rattle.journal_text.proofs.RightLooks.{none_is_wrong}
-use Rattle.journal_text.proofs.right.none_is_wrong.Goals as goal
-
-pub returns : goal.returns
-returns c = none_is_wrong c.args.plan.now

@@ -1,6 +1,0 @@
-use Rattle.std.proofs.Common.{reverse}
-use Rattle.journal_text.specs.CommittedValues.{HasWatched}
-use Rattle.journal_text.proofs.right.watched_values.Given as goal
-
-abbrev pub invariant-loop-watch : goal.invariant-loop-watch
-invariant-loop-watch l = HasWatched l.plan l.ended (reverse l.entries) l.tables.items l.watch

@@ -1,6 +1,0 @@
-use Rattle.std.proofs.Common.{arith}
-use Rattle.journal_text.proofs.BadLines.{texts-differ}
-use Rattle.journal_text.proofs.text_reader.texts_differ.Goals as goal
-
-pub returns : goal.returns
-returns c = texts-differ c.args.plan.now (record { named = c.requires; small = omega (arith, c.places.ensures) })

@@ -1,0 +1,180 @@
+-- The text of a journal and of what was seen while it was made.
+use Rattle.std.specs.Prelude.{ℕ, ℤ, ◌==◌, if◌then◌else◌, List, [], ◌∷◌, ◌++◌, length, reverse, slice_index_or, Option, None, Some, codes, decimal}
+use Rattle.std.specs.Option.{option_map}
+use Rattle.std.specs.Fmt.{signed_decimal}
+use Rattle.std.specs.List.{flat_map, range_with_len}
+use Rattle.caa_base.specs.declared.written.entry.Entry.{Entry}
+use Rattle.caa_base.specs.declared.written.entry.Kind.{Kind}
+use Rattle.caa_base.specs.declared.written.entry.Kind.TheVariants as kind
+use Rattle.caa_base.specs.declared.written.entry.Verdict.{Verdict}
+use Rattle.caa_base.specs.declared.written.entry.Verdict.TheVariants as verdict
+use Rattle.caa_base.specs.declared.written.entry.Outcome.{Outcome}
+use Rattle.caa_base.specs.declared.written.entry.Outcome.TheVariants as outcome
+use Rattle.caa_base.specs.Written.Lines.{line}
+use Rattle.place_plan.specs.Plans.PlanValue.{Plan}
+use Rattle.place_plan.specs.Plans.Places.{no_object, action_at, parent, exception_name}
+use Rattle.place_plan.specs.RulesOfJournals.Entries.{is_in, newest}
+use Rattle.place_plan.specs.RulesOfJournals.Objects.{value_of}
+use Rattle.place_plan.specs.RulesOfJournals.Roles.{verdict_at}
+use Rattle.journal_text.specs.declared.looks.seens.Seen.{Seen}
+
+-- ---- names; past the end of a table they are empty
+
+-- the name of a participant
+abbrev pub participant_name : Plan → ℕ → List ℕ
+participant_name plan t = slice_index_or plan.participants t []
+
+-- the name of an object
+abbrev pub object_name : Plan → ℕ → List ℕ
+object_name plan o = (slice_index_or plan.objects o no_object).name
+
+-- the name of the action that p is an instance of
+abbrev pub action_name : Plan → ℕ → List ℕ
+action_name plan p = (action_at plan p).name
+
+-- the name of an exception that is raised in p
+abbrev pub internal_name : Plan → ℕ → ℕ → List ℕ
+internal_name plan p x = exception_name plan (action_at plan p).internal x
+
+-- the name of an exception that p tells outside
+abbrev pub interface_name : Plan → ℕ → ℕ → List ℕ
+interface_name plan p x = exception_name plan (action_at plan p).interface x
+
+-- ---- the line of an entry
+
+-- the word of a kind
+abbrev pub kind_word : Kind → List ℕ
+kind_word kind.Arrive = codes "arrive"
+kind_word kind.Withdraw = codes "withdraw"
+kind_word kind.Start = codes "start"
+kind_word kind.Read = codes "read"
+kind_word kind.Work = codes "work"
+kind_word kind.Write = codes "write"
+kind_word kind.Check = codes "check"
+kind_word kind.PutFault = codes "putfault"
+kind_word kind.Raise = codes "raise"
+kind_word kind.Inform = codes "inform"
+kind_word kind.Resolve = codes "resolve"
+kind_word kind.Handle = codes "handle"
+kind_word kind.Verdict = codes "verdict"
+kind_word kind.Abort = codes "abort"
+kind_word kind.Undo = codes "undo"
+kind_word kind.Restore = codes "restore"
+kind_word kind.End = codes "end"
+kind_word kind.Leave = codes "leave"
+
+-- an object, and its value
+abbrev pub object_words : Plan → ℕ → ℤ → List (List ℕ)
+object_words plan o value = object_name plan o ∷ signed_decimal value ∷ []
+
+-- whether the device took a restore
+abbrev pub restore_word : ℕ → List ℕ
+restore_word mark = if mark == 0 then codes "well" else codes "failed"
+
+-- a verdict in p, with the exception that it signals
+abbrev pub verdict_words : Plan → ℕ → Verdict → List (List ℕ)
+verdict_words plan p verdict.Done = codes "done" ∷ []
+verdict_words plan p (verdict.Signal x) = codes "signal" ∷ interface_name plan p x ∷ []
+verdict_words plan p verdict.Undo = codes "undo" ∷ []
+
+-- the outcome that an End says, by its mark
+abbrev pub outcome_at : Entry → Outcome
+outcome_at e =
+    if e.mark == 0 then outcome.Commit
+    else (if e.mark == 1 then outcome.Signal e.arg
+    else (if e.mark == 2 then outcome.Undone
+    else (if e.mark == 3 then outcome.Aborted
+    else outcome.Failed)))
+
+-- an outcome of p, with the exception that it signals
+abbrev pub outcome_words : Plan → ℕ → Outcome → List (List ℕ)
+outcome_words plan p outcome.Commit = codes "commit" ∷ []
+outcome_words plan p (outcome.Signal x) = codes "signal" ∷ interface_name plan p x ∷ []
+outcome_words plan p outcome.Undone = codes "undone" ∷ []
+outcome_words plan p outcome.Aborted = codes "aborted" ∷ []
+outcome_words plan p outcome.Failed = codes "failed" ∷ []
+
+-- the exception that an Abort names, if it names one
+abbrev pub abort_words : Plan → Entry → List (List ℕ)
+abort_words plan e = if e.mark == 1 then interface_name plan e.place e.arg ∷ [] else []
+
+-- the exception that a Leave carries into the place round its own, if it carries one; nothing is carried out of a play
+abbrev pub leave_words : Plan → Option ℕ → Entry → List (List ℕ)
+leave_words plan None e = []
+leave_words plan (Some q) e = if e.mark == 1 then internal_name plan q e.arg ∷ [] else []
+
+-- what an entry says further, by its kind
+abbrev pub field_words : Kind → Plan → Entry → List (List ℕ)
+field_words kind.Read plan e = object_words plan e.arg e.value
+field_words kind.Work plan e = decimal e.arg ∷ signed_decimal e.value ∷ []
+field_words kind.Write plan e = object_words plan e.arg e.value
+field_words kind.PutFault plan e = object_words plan e.arg e.value
+field_words kind.Raise plan e = internal_name plan e.place e.arg ∷ []
+field_words kind.Resolve plan e = internal_name plan e.place e.arg ∷ []
+field_words kind.Handle plan e = internal_name plan e.place e.arg ∷ []
+field_words kind.Verdict plan e = verdict_words plan e.place (verdict_at e)
+field_words kind.Abort plan e = abort_words plan e
+field_words kind.Restore plan e = object_words plan e.arg e.value ++ restore_word e.mark ∷ []
+field_words kind.End plan e = outcome_words plan e.place (outcome_at e)
+field_words kind.Leave plan e = leave_words plan (parent plan e.place) e
+field_words _ plan e = []
+
+-- the line of an entry: its kind, its place, who made it, and what it says further
+abbrev pub entry_line : Plan → Entry → List ℕ
+entry_line plan e = line (kind_word e.kind) (decimal e.place ∷ participant_name plan e.by ∷ field_words e.kind plan e)
+
+-- ---- the lines after the entries; `past` is the journal, the newest entry first
+
+-- the line of an object, with its value
+abbrev pub object_line : Plan → List Entry → ℕ → List ℕ
+object_line plan past o = line (codes "object") (object_words plan o (value_of plan past o))
+
+-- the outcome that the last End of p says
+abbrev pub last_outcome : List Entry → ℕ → Option Outcome
+last_outcome past p = option_map outcome_at (newest (is_in kind.End p) past)
+
+-- how p ended, or `none`
+abbrev pub ending_words : Plan → ℕ → Option Outcome → List (List ℕ)
+ending_words plan p None = codes "none" ∷ []
+ending_words plan p (Some outcome) = outcome_words plan p outcome
+
+-- the line of a place, with its outcome
+abbrev pub outcome_line : Plan → List Entry → ℕ → List ℕ
+outcome_line plan past p = line (codes "outcome") (decimal p ∷ action_name plan p ∷ ending_words plan p (last_outcome past p))
+
+-- one line for each object
+abbrev pub object_lines : Plan → List Entry → List ℕ
+object_lines plan past = flat_map (object_line plan past) (range_with_len 0 (length plan.objects))
+
+-- one line for each place
+abbrev pub outcome_lines : Plan → List Entry → List ℕ
+outcome_lines plan past = flat_map (outcome_line plan past) (range_with_len 0 (length plan.places))
+
+-- the lines that follow from the entries
+abbrev pub closing_lines : Plan → List Entry → List ℕ
+closing_lines plan past = object_lines plan past ++ outcome_lines plan past
+
+-- ---- what was seen
+
+-- the object of a watch
+abbrev pub watched_object : Plan → ℕ → ℕ
+watched_object plan w = slice_index_or plan.watches w 0
+
+-- the line of one look: the object, how many plays had ended, and the value
+abbrev pub seen_line : Plan → Seen → List ℕ
+seen_line plan s =
+    line (codes "seen") (object_name plan (watched_object plan s.watch) ∷ decimal s.ends ∷ signed_decimal s.value ∷ [])
+
+-- ---- the text
+
+-- the first line of each text
+abbrev pub first_line : List ℕ
+first_line = codes "journal" ++ 10 ∷ []
+
+-- the first line, one line for each entry, the lines that follow from the entries, and one for each look
+abbrev pub text_of : Plan → List Entry → List Seen → List ℕ
+text_of plan journal seens =
+    first_line
+    ++ flat_map (entry_line plan) journal
+    ++ closing_lines plan (reverse journal)
+    ++ flat_map (seen_line plan) seens

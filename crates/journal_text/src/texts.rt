@@ -1,0 +1,8 @@
+//! The text of a journal, both ways.
+
+pub(crate) mod entry_line;
+pub mod naming;
+pub mod text_reader;
+pub mod text_writer;
+pub(crate) mod values;
+pub(crate) mod words;

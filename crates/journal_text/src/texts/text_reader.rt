@@ -1,0 +1,333 @@
+ghost use Rattle.std.specs.Prelude.{◌≡◌, ◌≤◌, [], true, ◌<◌, length, reverse, option_map, IfOk, IfErr};
+ghost use Rattle.caa_base.specs.declared.written.entry.OutOfMemory.{OutOfMemory};
+ghost use Rattle.place_plan.specs.RulesOfJournals.WellFormed.{IsWellFormed, AllWellFormed};
+ghost use Rattle.journal_text.specs.Texts.Naming.{is_well_named};
+ghost use Rattle.journal_text.specs.Texts.Text.{entry_line, object_lines, outcome_lines, closing_lines, seen_line, first_line, text_of};
+ghost use Rattle.journal_text.specs.Watching.Looks.{AreOfPlan};
+ghost use Rattle.journal_text.specs.Texts.TextOfJournal.{lines_shared, Reads, ReadsBack, TextsDiffer};
+ghost use Rattle.journal_text.specs.Texts.TextSteps.{IsAfter, EntryFound, SeenFound, EntriesRead, SeensRead, StopsEntries, RefusesAfter};
+
+use crate::texts::entry_line::entry_in;
+use crate::looks::seen_line::{may_stand, seen_in};
+use crate::looks::seens::{Seen, Seens};
+use crate::texts::text_writer::{push_entry, push_objects, push_outcomes, push_seen, write_text};
+use caa_base::written::entry::{Entry, OutOfMemory};
+use caa_base::written::journal::Journal;
+use place_plan::plans::plan::Plan;
+use place_plan::rules::well_formed::is_well_formed;
+use std::alloc::{AllocError, AllocFailed, Global};
+use thiserror::Error;
+
+/// Why bytes aren't read as the text of a journal. Lines are counted from 1.
+#[derive(Clone, Copy, Debug, PartialEq, Eq, Error)]
+pub enum TextError {
+    /// All lines are good up to this one, which is one entry more than the limit allows.
+    #[error("line {line} is an entry past the limit")]
+    TooMany { line: u64 },
+    /// This line is the first bad one: some text within the limit has all lines before it, and none goes on with this line. A
+    /// line that is missing has the number at which it should stand.
+    #[error("line {line} stands in no text of a journal")]
+    BadLine { line: u64 },
+    /// No memory was found.
+    #[error("out of memory")]
+    OutOfMemory,
+}
+
+impl From<AllocError> for TextError {
+    ghost use Rattle.journal_text.specs.declared.texts.text_reader.TextError.TheVariants as error;
+
+    ghost from_gives = { λ _ e. e ≡ error.OutOfMemory };
+
+    fn from(_: AllocError) -> Self {
+        TextError::OutOfMemory
+    }
+}
+
+impl<T: Drop> From<AllocFailed<T>> for TextError {
+    ghost use Rattle.journal_text.specs.declared.texts.text_reader.TextError.TheVariants as error;
+
+    ghost from_gives = { λ _ e. e ≡ error.OutOfMemory };
+
+    fn from(_: AllocFailed<T>) -> Self {
+        TextError::OutOfMemory
+    }
+}
+
+impl From<OutOfMemory> for TextError {
+    ghost use Rattle.journal_text.specs.declared.texts.text_reader.TextError.TheVariants as error;
+
+    ghost from_gives = { λ _ e. e ≡ error.OutOfMemory };
+
+    fn from(_: OutOfMemory) -> Self {
+        TextError::OutOfMemory
+    }
+}
+
+/// What a text is left as after this front, where it begins with that.
+fn after_front<'a>(text: &'a [u8], front: &[u8]) -> Option<&'a [u8]>
+    ensures { IsAfter (λ r. r.now) front.now text.now result }
+{
+    text.strip_prefix(front)
+}
+
+/// What bytes are left as after the first line of a text, where they begin with that.
+fn after_first_line(bytes: &[u8]) -> Option<&[u8]>
+    ensures { IsAfter (λ r. r.now) first_line bytes.now result }
+{
+    after_front(bytes, b"journal\n")
+}
+
+/// What a text is left as after the line of this entry, where it begins with that.
+fn after_entry<'a>(
+    alloc: Global,
+    plan: &Plan,
+    text: &'a [u8],
+    entry: &Entry,
+) -> Result<Option<&'a [u8]>, OutOfMemory>
+    requires { IsWellFormed plan.now entry.now }
+    ensures { IfOk result (λ after. IsAfter (λ r. r.now) (entry_line plan.now entry.now) text.now after) }
+{
+    let mut line = Vec::new(alloc);
+    push_entry(&mut line, plan, entry)?;
+    Ok(after_front(text, line.as_slice()))
+}
+
+/// What a text is left as after the line of this look, where it begins with that.
+fn after_seen<'a>(
+    alloc: Global,
+    plan: &Plan,
+    text: &'a [u8],
+    seen: &Seen,
+) -> Result<Option<&'a [u8]>, OutOfMemory>
+    requires { seen.now.watch < length plan.now.watches }
+    ensures { IfOk result (λ after. IsAfter (λ r. r.now) (seen_line plan.now seen.now) text.now after) }
+{
+    let mut line = Vec::new(alloc);
+    push_seen(&mut line, plan, seen)?;
+    Ok(after_front(text, line.as_slice()))
+}
+
+/// What a text is left as after the lines of all objects, where it begins with those.
+fn after_objects<'a>(
+    alloc: Global,
+    plan: &Plan,
+    text: &'a [u8],
+    entries: &[Entry],
+) -> Result<Option<&'a [u8]>, OutOfMemory>
+    requires { AllWellFormed plan.now entries.now }
+    ensures { IfOk result (λ after. IsAfter (λ r. r.now) (object_lines plan.now (reverse entries.now)) text.now after) }
+{
+    let mut objects = Vec::new(alloc);
+    push_objects(alloc, &mut objects, plan, entries)?;
+    Ok(after_front(text, objects.as_slice()))
+}
+
+/// What a text is left as after the lines of all outcomes, where it begins with those.
+fn after_outcomes<'a>(
+    alloc: Global,
+    plan: &Plan,
+    text: &'a [u8],
+    entries: &[Entry],
+) -> Result<Option<&'a [u8]>, OutOfMemory>
+    requires { AllWellFormed plan.now entries.now }
+    ensures { IfOk result (λ after. IsAfter (λ r. r.now) (outcome_lines plan.now (reverse entries.now)) text.now after) }
+{
+    let mut outcomes = Vec::new(alloc);
+    push_outcomes(alloc, &mut outcomes, plan, entries)?;
+    Ok(after_front(text, outcomes.as_slice()))
+}
+
+/// What a text is left as after the lines that follow from these entries, where it begins with those.
+fn after_closing<'a>(
+    alloc: Global,
+    plan: &Plan,
+    text: &'a [u8],
+    entries: &[Entry],
+) -> Result<Option<&'a [u8]>, OutOfMemory>
+    requires { AllWellFormed plan.now entries.now }
+    ensures { IfOk result (λ after. IsAfter (λ r. r.now) (closing_lines plan.now (reverse entries.now)) text.now after) }
+{
+    match after_objects(alloc, plan, text, entries) {
+        Ok(Some(rest)) => after_outcomes(alloc, plan, rest, entries),
+        Ok(None) => Ok(None),
+        Err(error) => Err(error),
+    }
+}
+
+/// The well-formed entry whose line a text begins with, and the rest of the text.
+fn next_entry<'a>(
+    alloc: Global,
+    plan: &Plan,
+    text: &'a [u8],
+) -> Result<Option<(Entry, &'a [u8])>, OutOfMemory>
+    requires { is_well_named plan.now ≡ true }
+    ensures { IfOk result (λ found. EntryFound plan.now text.now (option_map (λ r. (r.0, r.1.now)) found)) }
+{
+    plan.places();
+    let Some(entry) = entry_in(plan, text) else {
+        return Ok(None);
+    };
+    if !is_well_formed(plan, &entry) {
+        return Ok(None);
+    }
+    match after_entry(alloc, plan, text, &entry) {
+        Ok(Some(rest)) => Ok(Some((entry, rest))),
+        Ok(None) => Ok(None),
+        Err(error) => Err(error),
+    }
+}
+
+/// The look whose line a text begins with, where its watch is none before the least, and the rest of the text.
+fn next_seen<'a>(
+    alloc: Global,
+    plan: &Plan,
+    text: &'a [u8],
+    least: u32,
+) -> Result<Option<(Seen, &'a [u8])>, OutOfMemory>
+    requires { is_well_named plan.now ≡ true }
+    ensures { IfOk result (λ found. SeenFound plan.now least text.now (option_map (λ r. (r.0, r.1.now)) found)) }
+{
+    let seen = seen_in(plan, text);
+    if !may_stand(plan, least, &seen) {
+        return Ok(None);
+    }
+    match after_seen(alloc, plan, text, &seen) {
+        Ok(Some(rest)) => Ok(Some((seen, rest))),
+        Ok(None) => Ok(None),
+        Err(error) => Err(error),
+    }
+}
+
+/// All entries whose lines a text begins with, and the rest of the text; or that there are more than the limit.
+fn read_entries<'a>(
+    alloc: Global,
+    plan: &Plan,
+    text: &'a [u8],
+    limit: u64,
+) -> Result<(Vec<Entry>, &'a [u8]), TextError>
+    requires { is_well_named plan.now ≡ true }
+    ensures read { IfOk result (λ r. EntriesRead plan.now limit text.now r.0.items r.1.now) }
+    ensures stopped { IfErr result (λ e. StopsEntries plan.now limit text.now e) }
+{
+    let mut entries = Vec::new(alloc);
+    let mut rest = text;
+    while let Some((entry, after)) = next_entry(alloc, plan, rest)? {
+        if entries.len() as u64 == limit {
+            return Err(TextError::TooMany { line: limit + 2 });
+        }
+        entries.push(entry)?;
+        rest = after;
+    }
+    Ok((entries, rest))
+}
+
+/// All looks whose lines a text begins with, in order, and the rest of the text.
+fn read_seens<'a>(
+    alloc: Global,
+    plan: &Plan,
+    text: &'a [u8],
+) -> Result<(Vec<Seen>, &'a [u8]), OutOfMemory>
+    requires { is_well_named plan.now ≡ true }
+    ensures { IfOk result (λ r. SeensRead plan.now text.now r.0.items r.1.now) }
+{
+    let mut seens = Vec::new(alloc);
+    let mut rest = text;
+    let mut least = 0;
+    while let Some((seen, after)) = next_seen(alloc, plan, rest, least)? {
+        seens.push(seen)?;
+        rest = after;
+        least = seen.watch;
+    }
+    Ok((seens, rest))
+}
+
+/// How many whole lines two texts have in common before they first differ.
+fn lines_shared(text: &[u8], other: &[u8]) -> u64
+    ensures value { result ≡ lines_shared text.now other.now }
+    ensures few { result ≤ length text.now }
+{
+    let mut lines = 0;
+    for (index, byte) in text.iter().enumerate() {
+        if index == other.len() {
+            return lines;
+        }
+        if *byte != other[index] {
+            return lines;
+        }
+        if *byte == b'\n' {
+            lines += 1;
+        }
+    }
+    lines
+}
+
+/// The refusal of the first line that the bytes don't share with the text of these entries and looks.
+fn refused_after(
+    alloc: Global,
+    plan: &Plan,
+    bytes: &[u8],
+    entries: &[Entry],
+    seens: &[Seen],
+) -> TextError
+    requires entries { AllWellFormed plan.now entries.now }
+    requires watches { AreOfPlan plan.now seens.now }
+    ensures { RefusesAfter bytes.now (text_of plan.now entries.now seens.now) result }
+{
+    match write_text(alloc, plan, entries, seens) {
+        Ok(text) => TextError::BadLine {
+            line: lines_shared(bytes, &text) + 1,
+        },
+        Err(_) => TextError::OutOfMemory,
+    }
+}
+
+/// The journal and the looks whose text these bytes are.
+///
+/// The journal has at most `limit` entries, and all are well formed; whether it is legal isn't asked.
+pub fn read(
+    alloc: Global,
+    plan: &Plan,
+    bytes: &[u8],
+    limit: u64,
+) -> Result<(Journal, Seens), TextError>
+    requires { is_well_named plan.now ≡ true }
+    ensures reads { Reads plan.now limit bytes.now result }
+    ensures back { ReadsBack plan.now limit bytes.now result }
+{
+    plan.places();
+    read_text(alloc, plan, bytes, limit)
+}
+
+/// The same, without the law that what was written is read back.
+fn read_text(
+    alloc: Global,
+    plan: &Plan,
+    bytes: &[u8],
+    limit: u64,
+) -> Result<(Journal, Seens), TextError>
+    requires { is_well_named plan.now ≡ true }
+    ensures { Reads plan.now limit bytes.now result }
+{
+    plan.places();
+    let Some(text) = after_first_line(bytes) else {
+        return Err(refused_after(alloc, plan, bytes, &[], &[]));
+    };
+    let (entries, text) = read_entries(alloc, plan, text, limit)?;
+    let left = after_closing(alloc, plan, text, &entries)?;
+    let Some(text) = left else {
+        return Err(refused_after(alloc, plan, bytes, &entries, &[]));
+    };
+    let (seens, text) = read_seens(alloc, plan, text)?;
+    if !text.is_empty() {
+        return Err(refused_after(alloc, plan, bytes, &entries, &seens));
+    }
+    Ok((Journal::from_vec(entries), Seens::from_vec(seens)))
+}
+
+/// Texts of different journals, or of different looks, differ. A statement alone: the call does nothing.
+pub fn texts_differ(plan: &Plan)
+    requires { is_well_named plan.now ≡ true }
+    ensures { TextsDiffer plan.now }
+{
+    plan.places();
+}

@@ -1,0 +1,428 @@
+ghost use Rattle.std.specs.Prelude.{◌≡◌, ◌<◌, ◌∷◌, ◌++◌, [], map, length, reverse, codes, decimal, OnOk, IfOk};
+ghost use Rattle.std.specs.List.{flat_map, range_with_len};
+ghost use Rattle.caa_base.specs.declared.written.entry.Kind.TheVariants as kind;
+ghost use Rattle.caa_base.specs.Written.Lines.{spaced, line};
+ghost use Rattle.place_plan.specs.Plans.Places.{parent};
+ghost use Rattle.place_plan.specs.RulesOfJournals.Entries.{is_of};
+ghost use Rattle.place_plan.specs.RulesOfJournals.WellFormed.{IsWellFormed, AllWellFormed};
+ghost use Rattle.journal_text.specs.Texts.Text.{action_name, object_name, internal_name, interface_name, kind_word, object_words, restore_word, verdict_words, outcome_at, outcome_words, abort_words, leave_words, field_words, entry_line, object_lines, last_outcome, ending_words, outcome_lines, closing_lines, seen_line, text_of};
+ghost use Rattle.journal_text.specs.Texts.KnownValues.{value_found};
+ghost use Rattle.journal_text.specs.Watching.Looks.{AreOfPlan};
+
+use crate::looks::seens::{Seen, Seens};
+use crate::texts::values::{last_values, value_found};
+use caa_base::written::entry::{Entry, Exception, Kind, Object, OutOfMemory, Outcome, Place, Verdict};
+use caa_base::written::journal::Journal;
+use caa_base::written::line::{end_line, push_number, push_value, push_word};
+use place_plan::rules::one_entry::verdict_at;
+use place_plan::plans::plan::Plan;
+use std::alloc::{AllocError, Global};
+
+/// The text of a journal: one line for each entry, with the names of the plan, then the value of each object and the outcome of
+/// each place, and then what was seen.
+pub fn write(
+    alloc: Global,
+    plan: &Plan,
+    journal: &Journal,
+    seens: &Seens,
+) -> Result<Vec<u8>, OutOfMemory>
+    requires entries { AllWellFormed plan.now journal.now.entries }
+    requires watches { AreOfPlan plan.now seens.now.seens }
+    ensures { IfOk result (λ text. text.items ≡ text_of plan.now journal.now.entries seens.now.seens) }
+{
+    write_text(alloc, plan, journal.as_slice(), seens.as_slice())
+}
+
+/// The text of these entries and looks.
+pub(crate) fn write_text(
+    alloc: Global,
+    plan: &Plan,
+    entries: &[Entry],
+    seens: &[Seen],
+) -> Result<Vec<u8>, OutOfMemory>
+    requires entries { AllWellFormed plan.now entries.now }
+    requires watches { AreOfPlan plan.now seens.now }
+    ensures { IfOk result (λ text. text.items ≡ text_of plan.now entries.now seens.now) }
+{
+    let mut text = Vec::new(alloc);
+    push_text(alloc, &mut text, plan, entries, seens)?;
+    Ok(text)
+}
+
+/// Adds all lines.
+fn push_text(
+    alloc: Global,
+    text: &mut Vec<u8>,
+    plan: &Plan,
+    entries: &[Entry],
+    seens: &[Seen],
+) -> Result<(), OutOfMemory>
+    requires entries { AllWellFormed plan.now entries.now }
+    requires watches { AreOfPlan plan.now seens.now }
+    ensures { OnOk result (text.new.items ≡ text.old.items ++ text_of plan.now entries.now seens.now) }
+{
+    text.extend_from_slice(b"journal\n")?;
+    push_entries(text, plan, entries)?;
+    push_closing(alloc, text, plan, entries)?;
+    push_seens(text, plan, seens)
+}
+
+/// Adds a line for each entry.
+fn push_entries(text: &mut Vec<u8>, plan: &Plan, entries: &[Entry]) -> Result<(), OutOfMemory>
+    requires { AllWellFormed plan.now entries.now }
+    ensures { OnOk result (text.new.items ≡ text.old.items ++ flat_map (entry_line plan.now) entries.now) }
+{
+    for entry in entries {
+        push_entry(text, plan, entry)?;
+    }
+    Ok(())
+}
+
+/// Adds the lines that follow from the entries.
+fn push_closing(
+    alloc: Global,
+    text: &mut Vec<u8>,
+    plan: &Plan,
+    entries: &[Entry],
+) -> Result<(), OutOfMemory>
+    requires { AllWellFormed plan.now entries.now }
+    ensures { OnOk result (text.new.items ≡ text.old.items ++ closing_lines plan.now (reverse entries.now)) }
+{
+    push_objects(alloc, text, plan, entries)?;
+    push_outcomes(alloc, text, plan, entries)
+}
+
+/// Adds a line for each look.
+fn push_seens(text: &mut Vec<u8>, plan: &Plan, seens: &[Seen]) -> Result<(), OutOfMemory>
+    requires { AreOfPlan plan.now seens.now }
+    ensures { OnOk result (text.new.items ≡ text.old.items ++ flat_map (seen_line plan.now) seens.now) }
+{
+    for seen in seens {
+        push_seen(text, plan, seen)?;
+    }
+    Ok(())
+}
+
+/// Adds a line for each object, with its value after the entries.
+#[tactic(auto, using(crate::proofs::OnTexts::TextLemmas::lines_more))]
+pub(crate) fn push_objects(
+    alloc: Global,
+    text: &mut Vec<u8>,
+    plan: &Plan,
+    entries: &[Entry],
+) -> Result<(), OutOfMemory>
+    requires { AllWellFormed plan.now entries.now }
+    ensures { OnOk result (text.new.items ≡ text.old.items ++ object_lines plan.now (reverse entries.now)) }
+{
+    let found = last_values(alloc, plan, entries)?;
+    for object in 0..plan.objects() {
+        push_object_line(text, plan, object, &found)?;
+    }
+    Ok(())
+}
+
+/// Adds a line for each place, with its outcome after the entries.
+#[tactic(auto, using(crate::proofs::OnTexts::TextLemmas::lines_more))]
+pub(crate) fn push_outcomes(
+    alloc: Global,
+    text: &mut Vec<u8>,
+    plan: &Plan,
+    entries: &[Entry],
+) -> Result<(), OutOfMemory>
+    requires { AllWellFormed plan.now entries.now }
+    ensures { OnOk result (text.new.items ≡ text.old.items ++ outcome_lines plan.now (reverse entries.now)) }
+{
+    let outcomes = last_outcomes(alloc, plan, entries)?;
+    for place in 0..plan.places() {
+        push_ending(text, plan, place, outcomes[place as usize])?;
+    }
+    Ok(())
+}
+
+/// How each place ended, in the order of the places, where it has an End.
+fn last_outcomes(
+    alloc: Global,
+    plan: &Plan,
+    entries: &[Entry],
+) -> Result<Vec<Option<Outcome>>, AllocError>
+    requires { AllWellFormed plan.now entries.now }
+    ensures { IfOk result (λ outcomes.
+        outcomes.items ≡ map (last_outcome (reverse entries.now)) (range_with_len 0 (length plan.now.places))) }
+{
+    let mut outcomes = vec![in alloc; None; plan.places() as usize]?;
+    for entry in entries {
+        if is_end(entry) {
+            outcomes[entry.place as usize] = Some(outcome_of(entry));
+        }
+    }
+    Ok(outcomes)
+}
+
+/// Whether an entry is an End.
+fn is_end(entry: &Entry) -> bool
+    ensures { result ≡ is_of kind.End entry.now }
+{
+    entry.kind == Kind::End
+}
+
+/// Adds the line of an entry.
+pub(crate) fn push_entry(text: &mut Vec<u8>, plan: &Plan, entry: &Entry) -> Result<(), OutOfMemory>
+    requires { IsWellFormed plan.now entry.now }
+    ensures { OnOk result (text.new.items ≡ text.old.items ++ entry_line plan.now entry.now) }
+{
+    text.extend_from_slice(kind_word(entry.kind))?;
+    push_number(text, u64::from(entry.place))?;
+    push_word(text, plan.participant_name(entry.by))?;
+    push_fields(text, plan, entry)?;
+    end_line(text)
+}
+
+/// Adds the line of an object with the value that was found for it.
+fn push_object_line(
+    text: &mut Vec<u8>,
+    plan: &Plan,
+    object: Object,
+    found: &[Option<i64>],
+) -> Result<(), OutOfMemory>
+    requires object { object < length plan.now.objects }
+    requires objects { length found.now ≡ length plan.now.objects }
+    ensures { OnOk result (text.new.items
+        ≡ text.old.items ++ line (codes "object") (object_words plan.now object (value_found plan.now found.now object))) }
+{
+    text.extend_from_slice(b"object")?;
+    push_object(text, plan, object, value_found(plan, found, object))?;
+    end_line(text)
+}
+
+/// Adds the line of a place that ended so, or that hasn't ended.
+fn push_ending(
+    text: &mut Vec<u8>,
+    plan: &Plan,
+    place: Place,
+    outcome: Option<Outcome>,
+) -> Result<(), OutOfMemory>
+    ensures { OnOk result (text.new.items
+        ≡ text.old.items
+        ++ line (codes "outcome") (decimal place ∷ action_name plan.now place ∷ ending_words plan.now place outcome)) }
+{
+    text.extend_from_slice(b"outcome")?;
+    push_number(text, u64::from(place))?;
+    push_word(text, plan.action_name(place))?;
+    match outcome {
+        Some(outcome) => push_outcome(text, plan, place, outcome)?,
+        None => push_word(text, b"none")?,
+    }
+    end_line(text)
+}
+
+/// Adds the line of a look.
+pub(crate) fn push_seen(text: &mut Vec<u8>, plan: &Plan, seen: &Seen) -> Result<(), OutOfMemory>
+    requires { seen.now.watch < length plan.now.watches }
+    ensures { OnOk result (text.new.items ≡ text.old.items ++ seen_line plan.now seen.now) }
+{
+    text.extend_from_slice(b"seen")?;
+    push_word(text, object_name(plan, plan.watch(seen.watch)))?;
+    push_number(text, seen.ends)?;
+    push_value(text, seen.value)?;
+    end_line(text)
+}
+
+/// The name of an object, which is empty past the last one.
+pub(crate) fn object_name(plan: &Plan, object: Object) -> &[u8]
+    ensures { result.now ≡ object_name plan.now object }
+{
+    if object < plan.objects() {
+        plan.object_name(object)
+    } else {
+        b""
+    }
+}
+
+/// Adds the name of an object and its value.
+fn push_object(
+    text: &mut Vec<u8>,
+    plan: &Plan,
+    object: Object,
+    value: i64,
+) -> Result<(), OutOfMemory>
+    ensures { OnOk result (text.new.items ≡ text.old.items ++ spaced (object_words plan.now object value)) }
+{
+    push_word(text, object_name(plan, object))?;
+    push_value(text, value)
+}
+
+/// Adds the name of an exception that is raised in a place.
+fn push_internal(
+    text: &mut Vec<u8>,
+    plan: &Plan,
+    place: Place,
+    exception: Exception,
+) -> Result<(), OutOfMemory>
+    ensures { OnOk result (text.new.items ≡ text.old.items ++ spaced (internal_name plan.now place exception ∷ [])) }
+{
+    push_word(
+        text,
+        plan.exception_name(plan.internal_number(place), exception),
+    )
+}
+
+/// Adds the name of an exception that a place tells outside.
+fn push_interface(
+    text: &mut Vec<u8>,
+    plan: &Plan,
+    place: Place,
+    exception: Exception,
+) -> Result<(), OutOfMemory>
+    ensures { OnOk result (text.new.items ≡ text.old.items ++ spaced (interface_name plan.now place exception ∷ [])) }
+{
+    push_word(
+        text,
+        plan.exception_name(plan.interface_number(place), exception),
+    )
+}
+
+/// Adds what an entry says beside its kind, its place and its maker.
+fn push_fields(text: &mut Vec<u8>, plan: &Plan, entry: &Entry) -> Result<(), OutOfMemory>
+    requires { IsWellFormed plan.now entry.now }
+    ensures { OnOk result (text.new.items ≡ text.old.items ++ spaced (field_words entry.now.kind plan.now entry.now)) }
+{
+    match entry.kind {
+        Kind::Read | Kind::Write | Kind::PutFault => push_object(
+            text,
+            plan,
+            entry.arg,
+            entry.value,
+        ),
+        Kind::Work => {
+            push_number(text, u64::from(entry.arg))?;
+            push_value(text, entry.value)
+        },
+        Kind::Raise | Kind::Resolve | Kind::Handle => push_internal(
+            text,
+            plan,
+            entry.place,
+            entry.arg,
+        ),
+        Kind::Verdict => push_verdict(text, plan, entry.place, verdict_at(entry)),
+        Kind::Abort => push_abort(text, plan, entry),
+        Kind::Restore => push_restore(text, plan, entry),
+        Kind::End => push_outcome(text, plan, entry.place, outcome_of(entry)),
+        Kind::Leave => push_leave(text, plan, entry),
+        Kind::Arrive | Kind::Withdraw | Kind::Start | Kind::Check | Kind::Inform | Kind::Undo => Ok(
+            (),
+        ),
+    }
+}
+
+/// Adds the exception that an Abort names, if it names one.
+fn push_abort(text: &mut Vec<u8>, plan: &Plan, entry: &Entry) -> Result<(), OutOfMemory>
+    ensures { OnOk result (text.new.items ≡ text.old.items ++ spaced (abort_words plan.now entry.now)) }
+{
+    if entry.mark == 1 {
+        push_interface(text, plan, entry.place, entry.arg)?;
+    }
+    Ok(())
+}
+
+/// Adds the exception that a Leave carries into the place round its own, if it carries one.
+fn push_leave(text: &mut Vec<u8>, plan: &Plan, entry: &Entry) -> Result<(), OutOfMemory>
+    ensures { OnOk result (text.new.items
+        ≡ text.old.items ++ spaced (leave_words plan.now (parent plan.now entry.now.place) entry.now)) }
+{
+    match plan.parent(entry.place) {
+        Some(outer) if entry.mark == 1 => push_internal(text, plan, outer, entry.arg),
+        _ => Ok(()),
+    }
+}
+
+/// Adds the object and the value of a restore, and whether the device took it.
+fn push_restore(text: &mut Vec<u8>, plan: &Plan, entry: &Entry) -> Result<(), OutOfMemory>
+    ensures { OnOk result (text.new.items
+        ≡ text.old.items ++ spaced (object_words plan.now entry.now.arg entry.now.value ++ restore_word entry.now.mark ∷ [])) }
+{
+    push_object(text, plan, entry.arg, entry.value)?;
+    if entry.mark == 0 {
+        push_word(text, b"well")
+    } else {
+        push_word(text, b"failed")
+    }
+}
+
+/// Adds the words of a verdict in a place.
+fn push_verdict(
+    text: &mut Vec<u8>,
+    plan: &Plan,
+    place: Place,
+    verdict: Verdict,
+) -> Result<(), OutOfMemory>
+    ensures { OnOk result (text.new.items ≡ text.old.items ++ spaced (verdict_words plan.now place verdict)) }
+{
+    match verdict {
+        Verdict::Done => push_word(text, b"done"),
+        Verdict::Signal(exception) => {
+            push_word(text, b"signal")?;
+            push_interface(text, plan, place, exception)
+        },
+        Verdict::Undo => push_word(text, b"undo"),
+    }
+}
+
+/// Adds the words of an outcome of a place.
+fn push_outcome(
+    text: &mut Vec<u8>,
+    plan: &Plan,
+    place: Place,
+    outcome: Outcome,
+) -> Result<(), OutOfMemory>
+    ensures { OnOk result (text.new.items ≡ text.old.items ++ spaced (outcome_words plan.now place outcome)) }
+{
+    match outcome {
+        Outcome::Commit => push_word(text, b"commit"),
+        Outcome::Signal(exception) => {
+            push_word(text, b"signal")?;
+            push_interface(text, plan, place, exception)
+        },
+        Outcome::Undone => push_word(text, b"undone"),
+        Outcome::Aborted => push_word(text, b"aborted"),
+        Outcome::Failed => push_word(text, b"failed"),
+    }
+}
+
+/// The outcome that an End says.
+fn outcome_of(entry: &Entry) -> Outcome
+    ensures { result ≡ outcome_at entry.now }
+{
+    match entry.mark {
+        0 => Outcome::Commit,
+        1 => Outcome::Signal(entry.arg),
+        2 => Outcome::Undone,
+        3 => Outcome::Aborted,
+        _ => Outcome::Failed,
+    }
+}
+
+/// The word of a kind.
+fn kind_word(kind: Kind) -> &'static [u8]
+    ensures { result.now ≡ kind_word kind }
+{
+    match kind {
+        Kind::Arrive => b"arrive",
+        Kind::Withdraw => b"withdraw",
+        Kind::Start => b"start",
+        Kind::Read => b"read",
+        Kind::Work => b"work",
+        Kind::Write => b"write",
+        Kind::Check => b"check",
+        Kind::PutFault => b"putfault",
+        Kind::Raise => b"raise",
+        Kind::Inform => b"inform",
+        Kind::Resolve => b"resolve",
+        Kind::Handle => b"handle",
+        Kind::Verdict => b"verdict",
+        Kind::Abort => b"abort",
+        Kind::Undo => b"undo",
+        Kind::Restore => b"restore",
+        Kind::End => b"end",
+        Kind::Leave => b"leave",
+    }
+}

@@ -1,0 +1,4 @@
+-- Lemmas on drafts.
+pub mod DraftKeeps
+pub mod MetAgain
+pub mod BitsOfObjects

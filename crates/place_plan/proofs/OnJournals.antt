@@ -1,0 +1,4 @@
+-- Lemmas on journals.
+pub mod EntryKinds
+pub mod LegalProp
+pub mod LatestValues

@@ -1,6 +1,0 @@
-use Rattle.place_plan.specs.DraftRules.{depth_within}
-use Rattle.place_plan.specs.Weights.{Tells}
-use Rattle.place_plan.proofs.depth.depths_of.Given as goal
-
-abbrev pub invariant-loop-level : goal.invariant-loop-level
-invariant-loop-level l = Tells l.actions l.table (depth_within l.level l.actions)

@@ -1,6 +1,0 @@
-use Rattle.std.proofs.Common.{◌≡◌, drop}
-use Rattle.place_plan.specs.Places.{handler_in}
-use Rattle.place_plan.proofs.plan.handler_in.Given as goal
-
-abbrev pub invariant-loop-handler : goal.invariant-loop-handler
-invariant-loop-handler l = handler_in l.exception (drop l.handler-index l.handlers) ≡ handler_in l.exception l.handlers

@@ -1,6 +1,0 @@
-use Rattle.std.proofs.Common.{◌≡◌, ◌+◌, drop}
-use Rattle.caa_base.specs.Lists.{index_of}
-use Rattle.place_plan.proofs.plan.index_of.Given as goal
-
-abbrev pub invariant-loop-index : goal.invariant-loop-index
-invariant-loop-index l = l.index + index_of l.number (drop l.index l.list) ≡ index_of l.number l.list

@@ -1,6 +1,0 @@
-use Rattle.std.proofs.Common.{◌≡◌, drop}
-use Rattle.caa_base.specs.Lists.{last_or}
-use Rattle.place_plan.proofs.plan.last_or.Given as goal
-
-abbrev pub invariant-loop-item : goal.invariant-loop-item
-invariant-loop-item l = last_or l.last (drop l.item-index l.list) ≡ last_or l.number l.list

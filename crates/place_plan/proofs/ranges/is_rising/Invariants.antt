@@ -1,6 +1,0 @@
-use Rattle.std.proofs.Common.{◌≡◌, drop}
-use Rattle.place_plan.specs.DraftRules.{is_rising, is_rising_above}
-use Rattle.place_plan.proofs.ranges.is_rising.Given as goal
-
-abbrev pub invariant-loop-number : goal.invariant-loop-number
-invariant-loop-number l = is_rising_above l.low (drop l.number-index l.rest) ≡ is_rising l.numbers

@@ -1,5 +1,0 @@
-use Rattle.place_plan.specs.Weights.{Tells, weight}
-use Rattle.place_plan.proofs.unfolded.weights_of.Given as goal
-
-abbrev pub invariant-loop-level : goal.invariant-loop-level
-invariant-loop-level l = Tells l.actions l.table (weight l.own l.level l.actions)

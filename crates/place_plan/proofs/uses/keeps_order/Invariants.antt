@@ -1,6 +1,0 @@
-use Rattle.std.proofs.Common.{◌≡◌, drop}
-use Rattle.place_plan.specs.DraftRules.{nests_below, order_rule}
-use Rattle.place_plan.proofs.uses.keeps_order.Given as goal
-
-abbrev pub invariant-loop-number : goal.invariant-loop-number
-invariant-loop-number l = nests_below l.number (drop l.number l.draft.actions) ≡ order_rule l.draft

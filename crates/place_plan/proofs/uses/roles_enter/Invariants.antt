@@ -1,6 +1,0 @@
-use Rattle.std.proofs.Common.{◌≡◌, drop}
-use Rattle.place_plan.specs.DraftRules.{roles_enter}
-use Rattle.place_plan.proofs.uses.roles_enter.Given as goal
-
-abbrev pub invariant-loop-number : goal.invariant-loop-number
-invariant-loop-number l = roles_enter l.nests l.number (drop l.number l.roles) ≡ roles_enter l.nests 0 l.roles

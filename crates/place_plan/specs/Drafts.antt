@@ -1,0 +1,3 @@
+-- Drafts, and the rules that a draft keeps.
+pub mod ObjectBits
+pub mod DraftRules

@@ -1,0 +1,80 @@
+ghost use Rattle.std.specs.Prelude.{◌≡◌, None, Some, IfOk, IfSome, MatchOption, MatchResult, is_some};
+ghost use Rattle.place_plan.specs.Plans.Bound.{bound};
+ghost use Rattle.place_plan.specs.Plans.Unfolding.{plan_of};
+ghost use Rattle.place_plan.specs.Drafts.DraftRules.{bound_rule, broken_rule, KeepsParts};
+ghost use Rattle.place_plan.specs.Plans.Weights.{counted};
+
+use crate::drafts::depth::keeps_depth;
+use crate::drafts::draft::Draft;
+use crate::drafts::fitting::{keeps_graphs, keeps_sizes};
+use crate::drafts::ranges::keeps_ranges;
+use crate::plans::unfolded::{Size, unfolded};
+use crate::drafts::uses::{
+    keeps_enters, keeps_faces, keeps_fillings, keeps_handlers, keeps_objects, keeps_order,
+};
+use caa_base::written::limits::{MOST_ENTRIES, MOST_PLACES};
+
+/// The least rule of a number below 10 that a draft breaks, as `Plan::close` tells the rules. Where it is none, the draft may be
+/// asked how much it unfolds into. No memory is taken.
+pub fn broken_part(draft: &Draft) -> Option<u32>
+    ensures { MatchOption result (KeepsParts draft.now) (λ rule. broken_rule draft.now ≡ Some rule) }
+{
+    if !keeps_sizes(draft) {
+        Some(1)
+    } else if !keeps_graphs(draft) {
+        Some(2)
+    } else if !keeps_ranges(draft) {
+        Some(3)
+    } else if !keeps_order(draft) {
+        Some(4)
+    } else if !keeps_fillings(draft) {
+        Some(5)
+    } else if !keeps_enters(draft) {
+        Some(6)
+    } else if !keeps_objects(draft) {
+        Some(7)
+    } else if !keeps_depth(draft) {
+        Some(8)
+    } else if !keeps_handlers(draft) {
+        Some(9)
+    } else {
+        None
+    }
+}
+
+/// How much a draft unfolds into, where that is no more places, and no longer journals, than the limits allow.
+fn size_within_limits(draft: &Draft) -> Option<Size>
+    requires { KeepsParts draft.now }
+    ensures rule { is_some result ≡ bound_rule draft.now }
+    ensures bound { IfSome result (λ size. size.bound ≡ counted (bound (plan_of draft.now))) }
+{
+    let size = unfolded(draft);
+    if size.places <= MOST_PLACES && size.bound <= MOST_ENTRIES {
+        Some(size)
+    } else {
+        None
+    }
+}
+
+/// How much a draft that breaks no rule unfolds into, or else the least rule that it breaks, as `Plan::close` tells the rules. No
+/// memory is taken.
+pub(crate) fn size_of(draft: &Draft) -> Result<Size, u32>
+    ensures rule { MatchResult result (λ size. broken_rule draft.now ≡ None) (λ rule. broken_rule draft.now ≡ Some rule) }
+    ensures bound { IfOk result (λ size. size.bound ≡ counted (bound (plan_of draft.now))) }
+{
+    if let Some(rule) = broken_part(draft) {
+        return Err(rule);
+    }
+    match size_within_limits(draft) {
+        None => Err(10),
+        Some(size) if keeps_faces(draft) => Ok(size),
+        Some(_) => Err(11),
+    }
+}
+
+/// The least rule that a draft breaks, as `Plan::close` tells the rules. No memory is taken.
+pub fn broken_rule(draft: &Draft) -> Option<u32>
+    ensures { result ≡ broken_rule draft.now }
+{
+    size_of(draft).err()
+}

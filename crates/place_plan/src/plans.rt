@@ -1,0 +1,8 @@
+//! Plans: the places into which the plays of a draft unfold, and how many there are.
+
+pub mod action_size;
+pub(crate) mod bound;
+pub mod plan;
+pub mod tables;
+pub mod unfolded;
+pub(crate) mod unfolding;

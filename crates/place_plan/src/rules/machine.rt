@@ -1,0 +1,88 @@
+ghost use Rattle.std.specs.Prelude.{◌≡◌, ◌<◌, ◌≤◌, ◌+◌, ◌-◌, ◌^◌, ℕ, List, length, slice_index_or, reverse, IsTrue, ◌↔◌};
+ghost use Rattle.caa_base.specs.declared.written.entry.Entry.{Entry as JournalEntry};
+ghost use Rattle.place_plan.specs.Plans.PlanValue.{Plan as PlanValue};
+ghost use Rattle.place_plan.specs.RulesOfJournals.Objects.{value_of};
+ghost use Rattle.place_plan.specs.RulesOfJournals.Journals.{LegalPast, IsComplete, faults_in};
+ghost use Rattle.caa_base.specs.Outside.Counts.{CountsFault};
+ghost use Rattle.place_plan.specs.RulesOfJournals.Machine.{Answers, made_fault};
+
+use crate::plans::plan::Plan;
+use caa_base::written::entry::{Entry, Object, Participant, Place};
+use caa_base::written::work::WorkDone;
+
+/// What a machine answers to a participant.
+#[derive(Clone, Copy, Debug, PartialEq, Eq)]
+pub enum Answer {
+    /// This entry of its was added to the journal.
+    Did(Entry),
+    /// Its next entry is a piece of mixing work. It is to mix so many rounds from this start, and to call again with the result.
+    Work {
+        place: Place,
+        rounds: u32,
+        from: i64,
+    },
+    /// There is nothing that it may do yet, and there are plays before it.
+    NotYet,
+    /// All its plays are behind it, or it never had one.
+    Over,
+}
+
+/// A plan that is played entry by entry.
+///
+/// Contracts see its plan, its journal and two counts of the device's faults: the one that stood before the play, and that of now.
+/// The journal is legal at all times. The plan and the first count stay as they are. The second goes up by one as a refused put or
+/// restore is entered, unless it stands at its end, and at no other time. No call takes memory.
+pub trait Machine {
+    ghost plan_of: { Self → PlanValue };
+
+    ghost journal_of: { Self → List JournalEntry };
+
+    ghost base_of: { Self → ℕ };
+
+    ghost count_of: { Self → ℕ };
+
+    /// The plan that is played.
+    fn plan(&self) -> &Plan
+        ensures { result.now ≡ plan_of self.now };
+
+    /// Adds what the rules let a participant do next, where they let it do something.
+    ///
+    /// Mixing work is added only where the hint brings its result, from the same start and by as many rounds; else the answer says
+    /// what to mix. A put or a restore asks the device within the call, and the entry says what the device answered.
+    fn next(&mut self, by: Participant, hint: Option<WorkDone>) -> Answer
+        requires { by < length (plan_of self.old).participants }
+        ensures plan { plan_of self.new ≡ plan_of self.old }
+        ensures base { base_of self.new ≡ base_of self.old }
+
+        // The device counts a fault in this call just where the entry of a refused put or restore is made.
+        ensures count { CountsFault (made_fault result) (count_of self.old) (count_of self.new) }
+        ensures answer { Answers (plan_of self.old) (journal_of self.old) (journal_of self.new) by hint result };
+
+    /// How many entries the journal has.
+    fn journal_len(&self) -> u64
+        ensures { result ≡ length (journal_of self.now) };
+
+    /// The entry at this index of the journal, counted from 0.
+    fn entry(&self, index: u64) -> Entry
+        requires { index < length (journal_of self.now) }
+        ensures { result ≡ slice_index_or (journal_of self.now) index result };
+
+    /// Whether each participant is over.
+    fn complete(&self) -> bool
+        ensures { IsTrue result ↔ IsComplete (plan_of self.now) (journal_of self.now) };
+
+    /// The value of an object by the journal.
+    fn value(&self, object: Object) -> i64
+        requires { object < length (plan_of self.now).objects }
+        ensures { result ≡ value_of (plan_of self.now) (reverse (journal_of self.now)) object };
+
+    /// The journal is legal.
+    ghost legal: { (m : Self) → LegalPast (plan_of m) (reverse (journal_of m)) };
+
+    /// Faults that were counted before the play are counted now.
+    ghost counted: { (m : Self) → base_of m ≤ count_of m };
+
+    /// Fault law: as long as the device's count isn't at its end, it rose at least once for each put and restore of the journal
+    /// that the device refused.
+    ghost faulted: { (m : Self) → count_of m < 2 ^ 64 - 1 → base_of m + faults_in (journal_of m) ≤ count_of m };
+}
