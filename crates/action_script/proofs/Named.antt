@@ -10,7 +10,7 @@ use Rattle.action_script.specs.declared.form.Form.{Form}
 use Rattle.action_script.specs.declared.form.Form.TheVariants as form
 use Rattle.action_script.specs.declared.script.Line.{Line}
 use Rattle.action_script.specs.Kinds.{parts_of, takes}
-use Rattle.action_script.specs.Forms.{kind_of, fields_of, numbers_in, numbers_of}
+use Rattle.action_script.specs.LineForms.{kind_of, fields_of, numbers_in, numbers_of}
 use Rattle.action_script.specs.ScriptValue.{Script}
 use Rattle.action_script.specs.Printing.{fits_part, all_fit, is_sound, forms_of, AreBelow, AreScript}
 use Rattle.action_script.proofs.Fits.{named_within}

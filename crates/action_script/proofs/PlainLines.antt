@@ -13,7 +13,8 @@ use Rattle.action_script.specs.declared.kind.LineKind.{LineKind}
 use Rattle.action_script.specs.Asked.{Asked, Said}
 use Rattle.action_script.specs.CutLines.{filled_of, is_blank, is_plain, words_of, begins_comment}
 use Rattle.action_script.specs.Kinds.{word_of, parts_of, takes, kinds}
-use Rattle.action_script.specs.Spelling.{asked_of, is_part, is_right, is_here, kind_here, trial_of, said_with, by_check, by_kind, line_by_words, line_of, IsOfKind}
+use Rattle.action_script.specs.Spelling.{asked_of, is_part, is_right, is_here, kind_here, trial_of, said_with, by_check, by_kind, line_by_words, line_of}
+use Rattle.action_script.specs.OneLine.{IsOfKind}
 use Rattle.action_script.proofs.Pieces.{some_piece}
 use Rattle.action_script.proofs.Inky.{IsWord, right_word, first_word}
 use Rattle.action_script.proofs.JoinedAndCut.{inky_plain, each_byte}

@@ -16,7 +16,7 @@ use Rattle.caa_base.specs.Written.Limits.{most_line_bytes}
 use Rattle.action_script.specs.CutLines.{words_of, is_plain}
 use Rattle.action_script.specs.Asked.{Asked}
 use Rattle.action_script.specs.Kinds.{word_of, parts_of, takes, stands_in}
-use Rattle.action_script.specs.Forms.{kind_of, fields_of, form_by}
+use Rattle.action_script.specs.LineForms.{kind_of, fields_of, form_by}
 use Rattle.action_script.specs.Spelling.{asked_of, is_right, is_wrong_test, is_test, field_of, kind_here, by_first_wrong, trial_of, by_check, by_kind, line_by_words, line_of}
 use Rattle.action_script.specs.Printing.{field_word, words_after, form_line, said_by, fits_part, all_fit, is_sound, is_short}
 use Rattle.action_script.proofs.Inky.{right_word, first_word, first_speaks}
@@ -84,39 +84,7 @@ abort_test s n four h = subst (λ m. kind_here s (word_of kind.AbortTest) m ≡ 
 
 pub kind_here-own : (k : LineKind) (s : Section) (n : ℕ) → takes k n ≡ true → stands_in k s ≡ true → kind_here s (word_of k) n ≡ Some k
 kind_here-own kind.AbortTest s n t h = abort_test s n (four n t) h
-kind_here-own kind.Participant s n t h = found kind.Participant _ (takes kind.Participant n) (stands_in kind.Participant s) t h
-kind_here-own kind.Object s n t h = found kind.Object _ (takes kind.Object n) (stands_in kind.Object s) t h
-kind_here-own kind.Drill s n t h = found kind.Drill _ (takes kind.Drill n) (stands_in kind.Drill s) t h
-kind_here-own kind.Watch s n t h = found kind.Watch _ (takes kind.Watch n) (stands_in kind.Watch s) t h
-kind_here-own kind.Graph s n t h = found kind.Graph _ (takes kind.Graph n) (stands_in kind.Graph s) t h
-kind_here-own kind.Action s n t h = found kind.Action _ (takes kind.Action n) (stands_in kind.Action s) t h
-kind_here-own kind.Play s n t h = found kind.Play _ (takes kind.Play n) (stands_in kind.Play s) t h
-kind_here-own kind.Exception s n t h = found kind.Exception _ (takes kind.Exception n) (stands_in kind.Exception s) t h
-kind_here-own kind.Cover s n t h = found kind.Cover _ (takes kind.Cover n) (stands_in kind.Cover s) t h
-kind_here-own kind.End s n t h = found kind.End _ (takes kind.End n) (stands_in kind.End s) t h
-kind_here-own kind.Internal s n t h = found kind.Internal _ (takes kind.Internal n) (stands_in kind.Internal s) t h
-kind_here-own kind.Interface s n t h = found kind.Interface _ (takes kind.Interface n) (stands_in kind.Interface s) t h
-kind_here-own kind.Fault s n t h = found kind.Fault _ (takes kind.Fault n) (stands_in kind.Fault s) t h
-kind_here-own kind.Use s n t h = found kind.Use _ (takes kind.Use n) (stands_in kind.Use s) t h
-kind_here-own kind.Roles s n t h = found kind.Roles _ (takes kind.Roles n) (stands_in kind.Roles s) t h
-kind_here-own kind.Nest s n t h = found kind.Nest _ (takes kind.Nest n) (stands_in kind.Nest s) t h
-kind_here-own kind.Map s n t h = found kind.Map _ (takes kind.Map n) (stands_in kind.Map s) t h
-kind_here-own kind.MapUndo s n t h = found kind.MapUndo _ (takes kind.MapUndo n) (stands_in kind.MapUndo s) t h
-kind_here-own kind.MapFailure s n t h = found kind.MapFailure _ (takes kind.MapFailure n) (stands_in kind.MapFailure s) t h
-kind_here-own kind.Alternate s n t h = found kind.Alternate _ (takes kind.Alternate n) (stands_in kind.Alternate s) t h
-kind_here-own kind.Abort s n t h = found kind.Abort _ (takes kind.Abort n) (stands_in kind.Abort s) t h
-kind_here-own kind.Body s n t h = found kind.Body _ (takes kind.Body n) (stands_in kind.Body s) t h
-kind_here-own kind.Handler s n t h = found kind.Handler _ (takes kind.Handler n) (stands_in kind.Handler s) t h
-kind_here-own kind.Read s n t h = found kind.Read _ (takes kind.Read n) (stands_in kind.Read s) t h
-kind_here-own kind.Put s n t h = found kind.Put _ (takes kind.Put n) (stands_in kind.Put s) t h
-kind_here-own kind.Add s n t h = found kind.Add _ (takes kind.Add n) (stands_in kind.Add s) t h
-kind_here-own kind.Work s n t h = found kind.Work _ (takes kind.Work n) (stands_in kind.Work s) t h
-kind_here-own kind.Check s n t h = found kind.Check _ (takes kind.Check n) (stands_in kind.Check s) t h
-kind_here-own kind.Raise s n t h = found kind.Raise _ (takes kind.Raise n) (stands_in kind.Raise s) t h
-kind_here-own kind.Enter s n t h = found kind.Enter _ (takes kind.Enter n) (stands_in kind.Enter s) t h
-kind_here-own kind.Done s n t h = found kind.Done _ (takes kind.Done n) (stands_in kind.Done s) t h
-kind_here-own kind.Signal s n t h = found kind.Signal _ (takes kind.Signal n) (stands_in kind.Signal s) t h
-kind_here-own kind.Undo s n t h = found kind.Undo _ (takes kind.Undo n) (stands_in kind.Undo s) t h
+kind_here-own _ s n t h = found _ _ _ _ t h
 
 -- ---- the line
 

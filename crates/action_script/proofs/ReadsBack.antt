@@ -11,7 +11,7 @@ use Rattle.caa_base.specs.Written.Limits.{most_script_bytes}
 use Rattle.action_script.specs.CutLines.{lines_of}
 use Rattle.action_script.specs.Kinds.{word_of, parts_of, takes, stands_in, goes_to}
 use Rattle.action_script.specs.NumberedNames.{with_names}
-use Rattle.action_script.specs.Forms.{kind_of, fields_of}
+use Rattle.action_script.specs.LineForms.{kind_of, fields_of}
 use Rattle.action_script.specs.ScriptValue.{Script}
 use Rattle.action_script.specs.Spelling.{names_of, Numbered, before, with_line, said_from, script_names, line_by, script_by, script_of, reading_of}
 use Rattle.action_script.specs.Printing.{words_after, form_line, line_text, text_of, said_by, is_sound, is_short, lead_to_top, form_names, AreScript, forms_of, numbered_from, reread_of}

@@ -4,16 +4,17 @@ use Rattle.std.specs.List.{list_all, flat_map}
 use Rattle.std.proofs.lemmas.Bool.{and_parts}
 use Rattle.std.proofs.lemmas.List.{map-append}
 use Rattle.std.proofs.lemmas.List.Folds.{list_all-append}
-use Rattle.std.proofs.Math.Seq.{drop-cons, take-suc}
+use Rattle.std.proofs.Math.Seq.{drop-cons, drop-nil, take-suc}
 use Rattle.action_script.specs.declared.field.Part.{Part}
 use Rattle.action_script.specs.declared.field.Part.TheVariants as part
 use Rattle.action_script.specs.declared.field.Field.{Field}
 use Rattle.action_script.specs.declared.field.Field.TheVariants as field
 use Rattle.action_script.specs.declared.script.Line.{Line}
 use Rattle.action_script.specs.Asked.{Asked}
-use Rattle.action_script.specs.Forms.{form_by}
+use Rattle.action_script.specs.LineForms.{form_by}
 use Rattle.action_script.specs.NumberedNames.{is_among, with_name, with_names, number_in}
-use Rattle.action_script.specs.Spelling.{asked_of, part_at, is_right, is_name_part, names_of, field_by, field_of, Numbered, line_by, script_names}
+use Rattle.action_script.specs.Spelling.{asked_of, is_right, is_name_part, names_of, field_by, field_of, Numbered, line_by, script_names}
+use Rattle.action_script.specs.OneLine.{part_at}
 
 and : (a b : Bool) → a ≡ true → b ≡ true → (a && b) ≡ true
 and true b p q = q
@@ -125,6 +126,20 @@ asked_at [] (first ∷ words) zero none d within = refl
 asked_at [] (first ∷ words) (suc i) none d within = asked_at [] words i none d (omega (arith, within))
 asked_at (one ∷ parts) (first ∷ words) zero none d within = refl
 asked_at (one ∷ parts) (first ∷ words) (suc i) none d within = asked_at parts words i none d (omega (arith, within))
+
+-- from a place on, it comes before those behind it
+names_from : (words : List (Bor (List ℕ))) (i : ℕ) (none : Bor (List ℕ)) → i < length words → asked_of [] (map (λ w. w.now) (drop i words)) ≡ record { part = part.Name; word = (get_or words i none).now } ∷ asked_of [] (map (λ w. w.now) (drop (suc i) words))
+names_from [] i none within = absurd (omega (arith, within))
+names_from (first ∷ words) zero none within = refl
+names_from (first ∷ words) (suc i) none within = names_from words i none (omega (arith, within))
+
+pub asked_from : (parts : List Part) (words : List (Bor (List ℕ))) (i : ℕ) (none : Bor (List ℕ)) → i < length words → asked_of (drop i parts) (map (λ w. w.now) (drop i words)) ≡ record { part = part_at parts i; word = (get_or words i none).now } ∷ asked_of (drop (suc i) parts) (map (λ w. w.now) (drop (suc i) words))
+asked_from parts [] i none within = absurd (omega (arith, within))
+asked_from [] words i none within =
+    let word : Asked = record { part = part.Name; word = (get_or words i none).now } in
+    ap (λ p. asked_of p (map (λ w. w.now) (drop i words))) (drop-nil i) ∙ names_from words i none within ∙ ap (λ p. word ∷ asked_of p (map (λ w. w.now) (drop (suc i) words))) (sym (drop-nil (suc i)))
+asked_from (one ∷ parts) (first ∷ words) zero none within = refl
+asked_from (one ∷ parts) (first ∷ words) (suc i) none within = asked_from parts words i none (omega (arith, within))
 
 module _ (asked : List Asked) (i : ℕ) (word : Asked) (within : i < length asked) (is : word ≡ get_or asked i word) where
   rest : drop i asked ≡ word ∷ drop (i + 1) asked

@@ -19,7 +19,7 @@ use Rattle.caa_base.specs.Written.Lines.{spaced}
 use Rattle.action_script.specs.Asked.{Asked, Said}
 use Rattle.action_script.specs.Kinds.{word_of, parts_of, takes, stands_in, goes_to, at_top}
 use Rattle.action_script.specs.NumberedNames.{is_among, with_names}
-use Rattle.action_script.specs.Forms.{kind_of, form_by}
+use Rattle.action_script.specs.LineForms.{kind_of, form_by}
 use Rattle.action_script.specs.ScriptValue.{Script}
 use Rattle.action_script.specs.Spelling.{asked_of, is_part, is_right, is_wrong_test, is_name_part, names_of, field_of, by_first_wrong, trial_of, Numbered, before, with_line, said_from, script_names, line_by, script_by, script_of, reading_of, line_of}
 use Rattle.action_script.specs.Printing.{field_word, words_after, form_line, all_fit, is_sound, is_short, lead_to_top, form_names, AreScript, forms_of}

@@ -1,10 +1,11 @@
 pub mod ScriptWords
 pub mod NumberedNames
 pub mod Kinds
-pub mod Forms
+pub mod LineForms
 pub mod CutLines
 pub mod Asked
 pub mod ScriptValue
 pub mod Spelling
+pub mod OneLine
 pub mod SoFar
 pub mod Printing

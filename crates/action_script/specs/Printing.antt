@@ -16,7 +16,7 @@ use Rattle.caa_base.specs.Written.Limits.{most_line_bytes, most_count, is_value}
 use Rattle.caa_base.specs.Written.Lines.{spaced}
 use Rattle.action_script.specs.Asked.{Said}
 use Rattle.action_script.specs.Kinds.{word_of, parts_of, takes, stands_in, goes_to, at_top}
-use Rattle.action_script.specs.Forms.{kind_of, fields_of}
+use Rattle.action_script.specs.LineForms.{kind_of, fields_of}
 use Rattle.action_script.specs.NumberedNames.{with_names}
 use Rattle.action_script.specs.Spelling.{asked_of, names_of}
 use Rattle.action_script.specs.ScriptValue.{Script}

@@ -1,5 +1,5 @@
 -- What the bytes of a script spell: its lines and names, or its first fault.
-use Rattle.std.specs.Prelude.{◌≡◌, ℕ, pos, ◌+◌, nat_lt, ◌≤◌, if◌then◌else◌, Bool, true, false, not, ◌&&◌, List, [], ◌∷◌, length, map, filter, Option, Some, None, is_some, unwrap_or, slice_get, Result, Ok, Err, bytes_eq, find}
+use Rattle.std.specs.Prelude.{◌≡◌, ℕ, pos, ◌+◌, nat_lt, ◌≤◌, if◌then◌else◌, Bool, true, false, not, ◌&&◌, List, [], ◌∷◌, length, map, filter, Option, Some, None, is_some, unwrap_or, Result, Ok, Err, bytes_eq, find}
 use Rattle.std.specs.List.{list_all, flat_map}
 use Rattle.caa_base.specs.declared.written.entry.Test.TheVariants as test
 use Rattle.action_script.specs.declared.script_error.ScriptCause.{ScriptCause}
@@ -20,7 +20,7 @@ use Rattle.caa_base.specs.Written.Limits.{most_script_bytes, most_line_bytes}
 use Rattle.action_script.specs.CutLines.{lines_of, words_of, is_plain, begins_comment}
 use Rattle.action_script.specs.Kinds.{word_of, parts_of, takes, stands_in, goes_to, at_top, kinds}
 use Rattle.action_script.specs.NumberedNames.{with_names, number_in}
-use Rattle.action_script.specs.Forms.{form_by}
+use Rattle.action_script.specs.LineForms.{form_by}
 use Rattle.action_script.specs.ScriptValue.{Script}
 
 -- ---- one word
@@ -30,10 +30,6 @@ abbrev pub asked_of : List Part → List (List ℕ) → List Asked
 asked_of parts [] = []
 asked_of [] (word ∷ words) = record { part = part.Name; word = word } ∷ asked_of [] words
 asked_of (p ∷ parts) (word ∷ words) = record { part = p; word = word } ∷ asked_of parts words
-
--- what the word of a line is asked to be that has so many before it
-abbrev pub part_at : List Part → ℕ → Part
-part_at parts i = unwrap_or (slice_get parts i) part.Name
 
 -- a word is what this part asks for
 abbrev pub is_part : Part → List ℕ → Bool
@@ -130,14 +126,6 @@ line_by_words s plain (word ∷ words) =
 abbrev pub line_of : Section → List ℕ → Result (Option Said) ScriptCause
 line_of s line =
     if nat_lt most_line_bytes (length line) then Err cause.TooLong else line_by_words s (list_all is_plain line) (words_of line)
-
--- the line is of this kind, where the reader is here, and these are its words after the first
-pub record IsOfKind (s : Section) (line : List ℕ) (kind : LineKind) (words : List (List ℕ)) : Type 0 where
-  pub first : List ℕ
-  pub short : length line ≤ most_line_bytes
-  pub cut : words_of line ≡ first ∷ words
-  pub spoken : begins_comment first ≡ false
-  pub here : kind_here s first (length words) ≡ Some kind
 
 -- ---- all lines
 

@@ -1,7 +1,8 @@
 ghost use Rattle.std.specs.Prelude.{◌≡◌, ◌≢◌, ◌<◌, ◌+◌, ◌^◌, if◌then◌else◌, not, find, option_copied, map, length, Ok, Err, Some, is_some, true, false, IfSome, IfOk, IfErr, OnOk};
 ghost use Rattle.std.specs.List.{list_all};
 ghost use Rattle.action_script.specs.NumberedNames.{with_name, with_names};
-ghost use Rattle.action_script.specs.Spelling.{asked_of, part_at, is_part, is_test, is_name_part, is_wrong_test, is_right, cause_of, names_of, field_by, field_of, trial_of};
+ghost use Rattle.action_script.specs.Spelling.{asked_of, is_part, is_test, is_name_part, is_wrong_test, is_right, cause_of, names_of, field_by, field_of, trial_of};
+ghost use Rattle.action_script.specs.OneLine.{part_at};
 ghost use Rattle.action_script.specs.declared.script_error.ScriptCause.TheVariants as cause;
 
 use crate::field::{Field, Part};

@@ -1,6 +1,6 @@
 ghost use Rattle.std.specs.Prelude.{◌≡◌, ◌≤◌, ◌++◌, length, map, IfOk, OnOk, IsTrue};
 ghost use Rattle.action_script.specs.Kinds.{takes};
-ghost use Rattle.action_script.specs.Forms.{kind_of, fields_of, form_by, name_in, name_at, value_at, count_at, test_at, names_from};
+ghost use Rattle.action_script.specs.LineForms.{kind_of, fields_of, form_by, name_in, name_at, value_at, count_at, test_at, names_from};
 
 use crate::field::Field;
 use crate::kind::LineKind;
@@ -146,62 +146,85 @@ fn push_names(fields: &mut Vec<Field>, numbers: &[u32]) -> Result<(), AllocError
     Ok(())
 }
 
-/// The fields that these names say, and then those.
-fn name_fields(alloc: Global, first: &[u32], list: &[u32]) -> Result<Vec<Field>, AllocError>
-    ensures { IfOk result (λ fields. fields.items ≡ map Field.Name first.now ++ map Field.Name list.now) }
+/// How the line of a form is worded: its kind, and what its words after the first say.
+#[derive(Drop)]
+pub(crate) struct Wording {
+    pub(crate) kind: LineKind,
+    pub(crate) fields: Vec<Field>,
+}
+
+/// A line of this kind with these fields.
+fn line(alloc: Global, kind: LineKind, fields: &[Field]) -> Result<Wording, AllocError>
+    ensures kind { IfOk result (λ line. line.kind ≡ kind) }
+    ensures fields { IfOk result (λ line. line.fields.items ≡ fields.now) }
+{
+    let fields = fields.to_vec(alloc)?;
+    Ok(Wording { kind, fields })
+}
+
+/// A line of this kind with these names, and then those.
+fn name_line(
+    alloc: Global,
+    kind: LineKind,
+    first: &[u32],
+    list: &[u32],
+) -> Result<Wording, AllocError>
+    ensures kind { IfOk result (λ line. line.kind ≡ kind) }
+    ensures fields { IfOk result (λ line. line.fields.items ≡ map Field.Name first.now ++ map Field.Name list.now) }
 {
     let mut fields = Vec::new(alloc);
     push_names(&mut fields, first)?;
     push_names(&mut fields, list)?;
-    Ok(fields)
+    Ok(Wording { kind, fields })
 }
 
 impl Form {
-    /// Which kind of line says it, and what the words of the line after the first say.
-    pub(crate) fn wording(&self, alloc: Global) -> Result<(LineKind, Vec<Field>), AllocError>
-        ensures { IfOk result (λ line. (line.0 ≡ kind_of self.now) × (line.1.items ≡ fields_of self.now)) }
+    /// How its line is worded.
+    pub(crate) fn wording(&self, alloc: Global) -> Result<Wording, AllocError>
+        ensures kind { IfOk result (λ line. line.kind ≡ kind_of self.now) }
+        ensures fields { IfOk result (λ line. line.fields.items ≡ fields_of self.now) }
     {
-        Ok(match self {
-            Form::Participant(first) => (LineKind::Participant, name_fields(alloc, &[*first], &[])?),
-            Form::Object(object, value) => (LineKind::Object, [Field::Name(*object), Field::Value(*value)].to_vec(alloc)?),
-            Form::Drill(object, count) => (LineKind::Drill, [Field::Name(*object), Field::Count(*count)].to_vec(alloc)?),
-            Form::Watch(first) => (LineKind::Watch, name_fields(alloc, &[*first], &[])?),
-            Form::Graph(first) => (LineKind::Graph, name_fields(alloc, &[*first], &[])?),
-            Form::Action(first) => (LineKind::Action, name_fields(alloc, &[*first], &[])?),
-            Form::Play(first, list) => (LineKind::Play, name_fields(alloc, &[*first], list.as_slice())?),
-            Form::Exception(first) => (LineKind::Exception, name_fields(alloc, &[*first], &[])?),
-            Form::Cover(first, second) => (LineKind::Cover, name_fields(alloc, &[*first, *second], &[])?),
-            Form::End => (LineKind::End, Vec::new(alloc)),
-            Form::Internal(first) => (LineKind::Internal, name_fields(alloc, &[*first], &[])?),
-            Form::Interface(first) => (LineKind::Interface, name_fields(alloc, &[*first], &[])?),
-            Form::Fault(first) => (LineKind::Fault, name_fields(alloc, &[*first], &[])?),
-            Form::Uses(list) => (LineKind::Use, name_fields(alloc, &[], list.as_slice())?),
-            Form::Roles(list) => (LineKind::Roles, name_fields(alloc, &[], list.as_slice())?),
-            Form::Nest(first, second, list) => (LineKind::Nest, name_fields(alloc, &[*first, *second], list.as_slice())?),
-            Form::Map(first, second, third) => (LineKind::Map, name_fields(alloc, &[*first, *second, *third], &[])?),
-            Form::MapUndo(first, second) => (LineKind::MapUndo, name_fields(alloc, &[*first, *second], &[])?),
-            Form::MapFailure(first, second) => (LineKind::MapFailure, name_fields(alloc, &[*first, *second], &[])?),
-            Form::Alternate(first, second) => (LineKind::Alternate, name_fields(alloc, &[*first, *second], &[])?),
-            Form::Abort(first, second) => (LineKind::Abort, name_fields(alloc, &[*first, *second], &[])?),
-            Form::AbortTest(role, test, value, exception) => (LineKind::AbortTest, [
+        match self {
+            Form::Participant(first) => name_line(alloc, LineKind::Participant, &[*first], &[]),
+            Form::Object(object, value) => line(alloc, LineKind::Object, &[Field::Name(*object), Field::Value(*value)]),
+            Form::Drill(object, count) => line(alloc, LineKind::Drill, &[Field::Name(*object), Field::Count(*count)]),
+            Form::Watch(first) => name_line(alloc, LineKind::Watch, &[*first], &[]),
+            Form::Graph(first) => name_line(alloc, LineKind::Graph, &[*first], &[]),
+            Form::Action(first) => name_line(alloc, LineKind::Action, &[*first], &[]),
+            Form::Play(first, list) => name_line(alloc, LineKind::Play, &[*first], list.as_slice()),
+            Form::Exception(first) => name_line(alloc, LineKind::Exception, &[*first], &[]),
+            Form::Cover(first, second) => name_line(alloc, LineKind::Cover, &[*first, *second], &[]),
+            Form::End => name_line(alloc, LineKind::End, &[], &[]),
+            Form::Internal(first) => name_line(alloc, LineKind::Internal, &[*first], &[]),
+            Form::Interface(first) => name_line(alloc, LineKind::Interface, &[*first], &[]),
+            Form::Fault(first) => name_line(alloc, LineKind::Fault, &[*first], &[]),
+            Form::Uses(list) => name_line(alloc, LineKind::Use, &[], list.as_slice()),
+            Form::Roles(list) => name_line(alloc, LineKind::Roles, &[], list.as_slice()),
+            Form::Nest(first, second, list) => name_line(alloc, LineKind::Nest, &[*first, *second], list.as_slice()),
+            Form::Map(first, second, third) => name_line(alloc, LineKind::Map, &[*first, *second, *third], &[]),
+            Form::MapUndo(first, second) => name_line(alloc, LineKind::MapUndo, &[*first, *second], &[]),
+            Form::MapFailure(first, second) => name_line(alloc, LineKind::MapFailure, &[*first, *second], &[]),
+            Form::Alternate(first, second) => name_line(alloc, LineKind::Alternate, &[*first, *second], &[]),
+            Form::Abort(first, second) => name_line(alloc, LineKind::Abort, &[*first, *second], &[]),
+            Form::AbortTest(role, test, value, exception) => line(alloc, LineKind::AbortTest, &[
                 Field::Name(*role),
                 Field::Test(*test),
                 Field::Value(*value),
                 Field::Name(*exception),
-            ].to_vec(alloc)?),
-            Form::Body(first) => (LineKind::Body, name_fields(alloc, &[*first], &[])?),
-            Form::Handler(first, second) => (LineKind::Handler, name_fields(alloc, &[*first, *second], &[])?),
-            Form::ReadStep(first) => (LineKind::Read, name_fields(alloc, &[*first], &[])?),
-            Form::PutStep(object, value) => (LineKind::Put, [Field::Name(*object), Field::Value(*value)].to_vec(alloc)?),
-            Form::AddStep(object, value) => (LineKind::Add, [Field::Name(*object), Field::Value(*value)].to_vec(alloc)?),
-            Form::WorkStep(count) => (LineKind::Work, [Field::Count(*count)].to_vec(alloc)?),
-            Form::CheckStep(test, value, exception) => (LineKind::Check, [Field::Test(*test), Field::Value(*value), Field::Name(*exception)].to_vec(alloc)?),
-            Form::RaiseStep(first) => (LineKind::Raise, name_fields(alloc, &[*first], &[])?),
-            Form::EnterStep(first) => (LineKind::Enter, name_fields(alloc, &[*first], &[])?),
-            Form::DoneLine => (LineKind::Done, Vec::new(alloc)),
-            Form::SignalLine(first) => (LineKind::Signal, name_fields(alloc, &[*first], &[])?),
-            Form::UndoLine => (LineKind::Undo, Vec::new(alloc)),
-        })
+            ]),
+            Form::Body(first) => name_line(alloc, LineKind::Body, &[*first], &[]),
+            Form::Handler(first, second) => name_line(alloc, LineKind::Handler, &[*first, *second], &[]),
+            Form::ReadStep(first) => name_line(alloc, LineKind::Read, &[*first], &[]),
+            Form::PutStep(object, value) => line(alloc, LineKind::Put, &[Field::Name(*object), Field::Value(*value)]),
+            Form::AddStep(object, value) => line(alloc, LineKind::Add, &[Field::Name(*object), Field::Value(*value)]),
+            Form::WorkStep(count) => line(alloc, LineKind::Work, &[Field::Count(*count)]),
+            Form::CheckStep(test, value, exception) => line(alloc, LineKind::Check, &[Field::Test(*test), Field::Value(*value), Field::Name(*exception)]),
+            Form::RaiseStep(first) => name_line(alloc, LineKind::Raise, &[*first], &[]),
+            Form::EnterStep(first) => name_line(alloc, LineKind::Enter, &[*first], &[]),
+            Form::DoneLine => name_line(alloc, LineKind::Done, &[], &[]),
+            Form::SignalLine(first) => name_line(alloc, LineKind::Signal, &[*first], &[]),
+            Form::UndoLine => name_line(alloc, LineKind::Undo, &[], &[]),
+        }
     }
 
     /// The form of a kind and its fields.

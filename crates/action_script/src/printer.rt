@@ -44,9 +44,9 @@ fn push_line(
 ) -> Result<(), OutOfMemory>
     ensures { OnOk result (text.new.items ≡ text.old.items ++ line_text names.now line.now) }
 {
-    let (kind, fields) = line.form.wording(alloc)?;
-    text.extend_from_slice(kind.word())?;
-    push_fields(text, names, &fields)?;
+    let wording = line.form.wording(alloc)?;
+    text.extend_from_slice(wording.kind.word())?;
+    push_fields(text, names, &wording.fields)?;
     end_line(text)
 }
 

@@ -1,7 +1,8 @@
 ghost use Rattle.std.specs.Prelude.{◌≡◌, ◌≢◌, ◌+◌, ◌-◌, ◌<◌, ◌≤◌, ◌^◌, [], length, map, Some, Ok, Err, IfOk, IfErr, OnOk};
 ghost use Rattle.caa_base.specs.Written.Limits.{most_script_bytes};
 ghost use Rattle.action_script.specs.CutLines.{lines_of};
-ghost use Rattle.action_script.specs.Spelling.{IsOfKind, said_with, line_of, said_from, Spells, HasFirstFault};
+ghost use Rattle.action_script.specs.Spelling.{said_with, line_of, said_from, Spells, HasFirstFault};
+ghost use Rattle.action_script.specs.OneLine.{IsOfKind};
 ghost use Rattle.action_script.specs.SoFar.{so_far, with_said, Took, HasRead};
 ghost use Rattle.action_script.specs.declared.script_error.ScriptCause.TheVariants as cause;
 ghost use Rattle.action_script.specs.declared.kind.Section.TheVariants as section;

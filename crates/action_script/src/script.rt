@@ -1,7 +1,7 @@
 ghost use Rattle.std.specs.Prelude.{◌≡◌, ◌↔◌, ◌<◌, ◌^◌, [], length, codes, slice_get, Some, IfOk, IsTrue};
 ghost use Rattle.std.specs.Option.{option_map};
 ghost use Rattle.action_script.specs.NumberedNames.{number_in};
-ghost use Rattle.action_script.specs.Forms.{numbers_of};
+ghost use Rattle.action_script.specs.LineForms.{numbers_of};
 ghost use Rattle.action_script.specs.Printing.{AreScript, AreBelow, is_sound, forms_of, numbered_from};
 
 use crate::form::Form;

@@ -1,7 +1,8 @@
 ghost use Rattle.std.specs.Prelude.{◌≡◌, if◌then◌else◌, map, Ok, Err, None, IfSome, IfOk, IfErr};
 ghost use Rattle.std.specs.List.{list_all};
 ghost use Rattle.action_script.specs.CutLines.{is_plain, words_of, begins_comment};
-ghost use Rattle.action_script.specs.Spelling.{is_here, kind_here, line_of, IsOfKind};
+ghost use Rattle.action_script.specs.Spelling.{is_here, kind_here, line_of};
+ghost use Rattle.action_script.specs.OneLine.{IsOfKind};
 ghost use Rattle.action_script.specs.declared.script_error.ScriptCause.TheVariants as cause;
 
 use crate::cuts::is_blank;

@@ -10,7 +10,7 @@ use Rattle.action_script.specs.declared.kind.Section.{Section}
 use Rattle.action_script.specs.declared.kind.Section.TheVariants as section
 use Rattle.action_script.specs.declared.script.Line.{Line}
 use Rattle.action_script.specs.Kinds.{stands_in, goes_to, at_top}
-use Rattle.action_script.specs.Forms.{kind_of}
+use Rattle.action_script.specs.LineForms.{kind_of}
 use Rattle.action_script.specs.Printing.{is_sound, forms_of, lead_to_top}
 use Rattle.script_checker.specs.declared.check_error.CheckCause.TheVariants as cause
 use Rattle.script_checker.specs.DeclaredSoFar.{SoFar}

@@ -10,7 +10,7 @@ use Rattle.action_script.specs.declared.form.Form.TheVariants as form
 use Rattle.action_script.specs.declared.kind.Section.{Section}
 use Rattle.action_script.specs.declared.kind.Section.TheVariants as section
 use Rattle.action_script.specs.Kinds.{stands_in, goes_to, at_top, in_action, in_program}
-use Rattle.action_script.specs.Forms.{kind_of}
+use Rattle.action_script.specs.LineForms.{kind_of}
 use Rattle.script_checker.specs.declared.parts.Block.{Block}
 use Rattle.script_checker.specs.declared.parts.Block.TheVariants as block
 use Rattle.script_checker.specs.declared.parts.DeclaredGraph.{DeclaredGraph}

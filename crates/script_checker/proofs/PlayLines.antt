@@ -16,7 +16,7 @@ use Rattle.action_script.specs.declared.kind.Section.{Section}
 use Rattle.action_script.specs.declared.kind.Section.TheVariants as section
 use Rattle.action_script.specs.declared.script.Line.{Line}
 use Rattle.action_script.specs.Kinds.{stands_in, goes_to}
-use Rattle.action_script.specs.Forms.{kind_of}
+use Rattle.action_script.specs.LineForms.{kind_of}
 use Rattle.action_script.specs.Printing.{AreScript, is_sound, forms_of, lead_to_top}
 use Rattle.action_script.specs.ScriptValue.{Script}
 use Rattle.script_checker.specs.declared.check_error.CheckCause.TheVariants as cause

@@ -23,7 +23,7 @@ use Rattle.action_script.specs.declared.form.Form.TheVariants as form
 use Rattle.action_script.specs.declared.kind.Section.{Section}
 use Rattle.action_script.specs.declared.kind.Section.TheVariants as section
 use Rattle.action_script.specs.Kinds.{goes_to}
-use Rattle.action_script.specs.Forms.{kind_of}
+use Rattle.action_script.specs.LineForms.{kind_of}
 use Rattle.action_script.specs.Printing.{is_sound}
 use Rattle.script_checker.specs.declared.parts.Block.{Block}
 use Rattle.script_checker.specs.declared.parts.Block.TheVariants as block

@@ -4,7 +4,7 @@ use Rattle.std.proofs.lemmas.Bool.{and_parts}
 use Rattle.caa_base.specs.Written.Limits.{is_value, most_count}
 use Rattle.action_script.specs.declared.form.Form.{Form}
 use Rattle.action_script.specs.Kinds.{takes, parts_of}
-use Rattle.action_script.specs.Forms.{kind_of, fields_of}
+use Rattle.action_script.specs.LineForms.{kind_of, fields_of}
 use Rattle.action_script.specs.Printing.{is_sound, all_fit}
 
 -- the fields of a sound line are what is asked for

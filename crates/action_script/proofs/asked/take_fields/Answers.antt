@@ -7,7 +7,8 @@ use Rattle.action_script.specs.Asked.{Asked}
 use Rattle.action_script.specs.declared.field.Part.{Part}
 use Rattle.action_script.specs.declared.field.Field.{Field}
 use Rattle.action_script.specs.NumberedNames.{with_name, with_names}
-use Rattle.action_script.specs.Spelling.{asked_of, part_at, is_part, is_right, names_of, field_by, field_of, is_name_part}
+use Rattle.action_script.specs.Spelling.{asked_of, is_part, is_right, names_of, field_by, field_of, is_name_part}
+use Rattle.action_script.specs.OneLine.{part_at}
 use Rattle.action_script.proofs.NamesCounted.{length-taken}
 use Rattle.action_script.proofs.Speaking.{length-asked_of}
 use Rattle.action_script.proofs.Steadiness.{asked_at, right_in_turn, name_taken, field_taken, fields_taken}
