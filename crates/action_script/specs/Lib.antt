@@ -1,11 +1,4 @@
-pub mod ScriptWords
-pub mod NumberedNames
-pub mod Kinds
-pub mod LineForms
-pub mod CutLines
-pub mod Asked
-pub mod ScriptValue
-pub mod Spelling
-pub mod OneLine
-pub mod SoFar
-pub mod Printing
+pub mod Words
+pub mod Lines
+pub mod Forms
+pub mod inner

@@ -1,0 +1,4 @@
+-- Forms: what lines say, the script that they make, and its text.
+pub mod LineForms
+pub mod ScriptValue
+pub mod Printing
