@@ -1,13 +1,9 @@
 -- The table of names, and the numbers that names have.
-use Rattle.std.proofs.Common.{◌≡◌, ℕ, zero, suc, ◌+◌, ◌<◌, ◌≤◌, nat_lt, Bool, true, false, ◌||◌, if◌then◌else◌, List, [], ◌∷◌, ◌++◌, length, map, Some, None, position, slice_get, get_or, option_map, bytes_eq, Bor, refl, sym, ap, ◌∙◌, subst, true≢false, inl, inr, arith}
-use Rattle.std.specs.List.{list_all, list_any, position_or_len, IsDistinct}
+use Rattle.std.proofs.Common.{◌≡◌, ℕ, ◌+◌, ◌≤◌, nat_lt, Bool, true, false, ◌||◌, if◌then◌else◌, List, [], ◌∷◌, ◌++◌, length, map, Some, None, position, bytes_eq, Bor, refl, sym, ap, ◌∙◌, arith}
+use Rattle.std.specs.List.{list_any, position_or_len}
 use Rattle.std.proofs.lemmas.List.Recursion.{is_position_or_len}
-use Rattle.std.proofs.lemmas.Bool.{ltb-false, and_parts, cases_Bool}
-use Rattle.std.proofs.lemmas.Slice.Eq.{bytes_eq-Decides}
-use Rattle.caa_base.specs.Written.Names.{is_name}
-use Rattle.std.proofs.lemmas.Option.{cond_some, slice_get-map, slice_get_read}
-use Rattle.std.proofs.lemmas.List.Sums.{position_or_len_is}
-use Rattle.std.proofs.lemmas.Map.Keys.{apart_from_distinct}
+use Rattle.std.proofs.lemmas.Bool.{ltb-false}
+use Rattle.std.proofs.lemmas.Option.{cond_some}
 use Rattle.action_script.specs.Words.NumberedNames.{is_among, with_name, number_in}
 use Rattle.action_script.proofs.OnLines.Steadiness.{bytes_eq-same}
 

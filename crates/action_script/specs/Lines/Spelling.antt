@@ -1,5 +1,5 @@
 -- What the bytes of a script spell: its lines and names, or its first fault.
-use Rattle.std.specs.Prelude.{◌≡◌, ℕ, pos, ◌+◌, nat_lt, ◌≤◌, if◌then◌else◌, Bool, true, false, not, ◌&&◌, List, [], ◌∷◌, length, map, filter, Option, Some, None, is_some, unwrap_or, Result, Ok, Err, bytes_eq, find}
+use Rattle.std.specs.Prelude.{◌≡◌, ℕ, pos, ◌+◌, nat_lt, if◌then◌else◌, Bool, true, false, not, ◌&&◌, List, [], ◌∷◌, length, map, filter, Option, Some, None, is_some, unwrap_or, Result, Ok, Err, bytes_eq, find}
 use Rattle.std.specs.List.{list_all, flat_map}
 use Rattle.caa_base.specs.declared.written.entry.Test.TheVariants as test
 use Rattle.action_script.specs.declared.script_error.ScriptCause.{ScriptCause}
