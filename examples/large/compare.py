@@ -138,6 +138,7 @@ def audits():
     return [
         ("a long journal", front + play.text(play.entries), 0, f"legal {many}\n"),
         ("a wrong entry near its end", front + play.text(other), 7, f"illegal {len(script) + index + 2}\n"),
+        ("the script alone", front, 7, f"illegal {len(script) + 1}\n"),
         ("without its last line", front + play.text(play.entries)[: -len("outcome 1 long1 commit\n")], 7, f"illegal {front.count(chr(10)) + play.text(play.entries).count(chr(10))}\n"),
         ("too many entries", front + play.text(past), 4, f"refused {len(script) + 5002} 19 limit\n"),
     ]
@@ -196,6 +197,33 @@ def limits():
     ]
 
 
+# ---- words and short scripts
+
+USAGE = "usage: check | sim SEED | run | audit | cell N\n"
+
+
+def wrong_words():
+    """Words that are no command."""
+    return [[], ["sim"], ["sim", "01"], ["sim", "-0"], ["sim", "2147483648"], ["sim", "1", "1"], ["check", "1"], ["audit", "1"],
+            ["run", "1"], ["cell", "1"], ["cell", "2001"], ["--help"]]
+
+
+def refusals():
+    """Short scripts, with the line that tells why each is refused."""
+    rivals = ["graph f", "exception z", "end", "graph g", "exception c", "exception d", "exception a", "exception b"]
+    rivals += ["cover c a", "cover c b", "cover d a", "cover d b", "end"]
+    return [
+        (["object x 1000000000001"], "refused 1 2 bad-number\n"),
+        (["participant 9a"], "refused 1 3 bad-name\n"),
+        (["object x 1", "object x 2"], "refused 2 11 twice\n"),
+        (["play w ann"], "refused 1 10 unknown\n"),
+        (["participant ann", "action w"], "refused 3 1 bad-line\n"),
+        (["participant ann", "action w", "end"], "refused 3 14 role-unfilled\n"),
+        (rivals, "refused 13 13 no-least a b\n"),
+        (["graph f", "exception a", "end", "graph g", "exception a", "cover a universal", "end"], "refused 7 12 cycle universal\n"),
+    ]
+
+
 # ---- comparing
 
 wrong = []
@@ -222,6 +250,14 @@ def large_inputs(program):
 def scripts_at_limits(program):
     for name, script, status, text in limits():
         compare(f"check: {name}", program, ["check"], status, text, input=lines(script).encode())
+
+
+def words_and_refusals(program):
+    for words in wrong_words():
+        compare(f"words {' '.join(words) or 'none'}", program, words, 2, USAGE, input=b"")
+    for script, line in refusals():
+        compare(f"check: {line.strip()}", program, ["check"], 4, line, input=lines(script).encode())
+        compare(f"audit: {line.strip()}", program, ["audit"], 4, line, input=(lines(script) + "journal\n").encode())
 
 
 def watched_run(program):
@@ -267,6 +303,7 @@ def statuses(program):
 
 large_inputs(sys.argv[1])
 scripts_at_limits(sys.argv[1])
+words_and_refusals(sys.argv[1])
 watched_run(sys.argv[1])
 statuses(sys.argv[1])
 sys.exit(1 if wrong else 0)

@@ -7,7 +7,7 @@ use lib.Seq.{set-get_or}
 use prog.Atomic.{either}
 use Rattle.atomic_table.specs.Table.{State, Me, Act, Step, keeps, takes, gives, Valid, carried_after, rest, step, stepped, Allows, Splits, Joins, Final, Seen, opening}
 use Rattle.atomic_table.proofs.Lists.{at_set, set_here, set_else, set_again, at_longer}
-use Rattle.caa_base.specs.Written.Lists.{one_if}
+use Rattle.caa_base.specs.inner.Lists.{one_if}
 use Rattle.shared_views.proofs.Beginnings.{begins_itself, begins_further}
 use Rattle.action_manager.specs.declared.lock_view.View.{View}
 use Rattle.action_manager.specs.declared.lock_view.Terms.{Terms}

@@ -1,7 +1,7 @@
 -- What a count does that goes up by one, and stops at the last number that it can show.
 use Rattle.std.proofs.Common.{◌≡◌, ℕ, ◌+◌, ◌-◌, ◌^◌, ◌<◌, ◌≤◌, Bool, true, false, cond, nat_lt, refl, arith}
 use Rattle.std.proofs.lemmas.Bool.{ltb-false}
-use Rattle.caa_base.specs.Outside.Counts.{counted_up, Rose, CountsFault}
+use Rattle.caa_base.specs.Outside.Counts.{counted_up, Rose}
 
 -- a count after one more is one more, or it stood at its end
 by_test : (b : Bool) (n after : ℕ) → nat_lt n (2 ^ 64 - 1) ≡ b → after ≡ cond b (n + 1) n → after < 2 ^ 64 - 1 → after ≡ n + 1
@@ -22,8 +22,3 @@ counted_up-grows before after h = grows (nat_lt before (2 ^ 64 - 1)) h
     grows : (b : Bool) → after ≡ cond b (before + 1) before → before ≤ after
     grows true h = omega arith
     grows false h = omega arith
-
--- no call lets a count fall
-pub never_falls : (fault : Bool) (before after : ℕ) → CountsFault fault before after → before ≤ after
-never_falls true before after h = counted_up-grows before after h
-never_falls false before after h = omega arith

@@ -7,12 +7,14 @@ use Rattle.caa_base.specs.declared.outside.reading.ReadError.{ReadError}
 use Rattle.caa_base.specs.declared.outside.reading.ReadError.TheVariants.{OutOfMemory}
 
 -- two pieces appended, one after the other
-pub append_known-append_known : (known : Option (List ℕ)) (xs ys : List ℕ) → append_known (append_known known xs) ys ≡ append_known known (xs ++ ys)
+pub append_known-append_known : (known : Option (List ℕ)) (xs ys : List ℕ)
+    → append_known (append_known known xs) ys ≡ append_known known (xs ++ ys)
 append_known-append_known None xs ys = refl
 append_known-append_known (Some zs) xs ys = ap Some (append_assoc zs xs ys)
 
 -- two pieces taken, one after the other
-pub prepend_known-prepend_known : (known : Option (List ℕ)) (xs ys : List ℕ) → prepend_known xs (prepend_known ys known) ≡ prepend_known (xs ++ ys) known
+pub prepend_known-prepend_known : (known : Option (List ℕ)) (xs ys : List ℕ)
+    → prepend_known xs (prepend_known ys known) ≡ prepend_known (xs ++ ys) known
 prepend_known-prepend_known None xs ys = refl
 prepend_known-prepend_known (Some zs) xs ys = ap Some (sym (append_assoc xs ys zs))
 

@@ -2,8 +2,8 @@
 use Rattle.std.proofs.Common.{◌≡◌, ℕ, ◌==◌, ◌<◌, ◌≤◌, Bool, true, false, cond, ◌&&◌, ◌+◌, nat_lt, List, [], ◌∷◌, ◌++◌, length, slice_index_or, Some, None, Option, refl, sym, ap, ◌∙◌, subst, arith, zero, suc, inl, inr, ◌⊎◌}
 use Rattle.std.specs.List.{list_all, range_with_len}
 use Rattle.std.proofs.lemmas.Bool.{and_parts, and_from, or_cases, or_left, or_right, eqb-true, eq-eqb, false≢true, cases_lt, lt-ltb, le-ltb}
-use Rattle.std.proofs.lemmas.Option.{none-some}
-use Rattle.caa_base.specs.Written.Lists.{member, index_of, is_at, is_empty, Rises, first_not, last_or, last_of}
+use Rattle.caa_base.specs.Written.Lists.{member, index_of, is_at, is_empty, first_not, last_or, last_of}
+use Rattle.caa_base.specs.inner.Lists.{Rises}
 
 -- ---- choices by a test
 
@@ -11,11 +11,6 @@ use Rattle.caa_base.specs.Written.Lists.{member, index_of, is_at, is_empty, Rise
 pub chosen : {A : Type 0} (b : Bool) (x y z : A) → cond b x y ≡ z → ((b ≡ true) × (x ≡ z)) ⊎ ((b ≡ false) × (y ≡ z))
 chosen true x y z h = inl (refl, h)
 chosen false x y z h = inr (refl, h)
-
--- where something came, the test passed
-pub passed : {A : Type 0} (b : Bool) (o : Option A) (a : A) → cond b o None ≡ Some a → (b ≡ true) × (o ≡ Some a)
-passed true o a h = (refl, h)
-passed false o a h = absurd (none-some a h)
 
 -- where nothing came, though there was something, it failed
 pub failed : {A : Type 0} (b : Bool) (a : A) → cond b (Some a) None ≡ None → b ≡ false
@@ -34,26 +29,30 @@ one_more_each m n = elim (cases_lt m n) [
 -- ---- what all elements of a list pass
 
 -- what all pass, and the default, passes at each index
-pub get_passes : {A : Type 0} (test : A → Bool) (xs : List A) (i : ℕ) (d : A) → list_all test xs ≡ true → test d ≡ true → test (slice_index_or xs i d) ≡ true
+pub get_passes : {A : Type 0} (test : A → Bool) (xs : List A) (i : ℕ) (d : A) → list_all test xs ≡ true → test d ≡ true
+    → test (slice_index_or xs i d) ≡ true
 get_passes test [] i d h k = k
 get_passes test (x ∷ xs) zero d h k = (and_parts (test x) (list_all test xs) h).0
 get_passes test (x ∷ xs) (suc i) d h k = get_passes test xs i d (and_parts (test x) (list_all test xs) h).1 k
 
 -- what all pass, passes at each index within the list
-pub at_row : {A : Type 0} (test : A → Bool) (xs : List A) (i : ℕ) (d : A) → list_all test xs ≡ true → i < length xs → test (slice_index_or xs i d) ≡ true
+pub at_row : {A : Type 0} (test : A → Bool) (xs : List A) (i : ℕ) (d : A) → list_all test xs ≡ true → i < length xs
+    → test (slice_index_or xs i d) ≡ true
 at_row test [] i d h l = absurd (omega arith)
 at_row test (x ∷ xs) zero d h l = (and_parts (test x) (list_all test xs) h).0
 at_row test (x ∷ xs) (suc i) d h l = at_row test xs i d (and_parts (test x) (list_all test xs) h).1 (omega arith)
 
 -- where one test leads to another, all pass the other too
-pub all_imply : {A : Type 0} (f g : A → Bool) (xs : List A) → ((x : A) → f x ≡ true → g x ≡ true) → list_all f xs ≡ true → list_all g xs ≡ true
+pub all_imply : {A : Type 0} (f g : A → Bool) (xs : List A) → ((x : A) → f x ≡ true → g x ≡ true) → list_all f xs ≡ true
+    → list_all g xs ≡ true
 all_imply f g [] i h = refl
 all_imply f g (x ∷ xs) i h =
     let a = and_parts (f x) (list_all f xs) h in
     and_from (g x) (list_all g xs) (i x a.0) (all_imply f g xs i a.1)
 
 -- where all pass two tests, all pass both at once
-pub all_both : {A : Type 0} (f g : A → Bool) (xs : List A) → list_all f xs ≡ true → list_all g xs ≡ true → list_all (λ x. f x && g x) xs ≡ true
+pub all_both : {A : Type 0} (f g : A → Bool) (xs : List A) → list_all f xs ≡ true → list_all g xs ≡ true
+    → list_all (λ x. f x && g x) xs ≡ true
 all_both f g [] h k = refl
 all_both f g (x ∷ xs) h k =
     let a = and_parts (f x) (list_all f xs) h in
@@ -133,7 +132,8 @@ member_above low (y ∷ ys) x h m =
     ]
 
 -- in rising numbers, those before the first that fails pass
-pub first_not_before : (test : ℕ → Bool) (low : ℕ) (xs : List ℕ) (x q : ℕ) → Rises low xs → first_not test xs ≡ Some q → member x xs ≡ true → x < q → test x ≡ true
+pub first_not_before : (test : ℕ → Bool) (low : ℕ) (xs : List ℕ) (x q : ℕ) → Rises low xs → first_not test xs ≡ Some q
+    → member x xs ≡ true → x < q → test x ≡ true
 first_not_before test low [] x q r h m l = absurd (false≢true m)
 first_not_before test low (y ∷ ys) x q r h m l =
     elim (chosen (test y) _ _ _ h) [

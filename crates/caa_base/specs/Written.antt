@@ -3,5 +3,6 @@ pub mod Journal
 pub mod Limits
 pub mod Lines
 pub mod Lists
+pub mod Marks
 pub mod Mixing
 pub mod Names

@@ -1,22 +1,11 @@
 //! The program `caa`: it checks and plays scripts of coordinated atomic actions, prints their journals and judges them.
 #![tactic(auto)]
 
-mod command;
-mod fault;
-mod finding;
-mod inputs;
-mod judging;
-mod playing;
-mod scripts;
-mod serving;
-mod status;
-mod top;
-
-use crate::status::Status;
-use crate::top::top;
 use caa_base::outside::gate::EmptyGate;
 use caa_base::outside::memory::MemPlant;
 use caa_base::outside::standard::{StdSink, StdSource};
+use caa_commands::status::Status;
+pub use caa_commands::top::{top, top_quiet};
 use std::alloc::AllocError;
 use std::env;
 use std::io::ErrorKind;

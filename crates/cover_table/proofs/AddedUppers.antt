@@ -3,7 +3,7 @@ use Rattle.std.proofs.Common.{◌≡◌, ◌≢◌, ◌<◌, ◌&&◌, ◌||◌,
 use Rattle.std.proofs.lemmas.Bool.{eq-eqb, ne_eqb}
 use Rattle.std.proofs.Math.Bool.{or-false}
 use Rattle.cover_table.specs.Cover.{has_bit, tells}
-use Rattle.cover_table.specs.Common.{AddsUpper}
+use Rattle.cover_table.specs.inner.Uppers.{AddsUpper}
 
 module _ (old new : List ℕ) (a row : ℕ) (adds : AddsUpper old new a row) where
   -- bits of other numbers stay
@@ -15,7 +15,8 @@ module _ (old new : List ℕ) (a row : ℕ) (adds : AddsUpper old new a row) whe
   added_same b b_in none = rw (eq-eqb a a refl, none) at (adds.tell b a b_in)
 
 -- a bit that is both added and taken from the rest
-pub added_taken : (first same : Bool) → (same || (first || (same && (true && not true)))) ≡ (first || (same && (true && not (true && not true))))
+pub added_taken : (first same : Bool)
+    → (same || (first || (same && (true && not true)))) ≡ (first || (same && (true && not (true && not true))))
 added_taken true true = refl
 added_taken true false = refl
 added_taken false true = refl

@@ -4,25 +4,32 @@ use Rattle.std.proofs.lemmas.Bool.{and_parts, and_from, cases_order, false≢tru
 use Rattle.std.proofs.lemmas.List.{get_or_past}
 use Rattle.std.proofs.lemmas.Nat.Bits.{same_from_bits}
 use Rattle.cover_table.specs.Cover.{CoverOrder, covers, has_bit, HasLeastCover, IsLeastCover, IsOrder}
-use Rattle.cover_table.specs.Common.{AreUppers, HasJoin, IsJoin}
+use Rattle.cover_table.specs.inner.Uppers.{AreUppers, HasJoin, IsJoin}
 use Rattle.cover_table.proofs.Bits.{had_from_both, had_in_both, had_in_zero, same_bit}
 
 -- what covers something is one of the rows
 cover_in : (rows : List ℕ) (y a : ℕ) → has_bit (slice_index rows y) a ≡ true → y < length rows
 cover_in rows y a had =
-    let past : length rows ≤ y → ⊥ = λ beyond. false≢true (sym (had_in_zero a) ∙ sym (ap (λ row. has_bit row a) (get_or_past rows y 0 beyond)) ∙ had) in
+    let past : length rows ≤ y → ⊥ =
+    λ beyond. false≢true (sym (had_in_zero a) ∙ sym (ap (λ row. has_bit row a) (get_or_past rows y 0 beyond))
+    ∙ had) in
     elim (cases_order y (length rows)) [
       | inl same ↦ absurd (past (omega arith))
       | inr apart ↦ elim apart [ inl less ↦ less | inr more ↦ absurd (past (omega arith)) ]
     ]
 
-module _ (order : CoverOrder) (many : length order.rows ≡ order.count) (ordered : IsOrder order) (uppers : List ℕ) (upper : AreUppers order.rows uppers) (a b : ℕ) (a_in : a < order.count) (b_in : b < order.count) where
+module _ (order : CoverOrder) (many : length order.rows ≡ order.count) (ordered : IsOrder order) (uppers : List ℕ)
+    (upper : AreUppers order.rows uppers) (a b : ℕ) (a_in : a < order.count) (b_in : b < order.count) where
   -- what covers both has a bit in the common part
-  common_from : (y : ℕ) → covers order y a ≡ true → covers order y b ≡ true → has_bit (bit_and (slice_index uppers a) (slice_index uppers b)) y ≡ true
-  common_from y over_a over_b = had_from_both (slice_index uppers a) (slice_index uppers b) y (upper.tell y a (omega arith) ∙ over_a) (upper.tell y b (omega arith) ∙ over_b)
+  common_from : (y : ℕ) → covers order y a ≡ true → covers order y b ≡ true
+      → has_bit (bit_and (slice_index uppers a) (slice_index uppers b)) y ≡ true
+  common_from y over_a over_b =
+      had_from_both (slice_index uppers a) (slice_index uppers b) y (upper.tell y a (omega arith) ∙ over_a)
+      (upper.tell y b (omega arith) ∙ over_b)
 
   -- and what has one covers both
-  common_covers : (y : ℕ) → has_bit (bit_and (slice_index uppers a) (slice_index uppers b)) y ≡ true → (covers order y a ≡ true) × (covers order y b ≡ true)
+  common_covers : (y : ℕ) → has_bit (bit_and (slice_index uppers a) (slice_index uppers b)) y ≡ true
+      → (covers order y a ≡ true) × (covers order y b ≡ true)
   common_covers y had =
       let parts = had_in_both (slice_index uppers a) (slice_index uppers b) y had in
       (sym (upper.tell y a (omega arith)) ∙ parts.0, sym (upper.tell y b (omega arith)) ∙ parts.1)
@@ -60,7 +67,8 @@ module _ (order : CoverOrder) (many : length order.rows ≡ order.count) (ordere
               let over = sym (upper.tell y x x_row) ∙ had in
               let below = cover_in order.rows y x over in
               let y_below : y < order.count = omega arith in
-              common_from y (ordered.transitive y x a y_below x_in a_in over parts.0) (ordered.transitive y x b y_below x_in b_in over last.0))
+              common_from y (ordered.transitive y x a y_below x_in a_in over parts.0)
+              (ordered.transitive y x b y_below x_in b_in over last.0))
               (λ had.
               let over = common_covers y had in
               let below = cover_in order.rows y a over.0 in

@@ -4,12 +4,15 @@ use Rattle.std.proofs.lemmas.Bool.{and_parts, and_from, cases_Bool, cases_eq, ne
 use Rattle.cover_table.specs.Cover.{CoverOrder, covers, IsLeastCover, IsOrder}
 use Rattle.cover_table.proofs.Orders.{least-covered}
 
-module _ (order : CoverOrder) (ordered : IsOrder order) (above a : ℕ) (above_in : above < order.count) (a_in : a < order.count) (next_above : (y : ℕ) → y < order.count → covers order y a ≡ (y == a || covers order y above)) where
+module _ (order : CoverOrder) (ordered : IsOrder order) (above a : ℕ) (above_in : above < order.count)
+    (a_in : a < order.count)
+    (next_above : (y : ℕ) → y < order.count → covers order y a ≡ (y == a || covers order y above)) where
   above_covers : covers order above a ≡ true
   above_covers = next_above above above_in ∙ or_right (above == a) (covers order above above) (ordered.reflexive above above_in)
 
   -- what covers a and something that a doesn't cover covers the number above a
-  other_covers : (b y : ℕ) → y < order.count → covers order a b ≡ false → covers order y a ≡ true → covers order y b ≡ true → covers order y above ≡ true
+  other_covers : (b y : ℕ) → y < order.count → covers order a b ≡ false → covers order y a ≡ true
+      → covers order y b ≡ true → covers order y above ≡ true
   other_covers b y y_in apart over_a over_b = elim (cases_eq y a) [
     | inl same ↦ absurd (both_ways (covers order a b) apart (rw same at over_b))
     | inr other ↦ sym (rw (ne_eqb y a other) at (next_above y y_in)) ∙ over_a

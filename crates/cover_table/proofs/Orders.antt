@@ -26,7 +26,8 @@ least-swapped order a b x h = record {
 }
 
 -- each number is the least cover of itself and what it covers
-pub least-covered : (order : CoverOrder) (a b : ℕ) → IsOrder order → a < order.count → covers order a b ≡ true → IsLeastCover order (a ∷ b ∷ []) a
+pub least-covered : (order : CoverOrder) (a b : ℕ) → IsOrder order → a < order.count → covers order a b ≡ true
+    → IsLeastCover order (a ∷ b ∷ []) a
 least-covered order a b h lt over = record {
   in_range = lt;
   above = and_from _ _ (h.reflexive a lt) (and_from _ _ over refl);
@@ -44,7 +45,9 @@ least-one order a h lt = record {
 }
 
 -- where all rows before a hold, the first failure in row a is the first pair without a least cover
-pub first_from_row : (order : CoverOrder) (a b : ℕ) → IsOrder order → a < order.count → b < order.count → ((c d : ℕ) → c < a → d < order.count → HasLeastCover order (c ∷ d ∷ [])) → ¬ (HasLeastCover order (a ∷ b ∷ [])) → ((d : ℕ) → d < b → HasLeastCover order (a ∷ d ∷ [])) → IsFirstWithoutLeast order a b
+pub first_from_row : (order : CoverOrder) (a b : ℕ) → IsOrder order → a < order.count → b < order.count
+    → ((c d : ℕ) → c < a → d < order.count → HasLeastCover order (c ∷ d ∷ [])) → ¬ (HasLeastCover order (a ∷ b ∷ []))
+    → ((d : ℕ) → d < b → HasLeastCover order (a ∷ d ∷ [])) → IsFirstWithoutLeast order a b
 first_from_row order a b h a_in b_in before without here = record {
   ascending = elim (cases_order a b) [
     | inl same ↦ absurd (without (subst (λ e. HasLeastCover order (a ∷ e ∷ [])) same (a, least-self order a h a_in)))
@@ -86,7 +89,9 @@ sound_has_none order a b sound h =
     h.without (sound.pairs a b (omega arith) below)
 
 -- an answer that is right names a pair exactly where it is the first without a least cover
-pub refused_at : {T : Type 0} (order : CoverOrder) (answer : Result T NoLeast) → MatchResult answer (λ _. IsSound order) (λ e. IsFirstWithoutLeast order e.a e.b) → (a b : ℕ) → IsErrOf answer (record { a = a; b = b }) ↔ IsFirstWithoutLeast order a b
+pub refused_at : {T : Type 0} (order : CoverOrder) (answer : Result T NoLeast)
+    → MatchResult answer (λ _. IsSound order) (λ e. IsFirstWithoutLeast order e.a e.b) → (a b : ℕ)
+    → IsErrOf answer (record { a = a; b = b }) ↔ IsFirstWithoutLeast order a b
 refused_at order (Ok t) sound a b = (λ e. absurd cc, λ first. absurd (sound_has_none order a b sound first))
 refused_at order (Err e) first a b = (
   λ same. let p : e ≡ record { a = a; b = b } = cc in subst (λ (f : NoLeast). IsFirstWithoutLeast order f.a f.b) p first,
@@ -95,19 +100,20 @@ refused_at order (Err e) first a b = (
       ap Err (ap (λ x. pair x e.b) p.0 ∙ ap (pair a) p.1),
 )
 
--- an error passed on names the same pair
-pub refused_on : {T U : Type 0} (order : CoverOrder) (e : NoLeast) → ((a b : ℕ) → IsErrOf {T = T} (Err e) (record { a = a; b = b }) ↔ IsFirstWithoutLeast order a b) → (a b : ℕ) → IsErrOf {T = U} (Err e) (record { a = a; b = b }) ↔ IsFirstWithoutLeast order a b
-refused_on order e h a b =
-    let named : NoLeast = record { a = a; b = b } in
-    (λ same. let p : e ≡ named = cc in (h a b).0 (ap Err p), λ first. let same = (h a b).1 first in let p : e ≡ named = cc in ap Err p)
-
 -- one more row of least covers
-pub joins_more : (order : CoverOrder) (joins : List (List ℕ)) (n : ℕ) (row : List ℕ) → n < length joins → ((c d : ℕ) → c < n → d < order.count → IsLeastCover order (c ∷ d ∷ []) (slice_index (slice_index_or joins c []) d)) → ((d : ℕ) → d < order.count → IsLeastCover order (n ∷ d ∷ []) (slice_index row d)) → (c d : ℕ) → c < n + 1 → d < order.count → IsLeastCover order (c ∷ d ∷ []) (slice_index (slice_index_or (slice_set joins n row) c []) d)
+pub joins_more : (order : CoverOrder) (joins : List (List ℕ)) (n : ℕ) (row : List ℕ) → n < length joins
+    → ((c d : ℕ) → c < n → d < order.count
+    → IsLeastCover order (c ∷ d ∷ []) (slice_index (slice_index_or joins c []) d))
+    → ((d : ℕ) → d < order.count → IsLeastCover order (n ∷ d ∷ []) (slice_index row d)) → (c d : ℕ) → c < n + 1
+    → d < order.count → IsLeastCover order (c ∷ d ∷ []) (slice_index (slice_index_or (slice_set joins n row) c []) d)
 joins_more order joins n row fits before here c d c_in d_in =
     elim (cases_eq c n) [
       | inl same ↦
-          let e : slice_index_or (slice_set joins n row) c [] ≡ row = subst (λ k. slice_index_or (slice_set joins n row) k [] ≡ row) (sym same) (get_or-set_same joins n row [] fits) in
-          let found : IsLeastCover order (c ∷ d ∷ []) (slice_index row d) = subst (λ k. IsLeastCover order (k ∷ d ∷ []) (slice_index row d)) (sym same) (here d d_in) in
+          let e : slice_index_or (slice_set joins n row) c [] ≡ row =
+          subst (λ k. slice_index_or (slice_set joins n row) k [] ≡ row) (sym same)
+          (get_or-set_same joins n row [] fits) in
+          let found : IsLeastCover order (c ∷ d ∷ []) (slice_index row d) =
+          subst (λ k. IsLeastCover order (k ∷ d ∷ []) (slice_index row d)) (sym same) (here d d_in) in
           subst (λ r. IsLeastCover order (c ∷ d ∷ []) (slice_index r d)) (sym e) found
       | inr apart ↦
           let e = get_or-set_other joins n c row [] apart in
@@ -115,27 +121,37 @@ joins_more order joins n row fits before here c d c_in d_in =
     ]
 
 -- what covers one covers all that it covers
-pub covers_each-through : (order : CoverOrder) (x y : ℕ) (xs : List ℕ) → IsOrder order → x < order.count → y < order.count → All (λ m. m < order.count) xs → covers order x y ≡ true → covers_each order y xs ≡ true → covers_each order x xs ≡ true
+pub covers_each-through : (order : CoverOrder) (x y : ℕ) (xs : List ℕ) → IsOrder order → x < order.count
+    → y < order.count → All (λ m. m < order.count) xs → covers order x y ≡ true → covers_each order y xs ≡ true
+    → covers_each order x xs ≡ true
 covers_each-through order x y [] h x_in y_in in_range xy each = refl
 covers_each-through order x y (m ∷ xs) h x_in y_in in_range xy each =
     let parts = and_parts (covers order y m) (covers_each order y xs) each in
-    and_from _ _ (h.transitive x y m x_in y_in (All-head (λ m. m < order.count) m xs in_range) xy parts.0) (covers_each-through order x y xs h x_in y_in (All-tail (λ m. m < order.count) m xs in_range) xy parts.1)
+    and_from _ _ (h.transitive x y m x_in y_in (All-head (λ m. m < order.count) m xs in_range) xy parts.0)
+    (covers_each-through order x y xs h x_in y_in (All-tail (λ m. m < order.count) m xs in_range) xy parts.1)
 
 -- the least cover of a list and one more: that of the list's least cover and the one more
-pub least_more : (order : CoverOrder) (xs : List ℕ) (x y z : ℕ) → IsOrder order → All (λ m. m < order.count) xs → IsLeastCover order xs x → IsLeastCover order (x ∷ y ∷ []) z → IsLeastCover order (xs ++ y ∷ []) z
+pub least_more : (order : CoverOrder) (xs : List ℕ) (x y z : ℕ) → IsOrder order → All (λ m. m < order.count) xs
+    → IsLeastCover order xs x → IsLeastCover order (x ∷ y ∷ []) z → IsLeastCover order (xs ++ y ∷ []) z
 least_more order xs x y z h in_range before both =
     let parts = and_parts (covers order z x) (covers order z y && true) both.above in
     let last = and_parts (covers order z y) true parts.1 in
     record {
       in_range = both.in_range;
-      above = list_all-append (covers order z) xs (y ∷ []) ∙ and_from _ _ (covers_each-through order z x xs h both.in_range before.in_range in_range parts.0 before.above) (and_from _ _ last.0 refl);
+      above =
+          list_all-append (covers order z) xs (y ∷ [])
+          ∙ and_from _ _ (covers_each-through order z x xs h both.in_range before.in_range in_range parts.0
+          before.above) (and_from _ _ last.0 refl);
       least = λ w w_in each.
-          let split = and_parts (covers_each order w xs) (covers order w y && true) (sym (list_all-append (covers order w) xs (y ∷ [])) ∙ each) in
+          let split =
+          and_parts (covers_each order w xs) (covers order w y && true)
+          (sym (list_all-append (covers order w) xs (y ∷ [])) ∙ each) in
           both.least w w_in (and_from _ _ (before.least w w_in split.0) split.1);
     }
 
 -- the least cover of one more and a list: that of the one more and the list's least cover
-pub least_cons : (order : CoverOrder) (x : ℕ) (xs : List ℕ) (y z : ℕ) → IsOrder order → All (λ m. m < order.count) xs → IsLeastCover order xs y → IsLeastCover order (x ∷ y ∷ []) z → IsLeastCover order (x ∷ xs) z
+pub least_cons : (order : CoverOrder) (x : ℕ) (xs : List ℕ) (y z : ℕ) → IsOrder order → All (λ m. m < order.count) xs
+    → IsLeastCover order xs y → IsLeastCover order (x ∷ y ∷ []) z → IsLeastCover order (x ∷ xs) z
 least_cons order x xs y z h in_range before both =
     let parts = and_parts (covers order z x) (covers order z y && true) both.above in
     let last = and_parts (covers order z y) true parts.1 in

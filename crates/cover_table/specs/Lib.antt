@@ -1,5 +1,3 @@
-pub mod Checks
-pub mod Common
 pub mod Cover
-pub mod Joins
 pub mod SizedTables
+pub mod inner

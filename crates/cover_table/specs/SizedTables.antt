@@ -1,37 +1,16 @@
--- The tables of all sizes.
-use Rattle.std.specs.Prelude.{◌≡◌}
+-- The sizes of tables, and why an order has none.
+use Rattle.std.specs.Prelude.{ℕ, nat_le, if◌then◌else◌}
 use Rattle.cover_table.specs.Cover.{CoverOrder, IsFirstWithoutLeast, IsSound}
-use Rattle.cover_table.specs.Joins.{least_size}
-use Rattle.cover_table.specs.declared.sizes.Sized.{Sized}
-use Rattle.cover_table.specs.declared.sizes.Sized.TheVariants.{UpTo8, UpTo16, UpTo32, UpTo64, UpTo128}
-use Rattle.cover_table.specs.declared.sizes.SizedBox.{SizedBox}
-use Rattle.cover_table.specs.declared.sizes.SizedBox.TheVariants as boxed
 use Rattle.cover_table.specs.declared.sizes.TableError.{TableError}
 use Rattle.cover_table.specs.declared.sizes.TableError.TheVariants.{NoLeast, OutOfMemory}
 
--- the order of a table of some size
-abbrev pub order_of_sized : Sized → CoverOrder
-order_of_sized (UpTo8 table) = table
-order_of_sized (UpTo16 table) = table
-order_of_sized (UpTo32 table) = table
-order_of_sized (UpTo64 table) = table
-order_of_sized (UpTo128 table) = table
-
--- its size is the least that holds the order
-abbrev pub HasLeastSize : Sized → Type 0
-HasLeastSize (UpTo8 table) = least_size table.count ≡ 8
-HasLeastSize (UpTo16 table) = least_size table.count ≡ 16
-HasLeastSize (UpTo32 table) = least_size table.count ≡ 32
-HasLeastSize (UpTo64 table) = least_size table.count ≡ 64
-HasLeastSize (UpTo128 table) = least_size table.count ≡ 128
-
--- the order of a table of some size in memory of its own
-abbrev pub order_of_boxed : SizedBox → CoverOrder
-order_of_boxed (boxed.UpTo8 table) = table.value
-order_of_boxed (boxed.UpTo16 table) = table.value
-order_of_boxed (boxed.UpTo32 table) = table.value
-order_of_boxed (boxed.UpTo64 table) = table.value
-order_of_boxed (boxed.UpTo128 table) = table.value
+-- the smallest size of a table that has room for this many numbers
+abbrev pub least_size : ℕ → ℕ
+least_size count =
+    if nat_le count 8 then 8
+    else (if nat_le count 16 then 16
+    else (if nat_le count 32 then 32
+    else (if nat_le count 64 then 64 else 128)))
 
 -- why an order has no table: its first two numbers without a least cover, or, where there are none, memory alone
 abbrev pub LacksTable : CoverOrder → TableError → Type 0

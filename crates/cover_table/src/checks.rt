@@ -1,5 +1,5 @@
 ghost use Rattle.std.specs.Prelude.{◌<◌, ◌≤◌, ◌↔◌, length, IsTrue};
-ghost use Rattle.cover_table.specs.Checks.{CoversAllOf, IsRightAt, IsRightPair};
+ghost use Rattle.cover_table.specs.inner.Checks.{CoversAllOf, IsRightAt, IsRightPair};
 ghost use Rattle.cover_table.specs.Cover.{IsOrder, most_exceptions, order_of_rows};
 
 use crate::order::{Row, has_bit};

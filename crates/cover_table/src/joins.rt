@@ -1,6 +1,6 @@
 ghost use Rattle.std.specs.Prelude.{◌≡◌, ◌<◌, ◌≤◌, ◌↔◌, ℕ, ◌∷◌, [], length, slice_index, if◌then◌else◌, IfOk, IfErr, OnOk, IsErrOf, All};
 ghost use Rattle.cover_table.specs.Cover.{covers, has_bit, most_exceptions, order_of, IsLeastCover, IsOrder, IsSound, IsFirstWithoutLeast};
-ghost use Rattle.cover_table.specs.Common.{FailsAt, IsJoin};
+ghost use Rattle.cover_table.specs.inner.Uppers.{FailsAt, IsJoin};
 
 use crate::order::{MOST_EXCEPTIONS, NoLeast, Order, Row, has_bit, some_bit, without_bit};
 use crate::uppers::{least_of_two, levels_of, next_above, uppers_of};
@@ -16,7 +16,7 @@ pub struct JoinTable<const N: usize> {
 
 impl<const N: usize> Model for JoinTable<N> {
     ghost use Rattle.cover_table.specs.Cover.{CoverOrder, order_of};
-    ghost use Rattle.cover_table.specs.Joins.{HoldsJoins};
+    ghost use Rattle.cover_table.specs.inner.Joins.{HoldsJoins};
 
     ghost Value = { CoverOrder };
 

@@ -5,8 +5,6 @@ mod checks;
 mod joins;
 mod order;
 mod sizes;
-#[cfg(test)]
-mod tests;
 mod uppers;
 
 pub use checks::is_order;

@@ -1,7 +1,6 @@
 ghost use Rattle.std.specs.Prelude.{◌≡◌, ◌<◌, ◌≤◌, ◌↔◌, ℕ, ◌∷◌, [], length, All, IfOk, IfErr, OnOk, IsErrOf};
 ghost use Rattle.cover_table.specs.Cover.{covers, order_of, order_of_rows, IsLeastCover, IsOrder, IsSound, IsFirstWithoutLeast, most_exceptions};
-ghost use Rattle.cover_table.specs.Joins.{least_size};
-ghost use Rattle.cover_table.specs.SizedTables.{LacksTable};
+ghost use Rattle.cover_table.specs.SizedTables.{least_size, LacksTable};
 
 use crate::joins::JoinTable;
 use crate::order::{NoLeast, Order, Row};
@@ -91,7 +90,7 @@ impl Model for AnyTable {
 
     ghost Value = { CoverOrder };
 
-    ghost use Rattle.cover_table.specs.SizedTables.{order_of_sized, HasLeastSize};
+    ghost use Rattle.cover_table.specs.inner.TablesOfSizes.{order_of_sized, HasLeastSize};
 
     ghost view = { λ t. order_of_sized t.sized };
 
@@ -109,7 +108,7 @@ impl Model for BoxedTable {
 
     ghost Value = { CoverOrder };
 
-    ghost use Rattle.cover_table.specs.SizedTables.{order_of_boxed};
+    ghost use Rattle.cover_table.specs.inner.TablesOfSizes.{order_of_boxed};
 
     ghost view = { λ t. order_of_boxed t.sized };
 }

@@ -1,6 +1,6 @@
 ghost use Rattle.std.specs.Prelude.{◌<◌, ◌≤◌, length, take, IfSome, IfNone};
 ghost use Rattle.cover_table.specs.Cover.{most_exceptions};
-ghost use Rattle.cover_table.specs.Common.{AddsUpper, AreUppers, HasJoin, IsJoin, IsNextAbove};
+ghost use Rattle.cover_table.specs.inner.Uppers.{AddsUpper, AreUppers, HasJoin, IsJoin, IsNextAbove};
 
 use crate::order::{MOST_EXCEPTIONS, Row, some_bit, with_bit, without_bit};
 

@@ -5,7 +5,7 @@ use Rattle.std.proofs.lemmas.Bool.{or_cases, or_right, eqb-true, eq-eqb}
 use Rattle.std.proofs.lemmas.List.Elements.{All-contains}
 use Rattle.cover_table.specs.Cover.{order_of_rows, tells}
 use Rattle.exception_graph.specs.Chains.{Chain, IsDeclared, IsOrderOf, none, more, universal, pair}
-use Rattle.exception_graph.specs.Closing.{AddsPairs, AreBare, AreClosedOver, TellChains, TellDeclared, TellMore}
+use Rattle.exception_graph.specs.inner.Closing.{AddsPairs, AreBare, AreClosedOver, TellChains, TellDeclared, TellMore}
 
 module _ (count : ℕ) (pairs : List (ℕ × ℕ)) (in_range : All (λ (p : ℕ × ℕ). (p.0 < count) × (p.1 < count)) pairs) where
   declared_in : {a b : ℕ} → IsDeclared count pairs a b → b < count
@@ -18,7 +18,8 @@ module _ (count : ℕ) (pairs : List (ℕ × ℕ)) (in_range : All (λ (p : ℕ 
   chain_in (more step rest) a_in = chain_in rest (declared_in step)
 
   -- bare rows with the pairs added tell what is declared
-  pub added_declared : (bare added : List ℕ) → length bare ≡ count → AreBare bare → AddsPairs bare added pairs (length pairs) → TellDeclared count pairs added
+  pub added_declared : (bare added : List ℕ) → length bare ≡ count → AreBare bare
+      → AddsPairs bare added pairs (length pairs) → TellDeclared count pairs added
   added_declared bare added many is_bare adds = record {
     itself = λ a a_in.
         let here : (a == a) ≡ true = eq-eqb a a refl in
@@ -28,10 +29,13 @@ module _ (count : ℕ) (pairs : List (ℕ × ℕ)) (in_range : All (λ (p : ℕ 
     where
       told : (a b : ℕ) → a < count → b < count → IsDeclared count pairs a b → tells added a b ≡ true
       told a b a_in b_in (universal below) = adds.more 0 b (omega arith) (is_bare 0 b (omega arith) (omega arith))
-      told a b a_in b_in (pair among) = adds.told a b (omega arith) (subst (λ (xs : List (ℕ × ℕ)). Contains xs (a, b)) (sym (take-length pairs)) among)
+      told a b a_in b_in (pair among) =
+          adds.told a b (omega arith)
+          (subst (λ (xs : List (ℕ × ℕ)). Contains xs (a, b)) (sym (take-length pairs)) among)
 
   -- and only chains
-  pub added_chains : (bare added : List ℕ) → length bare ≡ count → AreBare bare → AddsPairs bare added pairs (length pairs) → TellChains count pairs added
+  pub added_chains : (bare added : List ℕ) → length bare ≡ count → AreBare bare
+      → AddsPairs bare added pairs (length pairs) → TellChains count pairs added
   added_chains bare added many is_bare adds a b a_in b_in told =
       elim (adds.only a b (omega arith) told) [
         | inl before ↦ elim (or_cases (a == 0) (b == a) (sym (is_bare a b (omega arith) (omega arith)) ∙ before)) [
@@ -42,7 +46,8 @@ module _ (count : ℕ) (pairs : List (ℕ × ℕ)) (in_range : All (λ (p : ℕ 
       ]
 
   -- closed rows that tell what is declared tell each chain
-  pub chain_told : (rows : List ℕ) → length rows ≡ count → TellDeclared count pairs rows → AreClosedOver rows (length rows) → {a b : ℕ} → Chain count pairs a b → a < count → tells rows a b ≡ true
+  pub chain_told : (rows : List ℕ) → length rows ≡ count → TellDeclared count pairs rows
+      → AreClosedOver rows (length rows) → {a b : ℕ} → Chain count pairs a b → a < count → tells rows a b ≡ true
   chain_told rows many declares closed {a} none a_in = declares.itself a a_in
   chain_told rows many declares closed (more {a} {b} {c} step rest) a_in =
       let b_in = declared_in step in
@@ -50,14 +55,16 @@ module _ (count : ℕ) (pairs : List (ℕ × ℕ)) (in_range : All (λ (p : ℕ 
       closed b a c (omega arith) (omega arith) (declares.declared a b a_in b_in step) (chain_told rows many declares closed rest b_in)
 
   -- rows that tell more still tell what is declared
-  pub declared_more : (old new : List ℕ) → length old ≡ count → TellDeclared count pairs old → TellMore old new → TellDeclared count pairs new
+  pub declared_more : (old new : List ℕ) → length old ≡ count → TellDeclared count pairs old → TellMore old new
+      → TellDeclared count pairs new
   declared_more old new many declares grows = record {
     itself = λ a a_in. grows a a (omega arith) (declares.itself a a_in);
     declared = λ a b a_in b_in step. grows a b (omega arith) (declares.declared a b a_in b_in step);
   }
 
   -- such rows are the order of the pairs
-  pub order_told : (rows : List ℕ) → length rows ≡ count → TellDeclared count pairs rows → AreClosedOver rows (length rows) → TellChains count pairs rows → IsOrderOf count pairs (order_of_rows rows)
+  pub order_told : (rows : List ℕ) → length rows ≡ count → TellDeclared count pairs rows
+      → AreClosedOver rows (length rows) → TellChains count pairs rows → IsOrderOf count pairs (order_of_rows rows)
   order_told rows many declares closed chains = record {
     counts = many;
     tells = λ a b a_in b_in. (chains a b a_in b_in, λ chain. chain_told rows many declares closed chain a_in);

@@ -3,7 +3,7 @@ use Rattle.std.proofs.Common.{◌≡◌, ◌<◌, ◌+◌, ◌&&◌, ◌⊎◌, 
 use Rattle.std.proofs.lemmas.Bool.{or_cases, or_left, or_right, and_parts, and_from, cases_eq}
 use Rattle.cover_table.specs.Cover.{tells}
 use Rattle.exception_graph.specs.Chains.{Chain, none, more}
-use Rattle.exception_graph.specs.Closing.{TellChains, AreClosedOver, AreExtended}
+use Rattle.exception_graph.specs.inner.Closing.{TellChains, AreClosedOver, AreExtended}
 
 -- chains one after another
 pub chain-append : {count : ℕ} {pairs : List (ℕ × ℕ)} {a b c : ℕ} → Chain count pairs a b → Chain count pairs b c → Chain count pairs a c
@@ -12,7 +12,8 @@ chain-append (more step rest) next = more step (chain-append rest next)
 
 module _ (old new : List ℕ) (m : ℕ) (step : AreExtended old new m) where
   -- what the new rows tell was told in one step or in two
-  pub told_before : (a b : ℕ) → a < length old → tells new a b ≡ true → (tells old a b ≡ true) ⊎ ((tells old a m ≡ true) × (tells old m b ≡ true))
+  pub told_before : (a b : ℕ) → a < length old → tells new a b ≡ true
+      → (tells old a b ≡ true) ⊎ ((tells old a m ≡ true) × (tells old m b ≡ true))
   told_before a b a_in told =
       elim (or_cases (tells old a b) (tells old a m && tells old m b) (sym (step.tell a b a_in) ∙ told)) [
         | inl one ↦ inl one
@@ -23,7 +24,9 @@ module _ (old new : List ℕ) (m : ℕ) (step : AreExtended old new m) where
   told_in_one a b a_in one = step.tell a b a_in ∙ or_left (tells old a b) (tells old a m && tells old m b) one
 
   pub told_in_two : (a b : ℕ) → a < length old → tells old a m ≡ true → tells old m b ≡ true → tells new a b ≡ true
-  told_in_two a b a_in first second = step.tell a b a_in ∙ or_right (tells old a b) (tells old a m && tells old m b) (and_from (tells old a m) (tells old m b) first second)
+  told_in_two a b a_in first second =
+      step.tell a b a_in ∙ or_right (tells old a b) (tells old a m && tells old m b)
+      (and_from (tells old a m) (tells old m b) first second)
 
   -- what leads to m, and from it, was told before
   told_to : (a : ℕ) → a < length old → tells new a m ≡ true → tells old a m ≡ true
@@ -58,7 +61,8 @@ module _ (old new : List ℕ) (m : ℕ) (step : AreExtended old new m) where
       ]
 
   -- rows that tell chains still do
-  pub chains_more : (count : ℕ) (pairs : List (ℕ × ℕ)) → count ≡ length old → m < count → TellChains count pairs old → TellChains count pairs new
+  pub chains_more : (count : ℕ) (pairs : List (ℕ × ℕ)) → count ≡ length old → m < count → TellChains count pairs old
+      → TellChains count pairs new
   chains_more count pairs many m_in chains a b a_in b_in told =
       let a_old : a < length old = omega arith in
       elim (told_before a b a_old told) [

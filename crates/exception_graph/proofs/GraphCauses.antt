@@ -5,7 +5,7 @@ use Rattle.std.proofs.lemmas.Bool.{cases_order}
 use Rattle.cover_table.specs.Cover.{most_exceptions, CoverOrder, covers, covers_each, IsLeastCover, IsFirstWithoutLeast}
 use Rattle.cover_table.proofs.Orders.{first-same, sound_has_none}
 use Rattle.exception_graph.specs.Chains.{IsFirstInCycle, IsFirstUnjoined, IsInCycle, IsOrderOf, IsSoundGraph}
-use Rattle.exception_graph.specs.Graph.{IsRefusal}
+use Rattle.exception_graph.specs.inner.Refusals.{IsRefusal}
 use Rattle.exception_graph.specs.declared.graph_error.GraphError.{GraphError}
 use Rattle.exception_graph.specs.declared.graph_error.GraphError.TheVariants.{Cycle, NoLeast, TooMany, OutOfMemory}
 
@@ -40,7 +40,8 @@ module _ (count : ℕ) (pairs : List (ℕ × ℕ)) where
         }
 
   -- the first pair without a least cover in the one is so in the other
-  unjoined-same : (order other : CoverOrder) → IsOrderOf count pairs order → IsOrderOf count pairs other → (a b : ℕ) → IsFirstWithoutLeast order a b → IsFirstWithoutLeast other a b
+  unjoined-same : (order other : CoverOrder) → IsOrderOf count pairs order → IsOrderOf count pairs other → (a b : ℕ)
+      → IsFirstWithoutLeast order a b → IsFirstWithoutLeast other a b
   unjoined-same order other is too a b h =
       let here = is.counts in
       let there = too.counts in
@@ -61,7 +62,8 @@ module _ (count : ℕ) (pairs : List (ℕ × ℕ)) where
       let is = sound.is_order_of in
       let many = is.counts in
       let b_in = cycle.in_range in
-      cycle.apart (sound.sound.is_order.antisymmetric cycle.other a (omega arith) (omega arith) ((is.tells cycle.other a b_in a_in).1 cycle.up) ((is.tells a cycle.other a_in b_in).1 cycle.down))
+      cycle.apart (sound.sound.is_order.antisymmetric cycle.other a (omega arith) (omega arith)
+      ((is.tells cycle.other a b_in a_in).1 cycle.up) ((is.tells a cycle.other a_in b_in).1 cycle.down))
 
   -- and no pair without a least cover
   pub sound_joined : IsSoundGraph count pairs → (a b : ℕ) → IsFirstUnjoined count pairs a b → ⊥
@@ -83,22 +85,32 @@ module _ (count : ℕ) (pairs : List (ℕ × ℕ)) where
 
   module _ {T : Type 0} where
     -- a right answer names an exception in a cycle exactly where it is the first
-    pub cycle_exactly : (answer : Result T GraphError) → MatchResult answer (λ _. IsSoundGraph count pairs) (IsRefusal count pairs) → (at : ℕ) → IsErrOf answer (Cycle at) ↔ ((count ≤ most_exceptions) × IsFirstInCycle count pairs at)
+    pub cycle_exactly : (answer : Result T GraphError)
+        → MatchResult answer (λ _. IsSoundGraph count pairs) (IsRefusal count pairs) → (at : ℕ)
+        → IsErrOf answer (Cycle at) ↔ ((count ≤ most_exceptions) × IsFirstInCycle count pairs at)
     cycle_exactly (Ok t) sound at = (λ e. absurd cc, λ h. absurd (sound_acyclic sound at h.1.in_range h.1.cycle))
-    cycle_exactly (Err (Cycle other)) found at = (λ e. let same : other ≡ at = cc in (found.0, subst (λ (x : ℕ). IsFirstInCycle count pairs x) same found.1), λ h. let same = cycle-same other at found.1 h.1 in ap (λ (x : ℕ). Err (Cycle x)) same)
+    cycle_exactly (Err (Cycle other)) found at = (
+      λ e. let same : other ≡ at = cc in (found.0, subst (λ (x : ℕ). IsFirstInCycle count pairs x) same found.1),
+      λ h. let same = cycle-same other at found.1 h.1 in ap (λ (x : ℕ). Err (Cycle x)) same,
+    )
     cycle_exactly (Err (NoLeast a b)) found at = (λ e. absurd cc, λ h. absurd (found.1.acyclic at h.1.in_range h.1.cycle))
     cycle_exactly (Err (TooMany number)) found at = (λ e. absurd cc, λ h. absurd (omega arith))
     cycle_exactly (Err OutOfMemory) sound at = (λ e. absurd cc, λ h. absurd (sound_acyclic sound at h.1.in_range h.1.cycle))
 
     -- and two without a least cover exactly where they are the first
-    pub no_least_exactly : (answer : Result T GraphError) → MatchResult answer (λ _. IsSoundGraph count pairs) (IsRefusal count pairs) → (a b : ℕ) → IsErrOf answer (NoLeast a b) ↔ ((count ≤ most_exceptions) × IsFirstUnjoined count pairs a b)
+    pub no_least_exactly : (answer : Result T GraphError)
+        → MatchResult answer (λ _. IsSoundGraph count pairs) (IsRefusal count pairs) → (a b : ℕ)
+        → IsErrOf answer (NoLeast a b) ↔ ((count ≤ most_exceptions) × IsFirstUnjoined count pairs a b)
     no_least_exactly (Ok t) sound a b = (λ e. absurd cc, λ h. absurd (sound_joined sound a b h.1))
     no_least_exactly (Err (Cycle at)) found a b = (λ e. absurd cc, λ h. absurd (h.1.acyclic at found.1.in_range found.1.cycle))
     no_least_exactly (Err (NoLeast c d)) found a b = (
       λ e.
           let first : c ≡ a = cc in
-          let second : d ≡ b = cc in
-          (found.0, subst (λ (x : ℕ). IsFirstUnjoined count pairs x b) first (subst (λ (y : ℕ). IsFirstUnjoined count pairs c y) second found.1)),
+          let second : d ≡ b = cc in (
+            found.0,
+            subst (λ (x : ℕ). IsFirstUnjoined count pairs x b) first
+                (subst (λ (y : ℕ). IsFirstUnjoined count pairs c y) second found.1),
+          ),
       λ h.
           let same = unjoined-one c d a b found.1 h.1 in
           ap (λ (x : ℕ). Err (NoLeast x d)) same.0 ∙ ap (λ (y : ℕ). Err (NoLeast a y)) same.1,
@@ -107,7 +119,9 @@ module _ (count : ℕ) (pairs : List (ℕ × ℕ)) where
     no_least_exactly (Err OutOfMemory) sound a b = (λ e. absurd cc, λ h. absurd (sound_joined sound a b h.1))
 
     -- and refuses a sound graph only for want of memory
-    pub accepted_where_sound : (answer : Result T GraphError) → MatchResult answer (λ _. IsSoundGraph count pairs) (IsRefusal count pairs) → IsSoundGraph count pairs → IsOkUnless answer OutOfMemory
+    pub accepted_where_sound : (answer : Result T GraphError)
+        → MatchResult answer (λ _. IsSoundGraph count pairs) (IsRefusal count pairs) → IsSoundGraph count pairs
+        → IsOkUnless answer OutOfMemory
     accepted_where_sound (Ok t) found sound = tt
     accepted_where_sound (Err (Cycle at)) found sound = absurd (sound_acyclic sound at found.1.in_range found.1.cycle)
     accepted_where_sound (Err (NoLeast a b)) found sound = absurd (sound_joined sound a b found.1)

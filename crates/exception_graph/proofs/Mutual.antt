@@ -5,9 +5,9 @@ use Rattle.std.proofs.lemmas.Nat.Bits.{same_from_bits}
 use Rattle.cover_table.specs.Cover.{CoverOrder, order_of_rows, tells, IsOrder}
 use Rattle.cover_table.proofs.Bits.{same_bit}
 use Rattle.exception_graph.specs.Chains.{IsInCycle, IsFirstInCycle, IsOrderOf, none, more, universal}
-use Rattle.exception_graph.specs.Closing.{AreClosedOver}
+use Rattle.exception_graph.specs.inner.Closing.{AreClosedOver}
 use Rattle.exception_graph.specs.Graph.{HasUniversal}
-use Rattle.exception_graph.specs.Cycles.{IsMutual, IsFirstMutual}
+use Rattle.exception_graph.specs.inner.Cycles.{IsMutual, IsFirstMutual}
 
 module _ (count : ℕ) (pairs : List (ℕ × ℕ)) (order : CoverOrder) (is : IsOrderOf count pairs order) where
   -- what covers another that covers it is in a cycle, and the other way round
@@ -58,12 +58,16 @@ module _ (count : ℕ) (pairs : List (ℕ × ℕ)) (order : CoverOrder) (is : Is
       }
 
 -- in closed rows two numbers that tell each other have the same row
-pub same_row : (rows : List ℕ) (a b : ℕ) → AreClosedOver rows (length rows) → a < length rows → b < length rows → tells rows a b ≡ true → tells rows b a ≡ true → slice_index rows b ≡ slice_index rows a
+pub same_row : (rows : List ℕ) (a b : ℕ) → AreClosedOver rows (length rows) → a < length rows → b < length rows
+    → tells rows a b ≡ true → tells rows b a ≡ true → slice_index rows b ≡ slice_index rows a
 same_row rows a b closed a_in b_in down up =
-    same_from_bits (slice_index rows b) (slice_index rows a) (λ c. same_bit _ _ c (λ told. closed b a c b_in a_in down told) (λ told. closed a b c a_in b_in up told))
+    same_from_bits (slice_index rows b) (slice_index rows a)
+    (λ c. same_bit _ _ c (λ told. closed b a c b_in a_in down told) (λ told. closed a b c a_in b_in up told))
 
 -- closed rows without a cycle are an order
-pub order_without_cycle : (pairs : List (ℕ × ℕ)) (rows : List ℕ) → AreClosedOver rows (length rows) → IsOrderOf (length rows) pairs (order_of_rows rows) → ((a : ℕ) → a < length rows → ¬ (IsMutual (order_of_rows rows) a)) → IsOrder (order_of_rows rows)
+pub order_without_cycle : (pairs : List (ℕ × ℕ)) (rows : List ℕ) → AreClosedOver rows (length rows)
+    → IsOrderOf (length rows) pairs (order_of_rows rows)
+    → ((a : ℕ) → a < length rows → ¬ (IsMutual (order_of_rows rows) a)) → IsOrder (order_of_rows rows)
 order_without_cycle pairs rows closed is acyclic = record {
   reflexive = λ a a_in. (is.tells a a a_in a_in).1 none;
   transitive = λ a b c a_in b_in c_in down further. closed b a c b_in a_in down further;

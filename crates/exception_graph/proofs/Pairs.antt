@@ -3,16 +3,19 @@ use Rattle.std.proofs.Common.{◌≡◌, ◌<◌, ◌+◌, inl, inr, ℕ, true, 
 use Rattle.std.proofs.lemmas.List.{take_more}
 use Rattle.std.proofs.lemmas.List.Elements.{Contains-push, Contains-push_cases, Contains-append_left}
 use Rattle.cover_table.specs.Cover.{tells}
-use Rattle.exception_graph.specs.Closing.{AddsPair, AddsPairs}
+use Rattle.exception_graph.specs.inner.Closing.{AddsPair, AddsPairs}
 
 -- one more pair
-pub pairs_more : (start old new : List ℕ) (pairs : List (ℕ × ℕ)) (n : ℕ) → n < length pairs → AddsPairs start old pairs n → AddsPair old new (get_or pairs n (0, 0)).0 (get_or pairs n (0, 0)).1 → AddsPairs start new pairs (n + 1)
+pub pairs_more : (start old new : List ℕ) (pairs : List (ℕ × ℕ)) (n : ℕ) → n < length pairs
+    → AddsPairs start old pairs n → AddsPair old new (get_or pairs n (0, 0)).0 (get_or pairs n (0, 0)).1
+    → AddsPairs start new pairs (n + 1)
 pairs_more start old new pairs n n_in before step =
     let many = before.as_many in
     let pair : ℕ × ℕ = get_or pairs n (0, 0) in
     let front : List (ℕ × ℕ) = take n pairs in
     let all : take (n + 1) pairs ≡ front ++ pair ∷ [] = take_more pairs n (0, 0) n_in in
-    let back : (a b : ℕ) → Contains (front ++ pair ∷ []) (a, b) → Contains (take (n + 1) pairs) (a, b) = λ a b. subst (λ (xs : List (ℕ × ℕ)). Contains xs (a, b)) (sym all) in
+    let back : (a b : ℕ) → Contains (front ++ pair ∷ []) (a, b) → Contains (take (n + 1) pairs) (a, b) =
+    λ a b. subst (λ (xs : List (ℕ × ℕ)). Contains xs (a, b)) (sym all) in
     record {
       as_many = step.as_many ∙ before.as_many;
       more = λ a b a_in told. step.more a b (omega arith) (before.more a b a_in told);

@@ -1,18 +1,8 @@
--- What a graph keeps, and why one is refused.
-use Rattle.std.specs.Prelude.{◌≡◌, ◌<◌, ◌≤◌, ℕ, true, List}
-use Rattle.cover_table.specs.Cover.{most_exceptions, CoverOrder, covers}
-use Rattle.exception_graph.specs.Chains.{IsFirstInCycle, IsFirstUnjoined, IsSoundGraph}
-use Rattle.exception_graph.specs.declared.graph_error.GraphError.{GraphError}
-use Rattle.exception_graph.specs.declared.graph_error.GraphError.TheVariants.{Cycle, NoLeast, TooMany, OutOfMemory}
+-- What the order of a graph has besides being sound.
+use Rattle.std.specs.Prelude.{◌≡◌, ◌<◌, ℕ, true}
+use Rattle.cover_table.specs.Cover.{CoverOrder, covers}
 
 -- number 0 is there, and covers all
 pub record HasUniversal (order : CoverOrder) : Type 0 where
   pub some : 0 < order.count
   pub covers_all : (a : ℕ) → a < order.count → covers order 0 a ≡ true
-
--- the cause of a refusal; memory is wanted only where there is no other cause
-abbrev pub IsRefusal : ℕ → List (ℕ × ℕ) → GraphError → Type 0
-IsRefusal count pairs (Cycle at) = (count ≤ most_exceptions) × IsFirstInCycle count pairs at
-IsRefusal count pairs (NoLeast a b) = (count ≤ most_exceptions) × IsFirstUnjoined count pairs a b
-IsRefusal count pairs (TooMany number) = (most_exceptions < count) × (number ≡ count)
-IsRefusal count pairs OutOfMemory = IsSoundGraph count pairs

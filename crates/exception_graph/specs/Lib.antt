@@ -1,4 +1,3 @@
 pub mod Chains
-pub mod Closing
-pub mod Cycles
 pub mod Graph
+pub mod inner

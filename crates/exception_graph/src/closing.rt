@@ -1,7 +1,7 @@
 ghost use Rattle.std.specs.Prelude.{◌≡◌, ◌==◌, ◌&&◌, ◌||◌, ◌<◌, ◌≤◌, ℕ, List, length, All};
 ghost use Rattle.cover_table.specs.Cover.{has_bit, order_of_rows, most_exceptions};
 ghost use Rattle.exception_graph.specs.Chains.{IsOrderOf};
-ghost use Rattle.exception_graph.specs.Closing.{AddsPair, AddsPairs, AreBare, AreClosedOver, AreExtended, TellChains, TellMore};
+ghost use Rattle.exception_graph.specs.inner.Closing.{AddsPair, AddsPairs, AreBare, AreClosedOver, AreExtended, TellChains, TellMore};
 
 use cover_table::{Row, has_bit, with_bit};
 

@@ -1,7 +1,7 @@
 ghost use Rattle.std.specs.Prelude.{◌≡◌, ◌<◌, ◌≤◌, ◌↔◌, ℕ, length, true, IsTrue, IfNone, IfSome};
 ghost use Rattle.cover_table.specs.Cover.{most_exceptions, order_of_rows, tells};
-ghost use Rattle.exception_graph.specs.Closing.{AreClosedOver};
-ghost use Rattle.exception_graph.specs.Cycles.{IsFirstMutual, IsMutual};
+ghost use Rattle.exception_graph.specs.inner.Closing.{AreClosedOver};
+ghost use Rattle.exception_graph.specs.inner.Cycles.{IsFirstMutual, IsMutual};
 
 use cover_table::Row;
 

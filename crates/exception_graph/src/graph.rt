@@ -1,7 +1,8 @@
 ghost use Rattle.std.specs.Prelude.{◌≡◌, ◌<◌, ◌≤◌, ◌↔◌, ℕ, length, All, IfOk, IfErr, OnOk, IsErrOf, IsOkUnless};
 ghost use Rattle.cover_table.specs.Cover.{IsLeastCover, IsSound, SetsHaveLeastCovers, covers, most_exceptions};
 ghost use Rattle.exception_graph.specs.Chains.{IsFirstInCycle, IsFirstUnjoined, IsOrderOf, IsSoundGraph};
-ghost use Rattle.exception_graph.specs.Graph.{HasUniversal, IsRefusal};
+ghost use Rattle.exception_graph.specs.Graph.{HasUniversal};
+ghost use Rattle.exception_graph.specs.inner.Refusals.{IsRefusal};
 
 use crate::closing::tell_chains;
 use crate::cycles::first_in_cycle;

@@ -5,8 +5,6 @@ mod closing;
 mod cycles;
 mod graph;
 mod graph_error;
-#[cfg(test)]
-mod tests;
 
 pub use graph::Graph;
 pub use graph_error::GraphError;

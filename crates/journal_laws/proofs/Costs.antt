@@ -9,7 +9,8 @@ use Rattle.place_plan.specs.declared.drafts.draft_rows.RoleRow.{RoleRow}
 use Rattle.place_plan.specs.declared.drafts.draft_rows.HandlerRow.{HandlerRow}
 use Rattle.place_plan.specs.declared.drafts.draft_rows.PlaceRow.{PlaceRow}
 use Rattle.place_plan.specs.Plans.PlanValue.{Plan}
-use Rattle.caa_base.specs.Written.Lists.{member, index_of, one_if}
+use Rattle.caa_base.specs.Written.Lists.{member, index_of}
+use Rattle.caa_base.specs.inner.Lists.{one_if}
 use Rattle.place_plan.specs.Plans.Places.{roles_of, objects_of, action_at, action_in, place_at, no_role, no_place, handler_in, body_of, handler_of}
 use Rattle.place_plan.specs.RulesOfJournals.Entries.{is_in, is_by, has, has_by}
 use Rattle.place_plan.specs.RulesOfJournals.Whereabouts.{has_started, has_ended, is_undoing}

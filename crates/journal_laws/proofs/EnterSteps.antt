@@ -8,7 +8,8 @@ use Rattle.place_plan.specs.declared.drafts.draft_rows.Program.{Program}
 use Rattle.place_plan.specs.declared.drafts.draft_rows.HandlerRow.{HandlerRow}
 use Rattle.place_plan.specs.declared.drafts.draft_rows.RoleRow.{RoleRow}
 use Rattle.place_plan.specs.declared.drafts.draft_rows.NestRow.{NestRow}
-use Rattle.caa_base.specs.Written.Lists.{member, index_of, is_empty, Rises}
+use Rattle.caa_base.specs.Written.Lists.{member, index_of, is_empty}
+use Rattle.caa_base.specs.inner.Lists.{Rises}
 use Rattle.place_plan.specs.Plans.Places.{idle, no_role, no_nest, handler_in}
 use Rattle.place_plan.specs.RulesOfJournals.Roles.{or_idle}
 use Rattle.place_plan.specs.Drafts.DraftRules.{entered_by, filled_by, same_numbers, roles_enter, all_differ}

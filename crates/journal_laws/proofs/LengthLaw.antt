@@ -5,7 +5,7 @@ use Rattle.caa_base.specs.declared.written.entry.Entry.{Entry}
 use Rattle.caa_base.specs.declared.written.entry.Kind.{Kind}
 use Rattle.caa_base.specs.declared.written.entry.Kind.TheVariants as kind
 use Rattle.place_plan.specs.Plans.PlanValue.{Plan}
-use Rattle.caa_base.specs.Written.Lists.{one_if}
+use Rattle.caa_base.specs.inner.Lists.{one_if}
 use Rattle.place_plan.specs.Plans.Places.{objects_of}
 use Rattle.place_plan.specs.RulesOfJournals.Entries.{is_in, is_by, has, has_by}
 use Rattle.place_plan.specs.RulesOfJournals.Whereabouts.{inside, has_started, has_ended, is_undoing}

@@ -4,7 +4,8 @@ use Rattle.cover_table.specs.Cover.{IsSound, SetsHaveLeastCovers}
 use Rattle.place_plan.specs.declared.drafts.draft_rows.Step.{Step}
 use Rattle.place_plan.specs.declared.drafts.draft_rows.Step.TheVariants as step
 use Rattle.place_plan.specs.Plans.PlanValue.{Plan}
-use Rattle.caa_base.specs.Written.Lists.{member, is_empty, Rises}
+use Rattle.caa_base.specs.Written.Lists.{member, is_empty}
+use Rattle.caa_base.specs.inner.Lists.{Rises}
 use Rattle.place_plan.specs.Plans.Places.{around, parent, roles_of, objects_of, uses, alternates_of, nest_number, nest_of, body_of, abort_row, internal_of, interface_of, fault_of, map_signal, initial_of}
 use Rattle.place_plan.specs.RulesOfJournals.Roles.{program_in}
 use Rattle.place_plan.specs.Drafts.DraftRules.{holds_step, step_in_range, verdict_in_range, abort_in_range}

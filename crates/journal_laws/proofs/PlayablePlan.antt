@@ -13,7 +13,8 @@ use Rattle.place_plan.specs.declared.drafts.draft_rows.Program.{Program}
 use Rattle.place_plan.specs.declared.drafts.draft_rows.Step.{Step}
 use Rattle.place_plan.specs.declared.drafts.draft_rows.Step.TheVariants as step
 use Rattle.place_plan.specs.Plans.PlanValue.{Plan}
-use Rattle.caa_base.specs.Written.Lists.{member, index_of, is_empty, first_of, Rises}
+use Rattle.caa_base.specs.Written.Lists.{member, index_of, is_empty, first_of}
+use Rattle.caa_base.specs.inner.Lists.{Rises}
 use Rattle.place_plan.specs.Plans.Places.{place_at, action_at, around, parent, roles_of, role_row, body_of, handler_in, abort_row, objects_of, uses, alternates_of, nest_number, nest_of, nest_in, internal_of, interface_of, fault_of, map_signal, initial_of, no_action, no_role, no_nest, no_place, no_object}
 use Rattle.place_plan.specs.RulesOfJournals.Roles.{program_in, or_idle}
 use Rattle.caa_base.specs.Written.Limits.{IsValue, is_value}

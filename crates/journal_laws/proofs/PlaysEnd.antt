@@ -10,7 +10,8 @@ use Rattle.std.proofs.Math.Bool.{or-false}
 use Rattle.caa_base.specs.declared.written.entry.Entry.{Entry}
 use Rattle.caa_base.specs.declared.written.entry.Kind.TheVariants as kind
 use Rattle.place_plan.specs.Plans.PlanValue.{Plan}
-use Rattle.caa_base.specs.Written.Lists.{member, is_empty, first_of, Rises}
+use Rattle.caa_base.specs.Written.Lists.{member, is_empty, first_of}
+use Rattle.caa_base.specs.inner.Lists.{Rises}
 use Rattle.place_plan.specs.Plans.Places.{around, parent, roles_of}
 use Rattle.place_plan.specs.RulesOfJournals.Entries.{is_of, is_in}
 use Rattle.place_plan.specs.RulesOfJournals.Whereabouts.{has_ended}

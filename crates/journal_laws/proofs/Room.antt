@@ -6,7 +6,8 @@ use Rattle.caa_base.specs.declared.written.entry.Entry.{Entry}
 use Rattle.caa_base.specs.declared.written.entry.Kind.TheVariants as kind
 use Rattle.place_plan.specs.declared.drafts.draft_rows.Step.TheVariants as step
 use Rattle.place_plan.specs.Plans.PlanValue.{Plan}
-use Rattle.caa_base.specs.Written.Lists.{is_empty, first_of, next_after, last_or, last_of, Rises}
+use Rattle.caa_base.specs.Written.Lists.{is_empty, first_of, next_after, last_or, last_of}
+use Rattle.caa_base.specs.inner.Lists.{Rises}
 use Rattle.place_plan.specs.Plans.Places.{parent, alternates_of, nest_number, next_in, next_alternate}
 use Rattle.place_plan.specs.RulesOfJournals.Entries.{has_by, is_in, newest}
 use Rattle.place_plan.specs.RulesOfJournals.Whereabouts.{inside, has_ended, is_undone, is_left_in_silence}

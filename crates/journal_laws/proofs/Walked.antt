@@ -7,7 +7,8 @@ use Rattle.caa_base.specs.declared.written.entry.Kind.{Kind}
 use Rattle.caa_base.specs.declared.written.entry.Kind.TheVariants as kind
 use Rattle.place_plan.specs.declared.drafts.draft_rows.Step.{Step}
 use Rattle.place_plan.specs.Plans.PlanValue.{Plan}
-use Rattle.caa_base.specs.Written.Lists.{is_at, one_if}
+use Rattle.caa_base.specs.Written.Lists.{is_at}
+use Rattle.caa_base.specs.inner.Lists.{one_if}
 use Rattle.place_plan.specs.Plans.Places.{parent, action_at, body_of}
 use Rattle.place_plan.specs.RulesOfJournals.Entries.{is_by}
 use Rattle.place_plan.specs.RulesOfJournals.Whereabouts.{is_left_in_silence}

@@ -1,5 +1,5 @@
 -- What sources, sinks and plants in memory are seen as.
-use Rattle.std.specs.Prelude.{ℕ, Bool, List, [], length, nat_lt, if◌then◌else◌, Option, Some, None, Result, Contains}
+use Rattle.std.specs.Prelude.{ℕ, Bool, List, [], length, nat_lt, if◌then◌else◌, Result, Contains}
 use Rattle.caa_base.specs.Outside.Counts.{counted_up, faults_after}
 use Rattle.caa_base.specs.Outside.PlantState.{PlantState, Drilling}
 
@@ -39,21 +39,6 @@ pub record FailingSink : Type 0 where
   pub room : ℕ
   pub failures : Failures
 
--- the memory of a plant that was laid out: its state, and how many puts there is room for
-pub record Laid : Type 0 where
-  pub state : PlantState
-  pub room : ℕ
-
--- the state of a plant, which is empty before the plant is laid out
-abbrev pub state_of : Option Laid → PlantState
-state_of None = record { values = []; puts = [] }
-state_of (Some laid) = laid.state
-
--- the room for puts of a plant, of which there is none before the plant is laid out
-abbrev pub room_of : Option Laid → ℕ
-room_of None = 0
-room_of (Some laid) = laid.room
-
 -- a plant that never fails: its state, how many calls of `put` came since it was laid out, and how many there is room for
 pub record WillingPlant : Type 0 where
   pub state : PlantState
@@ -63,11 +48,6 @@ pub record WillingPlant : Type 0 where
 -- a plant that wasn't laid out yet
 abbrev pub empty_plant : WillingPlant
 empty_plant = record { state = record { values = []; puts = [] }; calls = 0; room = 0 }
-
--- the drills and tries of a plant, of which there are none before the plant is laid out
-abbrev pub drilling_of : Option Drilling → Drilling
-drilling_of None = record { drills = []; tries = [] }
-drilling_of (Some drilling) = drilling
 
 -- a plant that fails where that was asked for: its state and calls as above, its drills and tries, whether `lay` fails,
 -- and how many calls of `lay` and of `put` failed

@@ -1,5 +1,5 @@
 -- Small words on numbers, options and lists.
-use Rattle.std.specs.Prelude.{ℕ, ◌==◌, ◌≤◌, Bool, true, false, if◌then◌else◌, List, [], ◌∷◌, Option, Some, None, zero, suc}
+use Rattle.std.specs.Prelude.{ℕ, ◌==◌, Bool, true, false, if◌then◌else◌, List, [], ◌∷◌, Option, Some, None, zero, suc}
 use Rattle.std.specs.List.{list_any}
 
 -- the number is in the list
@@ -10,11 +10,6 @@ member n xs = list_any (λ x. x == n) xs
 abbrev pub index_of : ℕ → List ℕ → ℕ
 index_of n [] = zero
 index_of n (x ∷ xs) = if x == n then zero else suc (index_of n xs)
-
--- 1 where the test passes, else 0
-abbrev pub one_if : Bool → ℕ
-one_if true = 1
-one_if false = 0
 
 -- the option is this number
 abbrev pub is_at : Option ℕ → ℕ → Bool
@@ -57,8 +52,3 @@ is_empty (x ∷ xs) = false
 abbrev pub first_not : (ℕ → Bool) → List ℕ → Option ℕ
 first_not test [] = None
 first_not test (x ∷ xs) = if test x then first_not test xs else Some x
-
--- the numbers rise, from low on
-abbrev pub Rises : ℕ → List ℕ → Type 0
-Rises low [] = Unit {0}
-Rises low (x ∷ xs) = (low ≤ x) × Rises (suc x) xs

@@ -13,19 +13,3 @@ pub struct EmptyGate;
 impl Gate for EmptyGate {
     fn work(&self, _by: Participant, _place: Place) {}
 }
-
-#[cfg(test)]
-mod tests {
-    use super::*;
-
-    fn pass<G: Gate>(gate: &G) {
-        gate.work(1, 2);
-    }
-
-    #[test]
-    fn an_empty_gate_can_be_passed(rt: HostRuntime) {
-        let gate = EmptyGate;
-        pass(&gate);
-        assert_eq!(rt; gate, EmptyGate);
-    }
-}

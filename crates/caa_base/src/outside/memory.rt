@@ -17,6 +17,3 @@ pub use mem_source::MemSource;
 pub use sure_plant::SurePlant;
 pub use sure_sink::SureSink;
 pub use sure_source::SureSource;
-
-#[cfg(test)]
-mod tests;

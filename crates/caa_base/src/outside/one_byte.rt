@@ -5,10 +5,10 @@
 ghost use Rattle.std.specs.Prelude.{◌≡◌, ◌<◌, ◌≤◌, ◌-◌, ◌++◌, ◌⊎◌, ◌↔◌, [], min, length, take, Some, IsErr, IfOk, OnErr};
 ghost use Rattle.caa_base.specs.Outside.Memory.{FailsNext, failures_after};
 
-use crate::written::entry::{Failed, OutOfMemory};
 use crate::outside::memory::{MemSink, MemSource};
 use crate::outside::sink::Sink;
 use crate::outside::source::Source;
+use crate::written::entry::{Failed, OutOfMemory};
 use std::alloc::Global;
 use std::marker::Model;
 

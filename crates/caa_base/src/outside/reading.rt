@@ -4,9 +4,9 @@ ghost use Rattle.caa_base.specs.Outside.Counts.{CountsFault};
 ghost use Rattle.caa_base.specs.Outside.Reading.{emptied, is_fault, TookUntil};
 ghost use Rattle.caa_base.specs.Outside.Writing.{WrotePart};
 
-use crate::written::entry::Failed;
 use crate::outside::sink::Sink;
 use crate::outside::source::Source;
+use crate::written::entry::Failed;
 use std::alloc::{AllocError, Global};
 use thiserror::Error;
 
@@ -108,6 +108,3 @@ pub fn write_all<K: Sink>(sink: &mut K, bytes: &[u8]) -> Result<(), Failed>
     }
     Ok(())
 }
-
-#[cfg(test)]
-mod tests;

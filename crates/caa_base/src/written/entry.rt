@@ -1,3 +1,6 @@
+ghost use Rattle.std.specs.Prelude.{◌≡◌};
+ghost use Rattle.caa_base.specs.Written.Marks.{outcome_mark, outcome_of_mark, verdict_mark, verdict_of_mark};
+
 use std::alloc::{AllocError, AllocFailed};
 use thiserror::Error;
 
@@ -81,6 +84,30 @@ pub enum Verdict {
     Undo,
 }
 
+impl Verdict {
+    /// The mark of an entry that says this verdict, and the exception beside it, which is 0 where none is signalled.
+    pub fn mark(self) -> (u32, Exception)
+        ensures { result ≡ verdict_mark self }
+    {
+        match self {
+            Verdict::Done => (0, 0),
+            Verdict::Signal(exception) => (1, exception),
+            Verdict::Undo => (2, 0),
+        }
+    }
+
+    /// The verdict of a mark, with the exception beside it. A mark that no verdict has is read as undo.
+    pub fn of_mark(mark: u32, exception: Exception) -> Verdict
+        ensures { result ≡ verdict_of_mark mark exception }
+    {
+        match mark {
+            0 => Verdict::Done,
+            1 => Verdict::Signal(exception),
+            _ => Verdict::Undo,
+        }
+    }
+}
+
 /// A comparison of a register with a number.
 #[derive(Clone, Copy, Debug, PartialEq, Eq)]
 pub enum Test {
@@ -102,6 +129,34 @@ pub enum Outcome {
     Aborted,
     /// It was to be undone, and the device refused a restore.
     Failed,
+}
+
+impl Outcome {
+    /// The mark of an End that says this outcome, and the exception beside it, which is 0 where none is signalled.
+    pub fn mark(self) -> (u32, Exception)
+        ensures { result ≡ outcome_mark self }
+    {
+        match self {
+            Outcome::Commit => (0, 0),
+            Outcome::Signal(exception) => (1, exception),
+            Outcome::Undone => (2, 0),
+            Outcome::Aborted => (3, 0),
+            Outcome::Failed => (4, 0),
+        }
+    }
+
+    /// The outcome of a mark, with the exception beside it. A mark that no outcome has is read as failed.
+    pub fn of_mark(mark: u32, exception: Exception) -> Outcome
+        ensures { result ≡ outcome_of_mark mark exception }
+    {
+        match mark {
+            0 => Outcome::Commit,
+            1 => Outcome::Signal(exception),
+            2 => Outcome::Undone,
+            3 => Outcome::Aborted,
+            _ => Outcome::Failed,
+        }
+    }
 }
 
 /// The device refuses the put of this object that is the `nth` one, counted from 1.

@@ -88,19 +88,3 @@ pub fn is_name(word: &[u8]) -> bool
 {
     begins_with_letter(word) && word.len() <= MOST_NAME_BYTES && are_name_bytes(word)
 }
-
-#[cfg(test)]
-mod tests {
-    use super::*;
-    use std::test::Fail;
-
-    #[test]
-    fn gives_its_bytes_back(rt: HostRuntime) -> Result<(), Fail> {
-        let name = Name::from_bytes(rt.alloc(), b"pump")?;
-        assert_eq!(rt; name.bytes(), b"pump".as_slice());
-        let names = [name];
-        assert_eq!(rt; name_at(&names, 0), b"pump".as_slice());
-        assert_eq!(rt; name_at(&names, 1), b"".as_slice());
-        Ok(())
-    }
-}

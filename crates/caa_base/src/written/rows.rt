@@ -1,6 +1,9 @@
 ghost use Rattle.std.specs.Prelude.{◌≡◌, ◌↔◌, [], length, IsTrue};
+ghost use Rattle.std.specs.Slice.Iter.{iter_rest};
+ghost use Rattle.std.specs.Iterator.Adapters.{IterYieldsInOrder};
 
 use std::marker::Model;
+use std::slice;
 
 /// A table whose rows don't change, seen as the list of its rows.
 ///
@@ -40,6 +43,14 @@ impl<T> Rows<T> {
         self.items.as_slice()
     }
 
+    /// The rows one by one, in order.
+    pub fn iter(&self) -> slice::Iter<'_, T>
+        ensures rest { iter_rest result ≡ self.now }
+        ensures runs { IterYieldsInOrder T }
+    {
+        self.items.iter()
+    }
+
     /// How many rows there are.
     pub fn len(&self) -> usize
         ensures { result ≡ length self.now }
@@ -52,21 +63,5 @@ impl<T> Rows<T> {
         ensures { IsTrue result ↔ (self.now ≡ []) }
     {
         self.items.is_empty()
-    }
-}
-
-#[cfg(test)]
-mod tests {
-    use super::*;
-    use std::test::Fail;
-
-    #[test]
-    fn gives_its_rows_back(rt: HostRuntime) -> Result<(), Fail> {
-        let rows = Rows::from_vec(vec![in rt.alloc(); 4u32, 5]?);
-        assert!(rt; !rows.is_empty());
-        assert_eq!(rt; rows.len(), 2);
-        assert_eq!(rt; rows.as_slice(), [4, 5].as_slice());
-        assert_eq!(rt; rows.into_vec().as_slice(), [4, 5].as_slice());
-        Ok(())
     }
 }

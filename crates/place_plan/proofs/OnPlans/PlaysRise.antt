@@ -1,7 +1,8 @@
 -- The plays of a participant.
 use Rattle.std.proofs.Common.{◌≡◌, ℕ, Bool, true, false, cond, List, [], ◌∷◌, refl, subst, arith, suc, inl, inr}
 use Rattle.std.proofs.lemmas.Bool.{or_cases, or_left, or_right, eqb-true, eq-eqb, false≢true}
-use Rattle.caa_base.specs.Written.Lists.{member, Rises}
+use Rattle.caa_base.specs.Written.Lists.{member}
+use Rattle.caa_base.specs.inner.Lists.{Rises}
 use Rattle.caa_base.proofs.ListLemmas.{Rises-weaker}
 use Rattle.place_plan.specs.Plans.PlanValue.{Plan}
 use Rattle.place_plan.specs.Plans.Places.{roles_of, plays_with}

@@ -5,7 +5,8 @@ use Rattle.place_plan.specs.declared.drafts.draft_rows.PlaceRow.{PlaceRow}
 use Rattle.place_plan.specs.declared.drafts.draft_rows.ActionRow.{ActionRow}
 use Rattle.place_plan.specs.declared.drafts.draft_rows.NestRow.{NestRow}
 use Rattle.place_plan.specs.Plans.PlanValue.{Plan}
-use Rattle.caa_base.specs.Written.Lists.{member, Rises}
+use Rattle.caa_base.specs.Written.Lists.{member}
+use Rattle.caa_base.specs.inner.Lists.{Rises}
 use Rattle.place_plan.specs.Plans.Places.{place_at, action_at, action_in, around, roles_of, nest_number, alternates_of, no_action, no_place, no_nest}
 use Rattle.place_plan.specs.Plans.Unfolding.{Unfolding, cast_of, alternates_from, numbers_from, use_from, uses_from, children_from, unfold_at}
 use Rattle.place_plan.specs.Drafts.DraftRules.{deepest_of, deepest, depth_within}

@@ -7,7 +7,8 @@ use Rattle.place_plan.specs.declared.drafts.draft_rows.PlaceRow.{PlaceRow}
 use Rattle.place_plan.specs.declared.drafts.draft_rows.PlayRow.{PlayRow}
 use Rattle.place_plan.specs.declared.drafts.draft_rows.ActionRow.{ActionRow}
 use Rattle.place_plan.specs.Plans.PlanValue.{Plan}
-use Rattle.caa_base.specs.Written.Lists.{member, Rises}
+use Rattle.caa_base.specs.Written.Lists.{member}
+use Rattle.caa_base.specs.inner.Lists.{Rises}
 use Rattle.place_plan.specs.Plans.Places.{place_at, around, nest_number, alternates_of, no_action, no_place}
 use Rattle.place_plan.specs.Plans.Unfolding.{Unfolding, unfold_at, plays_from, tops_from, plan_of}
 use Rattle.caa_base.specs.Written.Limits.{most_depth}

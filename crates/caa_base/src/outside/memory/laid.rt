@@ -13,7 +13,7 @@ pub struct Laid {
 
 impl Model for Laid {
     ghost use Rattle.std.specs.Prelude.{vec_capacity};
-    ghost use Rattle.caa_base.specs.Outside.Memory.{Laid as LaidValue};
+    ghost use Rattle.caa_base.specs.inner.PlantMemory.{Laid as LaidValue};
 
     ghost Value = { LaidValue };
 

@@ -4,10 +4,10 @@ ghost use Rattle.caa_base.specs.Outside.Counts.{counted_up, faults_after};
 ghost use Rattle.caa_base.specs.Outside.Memory.{empty_plant};
 
 use crate::outside::count::counted_up;
-use crate::written::entry::{Drill, Failed, Object};
 use crate::outside::memory::drills::Drills;
 use crate::outside::memory::sure_plant::SurePlant;
 use crate::outside::plant::{Plant, PlantError};
+use crate::written::entry::{Drill, Failed, Object};
 use std::alloc::Global;
 use std::marker::Model;
 
@@ -23,7 +23,8 @@ pub struct MemPlant {
 
 impl Model for MemPlant {
     ghost use Rattle.std.specs.Prelude.{◌≡◌, ◌≤◌, ℕ, length, slice_index};
-    ghost use Rattle.caa_base.specs.Outside.Memory.{FailingPlant, drilling_of};
+    ghost use Rattle.caa_base.specs.Outside.Memory.{FailingPlant};
+    ghost use Rattle.caa_base.specs.inner.PlantMemory.{drilling_of};
 
     ghost Value = { FailingPlant };
 

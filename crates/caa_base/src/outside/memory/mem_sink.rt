@@ -1,10 +1,10 @@
 ghost use Rattle.std.specs.Prelude.{◌≡◌, ◌<◌, ◌≤◌, ◌-◌, ◌++◌, ◌⊎◌, ◌↔◌, [], min, length, take, Some, IsErr, IfOk, OnErr};
 ghost use Rattle.caa_base.specs.Outside.Memory.{FailsNext, failures_after};
 
-use crate::written::entry::{Failed, OutOfMemory};
 use crate::outside::memory::failures::Failures;
 use crate::outside::memory::sure_sink::SureSink;
 use crate::outside::sink::Sink;
+use crate::written::entry::{Failed, OutOfMemory};
 use std::alloc::Global;
 use std::marker::Model;
 

@@ -1,10 +1,10 @@
 ghost use Rattle.std.specs.Prelude.{◌≡◌, ◌<◌, ◌↔◌, ◌++◌, [], min, length, take, Some, IsErr, IfOk, OnErr};
 ghost use Rattle.caa_base.specs.Outside.Memory.{FailsNext, failures_after};
 
-use crate::written::entry::{Failed, OutOfMemory};
 use crate::outside::memory::failures::Failures;
 use crate::outside::memory::sure_source::SureSource;
 use crate::outside::source::Source;
+use crate::written::entry::{Failed, OutOfMemory};
 use std::alloc::Global;
 use std::marker::Model;
 

@@ -2,9 +2,9 @@ ghost use Rattle.std.specs.Prelude.{◌≡◌, ◌<◌, ◌+◌, ◌^◌, [], le
 ghost use Rattle.caa_base.specs.Outside.Memory.{empty_plant};
 ghost use Rattle.caa_base.specs.Outside.PlantState.{after_put};
 
-use crate::written::entry::{Drill, Failed, Object, OutOfMemory};
 use crate::outside::memory::laid::Laid;
 use crate::outside::plant::{Plant, PlantError};
+use crate::written::entry::{Drill, Failed, Object, OutOfMemory};
 use std::alloc::Global;
 use std::marker::Model;
 
@@ -18,7 +18,8 @@ pub struct SurePlant {
 
 impl Model for SurePlant {
     ghost use Rattle.std.specs.Prelude.{◌≤◌, length};
-    ghost use Rattle.caa_base.specs.Outside.Memory.{WillingPlant, state_of, room_of};
+    ghost use Rattle.caa_base.specs.Outside.Memory.{WillingPlant};
+    ghost use Rattle.caa_base.specs.inner.PlantMemory.{state_of, room_of};
 
     ghost Value = { WillingPlant };
 

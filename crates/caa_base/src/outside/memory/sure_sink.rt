@@ -3,8 +3,8 @@ ghost use Rattle.caa_base.specs.Outside.Counts.{faults_after};
 ghost use Rattle.caa_base.specs.Outside.Memory.{refused_by};
 
 use crate::outside::count::counted_up;
-use crate::written::entry::{Failed, OutOfMemory};
 use crate::outside::sink::Sink;
+use crate::written::entry::{Failed, OutOfMemory};
 use std::alloc::Global;
 use std::marker::Model;
 

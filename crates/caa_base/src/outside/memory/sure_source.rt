@@ -1,7 +1,7 @@
 ghost use Rattle.std.specs.Prelude.{◌≡◌, ◌<◌, ◌++◌, min, length, take, drop, Some, IfOk};
 
-use crate::written::entry::{Failed, OutOfMemory};
 use crate::outside::source::Source;
+use crate::written::entry::{Failed, OutOfMemory};
 use std::alloc::Global;
 use std::marker::Model;
 

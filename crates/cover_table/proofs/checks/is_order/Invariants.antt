@@ -1,5 +1,5 @@
 use Rattle.std.proofs.Common.{◌<◌, ℕ}
-use Rattle.cover_table.specs.Checks.{IsRightAt}
+use Rattle.cover_table.specs.inner.Checks.{IsRightAt}
 use Rattle.cover_table.specs.Cover.{order_of_rows}
 use Rattle.cover_table.proofs.checks.is_order.Given as goal
 

@@ -1,5 +1,5 @@
 use Rattle.std.proofs.Common.{◌≡◌, ◌<◌, ℕ, true}
-use Rattle.cover_table.specs.Checks.{IsRightPair}
+use Rattle.cover_table.specs.inner.Checks.{IsRightPair}
 use Rattle.cover_table.specs.Cover.{covers, order_of_rows}
 use Rattle.cover_table.proofs.checks.is_right_at.Given as goal
 

@@ -5,7 +5,9 @@ use Rattle.cover_table.proofs.joins.joins_below.Given as goal
 abbrev pub invariant-loop-b : goal.invariant-loop-b
 invariant-loop-b g l = record {
   len : length l.joins ≡ g.row.N;
-  told : (d : ℕ) → d < g.row.N → d < most_exceptions → slice_index l.joins d ≡ (if has_bit l.row d && not (has_bit l.rest d) then l.a else slice_index l.joins_above d);
+  told : (d : ℕ) → d < g.row.N → d < most_exceptions
+      → slice_index l.joins d ≡ (if has_bit l.row d
+      && not (has_bit l.rest d) then l.a else slice_index l.joins_above d);
   left : (d : ℕ) → d < most_exceptions → has_bit l.rest d ≡ true → has_bit l.row d ≡ true;
 }
 

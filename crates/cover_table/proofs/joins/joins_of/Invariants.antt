@@ -1,5 +1,5 @@
 use Rattle.std.proofs.Common.{◌≡◌, ◌<◌, ℕ, length, slice_index}
-use Rattle.cover_table.specs.Common.{IsJoin}
+use Rattle.cover_table.specs.inner.Uppers.{IsJoin}
 use Rattle.cover_table.proofs.joins.joins_of.Given as goal
 
 abbrev pub invariant-loop-b : goal.invariant-loop-b

@@ -12,8 +12,10 @@ returns c = λ b.
     let bit = c.args.bit in
     elim (cases_eq b bit) [
       | inl same ↦
-          let here : has_bit (bit_or row (1 * 2 ^ bit % 2 ^ most_exceptions)) bit ≡ true = had_from_one _ bit (bit_at_set_same w128 row bit (omega arith)) in
-          let set : has_bit (bit_or row (1 * 2 ^ bit % 2 ^ most_exceptions)) b ≡ true = subst (λ (k : ℕ). has_bit (bit_or row (1 * 2 ^ bit % 2 ^ most_exceptions)) k ≡ true) (sym same) here in
+          let here : has_bit (bit_or row (1 * 2 ^ bit % 2 ^ most_exceptions)) bit ≡ true =
+          had_from_one _ bit (bit_at_set_same w128 row bit (omega arith)) in
+          let set : has_bit (bit_or row (1 * 2 ^ bit % 2 ^ most_exceptions)) b ≡ true =
+          subst (λ (k : ℕ). has_bit (bit_or row (1 * 2 ^ bit % 2 ^ most_exceptions)) k ≡ true) (sym same) here in
           set ∙ sym (or_left _ _ (eq-eqb b bit same))
       | inr apart ↦ rw (ne_eqb b bit apart) (ap (λ k. nat_eq k 1) (bit_at_set_other w128 row bit (omega arith) b apart))
     ]

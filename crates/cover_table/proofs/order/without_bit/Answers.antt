@@ -17,7 +17,9 @@ returns-clause-bits c = λ b b_in.
     let bit = c.args.bit in
     elim (cases_eq b bit) [
       | inl same ↦ rw same (gone row bit c.requires ∙ sym (and_right _ _ (ap not (eq-eqb bit bit refl))))
-      | inr apart ↦ rw (ne_eqb b bit apart) (ap (λ k. nat_eq k 1) (bit_at_clear_other w128 row bit c.requires b b_in apart) ∙ sym (and-true (has_bit row b)))
+      | inr apart ↦
+          rw (ne_eqb b bit apart) (ap (λ k. nat_eq k 1) (bit_at_clear_other w128 row bit c.requires b b_in apart)
+          ∙ sym (and-true (has_bit row b)))
     ]
 
 pub returns-clause-less : goal.returns-clause-less

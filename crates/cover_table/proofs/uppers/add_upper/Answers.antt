@@ -14,13 +14,21 @@ loop-b-preserved c =
     let b = c.in-Some.b in
     let found = c.in-Some.ensures.found in
     let in_row = before.left b found.0 found.1 in
-    let rest_other : (d : ℕ) → d < most_exceptions → d ≢ b → has_bit c.without_bit-rest.result d ≡ has_bit c.loop-b.rest d = λ d d_in apart. rw (ne_eqb d b apart) at (c.without_bit-rest.ensures.bits d d_in) ∙ and-true (has_bit c.loop-b.rest d) in
-    let told_other : (d k : ℕ) → d < length c.args.uppers.now → d ≢ b → tells c.if-b-uppers.uppers d k ≡ tells c.loop-b.uppers d k = λ d k d_in apart. elim c.if-b-uppers.branch [
+    let rest_other : (d : ℕ) → d < most_exceptions → d ≢ b
+    → has_bit c.without_bit-rest.result d ≡ has_bit c.loop-b.rest d =
+    λ d d_in apart. rw (ne_eqb d b apart) at (c.without_bit-rest.ensures.bits d d_in)
+    ∙ and-true (has_bit c.loop-b.rest d) in
+    let told_other : (d k : ℕ) → d < length c.args.uppers.now → d ≢ b
+    → tells c.if-b-uppers.uppers d k ≡ tells c.loop-b.uppers d k = λ d k d_in apart. elim c.if-b-uppers.branch [
       | then-b-uppers w ↦ rw w.uppers-is (ap (λ row. has_bit row k) (get_or-set_other c.loop-b.uppers b d w.with_bit.result 0 apart))
       | else-b-uppers w ↦ rw w.uppers-is refl
     ] in
-    let told_here : (k : ℕ) → b < length c.args.uppers.now → tells c.if-b-uppers.uppers b k ≡ (k == c.args.a || tells c.loop-b.uppers b k) = λ k b_in. elim c.if-b-uppers.branch [
-      | then-b-uppers w ↦ rw w.uppers-is (ap (λ row. has_bit row k) (get_or-set_same c.loop-b.uppers b w.with_bit.result 0 (omega arith)) ∙ w.with_bit.ensures k)
+    let told_here : (k : ℕ) → b < length c.args.uppers.now
+    → tells c.if-b-uppers.uppers b k ≡ (k == c.args.a || tells c.loop-b.uppers b k) =
+    λ k b_in. elim c.if-b-uppers.branch [
+      | then-b-uppers w ↦
+          rw w.uppers-is (ap (λ row. has_bit row k)
+          (get_or-set_same c.loop-b.uppers b w.with_bit.result 0 (omega arith)) ∙ w.with_bit.ensures k)
       | else-b-uppers w ↦ absurd (omega arith)
     ] in
     record {

@@ -10,8 +10,12 @@ loop-a-preserved g c =
     record {
       len = c.add_upper.ensures.as_many ∙ before.len;
       done = λ d b d_in b_in. elim (cases_eq d c.loop-a.a) [
-        | inl same ↦ rw same (added_same _ _ c.loop-a.a row c.add_upper.ensures b (omega arith) (before.left c.loop-a.a b (omega arith) b_in))
+        | inl same ↦
+            rw same (added_same _ _ c.loop-a.a row c.add_upper.ensures b (omega arith)
+            (before.left c.loop-a.a b (omega arith) b_in))
         | inr apart ↦ added_other _ _ c.loop-a.a row c.add_upper.ensures b d (omega arith) apart ∙ before.done d b (omega arith) b_in
       ];
-      left = λ d b d_in b_in. added_other _ _ c.loop-a.a row c.add_upper.ensures b d (omega arith) (λ same. omega arith) ∙ before.left d b (omega arith) b_in;
+      left =
+          λ d b d_in b_in. added_other _ _ c.loop-a.a row c.add_upper.ensures b d (omega arith) (λ same. omega arith)
+          ∙ before.left d b (omega arith) b_in;
     }

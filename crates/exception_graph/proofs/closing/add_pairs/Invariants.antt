@@ -1,4 +1,4 @@
-use Rattle.exception_graph.specs.Closing.{AddsPairs}
+use Rattle.exception_graph.specs.inner.Closing.{AddsPairs}
 use Rattle.exception_graph.proofs.closing.add_pairs.Given as goal
 
 abbrev pub invariant-loop-upper : goal.invariant-loop-upper

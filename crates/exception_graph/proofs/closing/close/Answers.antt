@@ -13,5 +13,7 @@ loop-over-preserved c =
       as_many = omega arith;
       more = λ a b a_in told. told_in_one old new _ step a b (omega arith) (before.more a b a_in told);
       closed = closed_more old new _ step in_old before.closed;
-      chains = λ pairs chains. chains_more old new _ step (length c.args.rows.now) pairs (omega arith) (omega arith) (before.chains pairs chains);
+      chains =
+          λ pairs chains. chains_more old new _ step (length c.args.rows.now) pairs (omega arith) (omega arith)
+          (before.chains pairs chains);
     }

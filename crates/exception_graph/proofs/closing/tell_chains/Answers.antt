@@ -1,5 +1,5 @@
 use Rattle.std.proofs.Common.{◌≡◌, ℕ, List, length, sym, ◌∙◌, subst}
-use Rattle.exception_graph.specs.Closing.{TellChains}
+use Rattle.exception_graph.specs.inner.Closing.{TellChains}
 use Rattle.exception_graph.proofs.Chained.{added_declared, added_chains, declared_more, order_told}
 use Rattle.exception_graph.proofs.closing.tell_chains.Goals as goal
 
@@ -13,7 +13,14 @@ returns-clause-chains c =
     let many_bare : length bare ≡ count = c.make_bare.ensures.as_many in
     let many_added : length added ≡ count = c.add_pairs.ensures.as_many ∙ many_bare in
     let many_closed : length closed ≡ count = c.close.ensures.as_many ∙ many_added in
-    let declares = declared_more count pairs c.requires.in_range added closed many_added (added_declared count pairs c.requires.in_range bare added many_bare c.make_bare.ensures.bare c.add_pairs.ensures) c.close.ensures.more in
-    let before : TellChains count pairs added = added_chains count pairs c.requires.in_range bare added many_bare c.make_bare.ensures.bare c.add_pairs.ensures in
-    let chains : TellChains count pairs closed = subst (λ (n : ℕ). TellChains n pairs closed) many_added (c.close.ensures.chains pairs (subst (λ (n : ℕ). TellChains n pairs added) (sym many_added) before)) in
+    let declares =
+    declared_more count pairs c.requires.in_range added closed many_added
+    (added_declared count pairs c.requires.in_range bare added many_bare c.make_bare.ensures.bare
+    c.add_pairs.ensures) c.close.ensures.more in
+    let before : TellChains count pairs added =
+    added_chains count pairs c.requires.in_range bare added many_bare c.make_bare.ensures.bare
+    c.add_pairs.ensures in
+    let chains : TellChains count pairs closed =
+    subst (λ (n : ℕ). TellChains n pairs closed) many_added
+    (c.close.ensures.chains pairs (subst (λ (n : ℕ). TellChains n pairs added) (sym many_added) before)) in
     order_told count pairs c.requires.in_range closed many_closed declares c.close.ensures.closed chains

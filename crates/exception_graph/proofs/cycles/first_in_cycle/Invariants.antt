@@ -1,6 +1,6 @@
 use Rattle.std.proofs.Common.{◌<◌, ℕ}
 use Rattle.cover_table.specs.Cover.{order_of_rows}
-use Rattle.exception_graph.specs.Cycles.{IsMutual}
+use Rattle.exception_graph.specs.inner.Cycles.{IsMutual}
 use Rattle.exception_graph.proofs.cycles.first_in_cycle.Given as goal
 
 abbrev pub invariant-loop-a : goal.invariant-loop-a

@@ -5,7 +5,9 @@ use Rattle.exception_graph.proofs.cycles.is_mutual.Goals as goal
 
 pub loop-b-preserved : goal.loop-b-preserved
 loop-b-preserved c =
-    below_more _ _ c.loop-b.invariant (λ later down up. c.if-rows-b.false (same_row c.args.rows.now c.args.a c.loop-b.b c.requires.closed c.requires.a_in c.loop-b-test.true down up))
+    below_more _ _ c.loop-b.invariant
+    (λ later down up. c.if-rows-b.false
+    (same_row c.args.rows.now c.args.a c.loop-b.b c.requires.closed c.requires.a_in c.loop-b-test.true down up))
 
 pub returns : goal.returns
 returns c = (

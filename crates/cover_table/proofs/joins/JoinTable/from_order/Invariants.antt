@@ -5,5 +5,6 @@ use Rattle.cover_table.proofs.joins.JoinTable.from_order.Given as goal
 abbrev pub invariant-loop-a : goal.invariant-loop-a
 invariant-loop-a g l = record {
   len : length l.joins ≡ g.row.N;
-  found : (c d : ℕ) → c < l.a → d < l.order.count → IsLeastCover (order_of l.order.count l.order.rows) (c ∷ d ∷ []) (slice_index (slice_index_or l.joins c []) d);
+  found : (c d : ℕ) → c < l.a → d < l.order.count
+      → IsLeastCover (order_of l.order.count l.order.rows) (c ∷ d ∷ []) (slice_index (slice_index_or l.joins c []) d);
 }

@@ -1,0 +1,275 @@
+-- What can be served is served, what is to be found is told, and what is to be refused is refused; or memory was wanting.
+use Rattle.std.proofs.Common.{◌≡◌, ℕ, ◌+◌, ◌<◌, ◌≤◌, true, false, List, [], ◌++◌, length, length-append, Option, Some, None, IfSome, Ok, Err, inl, inr, ◌⊎◌, refl, sym, ap, ◌∙◌, subst, subst₂, arith}
+use Rattle.std.specs.Io.KnownBytes.{append_known}
+use Rattle.caa_base.specs.Outside.Counts.{Rose}
+use Rattle.caa_base.specs.Written.Limits.{most_script_bytes}
+use Rattle.caa_base.specs.Outside.Reading.{TookOff, TookUntil}
+use Rattle.caa_base.specs.declared.written.entry.Entry.{Entry}
+use Rattle.caa_base.specs.declared.outside.reading.ReadError.{ReadError}
+use Rattle.caa_base.specs.declared.outside.reading.ReadError.TheVariants as error
+use Rattle.action_script.specs.Forms.ScriptValue.{Script}
+use Rattle.script_checker.specs.Compiled.{IsFirstRefused}
+use Rattle.journal_text.specs.declared.looks.seens.Seen.{Seen}
+use Rattle.place_plan.specs.Plans.PlanValue.{Plan}
+use Rattle.caa_commands.specs.declared.command.Command.{Command}
+use Rattle.caa_commands.specs.declared.command.Command.TheVariants as command
+use Rattle.caa_commands.specs.declared.fault.Refusal.{Refusal}
+use Rattle.caa_commands.specs.declared.finding.Finding.{Finding}
+use Rattle.caa_commands.specs.declared.finding.Finding.TheVariants as finding
+use Rattle.caa_commands.specs.declared.status.Status.{Status}
+use Rattle.caa_commands.specs.declared.status.Status.TheVariants as status
+use Rattle.caa_commands.specs.Findings.{status_of, finding_text}
+use Rattle.caa_commands.specs.Inputs.{most_bytes, script_in}
+use Rattle.caa_commands.specs.Scripts.{HasPlan, IsRefusedScript}
+use Rattle.caa_commands.specs.OutsideUse.{SinkUse, Left, Call}
+use Rattle.caa_commands.specs.Calls.{CheckComesTo, EndsAs, DoesNotBegin, AuditComesTo, PlanComesTo, InputComesTo, IsNotServed, IsUnread, IsRead, HasStopped, unread_finding, CameTo, with_journal, Tells, Answers}
+use Rattle.caa_commands.specs.Served.{IsGiven, WasTold, IsServable, WasServed, IsToFind, legal_journal, illegal_line, too_many_entries, IsAuditable, HoldsRefused, IsRefusable, WasRefused, MissesNothing}
+use Rattle.caa_base.proofs.Counting.{counted_up-rose}
+use Rattle.caa_commands.proofs.NotRefused.{plan_not_refused}
+use Rattle.caa_commands.proofs.PlansOfScripts.{plan_short, plan_tells}
+use Rattle.caa_commands.proofs.FoundAlone.{found_alone}
+
+-- ---- what was read
+
+not_too_long : (bytes : List ℕ) (left : Option (List ℕ)) (most : ℕ) → length bytes ≤ most → TookOff (Some bytes) left (most + 1) → ⊥
+not_too_long bytes None most l t = let front : Some bytes ≡ None = t.front in absurd cc
+not_too_long bytes (Some rest) most l t =
+    let front : Some bytes ≡ Some (t.bytes ++ rest) = t.front in
+    let same : bytes ≡ t.bytes ++ rest = cc in
+    absurd (omega (arith, t.number, ap length same, length-append t.bytes rest))
+
+module _ {P : Type 0} (call : Call P) (sink : SinkUse) (c : Command) (bytes : List ℕ) (given : IsGiven call sink c bytes) where
+  one_command : (d : Command) → call.asked ≡ Some d → d ≡ c
+  one_command d asked = let both : Some d ≡ Some c = sym asked ∙ given.asked in cc
+
+  -- an input that isn't too long was read, or memory was wanting
+  stopped : (most : ℕ) (e : ReadError) → length bytes ≤ most → TookUntil call.source.left_before call.source.left_after most e → HasStopped call.source e → unread_finding e ≡ finding.OutOfMemory
+  stopped most error.Fault short taken cause = absurd (given.read (counted_up-rose _ _ cause))
+  stopped most error.TooLong short taken cause =
+      absurd (not_too_long bytes call.source.left_after most short (subst (λ (o : Option (List ℕ)). TookOff o call.source.left_after (most + 1)) given.told taken))
+  stopped most error.OutOfMemory short taken cause = refl
+
+  unread : (found : Finding) → length bytes ≤ most_bytes c → IsUnread call found → found ≡ finding.OutOfMemory
+  unread found short u =
+      let most : length bytes ≤ most_bytes u.command = subst (λ d. length bytes ≤ most_bytes d) (sym (one_command u.command u.given)) short in
+      u.finding ∙ stopped (most_bytes u.command) u.error most u.taken u.cause
+
+  -- what was read is what the source told
+  own_bytes : (found : Finding) (r : IsRead call found) → r.bytes ≡ bytes
+  own_bytes found r = subst (λ o. IfSome o (λ rest. r.bytes ≡ rest)) given.told r.read.all
+
+  was_read : (found : Finding) → IsRead call found → InputComesTo c bytes found call.left
+  was_read found r = subst₂ (λ d b. InputComesTo d b found call.left) (one_command r.command r.given) (own_bytes found r) r.comes
+
+  input_comes : (found : Finding) → length bytes ≤ most_bytes c → CameTo call found → (InputComesTo c bytes found call.left) ⊎ (found ≡ finding.OutOfMemory)
+  input_comes found short (inl usage) = let none : Some c ≡ None = sym given.asked ∙ usage.cause in absurd cc
+  input_comes found short (inr (inl u)) = inr (unread found short u)
+  input_comes found short (inr (inr r)) = inl (was_read found r)
+
+  -- the same, where the call hands back another journal
+  given_with : (journal : List Entry) → IsGiven (with_journal call journal) sink c bytes
+  given_with journal = record { asked = given.asked; told = given.told; read = given.read; written = given.written }
+
+-- ---- what was told
+
+-- where this was found, or want of memory, it was told
+was_told : (found other : Finding) (journal handed : List Entry) (sink : SinkUse) (answer : Status) → (Rose sink.faults_before sink.faults_after → ⊥)
+    → (other ≡ found) ⊎ (other ≡ finding.OutOfMemory) → Tells other journal handed sink answer → WasTold found sink answer
+was_told found other journal handed sink answer quiet (inl same) (inl whole) = inl (whole.answered ∙ ap status_of same, whole.written ∙ ap (λ f. append_known sink.held_before (finding_text f)) same)
+was_told found other journal handed sink answer quiet (inr lost) (inl whole) = inr (whole.answered ∙ ap status_of lost)
+was_told found other journal handed sink answer quiet one (inr (inl cut)) = absurd (quiet (counted_up-rose _ _ cut.cause))
+was_told found other journal handed sink answer quiet one (inr (inr lost)) = inr lost.answered
+
+-- ---- a script that has a plan
+
+-- it isn't refused
+not_refused : (bytes : List ℕ) (plan : Plan) (refusal : Refusal) → HasPlan bytes plan → IsRefusedScript bytes refusal → ⊥
+not_refused bytes plan refusal h (inl m) = let both : Ok h.script ≡ Err m.error = sym h.spelled ∙ m.first in absurd cc
+not_refused bytes plan refusal h (inr u) =
+    let both : Ok h.script ≡ Ok u.script = sym h.spelled ∙ u.spelled in
+    let same : u.script ≡ h.script = cc in
+    plan_not_refused h.script plan u.error h.compiled (subst (λ (s : Script). IsFirstRefused s u.error) same u.first)
+
+-- a command other than `audit` reads a script
+most_of_script : (c : Command) → (c ≡ command.Audit → ⊥) → most_bytes c ≡ most_script_bytes
+most_of_script command.Check h = refl
+most_of_script (command.Sim seed) h = refl
+most_of_script command.Run h = refl
+most_of_script command.Audit h = absurd (h refl)
+
+script_of_script : (c : Command) (bytes : List ℕ) → (c ≡ command.Audit → ⊥) → script_in c bytes ≡ bytes
+script_of_script command.Check bytes h = refl
+script_of_script (command.Sim seed) bytes h = refl
+script_of_script command.Run bytes h = refl
+script_of_script command.Audit bytes h = absurd (h refl)
+
+-- a play that ended is served, or its text found no memory
+ended_served : (plan : Plan) (journal : List Entry) (seens : List Seen) (found : Finding) → EndsAs plan journal seens found → WasServed (status_of found)
+ended_served plan journal seens (finding.Played true text) h = inr (inl refl)
+ended_served plan journal seens (finding.Played false text) h = inl refl
+ended_served plan journal seens finding.OutOfMemory h = inr (inr refl)
+ended_served plan journal seens finding.Usage h = elim h [ ]
+ended_served plan journal seens finding.SourceFault h = elim h [ ]
+ended_served plan journal seens (finding.Refused refusal) h = elim h [ ]
+ended_served plan journal seens (finding.Checked counts) h = elim h [ ]
+ended_served plan journal seens finding.PlantFault h = elim h [ ]
+ended_served plan journal seens (finding.Legal entries) h = elim h [ ]
+ended_served plan journal seens (finding.Illegal line) h = elim h [ ]
+
+-- where the device could be laid out, a play that didn't begin found no memory
+begun_served : {P : Type 0} (found : Finding) (left : Left P) → (Rose left.plant.lay_faults_before left.plant.lay_faults_after → ⊥) → DoesNotBegin found left → WasServed (status_of found)
+begun_served finding.PlantFault left laid h = absurd (laid (counted_up-rose _ _ h.0))
+begun_served finding.OutOfMemory left laid h = inr (inr refl)
+begun_served finding.Usage left laid h = elim h [ ]
+begun_served finding.SourceFault left laid h = elim h [ ]
+begun_served (finding.Refused refusal) left laid h = elim h [ ]
+begun_served (finding.Checked counts) left laid h = elim h [ ]
+begun_served (finding.Played failed text) left laid h = elim h [ ]
+begun_served (finding.Legal entries) left laid h = elim h [ ]
+begun_served (finding.Illegal line) left laid h = elim h [ ]
+
+checked_served : {P : Type 0} (plan : Plan) (found : Finding) (left : Left P) → CheckComesTo plan found left → WasServed (status_of found)
+checked_served plan (finding.Checked counts) left h = inl refl
+checked_served plan finding.Usage left h = elim h [ ]
+checked_served plan finding.SourceFault left h = elim h [ ]
+checked_served plan (finding.Refused refusal) left h = elim h [ ]
+checked_served plan finding.PlantFault left h = elim h [ ]
+checked_served plan (finding.Played failed text) left h = elim h [ ]
+checked_served plan (finding.Legal entries) left h = elim h [ ]
+checked_served plan (finding.Illegal line) left h = elim h [ ]
+checked_served plan finding.OutOfMemory left h = elim h [ ]
+
+-- over a plan, a command other than `audit` comes to nothing else
+plan_served : {P : Type 0} (c : Command) (plan : Plan) (bytes : List ℕ) (found : Finding) (left : Left P) → (c ≡ command.Audit → ⊥)
+    → (Rose left.plant.lay_faults_before left.plant.lay_faults_after → ⊥) → PlanComesTo c plan bytes found left → WasServed (status_of found)
+plan_served command.Audit plan bytes found left other laid h = absurd (other refl)
+plan_served command.Check plan bytes found left other laid h = checked_served plan found left h
+plan_served (command.Sim seed) plan bytes found left other laid (inl played) = ended_served plan left.journal [] found played.ends
+plan_served (command.Sim seed) plan bytes found left other laid (inr unopened) = begun_served found left laid unopened
+plan_served command.Run plan bytes found left other laid (inl played) = ended_served plan left.journal played.seens found played.ends
+plan_served command.Run plan bytes found left other laid (inr unopened) = begun_served found left laid unopened
+
+-- a script that has a plan isn't turned away
+not_away : {P : Type 0} (c : Command) (bytes : List ℕ) (plan : Plan) (found : Finding) (left : Left P) → HasPlan (script_in c bytes) plan → IsNotServed c bytes found left → found ≡ finding.OutOfMemory
+not_away c bytes plan (finding.Refused refusal) left script h = absurd (not_refused (script_in c bytes) plan refusal script h.0)
+not_away c bytes plan finding.OutOfMemory left script h = refl
+not_away c bytes plan finding.Usage left script h = elim h [ ]
+not_away c bytes plan finding.SourceFault left script h = elim h [ ]
+not_away c bytes plan finding.PlantFault left script h = elim h [ ]
+not_away c bytes plan (finding.Checked counts) left script h = elim h [ ]
+not_away c bytes plan (finding.Played failed text) left script h = elim h [ ]
+not_away c bytes plan (finding.Legal entries) left script h = elim h [ ]
+not_away c bytes plan (finding.Illegal line) left script h = elim h [ ]
+
+lost_served : (found : Finding) → found ≡ finding.OutOfMemory → WasServed (status_of found)
+lost_served found lost = inr (inr (ap status_of lost))
+
+found_served : {P : Type 0} (call : Call P) (sink : SinkUse) (h : IsServable call sink) (journal : List Entry) (found : Finding) → CameTo (with_journal call journal) found → WasServed (status_of found)
+found_served call sink h journal found came =
+    let short : length h.bytes ≤ most_bytes h.served = subst (λ n. length h.bytes ≤ n) (sym (most_of_script h.served h.unjudged)) (plan_short h.bytes h.plan h.script) in
+    let script : HasPlan (script_in h.served h.bytes) h.plan = subst (λ b. HasPlan b h.plan) (sym (script_of_script h.served h.bytes h.unjudged)) h.script in
+    let left = (with_journal call journal).left in
+    elim (input_comes (with_journal call journal) sink h.served h.bytes (given_with call sink h.served h.bytes h.given journal) found short came) [
+      | inl (inl served) ↦ plan_served h.served served.plan h.bytes found left h.unjudged h.laid served.comes
+      | inl (inr away) ↦ lost_served found (not_away h.served h.bytes h.plan found left script away)
+      | inr lost ↦ lost_served found lost
+    ]
+
+answer_served : {P : Type 0} (call : Call P) (sink : SinkUse) (answer : Status) → Answers call sink answer → IsServable call sink → WasServed answer
+answer_served call sink answer a h = by a.tells
+  where
+    by : Tells a.finding a.journal call.left.journal sink answer → WasServed answer
+    by (inl whole) = subst WasServed (sym whole.answered) (found_served call sink h a.journal a.finding a.came)
+    by (inr (inl cut)) = absurd (h.given.written (counted_up-rose _ _ cut.cause))
+    by (inr (inr lost)) = inr (inr lost.answered)
+
+-- ---- `audit`
+
+audited : {P : Type 0} (plan : Plan) (bytes : List ℕ) (found : Finding) (left : Left P) → AuditComesTo plan bytes found left → (IsToFind plan bytes found) ⊎ (found ≡ finding.OutOfMemory)
+audited plan bytes (finding.Legal entries) left h = inl (legal_journal (record { journal = left.journal; lawful = h.lawful; number = h.number }))
+audited plan bytes (finding.Illegal line) left h = inl (illegal_line h.0)
+audited plan bytes (finding.Refused refusal) left h = inl (too_many_entries h.0)
+audited plan bytes finding.OutOfMemory left h = inr refl
+audited plan bytes finding.Usage left h = elim h [ ]
+audited plan bytes finding.SourceFault left h = elim h [ ]
+audited plan bytes finding.PlantFault left h = elim h [ ]
+audited plan bytes (finding.Checked counts) left h = elim h [ ]
+audited plan bytes (finding.Played failed text) left h = elim h [ ]
+
+-- over a plan of the script nothing else is found than what is to be found by each
+as_to_find : {P : Type 0} (call : Call P) (sink : SinkUse) (found other : Finding) (left : Left P) (h : IsAuditable call sink found) (plan : Plan) → HasPlan (script_in command.Audit h.bytes) plan
+    → (IsToFind plan h.bytes other) ⊎ (other ≡ finding.OutOfMemory) → (other ≡ found) ⊎ (other ≡ finding.OutOfMemory)
+as_to_find call sink found other left h plan script (inl one) = inl (found_alone plan (plan_tells (script_in command.Audit h.bytes) plan script) h.bytes other found one (h.finds plan script))
+as_to_find call sink found other left h plan script (inr lost) = inr lost
+
+found_audited : {P : Type 0} (call : Call P) (sink : SinkUse) (found other : Finding) (h : IsAuditable call sink found) (journal : List Entry) → CameTo (with_journal call journal) other → (other ≡ found) ⊎ (other ≡ finding.OutOfMemory)
+found_audited call sink found other h journal came =
+    let left = (with_journal call journal).left in
+    elim (input_comes (with_journal call journal) sink command.Audit h.bytes (given_with call sink command.Audit h.bytes h.given journal) other h.fits came) [
+      | inl (inl served) ↦ as_to_find call sink found other left h served.plan served.script (audited served.plan h.bytes other left served.comes)
+      | inl (inr away) ↦ inr (not_away command.Audit h.bytes h.plan other left h.script away)
+      | inr lost ↦ inr lost
+    ]
+
+answer_audited : {P : Type 0} (call : Call P) (sink : SinkUse) (found : Finding) (answer : Status) → Answers call sink answer → IsAuditable call sink found → WasTold found sink answer
+answer_audited call sink found answer a h = was_told found a.finding a.journal call.left.journal sink answer h.given.written (found_audited call sink found a.finding h a.journal a.came) a.tells
+
+-- ---- what is refused
+
+-- where memory wasn't wanting, the finding is a refusal
+abbrev IsRefusal : Finding → Type 0
+IsRefusal found = (status_of found ≡ status.Refused) ⊎ (found ≡ finding.OutOfMemory)
+
+refused_away : {P : Type 0} (c : Command) (bytes : List ℕ) (found : Finding) (left : Left P) → IsNotServed c bytes found left → IsRefusal found
+refused_away c bytes (finding.Refused refusal) left h = inl refl
+refused_away c bytes finding.OutOfMemory left h = inr refl
+refused_away c bytes finding.Usage left h = elim h [ ]
+refused_away c bytes finding.SourceFault left h = elim h [ ]
+refused_away c bytes finding.PlantFault left h = elim h [ ]
+refused_away c bytes (finding.Checked counts) left h = elim h [ ]
+refused_away c bytes (finding.Played failed text) left h = elim h [ ]
+refused_away c bytes (finding.Legal entries) left h = elim h [ ]
+refused_away c bytes (finding.Illegal line) left h = elim h [ ]
+
+module _ {P : Type 0} (call : Call P) (sink : SinkUse) (c : Command) (bytes : List ℕ) (given : IsGiven call sink c bytes) (found : Finding) where
+  -- an input that is too long isn't read to its end
+  long_refused : most_bytes c < length bytes → CameTo call found → IsRefusal found
+  long_refused long (inl usage) = let none : Some c ≡ None = sym given.asked ∙ usage.cause in absurd cc
+  long_refused long (inr (inl u)) = by u.error u.finding u.cause
+    where
+      by : (e : ReadError) → found ≡ unread_finding e → HasStopped call.source e → IsRefusal found
+      by error.Fault same cause = absurd (given.read (counted_up-rose _ _ cause))
+      by error.TooLong same cause = inl (ap status_of same)
+      by error.OutOfMemory same cause = inr same
+  long_refused long (inr (inr r)) =
+      let most : most_bytes r.command ≡ most_bytes c = ap most_bytes (one_command call sink c bytes given r.command r.given) in
+      absurd (omega (arith, r.read.fits, long, most, ap length (own_bytes call sink c bytes given found r)))
+
+  script_refused : HoldsRefused c bytes → CameTo call found → IsRefusal found
+  script_refused h came = elim (input_comes call sink c bytes given found h.fits came) [
+    | inl (inl served) ↦ absurd (not_refused (script_in c bytes) served.plan h.refusal served.script h.script)
+    | inl (inr away) ↦ refused_away c bytes found call.left away
+    | inr lost ↦ inr lost
+  ]
+
+found_refused : {P : Type 0} (call : Call P) (sink : SinkUse) (h : IsRefusable call sink) (journal : List Entry) (found : Finding) → CameTo (with_journal call journal) found → IsRefusal found
+found_refused call sink h journal found came =
+    let given = given_with call sink h.served h.bytes h.given journal in
+    elim h.cause [
+      | inl long ↦ long_refused (with_journal call journal) sink h.served h.bytes given found long came
+      | inr holds ↦ script_refused (with_journal call journal) sink h.served h.bytes given found holds came
+    ]
+
+answer_refused : {P : Type 0} (call : Call P) (sink : SinkUse) (answer : Status) → Answers call sink answer → IsRefusable call sink → WasRefused answer
+answer_refused call sink answer a h = by (found_refused call sink h a.journal a.finding a.came) a.tells
+  where
+    by : IsRefusal a.finding → Tells a.finding a.journal call.left.journal sink answer → WasRefused answer
+    by (inl refused) (inl whole) = inl (whole.answered ∙ refused)
+    by (inr lost) (inl whole) = inr (whole.answered ∙ ap status_of lost)
+    by one (inr (inl cut)) = absurd (h.given.written (counted_up-rose _ _ cut.cause))
+    by one (inr (inr lost)) = inr lost.answered
+
+-- ---- all
+
+pub complete : {P : Type 0} (call : Call P) (sink : SinkUse) (answer : Status) → Answers call sink answer → MissesNothing call sink answer
+complete call sink answer a = record { served = answer_served call sink answer a; audited = (λ found. answer_audited call sink found answer a); refused = answer_refused call sink answer a }

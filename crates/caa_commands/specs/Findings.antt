@@ -1,0 +1,102 @@
+-- What a call of the program may come to: the status and the text of each.
+use Rattle.std.specs.Prelude.{ℕ, Bool, true, false, List, [], ◌∷◌, codes, decimal}
+use Rattle.caa_base.specs.Written.Lines.{line}
+use Rattle.script_checker.specs.declared.plan_counts.PlanCounts.{PlanCounts}
+use Rattle.caa_commands.specs.declared.fault.Fault.{Fault}
+use Rattle.caa_commands.specs.declared.fault.Fault.TheVariants as fault
+use Rattle.caa_commands.specs.declared.fault.Refusal.{Refusal}
+use Rattle.caa_commands.specs.declared.finding.Finding.{Finding}
+use Rattle.caa_commands.specs.declared.finding.Finding.TheVariants as finding
+use Rattle.caa_commands.specs.declared.finding.Text.{Text}
+use Rattle.caa_commands.specs.declared.finding.Text.TheVariants as text
+use Rattle.caa_commands.specs.declared.status.Status.{Status}
+use Rattle.caa_commands.specs.declared.status.Status.TheVariants as status
+
+-- the bytes of a text
+abbrev pub text_bytes : Text → List ℕ
+text_bytes (text.Fixed bytes) = bytes.now
+text_bytes (text.Written bytes) = bytes.items
+
+-- ---- refusals
+
+-- the number and the word of a fault
+abbrev pub fault_phrase : Fault → List ℕ
+fault_phrase fault.BadLine = codes "1 bad-line"
+fault_phrase fault.BadNumber = codes "2 bad-number"
+fault_phrase fault.BadName = codes "3 bad-name"
+fault_phrase fault.TooLong = codes "4 too-long"
+fault_phrase fault.Unknown = codes "10 unknown"
+fault_phrase fault.Twice = codes "11 twice"
+fault_phrase (fault.Cycle name) = codes "12 cycle"
+fault_phrase (fault.NoLeast first second) = codes "13 no-least"
+fault_phrase fault.RoleUnfilled = codes "14 role-unfilled"
+fault_phrase fault.RoleTwice = codes "15 role-twice"
+fault_phrase fault.NestOrder = codes "16 nest-order"
+fault_phrase fault.ObjectNotHeld = codes "17 object-not-held"
+fault_phrase fault.TooDeep = codes "18 too-deep"
+fault_phrase fault.Limit = codes "19 limit"
+fault_phrase fault.JournalBound = codes "20 journal-bound"
+fault_phrase fault.AlternateFace = codes "22 alternate-face"
+
+-- the names of its exceptions
+abbrev pub fault_names : Fault → List (List ℕ)
+fault_names (fault.Cycle name) = name ∷ []
+fault_names (fault.NoLeast first second) = first ∷ second ∷ []
+fault_names _ = []
+
+-- the line of a refusal
+abbrev pub refusal_text : Refusal → List ℕ
+refusal_text refusal = line (codes "refused") (decimal refusal.line ∷ fault_phrase refusal.fault ∷ fault_names refusal.fault)
+
+-- ---- plans
+
+-- the line that tells how large a plan is
+abbrev pub checked_text : PlanCounts → List ℕ
+checked_text counts =
+    line (codes "ok participants")
+    (decimal counts.participants ∷ codes "objects" ∷ decimal counts.objects ∷ codes "places" ∷ decimal counts.places
+    ∷ codes "bound" ∷ decimal counts.bound ∷ [])
+
+-- ---- findings
+
+-- a word and a number
+abbrev pub numbered_text : List ℕ → ℕ → List ℕ
+numbered_text word number = line word (decimal number ∷ [])
+
+-- what is printed
+abbrev pub finding_text : Finding → List ℕ
+finding_text finding.Usage = codes "usage: check | sim SEED | run | audit | cell N\n"
+finding_text finding.SourceFault = codes "fault source\n"
+finding_text (finding.Refused refusal) = refusal_text refusal
+finding_text (finding.Checked counts) = checked_text counts
+finding_text finding.PlantFault = codes "fault plant\n"
+finding_text (finding.Played failed text) = text.items
+finding_text (finding.Legal entries) = numbered_text (codes "legal") entries
+finding_text (finding.Illegal line) = numbered_text (codes "illegal") line
+finding_text finding.OutOfMemory = []
+
+-- the status that is answered
+abbrev pub status_of : Finding → Status
+status_of finding.Usage = status.Usage
+status_of finding.SourceFault = status.SourceFault
+status_of (finding.Refused refusal) = status.Refused
+status_of (finding.Checked counts) = status.Done
+status_of finding.PlantFault = status.PlantFault
+status_of (finding.Played true text) = status.SomeFailed
+status_of (finding.Played false text) = status.Done
+status_of (finding.Legal entries) = status.Done
+status_of (finding.Illegal line) = status.Illegal
+status_of finding.OutOfMemory = status.OutOfMemory
+
+-- the script was played to its end
+abbrev pub is_played : Finding → Bool
+is_played (finding.Played failed text) = true
+is_played _ = false
+
+-- the text is put together, which takes memory
+abbrev pub needs_memory : Finding → Bool
+needs_memory (finding.Refused refusal) = true
+needs_memory (finding.Checked counts) = true
+needs_memory (finding.Legal entries) = true
+needs_memory (finding.Illegal line) = true
+needs_memory _ = false

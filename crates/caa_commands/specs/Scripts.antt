@@ -1,0 +1,108 @@
+-- What the bytes of a script come to: its plan, or the fault for which it is refused.
+use Rattle.std.specs.Prelude.{◌≡◌, ◌⊎◌, ℕ, ◌==◌, if◌then◌else◌, List, [], ◌∷◌, ◌++◌, map, slice_index_or, Ok, Err, codes}
+use Rattle.action_script.specs.Forms.ScriptValue.{Script}
+use Rattle.action_script.specs.Lines.Spelling.{reading_of}
+use Rattle.action_script.specs.declared.forms.form.Form.{Form}
+use Rattle.action_script.specs.declared.forms.form.Form.TheVariants as form
+use Rattle.action_script.specs.declared.forms.script.Line.{Line}
+use Rattle.action_script.specs.declared.script_error.ScriptError.{ScriptError}
+use Rattle.action_script.specs.declared.script_error.ScriptCause.{ScriptCause}
+use Rattle.action_script.specs.declared.script_error.ScriptCause.TheVariants as spelling
+use Rattle.script_checker.specs.declared.check_error.CheckError.{CheckError}
+use Rattle.script_checker.specs.declared.check_error.CheckCause.{CheckCause}
+use Rattle.script_checker.specs.declared.check_error.CheckCause.TheVariants as cause
+use Rattle.script_checker.specs.declared.plan_counts.PlanCounts.{PlanCounts}
+use Rattle.script_checker.specs.Compiled.{IsPlanOf, IsFirstRefused}
+use Rattle.script_checker.specs.PlanSizes.{counts_of}
+use Rattle.place_plan.specs.Plans.PlanValue.{Plan}
+use Rattle.caa_commands.specs.declared.fault.Fault.{Fault}
+use Rattle.caa_commands.specs.declared.fault.Fault.TheVariants as fault
+use Rattle.caa_commands.specs.declared.fault.Refusal.{Refusal}
+use Rattle.caa_commands.specs.declared.scripts.NoPlan.{NoPlan}
+use Rattle.caa_commands.specs.declared.scripts.NoPlan.TheVariants as no_plan
+
+-- ---- a script that has a plan
+
+-- what the bytes spell is accepted, and makes this plan
+pub record HasPlan (bytes : List ℕ) (plan : Plan) : Type 0 where
+  pub script : Script
+  pub spelled : reading_of bytes ≡ Ok script
+  pub compiled : IsPlanOf script plan
+
+-- what they spell is accepted, and its plan is so large
+pub record IsCounted (bytes : List ℕ) (counts : PlanCounts) : Type 0 where
+  pub plan : Plan
+  pub script : HasPlan bytes plan
+  pub counted : counts ≡ counts_of plan
+
+-- ---- the names of exceptions
+
+-- the exceptions that are declared after one more line, by the numbers of their names
+abbrev pub declared_after : Form → List ℕ → List ℕ
+declared_after (form.Graph name) names = []
+declared_after (form.Exception name) names = names ++ name ∷ []
+declared_after _ names = names
+
+-- those that are declared in the graph which ends at the line of this number, where these are already
+abbrev pub declared_at : ℕ → List ℕ → List Line → List ℕ
+declared_at number names [] = names
+declared_at number names (l ∷ lines) = if l.number == number then names else declared_at number (declared_after l.form names) lines
+
+-- the names of the exceptions of that graph: `universal`, and those that are declared in it
+abbrev pub exceptions_at : Script → ℕ → List (List ℕ)
+exceptions_at script number = codes "universal" ∷ map (λ n. slice_index_or script.names n []) (declared_at number [] script.lines)
+
+-- the name of one of them
+abbrev pub exception_at : Script → ℕ → ℕ → List ℕ
+exception_at script number exception = slice_index_or (exceptions_at script number) exception []
+
+-- ---- a script that is refused
+
+-- the fault is this one of a text
+abbrev pub IsSpelling : ScriptCause → Fault → Type 0
+IsSpelling spelling.BadLine f = f ≡ fault.BadLine
+IsSpelling spelling.BadNumber f = f ≡ fault.BadNumber
+IsSpelling spelling.BadName f = f ≡ fault.BadName
+IsSpelling spelling.TooLong f = f ≡ fault.TooLong
+IsSpelling spelling.OutOfMemory f = ⊥
+
+-- the fault is this one of a line, with the names of its exceptions
+abbrev pub IsCause : Script → ℕ → CheckCause → Fault → Type 0
+IsCause script number cause.Unknown f = f ≡ fault.Unknown
+IsCause script number cause.Twice f = f ≡ fault.Twice
+IsCause script number (cause.Cycle at) f = f ≡ fault.Cycle (exception_at script number at)
+IsCause script number (cause.NoLeast a b) f = f ≡ fault.NoLeast (exception_at script number a) (exception_at script number b)
+IsCause script number cause.RoleUnfilled f = f ≡ fault.RoleUnfilled
+IsCause script number cause.RoleTwice f = f ≡ fault.RoleTwice
+IsCause script number cause.NestOrder f = f ≡ fault.NestOrder
+IsCause script number cause.ObjectNotHeld f = f ≡ fault.ObjectNotHeld
+IsCause script number cause.TooDeep f = f ≡ fault.TooDeep
+IsCause script number cause.Limit f = f ≡ fault.Limit
+IsCause script number cause.JournalBound f = f ≡ fault.JournalBound
+IsCause script number cause.AlternateFace f = f ≡ fault.AlternateFace
+IsCause script number cause.OutOfMemory f = ⊥
+
+-- the bytes spell no script, and this is their first fault
+pub record IsMisspelled (bytes : List ℕ) (refusal : Refusal) : Type 0 where
+  pub error : ScriptError
+  pub first : reading_of bytes ≡ Err error
+  pub line : refusal.line ≡ error.line
+  pub fault : IsSpelling error.cause refusal.fault
+
+-- the text is that of a script, but one of its lines is refused, and this is the first
+pub record IsUnplannable (bytes : List ℕ) (refusal : Refusal) : Type 0 where
+  pub script : Script
+  pub spelled : reading_of bytes ≡ Ok script
+  pub error : CheckError
+  pub first : IsFirstRefused script error
+  pub line : refusal.line ≡ error.line
+  pub fault : IsCause script error.line error.cause refusal.fault
+
+-- the script is refused as a text, or for what it says
+abbrev pub IsRefusedScript : List ℕ → Refusal → Type 0
+IsRefusedScript bytes refusal = IsMisspelled bytes refusal ⊎ IsUnplannable bytes refusal
+
+-- why there is no plan; want of memory tells nothing of the script
+abbrev pub HasNoPlan : List ℕ → NoPlan → Type 0
+HasNoPlan bytes (no_plan.Refused refusal) = IsRefusedScript bytes refusal
+HasNoPlan bytes no_plan.OutOfMemory = Unit {0}

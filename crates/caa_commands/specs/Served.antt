@@ -1,0 +1,97 @@
+-- Which calls are served, and which are turned away, where no read and no write fails.
+use Rattle.std.specs.Prelude.{◌≡◌, ◌⊎◌, ℕ, ◌<◌, ◌≤◌, List, length, Some}
+use Rattle.std.specs.Io.KnownBytes.{append_known}
+use Rattle.caa_base.specs.Outside.Counts.{Rose}
+use Rattle.caa_base.specs.declared.written.entry.Entry.{Entry}
+use Rattle.place_plan.specs.Plans.PlanValue.{Plan}
+use Rattle.caa_commands.specs.declared.command.Command.{Command}
+use Rattle.caa_commands.specs.declared.command.Command.TheVariants as command
+use Rattle.caa_commands.specs.declared.fault.Refusal.{Refusal}
+use Rattle.caa_commands.specs.declared.finding.Finding.{Finding}
+use Rattle.caa_commands.specs.declared.finding.Finding.TheVariants as finding
+use Rattle.caa_commands.specs.declared.status.Status.{Status}
+use Rattle.caa_commands.specs.declared.status.Status.TheVariants as status
+use Rattle.caa_commands.specs.Findings.{status_of, finding_text}
+use Rattle.caa_commands.specs.Inputs.{most_bytes, script_in, journal_part}
+use Rattle.caa_commands.specs.Judging.{IsLawful, IsIllegal, HasTooManyEntries}
+use Rattle.caa_commands.specs.Scripts.{HasPlan, IsRefusedScript}
+use Rattle.caa_commands.specs.OutsideUse.{SinkUse, Call}
+
+-- the words are this command, the source tells these bytes, and no count of failed reads or failed writes rose
+pub record IsGiven {P : Type 0} (call : Call P) (sink : SinkUse) (command : Command) (bytes : List ℕ) : Type 0 where
+  pub asked : call.asked ≡ Some command
+  pub told : call.source.left_before ≡ Some bytes
+  pub read : Rose call.source.faults_before call.source.faults_after → ⊥
+  pub written : Rose sink.faults_before sink.faults_after → ⊥
+
+-- this was found and told, or no memory was found
+abbrev pub WasTold : Finding → SinkUse → Status → Type 0
+WasTold found sink answer =
+    ((answer ≡ status_of found) × (sink.held_after ≡ append_known sink.held_before (finding_text found)))
+    ⊎ (answer ≡ status.OutOfMemory)
+
+-- ---- `check`, `sim SEED` and `run`
+
+-- the bytes spell a script with a plan, and the device didn't refuse to be laid out
+pub record IsServable {P : Type 0} (call : Call P) (sink : SinkUse) : Type 0 where
+  pub served : Command
+  pub unjudged : served ≡ command.Audit → ⊥
+  pub bytes : List ℕ
+  pub given : IsGiven call sink served bytes
+  pub plan : Plan
+  pub script : HasPlan bytes plan
+  pub laid : Rose call.left.plant.lay_faults_before call.left.plant.lay_faults_after → ⊥
+
+-- the command was served, or no memory was found
+abbrev pub WasServed : Status → Type 0
+WasServed answer = (answer ≡ status.Done) ⊎ ((answer ≡ status.SomeFailed) ⊎ (answer ≡ status.OutOfMemory))
+
+-- ---- `audit`
+
+-- by this plan a legal and complete journal of so many entries stands behind the script
+pub record HoldsLegal (plan : Plan) (bytes : List ℕ) (entries : ℕ) : Type 0 where
+  pub journal : List Entry
+  pub lawful : IsLawful plan (journal_part bytes) journal
+  pub number : entries ≡ length journal
+
+-- what an audit is to find by this plan
+pub data IsToFind (plan : Plan) (bytes : List ℕ) : Finding → Type 0 where
+  legal_journal : {entries : ℕ} → HoldsLegal plan bytes entries → IsToFind plan bytes (finding.Legal entries)
+  illegal_line : {line : ℕ} → IsIllegal plan bytes line → IsToFind plan bytes (finding.Illegal line)
+  too_many_entries : {refusal : Refusal} → HasTooManyEntries plan bytes refusal → IsToFind plan bytes (finding.Refused refusal)
+
+-- the bytes aren't too many, the script among them has a plan, and by whatever plan it has this is to be found
+pub record IsAuditable {P : Type 0} (call : Call P) (sink : SinkUse) (found : Finding) : Type 0 where
+  pub bytes : List ℕ
+  pub given : IsGiven call sink command.Audit bytes
+  pub fits : length bytes ≤ most_bytes command.Audit
+  pub plan : Plan
+  pub script : HasPlan (script_in command.Audit bytes) plan
+  pub finds : (own : Plan) → HasPlan (script_in command.Audit bytes) own → IsToFind own bytes found
+
+-- ---- what is refused
+
+-- the bytes aren't too many, and the script among them is refused
+pub record HoldsRefused (command : Command) (bytes : List ℕ) : Type 0 where
+  pub fits : length bytes ≤ most_bytes command
+  pub refusal : Refusal
+  pub script : IsRefusedScript (script_in command bytes) refusal
+
+-- the bytes are more than those of the command may be, or the script among them is refused
+pub record IsRefusable {P : Type 0} (call : Call P) (sink : SinkUse) : Type 0 where
+  pub served : Command
+  pub bytes : List ℕ
+  pub given : IsGiven call sink served bytes
+  pub cause : (most_bytes served < length bytes) ⊎ HoldsRefused served bytes
+
+-- the input was refused, or no memory was found
+abbrev pub WasRefused : Status → Type 0
+WasRefused answer = (answer ≡ status.Refused) ⊎ (answer ≡ status.OutOfMemory)
+
+-- ---- all
+
+-- what can be served is served, what is to be found is told, and what is to be refused is refused
+pub record MissesNothing {P : Type 0} (call : Call P) (sink : SinkUse) (answer : Status) : Type 0 where
+  pub served : IsServable call sink → WasServed answer
+  pub audited : (found : Finding) → IsAuditable call sink found → WasTold found sink answer
+  pub refused : IsRefusable call sink → WasRefused answer

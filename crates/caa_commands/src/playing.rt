@@ -1,0 +1,189 @@
+//! Plays of a plan over a device, and what they come to.
+
+ghost use Rattle.std.specs.Prelude.{◌≡◌, ◌<◌, ◌^◌, [], true, IfOk, IfErr};
+ghost use Rattle.place_plan.specs.RulesOfJournals.WellFormed.{AllWellFormed};
+ghost use Rattle.journal_text.specs.Watching.Looks.{AreOfPlan};
+ghost use Rattle.journal_text.specs.Texts.Naming.{is_well_named};
+ghost use Rattle.journal_replay.specs.Hall.{plan_in, plant_in, journal_in, base_in};
+ghost use Rattle.journal_replay.specs.Device.{attempts_in};
+ghost use Rattle.caa_commands.specs.declared.finding.Finding.{Finding};
+ghost use Rattle.caa_commands.specs.FailedPlays.{is_failed_play, has_failed_play};
+ghost use Rattle.caa_commands.specs.OutsideUse.{plant_use, left_of, IsIdle};
+ghost use Rattle.caa_commands.specs.Calls.{EndsAs, DoesNotBegin, SimComesTo, RunComesTo};
+
+use crate::finding::Finding;
+use caa_base::outside::gate::Gate;
+use caa_base::outside::plant::Plant;
+use caa_base::written::entry::{Entry, Kind};
+use caa_base::written::journal::Journal;
+use journal_laws::{is_well_formed, keeps_laws};
+use journal_replay::hall::{OpenCause, PlainHall};
+use journal_text::looks::seens::Seens;
+use journal_text::texts::text_writer::write;
+use place_plan::plans::plan::Plan;
+use role_driver::running::{Finished, RunError, run};
+use role_driver::sim::sim;
+use std::alloc::Global;
+use std::sync::Wait;
+use std::thread::Threads;
+
+/// The mark of an End that says that its place failed.
+const FAILED_MARK: u32 = 4;
+
+/// What a call came to, with the device and the journal that it hands back.
+#[derive(Drop)]
+pub struct Decision<P> {
+    pub finding: Finding,
+    pub plant: P,
+    pub journal: Journal,
+}
+
+impl<P: Plant> Decision<P> {
+    /// This was found, and nothing was played.
+    pub fn idle(alloc: Global, finding: Finding, plant: P) -> Self
+        ensures finding { result.finding ≡ finding }
+        ensures idle { IsIdle (left_of (plant_use ⟦<P as Plant>⟧ plant result.plant) result.journal.entries) }
+    {
+        Decision {
+            finding,
+            plant,
+            journal: Journal::empty(alloc),
+        }
+    }
+}
+
+/// Whether an entry ends a play as failed.
+fn is_failed_play(plan: &Plan, entry: &Entry) -> bool
+    ensures { result ≡ is_failed_play plan.now entry.now }
+{
+    entry.kind == Kind::End && entry.mark == FAILED_MARK && plan.parent(entry.place).is_none()
+}
+
+/// Whether a play failed.
+fn has_failed_play(plan: &Plan, journal: &Journal) -> bool
+    ensures { result ≡ has_failed_play plan.now journal.now.entries }
+{
+    journal
+        .as_slice()
+        .iter()
+        .any(|entry| is_failed_play(plan, entry))
+}
+
+/// A machine over a plan and a device, or what the call comes to without one.
+fn open<P: Plant>(alloc: Global, plan: Plan, plant: P) -> Result<PlainHall<P>, Decision<P>>
+    ensures plan { IfOk result (λ hall. plan_in hall ≡ plan) }
+    ensures journal { IfOk result (λ hall. journal_in hall ≡ []) }
+    ensures base { IfOk result (λ hall. base_in hall ≡ P.faults plant) }
+    ensures count { IfOk result (λ hall. P.faults (plant_in hall) ≡ P.faults plant) }
+    ensures lay_count { IfOk result (λ hall. P.lay_faults (plant_in hall) ≡ P.lay_faults plant) }
+    ensures refused { IfErr result (λ decision.
+        DoesNotBegin decision.finding (left_of (plant_use ⟦<P as Plant>⟧ plant decision.plant) decision.journal.entries)) }
+{
+    match PlainHall::open(alloc, plan, plant) {
+        Ok(hall) => Ok(hall),
+        Err(error) => {
+            let finding = match error.cause {
+                OpenCause::PlantFault => Finding::PlantFault,
+                OpenCause::OutOfMemory => Finding::OutOfMemory,
+            };
+            Err(Decision {
+                finding,
+                plant: error.plant,
+                journal: Journal::empty(alloc),
+            })
+        }
+    }
+}
+
+/// What a play comes to that has ended with this journal and these looks.
+fn ended<P: Plant>(
+    alloc: Global,
+    plan: &Plan,
+    plant: P,
+    journal: Journal,
+    seens: &Seens,
+) -> Decision<P>
+    requires entries { AllWellFormed plan.now journal.entries }
+    requires watches { AreOfPlan plan.now seens.now.seens }
+    ensures ends { EndsAs plan.now journal.entries seens.now.seens result.finding }
+    ensures plant { result.plant ≡ plant }
+    ensures journal { result.journal.entries ≡ journal.entries }
+{
+    let finding = match write(alloc, plan, &journal, seens) {
+        Ok(text) => Finding::Played {
+            failed: has_failed_play(plan, &journal),
+            text,
+        },
+        Err(_) => Finding::OutOfMemory,
+    };
+    Decision {
+        finding,
+        plant,
+        journal,
+    }
+}
+
+/// Plays a plan to its end by the schedule of a seed, and writes the text of its journal.
+pub fn simulate<P: Plant>(alloc: Global, plan: Plan, seed: u32, plant: P) -> Decision<P>
+    requires { seed < 2 ^ 31 }
+    ensures { SimComesTo plan seed result.finding
+        (left_of (plant_use ⟦<P as Plant>⟧ plant result.plant) result.journal.entries) }
+{
+    keeps_laws(&plan);
+    is_well_formed(&plan);
+    let hall = match open(alloc, plan, plant) {
+        Ok(hall) => hall,
+        Err(decision) => return decision,
+    };
+    let (plan, plant, journal) = sim(hall, seed).into_parts();
+    ended(alloc, &plan, plant, journal, &Seens::empty(alloc))
+}
+
+/// No memory was found to play this machine.
+fn unplayed<P: Plant>(hall: PlainHall<P>) -> Decision<P>
+    ensures finding { result.finding ≡ Finding.OutOfMemory }
+    ensures plant { result.plant ≡ plant_in hall }
+    ensures journal { result.journal.entries ≡ journal_in hall }
+    ensures calls { P.calls result.plant ≡ attempts_in (journal_in hall) }
+{
+    let (_, plant, journal) = hall.into_parts();
+    Decision {
+        finding: Finding::OutOfMemory,
+        plant,
+        journal,
+    }
+}
+
+/// Plays a plan to its end, each participant in a thread of its own, and writes the text of its journal with what the watchers
+/// saw. It need not return.
+pub fn run_plan<P: Plant + Send, G: Gate + Sync, R: Threads + Wait + Sync>(
+    rt: &R,
+    alloc: Global,
+    plan: Plan,
+    plant: P,
+    gate: &G,
+) -> Decision<P>
+    requires { is_well_named plan ≡ true }
+    ensures { RunComesTo plan result.finding
+        (left_of (plant_use ⟦<P as Plant>⟧ plant result.plant) result.journal.entries) }
+{
+    keeps_laws(&plan);
+    is_well_formed(&plan);
+    let opened = match open(alloc, plan, plant) {
+        Ok(opened) => opened,
+        Err(unopened) => return unopened,
+    };
+    let (played, seens) = match run(rt, alloc, opened, gate) {
+        Ok(Finished { machine, seens }) => (machine, seens),
+        Err(RunError { machine }) => return unplayed(machine),
+    };
+    let (plan, plant, journal) = played.into_parts();
+    match seens {
+        Some(seens) => ended(alloc, &plan, plant, journal, &seens),
+        None => Decision {
+            finding: Finding::OutOfMemory,
+            plant,
+            journal,
+        },
+    }
+}

@@ -1,0 +1,185 @@
+//! The plan that a script has by its bytes, or the fault for which it is refused.
+
+ghost use Rattle.std.specs.Prelude.{◌≡◌, true, [], Ok, IfOk, IfErr, OnOk};
+ghost use Rattle.action_script.specs.Lines.Spelling.{reading_of};
+ghost use Rattle.journal_text.specs.Texts.Naming.{is_well_named};
+ghost use Rattle.caa_commands.specs.Scripts.{HasPlan, IsCounted, HasNoPlan, IsSpelling, IsCause, declared_after, declared_at, exception_at};
+
+use crate::fault::{Fault, Refusal};
+use action_script::forms::form::Form;
+use action_script::lines::reader::read;
+use action_script::forms::script::Script;
+use action_script::script_error::ScriptCause;
+use caa_base::written::entry::OutOfMemory;
+use caa_base::written::name::{Name, name_at};
+use place_plan::plans::plan::Plan;
+use script_checker::check_error::{CheckCause, CheckError};
+use script_checker::compile::{compile, count};
+use script_checker::own_names::has_own_names;
+use script_checker::plan_counts::PlanCounts;
+use std::alloc::{AllocError, Global};
+
+/// Why bytes have no plan.
+#[derive(Drop)]
+pub enum NoPlan {
+    Refused(Refusal),
+    /// No memory was found.
+    OutOfMemory,
+}
+
+impl From<OutOfMemory> for NoPlan {
+    ghost use Rattle.caa_commands.specs.declared.scripts.NoPlan.{NoPlan};
+
+    ghost from_gives = { λ _ error. error ≡ NoPlan.OutOfMemory };
+
+    fn from(_error: OutOfMemory) -> Self {
+        NoPlan::OutOfMemory
+    }
+}
+
+/// The fault of a text; none for want of memory.
+fn spelling_of(cause: ScriptCause) -> Result<Fault, OutOfMemory>
+    ensures { IfOk result (IsSpelling cause) }
+{
+    match cause {
+        ScriptCause::BadLine => Ok(Fault::BadLine),
+        ScriptCause::BadNumber => Ok(Fault::BadNumber),
+        ScriptCause::BadName => Ok(Fault::BadName),
+        ScriptCause::TooLong => Ok(Fault::TooLong),
+        ScriptCause::OutOfMemory => Err(OutOfMemory),
+    }
+}
+
+/// Takes the next line, which may begin a graph or declare an exception.
+fn declare(names: &mut Vec<u32>, form: &Form) -> Result<(), AllocError>
+    ensures { OnOk result (names.new.items ≡ declared_after form.now names.old.items) }
+{
+    match form {
+        Form::Graph(_) => names.clear(),
+        Form::Exception(name) => names.push(*name)?,
+        _ => {}
+    }
+    Ok(())
+}
+
+/// The exceptions that are declared in the graph which ends at this line, by the numbers of their names.
+fn declared_at(alloc: Global, script: &Script, line: u32) -> Result<Vec<u32>, AllocError>
+    ensures { IfOk result (λ names. names.items ≡ declared_at line [] script.now.lines) }
+{
+    let mut names = Vec::new(alloc);
+    for said in script.lines() {
+        if said.number == line {
+            return Ok(names);
+        }
+        declare(&mut names, &said.form)?;
+    }
+    Ok(names)
+}
+
+/// The name of an exception of the graph that ends at this line.
+fn exception_at(
+    alloc: Global,
+    script: &Script,
+    line: u32,
+    exception: u32,
+) -> Result<Name, OutOfMemory>
+    ensures { IfOk result (λ name. name ≡ exception_at script.now line exception) }
+{
+    if exception == 0 {
+        return Name::from_bytes(alloc, b"universal");
+    }
+    let declared = declared_at(alloc, script, line)?;
+    let Some(number) = declared.get(exception as usize - 1) else {
+        return Name::from_bytes(alloc, b"");
+    };
+    Name::from_bytes(alloc, name_at(script.names(), *number))
+}
+
+/// The fault of a line, with the names of its exceptions; none for want of memory.
+fn cause_of(alloc: Global, script: &Script, error: CheckError) -> Result<Fault, OutOfMemory>
+    ensures { IfOk result (IsCause script.now error.line error.cause) }
+{
+    match error.cause {
+        CheckCause::Unknown => Ok(Fault::Unknown),
+        CheckCause::Twice => Ok(Fault::Twice),
+        CheckCause::Cycle { at } => Ok(Fault::Cycle(exception_at(alloc, script, error.line, at)?)),
+        CheckCause::NoLeast { a, b } => Ok(Fault::NoLeast(
+            exception_at(alloc, script, error.line, a)?,
+            exception_at(alloc, script, error.line, b)?,
+        )),
+        CheckCause::RoleUnfilled => Ok(Fault::RoleUnfilled),
+        CheckCause::RoleTwice => Ok(Fault::RoleTwice),
+        CheckCause::NestOrder => Ok(Fault::NestOrder),
+        CheckCause::ObjectNotHeld => Ok(Fault::ObjectNotHeld),
+        CheckCause::TooDeep => Ok(Fault::TooDeep),
+        CheckCause::Limit => Ok(Fault::Limit),
+        CheckCause::JournalBound => Ok(Fault::JournalBound),
+        CheckCause::AlternateFace => Ok(Fault::AlternateFace),
+        CheckCause::OutOfMemory => Err(OutOfMemory),
+    }
+}
+
+/// The script that these bytes spell.
+fn script_of(alloc: Global, bytes: &[u8]) -> Result<Script, NoPlan>
+    ensures script { IfOk result (λ script. reading_of bytes.now ≡ Ok script) }
+    ensures refused { IfErr result (HasNoPlan bytes.now) }
+{
+    match read(alloc, bytes) {
+        Ok(script) => Ok(script),
+        Err(error) => {
+            let fault = spelling_of(error.cause)?;
+            Err(NoPlan::Refused(Refusal {
+                line: u64::from(error.line),
+                fault,
+            }))
+        }
+    }
+}
+
+/// The refusal of a script for one of its lines; none for want of memory.
+fn refusal_of(alloc: Global, script: &Script, error: CheckError) -> Result<Refusal, OutOfMemory>
+    ensures line { IfOk result (λ refusal. refusal.line ≡ error.line) }
+    ensures fault { IfOk result (λ refusal. IsCause script.now error.line error.cause refusal.fault) }
+{
+    let fault = cause_of(alloc, script, error)?;
+    Ok(Refusal {
+        line: u64::from(error.line),
+        fault,
+    })
+}
+
+/// The plan of the script that these bytes spell; its names tell its parts apart.
+///
+/// A refusal names the line and the fault, and for a graph the exceptions at fault.
+pub fn plan_of(alloc: Global, bytes: &[u8]) -> Result<Plan, NoPlan>
+    ensures plan { IfOk result (HasPlan bytes.now) }
+    ensures named { IfOk result (λ plan. is_well_named plan ≡ true) }
+    ensures refused { IfErr result (HasNoPlan bytes.now) }
+{
+    let script = script_of(alloc, bytes)?;
+    match compile(alloc, &script) {
+        Ok(plan) => {
+            has_own_names(&script, &plan);
+            Ok(plan)
+        }
+        Err(error) => {
+            let refusal = refusal_of(alloc, &script, error)?;
+            Err(NoPlan::Refused(refusal))
+        }
+    }
+}
+
+/// How large the plan is of the script that these bytes spell. The plan isn't made; a refusal is the same as that of `plan_of`.
+pub fn counts_of(alloc: Global, bytes: &[u8]) -> Result<PlanCounts, NoPlan>
+    ensures counts { IfOk result (IsCounted bytes.now) }
+    ensures refused { IfErr result (HasNoPlan bytes.now) }
+{
+    let script = script_of(alloc, bytes)?;
+    match count(alloc, &script) {
+        Ok(counts) => Ok(counts),
+        Err(error) => {
+            let refusal = refusal_of(alloc, &script, error)?;
+            Err(NoPlan::Refused(refusal))
+        }
+    }
+}

@@ -1,0 +1,208 @@
+//! What the commands come to over the input, before anything is written.
+
+ghost use Rattle.std.specs.Prelude.{◌≡◌, ◌≢◌, ◌<◌, ◌≤◌, None, Some, true, IfSome};
+ghost use Rattle.caa_base.specs.Written.Limits.{most_audit_bytes};
+ghost use Rattle.journal_text.specs.Texts.Naming.{is_well_named};
+ghost use Rattle.caa_commands.specs.declared.command.Command.{Command};
+ghost use Rattle.caa_commands.specs.Commands.{without_threads, HasSeed};
+ghost use Rattle.caa_commands.specs.OutsideUse.{source_use, plant_use, left_of, call_of};
+ghost use Rattle.caa_commands.specs.Calls.{AuditComesTo, PlanComesTo, InputComesTo, unread_finding, CameTo};
+ghost use Rattle.caa_commands.specs.Inputs.{most_bytes, script_in};
+
+use crate::command::Command;
+use crate::fault::{Fault, Refusal};
+use crate::finding::Finding;
+use crate::inputs::find_journal;
+use crate::judging::{Judgement, judge};
+use crate::playing::{Decision, run_plan, simulate};
+use crate::scripts::{NoPlan, counts_of, plan_of};
+use caa_base::outside::gate::Gate;
+use caa_base::outside::plant::Plant;
+use caa_base::outside::reading::{ReadError, read_all};
+use caa_base::outside::source::Source;
+use caa_base::written::limits::{MOST_AUDIT_BYTES, MOST_AUDITED, MOST_SCRIPT_BYTES};
+use place_plan::plans::plan::Plan;
+use std::alloc::Global;
+use std::sync::Wait;
+use std::thread::Threads;
+
+/// Tells how large the plan of a script is.
+fn check<P: Plant>(alloc: Global, bytes: &[u8], plant: P) -> Decision<P>
+    ensures { InputComesTo Command.Check bytes.now result.finding
+        (left_of (plant_use ⟦<P as Plant>⟧ plant result.plant) result.journal.entries) }
+{
+    match counts_of(alloc, bytes) {
+        Ok(counts) => Decision::idle(alloc, Finding::Checked(counts), plant),
+        Err(NoPlan::Refused(refusal)) => Decision::idle(alloc, Finding::Refused(refusal), plant),
+        Err(NoPlan::OutOfMemory) => Decision::idle(alloc, Finding::OutOfMemory, plant),
+    }
+}
+
+/// Judges the journal that stands after the script, which has so many lines.
+fn judge_after<P: Plant>(alloc: Global, plan: &Plan, bytes: &[u8], plant: P) -> Decision<P>
+    requires { is_well_named plan.now ≡ true }
+    ensures { AuditComesTo plan.now bytes.now result.finding
+        (left_of (plant_use ⟦<P as Plant>⟧ plant result.plant) result.journal.entries) }
+{
+    let start = find_journal(bytes);
+    match judge(alloc, plan, &bytes[start.place..]) {
+        Judgement::Lawful(journal) => Decision {
+            finding: Finding::Legal {
+                entries: journal.len(),
+            },
+            plant,
+            journal,
+        },
+        Judgement::Illegal { number } => {
+            let line = start.lines + number;
+            Decision::idle(alloc, Finding::Illegal { line }, plant)
+        }
+        Judgement::TooMany => {
+            let refusal = Refusal {
+                line: start.lines + (MOST_AUDITED + 2),
+                fault: Fault::Limit,
+            };
+            Decision::idle(alloc, Finding::Refused(refusal), plant)
+        }
+        Judgement::OutOfMemory => Decision::idle(alloc, Finding::OutOfMemory, plant),
+    }
+}
+
+/// Serves a command over a plan, and over all bytes that were read. It is none that needs threads, nor `check`, which needs no plan.
+fn serve_plan<P: Plant>(
+    alloc: Global,
+    command: Command,
+    plan: Plan,
+    bytes: &[u8],
+    plant: P,
+) -> Decision<P>
+    requires seed { HasSeed command }
+    requires quiet { without_threads (Some command) ≡ Some command }
+    requires other { command ≢ Command.Check }
+    requires named { is_well_named plan ≡ true }
+    ensures { PlanComesTo command plan bytes.now result.finding
+        (left_of (plant_use ⟦<P as Plant>⟧ plant result.plant) result.journal.entries) }
+{
+    match command {
+        Command::Check | Command::Run => unreachable!(),
+        Command::Sim(seed) => simulate(alloc, plan, seed, plant),
+        Command::Audit => judge_after(alloc, &plan, bytes, plant),
+    }
+}
+
+/// Which of the bytes that were read are the script.
+fn script_in(command: Command, bytes: &[u8]) -> &[u8]
+    ensures { result.now ≡ script_in command bytes.now }
+{
+    match command {
+        Command::Audit => &bytes[..find_journal(bytes).place],
+        Command::Check | Command::Sim(_) | Command::Run => bytes,
+    }
+}
+
+/// Serves a command over the bytes that were read.
+fn serve<P: Plant>(alloc: Global, command: Command, bytes: &[u8], plant: P) -> Decision<P>
+    requires seed { HasSeed command }
+    requires quiet { without_threads (Some command) ≡ Some command }
+    ensures { InputComesTo command bytes.now result.finding
+        (left_of (plant_use ⟦<P as Plant>⟧ plant result.plant) result.journal.entries) }
+{
+    if let Command::Check = command {
+        return check(alloc, bytes, plant);
+    }
+    match plan_of(alloc, script_in(command, bytes)) {
+        Ok(plan) => serve_plan(alloc, command, plan, bytes, plant),
+        Err(NoPlan::Refused(refusal)) => Decision::idle(alloc, Finding::Refused(refusal), plant),
+        Err(NoPlan::OutOfMemory) => Decision::idle(alloc, Finding::OutOfMemory, plant),
+    }
+}
+
+/// How many bytes the input of a command may have.
+fn most_bytes(command: Command) -> u64
+    ensures value { result ≡ most_bytes command }
+    ensures small { result ≤ most_audit_bytes }
+{
+    match command {
+        Command::Audit => MOST_AUDIT_BYTES,
+        Command::Check | Command::Sim(_) | Command::Run => MOST_SCRIPT_BYTES,
+    }
+}
+
+/// What a reading came to that didn't come to its end.
+fn unread(error: ReadError) -> Finding
+    ensures { result ≡ unread_finding error }
+{
+    match error {
+        ReadError::Fault => Finding::SourceFault,
+        ReadError::TooLong => Finding::Refused(Refusal {
+            line: 0,
+            fault: Fault::TooLong,
+        }),
+        ReadError::OutOfMemory => Finding::OutOfMemory,
+    }
+}
+
+/// What a command comes to over a source and a device. It is none that needs threads.
+pub fn decide<S: Source, P: Plant>(
+    alloc: Global,
+    asked: Option<Command>,
+    source: &mut S,
+    plant: P,
+) -> Decision<P>
+    requires seed { IfSome asked HasSeed }
+    requires quiet { without_threads asked ≡ asked }
+    ensures came { CameTo
+        (call_of asked
+        (source_use ⟦<S as Source>⟧ source.old source.new)
+        (left_of (plant_use ⟦<P as Plant>⟧ plant result.plant) result.journal.entries))
+        result.finding }
+    ensures untouched { asked ≡ None → source.new ≡ source.old }
+    ensures count { S.faults source.old ≤ S.faults source.new }
+{
+    let Some(command) = asked else {
+        return Decision::idle(alloc, Finding::Usage, plant);
+    };
+    match read_all(alloc, source, most_bytes(command)) {
+        Ok(bytes) => serve(alloc, command, bytes.as_slice(), plant),
+        Err(error) => Decision::idle(alloc, unread(error), plant),
+    }
+}
+
+/// Runs the script that was read in threads. It need not return.
+fn run_script<P: Plant + Send, G: Gate + Sync, R: Threads + Wait + Sync>(
+    rt: &R,
+    alloc: Global,
+    bytes: &[u8],
+    plant: P,
+    gate: &G,
+) -> Decision<P>
+    ensures { InputComesTo Command.Run bytes.now result.finding
+        (left_of (plant_use ⟦<P as Plant>⟧ plant result.plant) result.journal.entries) }
+{
+    match plan_of(alloc, bytes) {
+        Ok(plan) => run_plan(rt, alloc, plan, plant, gate),
+        Err(NoPlan::Refused(refusal)) => Decision::idle(alloc, Finding::Refused(refusal), plant),
+        Err(NoPlan::OutOfMemory) => Decision::idle(alloc, Finding::OutOfMemory, plant),
+    }
+}
+
+/// What `run` comes to over a source and a device. It need not return.
+pub fn decide_run<S: Source, P: Plant + Send, G: Gate + Sync, R: Threads + Wait + Sync>(
+    rt: &R,
+    alloc: Global,
+    source: &mut S,
+    plant: P,
+    gate: &G,
+) -> Decision<P>
+    ensures came { CameTo
+        (call_of (Some Command.Run)
+        (source_use ⟦<S as Source>⟧ source.old source.new)
+        (left_of (plant_use ⟦<P as Plant>⟧ plant result.plant) result.journal.entries))
+        result.finding }
+    ensures count { S.faults source.old ≤ S.faults source.new }
+{
+    match read_all(alloc, source, most_bytes(Command::Run)) {
+        Ok(bytes) => run_script(rt, alloc, bytes.as_slice(), plant, gate),
+        Err(error) => Decision::idle(alloc, unread(error), plant),
+    }
+}

@@ -1,9 +1,0 @@
-use Rattle.std.proofs.Common.{◌≡◌, length}
-use Rattle.caa_main.specs.Inputs.{without_blanks}
-use Rattle.caa_main.proofs.inputs.without_blanks.Given as goal
-
-abbrev pub invariant-loop-byte : goal.invariant-loop-byte
-invariant-loop-byte l = without_blanks l.rest ≡ without_blanks l.line
-
-abbrev pub decreases-loop-byte : goal.decreases-loop-byte
-decreases-loop-byte l = length l.rest

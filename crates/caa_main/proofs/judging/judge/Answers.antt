@@ -1,4 +1,0 @@
-use Rattle.caa_main.proofs.judging.judge.Goals as goal
-
-pub returns : goal.returns
-returns c = c.judge_journal.ensures c.args.text.now c.in-Ok.ensures.reads.same

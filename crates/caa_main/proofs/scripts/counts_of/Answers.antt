@@ -1,7 +1,0 @@
-use Rattle.caa_main.proofs.Answers.{unplannable}
-use Rattle.caa_main.proofs.scripts.counts_of.Goals as goal
-
-pub returns-clause-refused : goal.returns-clause-refused
-returns-clause-refused c =
-    let told = c.in_ok-refusal-in-Err.ensures in
-    unplannable c.args.bytes.now c.in_ok-script.script c.in-Err.error c.in_ok-refusal-in-Err.refusal c.in_ok-script.ensures.script c.in-Err.ensures.refused told.line told.fault

@@ -1,0 +1,11 @@
+//! The tests of the crates, over their public calls. A crate with tests of its own would be proved twice, with them and without.
+#![tactic(auto)]
+
+#[cfg(test)]
+mod base;
+#[cfg(test)]
+mod covers;
+#[cfg(test)]
+mod graphs;
+#[cfg(test)]
+mod top_calls;
