@@ -1,12 +1,4 @@
-pub mod ScriptWords
-pub mod NumberedNames
-pub mod Kinds
+pub mod Words
+pub mod Lines
 pub mod Forms
-pub mod CutLines
-pub mod Asked
-pub mod ScriptValue
-pub mod Spelling
-pub mod MetPlays
-pub mod SoFar
-pub mod Printing
-pub mod FewOrMany
+pub mod inner

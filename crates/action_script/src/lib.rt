@@ -2,20 +2,9 @@
 //! reads back.
 #![tactic(auto)]
 
-mod asked;
-mod classes;
-pub mod cuts;
-mod field;
-pub mod form;
-mod kind;
-mod met_plays;
-mod names;
-pub mod numbers;
-pub mod printer;
-pub mod reader;
-pub mod script;
+pub mod forms;
+pub mod lines;
 pub mod script_error;
-mod script_line;
 #[cfg(test)]
 mod tests;
-pub mod word;
+pub mod words;

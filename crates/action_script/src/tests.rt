@@ -1,11 +1,11 @@
-use crate::form::Form;
-use crate::numbers::Numbers;
-use crate::printer::print;
-use crate::reader::read;
-use crate::script::Script;
+use crate::forms::form::Form;
+use crate::forms::printer::print;
+use crate::forms::script::Script;
+use crate::lines::reader::read;
 use crate::script_error::{ScriptCause, ScriptError};
 use caa_base::written::entry::Test;
 use caa_base::written::name::Name;
+use caa_base::written::rows::Rows;
 use std::alloc::{AllocError, Global};
 use std::test::Fail;
 
@@ -84,103 +84,62 @@ fn numbers_names_as_they_first_appear(rt: HostRuntime) -> Result<(), Fail> {
     Ok(())
 }
 
-/// Each fault once, with the line that has it.
+/// Scripts with a fault, the line that has it, and its cause.
+const FAULTS: &[(&[u8], u32, ScriptCause)] = &[
+    (b"action w\nenter a\nend\n", 2, ScriptCause::BadLine),
+    (b"action w\nhandler a e\nenter n\n", 3, ScriptCause::BadLine),
+    (b"cover a b\n", 1, ScriptCause::BadLine),
+    (b"end\n", 1, ScriptCause::BadLine),
+    (b"Object x 5\n", 1, ScriptCause::BadLine),
+    (b"participant\n", 1, ScriptCause::BadLine),
+    (b"participant ann bob\n", 1, ScriptCause::BadLine),
+    (b"play w\n", 1, ScriptCause::BadLine),
+    (b"action w\nnest n w\n", 2, ScriptCause::BadLine),
+    (b"action w\nabort a below 5\n", 2, ScriptCause::BadLine),
+    (
+        b"action w\nbody 1\ncheck under x 2\n",
+        2,
+        ScriptCause::BadName,
+    ),
+    (
+        b"action w\nbody a\ncheck under x 2\n",
+        3,
+        ScriptCause::BadLine,
+    ),
+    (b"object x 5\nobject y\x7f 5\n", 2, ScriptCause::BadLine),
+    (b"participant a\x80\n", 1, ScriptCause::BadLine),
+    (b"participant 9a \x00\n", 1, ScriptCause::BadLine),
+    (b"object x 1000000000001\n", 1, ScriptCause::BadNumber),
+    (b"object x -1000000000001\n", 1, ScriptCause::BadNumber),
+    (b"object x -0\n", 1, ScriptCause::BadNumber),
+    (b"object x 05\n", 1, ScriptCause::BadNumber),
+    (b"object x +5\n", 1, ScriptCause::BadNumber),
+    (b"object x -\n", 1, ScriptCause::BadNumber),
+    (b"drill x 0\n", 1, ScriptCause::BadNumber),
+    (b"drill x 1000001\n", 1, ScriptCause::BadNumber),
+    (b"action w\nbody a\nwork -1\n", 3, ScriptCause::BadNumber),
+    (
+        b"action w\nbody a\nwork 1000001\n",
+        3,
+        ScriptCause::BadNumber,
+    ),
+    (b"participant 9a\n", 1, ScriptCause::BadName),
+    (b"participant _a\n", 1, ScriptCause::BadName),
+    (b"participant a.b\n", 1, ScriptCause::BadName),
+    (
+        b"participant a23456789012345678901234567890123\n",
+        1,
+        ScriptCause::BadName,
+    ),
+    (b"object 9 9a\n", 1, ScriptCause::BadName),
+    (b"object x 9a\nobject 9a 5\n", 1, ScriptCause::BadNumber),
+    (b"action w\nabort a below x 9\n", 2, ScriptCause::BadNumber),
+];
+
 #[test]
 fn refuses_each_fault(rt: HostRuntime) {
-    let alloc = rt.alloc();
-    let faults = [
-        // the first word, the number of words, a test
-        (
-            b"action w\nenter a\nend\n".as_slice(),
-            2,
-            ScriptCause::BadLine,
-        ),
-        (
-            b"action w\nhandler a e\nenter n\n".as_slice(),
-            3,
-            ScriptCause::BadLine,
-        ),
-        (b"cover a b\n".as_slice(), 1, ScriptCause::BadLine),
-        (b"end\n".as_slice(), 1, ScriptCause::BadLine),
-        (b"Object x 5\n".as_slice(), 1, ScriptCause::BadLine),
-        (b"participant\n".as_slice(), 1, ScriptCause::BadLine),
-        (b"participant ann bob\n".as_slice(), 1, ScriptCause::BadLine),
-        (b"play w\n".as_slice(), 1, ScriptCause::BadLine),
-        (b"action w\nnest n w\n".as_slice(), 2, ScriptCause::BadLine),
-        (
-            b"action w\nabort a below 5\n".as_slice(),
-            2,
-            ScriptCause::BadLine,
-        ),
-        (
-            b"action w\nbody 1\ncheck under x 2\n".as_slice(),
-            2,
-            ScriptCause::BadName,
-        ),
-        (
-            b"action w\nbody a\ncheck under x 2\n".as_slice(),
-            3,
-            ScriptCause::BadLine,
-        ),
-        // bytes
-        (
-            b"object x 5\nobject y\x7f 5\n".as_slice(),
-            2,
-            ScriptCause::BadLine,
-        ),
-        (b"participant a\x80\n".as_slice(), 1, ScriptCause::BadLine),
-        (b"participant 9a \x00\n".as_slice(), 1, ScriptCause::BadLine),
-        // numbers
-        (
-            b"object x 1000000000001\n".as_slice(),
-            1,
-            ScriptCause::BadNumber,
-        ),
-        (
-            b"object x -1000000000001\n".as_slice(),
-            1,
-            ScriptCause::BadNumber,
-        ),
-        (b"object x -0\n".as_slice(), 1, ScriptCause::BadNumber),
-        (b"object x 05\n".as_slice(), 1, ScriptCause::BadNumber),
-        (b"object x +5\n".as_slice(), 1, ScriptCause::BadNumber),
-        (b"object x -\n".as_slice(), 1, ScriptCause::BadNumber),
-        (b"drill x 0\n".as_slice(), 1, ScriptCause::BadNumber),
-        (b"drill x 1000001\n".as_slice(), 1, ScriptCause::BadNumber),
-        (
-            b"action w\nbody a\nwork -1\n".as_slice(),
-            3,
-            ScriptCause::BadNumber,
-        ),
-        (
-            b"action w\nbody a\nwork 1000001\n".as_slice(),
-            3,
-            ScriptCause::BadNumber,
-        ),
-        // names
-        (b"participant 9a\n".as_slice(), 1, ScriptCause::BadName),
-        (b"participant _a\n".as_slice(), 1, ScriptCause::BadName),
-        (b"participant a.b\n".as_slice(), 1, ScriptCause::BadName),
-        (
-            b"participant a23456789012345678901234567890123\n".as_slice(),
-            1,
-            ScriptCause::BadName,
-        ),
-        // the first word that is wrong
-        (b"object 9 9a\n".as_slice(), 1, ScriptCause::BadName),
-        (
-            b"object x 9a\nobject 9a 5\n".as_slice(),
-            1,
-            ScriptCause::BadNumber,
-        ),
-        (
-            b"action w\nabort a below x 9\n".as_slice(),
-            2,
-            ScriptCause::BadNumber,
-        ),
-    ];
-    for (text, line, cause) in &faults {
-        assert!(rt; is_refused(alloc, text, *line, *cause));
+    for (text, line, cause) in FAULTS {
+        assert!(rt; is_refused(rt.alloc(), text, *line, *cause));
     }
 }
 
@@ -217,30 +176,20 @@ fn counts_the_bytes_of_lines_and_scripts(rt: HostRuntime) -> Result<(), Fail> {
     Ok(())
 }
 
-/// A script in which one role is informed at its last line.
-const INFORMED_AT_EXIT: &[u8] =
-    b"participant ann\nparticipant bob\nobject x 0\nobject y 0\ngraph tree\nexception left\nend\ngraph faces\nexception weak\nend\naction duo\ninternal tree\ninterface faces\nuse x y\nroles a b\nbody a\nput x 1\nbody b\nread x\ncheck above 0 left\nhandler a left\nhandler b left\nput y 9\nsignal weak\nend\nplay duo ann bob\n";
-
-/// After how many of its lines the reader is at the top.
-const AT_TOP_AFTER: [u32; 9] = [0, 1, 2, 3, 4, 7, 10, 25, 26];
+/// The first lines of a script that ends in a block.
+const CUT_OFF: &[(&[u8], u32)] = &[
+    (b"graph g\n", 2),
+    (b"graph g\nexception e\n", 3),
+    (b"action w\nroles a\n", 3),
+    (b"action w\nroles a\nbody a\n", 4),
+    (b"action w\nroles a\nbody a\nend\nplay w ann\naction v", 7),
+];
 
 #[test]
 fn refuses_a_script_that_ends_in_a_block(rt: HostRuntime) {
-    let alloc = rt.alloc();
-    let mut lines = 0;
-    for (place, byte) in INFORMED_AT_EXIT.iter().enumerate() {
-        if *byte == b'\n' && lines < 26 {
-            lines += 1;
-            let cut = &INFORMED_AT_EXIT[..place + 1];
-            let whole = AT_TOP_AFTER.iter().any(|count| *count == lines);
-            assert_eq!(rt; is_read(alloc, cut), whole);
-            assert_eq!(rt;
-                is_refused(alloc, cut, lines + 1, ScriptCause::BadLine),
-                !whole
-            );
-        }
+    for (text, line) in CUT_OFF {
+        assert!(rt; is_refused(rt.alloc(), text, *line, ScriptCause::BadLine));
     }
-    assert_eq!(rt; lines, 26);
 }
 
 /// A script that has each form.
@@ -248,64 +197,16 @@ const EACH_FORM: &[u8] =
     b"participant a\nobject b -7\ndrill b 3\nwatch b\ngraph c\nexception d\ncover d a\nend\naction e\ninternal c\ninterface c\nfault d\nuse b a\nroles a e\nnest f e a b\nmap f d a\nmapundo f d\nmapfailure f a\nalternate f e\nabort a d\nabort e equal 4 d\nbody a\nread b\nput b 1\nadd b -1\nwork 9\ncheck below 2 d\nraise d\nenter f\ndone\nhandler a d\nsignal d\nhandler e d\nundo\nend\nplay e a b\n";
 
 #[test]
-fn reads_each_form_outside_actions(rt: HostRuntime) -> Result<(), Fail> {
+fn reads_and_prints_each_form(rt: HostRuntime) -> Result<(), Fail> {
     let script = read(rt.alloc(), EACH_FORM)?;
     assert_eq!(rt; script.len(), 36);
-    assert!(rt; matches!(script.form(0), Form::Participant(0)));
-    assert!(rt; matches!(script.form(1), Form::Object(1, -7)));
-    assert!(rt; matches!(script.form(2), Form::Drill(1, 3)));
-    assert!(rt; matches!(script.form(3), Form::Watch(1)));
-    assert!(rt; matches!(script.form(4), Form::Graph(2)));
-    assert!(rt; matches!(script.form(5), Form::Exception(3)));
-    assert!(rt; matches!(script.form(6), Form::Cover(3, 0)));
-    assert!(rt; matches!(script.form(7), Form::End));
-    assert!(rt; matches!(script.form(8), Form::Action(4)));
-    assert!(rt; matches!(script.form(34), Form::End));
     assert!(rt;
-        matches!(script.form(35), Form::Play(4, list) if list.items() == [0, 1].as_slice())
+        matches!(script.form(14), Form::Nest(5, 4, list) if list.as_slice() == [0, 1].as_slice())
     );
-    assert_eq!(rt; print(rt.alloc(), &script)?.as_slice(), EACH_FORM);
-    Ok(())
-}
-
-#[test]
-fn reads_each_form_of_an_action(rt: HostRuntime) -> Result<(), Fail> {
-    let script = read(rt.alloc(), EACH_FORM)?;
-    assert_eq!(rt; script.len(), 36);
-    assert!(rt; matches!(script.form(9), Form::Internal(2)));
-    assert!(rt; matches!(script.form(10), Form::Interface(2)));
-    assert!(rt; matches!(script.form(11), Form::Fault(3)));
-    assert!(rt; matches!(script.form(12), Form::Uses(list) if list.items() == [1, 0].as_slice()));
-    assert!(rt; matches!(script.form(13), Form::Roles(list) if list.items() == [0, 4].as_slice()));
-    assert!(rt;
-        matches!(script.form(14), Form::Nest(5, 4, list) if list.items() == [0, 1].as_slice())
-    );
-    assert!(rt; matches!(script.form(15), Form::Map(5, 3, 0)));
-    assert!(rt; matches!(script.form(16), Form::MapUndo(5, 3)));
-    assert!(rt; matches!(script.form(17), Form::MapFailure(5, 0)));
-    assert!(rt; matches!(script.form(18), Form::Alternate(5, 4)));
-    assert!(rt; matches!(script.form(19), Form::Abort(0, 3)));
     assert!(rt; matches!(script.form(20), Form::AbortTest(4, Test::Equal, 4, 3)));
-    assert!(rt; matches!(script.form(21), Form::Body(0)));
-    assert!(rt; matches!(script.form(30), Form::Handler(0, 3)));
-    assert!(rt; matches!(script.form(32), Form::Handler(4, 3)));
-    Ok(())
-}
-
-#[test]
-fn reads_each_form_of_a_body(rt: HostRuntime) -> Result<(), Fail> {
-    let script = read(rt.alloc(), EACH_FORM)?;
-    assert_eq!(rt; script.len(), 36);
-    assert!(rt; matches!(script.form(22), Form::ReadStep(1)));
-    assert!(rt; matches!(script.form(23), Form::PutStep(1, 1)));
     assert!(rt; matches!(script.form(24), Form::AddStep(1, -1)));
-    assert!(rt; matches!(script.form(25), Form::WorkStep(9)));
-    assert!(rt; matches!(script.form(26), Form::CheckStep(Test::Below, 2, 3)));
-    assert!(rt; matches!(script.form(27), Form::RaiseStep(3)));
-    assert!(rt; matches!(script.form(28), Form::EnterStep(5)));
-    assert!(rt; matches!(script.form(29), Form::DoneLine));
-    assert!(rt; matches!(script.form(31), Form::SignalLine(3)));
     assert!(rt; matches!(script.form(33), Form::UndoLine));
+    assert_eq!(rt; print(rt.alloc(), &script)?.as_slice(), EACH_FORM);
     Ok(())
 }
 
@@ -315,7 +216,7 @@ fn makes_a_script_of_forms(rt: HostRuntime) -> Result<(), Fail> {
     let mut names = Vec::new(alloc);
     names.push(Name::from_bytes(alloc, b"w")?)?;
     names.push(Name::from_bytes(alloc, b"r")?)?;
-    let roles = Numbers::from_slice(alloc, &[1])?;
+    let roles = Rows::from_vec(vec![in alloc; 1]?);
     let mut forms = Vec::new(alloc);
     forms.push(Form::Action(0))?;
     forms.push(Form::Roles(roles))?;

@@ -1,7 +1,7 @@
 -- What an answer of the checker says that is no want of memory.
 use Rattle.std.proofs.Common.{◌≡◌, ◌≢◌, ℕ, List, Ok, Err, Result, inr, subst}
-use Rattle.action_script.specs.Spelling.{reading_of}
-use Rattle.action_script.specs.ScriptValue.{Script}
+use Rattle.action_script.specs.Lines.Spelling.{reading_of}
+use Rattle.action_script.specs.Forms.ScriptValue.{Script}
 use Rattle.place_plan.specs.Plans.PlanValue.{Plan}
 use Rattle.script_checker.specs.declared.check_error.CheckError.{CheckError}
 use Rattle.script_checker.specs.declared.check_error.CheckCause.TheVariants as cause

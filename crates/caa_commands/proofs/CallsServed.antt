@@ -7,7 +7,7 @@ use Rattle.caa_base.specs.Outside.Reading.{TookOff, TookUntil}
 use Rattle.caa_base.specs.declared.written.entry.Entry.{Entry}
 use Rattle.caa_base.specs.declared.outside.reading.ReadError.{ReadError}
 use Rattle.caa_base.specs.declared.outside.reading.ReadError.TheVariants as error
-use Rattle.action_script.specs.ScriptValue.{Script}
+use Rattle.action_script.specs.Forms.ScriptValue.{Script}
 use Rattle.script_checker.specs.Compiled.{IsFirstRefused}
 use Rattle.journal_text.specs.declared.looks.seens.Seen.{Seen}
 use Rattle.place_plan.specs.Plans.PlanValue.{Plan}

@@ -1,7 +1,7 @@
 -- A script that has a plan isn't refused.
 use Rattle.std.proofs.Common.{List, [], ◌∷◌, ◌++◌, ℕ, subst}
-use Rattle.action_script.specs.ScriptValue.{Script}
-use Rattle.action_script.specs.declared.script.Line.{Line}
+use Rattle.action_script.specs.Forms.ScriptValue.{Script}
+use Rattle.action_script.specs.declared.forms.script.Line.{Line}
 use Rattle.place_plan.specs.Plans.PlanValue.{Plan}
 use Rattle.script_checker.specs.declared.check_error.CheckError.{CheckError}
 use Rattle.script_checker.specs.DeclaredSoFar.{SoFar, nothing_yet}

@@ -12,18 +12,18 @@ use Rattle.place_plan.proofs.OnDrafts.DraftKeeps.{keeps_rules}
 use Rattle.action_script.specs.declared.script_error.ScriptCause.{ScriptCause}
 use Rattle.action_script.specs.declared.script_error.ScriptCause.TheVariants as cause
 use Rattle.action_script.specs.declared.script_error.ScriptError.{ScriptError}
-use Rattle.action_script.specs.declared.kind.Section.{Section}
-use Rattle.action_script.specs.declared.kind.Section.TheVariants as section
-use Rattle.action_script.specs.Asked.{Said}
-use Rattle.action_script.specs.CutLines.{lines_of, without_empty_last}
-use Rattle.action_script.specs.Kinds.{goes_to, at_top}
-use Rattle.action_script.specs.Printing.{AreScript, forms_of}
-use Rattle.action_script.specs.ScriptValue.{Script}
-use Rattle.action_script.specs.Spelling.{Numbered, before, with_line, said_from, line_of, names_of, script_names, line_by, script_by, script_of}
-use Rattle.action_script.proofs.NamesCounted.{length-with_names, length-names_of}
-use Rattle.action_script.proofs.Pieces.{weight, weight-split}
-use Rattle.action_script.proofs.Speaking.{speaks, speaks-short}
-use Rattle.action_script.proofs.WellRead.{well_read}
+use Rattle.action_script.specs.declared.lines.kind.Section.{Section}
+use Rattle.action_script.specs.declared.lines.kind.Section.TheVariants as section
+use Rattle.action_script.specs.Lines.Asked.{Said}
+use Rattle.action_script.specs.Words.CutLines.{lines_of, without_empty_last}
+use Rattle.action_script.specs.Lines.Kinds.{goes_to, at_top}
+use Rattle.action_script.specs.Forms.Printing.{AreScript, forms_of}
+use Rattle.action_script.specs.Forms.ScriptValue.{Script}
+use Rattle.action_script.specs.Lines.Spelling.{Numbered, before, with_line, said_from, line_of, names_of, script_names, line_by, script_by, script_of}
+use Rattle.action_script.proofs.OnWords.NamesCounted.{length-with_names, length-names_of}
+use Rattle.action_script.proofs.OnWords.Pieces.{weight, weight-split}
+use Rattle.action_script.proofs.OnLines.Speaking.{speaks, speaks-short}
+use Rattle.action_script.proofs.OnForms.WellRead.{well_read}
 use Rattle.script_checker.proofs.AcceptedDraft.{breaks_none}
 use Rattle.script_checker.proofs.NamesKept.{own_names_of}
 use Rattle.journal_text.proofs.OnTexts.ReadingLemmas.{Tells}

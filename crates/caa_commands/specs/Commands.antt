@@ -1,6 +1,6 @@
 -- The command lines that are served.
 use Rattle.std.specs.Prelude.{ℕ, ℤ, pos, negsuc, ◌≤◌, nat_le, if◌then◌else◌, List, [], ◌∷◌, Option, Some, None, option_map, bytes_eq, codes}
-use Rattle.action_script.specs.ScriptWords.{value_of}
+use Rattle.action_script.specs.Words.ScriptWords.{value_of}
 use Rattle.caa_commands.specs.declared.command.Command.{Command}
 use Rattle.caa_commands.specs.declared.command.Command.TheVariants as command
 

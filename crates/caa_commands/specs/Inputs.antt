@@ -2,7 +2,7 @@
 use Rattle.std.specs.Prelude.{ℕ, ◌-◌, ◌==◌, zero, suc, if◌then◌else◌, Bool, ◌&&◌, List, [], ◌∷◌, length, take, drop, bytes_eq, codes}
 use Rattle.std.specs.List.{list_all}
 use Rattle.caa_base.specs.Written.Limits.{most_script_bytes, most_audit_bytes}
-use Rattle.action_script.specs.CutLines.{lines_of, is_blank}
+use Rattle.action_script.specs.Words.CutLines.{lines_of, is_blank}
 use Rattle.caa_commands.specs.declared.command.Command.{Command}
 use Rattle.caa_commands.specs.declared.command.Command.TheVariants as command
 

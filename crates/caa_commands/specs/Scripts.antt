@@ -1,10 +1,10 @@
 -- What the bytes of a script come to: its plan, or the fault for which it is refused.
 use Rattle.std.specs.Prelude.{◌≡◌, ◌⊎◌, ℕ, ◌==◌, if◌then◌else◌, List, [], ◌∷◌, ◌++◌, map, slice_index_or, Ok, Err, codes}
-use Rattle.action_script.specs.ScriptValue.{Script}
-use Rattle.action_script.specs.Spelling.{reading_of}
-use Rattle.action_script.specs.declared.form.Form.{Form}
-use Rattle.action_script.specs.declared.form.Form.TheVariants as form
-use Rattle.action_script.specs.declared.script.Line.{Line}
+use Rattle.action_script.specs.Forms.ScriptValue.{Script}
+use Rattle.action_script.specs.Lines.Spelling.{reading_of}
+use Rattle.action_script.specs.declared.forms.form.Form.{Form}
+use Rattle.action_script.specs.declared.forms.form.Form.TheVariants as form
+use Rattle.action_script.specs.declared.forms.script.Line.{Line}
 use Rattle.action_script.specs.declared.script_error.ScriptError.{ScriptError}
 use Rattle.action_script.specs.declared.script_error.ScriptCause.{ScriptCause}
 use Rattle.action_script.specs.declared.script_error.ScriptCause.TheVariants as spelling

@@ -1,7 +1,7 @@
 ghost use Rattle.std.specs.Prelude.{◌≡◌, map, string_bytes, IfSome};
 ghost use Rattle.caa_commands.specs.Commands.{command_of, sim_of, seed_of, alone, without_threads, HasSeed};
 
-use action_script::word::value_of;
+use action_script::words::word::value_of;
 
 /// The greatest seed.
 const MOST_SEED: i64 = 2_147_483_647;

@@ -2,10 +2,10 @@
 
 ghost use Rattle.std.specs.Prelude.{◌≡◌, ◌≤◌, ◌+◌, ◌-◌, ℕ, length, drop};
 ghost use Rattle.std.specs.List.{list_all};
-ghost use Rattle.action_script.specs.CutLines.{is_blank};
+ghost use Rattle.action_script.specs.Words.CutLines.{is_blank};
 ghost use Rattle.caa_commands.specs.Inputs.{without_blanks, begins_journal, after_lines, script_lines, journal_part};
 
-use action_script::cuts::{cut_line, is_blank};
+use action_script::words::cuts::{cut_line, is_blank};
 
 /// Where the text of the journal begins in an input.
 #[derive(Clone, Copy, Debug, PartialEq, Eq)]

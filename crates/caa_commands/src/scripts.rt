@@ -1,14 +1,14 @@
 //! The plan that a script has by its bytes, or the fault for which it is refused.
 
 ghost use Rattle.std.specs.Prelude.{◌≡◌, true, [], Ok, IfOk, IfErr, OnOk};
-ghost use Rattle.action_script.specs.Spelling.{reading_of};
+ghost use Rattle.action_script.specs.Lines.Spelling.{reading_of};
 ghost use Rattle.journal_text.specs.Texts.Naming.{is_well_named};
 ghost use Rattle.caa_commands.specs.Scripts.{HasPlan, IsCounted, HasNoPlan, IsSpelling, IsCause, declared_after, declared_at, exception_at};
 
 use crate::fault::{Fault, Refusal};
-use action_script::form::Form;
-use action_script::reader::read;
-use action_script::script::Script;
+use action_script::forms::form::Form;
+use action_script::lines::reader::read;
+use action_script::forms::script::Script;
 use action_script::script_error::ScriptCause;
 use caa_base::written::entry::OutOfMemory;
 use caa_base::written::name::{Name, name_at};

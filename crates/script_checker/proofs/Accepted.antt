@@ -5,13 +5,13 @@ use Rattle.std.proofs.lemmas.Bool.{and_parts, false≢true, false_from_ne_true}
 use Rattle.caa_base.specs.declared.written.entry.Verdict.{Verdict}
 use Rattle.caa_base.specs.declared.written.entry.Verdict.TheVariants as verdict
 use Rattle.script_checker.specs.declared.parts.Opening.{Opening}
-use Rattle.action_script.specs.declared.form.Form.{Form}
-use Rattle.action_script.specs.declared.kind.Section.{Section}
-use Rattle.action_script.specs.declared.kind.Section.TheVariants as section
-use Rattle.action_script.specs.declared.script.Line.{Line}
-use Rattle.action_script.specs.Kinds.{stands_in, goes_to, at_top}
-use Rattle.action_script.specs.Forms.{kind_of}
-use Rattle.action_script.specs.Printing.{is_sound, forms_of, lead_to_top}
+use Rattle.action_script.specs.declared.forms.form.Form.{Form}
+use Rattle.action_script.specs.declared.lines.kind.Section.{Section}
+use Rattle.action_script.specs.declared.lines.kind.Section.TheVariants as section
+use Rattle.action_script.specs.declared.forms.script.Line.{Line}
+use Rattle.action_script.specs.Lines.Kinds.{stands_in, goes_to, at_top}
+use Rattle.action_script.specs.Forms.LineForms.{kind_of}
+use Rattle.action_script.specs.Forms.Printing.{is_sound, forms_of, lead_to_top}
 use Rattle.script_checker.specs.declared.check_error.CheckCause.TheVariants as cause
 use Rattle.script_checker.specs.DeclaredSoFar.{SoFar}
 use Rattle.script_checker.specs.Causes.{is_twice, is_unfilled, fills_twice, enters_otherwise, is_not_held, is_too_deep, is_past_bound, has_other_face}

@@ -10,9 +10,9 @@ use Rattle.place_plan.specs.declared.drafts.draft_rows.PlayRow.{PlayRow}
 use Rattle.place_plan.specs.Plans.Places.{no_action}
 use Rattle.place_plan.specs.declared.drafts.draft.Draft.{Draft}
 use Rattle.place_plan.specs.Drafts.DraftRules.{size_rule, graph_rule, order_rule, enter_rule, fill_rule, fills, nest_fills, all_below, all_differ, face_rule, has_one_face, depth_rule, handlers_differ, bound_rule, KeepsParts, object_rule, holds_action, holds_role, holds_nest, range_rule, exceptions_of, action_in_range, handler_rule, maps_all, broken_rule}
-use Rattle.action_script.specs.declared.kind.Section.TheVariants as section
-use Rattle.action_script.specs.declared.script.Line.{Line}
-use Rattle.action_script.specs.Printing.{is_sound, forms_of, lead_to_top}
+use Rattle.action_script.specs.declared.lines.kind.Section.TheVariants as section
+use Rattle.action_script.specs.declared.forms.script.Line.{Line}
+use Rattle.action_script.specs.Forms.Printing.{is_sound, forms_of, lead_to_top}
 use Rattle.script_checker.specs.DeclaredSoFar.{SoFar, nothing_yet, exceptions_at}
 use Rattle.script_checker.specs.Compiled.{declared_after, AreAccepted, IsDraftOf}
 use Rattle.script_checker.proofs.Accepted.{holds_after}

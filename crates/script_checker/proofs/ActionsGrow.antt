@@ -4,8 +4,8 @@ use Rattle.std.specs.List.{list_all}
 use Rattle.std.proofs.lemmas.Bool.{and_parts, false≢true}
 use Rattle.caa_base.specs.declared.written.entry.Verdict.{Verdict}
 use Rattle.place_plan.specs.declared.drafts.draft_rows.ActionRow.{ActionRow}
-use Rattle.action_script.specs.declared.form.Form.{Form}
-use Rattle.action_script.specs.declared.form.Form.TheVariants as form
+use Rattle.action_script.specs.declared.forms.form.Form.{Form}
+use Rattle.action_script.specs.declared.forms.form.Form.TheVariants as form
 use Rattle.script_checker.specs.declared.parts.Block.{Block}
 use Rattle.script_checker.specs.declared.parts.Block.TheVariants as block
 use Rattle.script_checker.specs.declared.parts.Opening.{Opening}

@@ -3,7 +3,7 @@ use Rattle.std.proofs.Common.{◌≡◌, ℕ, Bool, true, false, Option, Some, N
 use Rattle.std.proofs.lemmas.Bool.{false≢true, false_from_ne_true}
 use Rattle.cover_table.specs.Cover.{CoverOrder}
 use Rattle.exception_graph.specs.Chains.{IsFirstInCycle}
-use Rattle.action_script.specs.declared.form.Form.{Form}
+use Rattle.action_script.specs.declared.forms.form.Form.{Form}
 use Rattle.script_checker.specs.declared.check_error.CheckCause.{CheckCause}
 use Rattle.script_checker.specs.declared.check_error.CheckCause.TheVariants as cause
 use Rattle.script_checker.specs.DeclaredSoFar.{SoFar}

@@ -11,8 +11,8 @@ use Rattle.place_plan.specs.declared.drafts.draft_rows.NestRow.{NestRow}
 use Rattle.place_plan.specs.Plans.Places.{no_action, no_nest}
 use Rattle.place_plan.specs.Drafts.DraftRules.{all_below, deepest_of, deepest, depth_within, depths_fit}
 use Rattle.place_plan.specs.Plans.Weights.{counted, at}
-use Rattle.action_script.specs.declared.form.Form.{Form}
-use Rattle.action_script.specs.declared.form.Form.TheVariants as form
+use Rattle.action_script.specs.declared.forms.form.Form.{Form}
+use Rattle.action_script.specs.declared.forms.form.Form.TheVariants as form
 use Rattle.script_checker.specs.declared.parts.Block.{Block}
 use Rattle.script_checker.specs.declared.parts.Block.TheVariants as block
 use Rattle.script_checker.specs.declared.parts.Opening.{Opening}

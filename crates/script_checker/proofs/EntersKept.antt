@@ -5,9 +5,9 @@ use Rattle.std.proofs.lemmas.Bool.{false≢true}
 use Rattle.caa_base.specs.declared.written.entry.Verdict.TheVariants as verdict
 use Rattle.place_plan.specs.declared.drafts.draft_rows.ActionRow.{ActionRow}
 use Rattle.place_plan.specs.Drafts.DraftRules.{roles_enter}
-use Rattle.action_script.specs.declared.form.Form.{Form}
-use Rattle.action_script.specs.declared.form.Form.TheVariants as form
-use Rattle.action_script.specs.declared.kind.Section.{Section}
+use Rattle.action_script.specs.declared.forms.form.Form.{Form}
+use Rattle.action_script.specs.declared.forms.form.Form.TheVariants as form
+use Rattle.action_script.specs.declared.lines.kind.Section.{Section}
 use Rattle.script_checker.specs.Blocks.{is_in_action}
 use Rattle.script_checker.specs.DeclaredSoFar.{SoFar}
 use Rattle.script_checker.specs.Causes.{enters_otherwise}

@@ -6,9 +6,9 @@ use Rattle.cover_table.specs.Cover.{CoverOrder, IsSound}
 use Rattle.exception_graph.specs.Chains.{IsOrderOf}
 use Rattle.caa_base.specs.declared.written.entry.Verdict.{Verdict}
 use Rattle.place_plan.specs.declared.drafts.draft_rows.GraphRow.{GraphRow}
-use Rattle.action_script.specs.NumberedNames.{number_in}
-use Rattle.action_script.specs.declared.form.Form.{Form}
-use Rattle.action_script.specs.declared.form.Form.TheVariants as form
+use Rattle.action_script.specs.Words.NumberedNames.{number_in}
+use Rattle.action_script.specs.declared.forms.form.Form.{Form}
+use Rattle.action_script.specs.declared.forms.form.Form.TheVariants as form
 use Rattle.script_checker.specs.declared.parts.Block.{Block}
 use Rattle.script_checker.specs.declared.parts.Block.TheVariants as block
 use Rattle.script_checker.specs.declared.parts.DeclaredGraph.{DeclaredGraph}

@@ -9,8 +9,8 @@ use Rattle.caa_base.specs.declared.written.entry.Verdict.TheVariants as verdict
 use Rattle.place_plan.specs.declared.drafts.draft_rows.GraphRow.{GraphRow}
 use Rattle.place_plan.specs.Plans.Places.{no_graph as no_row}
 use Rattle.place_plan.specs.Drafts.DraftRules.{first_is_plain, is_named}
-use Rattle.action_script.specs.declared.form.Form.{Form}
-use Rattle.action_script.specs.declared.form.Form.TheVariants as form
+use Rattle.action_script.specs.declared.forms.form.Form.{Form}
+use Rattle.action_script.specs.declared.forms.form.Form.TheVariants as form
 use Rattle.script_checker.specs.declared.parts.Block.{Block}
 use Rattle.script_checker.specs.declared.parts.Block.TheVariants as block
 use Rattle.script_checker.specs.declared.parts.DeclaredGraph.{DeclaredGraph}

@@ -5,12 +5,12 @@ use Rattle.std.specs.List.{list_all}
 use Rattle.std.proofs.lemmas.Bool.{false≢true, ltb-true, lt-ltb, not-false}
 use Rattle.caa_base.specs.Written.Lists.{index_of}
 use Rattle.caa_base.specs.declared.written.entry.Verdict.{Verdict}
-use Rattle.action_script.specs.declared.form.Form.{Form}
-use Rattle.action_script.specs.declared.form.Form.TheVariants as form
-use Rattle.action_script.specs.declared.kind.Section.{Section}
-use Rattle.action_script.specs.declared.kind.Section.TheVariants as section
-use Rattle.action_script.specs.Kinds.{stands_in, goes_to, at_top, in_action, in_program}
-use Rattle.action_script.specs.Forms.{kind_of}
+use Rattle.action_script.specs.declared.forms.form.Form.{Form}
+use Rattle.action_script.specs.declared.forms.form.Form.TheVariants as form
+use Rattle.action_script.specs.declared.lines.kind.Section.{Section}
+use Rattle.action_script.specs.declared.lines.kind.Section.TheVariants as section
+use Rattle.action_script.specs.Lines.Kinds.{stands_in, goes_to, at_top, in_action, in_program}
+use Rattle.action_script.specs.Forms.LineForms.{kind_of}
 use Rattle.script_checker.specs.declared.parts.Block.{Block}
 use Rattle.script_checker.specs.declared.parts.Block.TheVariants as block
 use Rattle.script_checker.specs.declared.parts.DeclaredGraph.{DeclaredGraph}

@@ -12,14 +12,14 @@ use Rattle.caa_base.specs.declared.written.entry.Verdict.TheVariants as verdict
 use Rattle.place_plan.specs.declared.drafts.draft_rows.GraphRow.{GraphRow}
 use Rattle.place_plan.specs.declared.drafts.draft_rows.ObjectRow.{ObjectRow}
 use Rattle.place_plan.specs.Plans.PlanValue.{Plan}
-use Rattle.action_script.specs.declared.form.Form.{Form}
-use Rattle.action_script.specs.declared.form.Form.TheVariants as form
-use Rattle.action_script.specs.declared.script.Line.{Line}
-use Rattle.action_script.specs.NumberedNames.{number_in}
-use Rattle.action_script.specs.ScriptValue.{Script}
-use Rattle.action_script.specs.Printing.{is_sound, forms_of, form_names, AreScript}
-use Rattle.action_script.proofs.Fits.{AreNumbered, named_within}
-use Rattle.action_script.proofs.Numbered.{numbered-with_names, numbered-none}
+use Rattle.action_script.specs.declared.forms.form.Form.{Form}
+use Rattle.action_script.specs.declared.forms.form.Form.TheVariants as form
+use Rattle.action_script.specs.declared.forms.script.Line.{Line}
+use Rattle.action_script.specs.Words.NumberedNames.{number_in}
+use Rattle.action_script.specs.Forms.ScriptValue.{Script}
+use Rattle.action_script.specs.Forms.Printing.{is_sound, forms_of, form_names, AreScript}
+use Rattle.action_script.proofs.OnForms.Fits.{AreNumbered, named_within}
+use Rattle.action_script.proofs.OnForms.Numbered.{numbered-with_names, numbered-none}
 use Rattle.script_checker.specs.declared.check_error.CheckCause.TheVariants as cause
 use Rattle.script_checker.specs.declared.parts.Block.{Block}
 use Rattle.script_checker.specs.declared.parts.Block.TheVariants as block

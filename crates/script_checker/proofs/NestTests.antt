@@ -8,7 +8,7 @@ use Rattle.place_plan.specs.declared.drafts.draft_rows.ActionRow.{ActionRow}
 use Rattle.place_plan.specs.declared.drafts.draft_rows.NestRow.{NestRow}
 use Rattle.place_plan.specs.Plans.Places.{no_action}
 use Rattle.place_plan.specs.Drafts.DraftRules.{all_below, all_differ}
-use Rattle.action_script.specs.declared.form.Form.TheVariants as form
+use Rattle.action_script.specs.declared.forms.form.Form.TheVariants as form
 use Rattle.script_checker.specs.declared.parts.DeclaredGraph.{DeclaredGraph}
 use Rattle.script_checker.specs.Numbers.{is_among, has_twice}
 use Rattle.script_checker.specs.DeclaredSoFar.{nest_of, action_of}

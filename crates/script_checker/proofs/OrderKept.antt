@@ -6,7 +6,7 @@ use Rattle.caa_base.specs.declared.written.entry.Verdict.TheVariants as verdict
 use Rattle.place_plan.specs.declared.drafts.draft_rows.ActionRow.{ActionRow}
 use Rattle.place_plan.specs.declared.drafts.draft_rows.NestRow.{NestRow}
 use Rattle.place_plan.specs.Drafts.DraftRules.{all_below, nests_below}
-use Rattle.action_script.specs.declared.form.Form.{Form}
+use Rattle.action_script.specs.declared.forms.form.Form.{Form}
 use Rattle.script_checker.specs.DeclaredSoFar.{SoFar}
 use Rattle.script_checker.specs.After.{with_said, action_row}
 use Rattle.script_checker.proofs.Accepted.{IsKept}

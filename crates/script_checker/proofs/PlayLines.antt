@@ -10,15 +10,15 @@ use Rattle.place_plan.specs.Plans.Bound.{bound}
 use Rattle.place_plan.specs.Drafts.DraftRules.{KeepsParts, action_in_range, play_in_range, nest_fills}
 use Rattle.place_plan.specs.Plans.Unfolding.{plan_of}
 use Rattle.place_plan.specs.Plans.Weights.{counted, at, played_weight, own_entries}
-use Rattle.action_script.specs.declared.form.Form.{Form}
-use Rattle.action_script.specs.declared.form.Form.TheVariants as form
-use Rattle.action_script.specs.declared.kind.Section.{Section}
-use Rattle.action_script.specs.declared.kind.Section.TheVariants as section
-use Rattle.action_script.specs.declared.script.Line.{Line}
-use Rattle.action_script.specs.Kinds.{stands_in, goes_to}
-use Rattle.action_script.specs.Forms.{kind_of}
-use Rattle.action_script.specs.Printing.{AreScript, is_sound, forms_of, lead_to_top}
-use Rattle.action_script.specs.ScriptValue.{Script}
+use Rattle.action_script.specs.declared.forms.form.Form.{Form}
+use Rattle.action_script.specs.declared.forms.form.Form.TheVariants as form
+use Rattle.action_script.specs.declared.lines.kind.Section.{Section}
+use Rattle.action_script.specs.declared.lines.kind.Section.TheVariants as section
+use Rattle.action_script.specs.declared.forms.script.Line.{Line}
+use Rattle.action_script.specs.Lines.Kinds.{stands_in, goes_to}
+use Rattle.action_script.specs.Forms.LineForms.{kind_of}
+use Rattle.action_script.specs.Forms.Printing.{AreScript, is_sound, forms_of, lead_to_top}
+use Rattle.action_script.specs.Forms.ScriptValue.{Script}
 use Rattle.script_checker.specs.declared.check_error.CheckCause.TheVariants as cause
 use Rattle.script_checker.specs.declared.parts.Opening.{Opening}
 use Rattle.script_checker.specs.DeclaredSoFar.{SoFar, nothing_yet}

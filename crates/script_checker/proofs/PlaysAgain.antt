@@ -5,8 +5,8 @@ use Rattle.std.proofs.lemmas.Bool.{and_parts, eqb-true, false≢true}
 use Rattle.std.proofs.lemmas.Bool.Decides.{Decides-eqb}
 use Rattle.std.proofs.lemmas.Slice.Eq.{slice_eq-Decides}
 use Rattle.place_plan.specs.declared.drafts.draft_rows.PlayRow.{PlayRow}
-use Rattle.action_script.specs.declared.form.Form.{Form}
-use Rattle.action_script.specs.declared.form.Form.TheVariants as form
+use Rattle.action_script.specs.declared.forms.form.Form.{Form}
+use Rattle.action_script.specs.declared.forms.form.Form.TheVariants as form
 use Rattle.script_checker.specs.declared.check_error.CheckCause.TheVariants as cause
 use Rattle.script_checker.specs.DeclaredSoFar.{SoFar}
 use Rattle.script_checker.specs.After.{settled, with_said, after, play_row}

@@ -3,8 +3,8 @@ use Rattle.std.proofs.Common.{◌≡◌, List, length, None, refl, sym, ap, ◌�
 use Rattle.place_plan.specs.declared.drafts.draft_rows.GraphRow.{GraphRow}
 use Rattle.place_plan.specs.Drafts.DraftRules.{broken_rule}
 use Rattle.place_plan.specs.Plans.Unfolding.{plan_of}
-use Rattle.action_script.specs.Printing.{AreScript, forms_of}
-use Rattle.action_script.specs.ScriptValue.{Script}
+use Rattle.action_script.specs.Forms.Printing.{AreScript, forms_of}
+use Rattle.action_script.specs.Forms.ScriptValue.{Script}
 use Rattle.script_checker.specs.DeclaredSoFar.{SoFar}
 use Rattle.script_checker.specs.Rows.{parted}
 use Rattle.script_checker.specs.Compiled.{IsDeclared, BreaksNoRule}

@@ -2,10 +2,10 @@
 use Rattle.std.proofs.Common.{◌≡◌, ℕ, ℤ, nat_le, Bool, true, ◌&&◌, List, length}
 use Rattle.std.proofs.lemmas.Bool.{and_parts}
 use Rattle.caa_base.specs.Written.Limits.{is_value, most_count}
-use Rattle.action_script.specs.declared.form.Form.{Form}
-use Rattle.action_script.specs.Kinds.{takes, parts_of}
-use Rattle.action_script.specs.Forms.{kind_of, fields_of}
-use Rattle.action_script.specs.Printing.{is_sound, all_fit}
+use Rattle.action_script.specs.declared.forms.form.Form.{Form}
+use Rattle.action_script.specs.Lines.Kinds.{takes, parts_of}
+use Rattle.action_script.specs.Forms.LineForms.{kind_of, fields_of}
+use Rattle.action_script.specs.Forms.Printing.{is_sound, all_fit}
 
 -- the fields of a sound line are what is asked for
 pub parts_sound : (names : List (List ℕ)) (f : Form) → is_sound names f ≡ true → all_fit names (parts_of (kind_of f)) (fields_of f) ≡ true

@@ -15,8 +15,8 @@ use Rattle.caa_base.specs.Written.Lists.{index_of}
 use Rattle.caa_base.specs.Written.Names.{name_at}
 use Rattle.place_plan.specs.Plans.Places.{no_role}
 use Rattle.place_plan.specs.Drafts.DraftRules.{deepest}
-use Rattle.action_script.specs.declared.form.Form.{Form}
-use Rattle.action_script.specs.declared.form.Form.TheVariants as form
+use Rattle.action_script.specs.declared.forms.form.Form.{Form}
+use Rattle.action_script.specs.declared.forms.form.Form.TheVariants as form
 use Rattle.script_checker.specs.declared.parts.Block.{Block}
 use Rattle.script_checker.specs.declared.parts.Block.TheVariants as block
 use Rattle.script_checker.specs.declared.parts.NestSaid.{NestSaid}

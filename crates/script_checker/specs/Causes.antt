@@ -10,8 +10,8 @@ use Rattle.place_plan.specs.declared.drafts.draft_rows.HandlerRow.{HandlerRow}
 use Rattle.caa_base.specs.Written.Lists.{member, index_of, is_empty}
 use Rattle.caa_base.specs.Written.Limits.{most_participants, most_objects, most_actions, most_graphs, most_roles, most_nests, most_alternates, most_steps, most_watches, most_drills, most_depth, most_places, most_entries}
 use Rattle.place_plan.specs.Drafts.DraftRules.{roles_enter}
-use Rattle.action_script.specs.declared.form.Form.{Form}
-use Rattle.action_script.specs.declared.form.Form.TheVariants as form
+use Rattle.action_script.specs.declared.forms.form.Form.{Form}
+use Rattle.action_script.specs.declared.forms.form.Form.TheVariants as form
 use Rattle.script_checker.specs.declared.check_error.CheckCause.{CheckCause}
 use Rattle.script_checker.specs.declared.check_error.CheckCause.TheVariants as cause
 use Rattle.script_checker.specs.Blocks.{is_in_graph, is_in_action}

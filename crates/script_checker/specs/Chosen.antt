@@ -1,6 +1,6 @@
 -- The first cause of a line that is found, where they are tried by their numbers.
 use Rattle.std.specs.Prelude.{Bool, true, false, Option, Some, None}
-use Rattle.action_script.specs.declared.form.Form.{Form}
+use Rattle.action_script.specs.declared.forms.form.Form.{Form}
 use Rattle.script_checker.specs.declared.check_error.CheckCause.{CheckCause}
 use Rattle.script_checker.specs.declared.check_error.CheckCause.TheVariants as cause
 use Rattle.script_checker.specs.DeclaredSoFar.{SoFar}

@@ -9,7 +9,7 @@ use Rattle.place_plan.specs.declared.drafts.draft_rows.PlayRow.{PlayRow}
 use Rattle.place_plan.specs.declared.drafts.draft_rows.Step.{Step}
 use Rattle.caa_base.specs.Written.Lists.{index_of}
 use Rattle.place_plan.specs.Plans.Places.{no_action, no_nest, no_role}
-use Rattle.action_script.specs.NumberedNames.{number_in}
+use Rattle.action_script.specs.Words.NumberedNames.{number_in}
 use Rattle.script_checker.specs.declared.parts.Block.{Block}
 use Rattle.script_checker.specs.declared.parts.Block.TheVariants as block
 use Rattle.script_checker.specs.declared.parts.DeclaredGraph.{DeclaredGraph}

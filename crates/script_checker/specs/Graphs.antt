@@ -2,7 +2,7 @@
 use Rattle.std.specs.Prelude.{◌≡◌, ℕ, List, length, Option, false, true, MatchOption}
 use Rattle.cover_table.specs.Cover.{CoverOrder, IsSound}
 use Rattle.exception_graph.specs.Chains.{IsOrderOf, IsFirstInCycle, IsFirstUnjoined}
-use Rattle.action_script.specs.declared.form.Form.{Form}
+use Rattle.action_script.specs.declared.forms.form.Form.{Form}
 use Rattle.script_checker.specs.declared.check_error.CheckCause.{CheckCause}
 use Rattle.script_checker.specs.declared.check_error.CheckCause.TheVariants as cause
 use Rattle.script_checker.specs.DeclaredSoFar.{SoFar}

@@ -2,7 +2,7 @@
 use Rattle.std.specs.Prelude.{◌≡◌, length}
 use Rattle.place_plan.specs.Plans.PlanValue.{Plan}
 use Rattle.place_plan.specs.Plans.Bound.{bound}
-use Rattle.action_script.specs.ScriptValue.{Script}
+use Rattle.action_script.specs.Forms.ScriptValue.{Script}
 use Rattle.script_checker.specs.declared.plan_counts.PlanCounts.{PlanCounts}
 use Rattle.script_checker.specs.Compiled.{IsPlanOf}
 use Rattle.script_checker.specs.DeclaredSoFar.{SoFar}

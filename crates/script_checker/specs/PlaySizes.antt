@@ -5,9 +5,9 @@ use Rattle.place_plan.specs.Plans.Bound.{bound}
 use Rattle.place_plan.specs.Drafts.DraftRules.{KeepsParts}
 use Rattle.place_plan.specs.Plans.Unfolding.{plan_of}
 use Rattle.place_plan.specs.Plans.Weights.{counted}
-use Rattle.action_script.specs.declared.form.Form.TheVariants as form
-use Rattle.action_script.specs.declared.script.Line.{Line}
-use Rattle.action_script.specs.ScriptValue.{Script}
+use Rattle.action_script.specs.declared.forms.form.Form.TheVariants as form
+use Rattle.action_script.specs.declared.forms.script.Line.{Line}
+use Rattle.action_script.specs.Forms.ScriptValue.{Script}
 use Rattle.script_checker.specs.declared.check_error.CheckCause.TheVariants as cause
 use Rattle.script_checker.specs.DeclaredSoFar.{SoFar, nothing_yet}
 use Rattle.script_checker.specs.Causes.{places_with, bound_with}

@@ -19,7 +19,7 @@ use crate::lookups::{
 use crate::number_list::NumberList;
 use crate::parts::{Block, DeclaredGraph, NestSaid, Opening};
 use crate::role_list::RoleList;
-use action_script::form::Form;
+use action_script::forms::form::Form;
 use caa_base::written::entry::{Drill, OutOfMemory, Verdict};
 use caa_base::written::name::{Name, name_at};
 use caa_base::written::rows::Rows;
@@ -629,7 +629,7 @@ fn add_to_action(declared: &mut Declared, names: &[Name], form: &Form) -> Result
 {
     match form {
         Form::Nest(nest, action, roles) => {
-            add_nest(declared, names, *nest, *action, roles.items())?;
+            add_nest(declared, names, *nest, *action, roles.as_slice())?;
         }
         Form::Map(nest, lower, upper) => add_map(declared, *nest, *lower, *upper)?,
         Form::MapUndo(nest, exception) => add_undo(declared, *nest, *exception),
@@ -693,7 +693,7 @@ fn add_of_action(declared: &mut Declared, names: &[Name], form: &Form) -> Result
             declared.interface = Some(declared.graph_names.find(*graph) + 1);
         }
         Form::Fault(exception) => declared.fault = Some(inner_number(declared, *exception)),
-        Form::Roles(roles) => set_roles(declared, names, roles.items())?,
+        Form::Roles(roles) => set_roles(declared, names, roles.as_slice())?,
         _ => {}
     }
     Ok(())
@@ -724,7 +724,7 @@ fn add_outside(declared: &mut Declared, names: &[Name], form: &Form) -> Result<(
         Form::Watch(object) => declared.watches.push(declared.objects.find(*object))?,
         Form::Graph(name) => begin_graph(declared, *name)?,
         Form::Action(name) => begin_action(declared, *name)?,
-        Form::Play(action, who) => add_play(declared, *action, who.items())?,
+        Form::Play(action, who) => add_play(declared, *action, who.as_slice())?,
         Form::Exception(name) => add_exception(declared, *name)?,
         Form::Cover(upper, lower) => add_cover(declared, *upper, *lower)?,
         Form::End => end(declared, names)?,

@@ -18,7 +18,7 @@ use crate::lookups::{
     interface_at, is_inner, is_outer,
 };
 use crate::parts::Block;
-use action_script::form::Form;
+use action_script::forms::form::Form;
 use caa_base::written::limits::{
     MOST_ACTIONS, MOST_ALTERNATES, MOST_DEPTH, MOST_DRILLS, MOST_ENTRIES, MOST_GRAPHS, MOST_NESTS,
     MOST_OBJECTS, MOST_PARTICIPANTS, MOST_PLACES, MOST_ROLES, MOST_STEPS, MOST_WATCHES,
@@ -58,7 +58,7 @@ pub(crate) fn is_unknown(declared: &Declared, form: &Form) -> bool
         | Form::PutStep(object, _)
         | Form::AddStep(object, _) => !declared.objects.contains(*object),
         Form::Play(action, who) => {
-            !is_action(declared, *action) || !are_among(&declared.participants, who.items())
+            !is_action(declared, *action) || !are_among(&declared.participants, who.as_slice())
         }
         Form::Cover(upper, lower) => {
             !declared.exceptions.contains(*upper) || !declared.exceptions.contains(*lower)
@@ -67,9 +67,9 @@ pub(crate) fn is_unknown(declared: &Declared, form: &Form) -> bool
         Form::Fault(exception) | Form::CheckStep(_, _, exception) | Form::RaiseStep(exception) => {
             !is_inner(declared, *exception)
         }
-        Form::Uses(objects) => !are_among(&declared.objects, objects.items()),
+        Form::Uses(objects) => !are_among(&declared.objects, objects.as_slice()),
         Form::Nest(_, action, roles) => {
-            !is_action(declared, *action) || !are_among(&declared.roles, roles.items())
+            !is_action(declared, *action) || !are_among(&declared.roles, roles.as_slice())
         }
         Form::Map(nest, lower, upper) => !is_mapping(declared, *nest, *lower, *upper),
         Form::MapUndo(nest, exception) | Form::MapFailure(nest, exception) => {
@@ -194,10 +194,10 @@ pub(crate) fn is_twice(declared: &Declared, form: &Form) -> Result<bool, AllocEr
         Form::Interface(_) => declared.interface.is_some(),
         Form::Fault(_) => declared.fault.is_some(),
         Form::Uses(objects) => {
-            !declared.uses.is_empty() || has_twice(declared.alloc, objects.items())?
+            !declared.uses.is_empty() || has_twice(declared.alloc, objects.as_slice())?
         }
         Form::Roles(roles) => {
-            !declared.roles.is_empty() || has_twice(declared.alloc, roles.items())?
+            !declared.roles.is_empty() || has_twice(declared.alloc, roles.as_slice())?
         }
         Form::Nest(nest, _, _) => declared.nests.contains(*nest),
         Form::Map(nest, lower, _) => is_mapped(declared, *nest, *lower),
@@ -249,8 +249,8 @@ pub(crate) fn is_unfilled(declared: &Declared, form: &Form) -> bool
     ensures { result ≡ is_unfilled (so_far declared.now) form.now }
 {
     match form {
-        Form::Play(action, who) => !is_filled_by(declared, *action, who.items().len()),
-        Form::Nest(_, action, roles) => !is_filled_by(declared, *action, roles.items().len()),
+        Form::Play(action, who) => !is_filled_by(declared, *action, who.len()),
+        Form::Nest(_, action, roles) => !is_filled_by(declared, *action, roles.len()),
         Form::Alternate(nest, action) => {
             !is_filled_by(declared, *action, count_fillings(declared, *nest))
         }
@@ -264,8 +264,8 @@ pub(crate) fn fills_twice(alloc: Global, form: &Form) -> Result<bool, AllocError
     ensures { IfOk result (λ yes. yes ≡ fills_twice form.now) }
 {
     match form {
-        Form::Play(_, who) => has_twice(alloc, who.items()),
-        Form::Nest(_, _, roles) => has_twice(alloc, roles.items()),
+        Form::Play(_, who) => has_twice(alloc, who.as_slice()),
+        Form::Nest(_, _, roles) => has_twice(alloc, roles.as_slice()),
         _ => Ok(false),
     }
 }
@@ -388,7 +388,7 @@ pub(crate) fn is_past_limit(declared: &Declared, form: &Form) -> bool
         Form::Action(_) => declared.action_names.len() as usize >= MOST_ACTIONS,
         Form::Play(action, _) => places_with(declared, *action) > MOST_PLACES as u64,
         Form::Exception(_) => declared.exceptions.len() as usize >= MOST_EXCEPTIONS,
-        Form::Roles(roles) => roles.items().len() > MOST_ROLES,
+        Form::Roles(roles) => roles.len() > MOST_ROLES,
         Form::Nest(_, _, _) => declared.nests.len() as usize >= MOST_NESTS,
         Form::Alternate(nest, _) => count_alternates(declared, *nest) >= MOST_ALTERNATES,
         Form::ReadStep(_)

@@ -24,8 +24,8 @@ use crate::declared::Declared;
 use crate::graphs::{graph_of, row_of};
 use crate::lookups::{are_among, places_once};
 use crate::plan_counts::PlanCounts;
-use action_script::form::Form;
-use action_script::script::Script;
+use action_script::forms::form::Form;
+use action_script::forms::script::Script;
 use caa_base::written::entry::OutOfMemory;
 use caa_base::written::name::Name;
 use caa_base::written::rows::Rows;
@@ -191,7 +191,7 @@ fn take(
 {
     settle(declared, form)?;
     match form {
-        Form::Uses(objects) => take_uses(declared, objects.items()),
+        Form::Uses(objects) => take_uses(declared, objects.as_slice()),
         _ => take_other(declared, rows, names, form),
     }
 }
@@ -202,7 +202,7 @@ fn is_same_play(line: &Form, next: &Form) -> bool
 {
     match (line, next) {
         (Form::Play(action, who), Form::Play(again, others)) => {
-            *action == *again && who.items() == others.items()
+            *action == *again && who.as_slice() == others.as_slice()
         }
         _ => false,
     }

@@ -9,7 +9,7 @@ use crate::drill_list::DrillList;
 use crate::number_list::NumberList;
 use crate::parts::{Block, DeclaredGraph, NestSaid, Opening};
 use crate::role_list::RoleList;
-use action_script::script::Script;
+use action_script::forms::script::Script;
 use caa_base::written::name::Name;
 use caa_base::written::rows::Rows;
 use place_plan::drafts::draft_rows::{ActionRow, NestRow, ObjectRow, PlayRow, Step};

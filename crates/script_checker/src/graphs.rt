@@ -11,7 +11,7 @@ ghost use Rattle.script_checker.specs.View.{so_far};
 use crate::check_error::CheckCause;
 use crate::declared::Declared;
 use crate::parts::Block;
-use action_script::form::Form;
+use action_script::forms::form::Form;
 use caa_base::written::entry::OutOfMemory;
 use caa_base::written::name::Name;
 use caa_base::written::rows::Rows;

@@ -1,7 +1,7 @@
 ghost use Rattle.script_checker.specs.Compiled.{IsPlanOf};
 ghost use Rattle.place_plan.specs.Plans.OwnNames.{HasOwnNames};
 
-use action_script::script::Script;
+use action_script::forms::script::Script;
 use place_plan::plans::plan::Plan;
 
 /// The participants of the plan of a script have different names, and so have its objects and the exceptions of each graph; no

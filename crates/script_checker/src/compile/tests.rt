@@ -1,5 +1,5 @@
 use super::*;
-use action_script::reader::read;
+use action_script::lines::reader::read;
 use std::test::Fail;
 
 /// What a script comes to.

@@ -1,7 +1,7 @@
 use Rattle.std.proofs.Common.{◌≡◌, ◌&&◌, take, drop, true, bytes_eq, codes, sym, ap, ◌∙◌}
 use Rattle.std.specs.List.{list_all}
 use Rattle.std.proofs.lemmas.List.{take_rest}
-use Rattle.action_script.specs.CutLines.{is_blank}
+use Rattle.action_script.specs.Words.CutLines.{is_blank}
 use Rattle.caa_commands.proofs.inputs.begins_journal.Goals as goal
 
 pub returns-then-eq : goal.returns-then-eq

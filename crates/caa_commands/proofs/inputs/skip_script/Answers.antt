@@ -1,5 +1,5 @@
 use Rattle.std.proofs.Common.{◌≡◌, ◌+◌, suc, false, cond, sym, ap, ◌∙◌, arith}
-use Rattle.action_script.specs.CutLines.{lines_of}
+use Rattle.action_script.specs.Words.CutLines.{lines_of}
 use Rattle.caa_commands.specs.Inputs.{lines_before, after_lines, is_journal_line, begins_journal}
 use Rattle.caa_commands.proofs.LineStarts.{after_feed}
 use Rattle.caa_commands.proofs.inputs.skip_script.Goals as goal

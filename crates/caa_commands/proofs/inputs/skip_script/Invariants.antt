@@ -1,5 +1,5 @@
 use Rattle.std.proofs.Common.{◌≡◌, ◌+◌, ◌≤◌, ℕ, length}
-use Rattle.action_script.specs.CutLines.{lines_of}
+use Rattle.action_script.specs.Words.CutLines.{lines_of}
 use Rattle.caa_commands.specs.Inputs.{lines_before, after_lines, script_lines}
 use Rattle.caa_commands.proofs.inputs.skip_script.Given as goal
 

@@ -1,5 +1,5 @@
 use Rattle.std.proofs.Common.{Option, IfSome, Bor, sym, ◌∙◌, subst}
-use Rattle.action_script.specs.declared.form.Form.{Form}
+use Rattle.action_script.specs.declared.forms.form.Form.{Form}
 use Rattle.script_checker.specs.PlaysAgain.{IsJustTaken}
 use Rattle.script_checker.specs.View.{so_far}
 use Rattle.script_checker.proofs.PlaysAgain.{stands_again}

@@ -1,4 +1,4 @@
-use Rattle.action_script.specs.declared.form.Form.TheVariants as form
+use Rattle.action_script.specs.declared.forms.form.Form.TheVariants as form
 use Rattle.script_checker.specs.View.{so_far}
 use Rattle.script_checker.proofs.Choosing.{least_name}
 use Rattle.script_checker.proofs.compile.uses_of.Goals as goal

@@ -1,9 +1,0 @@
-use Rattle.std.proofs.Common.{◌≡◌, ◌+◌, length}
-use Rattle.action_script.specs.Printing.{numbered_from}
-use Rattle.action_script.proofs.script.numbered.Given as goal
-
-abbrev pub invariant-loop-form : goal.invariant-loop-form
-invariant-loop-form l = record {
-  are : l.lines.items ≡ numbered_from 1 l.yielded;
-  left : length l.yielded + length l.form-iterator.rest.items ≡ length l.fn.forms.items;
-}
