@@ -5,6 +5,4 @@
 pub mod forms;
 pub mod lines;
 pub mod script_error;
-#[cfg(test)]
-mod tests;
 pub mod words;

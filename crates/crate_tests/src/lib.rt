@@ -16,6 +16,8 @@ mod journal_texts;
 #[cfg(test)]
 mod replays;
 #[cfg(test)]
+mod script_texts;
+#[cfg(test)]
 mod top_calls;
 #[cfg(test)]
 mod views;

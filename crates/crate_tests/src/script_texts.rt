@@ -1,8 +1,8 @@
-use crate::forms::form::Form;
-use crate::forms::printer::print;
-use crate::forms::script::Script;
-use crate::lines::reader::read;
-use crate::script_error::{ScriptCause, ScriptError};
+use action_script::forms::form::Form;
+use action_script::forms::printer::print;
+use action_script::forms::script::Script;
+use action_script::lines::reader::read;
+use action_script::script_error::{ScriptCause, ScriptError};
 use caa_base::written::entry::Test;
 use caa_base::written::name::Name;
 use caa_base::written::rows::Rows;
