@@ -20,11 +20,15 @@ pub record Raises (plan : Plan) (past : List Entry) : Type 0 where
   -- who is halted in a place finds something raised there
   pub halts : (p t : ℕ) → is_halted plan past p t ≡ true → is_raised plan past p ≡ true
   -- who is in a place within p is neither halted in p nor handles there
-  pub away : (p t q : ℕ) → inside plan past t ≡ Some q → member p (around plan q) ≡ true → (is_halted plan past p t ≡ false) × (has_handled past p t ≡ false)
+  pub away : (p t q : ℕ) → inside plan past t ≡ Some q → member p (around plan q) ≡ true
+      → (is_halted plan past p t ≡ false) × (has_handled past p t ≡ false)
   -- a place is resolved once all are halted, to the least cover of whatever is raised in it, then and later
-  pub resolves : (p x : ℕ) → exception_resolved past p ≡ Some x → (all_are_halted plan past p ≡ true) × (is_raised plan past p ≡ true) × IsLeastCover (internal_of plan p) (exceptions_raised plan past p) x
+  pub resolves : (p x : ℕ) → exception_resolved past p ≡ Some x
+      → (all_are_halted plan past p ≡ true) × (is_raised plan past p ≡ true)
+      × IsLeastCover (internal_of plan p) (exceptions_raised plan past p) x
   -- who handles an exception handles the resolved one, and has a handler for it
-  pub handles : (p t x : ℕ) → exception_handled past p t ≡ Some x → (exception_resolved past p ≡ Some x) × (is_none (handler_of plan p t x) ≡ false)
+  pub handles : (p t x : ℕ) → exception_handled past p t ≡ Some x
+      → (exception_resolved past p ≡ Some x) × (is_none (handler_of plan p t x) ≡ false)
 
 -- ---- what the roles have said
 
@@ -32,13 +36,19 @@ pub record Says (plan : Plan) (past : List Entry) : Type 0 where
   -- who began its handler has given its verdict once it is no longer in it
   pub handler : (p t : ℕ) → has_handled past p t ≡ true → has_given_after past p t ≡ not (is_handling past p t)
   -- who gave its verdict after the Resolve without a handler asked for undo
-  pub other : (p t : ℕ) → has_given_after past p t ≡ true → has_handled past p t ≡ false → (x : ℕ) × (exception_resolved past p ≡ Some x) × (is_none (handler_of plan p t x) ≡ true) × AskedForUndo past p t
+  pub other : (p t : ℕ) → has_given_after past p t ≡ true → has_handled past p t ≡ false
+      → (x : ℕ) × (exception_resolved past p ≡ Some x) × (is_none (handler_of plan p t x) ≡ true)
+      × AskedForUndo past p t
   -- where nothing is raised, who has given its verdict has no step left
   pub done : (p t : ℕ) → is_raised plan past p ≡ false → has_by kind.Verdict past p t ≡ true → next_step plan past p t ≡ None
   -- a place is undone where all have given up, or have agreed and one asked for it
-  pub undoing : (p : ℕ) → is_undoing past p ≡ true → (all_have_aborted plan past p ≡ true) ⊎ ((has kind.Abort past p ≡ false) × (all_have_given plan past p ≡ true) × (wants_undo plan past p ≡ true))
+  pub undoing : (p : ℕ) → is_undoing past p ≡ true
+      → (all_have_aborted plan past p ≡ true)
+      ⊎ ((has kind.Abort past p ≡ false) × (all_have_given plan past p ≡ true) × (wants_undo plan past p ≡ true))
   -- a place ends after its undo, or where all have agreed and none asked for it
-  pub ended : (p : ℕ) → has_ended past p ≡ true → (is_undoing past p ≡ true) ⊎ ((has kind.Abort past p ≡ false) × (all_have_given plan past p ≡ true) × (wants_undo plan past p ≡ false))
+  pub ended : (p : ℕ) → has_ended past p ≡ true
+      → (is_undoing past p ≡ true)
+      ⊎ ((has kind.Abort past p ≡ false) × (all_have_given plan past p ≡ true) × (wants_undo plan past p ≡ false))
 
 -- ---- who came and went, and the uses that it passed
 
@@ -55,20 +65,31 @@ pub record Visits (plan : Plan) (past : List Entry) : Type 0 where
   pub whole : (p t : ℕ) → has_started past p ≡ true → member t (roles_of plan p) ≡ true → has_by kind.Arrive past p t ≡ true
   -- who arrived in a place of a use has left it and passed the enter step; or it is at that step, and if it has left, then in
   -- silence
-  pub at_step : (p c t : ℕ) → parent plan c ≡ Some p → has_by kind.Arrive past c t ≡ true → has_handled past p t ≡ false → ((has_by kind.Leave past c t ≡ true) × PassedEnter plan p t (nest_number plan c) (position plan past p t)) ⊎ ((next_step plan past p t ≡ Some (step.Enter (nest_number plan c))) × (has_by kind.Leave past c t ≡ true → is_left_in_silence plan past c ≡ true))
+  pub at_step : (p c t : ℕ) → parent plan c ≡ Some p → has_by kind.Arrive past c t ≡ true → has_handled past p t ≡ false
+      → ((has_by kind.Leave past c t ≡ true) × PassedEnter plan p t (nest_number plan c) (position plan past p t))
+      ⊎ ((next_step plan past p t ≡ Some (step.Enter (nest_number plan c)))
+      × (has_by kind.Leave past c t ≡ true → is_left_in_silence plan past c ≡ true))
   -- who arrived in a later place of a use has left each earlier one in silence
-  pub turn : (p c d t : ℕ) → parent plan c ≡ Some p → parent plan d ≡ Some p → nest_number plan c ≡ nest_number plan d → c < d → has_by kind.Arrive past d t ≡ true → (has_by kind.Leave past c t ≡ true) × (is_left_in_silence plan past c ≡ true)
+  pub turn : (p c d t : ℕ) → parent plan c ≡ Some p → parent plan d ≡ Some p → nest_number plan c ≡ nest_number plan d
+      → c < d → has_by kind.Arrive past d t ≡ true
+      → (has_by kind.Leave past c t ≡ true) × (is_left_in_silence plan past c ≡ true)
   -- of each use whose enter step it has passed, it has left a place aloud
-  pub passed : (p t n k : ℕ) → has_handled past p t ≡ false → n < position plan past p t → slice_get (body_of plan p t).steps n ≡ Some (step.Enter k) → (c : ℕ) × (member c (alternates_of plan p k) ≡ true) × (has_by kind.Leave past c t ≡ true) × (is_left_in_silence plan past c ≡ false)
+  pub passed : (p t n k : ℕ) → has_handled past p t ≡ false → n < position plan past p t
+      → slice_get (body_of plan p t).steps n ≡ Some (step.Enter k)
+      → (c : ℕ) × (member c (alternates_of plan p k) ≡ true) × (has_by kind.Leave past c t ≡ true)
+      × (is_left_in_silence plan past c ≡ false)
   -- who arrived in a later play has left each earlier one
-  pub plays : (p q t : ℕ) → p < q → member p plan.plays ≡ true → member q plan.plays ≡ true → member t (roles_of plan p) ≡ true → has_by kind.Arrive past q t ≡ true → has_by kind.Leave past p t ≡ true
+  pub plays : (p q t : ℕ) → p < q → member p plan.plays ≡ true → member q plan.plays ≡ true
+      → member t (roles_of plan p) ≡ true → has_by kind.Arrive past q t ≡ true → has_by kind.Leave past p t ≡ true
 
 -- ---- which restores were tried
 
 pub record Tries (plan : Plan) (past : List Entry) : Type 0 where
   pub undone : (p : ℕ) → has kind.Restore past p ≡ true → is_undoing past p ≡ true
   -- each object is tried at most once, and the mark says how it went
-  pub once : (p o : ℕ) → (is_tried past p o ≡ true → count_by (is_restore p o 0) past + count_by (is_restore p o 1) past ≡ 1) × (is_tried past p o ≡ false → count_by (is_restore p o 0) past + count_by (is_restore p o 1) past ≡ 0)
+  pub once : (p o : ℕ) → (is_tried past p o ≡ true
+      → count_by (is_restore p o 0) past + count_by (is_restore p o 1) past ≡ 1)
+      × (is_tried past p o ≡ false → count_by (is_restore p o 0) past + count_by (is_restore p o 1) past ≡ 0)
   pub failed : (p o : ℕ) → has_failed past p ≡ false → count_by (is_restore p o 1) past ≡ 0
 
 -- ---- all of it

@@ -19,4 +19,10 @@ module _ (plan : Plan) (playable : IsPlayable plan) where
   }
 
   pub core : Holds Core plan
-  core past legal = record { raises = raises plan playable.tree past legal; says = says past legal; visits = visits plan playable past legal; tries = tries plan past legal }
+  core past legal =
+      record {
+        raises = raises plan playable.tree past legal;
+        says = says past legal;
+        visits = visits plan playable past legal;
+        tries = tries plan past legal;
+      }

@@ -75,10 +75,13 @@ total_first f zero = omega arith
 total_first f (suc n) = omega (arith, total_first f n)
 
 -- the sum at the indices of a table is the sum over its rows
-pub total_rows : (f : ℕ → ℕ) (g : PlaceRow → ℕ) (rows : List PlaceRow) → ((k : ℕ) (r : PlaceRow) → slice_get rows k ≡ Some r → f k ≡ g r) → total f (length rows) ≡ sum_by g rows
+pub total_rows : (f : ℕ → ℕ) (g : PlaceRow → ℕ) (rows : List PlaceRow)
+    → ((k : ℕ) (r : PlaceRow) → slice_get rows k ≡ Some r → f k ≡ g r) → total f (length rows) ≡ sum_by g rows
 total_rows f g [] h = refl
 total_rows f g (r ∷ rows) h =
-    total_first f (length rows) ∙ ap₂ (λ m n. m + n) (h 0 r refl) (total_rows (λ k. f (suc k)) g rows (λ k x e. h (suc k) x e)) ∙ sym (sum_by-cons g r rows)
+    total_first f (length rows)
+    ∙ ap₂ (λ m n. m + n) (h 0 r refl) (total_rows (λ k. f (suc k)) g rows (λ k x e. h (suc k) x e))
+    ∙ sym (sum_by-cons g r rows)
 
 pub total_up : (f g : ℕ → ℕ) (n : ℕ) → ((p : ℕ) → f p ≤ g p) → total f n ≤ total g n
 total_up f g zero h = omega arith
@@ -131,7 +134,9 @@ pub role_up : (plan : Plan) (past : List Entry) (e : Entry) (p t : ℕ) → role
 unfolding role_cost
 role_up plan past e p t =
     let came = one_if_or (is_by kind.Arrive p t e) (has_by kind.Arrive past p t) in
-    let gone = one_if_either (is_by kind.Leave p t e) (has_by kind.Leave past p t) (is_by kind.Withdraw p t e) (has_by kind.Withdraw past p t) in
+    let gone =
+    one_if_either (is_by kind.Leave p t e) (has_by kind.Leave past p t) (is_by kind.Withdraw p t e)
+    (has_by kind.Withdraw past p t) in
     let halted = one_if_or (halts_in plan past p e e.kind && (e.by == t)) (is_halted plan past p t) in
     let before = one_if_or (is_by kind.Verdict p t e && not (has kind.Resolve past p)) (has_said_before past p t) in
     let after = one_if_or (is_by kind.Verdict p t e && has kind.Resolve past p) (has_said_after past p t) in
@@ -144,7 +149,17 @@ role_up plan past e p t =
 role_within : (plan : Plan) (past : List Entry) (p t n : ℕ) → walked plan past p t ≤ n → role_cost plan past p t ≤ 8 + n
 unfolding role_cost
 role_within plan past p t n h =
-    omega (arith, one_if_most (has_by kind.Arrive past p t), one_if_most (has_gone past p t), one_if_most (is_halted plan past p t), one_if_most (has_said_before past p t), one_if_most (has_said_after past p t), one_if_most (has_handled past p t), one_if_most (was_refused_once past p t), one_if_most (has_aborted past p t))
+    omega (
+      arith,
+      one_if_most (has_by kind.Arrive past p t),
+      one_if_most (has_gone past p t),
+      one_if_most (is_halted plan past p t),
+      one_if_most (has_said_before past p t),
+      one_if_most (has_said_after past p t),
+      one_if_most (has_handled past p t),
+      one_if_most (was_refused_once past p t),
+      one_if_most (has_aborted past p t),
+    )
 
 longest_at : (rs : List RoleRow) (i : ℕ) → length (slice_index_or rs i no_role).body.steps ≤ longest_body rs
 longest_at [] i = omega arith
@@ -155,11 +170,13 @@ longest_found : (x : ℕ) (hs : List HandlerRow) → length (or_idle (handler_in
 longest_found x [] = omega arith
 longest_found x (h ∷ hs) = by_test (h.exception == x) (longest_found x hs)
   where
-    by_test : (b : Bool) → length (or_idle (handler_in x hs)).steps ≤ longest_of hs → length (or_idle (cond b (Some h.program) (handler_in x hs))).steps ≤ longest_of (h ∷ hs)
+    by_test : (b : Bool) → length (or_idle (handler_in x hs)).steps ≤ longest_of hs
+        → length (or_idle (cond b (Some h.program) (handler_in x hs))).steps ≤ longest_of (h ∷ hs)
     by_test true ih = omega arith
     by_test false ih = omega arith
 
-longest_handler_at : (x : ℕ) (rs : List RoleRow) (i : ℕ) → length (or_idle (handler_in x (slice_index_or rs i no_role).handlers)).steps ≤ longest_handler rs
+longest_handler_at : (x : ℕ) (rs : List RoleRow) (i : ℕ)
+    → length (or_idle (handler_in x (slice_index_or rs i no_role).handlers)).steps ≤ longest_handler rs
 longest_handler_at x [] i = omega arith
 longest_handler_at x (r ∷ rs) zero = omega (arith, longest_found x r.handlers)
 longest_handler_at x (r ∷ rs) (suc i) = omega (arith, longest_handler_at x rs i)
@@ -180,7 +197,13 @@ stages past p = one_if (has_started past p) + one_if (has kind.Resolve past p) +
 stages_up : (past : List Entry) (e : Entry) (p : ℕ) → stages past p ≤ stages (e ∷ past) p
 unfolding stages
 stages_up past e p =
-    omega (arith, one_if_or (is_in kind.Start p e) (has_started past p), one_if_or (is_in kind.Resolve p e) (has kind.Resolve past p), one_if_or (is_in kind.Undo p e) (is_undoing past p), one_if_or (is_in kind.End p e) (has_ended past p))
+    omega (
+      arith,
+      one_if_or (is_in kind.Start p e) (has_started past p),
+      one_if_or (is_in kind.Resolve p e) (has kind.Resolve past p),
+      one_if_or (is_in kind.Undo p e) (is_undoing past p),
+      one_if_or (is_in kind.End p e) (has_ended past p),
+    )
 
 -- how often an object was tried
 abbrev pub tries_of : List Entry → ℕ → ℕ → ℕ
@@ -196,24 +219,46 @@ place_cost plan past p = stages past p + adds (tries_of past p) (objects_of plan
 pub place_up : (plan : Plan) (past : List Entry) (e : Entry) (p : ℕ) → place_cost plan past p ≤ place_cost plan (e ∷ past) p
 unfolding place_cost
 place_up plan past e p =
-    omega (arith, stages_up past e p, adds_up (tries_of past p) (tries_of (e ∷ past) p) (objects_of plan p) (tries_up past e p), adds_up (role_cost plan past p) (role_cost plan (e ∷ past) p) (roles_of plan p) (role_up plan past e p))
+    omega (
+      arith,
+      stages_up past e p,
+      adds_up (tries_of past p) (tries_of (e ∷ past) p) (objects_of plan p) (tries_up past e p),
+      adds_up (role_cost plan past p) (role_cost plan (e ∷ past) p) (roles_of plan p) (role_up plan past e p),
+    )
 
 -- a place spends more where it comes to a stage, tries an object, or one of its roles spends more
 
-pub stage_spent : (plan : Plan) (past : List Entry) (e : Entry) (p : ℕ) → stages past p < stages (e ∷ past) p → place_cost plan past p < place_cost plan (e ∷ past) p
+pub stage_spent : (plan : Plan) (past : List Entry) (e : Entry) (p : ℕ) → stages past p < stages (e ∷ past) p
+    → place_cost plan past p < place_cost plan (e ∷ past) p
 unfolding place_cost
 stage_spent plan past e p h =
-    omega (arith, adds_up (tries_of past p) (tries_of (e ∷ past) p) (objects_of plan p) (tries_up past e p), adds_up (role_cost plan past p) (role_cost plan (e ∷ past) p) (roles_of plan p) (role_up plan past e p))
+    omega (
+      arith,
+      adds_up (tries_of past p) (tries_of (e ∷ past) p) (objects_of plan p) (tries_up past e p),
+      adds_up (role_cost plan past p) (role_cost plan (e ∷ past) p) (roles_of plan p) (role_up plan past e p),
+    )
 
-pub object_spent : (plan : Plan) (past : List Entry) (e : Entry) (p o : ℕ) → member o (objects_of plan p) ≡ true → tries_of past p o < tries_of (e ∷ past) p o → place_cost plan past p < place_cost plan (e ∷ past) p
+pub object_spent : (plan : Plan) (past : List Entry) (e : Entry) (p o : ℕ) → member o (objects_of plan p) ≡ true
+    → tries_of past p o < tries_of (e ∷ past) p o → place_cost plan past p < place_cost plan (e ∷ past) p
 unfolding place_cost
 object_spent plan past e p o m h =
-    omega (arith, stages_up past e p, adds_more (tries_of past p) (tries_of (e ∷ past) p) (objects_of plan p) o (tries_up past e p) m h, adds_up (role_cost plan past p) (role_cost plan (e ∷ past) p) (roles_of plan p) (role_up plan past e p))
+    omega (
+      arith,
+      stages_up past e p,
+      adds_more (tries_of past p) (tries_of (e ∷ past) p) (objects_of plan p) o (tries_up past e p) m h,
+      adds_up (role_cost plan past p) (role_cost plan (e ∷ past) p) (roles_of plan p) (role_up plan past e p),
+    )
 
-pub role_spent : (plan : Plan) (past : List Entry) (e : Entry) (p t : ℕ) → member t (roles_of plan p) ≡ true → role_cost plan past p t < role_cost plan (e ∷ past) p t → place_cost plan past p < place_cost plan (e ∷ past) p
+pub role_spent : (plan : Plan) (past : List Entry) (e : Entry) (p t : ℕ) → member t (roles_of plan p) ≡ true
+    → role_cost plan past p t < role_cost plan (e ∷ past) p t → place_cost plan past p < place_cost plan (e ∷ past) p
 unfolding place_cost
 role_spent plan past e p t m h =
-    omega (arith, stages_up past e p, adds_up (tries_of past p) (tries_of (e ∷ past) p) (objects_of plan p) (tries_up past e p), adds_more (role_cost plan past p) (role_cost plan (e ∷ past) p) (roles_of plan p) t (role_up plan past e p) m h)
+    omega (
+      arith,
+      stages_up past e p,
+      adds_up (tries_of past p) (tries_of (e ∷ past) p) (objects_of plan p) (tries_up past e p),
+      adds_more (role_cost plan past p) (role_cost plan (e ∷ past) p) (roles_of plan p) t (role_up plan past e p) m h,
+    )
 
 -- ---- bounds
 
@@ -223,15 +268,35 @@ place_bound plan p = action_bound (action_at plan p) (length (roles_of plan p))
 
 stages_within : (past : List Entry) (p : ℕ) → stages past p ≤ 4
 unfolding stages
-stages_within past p = omega (arith, one_if_most (has_started past p), one_if_most (has kind.Resolve past p), one_if_most (is_undoing past p), one_if_most (has_ended past p))
+stages_within past p =
+    omega (
+      arith,
+      one_if_most (has_started past p),
+      one_if_most (has kind.Resolve past p),
+      one_if_most (is_undoing past p),
+      one_if_most (has_ended past p),
+    )
 
-pub place_within : (plan : Plan) (past : List Entry) (p : ℕ) → ((t : ℕ) → walked plan past p t ≤ longest_body (action_at plan p).roles + longest_handler (action_at plan p).roles) → place_cost plan past p ≤ place_bound plan p
+pub place_within : (plan : Plan) (past : List Entry) (p : ℕ)
+    → ((t : ℕ) → walked plan past p t ≤ longest_body (action_at plan p).roles + longest_handler
+    (action_at plan p).roles) → place_cost plan past p ≤ place_bound plan p
 unfolding place_cost place_bound action_bound
 place_within plan past p h =
-    omega (arith, stages_within past p, adds_within (tries_of past p) (objects_of plan p) 1 (λ o. one_if_most (is_tried past p o)), adds_within (role_cost plan past p) (roles_of plan p) (8 + longest_body (action_at plan p).roles + longest_handler (action_at plan p).roles) (λ t. role_fits t))
+    omega (
+      arith,
+      stages_within past p,
+      adds_within (tries_of past p) (objects_of plan p) 1 (λ o. one_if_most (is_tried past p o)),
+      adds_within (role_cost plan past p) (roles_of plan p)
+          (8 + longest_body (action_at plan p).roles + longest_handler (action_at plan p).roles) (λ t. role_fits t),
+    )
   where
     role_fits : (t : ℕ) → role_cost plan past p t ≤ 8 + longest_body (action_at plan p).roles + longest_handler (action_at plan p).roles
-    role_fits t = omega (arith, role_within plan past p t (longest_body (action_at plan p).roles + longest_handler (action_at plan p).roles) (h t))
+    role_fits t =
+        omega (
+          arith,
+          role_within plan past p t
+              (longest_body (action_at plan p).roles + longest_handler (action_at plan p).roles) (h t),
+        )
 
 -- and that is what the bound says of its row
 pub place_row : (plan : Plan) (p : ℕ) (r : PlaceRow) → slice_get plan.places p ≡ Some r → place_bound plan p ≡ row_bound plan.actions r

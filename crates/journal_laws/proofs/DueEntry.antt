@@ -22,8 +22,12 @@ module _ (plan : Plan) (playable : IsPlayable plan) (core : Holds Core plan) whe
     may = λ t e h. let f = due_fits plan playable core past legal t e h in (f.may, f.own);
     refused = λ t e h. (due_fits plan playable core past legal t e h).refused;
     only = only_due plan playable core past legal;
-    over_silent = λ t h. none_due past t legal (rw (over_outside plan playable past legal t h, over_done plan playable past legal t h) refl);
+    over_silent =
+        λ t h. none_due past t legal
+        (rw (over_outside plan playable past legal t h, over_done plan playable past legal t h) refl);
   }
 
   pub at_most_one : Holds AtMostOne plan
-  at_most_one past legal e f h k same = some_same (sym (only_due plan playable core past legal e h) ∙ ap (due_of plan past) same ∙ only_due plan playable core past legal f k)
+  at_most_one past legal e f h k same =
+      some_same (sym (only_due plan playable core past legal e h) ∙ ap (due_of plan past) same
+      ∙ only_due plan playable core past legal f k)

@@ -43,18 +43,27 @@ unasked plan past e f h = record { may = h; own = refl; refused = λ w. absurd (
 fits_made : (plan : Plan) (past : List Entry) (t : ℕ) (x e : Entry) → Some x ≡ Some e → Fits plan past t x → Fits plan past t e
 fits_made plan past t x e h f = subst (Fits plan past t) (some_same h) f
 
-module _ (plan : Plan) (playable : IsPlayable plan) (core : Holds Core plan) (past : List Entry) (legal : LegalPast plan past) (t p : ℕ) (here : inside plan past t ≡ Some p) where
+module _ (plan : Plan) (playable : IsPlayable plan) (core : Holds Core plan) (past : List Entry)
+    (legal : LegalPast plan past) (t p : ℕ) (here : inside plan past t ≡ Some p) where
   role : member t (roles_of plan p) ≡ true
   role = role_inside plan playable.tree past legal t p here
 
   -- ---- verdicts and steps
 
   verdict_fits : (v : Verdict) → verdict_due plan past p t ≡ Some v → Fits plan past t (verdict_entry p t v)
-  verdict_fits verdict.Done w = unasked plan past (verdict_entry p t verdict.Done) refl (record { here = here; due = rw w (refl, refl); value = refl })
-  verdict_fits (verdict.Signal x) w = unasked plan past (verdict_entry p t (verdict.Signal x)) refl (record { here = here; due = rw w (refl, refl); value = refl })
-  verdict_fits verdict.Undo w = unasked plan past (verdict_entry p t verdict.Undo) refl (record { here = here; due = rw w (refl, refl); value = refl })
+  verdict_fits verdict.Done w =
+      unasked plan past (verdict_entry p t verdict.Done) refl
+      (record { here = here; due = rw w (refl, refl); value = refl })
+  verdict_fits (verdict.Signal x) w =
+      unasked plan past (verdict_entry p t (verdict.Signal x)) refl
+      (record { here = here; due = rw w (refl, refl); value = refl })
+  verdict_fits verdict.Undo w =
+      unasked plan past (verdict_entry p t verdict.Undo) refl
+      (record { here = here; due = rw w (refl, refl); value = refl })
 
-  write_fits : (a : ℕ) (v : ℤ) → is_able plan past p t ≡ true → put_of (next_step plan past p t) (register plan past p t) ≡ Some (a, v) → holder_of plan past a ≡ Some p → Fits plan past t (says kind.Write p t a v)
+  write_fits : (a : ℕ) (v : ℤ) → is_able plan past p t ≡ true
+      → put_of (next_step plan past p t) (register plan past p t) ≡ Some (a, v) → holder_of plan past a ≡ Some p
+      → Fits plan past t (says kind.Write p t a v)
   write_fits a v able puts holds = record {
     may = record { here = here; can = able; puts = puts; holds = holds; mark = refl };
     own = refl;
@@ -68,38 +77,73 @@ module _ (plan : Plan) (playable : IsPlayable plan) (core : Holds Core plan) (pa
     | inr w ↦ absurd (some_apart w.1)
   ]
 
-  step_fits : (e : Entry) (s : Option Step) → is_able plan past p t ≡ true → (is_none (next_step plan past p t) ≡ true → verdict_due plan past p t ≡ Some (program_of plan past p t).verdict) → next_raise plan past p t ≡ None → next_step plan past p t ≡ s → due_step plan past p t s ≡ Some e → Fits plan past t e
+  step_fits : (e : Entry) (s : Option Step) → is_able plan past p t ≡ true
+      → (is_none (next_step plan past p t) ≡ true → verdict_due plan past p t ≡ Some (program_of plan past p t).verdict)
+      → next_raise plan past p t ≡ None → next_step plan past p t ≡ s → due_step plan past p t s ≡ Some e
+      → Fits plan past t e
   step_fits e None able said nr n h = fits_made plan past t _ e h (verdict_fits (program_of plan past p t).verdict (said (rw n refl)))
   step_fits e (Some (step.Read o)) able said nr n h =
       let w = held o _ e h in
-      fits_made plan past t _ e w.1 (unasked plan past (says kind.Read p t o (value_of plan past o)) refl (record { here = here; can = able; reads = n; holds = w.0; value = refl; mark = refl }))
-  step_fits e (Some (step.Put o v)) able said nr n h = let w = held o _ e h in fits_made plan past t _ e w.1 (write_fits o v able (rw n refl) w.0)
-  step_fits e (Some (step.Add o v)) able said nr n h = let w = held o _ e h in fits_made plan past t _ e w.1 (write_fits o (clamped (register plan past p t +ℤ v)) able (rw n refl) w.0)
+      fits_made plan past t _ e w.1
+      (unasked plan past (says kind.Read p t o (value_of plan past o)) refl
+      (record { here = here; can = able; reads = n; holds = w.0; value = refl; mark = refl }))
+  step_fits e (Some (step.Put o v)) able said nr n h = let w = held o _ e h in
+      fits_made plan past t _ e w.1 (write_fits o v able (rw n refl) w.0)
+  step_fits e (Some (step.Add o v)) able said nr n h = let w = held o _ e h in
+      fits_made plan past t _ e w.1 (write_fits o (clamped (register plan past p t +ℤ v)) able (rw n refl) w.0)
   step_fits e (Some (step.Work k)) able said nr n h =
-      fits_made plan past t _ e h (unasked plan past (says kind.Work p t k (mix (register plan past p t) k)) refl (record { here = here; can = able; works = n; value = refl; mark = refl }))
+      fits_made plan past t _ e h
+      (unasked plan past (says kind.Work p t k (mix (register plan past p t) k)) refl
+      (record { here = here; can = able; works = n; value = refl; mark = refl }))
   step_fits e (Some (step.Check a b x)) able said nr n h =
-      fits_made plan past t _ e h (unasked plan past (plainly kind.Check p t) refl (record { here = here; can = able; checks = rw n refl; passes = nr; plain = record { arg = refl; mark = refl; value = refl } }))
+      fits_made plan past t _ e h
+      (unasked plan past (plainly kind.Check p t) refl
+      (record {
+        here = here;
+        can = able;
+        checks = rw n refl;
+        passes = nr;
+        plain = record { arg = refl; mark = refl; value = refl };
+      }))
   step_fits e (Some (step.Raise x)) able said nr n h = absurd (some_apart h)
   step_fits e (Some (step.Enter k)) able said nr n h = absurd (some_apart h)
 
   -- ---- agreements
 
   asks : is_doomed plan past p ≡ false → all_have_given plan past p ≡ true → wants_undo plan past p ≡ true → HaveAgreed plan past p
-  asks spared all undo = rw (some_stay plan playable core past legal p t role spared) (record { spared = spared; agreed = all; wanted = undo })
+  asks spared all undo =
+      rw (some_stay plan playable core past legal p t role spared)
+      (record { spared = spared; agreed = all; wanted = undo })
 
   undo_fits : is_going past p ≡ true → HaveAgreed plan past p → Fits plan past t (plainly kind.Undo p t)
-  undo_fits goes a = unasked plan past (plainly kind.Undo p t) refl (record { here = here; when = goes; agreed = a; plain = record { arg = refl; mark = refl; value = refl } })
+  undo_fits goes a =
+      unasked plan past (plainly kind.Undo p t) refl
+      (record { here = here; when = goes; agreed = a; plain = record { arg = refl; mark = refl; value = refl } })
 
-  end_fits : (mark arg : ℕ) (o : IsOpen plan past p) → all_have_given plan past p ≡ true → wants_undo plan past p ≡ false → SignalsLeast plan (marked kind.End p t mark arg) (signals past p (roles_of plan p)) → Fits plan past t (marked kind.End p t mark arg)
-  end_fits mark arg o all kept outcome = unasked plan past (marked kind.End p t mark arg) refl (record { here = here; how = rw o.kept (record { goes = o.goes; spared = o.spared; agreed = all; kept = kept; outcome = outcome }); value = refl })
+  end_fits : (mark arg : ℕ) (o : IsOpen plan past p) → all_have_given plan past p ≡ true
+      → wants_undo plan past p ≡ false
+      → SignalsLeast plan (marked kind.End p t mark arg) (signals past p (roles_of plan p))
+      → Fits plan past t (marked kind.End p t mark arg)
+  end_fits mark arg o all kept outcome =
+      unasked plan past (marked kind.End p t mark arg) refl
+      (record {
+        here = here;
+        how = rw o.kept
+            (record { goes = o.goes; spared = o.spared; agreed = all; kept = kept; outcome = outcome });
+        value = refl;
+      })
 
-  signals_fit : (e : Entry) (xs : List ℕ) → IsOpen plan past p → all_have_given plan past p ≡ true → wants_undo plan past p ≡ false → signals past p (roles_of plan p) ≡ xs → due_end plan p t xs ≡ Some e → Fits plan past t e
+  signals_fit : (e : Entry) (xs : List ℕ) → IsOpen plan past p → all_have_given plan past p ≡ true
+      → wants_undo plan past p ≡ false → signals past p (roles_of plan p) ≡ xs → due_end plan p t xs ≡ Some e
+      → Fits plan past t e
   signals_fit e [] o all kept s h = fits_made plan past t _ e h (end_fits 0 0 o all kept (rw s (refl, refl)))
   signals_fit e (x ∷ xs) o all kept s h = by_least (least_of (interface_of plan p) (x ∷ xs)) refl h
     where
       by_least : (l : Option ℕ) → least_of (interface_of plan p) (x ∷ xs) ≡ l → due_signal p t l ≡ Some e → Fits plan past t e
       by_least None w h = absurd (some_apart h)
-      by_least (Some y) w h = fits_made plan past t _ e h (end_fits 1 y o all kept (rw s (refl, found_least (interface_of plan p) (x ∷ xs) y w)))
+      by_least (Some y) w h =
+          fits_made plan past t _ e h
+          (end_fits 1 y o all kept (rw s (refl, found_least (interface_of plan p) (x ∷ xs) y w)))
 
   agreed_fits : (e : Entry) → IsOpen plan past p → due_agreed plan past p t ≡ Some e → Fits plan past t e
   agreed_fits e o h = elim (chosen (not (all_have_given plan past p)) _ _ _ h) [
@@ -112,15 +156,38 @@ module _ (plan : Plan) (playable : IsPlayable plan) (core : Holds Core plan) (pa
 
   -- ---- in a calm place
 
-  raise_fits : (x : ℕ) → is_calm plan past p || is_hot plan past p ≡ true → is_halted plan past p t ≡ false → has_given plan past p t ≡ false → next_raise plan past p t ≡ Some x → Fits plan past t (marked kind.Raise p t 0 x)
-  raise_fits x when running unsaid raises = unasked plan past (marked kind.Raise p t 0 x) refl (record { here = here; when = when; running = running; unsaid = unsaid; raises = raises; mark = refl; value = refl })
+  raise_fits : (x : ℕ) → is_calm plan past p || is_hot plan past p ≡ true → is_halted plan past p t ≡ false
+      → has_given plan past p t ≡ false → next_raise plan past p t ≡ Some x
+      → Fits plan past t (marked kind.Raise p t 0 x)
+  raise_fits x when running unsaid raises =
+      unasked plan past (marked kind.Raise p t 0 x) refl
+      (record {
+        here = here;
+        when = when;
+        running = running;
+        unsaid = unsaid;
+        raises = raises;
+        mark = refl;
+        value = refl;
+      })
 
-  enter_fits : (e : Entry) (k : ℕ) (o : Option ℕ) → is_calm plan past p ≡ true → is_able plan past p t ≡ true → next_step plan past p t ≡ Some (step.Enter k) → place_entered plan past p t (Some (step.Enter k)) ≡ o → due_arrival t o ≡ Some e → Fits plan past t e
+  enter_fits : (e : Entry) (k : ℕ) (o : Option ℕ) → is_calm plan past p ≡ true → is_able plan past p t ≡ true
+      → next_step plan past p t ≡ Some (step.Enter k) → place_entered plan past p t (Some (step.Enter k)) ≡ o
+      → due_arrival t o ≡ Some e → Fits plan past t e
   enter_fits e k None calm able n w h = absurd (some_apart h)
   enter_fits e k (Some q) calm able n w h =
-      fits_made plan past t _ e h (unasked plan past (plainly kind.Arrive q t) refl (record { leads = rw here (cond-true (is_calm plan past p && is_able plan past p t) _ _ (and_from (is_calm plan past p) _ calm able) ∙ ap (place_entered plan past p t) n ∙ w); plain = record { arg = refl; mark = refl; value = refl } }))
+      fits_made plan past t _ e h
+      (unasked plan past (plainly kind.Arrive q t) refl
+      (record {
+        leads = rw here
+            (cond-true (is_calm plan past p && is_able plan past p t) _ _ (and_from (is_calm plan past p) _ calm able)
+            ∙ ap (place_entered plan past p t) n ∙ w);
+        plain = record { arg = refl; mark = refl; value = refl };
+      }))
 
-  forward_fits : (e : Entry) (s : Option Step) → is_calm plan past p ≡ true → has_given plan past p t ≡ false → next_raise plan past p t ≡ None → next_step plan past p t ≡ s → due_forward plan past p t s ≡ Some e → Fits plan past t e
+  forward_fits : (e : Entry) (s : Option Step) → is_calm plan past p ≡ true → has_given plan past p t ≡ false
+      → next_raise plan past p t ≡ None → next_step plan past p t ≡ s → due_forward plan past p t s ≡ Some e
+      → Fits plan past t e
   forward_fits e s calm unsaid nr n h = by_step s n h
     where
       able : is_able plan past p t ≡ true
@@ -148,35 +215,66 @@ module _ (plan : Plan) (playable : IsPlayable plan) (core : Holds Core plan) (pa
       calm : is_calm plan past p ≡ true
       calm = calm_from plan past p o r
 
-      by_raise : (x : Option ℕ) → has_given plan past p t ≡ false → next_raise plan past p t ≡ x → due_body plan past p t x ≡ Some e → Fits plan past t e
-      by_raise (Some x) g nr h = fits_made plan past t _ e h (raise_fits x (or_left _ _ calm) (plain_calm plan past p t (core past legal).raises r).0 g nr)
+      by_raise : (x : Option ℕ) → has_given plan past p t ≡ false → next_raise plan past p t ≡ x
+          → due_body plan past p t x ≡ Some e → Fits plan past t e
+      by_raise (Some x) g nr h =
+          fits_made plan past t _ e h
+          (raise_fits x (or_left _ _ calm) (plain_calm plan past p t (core past legal).raises r).0 g nr)
       by_raise None g nr h = forward_fits e (next_step plan past p t) calm g nr refl h
 
   -- ---- in a hot place
 
   -- who handles is able as long as its handler isn't broken off
-  handler_able : IsOpen plan past p → is_raised plan past p ≡ true → is_handling past p t ≡ true → was_refused_in_handler past p t ≡ false → is_able plan past p t ≡ true
-  handler_able o r g f = or_right (is_calm plan past p && not (has_given plan past p t)) _ (and_from (is_hot plan past p) _ (hot_from plan past p o r) (and_from (is_handling past p t) _ g (not_from_false _ f)))
+  handler_able : IsOpen plan past p → is_raised plan past p ≡ true → is_handling past p t ≡ true
+      → was_refused_in_handler past p t ≡ false → is_able plan past p t ≡ true
+  handler_able o r g f =
+      or_right (is_calm plan past p && not (has_given plan past p t)) _
+      (and_from (is_hot plan past p) _ (hot_from plan past p o r)
+      (and_from (is_handling past p t) _ g (not_from_false _ f)))
 
-  handler_fits : (e : Entry) → IsOpen plan past p → is_raised plan past p ≡ true → has_handled past p t ≡ true → has_given plan past p t ≡ false → due_handler plan past p t ≡ Some e → Fits plan past t e
+  handler_fits : (e : Entry) → IsOpen plan past p → is_raised plan past p ≡ true → has_handled past p t ≡ true
+      → has_given plan past p t ≡ false → due_handler plan past p t ≡ Some e → Fits plan past t e
   handler_fits e o r f g h = elim (chosen (breaks_off plan past p t) _ _ _ h) [
-    | inl x ↦ fits_made plan past t _ e x.1 (verdict_fits verdict.Undo (rw (not_calm plan past p r, hot_from plan past p o r, f, handling) (cond-true (breaks_off plan past p t) _ _ x.0)))
+    | inl x ↦
+        fits_made plan past t _ e x.1
+        (verdict_fits verdict.Undo
+        (rw (not_calm plan past p r, hot_from plan past p o r, f, handling)
+        (cond-true (breaks_off plan past p t) _ _ x.0)))
     | inr x ↦
         let parts = or_parts (was_refused_in_handler past p t) (not (is_none (next_raise plan past p t))) x.0 in
         let nr : next_raise plan past p t ≡ None = none_is _ (not-false _ parts.1) in
-        step_fits e (next_step plan past p t) (handler_able o r handling parts.0) (λ n. rw (not_calm plan past p r, hot_from plan past p o r, f, handling) (cond-false (breaks_off plan past p t) _ _ x.0 ∙ cond-true (is_none (next_step plan past p t)) _ _ n)) nr refl x.1
+        step_fits e (next_step plan past p t) (handler_able o r handling parts.0)
+        (λ n. rw (not_calm plan past p r, hot_from plan past p o r, f, handling)
+        (cond-false (breaks_off plan past p t) _ _ x.0 ∙ cond-true (is_none (next_step plan past p t)) _ _ n)) nr
+        refl x.1
   ]
     where
       handling : is_handling past p t ≡ true
       handling = not-false _ ((sym (handling_given plan playable core past legal p t r f)) ∙ g)
 
-  answer_fits : (e : Entry) (x : ℕ) → IsOpen plan past p → is_raised plan past p ≡ true → has_handled past p t ≡ false → has_given plan past p t ≡ false → exception_resolved past p ≡ Some x → due_answer plan p t x ≡ Some e → Fits plan past t e
+  answer_fits : (e : Entry) (x : ℕ) → IsOpen plan past p → is_raised plan past p ≡ true → has_handled past p t ≡ false
+      → has_given plan past p t ≡ false → exception_resolved past p ≡ Some x → due_answer plan p t x ≡ Some e
+      → Fits plan past t e
   answer_fits e x o r f g w h = elim (chosen (is_none (handler_of plan p t x)) _ _ _ h) [
-    | inl y ↦ fits_made plan past t _ e y.1 (verdict_fits verdict.Undo (rw (not_calm plan past p r, hot_from plan past p o r, f, g, w, y.0) refl))
-    | inr y ↦ fits_made plan past t _ e y.1 (unasked plan past (marked kind.Handle p t 0 x) refl (record { here = here; when = hot_from plan past p o r; resolution = w; able_to = y.0; fresh = f; mark = refl; value = refl }))
+    | inl y ↦
+        fits_made plan past t _ e y.1
+        (verdict_fits verdict.Undo (rw (not_calm plan past p r, hot_from plan past p o r, f, g, w, y.0) refl))
+    | inr y ↦
+        fits_made plan past t _ e y.1
+        (unasked plan past (marked kind.Handle p t 0 x) refl
+        (record {
+          here = here;
+          when = hot_from plan past p o r;
+          resolution = w;
+          able_to = y.0;
+          fresh = f;
+          mark = refl;
+          value = refl;
+        }))
   ]
 
-  resolved_fits : (e : Entry) (x : ℕ) → IsOpen plan past p → is_raised plan past p ≡ true → exception_resolved past p ≡ Some x → due_resolved plan past p t x ≡ Some e → Fits plan past t e
+  resolved_fits : (e : Entry) (x : ℕ) → IsOpen plan past p → is_raised plan past p ≡ true
+      → exception_resolved past p ≡ Some x → due_resolved plan past p t x ≡ Some e → Fits plan past t e
   resolved_fits e x o r w h = elim (chosen (has_given plan past p t) _ _ _ h) [
     | inl y ↦ agreed_fits e o y.1
     | inr y ↦ elim (chosen (has_handled past p t) _ _ _ y.1) [
@@ -185,17 +283,31 @@ module _ (plan : Plan) (playable : IsPlayable plan) (core : Holds Core plan) (pa
     ]
   ]
 
-  halted_fits : (e : Entry) (l : Option ℕ) → IsOpen plan past p → is_raised plan past p ≡ true → exception_resolved past p ≡ l → due_halted plan past p t l ≡ Some e → Fits plan past t e
+  halted_fits : (e : Entry) (l : Option ℕ) → IsOpen plan past p → is_raised plan past p ≡ true
+      → exception_resolved past p ≡ l → due_halted plan past p t l ≡ Some e → Fits plan past t e
   halted_fits e (Some x) o r w h = resolved_fits e x o r w h
   halted_fits e None o r w h = elim (chosen (all_are_halted plan past p) _ _ _ h) [
     | inl y ↦ by_least (least_of (internal_of plan p) (exceptions_raised plan past p)) y.0 refl y.1
     | inr y ↦ absurd (some_apart y.1)
   ]
     where
-      by_least : (l : Option ℕ) → all_are_halted plan past p ≡ true → least_of (internal_of plan p) (exceptions_raised plan past p) ≡ l → due_resolve p t l ≡ Some e → Fits plan past t e
+      by_least : (l : Option ℕ) → all_are_halted plan past p ≡ true
+          → least_of (internal_of plan p) (exceptions_raised plan past p) ≡ l → due_resolve p t l ≡ Some e
+          → Fits plan past t e
       by_least None all least h = absurd (some_apart h)
       by_least (Some x) all least h =
-          fits_made plan past t _ e h (unasked plan past (marked kind.Resolve p t 0 x) refl (record { here = here; when = hot_from plan past p o r; together = all; fresh = w; least = found_least (internal_of plan p) (exceptions_raised plan past p) x least; mark = refl; value = refl }))
+          fits_made plan past t _ e h
+          (unasked plan past (marked kind.Resolve p t 0 x) refl
+          (record {
+            here = here;
+            when = hot_from plan past p o r;
+            together = all;
+            fresh = w;
+            least = found_least (internal_of plan p) (exceptions_raised plan past p) x least;
+            mark = refl;
+            value =
+                refl;
+          }))
 
   hot_fits : (e : Entry) → IsOpen plan past p → is_raised plan past p ≡ true → due_hot plan past p t ≡ Some e → Fits plan past t e
   hot_fits e o r h = elim (chosen (not (is_halted plan past p t)) _ _ _ h) [
@@ -206,15 +318,50 @@ module _ (plan : Plan) (playable : IsPlayable plan) (core : Holds Core plan) (pa
       hot : is_hot plan past p ≡ true
       hot = hot_from plan past p o r
 
-      by_raise : (x : Option ℕ) → is_halted plan past p t ≡ false → next_raise plan past p t ≡ x → due_running p t x ≡ Some e → Fits plan past t e
-      by_raise (Some x) f nr h = fits_made plan past t _ e h (raise_fits x (or_right (is_calm plan past p) _ hot) f (running_unsaid plan playable core past legal p t role r f) nr)
-      by_raise None f nr h = fits_made plan past t _ e h (unasked plan past (plainly kind.Inform p t) refl (record { here = here; when = hot; running = f; silent = nr; plain = record { arg = refl; mark = refl; value = refl } }))
+      by_raise : (x : Option ℕ) → is_halted plan past p t ≡ false → next_raise plan past p t ≡ x
+          → due_running p t x ≡ Some e → Fits plan past t e
+      by_raise (Some x) f nr h =
+          fits_made plan past t _ e h
+          (raise_fits x (or_right (is_calm plan past p) _ hot) f
+          (running_unsaid plan playable core past legal p t role r f) nr)
+      by_raise None f nr h =
+          fits_made plan past t _ e h
+          (unasked plan past (plainly kind.Inform p t) refl
+          (record {
+            here = here;
+            when = hot;
+            running = f;
+            silent = nr;
+            plain = record { arg = refl; mark = refl; value = refl };
+          }))
 
   -- ---- where it gives up, is undone, waits, or has ended
 
-  abort_fits : (o : Option ℕ) → is_going past p ≡ true → is_doomed plan past p ≡ true → all_are_inside plan past p ≡ true → has_aborted past p t ≡ false → abort_of (abort_row plan p t) (register plan past p t) ≡ o → Fits plan past t (naming kind.Abort p t o)
-  abort_fits None goes doom all f w = unasked plan past (naming kind.Abort p t None) refl (record { here = here; when = goes; doom = doom; together = all; fresh = f; names = rw w (refl, refl); value = refl })
-  abort_fits (Some x) goes doom all f w = unasked plan past (naming kind.Abort p t (Some x)) refl (record { here = here; when = goes; doom = doom; together = all; fresh = f; names = rw w (refl, refl); value = refl })
+  abort_fits : (o : Option ℕ) → is_going past p ≡ true → is_doomed plan past p ≡ true
+      → all_are_inside plan past p ≡ true → has_aborted past p t ≡ false
+      → abort_of (abort_row plan p t) (register plan past p t) ≡ o → Fits plan past t (naming kind.Abort p t o)
+  abort_fits None goes doom all f w =
+      unasked plan past (naming kind.Abort p t None) refl
+      (record {
+        here = here;
+        when = goes;
+        doom = doom;
+        together = all;
+        fresh = f;
+        names = rw w (refl, refl);
+        value = refl;
+      })
+  abort_fits (Some x) goes doom all f w =
+      unasked plan past (naming kind.Abort p t (Some x)) refl
+      (record {
+        here = here;
+        when = goes;
+        doom = doom;
+        together = all;
+        fresh = f;
+        names = rw w (refl, refl);
+        value = refl;
+      })
 
   doomed_fits : (e : Entry) → is_going past p ≡ true → is_doomed plan past p ≡ true → due_doomed plan past p t ≡ Some e → Fits plan past t e
   doomed_fits e goes doom h = elim (chosen (has_aborted past p t) _ _ _ h) [
@@ -228,9 +375,16 @@ module _ (plan : Plan) (playable : IsPlayable plan) (core : Holds Core plan) (pa
     ]
   ]
 
-  restore_fits : (e : Entry) (o : Option ℕ) → has_ended past p ≡ false → is_undoing past p ≡ true → next_restore plan past p ≡ o → due_restore plan past p t o ≡ Some e → Fits plan past t e
+  restore_fits : (e : Entry) (o : Option ℕ) → has_ended past p ≡ false → is_undoing past p ≡ true
+      → next_restore plan past p ≡ o → due_restore plan past p t o ≡ Some e → Fits plan past t e
   restore_fits e None lasts u w h =
-      fits_made plan past t _ e h (unasked plan past (marked kind.End p t (undone_mark past p) 0) refl (record { here = here; how = rw u (record { lasts = lasts; all_tried = w; mark = refl; arg = refl }); value = refl }))
+      fits_made plan past t _ e h
+      (unasked plan past (marked kind.End p t (undone_mark past p) 0) refl
+      (record {
+        here = here;
+        how = rw u (record { lasts = lasts; all_tried = w; mark = refl; arg = refl });
+        value = refl;
+      }))
   restore_fits e (Some o) lasts u w h =
       fits_made plan past t _ e h (record {
         may = record { here = here; when = u; lasts = lasts; least = w; value = refl; mark = refl };
@@ -240,18 +394,34 @@ module _ (plan : Plan) (playable : IsPlayable plan) (core : Holds Core plan) (pa
 
   waiting_fits : (e : Entry) → has_started past p ≡ false → due_waiting plan past p t ≡ Some e → Fits plan past t e
   waiting_fits e waits h = elim (chosen (is_doomed plan past p) _ _ _ h) [
-    | inl x ↦ fits_made plan past t _ e x.1 (unasked plan past (plainly kind.Withdraw p t) refl (record { here = here; waits = waits; doom = x.0; plain = record { arg = refl; mark = refl; value = refl } }))
+    | inl x ↦
+        fits_made plan past t _ e x.1
+        (unasked plan past (plainly kind.Withdraw p t) refl
+        (record { here = here; waits = waits; doom = x.0; plain = record { arg = refl; mark = refl; value = refl } }))
     | inr x ↦ elim (chosen (all_are_inside plan past p && objects_are_ready plan past p) _ _ _ x.1) [
       | inl y ↦
           let parts = and_parts (all_are_inside plan past p) (objects_are_ready plan past p) y.0 in
-          fits_made plan past t _ e y.1 (unasked plan past (plainly kind.Start p t) refl (record { here = here; waits = waits; spared = x.0; together = parts.0; ready = parts.1; plain = record { arg = refl; mark = refl; value = refl } }))
+          fits_made plan past t _ e y.1
+          (unasked plan past (plainly kind.Start p t) refl
+          (record {
+            here = here;
+            waits = waits;
+            spared = x.0;
+            together = parts.0;
+            ready = parts.1;
+            plain = record { arg = refl; mark = refl; value = refl };
+          }))
       | inr y ↦ absurd (some_apart y.1)
     ]
   ]
 
   leave_fits : (o : Option ℕ) → has_ended past p ≡ true → exception_carried plan past p t ≡ o → Fits plan past t (naming kind.Leave p t o)
-  leave_fits None w c = unasked plan past (naming kind.Leave p t None) refl (record { here = here; when = w; carries = rw c (refl, refl); value = refl })
-  leave_fits (Some x) w c = unasked plan past (naming kind.Leave p t (Some x)) refl (record { here = here; when = w; carries = rw c (refl, refl); value = refl })
+  leave_fits None w c =
+      unasked plan past (naming kind.Leave p t None) refl
+      (record { here = here; when = w; carries = rw c (refl, refl); value = refl })
+  leave_fits (Some x) w c =
+      unasked plan past (naming kind.Leave p t (Some x)) refl
+      (record { here = here; when = w; carries = rw c (refl, refl); value = refl })
 
   live_fits : (e : Entry) → has_ended past p ≡ false → has_started past p ≡ true → due_live plan past p t ≡ Some e → Fits plan past t e
   live_fits e f s h = elim (chosen (is_undoing past p) _ _ _ h) [
@@ -271,12 +441,16 @@ module _ (plan : Plan) (playable : IsPlayable plan) (core : Holds Core plan) (pa
   ]
 
 -- what is due fits
-pub due_fits : (plan : Plan) → IsPlayable plan → Holds Core plan → (past : List Entry) → LegalPast plan past → (t : ℕ) (e : Entry) → due_of plan past t ≡ Some e → Fits plan past t e
+pub due_fits : (plan : Plan) → IsPlayable plan → Holds Core plan → (past : List Entry) → LegalPast plan past
+    → (t : ℕ) (e : Entry) → due_of plan past t ≡ Some e → Fits plan past t e
 due_fits plan playable core past legal t e h = by_place (inside plan past t) refl h
   where
     by_play : (o : Option ℕ) → inside plan past t ≡ None → next_play plan past t ≡ o → due_arrival t o ≡ Some e → Fits plan past t e
     by_play None w n h = absurd (some_apart h)
-    by_play (Some p) w n h = fits_made plan past t _ e h (unasked plan past (plainly kind.Arrive p t) refl (record { leads = rw w n; plain = record { arg = refl; mark = refl; value = refl } }))
+    by_play (Some p) w n h =
+        fits_made plan past t _ e h
+        (unasked plan past (plainly kind.Arrive p t) refl
+        (record { leads = rw w n; plain = record { arg = refl; mark = refl; value = refl } }))
 
     by_place : (o : Option ℕ) → inside plan past t ≡ o → due_at plan past t o ≡ Some e → Fits plan past t e
     by_place None w h = by_play (next_play plan past t) w refl h

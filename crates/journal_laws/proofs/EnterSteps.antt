@@ -20,7 +20,8 @@ use Rattle.place_plan.proofs.OnPlans.ClosedPlan.{member_index}
 -- ---- steps
 
 -- what all steps pass, the one of a number passes
-pub get_all : {A : Type 0} (test : A → Bool) (xs : List A) (n : ℕ) (x : A) → list_all test xs ≡ true → slice_get xs n ≡ Some x → test x ≡ true
+pub get_all : {A : Type 0} (test : A → Bool) (xs : List A) (n : ℕ) (x : A) → list_all test xs ≡ true
+    → slice_get xs n ≡ Some x → test x ≡ true
 get_all test [] n x h e = absurd cc
 get_all test (y ∷ ys) zero x h e = let same : y ≡ x = cc in subst (λ z. test z ≡ true) same (and_parts (test y) (list_all test ys) h).0
 get_all test (y ∷ ys) (suc n) x h e = get_all test ys n x (and_parts (test y) (list_all test ys) h).1 e
@@ -51,7 +52,8 @@ entered_at (step.Enter j ∷ steps) k m = elim (or_cases (j == k) _ m) [
 entered_at (s ∷ steps) k m = let found = entered_at steps k m in (suc found.0, found.1)
 
 -- where what is entered rises, later steps enter more
-pub entered_order : (low : ℕ) (steps : List Step) (n m k l : ℕ) → Rises low (entered_by steps) → n < m → slice_get steps n ≡ Some (step.Enter k) → slice_get steps m ≡ Some (step.Enter l) → k < l
+pub entered_order : (low : ℕ) (steps : List Step) (n m k l : ℕ) → Rises low (entered_by steps) → n < m
+    → slice_get steps n ≡ Some (step.Enter k) → slice_get steps m ≡ Some (step.Enter l) → k < l
 entered_order low [] n m k l r lt e f = absurd cc
 entered_order low (s ∷ steps) n zero k l r lt e f = absurd (omega arith)
 entered_order low (step.Enter j ∷ steps) zero (suc m) k l r lt e f =
@@ -82,7 +84,8 @@ pub filled_rises : (role n : ℕ) (nests : List NestRow) → Rises n (filled_by 
 filled_rises role n [] = tt
 filled_rises role n (nest ∷ nests) = either (member role nest.roles) (filled_rises role (suc n) nests)
   where
-    either : (b : Bool) → Rises (suc n) (filled_by role (suc n) nests) → Rises n (cond b (n ∷ filled_by role (suc n) nests) (filled_by role (suc n) nests))
+    either : (b : Bool) → Rises (suc n) (filled_by role (suc n) nests)
+        → Rises n (cond b (n ∷ filled_by role (suc n) nests) (filled_by role (suc n) nests))
     either true h = (omega arith, h)
     either false h = Rises-weaker n (suc n) _ (omega arith) h
 
@@ -100,46 +103,60 @@ filled_is role n k (nest ∷ nests) m = either (member role nest.roles) refl m (
     later : Fills role (suc n) k nests → Fills role n k (nest ∷ nests)
     later f = record { index = suc f.index; number = omega (arith, f.number); is_there = omega (arith, f.is_there); plays = f.plays }
 
-    either : (b : Bool) → member role nest.roles ≡ b → member k (cond b (n ∷ filled_by role (suc n) nests) (filled_by role (suc n) nests)) ≡ true → (member k (filled_by role (suc n) nests) ≡ true → Fills role (suc n) k nests) → Fills role n k (nest ∷ nests)
+    either : (b : Bool) → member role nest.roles ≡ b
+        → member k (cond b (n ∷ filled_by role (suc n) nests) (filled_by role (suc n) nests)) ≡ true
+        → (member k (filled_by role (suc n) nests) ≡ true → Fills role (suc n) k nests) → Fills role n k (nest ∷ nests)
     either true e m ih = elim (or_cases (n == k) _ m) [
       | inl x ↦ record { index = 0; number = omega (arith, eqb-true n k x); is_there = omega arith; plays = e }
       | inr x ↦ later (ih x)
     ]
     either false e m ih = later (ih m)
 
-pub filled_has : (role n j : ℕ) (nests : List NestRow) → member role (slice_index_or nests j no_nest).roles ≡ true → member (n + j) (filled_by role n nests) ≡ true
+pub filled_has : (role n j : ℕ) (nests : List NestRow) → member role (slice_index_or nests j no_nest).roles ≡ true
+    → member (n + j) (filled_by role n nests) ≡ true
 filled_has role n j [] m = absurd (false≢true m)
 filled_has role n zero (nest ∷ nests) m = rw (m, add-zero) (or_left _ _ (eq-eqb n n refl))
 filled_has role n (suc j) (nest ∷ nests) m =
     let same : suc n + j ≡ n + suc j = omega arith in
     either (member role nest.roles) (subst (λ z. member z (filled_by role (suc n) nests) ≡ true) same (filled_has role (suc n) j nests m))
   where
-    either : (b : Bool) → member (n + suc j) (filled_by role (suc n) nests) ≡ true → member (n + suc j) (cond b (n ∷ filled_by role (suc n) nests) (filled_by role (suc n) nests)) ≡ true
+    either : (b : Bool) → member (n + suc j) (filled_by role (suc n) nests) ≡ true
+        → member (n + suc j) (cond b (n ∷ filled_by role (suc n) nests) (filled_by role (suc n) nests)) ≡ true
     either true h = or_right _ _ h
     either false h = h
 
 -- ---- roles
 
 -- what the rule of enter steps says of the role of a number
-pub role_enters : (nests : List NestRow) (n : ℕ) (roles : List RoleRow) (r : ℕ) → roles_enter nests n roles ≡ true → r < length roles → (entered_by (slice_index_or roles r no_role).body.steps ≡ filled_by (n + r) 0 nests) × (list_all (λ (h : HandlerRow). is_empty (entered_by h.program.steps)) (slice_index_or roles r no_role).handlers ≡ true)
+pub role_enters : (nests : List NestRow) (n : ℕ) (roles : List RoleRow) (r : ℕ) → roles_enter nests n roles ≡ true
+    → r < length roles → (entered_by (slice_index_or roles r no_role).body.steps ≡ filled_by (n + r) 0 nests)
+    × (list_all (λ (h : HandlerRow). is_empty (entered_by h.program.steps)) (slice_index_or roles r no_role).handlers
+    ≡ true)
 role_enters nests n [] r h l = absurd (omega arith)
 role_enters nests n (role ∷ roles) zero h l =
-    let a = and_parts (same_numbers (entered_by role.body.steps) (filled_by n 0 nests)) _ h in
-    (rw add-zero (same_is (entered_by role.body.steps) (filled_by n 0 nests) a.0), (and_parts (list_all (λ (h : HandlerRow). is_empty (entered_by h.program.steps)) role.handlers) _ a.1).0)
+    let a = and_parts (same_numbers (entered_by role.body.steps) (filled_by n 0 nests)) _ h in (
+      rw add-zero (same_is (entered_by role.body.steps) (filled_by n 0 nests) a.0),
+      (and_parts (list_all (λ (h : HandlerRow). is_empty (entered_by h.program.steps)) role.handlers) _ a.1).0,
+    )
 role_enters nests n (role ∷ roles) (suc r) h l =
     let a = and_parts (same_numbers (entered_by role.body.steps) (filled_by n 0 nests)) _ h in
     let b = and_parts (list_all (λ (h : HandlerRow). is_empty (entered_by h.program.steps)) role.handlers) _ a.1 in
     let same : suc n + r ≡ n + suc r = omega arith in
-    subst (λ z. (entered_by (slice_index_or roles r no_role).body.steps ≡ filled_by z 0 nests) × (list_all (λ (h : HandlerRow). is_empty (entered_by h.program.steps)) (slice_index_or roles r no_role).handlers ≡ true)) same (role_enters nests (suc n) roles r b.1 (omega arith))
+    subst (λ z. (entered_by (slice_index_or roles r no_role).body.steps ≡ filled_by z 0 nests)
+    × (list_all (λ (h : HandlerRow). is_empty (entered_by h.program.steps))
+    (slice_index_or roles r no_role).handlers ≡ true)) same (role_enters nests (suc n) roles r b.1 (omega arith))
 
 -- what all handlers pass, and the idle program, the program for an exception passes
-pub handler_passes : (test : Program → Bool) (x : ℕ) (handlers : List HandlerRow) → list_all (λ (h : HandlerRow). test h.program) handlers ≡ true → test idle ≡ true → test (or_idle (handler_in x handlers)) ≡ true
+pub handler_passes : (test : Program → Bool) (x : ℕ) (handlers : List HandlerRow)
+    → list_all (λ (h : HandlerRow). test h.program) handlers ≡ true → test idle ≡ true
+    → test (or_idle (handler_in x handlers)) ≡ true
 handler_passes test x [] h i = i
 handler_passes test x (handler ∷ handlers) h i =
     let parts = and_parts (test handler.program) (list_all (λ (h : HandlerRow). test h.program) handlers) h in
     either (handler.exception == x) parts.0 (handler_passes test x handlers parts.1 i)
   where
-    either : (b : Bool) → test handler.program ≡ true → test (or_idle (handler_in x handlers)) ≡ true → test (or_idle (cond b (Some handler.program) (handler_in x handlers))) ≡ true
+    either : (b : Bool) → test handler.program ≡ true → test (or_idle (handler_in x handlers)) ≡ true
+        → test (or_idle (cond b (Some handler.program) (handler_in x handlers))) ≡ true
     either true h k = h
     either false h k = k
 
@@ -154,7 +171,9 @@ pub player_at : (who : List ℕ) (t : ℕ) → member t who ≡ true → slice_i
 player_at [] t m = absurd (false≢true m)
 player_at (x ∷ xs) t m = either (x == t) refl m (player_at xs t)
   where
-    either : (b : Bool) → (x == t) ≡ b → b || member t xs ≡ true → (member t xs ≡ true → slice_index_or xs (index_of t xs) 0 ≡ t) → slice_index_or (x ∷ xs) (cond b 0 (suc (index_of t xs))) 0 ≡ t
+    either : (b : Bool) → (x == t) ≡ b → b || member t xs ≡ true
+        → (member t xs ≡ true → slice_index_or xs (index_of t xs) 0 ≡ t)
+        → slice_index_or (x ∷ xs) (cond b 0 (suc (index_of t xs))) 0 ≡ t
     either true e m ih = eqb-true x t e
     either false e m ih = ih m
 

@@ -17,7 +17,8 @@ use Rattle.journal_laws.proofs.LastLive.{not_undoing, not_doomed, not_hot}
 use Rattle.journal_laws.proofs.LastCalm.{calm_due}
 
 -- the greatest number below n that passes a test, or none does
-greatest_below : (test : ℕ → Bool) (n : ℕ) → ((p : ℕ) → p < n → test p ≡ false) ⊎ ((p : ℕ) × (test p ≡ true) × ((q : ℕ) → p < q → q < n → test q ≡ false))
+greatest_below : (test : ℕ → Bool) (n : ℕ)
+    → ((p : ℕ) → p < n → test p ≡ false) ⊎ ((p : ℕ) × (test p ≡ true) × ((q : ℕ) → p < q → q < n → test q ≡ false))
 greatest_below test zero = inl (λ p l. absurd (omega arith))
 greatest_below test (suc n) = by_test (cases_Bool (test n)) (greatest_below test n)
   where
@@ -27,7 +28,10 @@ greatest_below test (suc n) = by_test (cases_Bool (test n)) (greatest_below test
       | inr other ↦ rest (omega arith)
     ]
 
-    by_test : (test n ≡ true) ⊎ (test n ≡ false) → ((p : ℕ) → p < n → test p ≡ false) ⊎ ((p : ℕ) × (test p ≡ true) × ((q : ℕ) → p < q → q < n → test q ≡ false)) → ((p : ℕ) → p < suc n → test p ≡ false) ⊎ ((p : ℕ) × (test p ≡ true) × ((q : ℕ) → p < q → q < suc n → test q ≡ false))
+    by_test : (test n ≡ true) ⊎ (test n ≡ false)
+        → ((p : ℕ) → p < n → test p ≡ false) ⊎ ((p : ℕ) × (test p ≡ true) × ((q : ℕ) → p < q → q < n → test q ≡ false))
+        → ((p : ℕ) → p < suc n → test p ≡ false)
+        ⊎ ((p : ℕ) × (test p ≡ true) × ((q : ℕ) → p < q → q < suc n → test q ≡ false))
     by_test (inl x) below = inr (n, x, λ q a b. absurd (omega arith))
     by_test (inr x) (inl none) = inl (λ p l. top x p (none p) l)
     by_test (inr x) (inr (p, is, above)) = inr (p, is, λ q a l. top x q (above q a) l)
@@ -55,19 +59,25 @@ module _ (plan : Plan) (playable : IsPlayable plan) (past : List Entry) (legal :
   -- where nothing is due, all are over
   still_over : NothingDue plan past → AllOver plan past
   still_over still = elim (greatest_below (is_live past) (length plan.places)) [
-    | inl none ↦ all_over plan playable past legal still (λ p. elim (cases_lt p (length plan.places)) [ inl l ↦ none p l | inr l ↦ dead_past p l ])
-    | inr some ↦ absurd (none_last still some.0 some.1 (λ q a. elim (cases_lt q (length plan.places)) [ inl l ↦ some.2 q a l | inr l ↦ dead_past q l ]))
+    | inl none ↦
+        all_over plan playable past legal still
+        (λ p. elim (cases_lt p (length plan.places)) [ inl l ↦ none p l | inr l ↦ dead_past p l ])
+    | inr some ↦
+        absurd (none_last still some.0 some.1
+        (λ q a. elim (cases_lt q (length plan.places)) [ inl l ↦ some.2 q a l | inr l ↦ dead_past q l ]))
   ]
 
 -- one of the first n participants has an entry, or nothing is due to any of them
-one_or_none : (plan : Plan) (past : List Entry) → DueIsRight plan past → (n : ℕ) → n ≤ length plan.participants → HasEntry plan past ⊎ ((t : ℕ) → t < n → due_of plan past t ≡ None)
+one_or_none : (plan : Plan) (past : List Entry) → DueIsRight plan past → (n : ℕ) → n ≤ length plan.participants
+    → HasEntry plan past ⊎ ((t : ℕ) → t < n → due_of plan past t ≡ None)
 one_or_none plan past right zero l = inr (λ t b. absurd (omega arith))
 one_or_none plan past right (suc n) l = elim (one_or_none plan past right n (omega arith)) [
   | inl found ↦ inl found
   | inr rest ↦ by_due (due_of plan past n) refl rest
 ]
   where
-    by_due : (o : Option Entry) → due_of plan past n ≡ o → ((t : ℕ) → t < n → due_of plan past t ≡ None) → HasEntry plan past ⊎ ((t : ℕ) → t < suc n → due_of plan past t ≡ None)
+    by_due : (o : Option Entry) → due_of plan past n ≡ o → ((t : ℕ) → t < n → due_of plan past t ≡ None)
+        → HasEntry plan past ⊎ ((t : ℕ) → t < suc n → due_of plan past t ≡ None)
     by_due (Some e) d rest = let may = right.may n e d in inl (record { entry = e; known = rw may.1 (omega arith); may = may.0 })
     by_due None d rest = inr (λ t b. elim (cases_eq t n) [
       | inl same ↦ subst (λ a. due_of plan past a ≡ None) (sym same) d
@@ -76,7 +86,8 @@ one_or_none plan past right (suc n) l = elim (one_or_none plan past right n (ome
 
 -- progress law: as long as a participant isn't over, some participant has an entry
 pub goes_on : (plan : Plan) → IsPlayable plan → Holds DueIsRight plan → Holds GoesOn plan
-goes_on plan playable right past legal unfinished = elim (one_or_none plan past (right past legal) (length plan.participants) (omega arith)) [
-  | inl found ↦ found
-  | inr still ↦ absurd (unfinished (still_over plan playable past legal still))
-]
+goes_on plan playable right past legal unfinished =
+    elim (one_or_none plan past (right past legal) (length plan.participants) (omega arith)) [
+      | inl found ↦ found
+      | inr still ↦ absurd (unfinished (still_over plan playable past legal still))
+    ]

@@ -57,7 +57,9 @@ module _ (plan : Plan) (tree : IsTree plan) where
   -- ---- how places come and go
 
   -- what is undone or has ended had started
-  undoing_started_by : (past : List Entry) (k : Kind) (e : Entry) (p : ℕ) → (is_undoing past p ≡ true → has_started past p ≡ true) → Row k plan past (of_kind k e) → is_undoing (of_kind k e ∷ past) p ≡ true → has_started (of_kind k e ∷ past) p ≡ true
+  undoing_started_by : (past : List Entry) (k : Kind) (e : Entry) (p : ℕ)
+      → (is_undoing past p ≡ true → has_started past p ≡ true) → Row k plan past (of_kind k e)
+      → is_undoing (of_kind k e ∷ past) p ≡ true → has_started (of_kind k e ∷ past) p ≡ true
   undoing_started_by past kind.Start e p ih h w = or_right _ _ (ih w)
   undoing_started_by past kind.Undo e p ih h w =
       elim (or_cases (e.place == p) (is_undoing past p) w) [
@@ -74,15 +76,20 @@ module _ (plan : Plan) (tree : IsTree plan) where
   pub end_live : (past : List Entry) (e : Entry) → LegalPast plan past → MayEnd plan past e → is_live past e.place ≡ true
   end_live past e legal h = by_undo (is_undoing past e.place) refl h.how
     where
-      by_undo : (b : Bool) → is_undoing past e.place ≡ b → MatchBool b (EndsUndone plan past e) (EndsAgreed plan past e) → is_live past e.place ≡ true
+      by_undo : (b : Bool) → is_undoing past e.place ≡ b → MatchBool b (EndsUndone plan past e) (EndsAgreed plan past e)
+          → is_live past e.place ≡ true
       by_undo true u h = live_from e.place past (undoing_started past legal e.place u) h.lasts
       by_undo false u h = going_live e.place past h.goes
 
-  ended_started_by : (past : List Entry) (k : Kind) (e : Entry) (p : ℕ) → LegalPast plan past → (has_ended past p ≡ true → has_started past p ≡ true) → Row k plan past (of_kind k e) → has_ended (of_kind k e ∷ past) p ≡ true → has_started (of_kind k e ∷ past) p ≡ true
+  ended_started_by : (past : List Entry) (k : Kind) (e : Entry) (p : ℕ) → LegalPast plan past
+      → (has_ended past p ≡ true → has_started past p ≡ true) → Row k plan past (of_kind k e)
+      → has_ended (of_kind k e ∷ past) p ≡ true → has_started (of_kind k e ∷ past) p ≡ true
   ended_started_by past kind.Start e p legal ih h w = or_right _ _ (ih w)
   ended_started_by past kind.End e p legal ih h w =
       elim (or_cases (e.place == p) (has_ended past p) w) [
-        | inl x ↦ subst (λ a. has_started past a ≡ true) (eqb-true e.place p x) (live_parts e.place past (end_live past (of_kind kind.End e) legal h)).0
+        | inl x ↦
+            subst (λ a. has_started past a ≡ true) (eqb-true e.place p x)
+            (live_parts e.place past (end_live past (of_kind kind.End e) legal h)).0
         | inr x ↦ ih x
       ]
   ended_started_by past _ e p legal ih h w = ih w
@@ -92,7 +99,8 @@ module _ (plan : Plan) (tree : IsTree plan) where
   ended_started (e ∷ past) h p w = ended_started_by past e.kind e p h.0 (ended_started past h.0 p) h.1 w
 
   -- a place round a live one has a role that is busy there
-  pub busy_round : (past : List Entry) → LegalPast plan past → (p q : ℕ) → is_live past q ≡ true → member p (around plan q) ≡ true → (t : ℕ) × IsBusy plan p t past
+  pub busy_round : (past : List Entry) → LegalPast plan past → (p q : ℕ) → is_live past q ≡ true
+      → member p (around plan q) ≡ true → (t : ℕ) × IsBusy plan p t past
   busy_round past legal p q w m =
       let parts = live_parts q past w in
       let some = started_filled plan tree past legal q parts.0 in
@@ -115,7 +123,10 @@ module _ (plan : Plan) (tree : IsTree plan) where
   -- ---- who holds an object
 
   -- p holds each object that it uses, where nothing that is live stands inside it
-  pub holds_own : (past : List Entry) → (o p : ℕ) → ((q : ℕ) → live_uses plan o past q ≡ in_within plan (holder_of plan past o) q) → is_live past p ≡ true → uses plan p o ≡ true → ((r : ℕ) → is_live past r ≡ true → member p (around plan r) ≡ true → ⊥) → holder_of plan past o ≡ Some p
+  pub holds_own : (past : List Entry) → (o p : ℕ)
+      → ((q : ℕ) → live_uses plan o past q ≡ in_within plan (holder_of plan past o) q) → is_live past p ≡ true
+      → uses plan p o ≡ true → ((r : ℕ) → is_live past r ≡ true → member p (around plan r) ≡ true → ⊥)
+      → holder_of plan past o ≡ Some p
   holds_own past o p at w u alone = by_holder (holder_of plan past o) refl
     where
       by_holder : (h : Option ℕ) → holder_of plan past o ≡ h → h ≡ Some p
@@ -129,55 +140,86 @@ module _ (plan : Plan) (tree : IsTree plan) where
           ]
 
   -- nothing live stands inside a place that ends
-  ends_alone : (past : List Entry) (e : Entry) → LegalPast plan past → MayEnd plan past e → (r : ℕ) → is_live past r ≡ true → member e.place (around plan r) ≡ true → ⊥
+  ends_alone : (past : List Entry) (e : Entry) → LegalPast plan past → MayEnd plan past e → (r : ℕ)
+      → is_live past r ≡ true → member e.place (around plan r) ≡ true → ⊥
   ends_alone past e legal h r w m =
       let some = busy_round past legal e.place r w m in
       not_ending plan tree e.place some.0 past e some.1 refl h
 
   -- a place that starts takes its objects from the place round it
-  start_takes : (past : List Entry) (e : Entry) (o q : ℕ) → LegalPast plan past → MayStart plan past (of_kind kind.Start e) → live_uses plan o past q ≡ in_within plan (holder_of plan past o) q → live_uses plan o (of_kind kind.Start e ∷ past) q ≡ in_within plan (cond (uses plan e.place o) (Some e.place) (holder_of plan past o)) q
+  start_takes : (past : List Entry) (e : Entry) (o q : ℕ) → LegalPast plan past
+      → MayStart plan past (of_kind kind.Start e) → live_uses plan o past q ≡ in_within plan (holder_of plan past o) q
+      → live_uses plan o (of_kind kind.Start e ∷ past) q
+      ≡ in_within plan (cond (uses plan e.place o) (Some e.place) (holder_of plan past o)) q
   start_takes past e o q legal h at = by_use (uses plan e.place o) refl
     where
       lasts : has_ended past e.place ≡ false
       lasts = false_from_ne_true _ (λ f. both_ways _ h.waits (ended_started past legal e.place f))
 
       free : uses plan e.place o ≡ true → holder_of plan past o ≡ parent plan e.place
-      free u = same_from_option (holder_of plan past o) (parent plan e.place) (all_at (λ a. same_option (holder_of plan past a) (parent plan e.place)) (objects_of plan e.place) o h.ready u)
+      free u =
+          same_from_option (holder_of plan past o) (parent plan e.place)
+          (all_at (λ a. same_option (holder_of plan past a) (parent plan e.place))
+          (objects_of plan e.place) o h.ready u)
 
-      own : uses plan e.place o ≡ true → (e.place == q) ≡ true → ((((e.place == q) || has_started past q) && not (has_ended past q)) && uses plan q o) ≡ is_within plan e.place q
+      own : uses plan e.place o ≡ true → (e.place == q) ≡ true
+          → ((((e.place == q) || has_started past q) && not (has_ended past q)) && uses plan q o)
+          ≡ is_within plan e.place q
       own u x =
           let lasts_there : has_ended past q ≡ false = subst (λ a. has_ended past a ≡ false) (eqb-true e.place q x) lasts in
           let used : uses plan q o ≡ true = subst (λ a. uses plan a o ≡ true) (eqb-true e.place q x) u in
           rw (x, lasts_there, used) refl
 
-      other : uses plan e.place o ≡ true → (e.place == q) ≡ false → ((((e.place == q) || has_started past q) && not (has_ended past q)) && uses plan q o) ≡ is_within plan e.place q
+      other : uses plan e.place o ≡ true → (e.place == q) ≡ false
+          → ((((e.place == q) || has_started past q) && not (has_ended past q)) && uses plan q o)
+          ≡ is_within plan e.place q
       other u x = rw x (at ∙ ap (λ a. in_within plan a q) (free u) ∙ parent_within plan tree e.place q)
 
-      by_use : (b : Bool) → uses plan e.place o ≡ b → ((((e.place == q) || has_started past q) && not (has_ended past q)) && uses plan q o) ≡ in_within plan (cond b (Some e.place) (holder_of plan past o)) q
+      by_use : (b : Bool) → uses plan e.place o ≡ b
+          → ((((e.place == q) || has_started past q) && not (has_ended past q)) && uses plan q o)
+          ≡ in_within plan (cond b (Some e.place) (holder_of plan past o)) q
       by_use true u = elim (cases_Bool (e.place == q)) [ inl x ↦ own u x | inr x ↦ other u x ]
-      by_use false u = gained (e.place == q) (has_started past q) (has_ended past q) (uses plan q o) (λ x. subst (λ a. uses plan a o ≡ false) (eqb-true e.place q x) u) ∙ at
+      by_use false u =
+          gained (e.place == q) (has_started past q) (has_ended past q) (uses plan q o)
+          (λ x. subst (λ a. uses plan a o ≡ false) (eqb-true e.place q x) u) ∙ at
 
   -- and gives them back at its end
-  end_gives : (past : List Entry) (e : Entry) (o q : ℕ) → LegalPast plan past → MayEnd plan past (of_kind kind.End e) → ((r : ℕ) → live_uses plan o past r ≡ in_within plan (holder_of plan past o) r) → live_uses plan o (of_kind kind.End e ∷ past) q ≡ in_within plan (cond (uses plan e.place o) (parent plan e.place) (holder_of plan past o)) q
+  end_gives : (past : List Entry) (e : Entry) (o q : ℕ) → LegalPast plan past → MayEnd plan past (of_kind kind.End e)
+      → ((r : ℕ) → live_uses plan o past r ≡ in_within plan (holder_of plan past o) r)
+      → live_uses plan o (of_kind kind.End e ∷ past) q
+      ≡ in_within plan (cond (uses plan e.place o) (parent plan e.place) (holder_of plan past o)) q
   end_gives past e o q legal h at = by_use (uses plan e.place o) refl
     where
-      by_use : (b : Bool) → uses plan e.place o ≡ b → ((has_started past q && not ((e.place == q) || has_ended past q)) && uses plan q o) ≡ in_within plan (cond b (parent plan e.place) (holder_of plan past o)) q
+      by_use : (b : Bool) → uses plan e.place o ≡ b
+          → ((has_started past q && not ((e.place == q) || has_ended past q)) && uses plan q o)
+          ≡ in_within plan (cond b (parent plan e.place) (holder_of plan past o)) q
       by_use true u =
-          let had : holder_of plan past o ≡ Some e.place = holds_own past o e.place at (end_live past (of_kind kind.End e) legal h) u (ends_alone past (of_kind kind.End e) legal h) in
-          lost (e.place == q) (has_started past q) (has_ended past q) (uses plan q o) ∙ ap (cond (e.place == q) false) (at q ∙ ap (λ a. in_within plan a q) had) ∙ out_of plan tree e.place q ∙ sym (parent_within plan tree e.place q)
-      by_use false u = unlost (e.place == q) (has_started past q) (has_ended past q) (uses plan q o) (λ x. subst (λ a. uses plan a o ≡ false) (eqb-true e.place q x) u) ∙ at q
+          let had : holder_of plan past o ≡ Some e.place =
+          holds_own past o e.place at (end_live past (of_kind kind.End e) legal h) u
+          (ends_alone past (of_kind kind.End e) legal h) in
+          lost (e.place == q) (has_started past q) (has_ended past q) (uses plan q o)
+          ∙ ap (cond (e.place == q) false) (at q ∙ ap (λ a. in_within plan a q) had) ∙ out_of plan tree e.place q
+          ∙ sym (parent_within plan tree e.place q)
+      by_use false u =
+          unlost (e.place == q) (has_started past q) (has_ended past q) (uses plan q o)
+          (λ x. subst (λ a. uses plan a o ≡ false) (eqb-true e.place q x) u) ∙ at q
 
-  holds_within_by : (past : List Entry) (k : Kind) (e : Entry) (o q : ℕ) → LegalPast plan past → ((r : ℕ) → live_uses plan o past r ≡ in_within plan (holder_of plan past o) r) → Row k plan past (of_kind k e) → live_uses plan o (of_kind k e ∷ past) q ≡ in_within plan (holder_of plan (of_kind k e ∷ past) o) q
+  holds_within_by : (past : List Entry) (k : Kind) (e : Entry) (o q : ℕ) → LegalPast plan past
+      → ((r : ℕ) → live_uses plan o past r ≡ in_within plan (holder_of plan past o) r) → Row k plan past (of_kind k e)
+      → live_uses plan o (of_kind k e ∷ past) q ≡ in_within plan (holder_of plan (of_kind k e ∷ past) o) q
   holds_within_by past kind.Start e o q legal ih h = start_takes past e o q legal h (ih q)
   holds_within_by past kind.End e o q legal ih h = end_gives past e o q legal h ih
   holds_within_by past _ e o q legal ih h = ih q
 
   -- the live places that use an object are its holder and those round it
-  pub holds_within : (past : List Entry) → LegalPast plan past → (o q : ℕ) → live_uses plan o past q ≡ in_within plan (holder_of plan past o) q
+  pub holds_within : (past : List Entry) → LegalPast plan past → (o q : ℕ)
+      → live_uses plan o past q ≡ in_within plan (holder_of plan past o) q
   holds_within [] h o q = refl
   holds_within (e ∷ past) h o q = holds_within_by past e.kind e o q h.0 (holds_within past h.0 o) h.1
 
-  innermost_holds : (past : List Entry) → LegalPast plan past → (o p : ℕ) (h : Option ℕ) → holder_of plan past o ≡ h → live_uses plan o past p ≡ true → ((q : ℕ) → is_live past q ≡ true → uses plan q o ≡ true → is_within plan p q ≡ true) → h ≡ Some p
+  innermost_holds : (past : List Entry) → LegalPast plan past → (o p : ℕ) (h : Option ℕ) → holder_of plan past o ≡ h
+      → live_uses plan o past p ≡ true
+      → ((q : ℕ) → is_live past q ≡ true → uses plan q o ≡ true → is_within plan p q ≡ true) → h ≡ Some p
   innermost_holds past legal o p None w l inner = absurd (both_ways _ (holds_within past legal o p ∙ ap (λ x. in_within plan x p) w) l)
   innermost_holds past legal o p (Some r) w l inner =
       let at : (q : ℕ) → live_uses plan o past q ≡ is_within plan r q = λ q. holds_within past legal o q ∙ ap (λ x. in_within plan x q) w in
@@ -187,7 +229,8 @@ module _ (plan : Plan) (tree : IsTree plan) where
   holder_innermost : (past : List Entry) → LegalPast plan past → HolderIsInnermost plan past
   holder_innermost past legal o p = (
     λ w.
-        let at : (q : ℕ) → live_uses plan o past q ≡ is_within plan p q = λ q. holds_within past legal o q ∙ ap (λ x. in_within plan x q) w in
+        let at : (q : ℕ) → live_uses plan o past q ≡ is_within plan p q =
+        λ q. holds_within past legal o q ∙ ap (λ x. in_within plan x q) w in
         let own = and_parts (is_live past p) (uses plan p o) (at p ∙ within_itself plan tree p) in
         (own.0, own.1, λ q l u. sym (at q) ∙ and_from (is_live past q) (uses plan q o) l u),
     λ h. innermost_holds past legal o p (holder_of plan past o) refl (and_from (is_live past p) (uses plan p o) h.0 h.1) h.2,

@@ -74,32 +74,44 @@ module _ (plan : Plan) (tree : IsTree plan) where
   -- ---- where one stays
 
   -- who arrives comes from the place right round, or to a play from none
-  came_from : (past : List Entry) (e : Entry) (q : ℕ) → MayArrive plan past e → in_within plan (inside plan past e.by) q ≡ member q (around plan e.place)
+  came_from : (past : List Entry) (e : Entry) (q : ℕ) → MayArrive plan past e
+      → in_within plan (inside plan past e.by) q ≡ member q (around plan e.place)
   came_from past e q h = by_place (inside plan past e.by) refl
     where
       by_place : (o : Option ℕ) → inside plan past e.by ≡ o → in_within plan o q ≡ member q (around plan e.place)
       by_place None w =
           let next : next_play plan past e.by ≡ Some e.place = subst (λ o. arrival plan past e.by o ≡ Some e.place) w h.leads in
-          let found = plays_in plan e.by plan.plays e.place (first_not_fails (λ q. has_by kind.Arrive past q e.by) (plays_of plan e.by) e.place next).1 in
+          let found =
+          plays_in plan e.by plan.plays e.place
+          (first_not_fails (λ q. has_by kind.Arrive past q e.by) (plays_of plan e.by) e.place next).1 in
           rw (tree.tops e.place found.0) refl
       by_place (Some r) w = rw (arrives_in plan tree past e r h w).0 refl
 
-  went_out : (past : List Entry) (e : Entry) (t q : ℕ) → stays past q t ≡ in_within plan (inside plan past t) q → inside plan past e.by ≡ Some e.place → cond ((e.place == q) && (e.by == t)) false (stays past q t) ≡ in_within plan (cond (e.by == t) (parent plan e.place) (inside plan past t)) q
+  went_out : (past : List Entry) (e : Entry) (t q : ℕ) → stays past q t ≡ in_within plan (inside plan past t) q
+      → inside plan past e.by ≡ Some e.place
+      → cond ((e.place == q) && (e.by == t)) false (stays past q t)
+      ≡ in_within plan (cond (e.by == t) (parent plan e.place) (inside plan past t)) q
   went_out past e t q ih here =
       elim (cases_Bool (e.by == t)) [
         | inl y ↦
             let there : inside plan past t ≡ Some e.place = subst (λ a. inside plan past a ≡ Some e.place) (eqb-true e.by t y) here in
             let stay : stays past q t ≡ is_within plan e.place q = ih ∙ ap (λ o. in_within plan o q) there in
-            rw y (cond_own (e.place == q) false (stays past q t) ∙ ap (cond (e.place == q) false) stay ∙ out_of e.place q ∙ sym (parent_within e.place q))
+            rw y (cond_own (e.place == q) false (stays past q t) ∙ ap (cond (e.place == q) false) stay
+            ∙ out_of e.place q ∙ sym (parent_within e.place q))
         | inr y ↦ rw y (cond_other (e.place == q) false (stays past q t) ∙ ih)
       ]
 
-  stays_within_by : (past : List Entry) (k : Kind) (e : Entry) (t q : ℕ) → stays past q t ≡ in_within plan (inside plan past t) q → Row k plan past (of_kind k e) → stays (of_kind k e ∷ past) q t ≡ in_within plan (inside plan (of_kind k e ∷ past) t) q
+  stays_within_by : (past : List Entry) (k : Kind) (e : Entry) (t q : ℕ)
+      → stays past q t ≡ in_within plan (inside plan past t) q → Row k plan past (of_kind k e)
+      → stays (of_kind k e ∷ past) q t ≡ in_within plan (inside plan (of_kind k e ∷ past) t) q
   stays_within_by past kind.Arrive e t q ih h =
       elim (cases_Bool (e.by == t)) [
         | inl y ↦
-            let round : in_within plan (inside plan past t) q ≡ member q (around plan e.place) = subst (λ a. in_within plan (inside plan past a) q ≡ member q (around plan e.place)) (eqb-true e.by t y) (came_from past (of_kind kind.Arrive e) q h) in
-            rw y (cond_own (e.place == q) true (stays past q t) ∙ cond_or (e.place == q) (stays past q t) ∙ ap (λ b. (e.place == q) || b) (ih ∙ round))
+            let round : in_within plan (inside plan past t) q ≡ member q (around plan e.place) =
+            subst (λ a. in_within plan (inside plan past a) q ≡ member q (around plan e.place)) (eqb-true e.by t y)
+            (came_from past (of_kind kind.Arrive e) q h) in
+            rw y (cond_own (e.place == q) true (stays past q t) ∙ cond_or (e.place == q) (stays past q t)
+            ∙ ap (λ b. (e.place == q) || b) (ih ∙ round))
         | inr y ↦ rw y (cond_other (e.place == q) true (stays past q t) ∙ ih)
       ]
   stays_within_by past kind.Withdraw e t q ih h = went_out past e t q ih h.here
@@ -111,7 +123,8 @@ module _ (plan : Plan) (tree : IsTree plan) where
   stays_within [] h t q = refl
   stays_within (e ∷ past) h t q = stays_within_by past e.kind e t q (stays_within past h.0 t q) h.1
 
-  innermost_stay : (past : List Entry) → LegalPast plan past → (t p : ℕ) (o : Option ℕ) → inside plan past t ≡ o → stays past p t ≡ true → ((q : ℕ) → stays past q t ≡ true → is_within plan p q ≡ true) → o ≡ Some p
+  innermost_stay : (past : List Entry) → LegalPast plan past → (t p : ℕ) (o : Option ℕ) → inside plan past t ≡ o
+      → stays past p t ≡ true → ((q : ℕ) → stays past q t ≡ true → is_within plan p q ≡ true) → o ≡ Some p
   innermost_stay past legal t p None w s inner = absurd (both_ways _ (stays_within past legal t p ∙ ap (λ o. in_within plan o p) w) s)
   innermost_stay past legal t p (Some r) w s inner =
       let at : (q : ℕ) → stays past q t ≡ is_within plan r q = λ q. stays_within past legal t q ∙ ap (λ o. in_within plan o q) w in

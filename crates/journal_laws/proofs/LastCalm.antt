@@ -59,7 +59,8 @@ module _ (plan : Plan) (playable : IsPlayable plan) (past : List Entry) (legal :
   one_place p t r s c d = let a = c.place in let b = d.place in cc
 
   -- all these roles are in p, or one waits in the least of the places inside it
-  lowest : (p : ℕ) (ts : List ℕ) → ((t : ℕ) → member t ts ≡ true → Stands plan past p t) → ((t : ℕ) → member t ts ≡ true → inside plan past t ≡ Some p) ⊎ ((r : ℕ) × IsLowest plan past p ts r)
+  lowest : (p : ℕ) (ts : List ℕ) → ((t : ℕ) → member t ts ≡ true → Stands plan past p t)
+      → ((t : ℕ) → member t ts ≡ true → inside plan past t ≡ Some p) ⊎ ((r : ℕ) × IsLowest plan past p ts r)
   lowest p [] at = inl (λ t m. absurd (false≢true m))
   lowest p (u ∷ ts) at = by_standing (at u (or_left _ _ (eq-eqb u u refl))) (lowest p ts (λ t m. at t (or_right _ _ m)))
     where
@@ -70,7 +71,10 @@ module _ (plan : Plan) (playable : IsPlayable plan) (past : List Entry) (legal :
         | inr x ↦ rest t x
       ]
 
-      by_standing : Stands plan past p u → ((t : ℕ) → member t ts ≡ true → inside plan past t ≡ Some p) ⊎ ((r : ℕ) × IsLowest plan past p ts r) → ((t : ℕ) → member t (u ∷ ts) ≡ true → inside plan past t ≡ Some p) ⊎ ((r : ℕ) × IsLowest plan past p (u ∷ ts) r)
+      by_standing : Stands plan past p u
+          → ((t : ℕ) → member t ts ≡ true → inside plan past t ≡ Some p) ⊎ ((r : ℕ) × IsLowest plan past p ts r)
+          → ((t : ℕ) → member t (u ∷ ts) ≡ true → inside plan past t ≡ Some p)
+          ⊎ ((r : ℕ) × IsLowest plan past p (u ∷ ts) r)
       by_standing (at_itself w) (inl all) = inl (each (λ t. inside plan past t ≡ Some p) w all)
       by_standing (at_itself w) (inr (r, low)) = inr (
         r,
@@ -85,7 +89,9 @@ module _ (plan : Plan) (playable : IsPlayable plan) (past : List Entry) (legal :
         record {
           who = u;
           waits = c;
-          least = λ t s m. each (λ t. WaitsIn plan past p t s → r ≤ s) (λ d. let same = one_place p u r s c d in omega arith) (λ t n d. absurd (not_both p t s (all t n) d)) t m;
+          least =
+              λ t s m. each (λ t. WaitsIn plan past p t s → r ≤ s)
+              (λ d. let same = one_place p u r s c d in omega arith) (λ t n d. absurd (not_both p t s (all t n) d)) t m;
         },
       )
       by_standing (at_child r c) (inr (q, low)) = elim (cases_lt r q) [
@@ -94,7 +100,10 @@ module _ (plan : Plan) (playable : IsPlayable plan) (past : List Entry) (legal :
           record {
             who = u;
             waits = c;
-            least = λ t s m. each (λ t. WaitsIn plan past p t s → r ≤ s) (λ d. let same = one_place p u r s c d in omega arith) (λ t n d. let more = low.least t s n d in omega arith) t m;
+            least =
+                λ t s m. each (λ t. WaitsIn plan past p t s → r ≤ s)
+                (λ d. let same = one_place p u r s c d in omega arith)
+                (λ t n d. let more = low.least t s n d in omega arith) t m;
           },
         )
         | inr l ↦ inr (
@@ -102,12 +111,17 @@ module _ (plan : Plan) (playable : IsPlayable plan) (past : List Entry) (legal :
           record {
             who = low.who;
             waits = low.waits;
-            least = λ t s m. each (λ t. WaitsIn plan past p t s → q ≤ s) (λ d. let same = one_place p u r s c d in omega arith) (λ t n. low.least t s n) t m;
+            least =
+                λ t s m. each (λ t. WaitsIn plan past p t s → q ≤ s)
+                (λ d. let same = one_place p u r s c d in omega arith) (λ t n. low.least t s n) t m;
           },
         )
       ]
 
-module _ (plan : Plan) (playable : IsPlayable plan) (past : List Entry) (legal : LegalPast plan past) (still : NothingDue plan past) (p : ℕ) (live : is_live past p ≡ true) (last : (q : ℕ) → p < q → is_live past q ≡ false) (kept : is_undoing past p ≡ false) (spared : is_doomed plan past p ≡ false) (cool : is_raised plan past p ≡ false) where
+module _ (plan : Plan) (playable : IsPlayable plan) (past : List Entry) (legal : LegalPast plan past)
+    (still : NothingDue plan past) (p : ℕ) (live : is_live past p ≡ true)
+    (last : (q : ℕ) → p < q → is_live past q ≡ false) (kept : is_undoing past p ≡ false)
+    (spared : is_doomed plan past p ≡ false) (cool : is_raised plan past p ≡ false) where
   begun : has_started past p ≡ true
   begun = started plan playable past legal still p live last
 
@@ -115,10 +129,15 @@ module _ (plan : Plan) (playable : IsPlayable plan) (past : List Entry) (legal :
   unended = lasts plan playable past legal still p live last
 
   calm : is_calm plan past p ≡ true
-  calm = calm_from plan past p (record { goes = going_from past p unended begun kept; started = begun; lasts = unended; kept = kept; spared = spared }) cool
+  calm =
+      calm_from plan past p (record
+      { goes = going_from past p unended begun kept; started = begun; lasts = unended; kept = kept; spared = spared })
+      cool
 
   due : (t : ℕ) → inside plan past t ≡ Some p → due_calm plan past p t ≡ None
-  due t w = sym (cond-false (is_raised plan past p) (due_hot plan past p t) (due_calm plan past p t) cool) ∙ rw (unended, begun, kept, spared) at (not_due plan playable past legal still t p w)
+  due t w =
+      sym (cond-false (is_raised plan past p) (due_hot plan past p t) (due_calm plan past p t) cool)
+      ∙ rw (unended, begun, kept, spared) at (not_due plan playable past legal still t p w)
 
   -- ---- in the place itself
 
@@ -126,7 +145,8 @@ module _ (plan : Plan) (playable : IsPlayable plan) (past : List Entry) (legal :
   given : (t : ℕ) → inside plan past t ≡ Some p → has_given plan past p t ≡ true
   given t w = true_from_ne_false _ (λ n. by_raise (next_raise plan past p t) refl (rw n at (due t w)))
     where
-      by_entry : (k : ℕ) (o : Option ℕ) → next_step plan past p t ≡ Some (step.Enter k) → place_entered plan past p t (Some (step.Enter k)) ≡ o → due_arrival t o ≡ None → ⊥
+      by_entry : (k : ℕ) (o : Option ℕ) → next_step plan past p t ≡ Some (step.Enter k)
+          → place_entered plan past p t (Some (step.Enter k)) ≡ o → due_arrival t o ≡ None → ⊥
       by_entry k None n e d = room plan playable past legal p t k w calm n e
       by_entry k (Some q) n e d = cc
 
@@ -147,7 +167,9 @@ module _ (plan : Plan) (playable : IsPlayable plan) (past : List Entry) (legal :
   not_together at =
       let some = some_role plan playable past legal still p live last in
       let w = at some.0 some.1 in
-      agreed_due plan playable past legal still p live last some.0 (all_from (has_given plan past p) (roles_of plan p) (λ t m. given t (at t m))) (rw (given some.0 w) at (due some.0 w))
+      agreed_due plan playable past legal still p live last some.0
+      (all_from (has_given plan past p) (roles_of plan p) (λ t m. given t (at t m)))
+      (rw (given some.0 w) at (due some.0 w))
 
   -- ---- in the least of the places that wait in it
 
@@ -180,16 +202,22 @@ module _ (plan : Plan) (playable : IsPlayable plan) (past : List Entry) (legal :
         arrived : has_by kind.Arrive past s t ≡ true
         arrived = inside_arrived plan playable.tree past legal s t c.place
 
-        by_order : slice_get (body_of plan p t).steps (position plan past p t) ≡ Some (step.Enter (nest_number plan s)) → (n : ℕ) → slice_get (body_of plan p t).steps n ≡ Some (step.Enter (nest_number plan r)) → ⊥
+        by_order : slice_get (body_of plan p t).steps (position plan past p t) ≡ Some (step.Enter (nest_number plan s))
+            → (n : ℕ) → slice_get (body_of plan p t).steps n ≡ Some (step.Enter (nest_number plan r)) → ⊥
         by_order now n entered = elim (cases_order n (position plan past p t)) [
           | inl same ↦
-              let here : slice_get (body_of plan p t).steps (position plan past p t) ≡ Some (step.Enter (nest_number plan r)) = subst (λ a. slice_get (body_of plan p t).steps a ≡ Some (step.Enter (nest_number plan r))) same entered in
+              let here : slice_get (body_of plan p t).steps (position plan past p t)
+              ≡ Some (step.Enter (nest_number plan r)) =
+              subst (λ a. slice_get (body_of plan p t).steps a ≡ Some (step.Enter (nest_number plan r))) same
+              entered in
               let one : nest_number plan r ≡ nest_number plan s = cc in
               not_ended (left_ended plan playable.tree past legal r t (kept_there.turn p r s t low.waits.up c.up one below arrived).0)
           | inr (inl before) ↦ not_past t n entered before
           | inr (inr after) ↦
               let uses = playable.in_order p t (position plan past p t) n (nest_number plan s) (nest_number plan r) after now entered in
-              let wrong = playable.by_use p (nest_number plan s) (nest_number plan r) s r uses (playable.back p s c.up) (playable.back p r low.waits.up) in
+              let wrong =
+              playable.by_use p (nest_number plan s) (nest_number plan r) s r uses (playable.back p s c.up)
+              (playable.back p r low.waits.up) in
               omega arith
         ]
 
@@ -210,7 +238,9 @@ module _ (plan : Plan) (playable : IsPlayable plan) (past : List Entry) (legal :
         by_standing (at_itself w) =
             let led = playable.leads p r t low.waits.up m in
             let unhandled = calm_unhandled plan playable past legal p t calm in
-            absurd (not_past t led.0 led.1 (before_end (body_of plan p t).steps led.0 (position plan past p t) _ led.1 (sym (body_step plan past p t unhandled) ∙ body_done t w)))
+            absurd (not_past t led.0 led.1
+            (before_end (body_of plan p t).steps led.0 (position plan past p t) _ led.1
+            (sym (body_step plan past p t unhandled) ∙ body_done t w)))
         by_standing (at_child s c) = elim (cases_order r s) [
           | inl same ↦ c.place ∙ ap Some (sym same)
           | inr (inl below) ↦ absurd (not_later t s m c below)
@@ -219,11 +249,16 @@ module _ (plan : Plan) (playable : IsPlayable plan) (past : List Entry) (legal :
 
     -- and it would start: p holds its objects
     not_full : ⊥
-    not_full = not_ready plan playable past legal still low.who r low.waits.place low.waits.waits (all_from (is_inside plan past r) (roles_of plan r) (λ t m. same_at _ r (full t m))) (all_from (λ o. same_option (holder_of plan past o) (parent plan r)) (objects_of plan r) ready)
+    not_full =
+        not_ready plan playable past legal still low.who r low.waits.place low.waits.waits
+        (all_from (is_inside plan past r) (roles_of plan r) (λ t m. same_at _ r (full t m)))
+        (all_from (λ o. same_option (holder_of plan past o) (parent plan r)) (objects_of plan r) ready)
       where
         ready : (o : ℕ) → member o (objects_of plan r) ≡ true → same_option (holder_of plan past o) (parent plan r) ≡ true
         ready o m =
-            let held = holds plan playable past legal still p live last o (playable.inherits p r o (parent_round plan playable.tree r p low.waits.up) m) in
+            let held =
+            holds plan playable past legal still p live last o
+            (playable.inherits p r o (parent_round plan playable.tree r p low.waits.up) m) in
             rw (held, low.waits.up) (eq-eqb p p refl)
 
   pub calm_due : ⊥

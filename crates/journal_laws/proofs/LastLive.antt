@@ -51,7 +51,9 @@ some_raised : (xs : List ℕ) → not (is_empty xs) ≡ true → 0 < length xs
 some_raised [] h = absurd (false≢true h)
 some_raised (x ∷ xs) h = omega arith
 
-module _ (plan : Plan) (playable : IsPlayable plan) (past : List Entry) (legal : LegalPast plan past) (still : NothingDue plan past) (p : ℕ) (live : is_live past p ≡ true) (last : (q : ℕ) → p < q → is_live past q ≡ false) where
+module _ (plan : Plan) (playable : IsPlayable plan) (past : List Entry) (legal : LegalPast plan past)
+    (still : NothingDue plan past) (p : ℕ) (live : is_live past p ≡ true)
+    (last : (q : ℕ) → p < q → is_live past q ≡ false) where
   pub started : has_started past p ≡ true
   started = (live_parts p past live).0
 
@@ -80,7 +82,12 @@ module _ (plan : Plan) (playable : IsPlayable plan) (past : List Entry) (legal :
         | inl x ↦ at_itself (w ∙ ap Some (eqb-true r p x))
         | inr x ↦
             let waits = not_started plan playable past legal still t r w (last r (playable.tree.above r p x)) in
-            at_child r (record { place = w; up = right_inside r w (around plan r) refl x; waits = waits; spared = waiting_spared plan playable past legal still t r w waits })
+            at_child r (record {
+              place = w;
+              up = right_inside r w (around plan r) refl x;
+              waits = waits;
+              spared = waiting_spared plan playable past legal still t r w waits;
+            })
       ]
 
   -- in a raised or doomed place they are all back
@@ -89,7 +96,10 @@ module _ (plan : Plan) (playable : IsPlayable plan) (past : List Entry) (legal :
     where
       by_standing : Stands plan past p t → inside plan past t ≡ Some p
       by_standing (at_itself w) = w
-      by_standing (at_child r c) = absurd (both_ways _ c.spared (subst (λ qs. list_any (λ q. is_raised plan past q) qs ≡ true) (sym (around_parent plan playable.tree p r c.up)) d))
+      by_standing (at_child r c) =
+          absurd (both_ways _ c.spared
+          (subst (λ qs. list_any (λ q. is_raised plan past q) qs ≡ true)
+          (sym (around_parent plan playable.tree p r c.up)) d))
 
   pub some_role : (t : ℕ) × (member t (roles_of plan p) ≡ true)
   some_role = started_filled plan playable.tree past legal p started
@@ -97,21 +107,28 @@ module _ (plan : Plan) (playable : IsPlayable plan) (past : List Entry) (legal :
   -- ---- and its objects
 
   pub holds : (o : ℕ) → uses plan p o ≡ true → holder_of plan past o ≡ Some p
-  holds o u = holds_own plan playable.tree past o p (holds_within plan playable.tree past legal o) live u (λ r w m. both_ways _ (last r (playable.tree.above r p m)) w)
+  holds o u =
+      holds_own plan playable.tree past o p (holds_within plan playable.tree past legal o) live u
+      (λ r w m. both_ways _ (last r (playable.tree.above r p m)) w)
 
   -- a step whose object p holds is due
   pub held_due : (o : ℕ) (e : Entry) → uses plan p o ≡ true → due_held plan past p o e ≡ None → ⊥
   held_due o e u d = cc (rw (holds o u, eq-eqb p p refl) at d)
 
   -- a step that neither raises nor enters is due, and after the last the verdict is
-  pub step_due : (t : ℕ) (s : Option Step) → next_step plan past p t ≡ s → next_raise plan past p t ≡ None → enters_nowhere s ≡ true → due_step plan past p t s ≡ None → ⊥
+  pub step_due : (t : ℕ) (s : Option Step) → next_step plan past p t ≡ s → next_raise plan past p t ≡ None
+      → enters_nowhere s ≡ true → due_step plan past p t s ≡ None → ⊥
   step_due t None n r e d = cc
-  step_due t (Some (step.Read o)) n r e d = held_due o _ (playable.held p t (exception_handled past p t) (position plan past p t) (step.Read o) n) d
-  step_due t (Some (step.Put o v)) n r e d = held_due o _ (playable.held p t (exception_handled past p t) (position plan past p t) (step.Put o v) n) d
-  step_due t (Some (step.Add o v)) n r e d = held_due o _ (playable.held p t (exception_handled past p t) (position plan past p t) (step.Add o v) n) d
+  step_due t (Some (step.Read o)) n r e d =
+      held_due o _ (playable.held p t (exception_handled past p t) (position plan past p t) (step.Read o) n) d
+  step_due t (Some (step.Put o v)) n r e d =
+      held_due o _ (playable.held p t (exception_handled past p t) (position plan past p t) (step.Put o v) n) d
+  step_due t (Some (step.Add o v)) n r e d =
+      held_due o _ (playable.held p t (exception_handled past p t) (position plan past p t) (step.Add o v) n) d
   step_due t (Some (step.Work k)) n r e d = cc
   step_due t (Some (step.Check a b x)) n r e d = cc
-  step_due t (Some (step.Raise x)) n r e d = let raises : raise_of (next_step plan past p t) (register plan past p t) ≡ Some x = rw n refl in cc
+  step_due t (Some (step.Raise x)) n r e d =
+      let raises : raise_of (next_step plan past p t) (register plan past p t) ≡ Some x = rw n refl in cc
   step_due t (Some (step.Enter k)) n r e d = absurd (false≢true e)
 
   -- once all have given their verdicts, the undo or the end is due
@@ -122,10 +139,13 @@ module _ (plan : Plan) (playable : IsPlayable plan) (past : List Entry) (legal :
       by_signals [] s d = cc
       by_signals (x ∷ xs) s d =
           let sound = playable.sound p in
-          let least = least_some (interface_of plan p) (x ∷ xs) sound.2 sound.3 (omega arith) (rw s at (signals_in_range plan playable past legal p (roles_of plan p))) in
+          let least =
+          least_some (interface_of plan p) (x ∷ xs) sound.2 sound.3 (omega arith)
+          (rw s at (signals_in_range plan playable past legal p (roles_of plan p))) in
           cc (rw least.1 at d)
 
-      by_undo : (b : Bool) → wants_undo plan past p ≡ b → cond b (Some (plainly kind.Undo p t)) (due_end plan p t (signals past p (roles_of plan p))) ≡ None → ⊥
+      by_undo : (b : Bool) → wants_undo plan past p ≡ b
+          → cond b (Some (plainly kind.Undo p t)) (due_end plan p t (signals past p (roles_of plan p))) ≡ None → ⊥
       by_undo true u d = cc
       by_undo false u d = by_signals (signals past p (roles_of plan p)) refl d
 
@@ -139,7 +159,9 @@ module _ (plan : Plan) (playable : IsPlayable plan) (past : List Entry) (legal :
       by_object t (Some o) d = cc
 
       by_standing : (t : ℕ) → Stands plan past p t → ⊥
-      by_standing t (at_itself w) = by_object t (next_restore plan past p) (rw (lasts, started, u) at (not_due plan playable past legal still t p w))
+      by_standing t (at_itself w) =
+          by_object t (next_restore plan past p)
+          (rw (lasts, started, u) at (not_due plan playable past legal still t p w))
       by_standing t (at_child r c) =
           let busy = busy_inside plan playable.tree past legal t p r c.place (parent_round plan playable.tree r p c.up) in
           both_ways _ (going_parts past p busy.goes).kept u
@@ -166,7 +188,9 @@ module _ (plan : Plan) (playable : IsPlayable plan) (past : List Entry) (legal :
       nowhere None n = refl
       nowhere (Some (step.Enter k)) n =
           let some = stands_newest (is_by kind.Handle p t) past f in
-          absurd (playable.plain p t some.0 (position plan past p t) k (subst (λ o. slice_get (program_in plan p t o).steps (position plan past p t) ≡ Some (step.Enter k)) some.1 n))
+          absurd (playable.plain p t some.0 (position plan past p t) k
+          (subst (λ o. slice_get (program_in plan p t o).steps (position plan past p t) ≡ Some (step.Enter k))
+          some.1 n))
       nowhere (Some (step.Read a)) n = refl
       nowhere (Some (step.Put a b)) n = refl
       nowhere (Some (step.Add a b)) n = refl
@@ -174,10 +198,14 @@ module _ (plan : Plan) (playable : IsPlayable plan) (past : List Entry) (legal :
       nowhere (Some (step.Check a b c)) n = refl
       nowhere (Some (step.Raise a)) n = refl
 
-      by_breaking : (b : Bool) → breaks_off plan past p t ≡ b → cond b (Some (verdict_entry p t verdict.Undo)) (due_step plan past p t (next_step plan past p t)) ≡ None → ⊥
+      by_breaking : (b : Bool) → breaks_off plan past p t ≡ b
+          → cond b (Some (verdict_entry p t verdict.Undo)) (due_step plan past p t (next_step plan past p t)) ≡ None → ⊥
       by_breaking true x d = cc
       by_breaking false x d =
-          let none = none_is (next_raise plan past p t) (not-false _ (or_parts (was_refused_in_handler past p t) (not (is_none (next_raise plan past p t))) x).1) in
+          let none =
+          none_is (next_raise plan past p t)
+          (not-false _ (or_parts (was_refused_in_handler past p t)
+          (not (is_none (next_raise plan past p t))) x).1) in
           step_due t (next_step plan past p t) refl none (nowhere (next_step plan past p t) refl) d
 
   answer_due : (t x : ℕ) → due_answer plan p t x ≡ None → ⊥
@@ -198,11 +226,14 @@ module _ (plan : Plan) (playable : IsPlayable plan) (past : List Entry) (legal :
         running None d = cc
         running (Some x) d = cc
 
-    due_at_halt : (t : ℕ) (o : Option ℕ) → member t (roles_of plan p) ≡ true → exception_resolved past p ≡ o → due_halted plan past p t o ≡ None
+    due_at_halt : (t : ℕ) (o : Option ℕ) → member t (roles_of plan p) ≡ true → exception_resolved past p ≡ o
+        → due_halted plan past p t o ≡ None
     due_at_halt t o m r = subst (λ o. due_halted plan past p t o ≡ None) r (rw (halted t m) at (due_in_hot t m))
 
     not_resolved_to : (x : ℕ) → exception_resolved past p ≡ Some x → ⊥
-    not_resolved_to x r = agreed_due some_role.0 all (rw (given some_role.0 some_role.1) at (due_at_halt some_role.0 (Some x) some_role.1 r))
+    not_resolved_to x r =
+        agreed_due some_role.0 all
+        (rw (given some_role.0 some_role.1) at (due_at_halt some_role.0 (Some x) some_role.1 r))
       where
         by_handled : (t : ℕ) (b : Bool) → has_handled past p t ≡ b → cond b (due_handler plan past p t) (due_answer plan p t x) ≡ None → ⊥
         by_handled t true f d = handler_due t f d
@@ -221,6 +252,8 @@ module _ (plan : Plan) (playable : IsPlayable plan) (past : List Entry) (legal :
         by_resolved (Some x) r = not_resolved_to x r
         by_resolved None r =
             let sound = playable.sound p in
-            let least = least_some (internal_of plan p) (exceptions_raised plan past p) sound.0 sound.1 (some_raised (exceptions_raised plan past p) hot) (raised_in_range plan playable past legal p) in
+            let least =
+            least_some (internal_of plan p) (exceptions_raised plan past p) sound.0 sound.1
+            (some_raised (exceptions_raised plan past p) hot) (raised_in_range plan playable past legal p) in
             let all : all_are_halted plan past p ≡ true = all_from (is_halted plan past p) (roles_of plan p) halted in
             cc (rw (all, least.1) at (due_at_halt some_role.0 None some_role.1 r))

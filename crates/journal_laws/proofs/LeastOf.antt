@@ -30,7 +30,9 @@ least_is order xs x l h =
       in_range = l;
       above = parts.0;
       least = λ y b c.
-          elim (or_cases (not (covers_each order y xs)) (covers order y x) (all_at (λ y. not (covers_each order y xs) || covers order y x) (range_with_len 0 order.count) y parts.1 (from_range 0 order.count y (omega arith) (omega arith)))) [
+          elim (or_cases (not (covers_each order y xs)) (covers order y x)
+          (all_at (λ y. not (covers_each order y xs) || covers order y x) (range_with_len 0 order.count) y parts.1
+          (from_range 0 order.count y (omega arith) (omega arith)))) [
             | inl n ↦ absurd (both_ways _ (not-true _ n) c)
             | inr w ↦ w
           ];
@@ -38,7 +40,8 @@ least_is order xs x l h =
 
 pub is_least_from : (order : CoverOrder) (xs : List ℕ) (x : ℕ) → IsLeastCover order xs x → is_least order xs x ≡ true
 is_least_from order xs x h =
-    and_from (covers_each order x xs) _ h.above (all_from (λ y. not (covers_each order y xs) || covers order y x) (range_with_len 0 order.count) (λ y m.
+    and_from (covers_each order x xs) _ h.above
+    (all_from (λ y. not (covers_each order y xs) || covers order y x) (range_with_len 0 order.count) (λ y m.
     let l = in_range 0 order.count y m in
     elim (cases_Bool (covers_each order y xs)) [
       | inl c ↦ or_right _ _ (h.least y (omega arith) c)
@@ -57,11 +60,16 @@ pub least_found : (order : CoverOrder) (xs : List ℕ) (x : ℕ) → IsSound ord
 least_found order xs x sound h = by_found (least_of order xs) refl
   where
     by_found : (o : Option ℕ) → least_of order xs ≡ o → o ≡ Some x
-    by_found None w = absurd (both_ways _ (not-true _ (first_not_none (λ x. not (is_least order xs x)) (range_with_len 0 order.count) x w (from_range 0 order.count x (omega arith) (let l = h.in_range in omega arith)))) (is_least_from order xs x h))
+    by_found None w =
+        absurd (both_ways _ (not-true _
+        (first_not_none (λ x. not (is_least order xs x)) (range_with_len 0 order.count) x w
+        (from_range 0 order.count x (omega arith) (let l = h.in_range in omega arith)))) (is_least_from order xs x h))
     by_found (Some y) w =
         let found = found_least order xs y w in
-        ap Some (sound.is_order.antisymmetric y x found.in_range h.in_range (h.least y found.in_range found.above) (found.least x h.in_range h.above))
+        ap Some (sound.is_order.antisymmetric y x found.in_range h.in_range (h.least y found.in_range found.above)
+        (found.least x h.in_range h.above))
 
 -- numbers in range of which there are some have one
-pub least_some : (order : CoverOrder) (xs : List ℕ) → IsSound order → SetsHaveLeastCovers order → 0 < length xs → All (λ x. x < order.count) xs → (x : ℕ) × (least_of order xs ≡ Some x)
+pub least_some : (order : CoverOrder) (xs : List ℕ) → IsSound order → SetsHaveLeastCovers order → 0 < length xs
+    → All (λ x. x < order.count) xs → (x : ℕ) × (least_of order xs ≡ Some x)
 least_some order xs sound sets some fit = let has = sets xs some fit in (has.0, least_found order xs has.0 sound has.1)

@@ -36,20 +36,27 @@ legal_before_start plan (e ∷ past) p h = by_test (is_in kind.Start p e) h.0 (l
 
 -- the End of an agreement, and of an undo
 
-agreed_fields : (plan : Plan) (e : Entry) (xs : List ℕ) → SignalsLeast plan e xs → e.value ≡ pos 0 → MayShowException (interface_of plan e.place) 1 5 e
+agreed_fields : (plan : Plan) (e : Entry) (xs : List ℕ) → SignalsLeast plan e xs → e.value ≡ pos 0
+    → MayShowException (interface_of plan e.place) 1 5 e
 agreed_fields plan e [] h v = record { mark = rw h.0 (omega arith); named = λ m. absurd (omega (arith, h.0)); bare = λ n. h.1; value = v }
 agreed_fields plan e (x ∷ xs) h v = record { mark = rw h.0 (omega arith); named = λ m. h.1.in_range; bare = λ n. absurd (n h.0); value = v }
 
-undone_fields : (plan : Plan) (e : Entry) → ((e.mark ≡ 2) ⊎ (e.mark ≡ 3)) ⊎ (e.mark ≡ 4) → e.arg ≡ 0 → e.value ≡ pos 0 → MayShowException (interface_of plan e.place) 1 5 e
-undone_fields plan e (inl (inl m)) a v = record { mark = rw m (omega arith); named = λ n. absurd (omega (arith, m)); bare = λ n. a; value = v }
-undone_fields plan e (inl (inr m)) a v = record { mark = rw m (omega arith); named = λ n. absurd (omega (arith, m)); bare = λ n. a; value = v }
+undone_fields : (plan : Plan) (e : Entry) → ((e.mark ≡ 2) ⊎ (e.mark ≡ 3)) ⊎ (e.mark ≡ 4) → e.arg ≡ 0 → e.value ≡ pos 0
+    → MayShowException (interface_of plan e.place) 1 5 e
+undone_fields plan e (inl (inl m)) a v =
+    record { mark = rw m (omega arith); named = λ n. absurd (omega (arith, m)); bare = λ n. a; value = v }
+undone_fields plan e (inl (inr m)) a v =
+    record { mark = rw m (omega arith); named = λ n. absurd (omega (arith, m)); bare = λ n. a; value = v }
 undone_fields plan e (inr m) a v = record { mark = rw m (omega arith); named = λ n. absurd (omega (arith, m)); bare = λ n. a; value = v }
 
 end_fields : (plan : Plan) (past : List Entry) (e : Entry) → MayEnd plan past e → MayShowException (interface_of plan e.place) 1 5 e
 end_fields plan past e h = by_undo (is_undoing past e.place) h.how
   where
-    by_undo : (b : Bool) → MatchBool b (EndsUndone plan past e) (EndsAgreed plan past e) → MayShowException (interface_of plan e.place) 1 5 e
-    by_undo true ends = undone_fields plan e (elim (undone_marks past e.place e.mark ends.mark) [ inl x ↦ inl x | inr x ↦ inr x.0 ]) ends.arg h.value
+    by_undo : (b : Bool) → MatchBool b (EndsUndone plan past e) (EndsAgreed plan past e)
+        → MayShowException (interface_of plan e.place) 1 5 e
+    by_undo true ends =
+        undone_fields plan e (elim (undone_marks past e.place e.mark ends.mark) [ inl x ↦ inl x | inr x ↦ inr x.0 ])
+        ends.arg h.value
     by_undo false ends = agreed_fields plan e (signals past e.place (roles_of plan e.place)) ends.outcome h.value
 
 module _ (plan : Plan) (playable : IsPlayable plan) (core : Holds Core plan) where
@@ -58,16 +65,27 @@ module _ (plan : Plan) (playable : IsPlayable plan) (core : Holds Core plan) whe
     where
       by_parent : (o : Option ℕ) → parent plan e.place ≡ o → MayCarry plan o e
       by_parent None up = let names = rw up at h.carries in record { arg = names.1; mark = names.0; value = h.value }
-      by_parent (Some p) up = named_fields (internal_of plan p) e (exception_carried plan past e.place e.by) (λ x. carried_in_range plan playable past p e.place e.by x up) h.carries h.value
+      by_parent (Some p) up =
+          named_fields (internal_of plan p) e (exception_carried plan past e.place e.by)
+          (λ x. carried_in_range plan playable past p e.place e.by x up) h.carries h.value
 
-  fields_by : (past : List Entry) (k : Kind) (e : Entry) → LegalPast plan past → Row k plan past (of_kind k e) → FieldsFit k plan (of_kind k e)
+  fields_by : (past : List Entry) (k : Kind) (e : Entry) → LegalPast plan past → Row k plan past (of_kind k e)
+      → FieldsFit k plan (of_kind k e)
   fields_by past kind.Arrive e legal h = h.plain
   fields_by past kind.Withdraw e legal h = h.plain
   fields_by past kind.Start e legal h = h.plain
-  fields_by past kind.Read e legal h =
-      (record { arg = ltb-true e.arg _ (step_fits plan playable past e.place e.by (step.Read e.arg) h.reads); value = subst IsValue (sym h.value) (values_in_range plan playable past legal e.arg []) }, h.mark)
-  fields_by past kind.Work e legal h =
-      (leb-true e.arg most_count (step_fits plan playable past e.place e.by (step.Work e.arg) h.works), h.mark, subst IsValue (sym h.value) (mix_in_range (register plan past e.place e.by) e.arg))
+  fields_by past kind.Read e legal h = (
+    record {
+      arg = ltb-true e.arg _ (step_fits plan playable past e.place e.by (step.Read e.arg) h.reads);
+      value = subst IsValue (sym h.value) (values_in_range plan playable past legal e.arg []);
+    },
+    h.mark,
+  )
+  fields_by past kind.Work e legal h = (
+    leb-true e.arg most_count (step_fits plan playable past e.place e.by (step.Work e.arg) h.works),
+    h.mark,
+    subst IsValue (sym h.value) (mix_in_range (register plan past e.place e.by) e.arg),
+  )
   fields_by past kind.Write e legal h =
       let fits = put_in_range plan playable past e.place e.by e.arg e.value h.puts in
       (record { arg = fits.0; value = fits.1 }, h.mark)
@@ -75,18 +93,28 @@ module _ (plan : Plan) (playable : IsPlayable plan) (core : Holds Core plan) whe
       let fits = put_in_range plan playable past e.place e.by e.arg e.value h.puts in
       (record { arg = fits.0; value = fits.1 }, h.mark)
   fields_by past kind.Check e legal h = h.plain
-  fields_by past kind.Raise e legal h = record { arg = raise_in_range plan playable past e.place e.by e.arg h.raises; mark = h.mark; value = h.value }
+  fields_by past kind.Raise e legal h =
+      record { arg = raise_in_range plan playable past e.place e.by e.arg h.raises; mark = h.mark; value = h.value }
   fields_by past kind.Inform e legal h = h.plain
   fields_by past kind.Resolve e legal h = record { arg = h.least.in_range; mark = h.mark; value = h.value }
   fields_by past kind.Handle e legal h =
       record { arg = ((core past legal).raises.resolves e.place e.arg h.resolution).2.in_range; mark = h.mark; value = h.value }
   fields_by past kind.Verdict e legal h = verdict_fields plan playable past (of_kind kind.Verdict e) h
   fields_by past kind.Abort e legal h =
-      named_fields (interface_of plan e.place) (of_kind kind.Abort e) (abort_of (abort_row plan e.place e.by) (register plan past e.place e.by)) (λ x. abort_below (interface_of plan e.place).count (abort_row plan e.place e.by) (register plan past e.place e.by) x (playable.gives_up e.place e.by)) h.names h.value
+      named_fields (interface_of plan e.place) (of_kind kind.Abort e)
+      (abort_of (abort_row plan e.place e.by) (register plan past e.place e.by))
+      (λ x. abort_below (interface_of plan e.place).count (abort_row plan e.place e.by)
+      (register plan past e.place e.by) x (playable.gives_up e.place e.by)) h.names h.value
   fields_by past kind.Undo e legal h = h.plain
   fields_by past kind.Restore e legal h =
       let used : uses plan e.place e.arg ≡ true = (first_not_fails (is_tried past e.place) (objects_of plan e.place) e.arg h.least).1 in (
-        record { arg = playable.objects e.place e.arg used; value = subst IsValue (sym h.value) (values_in_range plan playable (before_start past e.place) (legal_before_start plan past e.place legal) e.arg []) },
+        record {
+          arg = playable.objects e.place e.arg used;
+          value =
+              subst IsValue (sym h.value)
+              (values_in_range plan playable (before_start past e.place)
+              (legal_before_start plan past e.place legal) e.arg []);
+        },
         below_two e.mark h.mark,
       )
   fields_by past kind.End e legal h = end_fields plan past (of_kind kind.End e) h

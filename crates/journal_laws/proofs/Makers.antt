@@ -30,15 +30,18 @@ module _ (plan : Plan) (tree : IsTree plan) where
       ]
 
   -- the maker of an entry has a role in its place
-  maker_role_by : (past : List Entry) (k : Kind) (e : Entry) → LegalPast plan past → Row k plan past (of_kind k e) → member e.by (roles_of plan e.place) ≡ true
+  maker_role_by : (past : List Entry) (k : Kind) (e : Entry) → LegalPast plan past → Row k plan past (of_kind k e)
+      → member e.by (roles_of plan e.place) ≡ true
   maker_role_by past kind.Arrive e legal h = arrives_with_role plan tree past (of_kind kind.Arrive e) h
   maker_role_by past k e legal h = role_inside plan tree past legal e.by e.place h.here
 
-  pub maker_role : (past : List Entry) (e : Entry) → LegalPast plan past → MayFollow plan past e → member e.by (roles_of plan e.place) ≡ true
+  pub maker_role : (past : List Entry) (e : Entry) → LegalPast plan past → MayFollow plan past e
+      → member e.by (roles_of plan e.place) ≡ true
   maker_role past e legal h = maker_role_by past e.kind e legal h
 
   -- a place within which one puts an object goes on
-  pub put_going : (past : List Entry) (e : Entry) (p : ℕ) → LegalPast plan past → MayPut plan past e → is_within plan e.place p ≡ true → is_going past p ≡ true
+  pub put_going : (past : List Entry) (e : Entry) (p : ℕ) → LegalPast plan past → MayPut plan past e
+      → is_within plan e.place p ≡ true → is_going past p ≡ true
   put_going past e p legal h w =
       elim (or_cases (e.place == p) (member p (around plan e.place)) w) [
         | inl x ↦ subst (λ a. is_going past a ≡ true) (eqb-true e.place p x) (able_open plan past e.place e.by h.can).goes

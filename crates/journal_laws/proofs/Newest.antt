@@ -13,7 +13,8 @@ pub newest_stands : (test : Entry → Bool) (past : List Entry) (x : ℕ) → ne
 newest_stands test [] x h = absurd cc
 newest_stands test (e ∷ past) x h = by_test (test e) h (newest_stands test past x)
   where
-    by_test : (b : Bool) → cond b (Some e.arg) (newest_arg test past) ≡ Some x → (newest_arg test past ≡ Some x → list_any test past ≡ true) → (b || list_any test past) ≡ true
+    by_test : (b : Bool) → cond b (Some e.arg) (newest_arg test past) ≡ Some x
+        → (newest_arg test past ≡ Some x → list_any test past ≡ true) → (b || list_any test past) ≡ true
     by_test true h ih = refl
     by_test false h ih = ih h
 
@@ -22,7 +23,9 @@ pub stands_newest : (test : Entry → Bool) (past : List Entry) → list_any tes
 stands_newest test [] h = absurd (false≢true h)
 stands_newest test (e ∷ past) h = by_test (test e) h (stands_newest test past)
   where
-    by_test : (b : Bool) → (b || list_any test past) ≡ true → (list_any test past ≡ true → (x : ℕ) × (newest_arg test past ≡ Some x)) → (x : ℕ) × (cond b (Some e.arg) (newest_arg test past) ≡ Some x)
+    by_test : (b : Bool) → (b || list_any test past) ≡ true
+        → (list_any test past ≡ true → (x : ℕ) × (newest_arg test past ≡ Some x))
+        → (x : ℕ) × (cond b (Some e.arg) (newest_arg test past) ≡ Some x)
     by_test true h ih = (e.arg, refl)
     by_test false h ih = ih h
 
@@ -31,7 +34,8 @@ pub newest_none : (test : Entry → Bool) (past : List Entry) → list_any test 
 newest_none test [] h = refl
 newest_none test (e ∷ past) h = by_test (test e) h (newest_none test past)
   where
-    by_test : (b : Bool) → (b || list_any test past) ≡ false → (list_any test past ≡ false → newest_arg test past ≡ None) → cond b (Some e.arg) (newest_arg test past) ≡ None
+    by_test : (b : Bool) → (b || list_any test past) ≡ false
+        → (list_any test past ≡ false → newest_arg test past ≡ None) → cond b (Some e.arg) (newest_arg test past) ≡ None
     by_test true h ih = absurd cc
     by_test false h ih = ih h
 
@@ -40,7 +44,8 @@ pub handling_handled : (p t : ℕ) (past : List Entry) → is_handling past p t 
 handling_handled p t [] h = absurd (false≢true h)
 handling_handled p t (e ∷ past) h = by_tests (is_by kind.Handle p t e) (is_by kind.Verdict p t e) h (handling_handled p t past)
   where
-    by_tests : (b c : Bool) → cond b true (cond c false (is_handling past p t)) ≡ true → (is_handling past p t ≡ true → has_handled past p t ≡ true) → (b || has_handled past p t) ≡ true
+    by_tests : (b c : Bool) → cond b true (cond c false (is_handling past p t)) ≡ true
+        → (is_handling past p t ≡ true → has_handled past p t ≡ true) → (b || has_handled past p t) ≡ true
     by_tests true c h ih = refl
     by_tests false true h ih = absurd (false≢true h)
     by_tests false false h ih = ih h
@@ -50,7 +55,8 @@ pub given_resolved : (p t : ℕ) (past : List Entry) → has_given_after past p 
 given_resolved p t [] h = absurd (false≢true h)
 given_resolved p t (e ∷ past) h = by_tests (is_in kind.Resolve p e) (is_by kind.Verdict p t e) h (given_resolved p t past)
   where
-    by_tests : (b c : Bool) → cond b false (cond c (has kind.Resolve past p) (has_given_after past p t)) ≡ true → (has_given_after past p t ≡ true → has kind.Resolve past p ≡ true) → (b || has kind.Resolve past p) ≡ true
+    by_tests : (b c : Bool) → cond b false (cond c (has kind.Resolve past p) (has_given_after past p t)) ≡ true
+        → (has_given_after past p t ≡ true → has kind.Resolve past p ≡ true) → (b || has kind.Resolve past p) ≡ true
     by_tests true c h ih = refl
     by_tests false true h ih = h
     by_tests false false h ih = ih h

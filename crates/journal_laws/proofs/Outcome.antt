@@ -42,10 +42,12 @@ counted_any test (e ∷ past) h = by_test (test e) refl (counted_any test past)
 -- ---- marks
 
 -- the mark of an undo says that it went well, that the roles gave up, or that it failed
-pub undone_marks : (past : List Entry) (p mark : ℕ) → mark ≡ undone_mark past p → ((mark ≡ 2) ⊎ (mark ≡ 3)) ⊎ ((mark ≡ 4) × (has_failed past p ≡ true))
+pub undone_marks : (past : List Entry) (p mark : ℕ) → mark ≡ undone_mark past p
+    → ((mark ≡ 2) ⊎ (mark ≡ 3)) ⊎ ((mark ≡ 4) × (has_failed past p ≡ true))
 undone_marks past p mark m = by_failure (has_failed past p) (has kind.Abort past p) refl m
   where
-    by_failure : (b c : Bool) → has_failed past p ≡ b → mark ≡ cond b 4 (cond c 3 2) → ((mark ≡ 2) ⊎ (mark ≡ 3)) ⊎ ((mark ≡ 4) × (has_failed past p ≡ true))
+    by_failure : (b c : Bool) → has_failed past p ≡ b → mark ≡ cond b 4 (cond c 3 2)
+        → ((mark ≡ 2) ⊎ (mark ≡ 3)) ⊎ ((mark ≡ 4) × (has_failed past p ≡ true))
     by_failure true c f m = inr (m, f)
     by_failure false true f m = inl (inr m)
     by_failure false false f m = inl (inl m)
@@ -58,14 +60,18 @@ unfailed_mark past p mark m well = by_failure (has_failed past p) m
     by_failure false m = refl
 
 -- what an undo says of its restores
-fits_undone : (plan : Plan) (past : List Entry) (p mark : ℕ) → Tries plan past → ((o : ℕ) → uses plan p o ≡ true → is_tried past p o ≡ true) → mark ≡ undone_mark past p → RestoresFit plan past p mark
+fits_undone : (plan : Plan) (past : List Entry) (p mark : ℕ) → Tries plan past
+    → ((o : ℕ) → uses plan p o ≡ true → is_tried past p o ≡ true) → mark ≡ undone_mark past p
+    → RestoresFit plan past p mark
 fits_undone plan past p mark t all m = record {
   kept = λ l. absurd (elim (undone_marks past p mark m) [
     | inl (inl x) ↦ omega arith
     | inl (inr x) ↦ omega arith
     | inr x ↦ omega (arith, x.0)
   ]);
-  undone = λ well o u. counted_any (is_restore p o 0) past (λ z. omega (arith, z, t.failed p o (unfailed_mark past p mark m well), (t.once p o).0 (all o u)));
+  undone =
+      λ well o u. counted_any (is_restore p o 0) past
+      (λ z. omega (arith, z, t.failed p o (unfailed_mark past p mark m well), (t.once p o).0 (all o u)));
   tried = λ four o u. (t.once p o).0 (all o u);
   refused = λ four. elim (undone_marks past p mark m) [
     | inl (inl x) ↦ absurd (omega arith)
@@ -89,10 +95,16 @@ agreed_mark plan e [] h = rw h.0 (omega arith)
 agreed_mark plan e (x ∷ xs) h = rw h.0 (omega arith)
 
 pub below_two : (mark : ℕ) → (mark == 0) || (mark == 1) ≡ true → mark < 2
-below_two mark h = elim (or_cases (mark == 0) (mark == 1) h) [ inl x ↦ omega (arith, eqb-true mark 0 x) | inr x ↦ omega (arith, eqb-true mark 1 x) ]
+below_two mark h =
+    elim (or_cases (mark == 0) (mark == 1) h) [
+      | inl x ↦ omega (arith, eqb-true mark 0 x)
+      | inr x ↦ omega
+          (arith, eqb-true mark 1 x)
+    ]
 
 -- an entry that restores nothing in p leaves its restores as they are
-fits_on : (plan : Plan) (past : List Entry) (e : Entry) (p mark : ℕ) → is_in kind.Restore p e ≡ false → RestoresFit plan past p mark → RestoresFit plan (e ∷ past) p mark
+fits_on : (plan : Plan) (past : List Entry) (e : Entry) (p mark : ℕ) → is_in kind.Restore p e ≡ false
+    → RestoresFit plan past p mark → RestoresFit plan (e ∷ past) p mark
 fits_on plan past e p mark other fit = record {
   kept = λ l. rw other (fit.kept l);
   undone = λ l o u. rw other (fit.undone l o u);
@@ -107,20 +119,31 @@ module _ (plan : Plan) where
       t : Tries plan past
       t = tries plan past legal
 
-      by_undo : (b : Bool) → is_undoing past e.place ≡ b → MatchBool b (EndsUndone plan past e) (EndsAgreed plan past e) → RestoresFit plan past e.place e.mark
-      by_undo true u h = fits_undone plan past e.place e.mark t (λ o u. first_not_none (is_tried past e.place) (objects_of plan e.place) o h.all_tried u) h.mark
-      by_undo false u h = fits_agreed plan past e.place e.mark (false_from_ne_true _ (λ w. both_ways _ u (t.undone e.place w))) (agreed_mark plan e (signals past e.place (roles_of plan e.place)) h.outcome)
+      by_undo : (b : Bool) → is_undoing past e.place ≡ b → MatchBool b (EndsUndone plan past e) (EndsAgreed plan past e)
+          → RestoresFit plan past e.place e.mark
+      by_undo true u h =
+          fits_undone plan past e.place e.mark t
+          (λ o u. first_not_none (is_tried past e.place) (objects_of plan e.place) o h.all_tried u) h.mark
+      by_undo false u h =
+          fits_agreed plan past e.place e.mark (false_from_ne_true _ (λ w. both_ways _ u (t.undone e.place w)))
+          (agreed_mark plan e (signals past e.place (roles_of plan e.place)) h.outcome)
 
-  outcome_by : (past : List Entry) (k : Kind) (e : Entry) → LegalPast plan past → OutcomeLaw plan past → Row k plan past (of_kind k e) → OutcomeLaw plan (of_kind k e ∷ past)
+  outcome_by : (past : List Entry) (k : Kind) (e : Entry) → LegalPast plan past → OutcomeLaw plan past
+      → Row k plan past (of_kind k e) → OutcomeLaw plan (of_kind k e ∷ past)
   outcome_by past kind.End e legal ih h p f w =
-      fits_on plan past (of_kind kind.End e) p f.mark refl (elim (chosen (e.place == p) (Some (of_kind kind.End e)) (newest (is_in kind.End p) past) (Some f) w) [
+      fits_on plan past (of_kind kind.End e) p f.mark refl
+      (elim (chosen (e.place == p) (Some (of_kind kind.End e)) (newest (is_in kind.End p) past) (Some f) w) [
         | inl x ↦
             let same : of_kind kind.End e ≡ f = cc in
-            subst (λ (g : Entry). RestoresFit plan past p g.mark) same (subst (λ a. RestoresFit plan past a e.mark) (eqb-true e.place p x.0) (end_fits past (of_kind kind.End e) legal h))
+            subst (λ (g : Entry). RestoresFit plan past p g.mark) same
+            (subst (λ a. RestoresFit plan past a e.mark) (eqb-true e.place p x.0)
+            (end_fits past (of_kind kind.End e) legal h))
         | inr x ↦ ih p f x.1
       ])
   outcome_by past kind.Restore e legal ih h p f w =
-      fits_on plan past (of_kind kind.Restore e) p f.mark (false_from_ne_true _ (λ x. both_ways _ (subst (λ a. has_ended past a ≡ false) (eqb-true e.place p x) h.lasts) (newest_any (is_in kind.End p) past f w))) (ih p f w)
+      fits_on plan past (of_kind kind.Restore e) p f.mark
+      (false_from_ne_true _ (λ x. both_ways _ (subst (λ a. has_ended past a ≡ false) (eqb-true e.place p x) h.lasts)
+      (newest_any (is_in kind.End p) past f w))) (ih p f w)
   outcome_by past k e legal ih h p f w = fits_on plan past (of_kind k e) p f.mark refl (ih p f w)
 
   outcome : (past : List Entry) → LegalPast plan past → OutcomeLaw plan past

@@ -13,9 +13,12 @@ pub data Phase (plan : Plan) (past : List Entry) (p : ℕ) : Type 0 where
   at_end : has_ended past p ≡ true → Phase plan past p
   at_wait : has_ended past p ≡ false → has_started past p ≡ false → Phase plan past p
   at_undo : has_ended past p ≡ false → has_started past p ≡ true → is_undoing past p ≡ true → Phase plan past p
-  at_doom : has_ended past p ≡ false → has_started past p ≡ true → is_undoing past p ≡ false → is_doomed plan past p ≡ true → Phase plan past p
-  at_hot : has_ended past p ≡ false → has_started past p ≡ true → is_undoing past p ≡ false → is_doomed plan past p ≡ false → is_raised plan past p ≡ true → Phase plan past p
-  at_calm : has_ended past p ≡ false → has_started past p ≡ true → is_undoing past p ≡ false → is_doomed plan past p ≡ false → is_raised plan past p ≡ false → Phase plan past p
+  at_doom : has_ended past p ≡ false → has_started past p ≡ true → is_undoing past p ≡ false
+      → is_doomed plan past p ≡ true → Phase plan past p
+  at_hot : has_ended past p ≡ false → has_started past p ≡ true → is_undoing past p ≡ false
+      → is_doomed plan past p ≡ false → is_raised plan past p ≡ true → Phase plan past p
+  at_calm : has_ended past p ≡ false → has_started past p ≡ true → is_undoing past p ≡ false
+      → is_doomed plan past p ≡ false → is_raised plan past p ≡ false → Phase plan past p
 
 pub phase_of : (plan : Plan) (past : List Entry) (p : ℕ) → Phase plan past p
 phase_of plan past p = elim (cases_Bool (has_ended past p)) [
@@ -45,8 +48,11 @@ going_parts past p h =
     let b = and_parts (has_started past p) (not (has_ended past p)) a.0 in
     record { started = b.0; lasts = not-true _ b.1; kept = not-true _ a.1 }
 
-pub going_from : (past : List Entry) (p : ℕ) → has_ended past p ≡ false → has_started past p ≡ true → is_undoing past p ≡ false → is_going past p ≡ true
-going_from past p f s u = and_from (is_live past p) (not (is_undoing past p)) (and_from (has_started past p) (not (has_ended past p)) s (not_from_false _ f)) (not_from_false _ u)
+pub going_from : (past : List Entry) (p : ℕ) → has_ended past p ≡ false → has_started past p ≡ true
+    → is_undoing past p ≡ false → is_going past p ≡ true
+going_from past p f s u =
+    and_from (is_live past p) (not (is_undoing past p))
+    (and_from (has_started past p) (not (has_ended past p)) s (not_from_false _ f)) (not_from_false _ u)
 
 -- p goes on, and nothing was raised round it: it is calm or hot
 abbrev pub is_open : Plan → List Entry → ℕ → Bool
@@ -65,12 +71,14 @@ open_parts plan past p h =
     let g = going_parts past p a.0 in
     record { goes = a.0; started = g.started; lasts = g.lasts; kept = g.kept; spared = not-true _ a.1 }
 
-pub open_from : (plan : Plan) (past : List Entry) (p : ℕ) → is_going past p ≡ true → is_doomed plan past p ≡ false → is_open plan past p ≡ true
+pub open_from : (plan : Plan) (past : List Entry) (p : ℕ) → is_going past p ≡ true → is_doomed plan past p ≡ false
+    → is_open plan past p ≡ true
 open_from plan past p g d = and_from (is_going past p) (not (is_doomed plan past p)) g (not_from_false _ d)
 
 -- ---- calm and hot
 
-pub calm_open : (plan : Plan) (past : List Entry) (p : ℕ) → is_calm plan past p ≡ true → IsOpen plan past p × (is_raised plan past p ≡ false)
+pub calm_open : (plan : Plan) (past : List Entry) (p : ℕ) → is_calm plan past p ≡ true
+    → IsOpen plan past p × (is_raised plan past p ≡ false)
 calm_open plan past p h =
     let a = and_parts (is_going past p) (not (is_doomed plan past p) && not (is_raised plan past p)) h in
     let b = and_parts (not (is_doomed plan past p)) (not (is_raised plan past p)) a.1 in
@@ -83,7 +91,9 @@ hot_open plan past p h =
     (open_parts plan past p (open_from plan past p a.0 (not-true _ b.0)), b.1)
 
 pub calm_from : (plan : Plan) (past : List Entry) (p : ℕ) → IsOpen plan past p → is_raised plan past p ≡ false → is_calm plan past p ≡ true
-calm_from plan past p o r = and_from (is_going past p) _ o.goes (and_from (not (is_doomed plan past p)) _ (not_from_false _ o.spared) (not_from_false _ r))
+calm_from plan past p o r =
+    and_from (is_going past p) _ o.goes
+    (and_from (not (is_doomed plan past p)) _ (not_from_false _ o.spared) (not_from_false _ r))
 
 pub hot_from : (plan : Plan) (past : List Entry) (p : ℕ) → IsOpen plan past p → is_raised plan past p ≡ true → is_hot plan past p ≡ true
 hot_from plan past p o r = and_from (is_going past p) _ o.goes (and_from (not (is_doomed plan past p)) _ (not_from_false _ o.spared) r)

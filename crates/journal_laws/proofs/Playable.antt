@@ -25,7 +25,8 @@ pub record IsTree (plan : Plan) : Type 0 where
   -- who has a role in a place has one in each place round it
   pub roles_in : (p q t : ℕ) → member p (around plan q) ≡ true → member t (roles_of plan q) ≡ true → member t (roles_of plan p) ≡ true
   -- each alternate of the use that an enter step names is right inside, and the maker of the step has a role there
-  pub enters : (p t : ℕ) (x : Option ℕ) (n k : ℕ) → slice_get (program_in plan p t x).steps n ≡ Some (step.Enter k) → (q : ℕ) → member q (alternates_of plan p k) ≡ true → LeadsInside plan p t q
+  pub enters : (p t : ℕ) (x : Option ℕ) (n k : ℕ) → slice_get (program_in plan p t x).steps n ≡ Some (step.Enter k)
+      → (q : ℕ) → member q (alternates_of plan p k) ≡ true → LeadsInside plan p t q
 
 pub record IsPlayable (plan : Plan) : Type 0 where
   pub tree : IsTree plan
@@ -40,21 +41,28 @@ pub record IsPlayable (plan : Plan) : Type 0 where
   pub in_row : (p k : ℕ) → Rises 0 (alternates_of plan p k)
   pub by_use : (p k l c d : ℕ) → k < l → member c (alternates_of plan p k) ≡ true → member d (alternates_of plan p l) ≡ true → c < d
   -- the body of each role of a nested place has the enter step of its use, each use has an alternate, and enter steps come in order
-  pub leads : (p c t : ℕ) → parent plan c ≡ Some p → member t (roles_of plan c) ≡ true → (n : ℕ) × (slice_get (body_of plan p t).steps n ≡ Some (step.Enter (nest_number plan c)))
+  pub leads : (p c t : ℕ) → parent plan c ≡ Some p → member t (roles_of plan c) ≡ true
+      → (n : ℕ) × (slice_get (body_of plan p t).steps n ≡ Some (step.Enter (nest_number plan c)))
   pub offers : (p t n k : ℕ) → slice_get (body_of plan p t).steps n ≡ Some (step.Enter k) → is_empty (alternates_of plan p k) ≡ false
-  pub in_order : (p t n m k l : ℕ) → n < m → slice_get (body_of plan p t).steps n ≡ Some (step.Enter k) → slice_get (body_of plan p t).steps m ≡ Some (step.Enter l) → k < l
+  pub in_order : (p t n m k l : ℕ) → n < m → slice_get (body_of plan p t).steps n ≡ Some (step.Enter k)
+      → slice_get (body_of plan p t).steps m ≡ Some (step.Enter l) → k < l
   -- handlers enter nowhere
   pub plain : (p t x n k : ℕ) → slice_get (program_in plan p t (Some x)).steps n ≡ Some (step.Enter k) → ⊥
   -- objects: a place uses those of the places inside it, and those of its steps
   pub inherits : (p q o : ℕ) → member p (around plan q) ≡ true → uses plan q o ≡ true → uses plan p o ≡ true
-  pub held : (p t : ℕ) (x : Option ℕ) (n : ℕ) (s : Step) → slice_get (program_in plan p t x).steps n ≡ Some s → holds_step (objects_of plan p) s ≡ true
+  pub held : (p t : ℕ) (x : Option ℕ) (n : ℕ) (s : Step) → slice_get (program_in plan p t x).steps n ≡ Some s
+      → holds_step (objects_of plan p) s ≡ true
   -- numbers are in range
-  pub steps : (p t : ℕ) (x : Option ℕ) (n : ℕ) (s : Step) → slice_get (program_in plan p t x).steps n ≡ Some s → step_in_range (length plan.objects) (internal_of plan p).count s ≡ true
+  pub steps : (p t : ℕ) (x : Option ℕ) (n : ℕ) (s : Step) → slice_get (program_in plan p t x).steps n ≡ Some s
+      → step_in_range (length plan.objects) (internal_of plan p).count s ≡ true
   pub says : (p t : ℕ) (x : Option ℕ) → verdict_in_range (interface_of plan p).count (program_in plan p t x).verdict ≡ true
   pub gives_up : (p t : ℕ) → abort_in_range (interface_of plan p).count (abort_row plan p t) ≡ true
   pub faults : (p t : ℕ) → member t (roles_of plan p) ≡ true → fault_of plan p < (internal_of plan p).count
-  pub maps : (p q : ℕ) → parent plan q ≡ Some p → ((x : ℕ) → map_signal plan q x < (internal_of plan p).count) × ((nest_of plan q).undo < (internal_of plan p).count) × ((nest_of plan q).failure < (internal_of plan p).count)
+  pub maps : (p q : ℕ) → parent plan q ≡ Some p
+      → ((x : ℕ) → map_signal plan q x < (internal_of plan p).count)
+      × ((nest_of plan q).undo < (internal_of plan p).count) × ((nest_of plan q).failure < (internal_of plan p).count)
   pub objects : (p o : ℕ) → uses plan p o ≡ true → o < length plan.objects
   pub valued : (o : ℕ) → IsValue (initial_of plan o)
   -- the graphs of each place are sound
-  pub sound : (p : ℕ) → IsSound (internal_of plan p) × SetsHaveLeastCovers (internal_of plan p) × IsSound (interface_of plan p) × SetsHaveLeastCovers (interface_of plan p)
+  pub sound : (p : ℕ) → IsSound (internal_of plan p) × SetsHaveLeastCovers (internal_of plan p)
+      × IsSound (interface_of plan p) × SetsHaveLeastCovers (interface_of plan p)

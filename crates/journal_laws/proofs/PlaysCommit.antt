@@ -41,10 +41,13 @@ changed_by kind.Restore e o w = (refl, eqb-true e.arg o (and_parts (e.arg == o) 
 changed_by _ e o w = absurd (false≢true w)
 
 -- an entry that doesn't change o gives it no value
-pass : (plan : Plan) (past : List Entry) (e : Entry) (o : ℕ) (us : List ℕ) → changes o e ≡ false → value_outside plan (e ∷ past) o us ≡ value_outside plan past o us
+pass : (plan : Plan) (past : List Entry) (e : Entry) (o : ℕ) (us : List ℕ) → changes o e ≡ false
+    → value_outside plan (e ∷ past) o us ≡ value_outside plan past o us
 pass plan past e o us w = let parts = or_parts (writes o e) (restores o e) w in rw (parts.0, parts.1) refl
 
-pass_filtered : (plan : Plan) (past : List Entry) (e : Entry) (o : ℕ) (us : List ℕ) (keep : Entry → Bool) → changes o e ≡ false → value_outside plan (filter keep (e ∷ past)) o us ≡ value_outside plan (filter keep past) o us
+pass_filtered : (plan : Plan) (past : List Entry) (e : Entry) (o : ℕ) (us : List ℕ) (keep : Entry → Bool)
+    → changes o e ≡ false → value_outside plan (filter keep (e ∷ past)) o us
+    ≡ value_outside plan (filter keep past) o us
 pass_filtered plan past e o us keep w =
     elim (cases_Bool (keep e)) [
       | inl x ↦ rw x (pass plan (filter keep past) e o us w)
@@ -55,18 +58,23 @@ pass_filtered plan past e o us keep w =
 abbrev Agree : (Entry → Bool) → (Entry → Bool) → ℕ → List Entry → Type 0
 Agree keep test o past = (later before : List Entry) (e : Entry) → past ≡ later ++ e ∷ before → changes o e ≡ true → keep e ≡ test e
 
-value_filtered : (plan : Plan) (keep test : Entry → Bool) (past : List Entry) (o : ℕ) → Agree keep test o past → (us : List ℕ) → value_outside plan (filter keep past) o us ≡ value_outside plan (filter test past) o us
+value_filtered : (plan : Plan) (keep test : Entry → Bool) (past : List Entry) (o : ℕ) → Agree keep test o past
+    → (us : List ℕ) → value_outside plan (filter keep past) o us ≡ value_outside plan (filter test past) o us
 value_filtered plan keep test [] o same us = refl
 value_filtered plan keep test (e ∷ past) o same us =
     elim (cases_Bool (changes o e)) [
       | inl w ↦ changed (keep e) refl (sym (same [] past e refl w)) (λ vs. value_filtered plan keep test past o (further same) vs)
-      | inr w ↦ pass_filtered plan past e o us keep w ∙ value_filtered plan keep test past o (further same) us ∙ sym (pass_filtered plan past e o us test w)
+      | inr w ↦
+          pass_filtered plan past e o us keep w ∙ value_filtered plan keep test past o (further same) us
+          ∙ sym (pass_filtered plan past e o us test w)
     ]
   where
     further : Agree keep test o (e ∷ past) → Agree keep test o past
     further same later before f split w = same (e ∷ later) before f (ap (λ es. e ∷ es) split) w
 
-    changed : (b : Bool) → keep e ≡ b → test e ≡ keep e → ((vs : List ℕ) → value_outside plan (filter keep past) o vs ≡ value_outside plan (filter test past) o vs) → value_outside plan (filter keep (e ∷ past)) o us ≡ value_outside plan (filter test (e ∷ past)) o us
+    changed : (b : Bool) → keep e ≡ b → test e ≡ keep e
+        → ((vs : List ℕ) → value_outside plan (filter keep past) o vs ≡ value_outside plan (filter test past) o vs)
+        → value_outside plan (filter keep (e ∷ past)) o us ≡ value_outside plan (filter test (e ∷ past)) o us
     changed true x y rest = rw (y, x) (ap (cond (writes o e && not (is_within_any plan e.place us)) e.value) (rest (places_undone o e us)))
     changed false x y rest = rw (y, x) (rest us)
 
@@ -102,16 +110,26 @@ module _ (plan : Plan) (playable : IsPlayable plan) where
   top_alone p = alone_at p (around plan p) refl
 
   -- a play in which o is changed is live, and uses o
-  changed_top : (past : List Entry) (e : Entry) (o : ℕ) → LegalPast plan (e ∷ past) → changes o e ≡ true → live_uses plan o past (top_of plan e.place) ≡ true
+  changed_top : (past : List Entry) (e : Entry) (o : ℕ) → LegalPast plan (e ∷ past) → changes o e ≡ true
+      → live_uses plan o past (top_of plan e.place) ≡ true
   changed_top past e o legal w =
       let how = changed_by e.kind e o w in
-      let held : holder_of plan past o ≡ Some e.place = subst (λ a. holder_of plan past a ≡ Some e.place) how.1 ((isolation plan tree (e ∷ past) legal).held [] past e refl how.0) in
-      holds_within plan tree past legal.0 o (top_of plan e.place) ∙ ap (λ h. in_within plan h (top_of plan e.place)) held ∙ within_top e.place
+      let held : holder_of plan past o ≡ Some e.place =
+      subst (λ a. holder_of plan past a ≡ Some e.place) how.1
+      ((isolation plan tree (e ∷ past) legal).held [] past e refl how.0) in
+      holds_within plan tree past legal.0 o (top_of plan e.place)
+      ∙ ap (λ h. in_within plan h (top_of plan e.place)) held ∙ within_top e.place
 
   -- the first plays that ended are the same as the journal goes on
-  firsts_stay : (e : Entry) (past : List Entry) (n : ℕ) → n ≤ length (plays_ended plan past) → (take n (plays_ended plan (e ∷ past)) ≡ take n (plays_ended plan past)) × (n ≤ length (plays_ended plan (e ∷ past)))
+  firsts_stay : (e : Entry) (past : List Entry) (n : ℕ) → n ≤ length (plays_ended plan past)
+      → (take n (plays_ended plan (e ∷ past)) ≡ take n (plays_ended plan past))
+      × (n ≤ length (plays_ended plan (e ∷ past)))
   firsts_stay e past n low = elim (cases_Bool (ends_play plan e)) [
-    | inl x ↦ rw x (take-append-le n (plays_ended plan past) (e.place ∷ []) low, omega (arith, low, length-append (plays_ended plan past) (e.place ∷ [])))
+    | inl x ↦
+        rw x (
+          take-append-le n (plays_ended plan past) (e.place ∷ []) low,
+          omega (arith, low, length-append (plays_ended plan past) (e.place ∷ [])),
+        )
     | inr x ↦ rw x (refl, low)
   ]
 
@@ -122,19 +140,24 @@ module _ (plan : Plan) (playable : IsPlayable plan) where
   value_by ps past o = value_of plan (filter (λ e. member (top_of plan e.place) ps) past) o
 
   -- whoever changes an object does so in none of the plays that have ended
-  left_out : (past : List Entry) (e : Entry) (n o : ℕ) → LegalPast plan (e ∷ past) → changes o e ≡ true → member (top_of plan e.place) (take n (plays_ended plan past)) ≡ false
+  left_out : (past : List Entry) (e : Entry) (n o : ℕ) → LegalPast plan (e ∷ past) → changes o e ≡ true
+      → member (top_of plan e.place) (take n (plays_ended plan past)) ≡ false
   left_out past e n o legal w =
       let live = (and_parts (is_live past (top_of plan e.place)) (uses plan (top_of plan e.place) o) (changed_top past e o legal w)).0 in
-      false_from_ne_true _ (λ m. both_ways _ (live_parts (top_of plan e.place) past live).1 (ended_is plan past (top_of plan e.place) (taken_member (top_of plan e.place) n (plays_ended plan past) m)))
+      false_from_ne_true _ (λ m. both_ways _ (live_parts (top_of plan e.place) past live).1
+      (ended_is plan past (top_of plan e.place) (taken_member (top_of plan e.place) n (plays_ended plan past) m)))
 
-  stays_once : (past : List Entry) (e : Entry) (n o : ℕ) → LegalPast plan (e ∷ past) → n ≤ length (plays_ended plan past) → committed_value plan (e ∷ past) n o ≡ committed_value plan past n o
+  stays_once : (past : List Entry) (e : Entry) (n o : ℕ) → LegalPast plan (e ∷ past)
+      → n ≤ length (plays_ended plan past) → committed_value plan (e ∷ past) n o ≡ committed_value plan past n o
   stays_once past e n o legal low =
       ap (λ ps. value_by ps (e ∷ past) o) (firsts_stay e past n low).0 ∙ elim (cases_Bool (changes o e)) [
         | inl w ↦ rw (left_out past e n o legal w) refl
         | inr w ↦ pass_filtered plan past e o [] (λ f. member (top_of plan f.place) (take n (plays_ended plan past))) w
       ]
 
-  stay : (later past : List Entry) (n o : ℕ) → LegalPast plan (later ++ past) → n ≤ length (plays_ended plan past) → (committed_value plan (later ++ past) n o ≡ committed_value plan past n o) × (n ≤ length (plays_ended plan (later ++ past)))
+  stay : (later past : List Entry) (n o : ℕ) → LegalPast plan (later ++ past) → n ≤ length (plays_ended plan past)
+      → (committed_value plan (later ++ past) n o ≡ committed_value plan past n o)
+      × (n ≤ length (plays_ended plan (later ++ past)))
   stay [] past n o legal low = (refl, low)
   stay (e ∷ later) past n o legal low =
       let so_far = stay later past n o legal.0 low in
@@ -143,7 +166,8 @@ module _ (plan : Plan) (playable : IsPlayable plan) where
   -- ---- the end of a play
 
   -- of plays that use one object, no two are live at one moment
-  live_alone : (past : List Entry) (p q o : ℕ) → LegalPast plan past → around plan p ≡ [] → around plan q ≡ [] → live_uses plan o past p ≡ true → live_uses plan o past q ≡ true → p ≡ q
+  live_alone : (past : List Entry) (p q o : ℕ) → LegalPast plan past → around plan p ≡ [] → around plan q ≡ []
+      → live_uses plan o past p ≡ true → live_uses plan o past q ≡ true → p ≡ q
   live_alone past p q o legal a b l m =
       let first = and_parts (is_live past p) (uses plan p o) l in
       let second = and_parts (is_live past q) (uses plan q o) m in
@@ -154,45 +178,69 @@ module _ (plan : Plan) (playable : IsPlayable plan) where
       ]
     where
       same : (r s : ℕ) → around plan r ≡ [] → is_within plan r s ≡ true → r ≡ s
-      same r s c x = elim (or_cases (r == s) (member s (around plan r)) x) [ inl y ↦ eqb-true r s y | inr y ↦ absurd (false≢true (rw c at y)) ]
+      same r s c x =
+          elim (or_cases (r == s) (member s (around plan r)) x) [
+            | inl y ↦ eqb-true r s y
+            | inr y ↦ absurd
+                (false≢true (rw c at y))
+          ]
 
   -- whoever changed an object of p before the end of p did so in p, or in a play that had ended
-  changed_in : (p o : ℕ) (past later before : List Entry) (e : Entry) → LegalPast plan past → around plan p ≡ [] → live_uses plan o past p ≡ true → past ≡ later ++ e ∷ before → changes o e ≡ true → member (top_of plan e.place) (plays_ended plan past ++ p ∷ []) ≡ true
+  changed_in : (p o : ℕ) (past later before : List Entry) (e : Entry) → LegalPast plan past → around plan p ≡ []
+      → live_uses plan o past p ≡ true → past ≡ later ++ e ∷ before → changes o e ≡ true
+      → member (top_of plan e.place) (plays_ended plan past ++ p ∷ []) ≡ true
   changed_in p o past later before e legal a live split w =
       let q = top_of plan e.place in
       let there = changed_top before e o (legal_rest plan later (e ∷ before) (subst (LegalPast plan) split legal)) w in
       let parts = and_parts (is_live before q) (uses plan q o) there in
-      let started : has_started past q ≡ true = subst (λ es. has_started es q ≡ true) (sym split) (list_any-append (is_in kind.Start q) later (e ∷ before) ∙ or_right _ _ (or_right _ _ (live_parts q before parts.0).0)) in
+      let started : has_started past q ≡ true =
+      subst (λ es. has_started es q ≡ true) (sym split)
+      (list_any-append (is_in kind.Start q) later (e ∷ before)
+      ∙ or_right _ _ (or_right _ _ (live_parts q before parts.0).0)) in
       member_more q p (plays_ended plan past) ∙ elim (cases_Bool (has_ended past q)) [
         | inl x ↦ or_left _ _ (ended_listed plan past q (top_alone e.place) x)
-        | inr x ↦ or_right _ _ (eq-eqb p q (live_alone past p q o legal a (top_alone e.place) live (and_from (is_live past q) (uses plan q o) (live_from q past started x) parts.1)))
+        | inr x ↦
+            or_right _ _ (eq-eqb p q
+            (live_alone past p q o legal a (top_alone e.place) live
+            (and_from (is_live past q) (uses plan q o) (live_from q past started x) parts.1)))
       ]
 
   -- an object of a play has its value at the end by the plays that have ended
-  commits_own : (p o : ℕ) (past : List Entry) → LegalPast plan past → around plan p ≡ [] → live_uses plan o past p ≡ true → value_by (plays_ended plan past ++ p ∷ []) past o ≡ value_of plan past o
+  commits_own : (p o : ℕ) (past : List Entry) → LegalPast plan past → around plan p ≡ []
+      → live_uses plan o past p ≡ true → value_by (plays_ended plan past ++ p ∷ []) past o ≡ value_of plan past o
   commits_own p o past legal a live =
-      value_filtered plan (λ f. member (top_of plan f.place) (plays_ended plan past ++ p ∷ [])) (λ f. true) past o (λ later before f split w. changed_in p o past later before f legal a live split w) []
+      value_filtered plan (λ f. member (top_of plan f.place) (plays_ended plan past ++ p ∷ [])) (λ f. true) past o
+      (λ later before f split w. changed_in p o past later before f legal a live split w) []
       ∙ ap (λ es. value_of plan es o) (all_kept past)
 
   -- a play changes no other object
-  commits_others : (p o : ℕ) (past : List Entry) → LegalPast plan past → uses plan p o ≡ false → value_by (plays_ended plan past ++ p ∷ []) past o ≡ value_by (plays_ended plan past) past o
+  commits_others : (p o : ℕ) (past : List Entry) → LegalPast plan past → uses plan p o ≡ false
+      → value_by (plays_ended plan past ++ p ∷ []) past o ≡ value_by (plays_ended plan past) past o
   commits_others p o past legal none =
-      value_filtered plan (λ f. member (top_of plan f.place) (plays_ended plan past ++ p ∷ [])) (λ f. member (top_of plan f.place) (plays_ended plan past)) past o other []
+      value_filtered plan (λ f. member (top_of plan f.place) (plays_ended plan past ++ p ∷ []))
+      (λ f. member (top_of plan f.place) (plays_ended plan past)) past o other []
     where
-      other : Agree (λ f. member (top_of plan f.place) (plays_ended plan past ++ p ∷ [])) (λ f. member (top_of plan f.place) (plays_ended plan past)) o past
+      other : Agree (λ f. member (top_of plan f.place) (plays_ended plan past ++ p ∷ []))
+          (λ f. member (top_of plan f.place) (plays_ended plan past)) o past
       other later before e split w =
           let q = top_of plan e.place in
           let there = changed_top before e o (legal_rest plan later (e ∷ before) (subst (LegalPast plan) split legal)) w in
           let used = (and_parts (is_live before q) (uses plan q o) there).1 in
-          let apart : (p == q) ≡ false = false_from_ne_true _ (λ x. both_ways _ none (subst (λ a. uses plan a o ≡ true) (sym (eqb-true p q x)) used)) in
+          let apart : (p == q) ≡ false =
+          false_from_ne_true _ (λ x. both_ways _ none
+          (subst (λ a. uses plan a o ≡ true) (sym (eqb-true p q x)) used)) in
           member_more q p (plays_ended plan past) ∙ (rw apart (or-false (member q (plays_ended plan past))))
 
   -- the values after an End of p
   at_end : (p o : ℕ) (past : List Entry) (e : Entry) → LegalPast plan (e ∷ past) → is_in kind.End p e ≡ true → parent plan p ≡ None
-      → (committed_value plan (e ∷ past) (suc (length (plays_ended plan past))) o ≡ cond (uses plan p o) (value_of plan (e ∷ past) o) (committed_value plan past (length (plays_ended plan past)) o)) × (length (plays_ended plan (e ∷ past)) ≡ suc (length (plays_ended plan past)))
+      → (committed_value plan (e ∷ past) (suc (length (plays_ended plan past))) o
+      ≡ cond (uses plan p o) (value_of plan (e ∷ past) o)
+      (committed_value plan past (length (plays_ended plan past)) o))
+      × (length (plays_ended plan (e ∷ past)) ≡ suc (length (plays_ended plan past)))
   at_end p o past e legal is top = (
     ap (λ ps. value_by ps (e ∷ past) o) (ap (take (suc (length (plays_ended plan past)))) more ∙ taken)
-        ∙ (pass_filtered plan past e o [] (λ f. member (top_of plan f.place) (plays_ended plan past ++ p ∷ [])) (unchanged e.kind e is) ∙ by_use (uses plan p o) refl),
+        ∙ (pass_filtered plan past e o [] (λ f. member (top_of plan f.place) (plays_ended plan past ++ p ∷ []))
+        (unchanged e.kind e is) ∙ by_use (uses plan p o) refl),
     ap length more ∙ (length-append (plays_ended plan past) (p ∷ []) ∙ omega arith),
   )
     where
@@ -205,33 +253,46 @@ module _ (plan : Plan) (playable : IsPlayable plan) where
 
       more : plays_ended plan (e ∷ past) ≡ plays_ended plan past ++ p ∷ []
       more =
-          let ended : ends_play plan e ≡ true = and_from _ _ (and_parts (is_of kind.End e) (e.place == p) is).0 (subst (λ a. is_none (parent plan a) ≡ true) (sym here) (ap is_none top)) in
+          let ended : ends_play plan e ≡ true =
+          and_from _ _ (and_parts (is_of kind.End e) (e.place == p) is).0
+          (subst (λ a. is_none (parent plan a) ≡ true) (sym here) (ap is_none top)) in
           rw ended (ap (λ a. plays_ended plan past ++ a ∷ []) here)
 
       taken : take (suc (length (plays_ended plan past))) (plays_ended plan past ++ p ∷ []) ≡ plays_ended plan past ++ p ∷ []
-      taken = take_all (suc (length (plays_ended plan past))) (plays_ended plan past ++ p ∷ []) (omega (arith, length-append (plays_ended plan past) (p ∷ [])))
+      taken =
+          take_all (suc (length (plays_ended plan past))) (plays_ended plan past ++ p ∷ [])
+          (omega (arith, length-append (plays_ended plan past) (p ∷ [])))
 
       all_taken : take (length (plays_ended plan past)) (plays_ended plan past) ≡ plays_ended plan past
       all_taken = take_all (length (plays_ended plan past)) (plays_ended plan past) (omega arith)
 
-      by_use : (b : Bool) → uses plan p o ≡ b → value_by (plays_ended plan past ++ p ∷ []) past o ≡ cond b (value_of plan (e ∷ past) o) (committed_value plan past (length (plays_ended plan past)) o)
+      by_use : (b : Bool) → uses plan p o ≡ b
+          → value_by (plays_ended plan past ++ p ∷ []) past o
+          ≡ cond b (value_of plan (e ∷ past) o) (committed_value plan past (length (plays_ended plan past)) o)
       by_use true u =
-          let live : is_live past p ≡ true = subst (λ a. is_live past a ≡ true) here (end_live plan tree past (of_kind kind.End e) legal.0 (end_row plan past e.kind e p legal.1 is).0) in
-          commits_own p o past legal.0 (nothing_round plan p (around plan p) refl top) (and_from (is_live past p) (uses plan p o) live u) ∙ sym (pass plan past e o [] (unchanged e.kind e is))
+          let live : is_live past p ≡ true =
+          subst (λ a. is_live past a ≡ true) here
+          (end_live plan tree past (of_kind kind.End e) legal.0 (end_row plan past e.kind e p legal.1 is).0) in
+          commits_own p o past legal.0 (nothing_round plan p (around plan p) refl top)
+          (and_from (is_live past p) (uses plan p o) live u) ∙ sym (pass plan past e o [] (unchanged e.kind e is))
       by_use false u = commits_others p o past legal.0 u ∙ sym (ap (λ ps. value_by ps past o) all_taken)
 
   commit : (past : List Entry) → LegalPast plan past → CommitLaw plan past
   commit past legal = record {
     stays = λ later before n o split low.
-        subst (λ es. committed_value plan es n o ≡ committed_value plan before n o) (sym split) (stay later before n o (subst (LegalPast plan) split legal) low).0;
+        subst (λ es. committed_value plan es n o ≡ committed_value plan before n o) (sym split)
+        (stay later before n o (subst (LegalPast plan) split legal) low).0;
     commits = λ p o later before e split is top.
         let whole = subst (LegalPast plan) split legal in
         let here = legal_rest plan later (e ∷ before) whole in
         let ended = at_end p o before e here is top in
         let k = length (plays_ended plan before) in
-        subst (λ es. committed_value plan es (suc k) o ≡ cond (uses plan p o) (value_of plan (e ∷ before) o) (committed_value plan es k o)) (sym split) (
+        subst (λ es. committed_value plan es (suc k) o
+        ≡ cond (uses plan p o) (value_of plan (e ∷ before) o) (committed_value plan es k o)) (sym split) (
         (stay later (e ∷ before) (suc k) o whole (omega (arith, ended.1))).0 ∙ ended.0
-        ∙ ap (cond (uses plan p o) (value_of plan (e ∷ before) o)) (sym ((stay later (e ∷ before) k o whole (omega (arith, ended.1))).0 ∙ stays_once before e k o here (omega arith))));
+        ∙ ap (cond (uses plan p o) (value_of plan (e ∷ before) o))
+        (sym ((stay later (e ∷ before) k o whole (omega (arith, ended.1))).0
+        ∙ stays_once before e k o here (omega arith))));
     whole = λ over. all_end plan playable past legal over;
   }
 

@@ -42,18 +42,23 @@ same_laws = record {
   congr = λ x y z e. nat_eq_equiv.symm z x ∙ sym (nat_eq_equiv.congr y x z e) ∙ nat_eq_equiv.symm y z;
 }
 
-apart_more : (q p : ℕ) (ps : List ℕ) → AllByRecursion (λ y. same q y ≡ false) ps → (q == p) ≡ false → AllByRecursion (λ y. same q y ≡ false) (ps ++ p ∷ [])
+apart_more : (q p : ℕ) (ps : List ℕ) → AllByRecursion (λ y. same q y ≡ false) ps → (q == p) ≡ false
+    → AllByRecursion (λ y. same q y ≡ false) (ps ++ p ∷ [])
 apart_more q p [] all other = (nat_eq_equiv.symm p q ∙ other, tt)
 apart_more q p (x ∷ ps) all other = (all.0, apart_more q p ps all.1 other)
 
 distinct_more : (ps : List ℕ) (p : ℕ) → IsDistinct same ps → member p ps ≡ false → IsDistinct same (ps ++ p ∷ [])
 unfolding IsDistinct
 distinct_more [] p d m = (tt, tt)
-distinct_more (q ∷ ps) p d m = let parts = or_parts (q == p) (member p ps) m in (apart_more q p ps d.0 parts.0, distinct_more ps p d.1 parts.1)
+distinct_more (q ∷ ps) p d m = let parts = or_parts (q == p) (member p ps) m in
+    (apart_more q p ps d.0 parts.0, distinct_more ps p d.1 parts.1)
 
 above_apart : (q low : ℕ) (ps : List ℕ) → Rises low ps → suc q ≤ low → AllByRecursion (λ y. same q y ≡ false) ps
 above_apart q low [] r l = tt
-above_apart q low (p ∷ ps) r l = (false_from_ne_true _ (λ e. let x = eqb-true p q e in omega (arith, r.0)), above_apart q (suc p) ps r.1 (omega (arith, r.0)))
+above_apart q low (p ∷ ps) r l = (
+  false_from_ne_true _ (λ e. let x = eqb-true p q e in omega (arith, r.0)),
+  above_apart q (suc p) ps r.1 (omega (arith, r.0)),
+)
 
 rising_distinct : (low : ℕ) (ps : List ℕ) → Rises low ps → IsDistinct same ps
 unfolding IsDistinct
@@ -61,7 +66,9 @@ rising_distinct low [] r = tt
 rising_distinct low (p ∷ ps) r = (above_apart p (suc p) ps r.1 (omega arith), rising_distinct (suc p) ps r.1)
 
 -- numbers that differ are as many as others that differ, where they have the same members
-as_many : (ps qs : List ℕ) → IsDistinct same ps → IsDistinct same qs → ((x : ℕ) → member x ps ≡ true → member x qs ≡ true) → ((x : ℕ) → member x qs ≡ true → member x ps ≡ true) → length ps ≡ length qs
+as_many : (ps qs : List ℕ) → IsDistinct same ps → IsDistinct same qs
+    → ((x : ℕ) → member x ps ≡ true → member x qs ≡ true) → ((x : ℕ) → member x qs ≡ true → member x ps ≡ true)
+    → length ps ≡ length qs
 as_many ps qs d e h k =
     let few = length-le_from_is_member same_laws ps qs d h in
     let many = length-le_from_is_member same_laws qs ps e k in
@@ -76,10 +83,14 @@ module _ (plan : Plan) where
   pub ended_is : (past : List Entry) (q : ℕ) → member q (plays_ended plan past) ≡ true → has_ended past q ≡ true
   ended_is [] q m = absurd (false≢true m)
   ended_is (e ∷ past) q m = elim (cases_Bool (ends_play plan e)) [
-    | inl x ↦ elim (or_cases (member q (plays_ended plan past)) (e.place == q) (sym (member_more q e.place (plays_ended plan past)) ∙ (rw x at m))) [
-      | inl y ↦ or_right _ _ (ended_is past q y)
-      | inr y ↦ or_left _ _ (and_from (is_of kind.End e) (e.place == q) (and_parts (is_of kind.End e) (is_none (parent plan e.place)) x).0 y)
-    ]
+    | inl x ↦
+        elim (or_cases (member q (plays_ended plan past)) (e.place == q)
+        (sym (member_more q e.place (plays_ended plan past)) ∙ (rw x at m))) [
+          | inl y ↦ or_right _ _ (ended_is past q y)
+          | inr y ↦
+              or_left _ _ (and_from (is_of kind.End e) (e.place == q)
+              (and_parts (is_of kind.End e) (is_none (parent plan e.place)) x).0 y)
+        ]
     | inr x ↦ or_right _ _ (ended_is past q (rw x at m))
   ]
 
@@ -100,10 +111,12 @@ module _ (plan : Plan) where
       ends_it : is_in kind.End q e ≡ true → ends_play plan e ≡ true
       ends_it y =
           let parts = and_parts (is_of kind.End e) (e.place == q) y in
-          and_from _ _ parts.0 (subst (λ p. is_none (parent plan p) ≡ true) (sym (eqb-true e.place q parts.1)) (ap (λ qs. is_none (first_of qs)) a))
+          and_from _ _ parts.0 (subst (λ p. is_none (parent plan p) ≡ true) (sym (eqb-true e.place q parts.1))
+          (ap (λ qs. is_none (first_of qs)) a))
 
 module _ (plan : Plan) (playable : IsPlayable plan) where
-  end_of : (past : List Entry) (e : Entry) → LegalPast plan (e ∷ past) → ends_play plan e ≡ true → (has_ended past e.place ≡ false) × (member e.place plan.plays ≡ true)
+  end_of : (past : List Entry) (e : Entry) → LegalPast plan (e ∷ past) → ends_play plan e ≡ true
+      → (has_ended past e.place ≡ false) × (member e.place plan.plays ≡ true)
   end_of past e legal x =
       let parts = and_parts (is_of kind.End e) (is_none (parent plan e.place)) x in
       let may = (end_row plan past e.kind e e.place legal.1 (and_from _ _ parts.0 (eq-eqb e.place e.place refl))).0 in (
@@ -120,7 +133,9 @@ module _ (plan : Plan) (playable : IsPlayable plan) where
   unfolding IsDistinct
   ended_once [] legal = tt
   ended_once (e ∷ past) legal = elim (cases_Bool (ends_play plan e)) [
-    | inl x ↦ rw x (distinct_more (plays_ended plan past) e.place (ended_once past legal.0) (false_from_ne_true _ (λ m. both_ways _ (end_of past e legal x).0 (ended_is plan past e.place m))))
+    | inl x ↦
+        rw x (distinct_more (plays_ended plan past) e.place (ended_once past legal.0)
+        (false_from_ne_true _ (λ m. both_ways _ (end_of past e legal x).0 (ended_is plan past e.place m))))
     | inr x ↦ rw x (ended_once past legal.0)
   ]
 
@@ -128,15 +143,18 @@ module _ (plan : Plan) (playable : IsPlayable plan) where
   ended_played : (past : List Entry) → LegalPast plan past → (q : ℕ) → member q (plays_ended plan past) ≡ true → member q plan.plays ≡ true
   ended_played [] legal q m = absurd (false≢true m)
   ended_played (e ∷ past) legal q m = elim (cases_Bool (ends_play plan e)) [
-    | inl x ↦ elim (or_cases (member q (plays_ended plan past)) (e.place == q) (sym (member_more q e.place (plays_ended plan past)) ∙ (rw x at m))) [
-      | inl y ↦ ended_played past legal.0 q y
-      | inr y ↦ subst (λ p. member p plan.plays ≡ true) (eqb-true e.place q y) (end_of past e legal x).1
-    ]
+    | inl x ↦
+        elim (or_cases (member q (plays_ended plan past)) (e.place == q)
+        (sym (member_more q e.place (plays_ended plan past)) ∙ (rw x at m))) [
+          | inl y ↦ ended_played past legal.0 q y
+          | inr y ↦ subst (λ p. member p plan.plays ≡ true) (eqb-true e.place q y) (end_of past e legal x).1
+        ]
     | inr x ↦ ended_played past legal.0 q (rw x at m)
   ]
 
   -- in a complete journal each play is listed
-  all_listed : (past : List Entry) → LegalPast plan past → AllOver plan past → (q : ℕ) → member q plan.plays ≡ true → member q (plays_ended plan past) ≡ true
+  all_listed : (past : List Entry) → LegalPast plan past → AllOver plan past → (q : ℕ) → member q plan.plays ≡ true
+      → member q (plays_ended plan past) ≡ true
   all_listed past legal over q m = by_roles (roles_of plan q) refl (playable.filled q m)
     where
       by_roles : (ts : List ℕ) → roles_of plan q ≡ ts → is_empty ts ≡ false → member q (plays_ended plan past) ≡ true
@@ -148,4 +166,5 @@ module _ (plan : Plan) (playable : IsPlayable plan) where
 
   pub all_end : (past : List Entry) → LegalPast plan past → AllOver plan past → length (plays_ended plan past) ≡ length plan.plays
   all_end past legal over =
-      as_many (plays_ended plan past) plan.plays (ended_once past legal) (rising_distinct 0 plan.plays playable.rise) (ended_played past legal) (all_listed past legal over)
+      as_many (plays_ended plan past) plan.plays (ended_once past legal) (rising_distinct 0 plan.plays playable.rise)
+      (ended_played past legal) (all_listed past legal over)

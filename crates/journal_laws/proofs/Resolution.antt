@@ -28,24 +28,32 @@ use Rattle.journal_laws.proofs.Options.{some_apart, some_same}
 
 -- ---- the resolved exception stays
 
-resolved_on : (plan : Plan) (past : List Entry) (k : Kind) (e : Entry) (p x : ℕ) → Row k plan past (of_kind k e) → exception_resolved past p ≡ Some x → exception_resolved (of_kind k e ∷ past) p ≡ Some x
+resolved_on : (plan : Plan) (past : List Entry) (k : Kind) (e : Entry) (p x : ℕ) → Row k plan past (of_kind k e)
+    → exception_resolved past p ≡ Some x → exception_resolved (of_kind k e ∷ past) p ≡ Some x
 resolved_on plan past kind.Resolve e p x h w =
-    let apart : (e.place == p) ≡ false = false_from_ne_true _ (λ y. some_apart ((sym (subst (λ a. exception_resolved past a ≡ None) (eqb-true e.place p y) h.fresh)) ∙ w)) in
+    let apart : (e.place == p) ≡ false =
+    false_from_ne_true _ (λ y. some_apart
+    ((sym (subst (λ a. exception_resolved past a ≡ None) (eqb-true e.place p y) h.fresh)) ∙ w)) in
     rw apart w
 resolved_on plan past _ e p x h w = w
 
-pub resolved_later : (plan : Plan) (later before : List Entry) (p x : ℕ) → LegalPast plan (later ++ before) → exception_resolved before p ≡ Some x → exception_resolved (later ++ before) p ≡ Some x
+pub resolved_later : (plan : Plan) (later before : List Entry) (p x : ℕ) → LegalPast plan (later ++ before)
+    → exception_resolved before p ≡ Some x → exception_resolved (later ++ before) p ≡ Some x
 resolved_later plan [] before p x legal w = w
-resolved_later plan (e ∷ later) before p x legal w = resolved_on plan (later ++ before) e.kind e p x legal.1 (resolved_later plan later before p x legal.0 w)
+resolved_later plan (e ∷ later) before p x legal w =
+    resolved_on plan (later ++ before) e.kind e p x legal.1 (resolved_later plan later before p x legal.0 w)
 
 -- ---- lists alone
 
 -- the newest entry that passes a test says its exception
-newest_says : (test : Entry → Bool) (past : List Entry) (x : ℕ) → newest_arg test past ≡ Some x → list_any (λ e. test e && (e.arg == x)) past ≡ true
+newest_says : (test : Entry → Bool) (past : List Entry) (x : ℕ) → newest_arg test past ≡ Some x
+    → list_any (λ e. test e && (e.arg == x)) past ≡ true
 newest_says test [] x h = absurd (some_apart h)
 newest_says test (e ∷ past) x h = by_test (test e) h (newest_says test past x)
   where
-    by_test : (b : Bool) → cond b (Some e.arg) (newest_arg test past) ≡ Some x → (newest_arg test past ≡ Some x → list_any (λ e. test e && (e.arg == x)) past ≡ true) → (b && (e.arg == x)) || list_any (λ e. test e && (e.arg == x)) past ≡ true
+    by_test : (b : Bool) → cond b (Some e.arg) (newest_arg test past) ≡ Some x
+        → (newest_arg test past ≡ Some x → list_any (λ e. test e && (e.arg == x)) past ≡ true)
+        → (b && (e.arg == x)) || list_any (λ e. test e && (e.arg == x)) past ≡ true
     by_test true h ih = or_left _ _ (eq-eqb e.arg x (some_same h))
     by_test false h ih = ih h
 
@@ -53,24 +61,31 @@ module _ (plan : Plan) (playable : IsPlayable plan) (core : Holds Core plan) whe
   -- ---- what is handled
 
   -- who handles in p handles what p is resolved to at last
-  handled_last : (past later before : List Entry) (e : Entry) (p : ℕ) → LegalPast plan past → Splits past later e before → is_in kind.Handle p e ≡ true → exception_resolved past p ≡ Some e.arg
+  handled_last : (past later before : List Entry) (e : Entry) (p : ℕ) → LegalPast plan past → Splits past later e before
+      → is_in kind.Handle p e ≡ true → exception_resolved past p ≡ Some e.arg
   handled_last past later before e p legal split own =
       let whole : LegalPast plan (later ++ e ∷ before) = subst (LegalPast plan) split legal in
       let rest = legal_rest plan later (e ∷ before) whole in
       let made : is_by kind.Handle p e.by e ≡ true = and_from (is_in kind.Handle p e) _ own (eq-eqb e.by e.by refl) in
       let handled : exception_handled (e ∷ before) p e.by ≡ Some e.arg = rw made refl in
-      subst (λ xs. exception_resolved xs p ≡ Some e.arg) (sym split) (resolved_later plan later (e ∷ before) p e.arg whole ((core (e ∷ before) rest).raises.handles p e.by e.arg handled).0)
+      subst (λ xs. exception_resolved xs p ≡ Some e.arg) (sym split)
+      (resolved_later plan later (e ∷ before) p e.arg whole
+      ((core (e ∷ before) rest).raises.handles p e.by e.arg handled).0)
 
   handles_least : (past : List Entry) (p : ℕ) → LegalPast plan past → HandlesLeast plan past p
   handles_least past p legal = record {
     least = λ later before e split own. ((core past legal).raises.resolves p e.arg (handled_last past later before e p legal split own)).2;
-    one = λ later before later' before' e f split split' own own'. some_same ((sym (handled_last past later before e p legal split own)) ∙ handled_last past later' before' f p legal split' own');
+    one =
+        λ later before later' before' e f split split' own own'. some_same
+        ((sym (handled_last past later before e p legal split own))
+        ∙ handled_last past later' before' f p legal split' own');
   }
 
   -- ---- what is answered
 
   -- in a place that ended without aborts all have given their verdicts
-  all_said : (past : List Entry) (p : ℕ) → LegalPast plan past → has_ended past p ≡ true → has kind.Abort past p ≡ false → all_have_given plan past p ≡ true
+  all_said : (past : List Entry) (p : ℕ) → LegalPast plan past → has_ended past p ≡ true → has kind.Abort past p ≡ false
+      → all_have_given plan past p ≡ true
   all_said past p legal w a = elim ((core past legal).says.ended p w) [
     | inr s ↦ s.1
     | inl u ↦ elim ((core past legal).says.undoing p u) [
@@ -81,10 +96,12 @@ module _ (plan : Plan) (playable : IsPlayable plan) (core : Holds Core plan) whe
     ]
   ]
 
-  given_after : (past : List Entry) (p t : ℕ) → all_have_given plan past p ≡ true → is_raised plan past p ≡ true → member t (roles_of plan p) ≡ true → has_given_after past p t ≡ true
+  given_after : (past : List Entry) (p t : ℕ) → all_have_given plan past p ≡ true → is_raised plan past p ≡ true
+      → member t (roles_of plan p) ≡ true → has_given_after past p t ≡ true
   given_after past p t all r m = rw r at (all_at (has_given plan past p) (roles_of plan p) t all m)
 
-  answers : (past : List Entry) (p x t : ℕ) → LegalPast plan past → exception_resolved past p ≡ Some x → has_given_after past p t ≡ true → Answered plan past p x t
+  answers : (past : List Entry) (p x t : ℕ) → LegalPast plan past → exception_resolved past p ≡ Some x
+      → has_given_after past p t ≡ true → Answered plan past p x t
   answers past p x t legal w g = elim (cases_Bool (has_handled past p t)) [
     | inl f ↦
         let some = stands_newest (is_by kind.Handle p t) past f in
@@ -96,7 +113,8 @@ module _ (plan : Plan) (playable : IsPlayable plan) (core : Holds Core plan) whe
         inr (subst (λ y. is_none (handler_of plan p t y) ≡ true) one n.2, n.3)
   ]
 
-  answered : (past : List Entry) (p : ℕ) → LegalPast plan past → has_ended past p ≡ true → has kind.Abort past p ≡ false → is_raised plan past p ≡ true → IsAnswered plan past p
+  answered : (past : List Entry) (p : ℕ) → LegalPast plan past → has_ended past p ≡ true → has kind.Abort past p ≡ false
+      → is_raised plan past p ≡ true → IsAnswered plan past p
   answered past p legal w a r =
       let all = all_said past p legal w a in
       let some = started_filled plan playable.tree past legal p (ended_started plan playable.tree past legal p w) in

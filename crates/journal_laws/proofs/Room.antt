@@ -44,17 +44,23 @@ module _ (plan : Plan) (playable : IsPlayable plan) (past : List Entry) (legal :
   -- ---- room for who is at the enter step
 
   -- the last alternate of a use is never left in silence
-  last_aloud : (p z k : ℕ) → parent plan z ≡ Some p → nest_number plan z ≡ k → last_of (alternates_of plan p k) ≡ Some z → is_left_in_silence plan past z ≡ true → ⊥
+  last_aloud : (p z k : ℕ) → parent plan z ≡ Some p → nest_number plan z ≡ k → last_of (alternates_of plan p k) ≡ Some z
+      → is_left_in_silence plan past z ≡ true → ⊥
   last_aloud p z k up own last silent =
-      let none : next_alternate plan z ≡ None = ap (next_in plan z) up ∙ ap (λ a. next_after z (alternates_of plan p a)) own ∙ last_next 0 (alternates_of plan p k) z (playable.in_row p k) last in
+      let none : next_alternate plan z ≡ None =
+      ap (next_in plan z) up ∙ ap (λ a. next_after z (alternates_of plan p a)) own
+      ∙ last_next 0 (alternates_of plan p k) z (playable.in_row p k) last in
       let some = (and_parts (is_undone (newest (is_in kind.End z) past)) (not (is_none (next_alternate plan z))) silent).1 in
       false≢true (subst (λ o. not (is_none o) ≡ true) none some)
 
   -- who is at an enter step in a calm place has a place to go to
-  pub room : (p t k : ℕ) → inside plan past t ≡ Some p → is_calm plan past p ≡ true → next_step plan past p t ≡ Some (step.Enter k) → place_entered plan past p t (Some (step.Enter k)) ≡ None → ⊥
+  pub room : (p t k : ℕ) → inside plan past t ≡ Some p → is_calm plan past p ≡ true
+      → next_step plan past p t ≡ Some (step.Enter k) → place_entered plan past p t (Some (step.Enter k)) ≡ None → ⊥
   room p t k w calm next none =
       let unhandled = calm_unhandled plan playable past legal p t calm in
-      let last = some_last (alternates_of plan p k) (playable.offers p t (position plan past p t) k (sym (body_step plan past p t unhandled) ∙ next)) in
+      let last =
+      some_last (alternates_of plan p k)
+      (playable.offers p t (position plan past p t) k (sym (body_step plan past p t unhandled) ∙ next)) in
       let z = last.0 in
       let m = last_member (alternates_of plan p k) z last.1 in
       let fits = playable.placed p k z m in
@@ -63,14 +69,17 @@ module _ (plan : Plan) (playable : IsPlayable plan) (past : List Entry) (legal :
       let gone = settled plan playable.tree past legal p z t w calm up came in
       by_step z unhandled up fits.1 last.1 gone ((uses_kept plan playable past legal).at_step p z t up came unhandled)
     where
-      by_step : (z : ℕ) → has_handled past p t ≡ false → parent plan z ≡ Some p → nest_number plan z ≡ k → last_of (alternates_of plan p k) ≡ Some z → has_by kind.Leave past z t ≡ true → AtStep plan past p z t → ⊥
+      by_step : (z : ℕ) → has_handled past p t ≡ false → parent plan z ≡ Some p → nest_number plan z ≡ k
+          → last_of (alternates_of plan p k) ≡ Some z → has_by kind.Leave past z t ≡ true → AtStep plan past p z t → ⊥
       by_step z unhandled up own last gone (inl x) = not_passed plan playable past p t k unhandled next (rw own at x.1)
       by_step z unhandled up own last gone (inr x) = last_aloud p z k up own last (x.1 gone)
 
   -- ---- a use that is used up
 
   -- once somebody has left a place of a use aloud, each place of it in which anybody has arrived has ended
-  pub used_up : (p c r u v : ℕ) → parent plan c ≡ Some p → parent plan r ≡ Some p → nest_number plan c ≡ nest_number plan r → has_by kind.Leave past c u ≡ true → is_left_in_silence plan past c ≡ false → has_by kind.Arrive past r v ≡ true → has_ended past r ≡ true
+  pub used_up : (p c r u v : ℕ) → parent plan c ≡ Some p → parent plan r ≡ Some p
+      → nest_number plan c ≡ nest_number plan r → has_by kind.Leave past c u ≡ true
+      → is_left_in_silence plan past c ≡ false → has_by kind.Arrive past r v ≡ true → has_ended past r ≡ true
   used_up p c r u v up_c up_r one l aloud came =
       let kept = uses_kept plan playable past legal in
       elim (cases_order c r) [

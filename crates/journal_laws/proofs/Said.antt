@@ -32,10 +32,17 @@ abbrev pub NoHandler : Plan → List Entry → ℕ → ℕ → Type 0
 NoHandler plan past p t = (x : ℕ) × (exception_resolved past p ≡ Some x) × (is_none (handler_of plan p t x) ≡ true) × AskedForUndo past p t
 
 -- in a raised place the verdict of who handles nothing is the undo of who has no handler
-pub unhandled_undo : (plan : Plan) (past : List Entry) (p t x : ℕ) (e : Entry) → is_raised plan past p ≡ true → has_handled past p t ≡ false → exception_resolved past p ≡ Some x → MatchOption (verdict_due plan past p t) ⊥ (SaysVerdict e) → (is_none (handler_of plan p t x) ≡ true) × (e.mark ≡ 2)
-unhandled_undo plan past p t x e r f w h = by_tests (is_hot plan past p) (has_given plan past p t) (is_none (handler_of plan p t x)) (rw (not_calm plan past p r, f, w) at h)
+pub unhandled_undo : (plan : Plan) (past : List Entry) (p t x : ℕ) (e : Entry) → is_raised plan past p ≡ true
+    → has_handled past p t ≡ false → exception_resolved past p ≡ Some x
+    → MatchOption (verdict_due plan past p t) ⊥ (SaysVerdict e)
+    → (is_none (handler_of plan p t x) ≡ true) × (e.mark ≡ 2)
+unhandled_undo plan past p t x e r f w h =
+    by_tests (is_hot plan past p) (has_given plan past p t) (is_none (handler_of plan p t x))
+    (rw (not_calm plan past p r, f, w) at h)
   where
-    by_tests : (b c d : Bool) → MatchOption (cond (not b) None (cond c None (cond d (Some verdict.Undo) None))) ⊥ (SaysVerdict e) → (d ≡ true) × (e.mark ≡ 2)
+    by_tests : (b c d : Bool)
+        → MatchOption (cond (not b) None (cond c None (cond d (Some verdict.Undo) None))) ⊥ (SaysVerdict e)
+        → (d ≡ true) × (e.mark ≡ 2)
     by_tests false c d h = elim h [ ]
     by_tests true true d h = elim h [ ]
     by_tests true false false h = elim h [ ]
@@ -43,9 +50,20 @@ unhandled_undo plan past p t x e r f w h = by_tests (is_hot plan past p) (has_gi
 
 -- what stands in a past stands in a longer one
 asked_down : (past : List Entry) (e : Entry) (p t : ℕ) → AskedForUndo past p t → AskedForUndo (e ∷ past) p t
-asked_down past e p t a = record { later = e ∷ a.later; entry = a.entry; before = a.before; stands = ap (λ xs. e ∷ xs) a.stands; own = a.own; undo = a.undo; resolution = a.resolution }
+asked_down past e p t a =
+    record {
+      later = e ∷ a.later;
+      entry = a.entry;
+      before = a.before;
+      stands = ap (λ xs. e ∷ xs) a.stands;
+      own = a.own;
+      undo = a.undo;
+      resolution = a.resolution;
+    }
 
-none_down : (plan : Plan) (past : List Entry) (e : Entry) (p t : ℕ) → exception_resolved (e ∷ past) p ≡ exception_resolved past p → NoHandler plan past p t → NoHandler plan (e ∷ past) p t
+none_down : (plan : Plan) (past : List Entry) (e : Entry) (p t : ℕ)
+    → exception_resolved (e ∷ past) p ≡ exception_resolved past p → NoHandler plan past p t
+    → NoHandler plan (e ∷ past) p t
 none_down plan past e p t same n = (n.0, same ∙ n.1, n.2, asked_down past e p t n.3)
 
 -- an entry in a place has a maker
@@ -63,15 +81,33 @@ HaveSaid plan past p undo = (has kind.Abort past p ≡ false) × (all_have_given
 module _ (plan : Plan) (tree : IsTree plan) where
   -- ---- who has said something without a handler
 
-  other_by : (past : List Entry) (k : Kind) (e : Entry) (p t : ℕ) → Raises plan past → (has_given_after past p t ≡ true → has_handled past p t ≡ false → NoHandler plan past p t) → Row k plan past (of_kind k e) → has_given_after (of_kind k e ∷ past) p t ≡ true → has_handled (of_kind k e ∷ past) p t ≡ false → NoHandler plan (of_kind k e ∷ past) p t
+  other_by : (past : List Entry) (k : Kind) (e : Entry) (p t : ℕ) → Raises plan past
+      → (has_given_after past p t ≡ true → has_handled past p t ≡ false → NoHandler plan past p t)
+      → Row k plan past (of_kind k e) → has_given_after (of_kind k e ∷ past) p t ≡ true
+      → has_handled (of_kind k e ∷ past) p t ≡ false → NoHandler plan (of_kind k e ∷ past) p t
   other_by past kind.Verdict e p t core ih h w f =
       elim (chosen ((e.place == p) && (e.by == t)) _ _ _ w) [
         | inl y ↦
             let same = both_same e.place p e.by t y.0 in
             let some = stands_newest (is_in kind.Resolve p) past y.1 in
-            let due : MatchOption (verdict_due plan past p t) ⊥ (SaysVerdict (of_kind kind.Verdict e)) = subst (λ a. MatchOption (verdict_due plan past p a) ⊥ (SaysVerdict (of_kind kind.Verdict e))) same.1 (subst (λ a. MatchOption (verdict_due plan past a e.by) ⊥ (SaysVerdict (of_kind kind.Verdict e))) same.0 h.due) in
-            let says = unhandled_undo plan past p t some.0 (of_kind kind.Verdict e) (core.resolves p some.0 some.1).1 f some.1 due in
-            (some.0, some.1, says.0, record { later = []; entry = of_kind kind.Verdict e; before = past; stands = refl; own = y.0; undo = says.1; resolution = y.1 })
+            let due : MatchOption (verdict_due plan past p t) ⊥ (SaysVerdict (of_kind kind.Verdict e)) =
+            subst (λ a. MatchOption (verdict_due plan past p a) ⊥ (SaysVerdict (of_kind kind.Verdict e))) same.1
+            (subst (λ a. MatchOption (verdict_due plan past a e.by) ⊥ (SaysVerdict (of_kind kind.Verdict e))) same.0
+            h.due) in
+            let says = unhandled_undo plan past p t some.0 (of_kind kind.Verdict e) (core.resolves p some.0 some.1).1 f some.1 due in (
+              some.0,
+              some.1,
+              says.0,
+              record {
+                later = [];
+                entry = of_kind kind.Verdict e;
+                before = past;
+                stands = refl;
+                own = y.0;
+                undo = says.1;
+                resolution = y.1;
+              },
+            )
         | inr y ↦ none_down plan past (of_kind kind.Verdict e) p t refl (ih y.1 f)
       ]
   other_by past kind.Handle e p t core ih h w f = none_down plan past (of_kind kind.Handle e) p t refl (ih w (or_parts _ _ f).1)
@@ -83,21 +119,28 @@ module _ (plan : Plan) (tree : IsTree plan) where
   other_by past k e p t core ih h w f = none_down plan past (of_kind k e) p t refl (ih w f)
 
   -- who gave its verdict after the Resolve without a handler asked for undo
-  pub said_other : (past : List Entry) → LegalPast plan past → (p t : ℕ) → has_given_after past p t ≡ true → has_handled past p t ≡ false → NoHandler plan past p t
+  pub said_other : (past : List Entry) → LegalPast plan past → (p t : ℕ) → has_given_after past p t ≡ true
+      → has_handled past p t ≡ false → NoHandler plan past p t
   said_other [] h p t w f = absurd (false≢true w)
   said_other (e ∷ past) h p t w f = other_by past e.kind e p t (raises plan tree past h.0) (said_other past h.0 p t) h.1 w f
 
   -- ---- who has begun its handler
 
-  handler_by : (past : List Entry) (k : Kind) (e : Entry) (p t : ℕ) → LegalPast plan past → Raises plan past → (has_handled past p t ≡ true → has_given_after past p t ≡ not (is_handling past p t)) → Row k plan past (of_kind k e) → has_handled (of_kind k e ∷ past) p t ≡ true → has_given_after (of_kind k e ∷ past) p t ≡ not (is_handling (of_kind k e ∷ past) p t)
+  handler_by : (past : List Entry) (k : Kind) (e : Entry) (p t : ℕ) → LegalPast plan past → Raises plan past
+      → (has_handled past p t ≡ true → has_given_after past p t ≡ not (is_handling past p t))
+      → Row k plan past (of_kind k e) → has_handled (of_kind k e ∷ past) p t ≡ true
+      → has_given_after (of_kind k e ∷ past) p t ≡ not (is_handling (of_kind k e ∷ past) p t)
   handler_by past kind.Handle e p t legal core ih h w =
       elim (cases_Bool ((e.place == p) && (e.by == t))) [
         | inl y ↦
             let same = both_same e.place p e.by t y in
-            let fresh : has_handled past p t ≡ false = subst (λ a. has_handled past p a ≡ false) same.1 (subst (λ a. has_handled past a e.by ≡ false) same.0 h.fresh) in
+            let fresh : has_handled past p t ≡ false =
+            subst (λ a. has_handled past p a ≡ false) same.1
+            (subst (λ a. has_handled past a e.by ≡ false) same.0 h.fresh) in
             rw y (false_from_ne_true _ (λ g.
             let n = said_other past legal p t g fresh in
-            let resolution : exception_resolved past p ≡ Some e.arg = subst (λ a. exception_resolved past a ≡ Some e.arg) same.0 h.resolution in
+            let resolution : exception_resolved past p ≡ Some e.arg =
+            subst (λ a. exception_resolved past a ≡ Some e.arg) same.0 h.resolution in
             let one : n.0 ≡ e.arg = some_same ((sym n.1) ∙ resolution) in
             let none : is_none (handler_of plan e.place e.by e.arg) ≡ true = rw (same.0, same.1, ← one) n.2 in
             both_ways _ h.able_to none))
@@ -122,7 +165,8 @@ module _ (plan : Plan) (tree : IsTree plan) where
   handler_by past _ e p t legal core ih h w = ih w
 
   -- who began its handler has given its verdict once it is no longer in it
-  pub said_handler : (past : List Entry) → LegalPast plan past → (p t : ℕ) → has_handled past p t ≡ true → has_given_after past p t ≡ not (is_handling past p t)
+  pub said_handler : (past : List Entry) → LegalPast plan past → (p t : ℕ) → has_handled past p t ≡ true
+      → has_given_after past p t ≡ not (is_handling past p t)
   said_handler [] h p t w = absurd (false≢true w)
   said_handler (e ∷ past) h p t w = handler_by past e.kind e p t h.0 (raises plan tree past h.0) (said_handler past h.0 p t) h.1 w
 
@@ -130,9 +174,12 @@ module _ (plan : Plan) (tree : IsTree plan) where
 
   -- nobody gives up in a place that isn't doomed
   pub no_aborts : (past : List Entry) → LegalPast plan past → (p : ℕ) → is_doomed plan past p ≡ false → has kind.Abort past p ≡ false
-  no_aborts past legal p spared = false_from_ne_true _ (λ w. let some = has_maker kind.Abort p past w in both_ways _ spared (abort_doomed plan tree past legal p some.0 some.1))
+  no_aborts past legal p spared =
+      false_from_ne_true _ (λ w. let some = has_maker kind.Abort p past w in both_ways _ spared
+      (abort_doomed plan tree past legal p some.0 some.1))
 
-  said_stays : (past : List Entry) (e : Entry) (p : ℕ) (undo : Bool) → LegalPast plan past → is_going past p ≡ false → MayFollow plan past e → HaveSaid plan past p undo → HaveSaid plan (e ∷ past) p undo
+  said_stays : (past : List Entry) (e : Entry) (p : ℕ) (undo : Bool) → LegalPast plan past → is_going past p ≡ false
+      → MayFollow plan past e → HaveSaid plan past p undo → HaveSaid plan (e ∷ past) p undo
   said_stays past e p undo legal stopped h s =
       let f = frozen plan tree past legal e p (stopped_shut plan tree past legal p stopped) h in
       (no_abort plan tree past legal e p stopped h ∙ s.0, frozen_given plan past e p f ∙ s.1, frozen_wants plan past e p f ∙ s.2)
@@ -143,16 +190,23 @@ module _ (plan : Plan) (tree : IsTree plan) where
   pub ended_stopped : (past : List Entry) (p : ℕ) → has_ended past p ≡ true → is_going past p ≡ false
   ended_stopped past p w = and_left (is_live past p) _ (and_right (has_started past p) (not (has_ended past p)) (not_from_true _ w))
 
-  undone_stays : (past : List Entry) (e : Entry) (p : ℕ) → LegalPast plan past → is_undoing past p ≡ true → MayFollow plan past e → (all_have_aborted plan past p ≡ true) ⊎ HaveSaid plan past p true → (all_have_aborted plan (e ∷ past) p ≡ true) ⊎ HaveSaid plan (e ∷ past) p true
+  undone_stays : (past : List Entry) (e : Entry) (p : ℕ) → LegalPast plan past → is_undoing past p ≡ true
+      → MayFollow plan past e → (all_have_aborted plan past p ≡ true) ⊎ HaveSaid plan past p true
+      → (all_have_aborted plan (e ∷ past) p ≡ true) ⊎ HaveSaid plan (e ∷ past) p true
   undone_stays past e p legal w h was = elim was [
     | inl a ↦ inl (unaborted plan tree past legal e p (undoing_stopped past p w) h ∙ a)
     | inr s ↦ inr (said_stays past e p true legal (undoing_stopped past p w) h s)
   ]
 
-  undoing_by : (past : List Entry) (k : Kind) (e : Entry) (p : ℕ) → LegalPast plan past → (is_undoing past p ≡ true → (all_have_aborted plan past p ≡ true) ⊎ HaveSaid plan past p true) → Row k plan past (of_kind k e) → is_undoing (of_kind k e ∷ past) p ≡ true → (all_have_aborted plan (of_kind k e ∷ past) p ≡ true) ⊎ HaveSaid plan (of_kind k e ∷ past) p true
+  undoing_by : (past : List Entry) (k : Kind) (e : Entry) (p : ℕ) → LegalPast plan past
+      → (is_undoing past p ≡ true → (all_have_aborted plan past p ≡ true) ⊎ HaveSaid plan past p true)
+      → Row k plan past (of_kind k e) → is_undoing (of_kind k e ∷ past) p ≡ true
+      → (all_have_aborted plan (of_kind k e ∷ past) p ≡ true) ⊎ HaveSaid plan (of_kind k e ∷ past) p true
   undoing_by past kind.Undo e p legal ih h w =
       elim (or_cases (e.place == p) (is_undoing past p) w) [
-        | inl y ↦ subst (λ a. (all_have_aborted plan past a ≡ true) ⊎ HaveSaid plan past a true) (eqb-true e.place p y) (agreed (all_have_aborted plan past e.place) h.agreed)
+        | inl y ↦
+            subst (λ a. (all_have_aborted plan past a ≡ true) ⊎ HaveSaid plan past a true) (eqb-true e.place p y)
+            (agreed (all_have_aborted plan past e.place) h.agreed)
         | inr y ↦ undone_stays past (of_kind kind.Undo e) p legal y h (ih y)
       ]
     where
@@ -162,29 +216,39 @@ module _ (plan : Plan) (tree : IsTree plan) where
   undoing_by past k e p legal ih h w = undone_stays past (of_kind k e) p legal w h (ih w)
 
   -- a place is undone where all have given up, or have agreed and one asked for it
-  pub said_undoing : (past : List Entry) → LegalPast plan past → (p : ℕ) → is_undoing past p ≡ true → (all_have_aborted plan past p ≡ true) ⊎ HaveSaid plan past p true
+  pub said_undoing : (past : List Entry) → LegalPast plan past → (p : ℕ) → is_undoing past p ≡ true
+      → (all_have_aborted plan past p ≡ true) ⊎ HaveSaid plan past p true
   said_undoing [] h p w = absurd (false≢true w)
   said_undoing (e ∷ past) h p w = undoing_by past e.kind e p h.0 (said_undoing past h.0 p) h.1 w
 
-  end_stays : (past : List Entry) (e : Entry) (p : ℕ) → LegalPast plan past → has_ended past p ≡ true → MayFollow plan past e → (is_undoing past p ≡ true) ⊎ HaveSaid plan past p false → (is_undoing (e ∷ past) p ≡ true) ⊎ HaveSaid plan (e ∷ past) p false
+  end_stays : (past : List Entry) (e : Entry) (p : ℕ) → LegalPast plan past → has_ended past p ≡ true
+      → MayFollow plan past e → (is_undoing past p ≡ true) ⊎ HaveSaid plan past p false
+      → (is_undoing (e ∷ past) p ≡ true) ⊎ HaveSaid plan (e ∷ past) p false
   end_stays past e p legal w h was = elim was [
     | inl u ↦ inl (or_right _ _ u)
     | inr s ↦ inr (said_stays past e p false legal (ended_stopped past p w) h s)
   ]
 
-  ended_by : (past : List Entry) (k : Kind) (e : Entry) (p : ℕ) → LegalPast plan past → (has_ended past p ≡ true → (is_undoing past p ≡ true) ⊎ HaveSaid plan past p false) → Row k plan past (of_kind k e) → has_ended (of_kind k e ∷ past) p ≡ true → (is_undoing (of_kind k e ∷ past) p ≡ true) ⊎ HaveSaid plan (of_kind k e ∷ past) p false
+  ended_by : (past : List Entry) (k : Kind) (e : Entry) (p : ℕ) → LegalPast plan past
+      → (has_ended past p ≡ true → (is_undoing past p ≡ true) ⊎ HaveSaid plan past p false)
+      → Row k plan past (of_kind k e) → has_ended (of_kind k e ∷ past) p ≡ true
+      → (is_undoing (of_kind k e ∷ past) p ≡ true) ⊎ HaveSaid plan (of_kind k e ∷ past) p false
   ended_by past kind.End e p legal ih h w =
       elim (or_cases (e.place == p) (has_ended past p) w) [
-        | inl y ↦ subst (λ a. (is_undoing past a ≡ true) ⊎ HaveSaid plan past a false) (eqb-true e.place p y) (ends (is_undoing past e.place) h.how)
+        | inl y ↦
+            subst (λ a. (is_undoing past a ≡ true) ⊎ HaveSaid plan past a false) (eqb-true e.place p y)
+            (ends (is_undoing past e.place) h.how)
         | inr y ↦ end_stays past (of_kind kind.End e) p legal y h (ih y)
       ]
     where
-      ends : (b : Bool) → MatchBool b (EndsUndone plan past (of_kind kind.End e)) (EndsAgreed plan past (of_kind kind.End e)) → (b ≡ true) ⊎ HaveSaid plan past e.place false
+      ends : (b : Bool) → MatchBool b (EndsUndone plan past (of_kind kind.End e))
+          (EndsAgreed plan past (of_kind kind.End e)) → (b ≡ true) ⊎ HaveSaid plan past e.place false
       ends true a = inl refl
       ends false a = inr (no_aborts past legal e.place a.spared, a.agreed, a.kept)
   ended_by past k e p legal ih h w = end_stays past (of_kind k e) p legal w h (ih w)
 
   -- a place ends after its undo, or where all have agreed and none asked for it
-  pub said_ended : (past : List Entry) → LegalPast plan past → (p : ℕ) → has_ended past p ≡ true → (is_undoing past p ≡ true) ⊎ HaveSaid plan past p false
+  pub said_ended : (past : List Entry) → LegalPast plan past → (p : ℕ) → has_ended past p ≡ true
+      → (is_undoing past p ≡ true) ⊎ HaveSaid plan past p false
   said_ended [] h p w = absurd (false≢true w)
   said_ended (e ∷ past) h p w = ended_by past e.kind e p h.0 (said_ended past h.0 p) h.1 w

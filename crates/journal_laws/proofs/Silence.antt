@@ -26,18 +26,24 @@ pub silent_ended : (plan : Plan) (past : List Entry) (c : ℕ) → is_left_in_si
 silent_ended plan past c h =
     true_from_ne_false _ (λ lasts.
     let none : newest (is_in kind.End c) past ≡ None = none_newest (is_in kind.End c) past lasts in
-    let undone : is_undone (newest (is_in kind.End c) past) ≡ true = (and_parts (is_undone (newest (is_in kind.End c) past)) (not (is_none (next_alternate plan c))) h).0 in
+    let undone : is_undone (newest (is_in kind.End c) past) ≡ true =
+    (and_parts (is_undone (newest (is_in kind.End c) past)) (not (is_none (next_alternate plan c))) h).0 in
     false≢true (subst (λ o. is_undone o ≡ true) none undone))
 
 module _ (plan : Plan) (tree : IsTree plan) where
-  silence_stays_by : (past : List Entry) (k : Kind) (e : Entry) (c : ℕ) → LegalPast plan past → Row k plan past (of_kind k e) → has_ended past c ≡ true → is_left_in_silence plan (of_kind k e ∷ past) c ≡ is_left_in_silence plan past c
+  silence_stays_by : (past : List Entry) (k : Kind) (e : Entry) (c : ℕ) → LegalPast plan past
+      → Row k plan past (of_kind k e) → has_ended past c ≡ true
+      → is_left_in_silence plan (of_kind k e ∷ past) c ≡ is_left_in_silence plan past c
   silence_stays_by past kind.End e c legal h w =
       elim (cases_Bool (e.place == c)) [
-        | inl x ↦ absurd (both_ways _ (live_parts e.place past (end_live plan tree past (of_kind kind.End e) legal h)).1 (subst (λ a. has_ended past a ≡ true) (sym (eqb-true e.place c x)) w))
+        | inl x ↦
+            absurd (both_ways _ (live_parts e.place past (end_live plan tree past (of_kind kind.End e) legal h)).1
+            (subst (λ a. has_ended past a ≡ true) (sym (eqb-true e.place c x)) w))
         | inr x ↦ rw x refl
       ]
   silence_stays_by past _ e c legal h w = refl
 
   -- how a place that has ended is left doesn't change
-  pub silence_stays : (past : List Entry) (e : Entry) (c : ℕ) → LegalPast plan past → MayFollow plan past e → has_ended past c ≡ true → is_left_in_silence plan (e ∷ past) c ≡ is_left_in_silence plan past c
+  pub silence_stays : (past : List Entry) (e : Entry) (c : ℕ) → LegalPast plan past → MayFollow plan past e
+      → has_ended past c ≡ true → is_left_in_silence plan (e ∷ past) c ≡ is_left_in_silence plan past c
   silence_stays past e c legal h w = silence_stays_by past e.kind e c legal h w

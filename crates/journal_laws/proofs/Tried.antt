@@ -31,7 +31,9 @@ counts_same : (tried : Bool) (m n : ℕ) → Counts tried m n → Counts tried (
 counts_same tried m n h = (λ w. omega (arith, h.0 w), λ w. omega (arith, h.1 w))
 
 -- x says that the entry is in the place, y that it names the object
-counts_on : (x y tried : Bool) (mark m n : ℕ) → (mark == 0) || (mark == 1) ≡ true → ((x && y) ≡ true → tried ≡ false) → Counts tried m n → Counts ((x && y) || tried) (cond (x && (y && (mark == 0))) 1 0 + m) (cond (x && (y && (mark == 1))) 1 0 + n)
+counts_on : (x y tried : Bool) (mark m n : ℕ) → (mark == 0) || (mark == 1) ≡ true → ((x && y) ≡ true → tried ≡ false)
+    → Counts tried m n → Counts ((x && y) || tried) (cond (x && (y && (mark == 0))) 1 0 + m)
+    (cond (x && (y && (mark == 1))) 1 0 + n)
 counts_on false y tried mark m n k fresh ih = counts_same tried m n ih
 counts_on true false tried mark m n k fresh ih = counts_same tried m n ih
 counts_on true true tried mark m n k fresh ih =
@@ -44,7 +46,9 @@ counts_on true true tried mark m n k fresh ih =
 -- ---- the three facts
 
 module _ (plan : Plan) where
-  restored_undoing_by : (past : List Entry) (k : Kind) (e : Entry) (p : ℕ) → (has kind.Restore past p ≡ true → is_undoing past p ≡ true) → Row k plan past (of_kind k e) → has kind.Restore (of_kind k e ∷ past) p ≡ true → is_undoing (of_kind k e ∷ past) p ≡ true
+  restored_undoing_by : (past : List Entry) (k : Kind) (e : Entry) (p : ℕ)
+      → (has kind.Restore past p ≡ true → is_undoing past p ≡ true) → Row k plan past (of_kind k e)
+      → has kind.Restore (of_kind k e ∷ past) p ≡ true → is_undoing (of_kind k e ∷ past) p ≡ true
   restored_undoing_by past kind.Restore e p ih h w =
       elim (or_cases (e.place == p) (has kind.Restore past p) w) [
         | inl x ↦ subst (λ a. is_undoing past a ≡ true) (eqb-true e.place p x) h.when
@@ -57,25 +61,37 @@ module _ (plan : Plan) where
   restored_undoing [] h p w = absurd (false≢true w)
   restored_undoing (e ∷ past) h p w = restored_undoing_by past e.kind e p (restored_undoing past h.0 p) h.1 w
 
-  tried_once_by : (past : List Entry) (k : Kind) (e : Entry) (p o : ℕ) → Counts (is_tried past p o) (count_by (is_restore p o 0) past) (count_by (is_restore p o 1) past) → Row k plan past (of_kind k e) → Counts (is_tried (of_kind k e ∷ past) p o) (cond (is_restore p o 0 (of_kind k e)) 1 0 + count_by (is_restore p o 0) past) (cond (is_restore p o 1 (of_kind k e)) 1 0 + count_by (is_restore p o 1) past)
-  tried_once_by past kind.Restore e p o ih h = counts_on (e.place == p) (e.arg == o) (is_tried past p o) e.mark (count_by (is_restore p o 0) past) (count_by (is_restore p o 1) past) h.mark fresh ih
+  tried_once_by : (past : List Entry) (k : Kind) (e : Entry) (p o : ℕ)
+      → Counts (is_tried past p o) (count_by (is_restore p o 0) past) (count_by (is_restore p o 1) past)
+      → Row k plan past (of_kind k e)
+      → Counts (is_tried (of_kind k e ∷ past) p o)
+      (cond (is_restore p o 0 (of_kind k e)) 1 0 + count_by (is_restore p o 0) past)
+      (cond (is_restore p o 1 (of_kind k e)) 1 0 + count_by (is_restore p o 1) past)
+  tried_once_by past kind.Restore e p o ih h =
+      counts_on (e.place == p) (e.arg == o) (is_tried past p o) e.mark (count_by (is_restore p o 0) past)
+      (count_by (is_restore p o 1) past) h.mark fresh ih
     where
       fresh : ((e.place == p) && (e.arg == o)) ≡ true → is_tried past p o ≡ false
       fresh x =
           let same = both_same e.place p e.arg o x in
-          subst₂ (λ a b. is_tried past a b ≡ false) same.0 same.1 (first_not_fails (is_tried past e.place) (objects_of plan e.place) e.arg h.least).0
+          subst₂ (λ a b. is_tried past a b ≡ false) same.0 same.1
+          (first_not_fails (is_tried past e.place) (objects_of plan e.place) e.arg h.least).0
   tried_once_by past _ e p o ih h = counts_same (is_tried past p o) _ _ ih
 
-  tried_once : (past : List Entry) → LegalPast plan past → (p o : ℕ) → Counts (is_tried past p o) (count_by (is_restore p o 0) past) (count_by (is_restore p o 1) past)
+  tried_once : (past : List Entry) → LegalPast plan past → (p o : ℕ)
+      → Counts (is_tried past p o) (count_by (is_restore p o 0) past) (count_by (is_restore p o 1) past)
   tried_once [] h p o = (λ w. absurd (false≢true w), λ w. refl)
-  tried_once (e ∷ past) h p o = rw (count_next (is_restore p o 0) e past, count_next (is_restore p o 1) e past) (tried_once_by past e.kind e p o (tried_once past h.0 p o) h.1)
+  tried_once (e ∷ past) h p o =
+      rw (count_next (is_restore p o 0) e past, count_next (is_restore p o 1) e past)
+      (tried_once_by past e.kind e p o (tried_once past h.0 p o) h.1)
 
 -- where no restore failed, none was refused
 none_refused : (past : List Entry) (p o : ℕ) → has_failed past p ≡ false → count_by (is_restore p o 1) past ≡ 0
 none_refused [] p o h = refl
 none_refused (e ∷ past) p o h =
     let parts = or_parts (is_in kind.Restore p e && (e.mark == 1)) (has_failed past p) h in
-    rw (count_next (is_restore p o 1) e past, middle (is_in kind.Restore p e) (e.arg == o) (e.mark == 1) parts.0) (omega (arith, none_refused past p o parts.1))
+    rw (count_next (is_restore p o 1) e past, middle (is_in kind.Restore p e) (e.arg == o) (e.mark == 1) parts.0)
+    (omega (arith, none_refused past p o parts.1))
   where
     middle : (x y z : Bool) → (x && z) ≡ false → (x && (y && z)) ≡ false
     middle true true z h = h

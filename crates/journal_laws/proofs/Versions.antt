@@ -59,14 +59,21 @@ module _ (plan : Plan) (tree : IsTree plan) where
   Unmoved past p o = (vs us : List ℕ) → AreWithin plan p us → value_outside plan past o (vs ++ us) ≡ value_outside plan past o vs
 
   -- what is written before p starts isn't within it
-  written_outside : (past : List Entry) (e : Entry) (p : ℕ) (us : List ℕ) → LegalPast plan past → MayPut plan past e → has_started past p ≡ false → AreWithin plan p us → is_within_any plan e.place us ≡ false
+  written_outside : (past : List Entry) (e : Entry) (p : ℕ) (us : List ℕ) → LegalPast plan past → MayPut plan past e
+      → has_started past p ≡ false → AreWithin plan p us → is_within_any plan e.place us ≡ false
   written_outside past e p us legal h waits all =
       none_any (is_within plan e.place) us (λ q m. false_from_ne_true _ (λ w.
-      both_ways _ waits (live_of plan tree p past (put_going plan tree past e p legal h (within_through plan tree e.place q p w (all q m)))).0))
+      both_ways _ waits (live_of plan tree p past
+      (put_going plan tree past e p legal h (within_through plan tree e.place q p w (all q m)))).0))
 
-  unmoved_by : (past : List Entry) (k : Kind) (e : Entry) (p o : ℕ) → LegalPast plan past → (has_started past p ≡ false → Unmoved past p o) → Row k plan past (of_kind k e) → has_started (of_kind k e ∷ past) p ≡ false → Unmoved (of_kind k e ∷ past) p o
+  unmoved_by : (past : List Entry) (k : Kind) (e : Entry) (p o : ℕ) → LegalPast plan past
+      → (has_started past p ≡ false → Unmoved past p o) → Row k plan past (of_kind k e)
+      → has_started (of_kind k e ∷ past) p ≡ false → Unmoved (of_kind k e ∷ past) p o
   unmoved_by past kind.Write e p o legal ih h s vs us all =
-      let apart : is_within_any plan e.place (vs ++ us) ≡ is_within_any plan e.place vs = list_any-append (is_within plan e.place) vs us ∙ rw (written_outside past (of_kind kind.Write e) p us legal h s all) (or_nothing (is_within_any plan e.place vs)) in
+      let apart : is_within_any plan e.place (vs ++ us) ≡ is_within_any plan e.place vs =
+      list_any-append (is_within plan e.place) vs us
+      ∙ rw (written_outside past (of_kind kind.Write e) p us legal h s all)
+      (or_nothing (is_within_any plan e.place vs)) in
       rw (apart, ih s vs us all) refl
     where
       or_nothing : (b : Bool) → (b || false) ≡ b
@@ -87,29 +94,40 @@ module _ (plan : Plan) (tree : IsTree plan) where
   -- ---- a live place finds the values of its start outside what is within it
 
   abbrev pub Versions : List Entry → ℕ → ℕ → Type 0
-  Versions past p o = (us : List ℕ) → AreWithin plan p us → member p us ≡ true → value_outside plan past o us ≡ value_of plan (before_start past p) o
+  Versions past p o =
+      (us : List ℕ) → AreWithin plan p us → member p us ≡ true
+      → value_outside plan past o us ≡ value_of plan (before_start past p) o
 
   -- the holder of o is within each live place that uses it
-  holder_within : (past : List Entry) (o p q : ℕ) → LegalPast plan past → holder_of plan past o ≡ Some q → is_live past p ≡ true → uses plan p o ≡ true → is_within plan q p ≡ true
+  holder_within : (past : List Entry) (o p q : ℕ) → LegalPast plan past → holder_of plan past o ≡ Some q
+      → is_live past p ≡ true → uses plan p o ≡ true → is_within plan q p ≡ true
   holder_within past o p q legal held l u =
       let at : live_uses plan o past p ≡ is_within plan q p = holds_within plan tree past legal o p ∙ ap (λ x. in_within plan x p) held in
       sym at ∙ and_from (is_live past p) (uses plan p o) l u
 
-  versions_by : (past : List Entry) (k : Kind) (e : Entry) (p o : ℕ) → LegalPast plan past → LegalPast plan (of_kind k e ∷ past) → uses plan p o ≡ true → (is_live past p ≡ true → Versions past p o) → Row k plan past (of_kind k e) → is_live (of_kind k e ∷ past) p ≡ true → Versions (of_kind k e ∷ past) p o
+  versions_by : (past : List Entry) (k : Kind) (e : Entry) (p o : ℕ) → LegalPast plan past
+      → LegalPast plan (of_kind k e ∷ past) → uses plan p o ≡ true → (is_live past p ≡ true → Versions past p o)
+      → Row k plan past (of_kind k e) → is_live (of_kind k e ∷ past) p ≡ true → Versions (of_kind k e ∷ past) p o
   versions_by past kind.Write e p o legal more u ih h l us all m =
       elim (cases_Bool (e.arg == o)) [
         | inl x ↦
-            let held : holder_of plan past o ≡ Some e.place = subst (λ a. holder_of plan past a ≡ Some e.place) (eqb-true e.arg o x) h.holds in
-            let inner : is_within_any plan e.place us ≡ true = any_at (is_within plan e.place) us p m (holder_within past o p e.place legal held l u) in
+            let held : holder_of plan past o ≡ Some e.place =
+            subst (λ a. holder_of plan past a ≡ Some e.place) (eqb-true e.arg o x) h.holds in
+            let inner : is_within_any plan e.place us ≡ true =
+            any_at (is_within plan e.place) us p m (holder_within past o p e.place legal held l u) in
             rw (x, inner) (ih l us all m)
         | inr x ↦ rw x (ih l us all m)
       ]
   versions_by past kind.Restore e p o legal more u ih h l us all m =
       elim (cases_Bool ((e.arg == o) && (e.mark == 0))) [
         | inl x ↦
-            let held : holder_of plan past e.arg ≡ Some e.place = (isolation plan tree (of_kind kind.Restore e ∷ past) more).held [] past (of_kind kind.Restore e) refl refl in
+            let held : holder_of plan past e.arg ≡ Some e.place =
+            (isolation plan tree (of_kind kind.Restore e ∷ past) more).held [] past
+            (of_kind kind.Restore e) refl refl in
             let same : e.arg ≡ o = eqb-true e.arg o (and_parts (e.arg == o) (e.mark == 0) x).0 in
-            let inner : is_within plan e.place p ≡ true = holder_within past o p e.place legal (subst (λ a. holder_of plan past a ≡ Some e.place) same held) l u in
+            let inner : is_within plan e.place p ≡ true =
+            holder_within past o p e.place legal
+            (subst (λ a. holder_of plan past a ≡ Some e.place) same held) l u in
             rw x (ih l (e.place ∷ us) (with_within plan p e.place us inner all) (or_right _ _ m))
         | inr x ↦ rw x (ih l us all m)
       ]
@@ -130,14 +148,21 @@ module _ (plan : Plan) (tree : IsTree plan) where
   -- ---- the device
 
   -- what a restore puts is the value of its object without what was written in its place
-  restores_version : (past : List Entry) (e : Entry) (o : ℕ) → LegalPast plan past → MayRestore plan past e → e.arg ≡ o → e.value ≡ value_outside plan past o (e.place ∷ [])
+  restores_version : (past : List Entry) (e : Entry) (o : ℕ) → LegalPast plan past → MayRestore plan past e → e.arg ≡ o
+      → e.value ≡ value_outside plan past o (e.place ∷ [])
   restores_version past e o legal h same =
       let used : uses plan e.place e.arg ≡ true = (first_not_fails (is_tried past e.place) (objects_of plan e.place) e.arg h.least).1 in
       let live : is_live past e.place ≡ true = live_from e.place past (undoing_started plan tree past legal e.place h.when) h.lasts in
-      let own : AreWithin plan e.place (e.place ∷ []) = with_within plan e.place e.place [] (or_left _ _ (eq-eqb e.place e.place refl)) (λ q m. absurd (false≢true m)) in
-      h.value ∙ subst (λ a. value_of plan (before_start past e.place) e.arg ≡ value_outside plan past a (e.place ∷ [])) same (sym (versions past legal e.place e.arg used live (e.place ∷ []) own (or_left _ _ (eq-eqb e.place e.place refl))))
+      let own : AreWithin plan e.place (e.place ∷ []) =
+      with_within plan e.place e.place [] (or_left _ _ (eq-eqb e.place e.place refl))
+      (λ q m. absurd (false≢true m)) in
+      h.value ∙ subst (λ a. value_of plan (before_start past e.place) e.arg ≡ value_outside plan past a (e.place ∷ []))
+      same (sym (versions past legal e.place e.arg used live (e.place ∷ []) own
+      (or_left _ _ (eq-eqb e.place e.place refl))))
 
-  device_by : (past : List Entry) (k : Kind) (e : Entry) (o : ℕ) → LegalPast plan past → last_put plan past o ≡ value_of plan past o → Row k plan past (of_kind k e) → last_put plan (of_kind k e ∷ past) o ≡ value_of plan (of_kind k e ∷ past) o
+  device_by : (past : List Entry) (k : Kind) (e : Entry) (o : ℕ) → LegalPast plan past
+      → last_put plan past o ≡ value_of plan past o → Row k plan past (of_kind k e)
+      → last_put plan (of_kind k e ∷ past) o ≡ value_of plan (of_kind k e ∷ past) o
   device_by past kind.Write e o legal ih h =
       elim (cases_Bool (e.arg == o)) [ inl x ↦ rw x refl | inr x ↦ rw x ih ]
   device_by past kind.Restore e o legal ih h =

@@ -38,7 +38,9 @@ module _ (plan : Plan) (playable : IsPlayable plan) (past : List Entry) (legal :
   -- ---- what isn't due
 
   pub not_due : (t p : ℕ) → inside plan past t ≡ Some p → due_inside plan past p t ≡ None
-  not_due t p w = subst (λ o. due_at plan past t o ≡ None) w (still t (playable.known p t (role_inside plan playable.tree past legal t p w)))
+  not_due t p w =
+      subst (λ o. due_at plan past t o ≡ None) w
+      (still t (playable.known p t (role_inside plan playable.tree past legal t p w)))
 
   -- who is in a place would leave it once it has ended
   pub inside_lasts : (t p : ℕ) → inside plan past t ≡ Some p → has_ended past p ≡ false
@@ -48,7 +50,8 @@ module _ (plan : Plan) (playable : IsPlayable plan) (past : List Entry) (legal :
   pub waiting_spared : (t p : ℕ) → inside plan past t ≡ Some p → has_started past p ≡ false → is_doomed plan past p ≡ false
   waiting_spared t p w s = false_from_ne_true _ (λ d. cc (rw (inside_lasts t p w, s, d) at (not_due t p w)))
 
-  pub not_ready : (t p : ℕ) → inside plan past t ≡ Some p → has_started past p ≡ false → all_are_inside plan past p ≡ true → objects_are_ready plan past p ≡ true → ⊥
+  pub not_ready : (t p : ℕ) → inside plan past t ≡ Some p → has_started past p ≡ false
+      → all_are_inside plan past p ≡ true → objects_are_ready plan past p ≡ true → ⊥
   not_ready t p w s a o = cc (rw (inside_lasts t p w, s, waiting_spared t p w s, a, o) at (not_due t p w))
 
   -- who is in no place would arrive in its next play
@@ -64,7 +67,10 @@ module _ (plan : Plan) (playable : IsPlayable plan) (past : List Entry) (legal :
 
   -- who holds an object is live
   pub holder_live : (o p : ℕ) → holder_of plan past o ≡ Some p → is_live past p ≡ true
-  holder_live o p h = (and_parts (is_live past p) (uses plan p o) (holds_within plan playable.tree past legal o p ∙ ap (λ a. in_within plan a p) h ∙ within_itself plan playable.tree p)).0
+  holder_live o p h =
+      (and_parts (is_live past p) (uses plan p o)
+      (holds_within plan playable.tree past legal o p ∙ ap (λ a. in_within plan a p) h
+      ∙ within_itself plan playable.tree p)).0
 
   -- ---- where no place is live
 
@@ -80,7 +86,8 @@ module _ (plan : Plan) (playable : IsPlayable plan) (past : List Entry) (legal :
             absurd (both_ways _ (dead q) (going_live q past busy.goes))
 
     -- each role of the first play that has not started is in it
-    waits_in : (p t : ℕ) → first_not (λ q. has_started past q) plan.plays ≡ Some p → member t (roles_of plan p) ≡ true → inside plan past t ≡ Some p
+    waits_in : (p t : ℕ) → first_not (λ q. has_started past q) plan.plays ≡ Some p → member t (roles_of plan p) ≡ true
+        → inside plan past t ≡ Some p
     waits_in p t first m = by_place (inside plan past t) refl
       where
         facts : (has_started past p ≡ false) × (member p plan.plays ≡ true)
@@ -91,14 +98,20 @@ module _ (plan : Plan) (playable : IsPlayable plan) (past : List Entry) (legal :
 
         by_place : (o : Option ℕ) → inside plan past t ≡ o → o ≡ Some p
         by_place None w =
-            let came = first_not_none (λ q. has_by kind.Arrive past q t) (plays_of plan t) p (outside_done t (playable.known p t m) w) (in_plays plan t plan.plays p facts.1 m) in
+            let came =
+            first_not_none (λ q. has_by kind.Arrive past q t) (plays_of plan t) p
+            (outside_done t (playable.known p t m) w) (in_plays plan t plan.plays p facts.1 m) in
             absurd (not_left (outside_left plan playable past legal p t w facts.1 came))
         by_place (Some q) w =
             let play = in_play t q w in
             elim (cases_order p q) [
               | inl same ↦ ap Some (sym same)
-              | inr (inl below) ↦ absurd (not_left (plays_kept plan playable past legal p q t below facts.1 play.0 m (inside_arrived plan playable.tree past legal q t w)))
-              | inr (inr above) ↦ absurd (both_ways _ (not_started t q w (dead q)) (first_not_before (λ a. has_started past a) 0 plan.plays q p playable.rise first play.0 above))
+              | inr (inl below) ↦
+                  absurd (not_left (plays_kept plan playable past legal p q t below facts.1 play.0 m
+                  (inside_arrived plan playable.tree past legal q t w)))
+              | inr (inr above) ↦
+                  absurd (both_ways _ (not_started t q w (dead q))
+                  (first_not_before (λ a. has_started past a) 0 plan.plays q p playable.rise first play.0 above))
             ]
 
     none_held : (o : ℕ) (h : Option ℕ) → holder_of plan past o ≡ h → h ≡ None
@@ -112,14 +125,19 @@ module _ (plan : Plan) (playable : IsPlayable plan) (past : List Entry) (legal :
         let some = some_member (roles_of plan p) (playable.filled p facts.1) in
         let w = waits_in p some.0 first some.1 in
         let top : parent plan p ≡ None = ap first_of (playable.tree.tops p facts.1) in
-        not_ready some.0 p w facts.0 (all_from (is_inside plan past p) (roles_of plan p) (λ t m. same_at _ p (waits_in p t first m))) (all_from (λ o. same_option (holder_of plan past o) (parent plan p)) (objects_of plan p) (λ o m. rw (none_held o (holder_of plan past o) refl, top) refl))
+        not_ready some.0 p w facts.0
+        (all_from (is_inside plan past p) (roles_of plan p) (λ t m. same_at _ p (waits_in p t first m)))
+        (all_from (λ o. same_option (holder_of plan past o) (parent plan p)) (objects_of plan p)
+        (λ o m. rw (none_held o (holder_of plan past o) refl, top) refl))
 
     nobody_inside : (t : ℕ) (o : Option ℕ) → inside plan past t ≡ o → o ≡ None
     nobody_inside t None w = refl
     nobody_inside t (Some p) w = by_first (first_not (λ q. has_started past q) plan.plays) refl
       where
         by_first : (o : Option ℕ) → first_not (λ q. has_started past q) plan.plays ≡ o → Some p ≡ None
-        by_first None f = absurd (both_ways _ (not_started t p w (dead p)) (first_not_none (λ q. has_started past q) plan.plays p f (in_play t p w).0))
+        by_first None f =
+            absurd (both_ways _ (not_started t p w (dead p))
+            (first_not_none (λ q. has_started past q) plan.plays p f (in_play t p w).0))
         by_first (Some q) f = absurd (none_waits q f)
 
     pub all_over : AllOver plan past

@@ -2,6 +2,7 @@
 use Rattle.std.specs.Prelude.{◌≡◌, ℕ, ℤ, pos, ◌+ℤ◌, Bool, true, not, ◌&&◌, ◌||◌, if◌then◌else◌, List, [], ◌∷◌, Option, Some, None, is_none}
 use Rattle.std.specs.List.{list_all, range_with_len}
 use Rattle.cover_table.specs.Cover.{CoverOrder, covers, covers_each}
+use Rattle.caa_base.specs.Written.Marks.{verdict_mark}
 use Rattle.caa_base.specs.Written.Mixing.{mix}
 use Rattle.caa_base.specs.declared.written.entry.Entry.{Entry}
 use Rattle.caa_base.specs.declared.written.entry.Kind.{Kind}
@@ -42,9 +43,7 @@ naming k p t (Some x) = marked k p t 1 x
 
 -- the entry of t in p that says this verdict
 abbrev pub verdict_entry : ℕ → ℕ → Verdict → Entry
-verdict_entry p t verdict.Done = plainly kind.Verdict p t
-verdict_entry p t (verdict.Signal x) = marked kind.Verdict p t 1 x
-verdict_entry p t verdict.Undo = marked kind.Verdict p t 2 0
+verdict_entry p t v = marked kind.Verdict p t (verdict_mark v).0 (verdict_mark v).1
 
 -- ---- the least cover
 

@@ -1,4 +1,3 @@
 -- Lemmas on drafts.
 pub mod DraftKeeps
-pub mod MetAgain
 pub mod BitsOfObjects

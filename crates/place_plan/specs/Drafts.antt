@@ -1,3 +1,2 @@
 -- Drafts, and the rules that a draft keeps.
-pub mod ObjectBits
 pub mod DraftRules

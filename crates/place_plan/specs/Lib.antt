@@ -1,3 +1,4 @@
 pub mod Drafts
 pub mod Plans
 pub mod RulesOfJournals
+pub mod inner

@@ -5,5 +5,4 @@ pub mod OwnNames
 pub mod Bound
 pub mod Unfolding
 pub mod Closed
-pub mod PlanView
 pub mod Weights

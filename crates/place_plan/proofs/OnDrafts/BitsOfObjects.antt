@@ -10,7 +10,7 @@ use Rattle.cover_table.specs.Cover.{has_bit}
 use Rattle.cover_table.proofs.Bits.{had_in_zero, had_in_both, had_from_both, same_bit}
 use Rattle.caa_base.specs.Written.Lists.{member}
 use Rattle.caa_base.proofs.ListLemmas.{all_at, all_from}
-use Rattle.place_plan.specs.Drafts.ObjectBits.{bits_have, AreBitsOf, HaveAllBits}
+use Rattle.place_plan.specs.inner.ObjectBits.{bits_have, AreBitsOf, HaveAllBits}
 
 -- ---- one number more
 
@@ -22,14 +22,19 @@ same_place x n row = elim (cases_eq x n) [
 ]
 
 -- one bit more is one number more
-pub one_bit_more : (bits : List ℕ) (x fuller n : ℕ) → x / 128 < length bits → ((b : ℕ) → has_bit fuller b ≡ (b == x % 128 || has_bit (slice_index bits (x / 128)) b)) → bits_have (slice_set bits (x / 128) fuller) n ≡ ((x == n) || bits_have bits n)
+pub one_bit_more : (bits : List ℕ) (x fuller n : ℕ) → x / 128 < length bits
+    → ((b : ℕ) → has_bit fuller b ≡ (b == x % 128 || has_bit (slice_index bits (x / 128)) b))
+    → bits_have (slice_set bits (x / 128) fuller) n ≡ ((x == n) || bits_have bits n)
 one_bit_more bits x fuller n within more = elim (cases_eq (n / 128) (x / 128)) [
   | inl same ↦
-      let written : slice_index (slice_set bits (x / 128) fuller) (n / 128) ≡ fuller = rw same (get_or-set_same bits (x / 128) fuller 0 within) in
-      ap (λ r. has_bit r (n % 128)) written ∙ more (n % 128) ∙ ap₂ (λ p q. p || has_bit (slice_index bits q) (n % 128)) (same_place x n (sym same)) (sym same)
+      let written : slice_index (slice_set bits (x / 128) fuller) (n / 128) ≡ fuller =
+      rw same (get_or-set_same bits (x / 128) fuller 0 within) in
+      ap (λ r. has_bit r (n % 128)) written ∙ more (n % 128)
+      ∙ ap₂ (λ p q. p || has_bit (slice_index bits q) (n % 128)) (same_place x n (sym same)) (sym same)
   | inr apart ↦
       let other : x ≡ n → ⊥ = λ e. apart (ap (λ k. k / 128) (sym e)) in
-      ap (λ r. has_bit r (n % 128)) (get_or-set_other bits (x / 128) (n / 128) fuller 0 apart) ∙ sym (ap (λ p. p || bits_have bits n) (ne_eqb x n other))
+      ap (λ r. has_bit r (n % 128)) (get_or-set_other bits (x / 128) (n / 128) fuller 0 apart)
+      ∙ sym (ap (λ p. p || bits_have bits n) (ne_eqb x n other))
 ]
 
 -- no bit is no number
@@ -42,9 +47,12 @@ no_bits n = ap (λ row. has_bit row (n % 128)) (row (n / 128)) ∙ had_in_zero (
     row (suc (suc k)) = refl
 
 -- what had a bit, and the number that gets one, and the numbers after it are all numbers of the list
-pub one_number_more : (numbers : List ℕ) (i n : ℕ) (had has : Bool) → i < length numbers → has ≡ ((slice_index numbers i == n) || had) → (had || member n (drop i numbers)) ≡ member n numbers → (has || member n (drop (i + 1) numbers)) ≡ member n numbers
+pub one_number_more : (numbers : List ℕ) (i n : ℕ) (had has : Bool) → i < length numbers
+    → has ≡ ((slice_index numbers i == n) || had) → (had || member n (drop i numbers)) ≡ member n numbers
+    → (has || member n (drop (i + 1) numbers)) ≡ member n numbers
 one_number_more numbers i n had has l more told =
-    rw (more, add-one) (swapped (slice_index numbers i == n) had (member n (drop (suc i) numbers)) ∙ ap (λ rest. had || member n rest) (sym (drop-cons numbers i 0 l)) ∙ told)
+    rw (more, add-one) (swapped (slice_index numbers i == n) had (member n (drop (suc i) numbers))
+    ∙ ap (λ rest. had || member n rest) (sym (drop-cons numbers i 0 l)) ∙ told)
   where
     swapped : (p q r : Bool) → ((p || q) || r) ≡ (q || (p || r))
     swapped true true r = refl
@@ -75,15 +83,19 @@ all_from_rows bits others two first second n had = elim (cases_lt (n / 128) 2) [
   | inl low ↦
       let row = of_each (Shares bits others) first second (n / 128) low in
       (had_in_both (slice_index bits (n / 128)) (slice_index others (n / 128)) (n % 128) (ap (λ r. has_bit r (n % 128)) row ∙ had)).0
-  | inr past ↦ absurd (false≢true (sym (had_in_zero (n % 128)) ∙ sym (ap (λ r. has_bit r (n % 128)) (get_or_past others (n / 128) 0 (omega arith))) ∙ had))
+  | inr past ↦
+      absurd (false≢true (sym (had_in_zero (n % 128))
+      ∙ sym (ap (λ r. has_bit r (n % 128)) (get_or_past others (n / 128) 0 (omega arith))) ∙ had))
 ]
 
 pub row_from_all : (bits others : List ℕ) (k : ℕ) → slice_index others k < 2 ^ 128 → HaveAllBits bits others → Shares bits others k
 row_from_all bits others k fits all =
     let low = and_le_r (slice_index bits k) (slice_index others k) in
-    same_from_bits_below 128 (bit_and (slice_index bits k) (slice_index others k)) (slice_index others k) (omega arith) fits (λ i l. same_bit _ _ i
+    same_from_bits_below 128 (bit_and (slice_index bits k) (slice_index others k)) (slice_index others k)
+    (omega arith) fits (λ i l. same_bit _ _ i
     (λ had. (had_in_both (slice_index bits k) (slice_index others k) i had).1)
-    (λ had. had_from_both (slice_index bits k) (slice_index others k) i (sym (at_place bits k i l) ∙ all (128 * k + i) (at_place others k i l ∙ had)) had))
+    (λ had. had_from_both (slice_index bits k) (slice_index others k) i
+    (sym (at_place bits k i l) ∙ all (128 * k + i) (at_place others k i l ∙ had)) had))
 
 -- two tests are one where each is passed if the other is
 same_test : (a b : Bool) → (a ≡ true → b ≡ true) → (b ≡ true → a ≡ true) → a ≡ b
@@ -93,7 +105,9 @@ same_test false true there back = back refl
 same_test false false there back = refl
 
 -- the bits tell whether all numbers of one list are in another
-pub told_by_bits : (numbers list bits others : List ℕ) (told : Bool) → AreBitsOf bits list → AreBitsOf others numbers → (told ≡ true → HaveAllBits bits others) → (HaveAllBits bits others → told ≡ true) → told ≡ list_all (λ n. member n list) numbers
+pub told_by_bits : (numbers list bits others : List ℕ) (told : Bool) → AreBitsOf bits list → AreBitsOf others numbers
+    → (told ≡ true → HaveAllBits bits others) → (HaveAllBits bits others → told ≡ true)
+    → told ≡ list_all (λ n. member n list) numbers
 told_by_bits numbers list bits others told are_list are_numbers there back =
     same_test told (list_all (λ n. member n list) numbers)
     (λ yes. all_from (λ n. member n list) numbers (λ n m. sym (are_list n) ∙ there yes n (are_numbers n ∙ m)))

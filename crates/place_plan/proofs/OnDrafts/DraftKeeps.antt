@@ -12,8 +12,8 @@ use Rattle.place_plan.specs.declared.drafts.draft_rows.NestRow.{NestRow}
 use Rattle.caa_base.specs.Written.Lists.{is_empty}
 use Rattle.place_plan.specs.Plans.Places.{no_action}
 use Rattle.caa_base.specs.Written.Limits.{is_value, most_participants, most_objects, most_graphs, most_actions, most_roles, most_nests, most_watches, most_drills}
-use Rattle.place_plan.specs.Drafts.DraftRules.{size_rule, first_is_plain, graph_rule, action_fits, nest_fits, range_rule, is_rising, is_rising_above, all_below, exceptions_of, graphs_in_range, objects_in_range, parts_in_range, nest_in_range, action_in_range, play_in_range, order_rule, fill_rule, fills, nest_fills, enter_rule, object_rule, depth_rule, handler_rule, bound_rule, face_rule, broken_rule, broken_if, KeepsParts}
-use Rattle.place_plan.specs.Plans.Weights.{are_nests_known}
+use Rattle.place_plan.specs.Drafts.DraftRules.{size_rule, first_is_plain, graph_rule, action_fits, nest_fits, range_rule, is_rising, is_rising_above, all_below, exceptions_of, graphs_in_range, objects_in_range, parts_in_range, nest_in_range, action_in_range, play_in_range, order_rule, fill_rule, fills, nest_fills, enter_rule, object_rule, depth_rule, handler_rule, bound_rule, broken_rule, broken_if, KeepsParts}
+use Rattle.place_plan.specs.inner.Tables.{are_nests_known}
 use Rattle.caa_base.proofs.ListLemmas.{at_row, all_imply}
 
 -- ---- numbers
@@ -53,12 +53,20 @@ keeps_rules draft whole =
     let g = rule_passes (object_rule draft) 7 _ f.1 in
     let h = rule_passes (depth_rule draft) 8 _ g.1 in
     let i = rule_passes (handler_rule draft) 9 _ h.1 in
-    let j = rule_passes (bound_rule draft) 10 _ i.1 in
-    (record { sizes = a.0; graphs = b.0; ranges = c.0; order = d.0; fillings = e.0; enters = f.0; objects = g.0; depths = h.0; handlers = i.0 }, j.0)
-
--- a draft that keeps the rules 1 to 9, and both of 10 and 11, breaks none
-pub breaks_none : (draft : Draft) → KeepsParts draft → bound_rule draft ≡ true → face_rule draft ≡ true → broken_rule draft ≡ None
-breaks_none draft k b f = rw (k.sizes, k.graphs, k.ranges, k.order, k.fillings, k.enters, k.objects, k.depths, k.handlers, b, f) refl
+    let j = rule_passes (bound_rule draft) 10 _ i.1 in (
+      record {
+        sizes = a.0;
+        graphs = b.0;
+        ranges = c.0;
+        order = d.0;
+        fillings = e.0;
+        enters = f.0;
+        objects = g.0;
+        depths = h.0;
+        handlers = i.0;
+      },
+      j.0,
+    )
 
 -- ---- the parts of the rules
 
@@ -78,9 +86,12 @@ some_graphs (row ∷ rows) h = grind (arith, nat_tests)
 -- each use is of actions that are there
 pub range_known : (draft : Draft) → range_rule draft ≡ true → are_nests_known draft.actions ≡ true
 range_known draft h =
-    all_imply (action_in_range draft) (λ (action : ActionRow). list_all (λ (nest : NestRow). all_below (length draft.actions) nest.actions) action.nests) draft.actions
+    all_imply (action_in_range draft)
+    (λ (action : ActionRow). list_all
+    (λ (nest : NestRow). all_below (length draft.actions) nest.actions) action.nests) draft.actions
     (λ a k.
-    all_imply (nest_in_range (length draft.actions) (length a.roles) (exceptions_of draft a.internal)) (λ (nest : NestRow). all_below (length draft.actions) nest.actions) a.nests
+    all_imply (nest_in_range (length draft.actions) (length a.roles) (exceptions_of draft a.internal))
+    (λ (nest : NestRow). all_below (length draft.actions) nest.actions) a.nests
     (λ nest m. (and_parts (all_below (length draft.actions) nest.actions) _ m).0)
     (and_parts _ _ (and_parts (objects_in_range draft a) _ (and_parts (graphs_in_range draft a) _ k).1).1).1)
     (and_parts _ _ (and_parts (list_all (λ (o : ObjectRow). is_value o.initial) draft.objects) _ h).1).0
@@ -93,7 +104,9 @@ module _ (draft : Draft) (keeps : KeepsParts draft) where
   actions_range = (and_parts _ _ (and_parts (list_all (λ (o : ObjectRow). is_value o.initial) draft.objects) _ keeps.ranges).1).0
 
   pub plays_range : list_all (play_in_range draft) draft.plays ≡ true
-  plays_range = (and_parts _ _ (and_parts _ _ (and_parts (list_all (λ (o : ObjectRow). is_value o.initial) draft.objects) _ keeps.ranges).1).1).0
+  plays_range =
+      (and_parts _ _ (and_parts _ _
+      (and_parts (list_all (λ (o : ObjectRow). is_value o.initial) draft.objects) _ keeps.ranges).1).1).0
 
   pub plays_fill : list_all (λ (play : PlayRow). fills draft play.action play.who) draft.plays ≡ true
   plays_fill = (and_parts _ _ keeps.fillings).1
@@ -103,13 +116,19 @@ module _ (draft : Draft) (keeps : KeepsParts draft) where
 
   -- the graphs, the objects and the parts of an action are in range
   pub graphs_range : list_all (graphs_in_range draft) draft.actions ≡ true
-  graphs_range = all_imply (action_in_range draft) (graphs_in_range draft) draft.actions (λ a h. (and_parts (graphs_in_range draft a) _ h).0) actions_range
+  graphs_range =
+      all_imply (action_in_range draft) (graphs_in_range draft) draft.actions
+      (λ a h. (and_parts (graphs_in_range draft a) _ h).0) actions_range
 
   pub objects_range : list_all (objects_in_range draft) draft.actions ≡ true
-  objects_range = all_imply (action_in_range draft) (objects_in_range draft) draft.actions (λ a h. (and_parts (objects_in_range draft a) _ (and_parts (graphs_in_range draft a) _ h).1).0) actions_range
+  objects_range =
+      all_imply (action_in_range draft) (objects_in_range draft) draft.actions
+      (λ a h. (and_parts (objects_in_range draft a) _ (and_parts (graphs_in_range draft a) _ h).1).0) actions_range
 
   pub parts_range : list_all (parts_in_range draft) draft.actions ≡ true
-  parts_range = all_imply (action_in_range draft) (parts_in_range draft) draft.actions (λ a h. (and_parts _ _ (and_parts (graphs_in_range draft a) _ h).1).1) actions_range
+  parts_range =
+      all_imply (action_in_range draft) (parts_in_range draft) draft.actions
+      (λ a h. (and_parts _ _ (and_parts (graphs_in_range draft a) _ h).1).1) actions_range
 
   -- there are few actions
   pub few_actions : length draft.actions ≤ most_actions
@@ -124,7 +143,8 @@ module _ (draft : Draft) (keeps : KeepsParts draft) where
   few_of_action a l =
       let action = slice_index_or draft.actions a no_action in
       let fit = at_row action_fits draft.actions a no_action (all_fit draft keeps.sizes) l in
-      leb-true (length action.roles) most_roles (and_parts (nat_le (length action.roles) most_roles) _ (and_parts (not (is_empty action.roles)) _ fit).1).0
+      leb-true (length action.roles) most_roles
+      (and_parts (nat_le (length action.roles) most_roles) _ (and_parts (not (is_empty action.roles)) _ fit).1).0
 
   -- each use has alternates, and few
   pub all_nests_fit : list_all (λ (action : ActionRow). list_all nest_fits action.nests) draft.actions ≡ true
@@ -143,7 +163,9 @@ module _ (draft : Draft) (keeps : KeepsParts draft) where
     abbrev action : ActionRow
     action = slice_index_or draft.actions a no_action
 
-    pub nests_range : list_all (nest_in_range (length draft.actions) (length action.roles) (exceptions_of draft action.internal)) action.nests ≡ true
+    pub nests_range : list_all
+        (nest_in_range (length draft.actions) (length action.roles) (exceptions_of draft action.internal)) action.nests
+        ≡ true
     nests_range = (and_parts _ _ (at_row (parts_in_range draft) draft.actions a no_action parts_range l)).1
 
     pub nests_fit : list_all nest_fits action.nests ≡ true

@@ -14,7 +14,8 @@ abbrev pub restores_round : Plan → ℕ → ℕ → Entry → Bool
 restores_round plan o p e = restores o e && is_within plan p e.place
 
 -- p is one of them, or inside one, where an entry restores o in p or round it
-within_any-places_restoring : (plan : Plan) (o p : ℕ) (later : List Entry) → is_within_any plan p (places_restoring o later) ≡ list_any (restores_round plan o p) later
+within_any-places_restoring : (plan : Plan) (o p : ℕ) (later : List Entry)
+    → is_within_any plan p (places_restoring o later) ≡ list_any (restores_round plan o p) later
 within_any-places_restoring plan o p [] = refl
 within_any-places_restoring plan o p (e ∷ later) = grind (arith, nat_tests, within_any-places_restoring plan o p later)
 
@@ -31,13 +32,18 @@ abbrev pub gives : Plan → ℕ → List Entry → Entry → Bool
 gives plan o later e = writes o e && not (list_any (restores_round plan o e.place) later)
 
 -- the value of the entry at i, where it gives the value
-pub value_given : (plan : Plan) (o : ℕ) (es : List Entry) (i j : ℕ) (d : Entry) → j ≡ i + 1 → i < length es → gives plan o (drop (i + 1) es) (get_or es i d) ≡ true → value_outside plan (reverse (take j es)) o (places_restoring o (drop j es)) ≡ (get_or es i d).value
+pub value_given : (plan : Plan) (o : ℕ) (es : List Entry) (i j : ℕ) (d : Entry) → j ≡ i + 1 → i < length es
+    → gives plan o (drop (i + 1) es) (get_or es i d) ≡ true
+    → value_outside plan (reverse (take j es)) o (places_restoring o (drop j es)) ≡ (get_or es i d).value
 value_given plan o es i j d e h g =
     let same = within_any-places_restoring plan o (get_or es i d).place (drop (i + 1) es) in
     rw (e, reverse_more es i d h, same, g) refl
 
 -- else it is passed over
-pub value_passed : (plan : Plan) (o : ℕ) (es : List Entry) (i j : ℕ) (d : Entry) → j ≡ i + 1 → i < length es → gives plan o (drop (i + 1) es) (get_or es i d) ≡ false → value_outside plan (reverse (take j es)) o (places_restoring o (drop j es)) ≡ value_outside plan (reverse (take i es)) o (places_restoring o (drop i es))
+pub value_passed : (plan : Plan) (o : ℕ) (es : List Entry) (i j : ℕ) (d : Entry) → j ≡ i + 1 → i < length es
+    → gives plan o (drop (i + 1) es) (get_or es i d) ≡ false
+    → value_outside plan (reverse (take j es)) o (places_restoring o (drop j es))
+    ≡ value_outside plan (reverse (take i es)) o (places_restoring o (drop i es))
 value_passed plan o es i j d e h g =
     let same = within_any-places_restoring plan o (get_or es i d).place (drop (i + 1) es) in
     rw (e, reverse_more es i d h, drop_more es i d h, same, g) refl

@@ -24,14 +24,18 @@ member_at (x ∷ xs) zero d l = or_left _ _ (eq-eqb x x refl)
 member_at (x ∷ xs) (suc i) d l = or_right _ _ (member_at xs i d (omega arith))
 
 -- where all differ, equal numbers stand at one index
-pub one_index : (xs : List ℕ) (i j d : ℕ) → all_differ xs ≡ true → i < length xs → j < length xs → slice_index_or xs i d ≡ slice_index_or xs j d → i ≡ j
+pub one_index : (xs : List ℕ) (i j d : ℕ) → all_differ xs ≡ true → i < length xs → j < length xs
+    → slice_index_or xs i d ≡ slice_index_or xs j d → i ≡ j
 one_index [] i j d h l k e = absurd (omega arith)
 one_index (x ∷ xs) zero zero d h l k e = refl
 one_index (x ∷ xs) zero (suc j) d h l k e =
-    absurd (both_ways _ (not-true _ (and_parts (not (member x xs)) _ h).0) (subst (λ y. member y xs ≡ true) (sym e) (member_at xs j d (omega arith))))
+    absurd (both_ways _ (not-true _ (and_parts (not (member x xs)) _ h).0)
+    (subst (λ y. member y xs ≡ true) (sym e) (member_at xs j d (omega arith))))
 one_index (x ∷ xs) (suc i) zero d h l k e =
-    absurd (both_ways _ (not-true _ (and_parts (not (member x xs)) _ h).0) (subst (λ y. member y xs ≡ true) e (member_at xs i d (omega arith))))
-one_index (x ∷ xs) (suc i) (suc j) d h l k e = ap suc (one_index xs i j d (and_parts (not (member x xs)) _ h).1 (omega arith) (omega arith) e)
+    absurd (both_ways _ (not-true _ (and_parts (not (member x xs)) _ h).0)
+    (subst (λ y. member y xs ≡ true) e (member_at xs i d (omega arith))))
+one_index (x ∷ xs) (suc i) (suc j) d h l k e =
+    ap suc (one_index xs i j d (and_parts (not (member x xs)) _ h).1 (omega arith) (omega arith) e)
 
 -- the participants at these indices
 abbrev pub picked : List ℕ → List ℕ → List ℕ
@@ -42,7 +46,8 @@ length_picked who [] = refl
 length_picked who (r ∷ roles) = ap suc (length_picked who roles)
 
 -- who is picked stands at one of the indices
-pub from_picked : (who roles : List ℕ) (t : ℕ) → member t (picked who roles) ≡ true → (r : ℕ) × (member r roles ≡ true) × (slice_index_or who r 0 ≡ t)
+pub from_picked : (who roles : List ℕ) (t : ℕ) → member t (picked who roles) ≡ true
+    → (r : ℕ) × (member r roles ≡ true) × (slice_index_or who r 0 ≡ t)
 from_picked who [] t m = absurd (false≢true m)
 from_picked who (r ∷ roles) t m =
     elim (or_cases (slice_index_or who r 0 == t) _ m) [
@@ -59,7 +64,8 @@ in_picked who (x ∷ roles) r m =
       | inr e ↦ or_right _ _ (in_picked who roles r e)
     ]
 
-picked_differ : (who roles : List ℕ) → all_differ who ≡ true → all_below (length who) roles ≡ true → all_differ roles ≡ true → all_differ (picked who roles) ≡ true
+picked_differ : (who roles : List ℕ) → all_differ who ≡ true → all_below (length who) roles ≡ true
+    → all_differ roles ≡ true → all_differ (picked who roles) ≡ true
 picked_differ who [] h k d = refl
 picked_differ who (r ∷ roles) h k d =
     let here = and_parts (not (member r roles)) _ d in
@@ -71,7 +77,8 @@ picked_differ who (r ∷ roles) h k d =
     both_ways _ (not-true _ here.0) (subst (λ z. member z roles ≡ true) same found.1))))
     (picked_differ who roles h low.1 here.1)
 
-picked_known : (most : ℕ) (who roles : List ℕ) → all_below most who ≡ true → all_below (length who) roles ≡ true → all_below most (picked who roles) ≡ true
+picked_known : (most : ℕ) (who roles : List ℕ) → all_below most who ≡ true → all_below (length who) roles ≡ true
+    → all_below most (picked who roles) ≡ true
 picked_known most who [] h k = refl
 picked_known most who (r ∷ roles) h k =
     let low = and_parts _ (all_below (length who) roles) k in
@@ -95,22 +102,27 @@ pub record IsCast (draft : Draft) (a : ℕ) (who : List ℕ) : Type 0 where
   pub differ : all_differ who ≡ true
   pub known : all_below (length draft.participants) who ≡ true
 
-cast_from : (draft : Draft) (a : ℕ) (who : List ℕ) → a < length draft.actions → fills draft a who ≡ true → all_below (length draft.participants) who ≡ true → IsCast draft a who
+cast_from : (draft : Draft) (a : ℕ) (who : List ℕ) → a < length draft.actions → fills draft a who ≡ true
+    → all_below (length draft.participants) who ≡ true → IsCast draft a who
 cast_from draft a who l f k =
     let parts = and_parts (length who == length (slice_index_or draft.actions a no_action).roles) _ f in
     record { action = l; many = eqb-true _ _ parts.0; differ = parts.1; known = k }
 
 -- the action of a place that is there
-pub action_is : (plan : Plan) (p : ℕ) → p < length plan.places → action_at plan p ≡ slice_index_or plan.actions (place_at plan p).action no_action
+pub action_is : (plan : Plan) (p : ℕ) → p < length plan.places
+    → action_at plan p ≡ slice_index_or plan.actions (place_at plan p).action no_action
 action_is plan p l = row_action plan.places p l
   where
-    row_action : (rows : List PlaceRow) (p : ℕ) → p < length rows → action_in plan (slice_get rows p) ≡ slice_index_or plan.actions (slice_index_or rows p no_place).action no_action
+    row_action : (rows : List PlaceRow) (p : ℕ) → p < length rows
+        → action_in plan (slice_get rows p)
+        ≡ slice_index_or plan.actions (slice_index_or rows p no_place).action no_action
     row_action [] p l = absurd (omega arith)
     row_action (row ∷ rows) zero l = refl
     row_action (row ∷ rows) (suc p) l = row_action rows p (omega arith)
 
 -- those of a play do
-pub play_is_cast : (draft : Draft) (play : PlayRow) → play_in_range draft play && fills draft play.action play.who ≡ true → IsCast draft play.action play.who
+pub play_is_cast : (draft : Draft) (play : PlayRow)
+    → play_in_range draft play && fills draft play.action play.who ≡ true → IsCast draft play.action play.who
 play_is_cast draft play h =
     let a = and_parts (play_in_range draft play) _ h in
     let b = and_parts (nat_lt play.action (length draft.actions)) _ a.0 in
@@ -125,13 +137,19 @@ module _ (draft : Draft) (keeps : KeepsParts draft) where
 
   play_cast : (p : ℕ) → member p plan.plays ≡ true → IsCast draft (place_at plan p).action (roles_of plan p)
   play_cast p m =
-      let found = whole.plays (λ (play : PlayRow). play_in_range draft play && fills draft play.action play.who) (all_both (play_in_range draft) (λ (play : PlayRow). fills draft play.action play.who) draft.plays (plays_range draft keeps) (plays_fill draft keeps)) p m in
+      let found =
+      whole.plays (λ (play : PlayRow). play_in_range draft play && fills draft play.action play.who)
+      (all_both (play_in_range draft) (λ (play : PlayRow). fills draft play.action play.who) draft.plays
+      (plays_range draft keeps) (plays_fill draft keeps)) p m in
       let play = found.0 in
       let placed = found.2 in
       let cast = play_is_cast draft play found.1 in
-      subst (λ who. IsCast draft (place_at plan p).action who) (sym placed.cast) (subst (λ z. IsCast draft z play.who) (only_one _ _ placed.action) cast)
+      subst (λ who. IsCast draft (place_at plan p).action who) (sym placed.cast)
+      (subst (λ z. IsCast draft z play.who) (only_one _ _ placed.action) cast)
 
-  pub use_cast : (a : ℕ) (who : List ℕ) → IsCast draft a who → (k b : ℕ) → member b (slice_index_or (slice_index_or draft.actions a no_action).nests k no_nest).actions ≡ true → IsCast draft b (cast_of who (slice_index_or (slice_index_or draft.actions a no_action).nests k no_nest))
+  pub use_cast : (a : ℕ) (who : List ℕ) → IsCast draft a who → (k b : ℕ)
+      → member b (slice_index_or (slice_index_or draft.actions a no_action).nests k no_nest).actions ≡ true
+      → IsCast draft b (cast_of who (slice_index_or (slice_index_or draft.actions a no_action).nests k no_nest))
   use_cast a who cast k b m =
       let action = slice_index_or draft.actions a no_action in
       let nest = slice_index_or action.nests k no_nest in
@@ -140,7 +158,9 @@ module _ (draft : Draft) (keeps : KeepsParts draft) where
       let filled = at_row _ action.nests k no_nest (nests_filled draft keeps a cast.action) l in
       let x = and_parts (all_below (length draft.actions) nest.actions) _ range in
       let y = and_parts (all_below (length action.roles) nest.roles) _ x.1 in
-      let z = and_parts (length nest.roles == length (slice_index_or draft.actions b no_action).roles) _ (all_at _ nest.actions b filled m) in
+      let z =
+      and_parts (length nest.roles == length (slice_index_or draft.actions b no_action).roles) _
+      (all_at _ nest.actions b filled m) in
       let within : all_below (length who) nest.roles ≡ true = subst (λ n. all_below n nest.roles ≡ true) (sym cast.many) y.0 in
       record {
         action = ltb-true _ _ (all_at _ nest.actions b x.0 m);
@@ -156,5 +176,9 @@ module _ (draft : Draft) (keeps : KeepsParts draft) where
       (λ p k c cast m.
       let instance = child_of draft plan whole p k c m in
       let same = action_is plan p (in_table plan.places p k c m) in
-      let placed = subst (λ (a : ActionRow). IsPlaced plan c (p ∷ around plan p) (cast_of (roles_of plan p) (slice_index_or a.nests k no_nest)) k (slice_index_or a.nests k no_nest).actions) same (instance.child k c m) in
-      subst (IsCast draft (place_at plan c).action) (sym placed.cast) (use_cast (place_at plan p).action (roles_of plan p) cast k (place_at plan c).action placed.action))
+      let placed =
+      subst (λ (a : ActionRow). IsPlaced plan c (p ∷ around plan p)
+      (cast_of (roles_of plan p) (slice_index_or a.nests k no_nest)) k (slice_index_or a.nests k no_nest).actions)
+      same (instance.child k c m) in
+      subst (IsCast draft (place_at plan c).action) (sym placed.cast)
+      (use_cast (place_at plan p).action (roles_of plan p) cast k (place_at plan c).action placed.action))

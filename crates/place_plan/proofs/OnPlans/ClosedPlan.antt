@@ -28,7 +28,8 @@ pub keeps_of : (plan : Plan) (closed : IsClosed plan) → KeepsParts closed.draf
 keeps_of plan closed = (keeps_rules closed.draft closed.whole).0
 
 -- what each action passes, and one that isn't there, the action of each place passes
-pub action_passes : (test : ActionRow → Bool) (plan : Plan) → list_all test plan.actions ≡ true → test no_action ≡ true → (p : ℕ) → test (action_at plan p) ≡ true
+pub action_passes : (test : ActionRow → Bool) (plan : Plan) → list_all test plan.actions ≡ true → test no_action ≡ true
+    → (p : ℕ) → test (action_at plan p) ≡ true
 action_passes test plan h k p = by_row (slice_get plan.places p)
   where
     by_row : (o : Option PlaceRow) → test (action_in plan o) ≡ true
@@ -55,7 +56,9 @@ chain plan closed =
 -- there are few places
 pub few_places : (plan : Plan) → IsClosed plan → length plan.places ≤ most_places
 few_places plan closed =
-    let few = leb-true _ _ (and_parts (nat_le (length (plan_of closed.draft).places) most_places) _ (keeps_rules closed.draft closed.whole).1).0 in
+    let few =
+    leb-true _ _ (and_parts (nat_le (length (plan_of closed.draft).places) most_places) _
+    (keeps_rules closed.draft closed.whole).1).0 in
     omega (arith, few, ap (λ (p : Plan). length p.places) closed.same)
 
 -- and at most as many plays
@@ -74,9 +77,11 @@ HasGraphs p plan = ((action_at plan p).internal < length plan.graphs) × ((actio
 abbrev pub HasPlayers : ℕ → Plan → Type 0
 HasPlayers p plan = (length (roles_of plan p) ≡ length (action_at plan p).roles) × (length (roles_of plan p) ≤ most_roles)
 
-few_actions : (nests : List NestRow) (k : ℕ) → list_all nest_fits nests ≡ true → length (slice_index_or nests k no_nest).actions ≤ most_alternates
+few_actions : (nests : List NestRow) (k : ℕ) → list_all nest_fits nests ≡ true
+    → length (slice_index_or nests k no_nest).actions ≤ most_alternates
 few_actions [] k h = omega arith
-few_actions (nest ∷ nests) zero h = leb-true _ _ (and_parts _ (nat_le (length nest.actions) most_alternates) (and_parts (nest_fits nest) _ h).0).1
+few_actions (nest ∷ nests) zero h =
+    leb-true _ _ (and_parts _ (nat_le (length nest.actions) most_alternates) (and_parts (nest_fits nest) _ h).0).1
 few_actions (nest ∷ nests) (suc k) h = few_actions nests k (and_parts (nest_fits nest) _ h).1
 
 module _ (draft : Draft) (keeps : KeepsParts draft) where
@@ -94,7 +99,10 @@ module _ (draft : Draft) (keeps : KeepsParts draft) where
   pub made_graphs : (p : ℕ) → HasGraphs p made
   made_graphs p =
       let some = some_graphs draft.graphs (and_parts (first_is_plain draft.graphs) _ keeps.graphs).0 in
-      let both = and_parts _ _ (action_passes has_both made (all_imply (graphs_in_range draft) has_both draft.actions in_range (graphs_range draft keeps)) (and_from _ _ some some) p) in
+      let both =
+      and_parts _ _ (action_passes has_both made
+      (all_imply (graphs_in_range draft) has_both draft.actions in_range (graphs_range draft keeps))
+      (and_from _ _ some some) p) in
       (ltb-true _ _ both.0, ltb-true _ _ both.1)
 
   pub made_players : (p : ℕ) → HasPlayers p made
@@ -118,7 +126,13 @@ module _ (draft : Draft) (keeps : KeepsParts draft) where
             let cast = all_cast draft keeps p l in
             let many = ((is_unfolded draft keeps.depths).instances p l).as_many k in
             let same = ap (λ (a : ActionRow). length (slice_index_or a.nests k no_nest).actions) (action_is made p l) in
-            omega (arith, many, same, few_actions (slice_index_or draft.actions (place_at made p).action no_action).nests k (nests_fit draft keeps _ cast.action))
+            omega (
+              arith,
+              many,
+              same,
+              few_actions (slice_index_or draft.actions (place_at made p).action no_action).nests k
+                  (nests_fit draft keeps _ cast.action),
+            )
         | inr l ↦ omega (arith, ap (λ (row : PlaceRow). length (slice_index_or row.children k [])) (past_end made.places p no_place l))
       ]
 
@@ -133,14 +147,17 @@ few_roles plan closed p = (of_plan (HasPlayers p) plan closed (made_players clos
 
 -- a use has few alternates
 pub few_alternates : (plan : Plan) → IsClosed plan → (p k : ℕ) → length (alternates_of plan p k) ≤ most_alternates
-few_alternates plan closed p k = of_plan (λ q. length (alternates_of q p k) ≤ most_alternates) plan closed (made_alternates closed.draft (keeps_of plan closed) p k)
+few_alternates plan closed p k =
+    of_plan (λ q. length (alternates_of q p k) ≤ most_alternates) plan closed
+    (made_alternates closed.draft (keeps_of plan closed) p k)
 
 -- a member stands before the end of the list
 pub member_index : (n : ℕ) (xs : List ℕ) → member n xs ≡ true → index_of n xs < length xs
 member_index n [] h = absurd (false≢true h)
 member_index n (x ∷ xs) h = either (x == n) h (member_index n xs)
   where
-    either : (b : Bool) → b || member n xs ≡ true → (member n xs ≡ true → index_of n xs < length xs) → cond b 0 (suc (index_of n xs)) < suc (length xs)
+    either : (b : Bool) → b || member n xs ≡ true → (member n xs ≡ true → index_of n xs < length xs)
+        → cond b 0 (suc (index_of n xs)) < suc (length xs)
     either true h next = omega arith
     either false h next = let more = next h in omega arith
 
@@ -149,10 +166,13 @@ pub other_index : (n : ℕ) (xs : List ℕ) → member n xs ≡ false → index_
 other_index n [] h = refl
 other_index n (x ∷ xs) h = either (x == n) h (other_index n xs)
   where
-    either : (b : Bool) → b || member n xs ≡ false → (member n xs ≡ false → index_of n xs ≡ length xs) → cond b 0 (suc (index_of n xs)) ≡ suc (length xs)
+    either : (b : Bool) → b || member n xs ≡ false → (member n xs ≡ false → index_of n xs ≡ length xs)
+        → cond b 0 (suc (index_of n xs)) ≡ suc (length xs)
     either true h next = absurd cc
     either false h next = ap suc (next h)
 
 -- so who is no player has no role
 pub no_player : (plan : Plan) → IsClosed plan → (p t : ℕ) → member t (roles_of plan p) ≡ false → role_row plan p t ≡ no_role
-no_player plan closed p t h = past_end (action_at plan p).roles (index_of t (roles_of plan p)) no_role (omega (arith, other_index t (roles_of plan p) h, all_played plan closed p))
+no_player plan closed p t h =
+    past_end (action_at plan p).roles (index_of t (roles_of plan p)) no_role
+    (omega (arith, other_index t (roles_of plan p) h, all_played plan closed p))

@@ -5,9 +5,10 @@ use Rattle.caa_base.specs.Written.Limits.{most_places}
 use Rattle.place_plan.specs.declared.drafts.draft.Draft.{Draft}
 use Rattle.place_plan.specs.declared.drafts.draft_rows.PlaceRow.{PlaceRow}
 use Rattle.place_plan.specs.declared.plans.plan.Plan.TheInside.{Inside}
-use Rattle.place_plan.specs.Plans.PlanView.{plan_view, IsKept}
+use Rattle.place_plan.specs.inner.PlanView.{plan_view, IsKept}
 use Rattle.place_plan.specs.Plans.Bound.{bound}
-use Rattle.place_plan.specs.Plans.Unfolding.{plan_of, IsMade}
+use Rattle.place_plan.specs.Plans.Unfolding.{plan_of}
+use Rattle.place_plan.specs.inner.Unfolded.{IsMade}
 use Rattle.place_plan.specs.Drafts.DraftRules.{broken_rule}
 use Rattle.place_plan.specs.Plans.Closed.{AreSound}
 use Rattle.place_plan.specs.Plans.Weights.{counted}
@@ -28,7 +29,8 @@ module _ (draft : Draft) where
     bound = most;
   }
 
-  pub made_view : (places : List PlaceRow) (plays : List ℕ) (most : ℕ) → IsMade draft.actions draft.plays places plays → plan_view (made places plays most) ≡ plan_of draft
+  pub made_view : (places : List PlaceRow) (plays : List ℕ) (most : ℕ) → IsMade draft.actions draft.plays places plays
+      → plan_view (made places plays most) ≡ plan_of draft
   made_view places plays most h = λ i. record {
     participants = draft.participants;
     objects = draft.objects;
@@ -45,9 +47,16 @@ module _ (draft : Draft) where
   few_made whole = leb-true _ _ (and_parts (nat_le (length (plan_of draft).places) most_places) _ (keeps_rules draft whole).1).0
 
   pub bound_counted : broken_rule draft ≡ None → counted (bound (plan_of draft)) ≡ bound (plan_of draft)
-  bound_counted whole = omega (arith, leb-true _ _ (and_parts (nat_le (length (plan_of draft).places) most_places) _ (keeps_rules draft whole).1).1)
+  bound_counted whole =
+      omega (
+        arith,
+        leb-true _ _
+            (and_parts (nat_le (length (plan_of draft).places) most_places) _ (keeps_rules draft whole).1).1,
+      )
 
-  pub kept : broken_rule draft ≡ None → AreSound draft.graphs → (places : List PlaceRow) (plays : List ℕ) (most : ℕ) → IsMade draft.actions draft.plays places plays → most ≡ counted (bound (plan_of draft)) → IsKept (made places plays most)
+  pub kept : broken_rule draft ≡ None → AreSound draft.graphs → (places : List PlaceRow) (plays : List ℕ) (most : ℕ)
+      → IsMade draft.actions draft.plays places plays → most ≡ counted (bound (plan_of draft))
+      → IsKept (made places plays most)
   kept whole sound places plays most h b =
       let same = made_view places plays most h in
       record {

@@ -24,13 +24,20 @@ module _ (plan : Plan) (d : ℕ) (fits : (a : ℕ) → Fits d plan.actions a) wh
   one = unfold_at d plan.actions
 
   -- each place of a play is that of a play of the draft: what all of these pass, it passes
-  pub tops_placed : (test : PlayRow → Bool) (n : ℕ) (plays : List PlayRow) → list_all test plays ≡ true → Sits plan.places n (plays_from one n plays) → (c : ℕ) → member c (tops_from one n plays) ≡ true → (play : PlayRow) × (test play ≡ true) × IsPlaced plan c [] play.who 0 (play.action ∷ [])
+  pub tops_placed : (test : PlayRow → Bool) (n : ℕ) (plays : List PlayRow) → list_all test plays ≡ true
+      → Sits plan.places n (plays_from one n plays) → (c : ℕ) → member c (tops_from one n plays) ≡ true
+      → (play : PlayRow) × (test play ≡ true) × IsPlaced plan c [] play.who 0 (play.action ∷ [])
   tops_placed test n [] h s c m = absurd (false≢true m)
   tops_placed test n (play ∷ plays) h s c m =
       let tree = one play.action play.who [] 0 n in
       let parts = and_parts (test play) (list_all test plays) h in
       elim (or_cases (n == c) _ m) [
-        | inl x ↦ (play, parts.0, subst (λ z. IsPlaced plan z [] play.who 0 (play.action ∷ [])) (eqb-true n c x) (placed_at plan d play.action play.who [] 0 n (fits play.action) (sits_first plan.places n tree _ s)))
+        | inl x ↦ (
+          play,
+          parts.0,
+          subst (λ z. IsPlaced plan z [] play.who 0 (play.action ∷ [])) (eqb-true n c x)
+              (placed_at plan d play.action play.who [] 0 n (fits play.action) (sits_first plan.places n tree _ s)),
+        )
         | inr x ↦ tops_placed test (n + length tree) plays parts.1 (sits_second plan.places n tree _ s) c x
       ]
 
@@ -47,24 +54,32 @@ module _ (plan : Plan) (d : ℕ) (fits : (a : ℕ) → Fits d plan.actions a) wh
       let some = has_place d plan.actions play.action play.who [] 0 n (fits play.action) in
       omega (arith, some, tops_few (n + length tree) plays, length-append tree (plays_from one (n + length tree) plays))
 
-  pub plays_grow : (n : ℕ) (plays : List PlayRow) → Sits plan.places n (plays_from one n plays) → ((c : ℕ) → member c (tops_from one n plays) ≡ true → member c plan.plays ≡ true) → AllInstances plan n (length (plays_from one n plays))
+  pub plays_grow : (n : ℕ) (plays : List PlayRow) → Sits plan.places n (plays_from one n plays)
+      → ((c : ℕ) → member c (tops_from one n plays) ≡ true → member c plan.plays ≡ true)
+      → AllInstances plan n (length (plays_from one n plays))
   plays_grow n [] s known = λ p l h. absurd (omega arith)
   plays_grow n (play ∷ plays) s known =
       let tree = one play.action play.who [] 0 n in
       let rest = plays_from one (n + length tree) plays in
       both_instances plan n tree rest
-      (all_grow plan d play.action play.who [] 0 n (fits play.action) (sits_first plan.places n tree rest s) (known n (or_left _ _ (eq-eqb n n refl))))
+      (all_grow plan d play.action play.who [] 0 n (fits play.action) (sits_first plan.places n tree rest s)
+      (known n (or_left _ _ (eq-eqb n n refl))))
       (plays_grow (n + length tree) plays (sits_second plan.places n tree rest s) (λ c m. known c (or_right _ _ m)))
 
 -- ---- the depth of all actions
 
-depth_below : (n : ℕ) (actions rest : List ActionRow) → depths_fit n actions rest ≡ true → (i : ℕ) → i < length rest → depth_within (suc most_depth) actions (n + i) ≤ most_depth
+depth_below : (n : ℕ) (actions rest : List ActionRow) → depths_fit n actions rest ≡ true → (i : ℕ) → i < length rest
+    → depth_within (suc most_depth) actions (n + i) ≤ most_depth
 depth_below n actions [] h i l = absurd (omega arith)
 depth_below n actions (a ∷ rest) h zero l =
-    rw add-zero (leb-true _ _ (and_parts (nat_le (depth_within (suc most_depth) actions n) most_depth) (depths_fit (suc n) actions rest) h).0)
+    rw add-zero (leb-true _ _
+    (and_parts (nat_le (depth_within (suc most_depth) actions n) most_depth) (depths_fit (suc n) actions rest) h).0)
 depth_below n actions (a ∷ rest) h (suc i) l =
     let same : suc n + i ≡ n + suc i = omega arith in
-    subst (λ k. depth_within (suc most_depth) actions k ≤ most_depth) same (depth_below (suc n) actions rest (and_parts (nat_le (depth_within (suc most_depth) actions n) most_depth) (depths_fit (suc n) actions rest) h).1 i (omega arith))
+    subst (λ k. depth_within (suc most_depth) actions k ≤ most_depth) same
+    (depth_below (suc n) actions rest
+    (and_parts (nat_le (depth_within (suc most_depth) actions n) most_depth) (depths_fit (suc n) actions rest) h).1
+    i (omega arith))
 
 no_depth : (actions : List ActionRow) (a : ℕ) → length actions ≤ a → depth_within (suc most_depth) actions a ≤ most_depth
 unfolding depth_within
@@ -72,7 +87,9 @@ no_depth actions a l = rw (past_end actions a no_action l) (omega arith)
 
 pub all_fit_depth : (draft : Draft) → depth_rule draft ≡ true → (a : ℕ) → Fits most_depth draft.actions a
 all_fit_depth draft h a = elim (below_or_not a (length draft.actions)) [
-  | inl l ↦ subst (λ k. depth_within (suc most_depth) draft.actions k ≤ most_depth) (zero-add a) (depth_below 0 draft.actions draft.actions h a l)
+  | inl l ↦
+      subst (λ k. depth_within (suc most_depth) draft.actions k ≤ most_depth) (zero-add a)
+      (depth_below 0 draft.actions draft.actions h a l)
   | inr l ↦ no_depth draft.actions a l
 ]
 
@@ -85,7 +102,8 @@ pub record IsUnfolded (draft : Draft) (plan : Plan) : Type 0 where
   pub rise : Rises 0 plan.plays
   pub few : length plan.plays ≤ length plan.places
   -- each is a play of the draft, and what all of these pass, it passes
-  pub plays : (test : PlayRow → Bool) → list_all test draft.plays ≡ true → (p : ℕ) → member p plan.plays ≡ true → (play : PlayRow) × (test play ≡ true) × IsPlaced plan p [] play.who 0 (play.action ∷ [])
+  pub plays : (test : PlayRow → Bool) → list_all test draft.plays ≡ true → (p : ℕ) → member p plan.plays ≡ true
+      → (play : PlayRow) × (test play ≡ true) × IsPlaced plan p [] play.who 0 (play.action ∷ [])
 
 pub is_unfolded : (draft : Draft) → depth_rule draft ≡ true → IsUnfolded draft (plan_of draft)
 is_unfolded draft h =
@@ -112,14 +130,16 @@ row_rises low [] k h = tt
 row_rises low (row ∷ rows) zero h = Rises-weaker 0 low row (omega arith) h.2
 row_rises low (row ∷ rows) (suc k) h = row_rises h.0 rows k h.4
 
-pub rows_apart : (low : ℕ) (rows : List (List ℕ)) (k l c d : ℕ) → RowsRise low rows → k < l → member c (slice_index_or rows k []) ≡ true → member d (slice_index_or rows l []) ≡ true → c < d
+pub rows_apart : (low : ℕ) (rows : List (List ℕ)) (k l c d : ℕ) → RowsRise low rows → k < l
+    → member c (slice_index_or rows k []) ≡ true → member d (slice_index_or rows l []) ≡ true → c < d
 rows_apart low [] k l c d h lt m n = absurd (false≢true m)
 rows_apart low (row ∷ rows) k zero c d h lt m n = absurd (omega arith)
 rows_apart low (row ∷ rows) zero (suc l) c d h lt m n = omega (arith, h.3 c m, rows_above h.0 rows l d h.4 n)
 rows_apart low (row ∷ rows) (suc k) (suc l) c d h lt m n = rows_apart h.0 rows k l c d h.4 (omega arith) m n
 
 -- a place that has others in a use is in the table
-pub in_table : (table : List PlaceRow) (p k c : ℕ) → member c (slice_index_or (slice_index_or table p no_place).children k []) ≡ true → p < length table
+pub in_table : (table : List PlaceRow) (p k c : ℕ)
+    → member c (slice_index_or (slice_index_or table p no_place).children k []) ≡ true → p < length table
 in_table [] p k c m = absurd (false≢true m)
 in_table (row ∷ rows) zero k c m = omega arith
 in_table (row ∷ rows) (suc p) k c m = omega (arith, in_table rows p k c m)
@@ -152,7 +172,8 @@ module _ (draft : Draft) (plan : Plan) (whole : IsUnfolded draft plan) where
       cc
 
   -- what holds of the plays, and of each place of a use where it holds of the place round it, holds of all places
-  pub by_parents : (Q : ℕ → Type 0) → ((p : ℕ) → member p plan.plays ≡ true → Q p) → ((p k c : ℕ) → Q p → member c (alternates_of plan p k) ≡ true → Q c) → (p : ℕ) → p < length plan.places → Q p
+  pub by_parents : (Q : ℕ → Type 0) → ((p : ℕ) → member p plan.plays ≡ true → Q p)
+      → ((p k c : ℕ) → Q p → member c (alternates_of plan p k) ≡ true → Q c) → (p : ℕ) → p < length plan.places → Q p
   by_parents Q tops inner p l = below (suc p) p (omega arith) l
     where
       below : (m p : ℕ) → p < m → p < length plan.places → Q p
@@ -161,4 +182,7 @@ module _ (draft : Draft) (plan : Plan) (whole : IsUnfolded draft plan) where
         where
           by_round : (outer : List ℕ) → IsKnown plan p outer (nest_number plan p) → ((q : ℕ) → q < m → q < length plan.places → Q q) → Q p
           by_round [] known ih = tops p known
-          by_round (q ∷ qs) known ih = inner q (nest_number plan p) p (ih q (omega (arith, h, child_after q (nest_number plan p) p known)) (in_table plan.places q (nest_number plan p) p known)) known
+          by_round (q ∷ qs) known ih =
+              inner q (nest_number plan p) p
+              (ih q (omega (arith, h, child_after q (nest_number plan p) p known))
+              (in_table plan.places q (nest_number plan p) p known)) known

@@ -1,5 +1,5 @@
 -- How the plays of a draft unfold into places.
-use Rattle.std.specs.Prelude.{◌≡◌, ℕ, ◌+◌, List, [], ◌∷◌, ◌++◌, map, length, slice_index_or, zero, suc}
+use Rattle.std.specs.Prelude.{ℕ, ◌+◌, List, [], ◌∷◌, ◌++◌, map, length, slice_index_or, zero, suc}
 use Rattle.caa_base.specs.Written.Limits.{most_depth}
 use Rattle.place_plan.specs.declared.drafts.draft.Draft.{Draft}
 use Rattle.place_plan.specs.declared.drafts.draft_rows.PlaceRow.{PlaceRow}
@@ -91,12 +91,3 @@ plan_of draft = record {
   drills = draft.drills;
   watches = draft.watches;
 }
-
--- the place of an instance, before its nested uses have their places
-abbrev pub bare_place : ℕ → List ℕ → List ℕ → ℕ → PlaceRow
-bare_place a who around i = record { around = around; nest = i; action = a; roles = who; children = [] }
-
--- these are the places into which plays of such actions unfold, and these of them are the plays
-pub record IsMade (actions : List ActionRow) (plays : List PlayRow) (places : List PlaceRow) (tops : List ℕ) : Type 0 where
-  pub places_are : places ≡ plays_from (unfold_at most_depth actions) 0 plays
-  pub tops_are : tops ≡ tops_from (unfold_at most_depth actions) 0 plays

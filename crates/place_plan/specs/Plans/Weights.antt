@@ -1,12 +1,10 @@
 -- How much the actions of a draft unfold into, counted up to a most.
-use Rattle.std.specs.Prelude.{ℕ, ◌+◌, ◌<◌, ◌≡◌, min, Bool, List, slice_index_or, sum_by, length, zero, suc}
+use Rattle.std.specs.Prelude.{ℕ, ◌+◌, min, List, slice_index_or, sum_by, length, zero, suc}
 use Rattle.place_plan.specs.declared.drafts.draft_rows.ActionRow.{ActionRow}
 use Rattle.place_plan.specs.declared.drafts.draft_rows.NestRow.{NestRow}
 use Rattle.place_plan.specs.declared.drafts.draft_rows.PlayRow.{PlayRow}
-use Rattle.std.specs.List.{list_all}
 use Rattle.place_plan.specs.Plans.Places.{no_action}
 use Rattle.place_plan.specs.Plans.Bound.{action_bound}
-use Rattle.place_plan.specs.Drafts.DraftRules.{all_below}
 
 -- the greatest number that is counted
 abbrev pub most_counted : ℕ
@@ -37,12 +35,3 @@ own_entries action = action_bound action (length action.roles)
 -- the weight of all plays
 abbrev pub played_weight : (ℕ → ℕ) → List PlayRow → ℕ
 played_weight weight plays = sum_by (λ (play : PlayRow). weight play.action) plays
-
--- the table tells this of each action, as far as it is counted
-abbrev pub Tells : List ActionRow → List ℕ → (ℕ → ℕ) → Type 0
-Tells actions table f = (a : ℕ) → a < length actions → at table a ≡ counted (f a)
-
--- each use of an action is of actions that are there
-abbrev pub are_nests_known : List ActionRow → Bool
-are_nests_known actions =
-    list_all (λ (action : ActionRow). list_all (λ (nest : NestRow). all_below (length actions) nest.actions) action.nests) actions

@@ -8,6 +8,7 @@ use Rattle.caa_base.specs.declared.written.entry.Test.{Test}
 use Rattle.caa_base.specs.declared.written.entry.Test.TheVariants.{Below, Above, Equal}
 use Rattle.caa_base.specs.declared.written.entry.Verdict.{Verdict}
 use Rattle.caa_base.specs.declared.written.entry.Verdict.TheVariants as verdict
+use Rattle.caa_base.specs.Written.Marks.{verdict_of_mark}
 use Rattle.place_plan.specs.declared.drafts.draft_rows.Program.{Program}
 use Rattle.place_plan.specs.declared.drafts.draft_rows.Step.{Step}
 use Rattle.place_plan.specs.declared.drafts.draft_rows.Step.TheVariants as step
@@ -131,7 +132,7 @@ is_able plan past p t = (is_calm plan past p && not (has_given plan past p t)) |
 
 -- the verdict that an entry says
 abbrev pub verdict_at : Entry → Verdict
-verdict_at e = if e.mark == 0 then verdict.Done else (if e.mark == 1 then verdict.Signal e.arg else verdict.Undo)
+verdict_at e = verdict_of_mark e.mark e.arg
 
 -- the verdict that t gave last in p
 abbrev pub verdict_of : List Entry → ℕ → ℕ → Option Verdict

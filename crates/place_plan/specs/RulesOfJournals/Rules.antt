@@ -2,10 +2,13 @@
 use Rattle.std.specs.Prelude.{◌≡◌, ℕ, ℤ, pos, neg_ℤ, ◌+ℤ◌, ◌==◌, Bool, true, false, not, ◌&&◌, ◌||◌, if◌then◌else◌, List, [], ◌∷◌, Option, Some, None, MatchBool, MatchOption, is_none, int_lt}
 use Rattle.cover_table.specs.Cover.{IsLeastCover}
 use Rattle.caa_base.specs.Written.Limits.{most_value}
+use Rattle.caa_base.specs.Written.Marks.{verdict_mark, mark_of}
 use Rattle.caa_base.specs.Written.Mixing.{mix}
 use Rattle.caa_base.specs.declared.written.entry.Entry.{Entry}
 use Rattle.caa_base.specs.declared.written.entry.Kind.{Kind}
 use Rattle.caa_base.specs.declared.written.entry.Kind.TheVariants as kind
+use Rattle.caa_base.specs.declared.written.entry.Outcome.{Outcome}
+use Rattle.caa_base.specs.declared.written.entry.Outcome.TheVariants as outcome
 use Rattle.caa_base.specs.declared.written.entry.Verdict.{Verdict}
 use Rattle.caa_base.specs.declared.written.entry.Verdict.TheVariants as verdict
 use Rattle.place_plan.specs.declared.drafts.draft_rows.AbortRow.{AbortRow}
@@ -16,7 +19,7 @@ use Rattle.place_plan.specs.Plans.PlanValue.{Plan}
 use Rattle.caa_base.specs.Written.Lists.{first_not}
 use Rattle.place_plan.specs.Plans.Places.{parent, roles_of, handler_of, abort_row, internal_of, interface_of, alternates_of, nest_of, map_signal}
 use Rattle.place_plan.specs.RulesOfJournals.Entries.{has, has_by, is_in, is_by, newest}
-use Rattle.place_plan.specs.RulesOfJournals.Whereabouts.{inside, all_are_inside, has_started, has_ended, is_undoing, is_going, is_left_in_silence}
+use Rattle.place_plan.specs.RulesOfJournals.Whereabouts.{outcome_at, inside, all_are_inside, has_started, has_ended, is_undoing, is_going, is_left_in_silence}
 use Rattle.place_plan.specs.RulesOfJournals.Raising.{has_handled, exceptions_raised, is_doomed, is_calm, is_hot, is_halted, all_are_halted, exception_resolved}
 use Rattle.place_plan.specs.RulesOfJournals.Objects.{holder_of, objects_are_ready, value_of, before_start, has_failed, next_restore}
 use Rattle.place_plan.specs.RulesOfJournals.Roles.{register, program_of, next_step, next_raise, meets, has_given, all_have_given, is_handling, was_refused_in_handler, is_able, wants_undo, signals, has_aborted, all_have_aborted, next_play}
@@ -36,9 +39,7 @@ Names e (Some x) = (e.mark ≡ 1) × (e.arg ≡ x)
 
 -- the entry says this verdict
 abbrev pub SaysVerdict : Entry → Verdict → Type 0
-SaysVerdict e verdict.Done = (e.mark ≡ 0) × (e.arg ≡ 0)
-SaysVerdict e (verdict.Signal x) = (e.mark ≡ 1) × (e.arg ≡ x)
-SaysVerdict e verdict.Undo = (e.mark ≡ 2) × (e.arg ≡ 0)
+SaysVerdict e v = (e.mark ≡ (verdict_mark v).0) × (e.arg ≡ (verdict_mark v).1)
 
 -- ---- coming to a place, and going away from one that never started
 
@@ -253,7 +254,9 @@ SignalsLeast plan e (x ∷ xs) = (e.mark ≡ 1) × IsLeastCover (interface_of pl
 
 -- the mark of an End after an undo: failed where the device refused a restore, aborted where the roles gave up, else undone
 abbrev pub undone_mark : List Entry → ℕ → ℕ
-undone_mark past p = if has_failed past p then 4 else (if has kind.Abort past p then 3 else 2)
+undone_mark past p =
+    if has_failed past p then mark_of outcome.Failed
+    else (if has kind.Abort past p then mark_of outcome.Aborted else mark_of outcome.Undone)
 
 -- an undo ends once each object was tried
 pub record EndsUndone (plan : Plan) (past : List Entry) (e : Entry) : Type 0 where
@@ -283,16 +286,19 @@ abbrev pub abort_mapped : Plan → ℕ → Option Entry → Option ℕ
 abort_mapped plan p None = None
 abort_mapped plan p (Some e) = if e.mark == 1 then Some (map_signal plan p e.arg) else None
 
--- what the End of p means in the place round p, by its mark: nothing after a commit, the exception that its signal, its undo or its
--- failure is there, and after an abort the one that the Abort of who leaves is there
+-- what an outcome of p means in the place round p: nothing after a commit, the exception that its signal, its undo or its failure is
+-- there, and after an abort the one that the Abort of who leaves is there
+abbrev pub mapped_by_outcome : Plan → ℕ → Option Entry → Outcome → Option ℕ
+mapped_by_outcome plan p abort outcome.Commit = None
+mapped_by_outcome plan p abort (outcome.Signal x) = Some (map_signal plan p x)
+mapped_by_outcome plan p abort outcome.Undone = Some (nest_of plan p).undo
+mapped_by_outcome plan p abort outcome.Aborted = abort_mapped plan p abort
+mapped_by_outcome plan p abort outcome.Failed = Some (nest_of plan p).failure
+
+-- what the End of p means in the place round p
 abbrev pub outcome_mapped : Plan → ℕ → Option Entry → Option Entry → Option ℕ
 outcome_mapped plan p None abort = None
-outcome_mapped plan p (Some end) abort =
-    if end.mark == 0 then None
-    else (if end.mark == 1 then Some (map_signal plan p end.arg)
-    else (if end.mark == 2 then Some (nest_of plan p).undo
-    else (if end.mark == 3 then abort_mapped plan p abort
-    else Some (nest_of plan p).failure)))
+outcome_mapped plan p (Some end) abort = mapped_by_outcome plan p abort (outcome_at end)
 
 -- nothing is carried out of a play, or into a doomed place
 abbrev pub is_deaf : Plan → List Entry → Option ℕ → Bool

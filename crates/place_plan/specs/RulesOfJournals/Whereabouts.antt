@@ -4,6 +4,9 @@ use Rattle.std.specs.List.{list_all}
 use Rattle.caa_base.specs.declared.written.entry.Entry.{Entry}
 use Rattle.caa_base.specs.declared.written.entry.Kind.{Kind}
 use Rattle.caa_base.specs.declared.written.entry.Kind.TheVariants as kind
+use Rattle.caa_base.specs.declared.written.entry.Outcome.{Outcome}
+use Rattle.caa_base.specs.declared.written.entry.Outcome.TheVariants as outcome
+use Rattle.caa_base.specs.Written.Marks.{outcome_of_mark, mark_of}
 use Rattle.place_plan.specs.Plans.PlanValue.{Plan}
 use Rattle.caa_base.specs.Written.Lists.{is_at}
 use Rattle.place_plan.specs.Plans.Places.{parent, roles_of, next_alternate}
@@ -58,10 +61,14 @@ has_ended past p = has kind.End past p
 abbrev pub is_undoing : List Entry → ℕ → Bool
 is_undoing past p = has kind.Undo past p
 
+-- the outcome that an End says
+abbrev pub outcome_at : Entry → Outcome
+outcome_at e = outcome_of_mark e.mark e.arg
+
 -- the entry is the End of an undo that went well
 abbrev pub is_undone : Option Entry → Bool
 is_undone None = false
-is_undone (Some e) = e.mark == 2
+is_undone (Some e) = e.mark == mark_of outcome.Undone
 
 -- p was undone, but another alternate is left to be tried: nothing is said of p, and its roles go there
 abbrev pub is_left_in_silence : Plan → List Entry → ℕ → Bool

@@ -8,10 +8,10 @@ use crate::drafts::depth::keeps_depth;
 use crate::drafts::draft::Draft;
 use crate::drafts::fitting::{keeps_graphs, keeps_sizes};
 use crate::drafts::ranges::keeps_ranges;
-use crate::plans::unfolded::{Size, unfolded};
 use crate::drafts::uses::{
     keeps_enters, keeps_faces, keeps_fillings, keeps_handlers, keeps_objects, keeps_order,
 };
+use crate::plans::unfolded::{Size, unfolded};
 use caa_base::written::limits::{MOST_ENTRIES, MOST_PLACES};
 
 /// The least rule of a number below 10 that a draft breaks, as `Plan::close` tells the rules. Where it is none, the draft may be
@@ -42,39 +42,26 @@ pub fn broken_part(draft: &Draft) -> Option<u32>
     }
 }
 
-/// How much a draft unfolds into, where that is no more places, and no longer journals, than the limits allow.
-fn size_within_limits(draft: &Draft) -> Option<Size>
+/// Whether a draft unfolds into no more places, and no longer journals, than the limits allow.
+fn keeps_bound(draft: &Draft) -> bool
     requires { KeepsParts draft.now }
-    ensures rule { is_some result ≡ bound_rule draft.now }
-    ensures bound { IfSome result (λ size. size.bound ≡ counted (bound (plan_of draft.now))) }
+    ensures { result ≡ bound_rule draft.now }
 {
     let size = unfolded(draft);
-    if size.places <= MOST_PLACES && size.bound <= MOST_ENTRIES {
-        Some(size)
-    } else {
-        None
-    }
-}
-
-/// How much a draft that breaks no rule unfolds into, or else the least rule that it breaks, as `Plan::close` tells the rules. No
-/// memory is taken.
-pub(crate) fn size_of(draft: &Draft) -> Result<Size, u32>
-    ensures rule { MatchResult result (λ size. broken_rule draft.now ≡ None) (λ rule. broken_rule draft.now ≡ Some rule) }
-    ensures bound { IfOk result (λ size. size.bound ≡ counted (bound (plan_of draft.now))) }
-{
-    if let Some(rule) = broken_part(draft) {
-        return Err(rule);
-    }
-    match size_within_limits(draft) {
-        None => Err(10),
-        Some(size) if keeps_faces(draft) => Ok(size),
-        Some(_) => Err(11),
-    }
+    size.places <= MOST_PLACES && size.bound <= MOST_ENTRIES
 }
 
 /// The least rule that a draft breaks, as `Plan::close` tells the rules. No memory is taken.
 pub fn broken_rule(draft: &Draft) -> Option<u32>
     ensures { result ≡ broken_rule draft.now }
 {
-    size_of(draft).err()
+    if let Some(rule) = broken_part(draft) {
+        Some(rule)
+    } else if !keeps_bound(draft) {
+        Some(10)
+    } else if !keeps_faces(draft) {
+        Some(11)
+    } else {
+        None
+    }
 }

@@ -2,7 +2,8 @@ ghost use Rattle.std.specs.Prelude.{◌≡◌, ◌≤◌, ◌+◌, ℕ, ◌<◌,
 ghost use Rattle.caa_base.specs.Written.Limits.{most_actions, most_depth};
 ghost use Rattle.place_plan.specs.Plans.Places.{no_action};
 ghost use Rattle.place_plan.specs.Drafts.DraftRules.{deepest_of, deepest, depth_within, depth_rule};
-ghost use Rattle.place_plan.specs.Plans.Weights.{counted, at, Tells, are_nests_known};
+ghost use Rattle.place_plan.specs.Plans.Weights.{counted, at};
+ghost use Rattle.place_plan.specs.inner.Tables.{Tells, are_nests_known};
 
 use crate::drafts::draft::Draft;
 use crate::drafts::draft_rows::{ActionRow, NestRow};

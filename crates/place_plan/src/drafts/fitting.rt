@@ -19,7 +19,6 @@ fn handlers_fit(role: &RoleRow) -> bool
     ensures { result ≡ list_all (λ h. program_fits h.program) role.now.handlers }
 {
     role.handlers
-        .as_slice()
         .iter()
         .all(|handler| program_fits(&handler.program))
 }
@@ -33,7 +32,7 @@ fn role_fits(role: &RoleRow) -> bool
 fn roles_fit(action: &ActionRow) -> bool
     ensures { result ≡ list_all role_fits action.now.roles }
 {
-    action.roles.as_slice().iter().all(|role| role_fits(role))
+    action.roles.iter().all(|role| role_fits(role))
 }
 
 fn nest_fits(nest: &NestRow) -> bool
@@ -45,7 +44,7 @@ fn nest_fits(nest: &NestRow) -> bool
 fn nests_fit(action: &ActionRow) -> bool
     ensures { result ≡ list_all nest_fits action.now.nests }
 {
-    action.nests.as_slice().iter().all(|nest| nest_fits(nest))
+    action.nests.iter().all(|nest| nest_fits(nest))
 }
 
 fn action_fits(action: &ActionRow) -> bool
@@ -61,11 +60,7 @@ fn action_fits(action: &ActionRow) -> bool
 fn actions_fit(draft: &Draft) -> bool
     ensures { result ≡ list_all action_fits draft.now.actions }
 {
-    draft
-        .actions
-        .as_slice()
-        .iter()
-        .all(|action| action_fits(action))
+    draft.actions.iter().all(|action| action_fits(action))
 }
 
 /// Whether no list is longer than its limit, no action is without roles, and no nested use without actions.
@@ -91,7 +86,7 @@ fn is_named(row: &GraphRow) -> bool
 fn are_named(draft: &Draft) -> bool
     ensures { result ≡ list_all is_named draft.now.graphs }
 {
-    draft.graphs.as_slice().iter().all(|row| is_named(row))
+    draft.graphs.iter().all(|row| is_named(row))
 }
 
 /// Whether graph 0 has one exception alone, and each graph a name for each.

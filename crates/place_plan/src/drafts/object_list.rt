@@ -3,7 +3,7 @@
 ghost use Rattle.std.specs.Prelude.{◌≡◌, ◌↔◌, [], length, IfSome, IsTrue};
 ghost use Rattle.std.specs.List.{list_all};
 ghost use Rattle.caa_base.specs.Written.Lists.{is_empty, member};
-ghost use Rattle.place_plan.specs.Drafts.ObjectBits.{bits_have, AreBitsOf, HaveAllBits};
+ghost use Rattle.place_plan.specs.inner.ObjectBits.{bits_have, AreBitsOf, HaveAllBits};
 
 use crate::rules::member::is_member;
 use caa_base::written::entry::Object;
@@ -26,7 +26,7 @@ pub struct ObjectList {
 
 impl Model for ObjectList {
     ghost use Rattle.std.specs.Prelude.{List, ℕ};
-    ghost use Rattle.place_plan.specs.Drafts.ObjectBits.{MayBeBitsOf};
+    ghost use Rattle.place_plan.specs.inner.ObjectBits.{MayBeBitsOf};
 
     ghost Value = { List ℕ };
 

@@ -63,7 +63,6 @@ fn steps_in_range(program: &Program, objects: usize, internal: u32) -> bool
 {
     program
         .steps
-        .as_slice()
         .iter()
         .all(|step| step_in_range(step, objects, internal))
 }
@@ -83,9 +82,7 @@ fn handler_in_range(handler: &HandlerRow, objects: usize, internal: u32, interfa
 fn handlers_in_range(role: &RoleRow, objects: usize, internal: u32, interface: u32) -> bool
     ensures { result ≡ list_all (handler_in_range objects internal interface) role.now.handlers }
 {
-    role.handlers.as_slice().iter().all(|handler| handler_in_range(
-        handler, objects, internal, interface,
-    ))
+    role.handlers.iter().all(|handler| handler_in_range(handler, objects, internal, interface))
 }
 
 fn role_in_range(role: &RoleRow, objects: usize, internal: u32, interface: u32) -> bool
@@ -101,7 +98,6 @@ fn roles_in_range(action: &ActionRow, objects: usize, internal: u32, interface: 
 {
     action
         .roles
-        .as_slice()
         .iter()
         .all(|role| role_in_range(role, objects, internal, interface))
 }
@@ -149,7 +145,6 @@ fn nests_in_range(action: &ActionRow, actions: usize, internal: u32) -> bool
     let roles = action.roles.len();
     action
         .nests
-        .as_slice()
         .iter()
         .all(|nest| nest_in_range(nest, actions, roles, internal))
 }
@@ -202,11 +197,7 @@ fn drill_in_range(draft: &Draft, drill: &Drill) -> bool
 fn initials_in_range(draft: &Draft) -> bool
     ensures { result ≡ list_all (λ o. is_value o.initial) draft.now.objects }
 {
-    draft
-        .objects
-        .as_slice()
-        .iter()
-        .all(|object| is_value(object.initial))
+    draft.objects.iter().all(|object| is_value(object.initial))
 }
 
 fn actions_in_range(draft: &Draft) -> bool
@@ -214,7 +205,6 @@ fn actions_in_range(draft: &Draft) -> bool
 {
     draft
         .actions
-        .as_slice()
         .iter()
         .all(|action| action_in_range(draft, action))
 }
@@ -222,11 +212,7 @@ fn actions_in_range(draft: &Draft) -> bool
 fn plays_in_range(draft: &Draft) -> bool
     ensures { result ≡ list_all (play_in_range draft.now) draft.now.plays }
 {
-    draft
-        .plays
-        .as_slice()
-        .iter()
-        .all(|play| play_in_range(draft, play))
+    draft.plays.iter().all(|play| play_in_range(draft, play))
 }
 
 fn drills_in_range(draft: &Draft) -> bool
@@ -234,7 +220,6 @@ fn drills_in_range(draft: &Draft) -> bool
 {
     draft
         .drills
-        .as_slice()
         .iter()
         .all(|drill| drill_in_range(draft, drill))
 }

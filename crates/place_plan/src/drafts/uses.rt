@@ -8,9 +8,9 @@ ghost use Rattle.place_plan.specs.Drafts.DraftRules.{all_below, nests_below, ord
 use crate::drafts::differing::all_differ;
 use crate::drafts::draft::Draft;
 use crate::drafts::draft_rows::{ActionRow, HandlerRow, NestRow, Program, RoleRow, Step};
-use crate::rules::member::is_member;
 use crate::drafts::object_list::ObjectList;
 use crate::drafts::ranges::{all_below, exceptions_of};
+use crate::rules::member::is_member;
 use caa_base::written::entry::Exception;
 
 // ---- the order of actions
@@ -21,7 +21,6 @@ fn nests_below(number: usize, action: &ActionRow) -> bool
 {
     action
         .nests
-        .as_slice()
         .iter()
         .all(|nest| all_below(number, nest.actions.as_slice()))
 }
@@ -55,30 +54,19 @@ fn nest_fills(draft: &Draft, nest: &NestRow) -> bool
     ensures { result ≡ nest_fills draft.now nest.now }
 {
     let who = nest.roles.as_slice();
-    nest.actions
-        .as_slice()
-        .iter()
-        .all(|action| fills(draft, *action, who))
+    nest.actions.iter().all(|action| fills(draft, *action, who))
 }
 
 fn nests_fill(draft: &Draft, action: &ActionRow) -> bool
     ensures { result ≡ list_all (nest_fills draft.now) action.now.nests }
 {
-    action
-        .nests
-        .as_slice()
-        .iter()
-        .all(|nest| nest_fills(draft, nest))
+    action.nests.iter().all(|nest| nest_fills(draft, nest))
 }
 
 fn all_nests_fill(draft: &Draft) -> bool
     ensures { result ≡ list_all (λ action. list_all (nest_fills draft.now) action.nests) draft.now.actions }
 {
-    draft
-        .actions
-        .as_slice()
-        .iter()
-        .all(|action| nests_fill(draft, action))
+    draft.actions.iter().all(|action| nests_fill(draft, action))
 }
 
 fn plays_fill(draft: &Draft) -> bool
@@ -86,7 +74,6 @@ fn plays_fill(draft: &Draft) -> bool
 {
     draft
         .plays
-        .as_slice()
         .iter()
         .all(|play| fills(draft, play.action, play.who.as_slice()))
 }
@@ -138,10 +125,7 @@ fn enters_nothing(handler: &HandlerRow) -> bool
 fn handlers_enter_nothing(role: &RoleRow) -> bool
     ensures { result ≡ list_all (λ h. is_empty (entered_by h.program.steps)) role.now.handlers }
 {
-    role.handlers
-        .as_slice()
-        .iter()
-        .all(|handler| enters_nothing(handler))
+    role.handlers.iter().all(|handler| enters_nothing(handler))
 }
 
 /// Whether each body goes once through all uses in which its role takes part, in their order, and handlers go through none.
@@ -187,18 +171,13 @@ fn holds_step(objects: &ObjectList, step: &Step) -> bool
 fn holds_program(objects: &ObjectList, program: &Program) -> bool
     ensures { result ≡ list_all (holds_step objects.now) program.now.steps }
 {
-    program
-        .steps
-        .as_slice()
-        .iter()
-        .all(|step| holds_step(objects, step))
+    program.steps.iter().all(|step| holds_step(objects, step))
 }
 
 fn holds_handlers(objects: &ObjectList, role: &RoleRow) -> bool
     ensures { result ≡ list_all (λ h. list_all (holds_step objects.now) h.program.steps) role.now.handlers }
 {
     role.handlers
-        .as_slice()
         .iter()
         .all(|handler| holds_program(objects, &handler.program))
 }
@@ -214,7 +193,6 @@ fn holds_roles(action: &ActionRow) -> bool
 {
     action
         .roles
-        .as_slice()
         .iter()
         .all(|role| holds_role(&action.objects, role))
 }
@@ -233,7 +211,6 @@ fn holds_nest(draft: &Draft, objects: &ObjectList, nest: &NestRow) -> bool
     ensures { result ≡ holds_nest draft.now objects.now nest.now }
 {
     nest.actions
-        .as_slice()
         .iter()
         .all(|action| holds_objects(draft, objects, *action))
 }
@@ -243,7 +220,6 @@ fn holds_nests(draft: &Draft, action: &ActionRow) -> bool
 {
     action
         .nests
-        .as_slice()
         .iter()
         .all(|nest| holds_nest(draft, &action.objects, nest))
 }
@@ -260,7 +236,6 @@ pub(crate) fn keeps_objects(draft: &Draft) -> bool
 {
     draft
         .actions
-        .as_slice()
         .iter()
         .all(|action| holds_action(draft, action))
 }
@@ -295,11 +270,7 @@ fn has_handler(exception: Exception, handlers: &[HandlerRow]) -> bool
 fn all_handlers_differ(action: &ActionRow) -> bool
     ensures { result ≡ list_all handlers_differ action.now.roles }
 {
-    action
-        .roles
-        .as_slice()
-        .iter()
-        .all(|role| handlers_differ(role))
+    action.roles.iter().all(|role| handlers_differ(role))
 }
 
 /// The number of the interface graph of an action; 0 where there is no such action.
@@ -332,19 +303,14 @@ fn maps_all(draft: &Draft, nest: &NestRow) -> bool
 fn nests_map_all(draft: &Draft, action: &ActionRow) -> bool
     ensures { result ≡ list_all (maps_all draft.now) action.now.nests }
 {
-    action
-        .nests
-        .as_slice()
-        .iter()
-        .all(|nest| maps_all(draft, nest))
+    action.nests.iter().all(|nest| maps_all(draft, nest))
 }
 
 /// Whether the handlers of each role differ, and each use maps all exceptions of its actions.
 pub(crate) fn keeps_handlers(draft: &Draft) -> bool
     ensures { result ≡ handler_rule draft.now }
 {
-    draft.actions.as_slice().iter().all(|action| all_handlers_differ(action)
-        && nests_map_all(draft, action))
+    draft.actions.iter().all(|action| all_handlers_differ(action) && nests_map_all(draft, action))
 }
 
 /// Whether all actions of a use have one interface graph.
@@ -353,7 +319,6 @@ fn has_one_face(draft: &Draft, nest: &NestRow) -> bool
 {
     let face = face_of(draft, nest);
     nest.actions
-        .as_slice()
         .iter()
         .all(|action| interface_of(draft, *action) == face)
 }
@@ -361,11 +326,7 @@ fn has_one_face(draft: &Draft, nest: &NestRow) -> bool
 fn nests_have_one_face(draft: &Draft, action: &ActionRow) -> bool
     ensures { result ≡ list_all (has_one_face draft.now) action.now.nests }
 {
-    action
-        .nests
-        .as_slice()
-        .iter()
-        .all(|nest| has_one_face(draft, nest))
+    action.nests.iter().all(|nest| has_one_face(draft, nest))
 }
 
 /// Whether the actions of each use tell the same exceptions outside.
@@ -374,7 +335,6 @@ pub(crate) fn keeps_faces(draft: &Draft) -> bool
 {
     draft
         .actions
-        .as_slice()
         .iter()
         .all(|action| nests_have_one_face(draft, action))
 }

@@ -4,9 +4,9 @@ ghost use Rattle.std.specs.Prelude.{◌≡◌, ◌+◌};
 ghost use Rattle.place_plan.specs.Drafts.DraftRules.{deepest};
 ghost use Rattle.place_plan.specs.Plans.Weights.{counted, at, nested_weight, own_entries};
 
-use crate::plans::bound::own_bound;
 use crate::drafts::depth::deepest;
 use crate::drafts::draft_rows::{ActionRow, NestRow};
+use crate::plans::bound::own_bound;
 use crate::plans::tables::counted_sum;
 use crate::plans::unfolded::nested_weight;
 

@@ -6,13 +6,14 @@ ghost use Rattle.place_plan.specs.Plans.Unfolding.{plan_of};
 ghost use Rattle.place_plan.specs.Drafts.DraftRules.{broken_rule};
 ghost use Rattle.place_plan.specs.Plans.Closed.{AreSound, IsClosed};
 
-use crate::drafts::close::size_of;
+use crate::drafts::close::broken_rule;
 use crate::drafts::draft::Draft;
 use crate::drafts::draft_rows::{
     AbortRow, ActionRow, GraphRow, HandlerRow, NestRow, ObjectRow, PlaceRow, Program, RoleRow,
 };
-use crate::rules::member::is_member;
+use crate::plans::unfolded::unfolded;
 use crate::plans::unfolding::unfold_plays;
+use crate::rules::member::is_member;
 use caa_base::written::entry::{Drill, Exception, Object, OutOfMemory, Participant, Place};
 use caa_base::written::name::{Name, name_at};
 use caa_base::written::rows::Rows;
@@ -23,7 +24,7 @@ use thiserror::Error;
 
 /// The actions, and the places into which their plays unfold.
 ///
-/// A plan is made by `Plan::close` alone: it is the unfolding of a draft that breaks no rule.
+/// A plan is made by `Plan::close` and `Plan::of_sound` alone: it is the unfolding of a draft that breaks no rule.
 #[derive(Drop)]
 pub struct Plan {
     participants: Rows<Name>,
@@ -39,7 +40,7 @@ pub struct Plan {
 
 impl Model for Plan {
     ghost use Rattle.place_plan.specs.Plans.PlanValue.{Plan as PlanValue};
-    ghost use Rattle.place_plan.specs.Plans.PlanView.{plan_view, IsKept};
+    ghost use Rattle.place_plan.specs.inner.PlanView.{plan_view, IsKept};
 
     ghost Value = { PlanValue };
 
@@ -151,10 +152,21 @@ impl Plan {
         ensures bad { (rule : ℕ) → result ≡ Err (PlanError.BadPart rule) → broken_rule draft ≡ Some rule }
         ensures memory { result ≡ Err PlanError.OutOfMemory → broken_rule draft ≡ None }
     {
-        let size = match size_of(&draft) {
-            Ok(size) => size,
-            Err(rule) => return Err(PlanError::BadPart { rule }),
-        };
+        match broken_rule(&draft) {
+            Some(rule) => Err(PlanError::BadPart { rule }),
+            None => match Plan::of_sound(alloc, draft) {
+                Ok(plan) => Ok(plan),
+                Err(OutOfMemory) => Err(PlanError::OutOfMemory),
+            },
+        }
+    }
+
+    /// The plan into which a draft unfolds that is known to break no rule: `broken_rule` tells whether it does.
+    pub fn of_sound(alloc: Global, draft: Draft) -> Result<Plan, OutOfMemory>
+        requires { broken_rule draft ≡ None }
+        ensures { IfOk result (λ plan. plan ≡ plan_of draft) }
+    {
+        let size = unfolded(&draft);
         are_sound(draft.graphs.as_slice());
         let Draft {
             participants,
@@ -165,9 +177,7 @@ impl Plan {
             drills,
             watches,
         } = draft;
-        let Ok((places, tops)) = unfold_plays(alloc, actions.as_slice(), plays) else {
-            return Err(PlanError::OutOfMemory);
-        };
+        let (places, tops) = unfold_plays(alloc, actions.as_slice(), plays)?;
         Ok(Plan {
             participants,
             objects,

@@ -4,11 +4,12 @@ ghost use Rattle.place_plan.specs.Plans.Places.{no_action};
 ghost use Rattle.place_plan.specs.Plans.Bound.{bound};
 ghost use Rattle.place_plan.specs.Plans.Unfolding.{plan_of};
 ghost use Rattle.place_plan.specs.Drafts.DraftRules.{KeepsParts};
-ghost use Rattle.place_plan.specs.Plans.Weights.{counted, at, nested_weight, own_entries, weight, played_weight, Tells, are_nests_known};
+ghost use Rattle.place_plan.specs.Plans.Weights.{counted, at, nested_weight, own_entries, weight, played_weight};
+ghost use Rattle.place_plan.specs.inner.Tables.{Tells, are_nests_known};
 
-use crate::plans::bound::own_bound;
 use crate::drafts::draft::Draft;
 use crate::drafts::draft_rows::{ActionRow, NestRow, PlayRow};
+use crate::plans::bound::own_bound;
 use crate::plans::tables::{Table, counted_sum, number_at};
 use caa_base::written::limits::{MOST_ACTIONS, MOST_DEPTH};
 

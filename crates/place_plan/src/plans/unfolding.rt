@@ -3,7 +3,8 @@ ghost use Rattle.std.specs.List.{list_all};
 ghost use Rattle.caa_base.specs.Written.Limits.{most_actions, most_depth, most_places};
 ghost use Rattle.place_plan.specs.Plans.Places.{no_action};
 ghost use Rattle.place_plan.specs.Drafts.DraftRules.{action_fits};
-ghost use Rattle.place_plan.specs.Plans.Unfolding.{unfold_at, use_from, numbers_from, cast_of, bare_place, plays_from, IsMade};
+ghost use Rattle.place_plan.specs.Plans.Unfolding.{unfold_at, use_from, numbers_from, cast_of, plays_from};
+ghost use Rattle.place_plan.specs.inner.Unfolded.{bare_place, IsMade};
 
 use crate::drafts::draft_rows::{ActionRow, NestRow, PlaceRow, PlayRow};
 use caa_base::written::entry::{Participant, Place};

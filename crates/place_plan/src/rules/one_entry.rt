@@ -2,10 +2,11 @@
 
 ghost use Rattle.std.specs.Prelude.{◌≡◌};
 ghost use Rattle.place_plan.specs.RulesOfJournals.Roles.{verdict_at};
+ghost use Rattle.place_plan.specs.RulesOfJournals.Whereabouts.{outcome_at};
 ghost use Rattle.place_plan.specs.RulesOfJournals.Journals.{ends_play};
 
 use crate::plans::plan::Plan;
-use caa_base::written::entry::{Entry, Kind, Verdict};
+use caa_base::written::entry::{Entry, Kind, Outcome, Verdict};
 
 /// Whether an entry is the End of a play.
 pub fn ends_play(plan: &Plan, entry: &Entry) -> bool
@@ -18,9 +19,12 @@ pub fn ends_play(plan: &Plan, entry: &Entry) -> bool
 pub fn verdict_at(entry: &Entry) -> Verdict
     ensures { result ≡ verdict_at entry.now }
 {
-    match entry.mark {
-        0 => Verdict::Done,
-        1 => Verdict::Signal(entry.arg),
-        _ => Verdict::Undo,
-    }
+    Verdict::of_mark(entry.mark, entry.arg)
+}
+
+/// The outcome that an End says.
+pub fn outcome_at(entry: &Entry) -> Outcome
+    ensures { result ≡ outcome_at entry.now }
+{
+    Outcome::of_mark(entry.mark, entry.arg)
 }

@@ -1,7 +1,8 @@
 use Rattle.std.proofs.Common.{◌≡◌, ◌∙◌, ap, sym, subst, arith, add-one, suc}
 use Rattle.caa_base.specs.Written.Limits.{most_actions, most_depth}
 use Rattle.place_plan.specs.Drafts.DraftRules.{depth_within}
-use Rattle.place_plan.specs.Plans.Weights.{counted, Tells}
+use Rattle.place_plan.specs.Plans.Weights.{counted}
+use Rattle.place_plan.specs.inner.Tables.{Tells}
 use Rattle.place_plan.proofs.OnPlans.Counted.{depth_more, depth_none, zeros_tell}
 use Rattle.place_plan.proofs.drafts.depth.depths_of.Goals as goal
 

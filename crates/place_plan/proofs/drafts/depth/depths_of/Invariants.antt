@@ -1,5 +1,5 @@
 use Rattle.place_plan.specs.Drafts.DraftRules.{depth_within}
-use Rattle.place_plan.specs.Plans.Weights.{Tells}
+use Rattle.place_plan.specs.inner.Tables.{Tells}
 use Rattle.place_plan.proofs.drafts.depth.depths_of.Given as goal
 
 abbrev pub invariant-loop-level : goal.invariant-loop-level

@@ -11,11 +11,15 @@ use Rattle.place_plan.proofs.drafts.depth.one_level_more.Goals as goal
 pub loop-number-preserved : goal.loop-number-preserved
 loop-number-preserved c =
     let l : c.loop-number.number < length c.args.actions.now = omega arith in
-    let row : c.index-actions-number.result ≡ slice_index_or c.args.actions.now c.loop-number.number no_action = c.index-actions-number.is ∙ get_or_default c.args.actions.now c.loop-number.number c.index-actions-number.result no_action l in
+    let row : c.index-actions-number.result ≡ slice_index_or c.args.actions.now c.loop-number.number no_action =
+    c.index-actions-number.is
+    ∙ get_or_default c.args.actions.now c.loop-number.number c.index-actions-number.result no_action l in
     let nested = c.deepest.ensures ∙ ap (deepest (at c.args.depths.now)) (c.as_slice.ensures ∙ ap (λ (a : ActionRow). a.nests) row) in
     record {
       told =
-          one_more c.loop-number.table c.loop-number.number c.counted_sum.result (λ a. counted (1 + deepest (at c.args.depths.now) (slice_index_or c.args.actions.now a no_action).nests))
-          (omega (arith, c.loop-number.invariant.long)) c.loop-number.invariant.told (c.counted_sum.ensures ∙ ap (λ n. counted (1 + n)) nested);
+          one_more c.loop-number.table c.loop-number.number c.counted_sum.result
+          (λ a. counted (1 + deepest (at c.args.depths.now) (slice_index_or c.args.actions.now a no_action).nests))
+          (omega (arith, c.loop-number.invariant.long)) c.loop-number.invariant.told
+          (c.counted_sum.ensures ∙ ap (λ n. counted (1 + n)) nested);
       long = length-set c.loop-number.table c.loop-number.number c.counted_sum.result ∙ c.loop-number.invariant.long;
     }

@@ -14,6 +14,7 @@ loop-object-preserved c =
       long = length-set c.loop-object.bits _ c.with_bit.result ∙ c.loop-object.invariant.long;
       told = λ n.
           one_number_more c.args.objects.now c.loop-object.object-index n _ _ c.loop-object-test.true
-          (one_bit_more c.loop-object.bits object c.with_bit.result n (omega (arith, c.loop-object.invariant.long, c.if-row-ge2.false)) c.with_bit.ensures)
+          (one_bit_more c.loop-object.bits object c.with_bit.result n
+          (omega (arith, c.loop-object.invariant.long, c.if-row-ge2.false)) c.with_bit.ensures)
           (c.loop-object.invariant.told n);
     }

@@ -13,7 +13,13 @@ pub returns : goal.returns
 unfolding action_bound
 returns c =
     let roles = c.args.action.now.roles in
-    let steps : c.counted_sum-steps.result ≡ counted (8 + longest_body c.as_slice-roles.result.now + longest_handler c.as_slice-roles.result.now) = omega arith in
-    let played : c.counted_product-played.result ≡ counted (length c.as_slice-roles.result.now * (8 + longest_body c.as_slice-roles.result.now + longest_handler c.as_slice-roles.result.now)) =
-    c.counted_product-played.ensures ∙ ap (λ s. counted (length c.as_slice-roles.result.now * s)) steps ∙ counted_mul (length c.as_slice-roles.result.now) (8 + longest_body c.as_slice-roles.result.now + longest_handler c.as_slice-roles.result.now) in
+    let steps : c.counted_sum-steps.result
+    ≡ counted (8 + longest_body c.as_slice-roles.result.now + longest_handler c.as_slice-roles.result.now) =
+    omega arith in
+    let played : c.counted_product-played.result
+    ≡ counted (length c.as_slice-roles.result.now * (8 + longest_body c.as_slice-roles.result.now + longest_handler
+    c.as_slice-roles.result.now)) =
+    c.counted_product-played.ensures ∙ ap (λ s. counted (length c.as_slice-roles.result.now * s)) steps
+    ∙ counted_mul (length c.as_slice-roles.result.now)
+    (8 + longest_body c.as_slice-roles.result.now + longest_handler c.as_slice-roles.result.now) in
     rw (← c.as_slice-roles.ensures) (omega (arith, played))

@@ -6,6 +6,7 @@ use Rattle.place_plan.proofs.plans.unfolded.one_level_deeper.Given as goal
 
 abbrev pub invariant-loop-number : goal.invariant-loop-number
 invariant-loop-number l = record {
-  told : (a : ℕ) → a < l.number → at l.table a ≡ counted (at l.own a + nested_weight (at l.weights) (slice_index_or l.actions a no_action).nests);
+  told : (a : ℕ) → a < l.number
+      → at l.table a ≡ counted (at l.own a + nested_weight (at l.weights) (slice_index_or l.actions a no_action).nests);
   long : length l.table ≡ most_actions;
 }

@@ -1,5 +1,6 @@
 use Rattle.std.proofs.Common.{◌≡◌, ◌+◌, ◌*◌, ◌-◌, ◌++◌, ◌∷◌, length, drop}
-use Rattle.place_plan.specs.Plans.Unfolding.{unfold_at, uses_from, children_from, alternates_from, numbers_from, bare_place}
+use Rattle.place_plan.specs.Plans.Unfolding.{unfold_at, uses_from, children_from, alternates_from, numbers_from}
+use Rattle.place_plan.specs.inner.Unfolded.{bare_place}
 use Rattle.place_plan.proofs.plans.unfolding.+unfolding.Given as goal
 
 abbrev pub decreases-unfold : goal.decreases-unfold
@@ -12,10 +13,13 @@ decreases-unfold_use l = 2 * l.depth + 1
 abbrev pub invariant-unfold-loop-number : goal.invariant-unfold-loop-number
 invariant-unfold-loop-number l = record {
   rows :
-      l.places.items ++ uses_from (unfold_at (l.depth - 1) l.actions) l.who l.outer.items l.number (length l.places.items) (drop l.number l.nests)
-      ≡ l.fn.places.items ++ bare_place l.action l.who l.around l.nest ∷ uses_from (unfold_at (l.depth - 1) l.actions) l.who l.outer.items 0 (length l.fn.places.items + 1) l.nests;
+      l.places.items ++ uses_from (unfold_at (l.depth - 1) l.actions) l.who l.outer.items l.number
+      (length l.places.items) (drop l.number l.nests)
+      ≡ l.fn.places.items ++ bare_place l.action l.who l.around l.nest ∷ uses_from
+      (unfold_at (l.depth - 1) l.actions) l.who l.outer.items 0 (length l.fn.places.items + 1) l.nests;
   numbers :
-      l.children.items ++ children_from (unfold_at (l.depth - 1) l.actions) l.who l.outer.items l.number (length l.places.items) (drop l.number l.nests)
+      l.children.items ++ children_from (unfold_at (l.depth - 1) l.actions) l.who l.outer.items l.number
+      (length l.places.items) (drop l.number l.nests)
       ≡ children_from (unfold_at (l.depth - 1) l.actions) l.who l.outer.items 0 (length l.fn.places.items + 1) l.nests;
 }
 
@@ -23,9 +27,12 @@ invariant-unfold-loop-number l = record {
 abbrev pub invariant-unfold_use-loop-action : goal.invariant-unfold_use-loop-action
 invariant-unfold_use-loop-action l = record {
   rows :
-      l.places.items ++ alternates_from (unfold_at l.depth l.actions) l.cast.items l.around l.nest (length l.places.items) (drop l.action-index l.action-items)
-      ≡ l.fn.places.items ++ alternates_from (unfold_at l.depth l.actions) l.cast.items l.around l.nest (length l.fn.places.items) l.action-items;
+      l.places.items ++ alternates_from (unfold_at l.depth l.actions) l.cast.items l.around l.nest
+      (length l.places.items) (drop l.action-index l.action-items)
+      ≡ l.fn.places.items ++ alternates_from (unfold_at l.depth l.actions) l.cast.items l.around l.nest
+      (length l.fn.places.items) l.action-items;
   numbers :
-      l.numbers.items ++ numbers_from (unfold_at l.depth l.actions) l.cast.items l.around l.nest (length l.places.items) (drop l.action-index l.action-items)
+      l.numbers.items ++ numbers_from (unfold_at l.depth l.actions) l.cast.items l.around l.nest (length l.places.items)
+      (drop l.action-index l.action-items)
       ≡ numbers_from (unfold_at l.depth l.actions) l.cast.items l.around l.nest (length l.fn.places.items) l.action-items;
 }

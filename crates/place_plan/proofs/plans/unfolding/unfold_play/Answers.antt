@@ -9,7 +9,8 @@ pub returns-then-is_empty : goal.returns-then-is_empty
 returns-then-is_empty c =
     let places = c.args.places.now.items in
     let play = c.args.play in
-    let none : c.nests_of.result.now ≡ [] = nil_from_length c.nests_of.result.now (eqb-true _ _ (sym c.is_empty.ensures ∙ c.if-is_empty.true)) in
+    let none : c.nests_of.result.now ≡ [] =
+    nil_from_length c.nests_of.result.now (eqb-true _ _ (sym c.is_empty.ensures ∙ c.if-is_empty.true)) in
     c.in_ok-push.ensures.items
     ∙ ap (λ row. places ++ row ∷ []) c.lone_place.ensures
     ∙ stands_alone most_depth c.args.actions.now play.action play.who [] 0 places (omega arith) (sym c.nests_of.ensures.nests ∙ none)

@@ -1,5 +1,5 @@
 use Rattle.std.proofs.Common.{arith}
-use Rattle.place_plan.specs.Plans.PlanView.{plan_view}
+use Rattle.place_plan.specs.inner.PlanView.{plan_view}
 use Rattle.place_plan.proofs.OnPlans.ClosedPlan.{few_plays}
 use Rattle.place_plan.proofs.plans.plan.Plan.plays.Goals as goal
 
