@@ -1,7 +1,7 @@
 //! Drafts of plans, part by part, for the tests of several crates.
 #![tactic(auto)]
 
-ghost use Rattle.std.specs.Prelude.{◌≡◌, ◌<◌, [], ◌∷◌, codes, map, IsTrue, All, IfOk};
+ghost use Rattle.std.specs.Prelude.{◌≡◌, ◌<◌, [], ◌∷◌, codes, drop, map, IsTrue, All, IfOk};
 
 use caa_base::written::entry::{Drill, Exception, Object, OutOfMemory, Participant, Verdict};
 use caa_base::written::name::Name;
@@ -211,7 +211,16 @@ pub fn nest(
     actions: &[u32],
     roles: &[u32],
     maps: Maps,
-) -> Result<NestRow, TrialError> {
+) -> Result<NestRow, TrialError>
+    ensures { IfOk result (λ nest. nest ≡ record {
+      name = name.now;
+      actions = actions.now;
+      roles = roles.now;
+      maps = maps.entry.exceptions.now;
+      undo = maps.entry.undo;
+      failure = maps.entry.failure;
+    }) }
+{
     Ok(NestRow {
         name: Name::from_bytes(alloc, name)?,
         actions: numbers(alloc, actions)?,
@@ -223,7 +232,9 @@ pub fn nest(
 }
 
 /// Objects of these names and initial values.
-pub fn objects(alloc: Global, values: &[(&[u8], i64)]) -> Result<Rows<ObjectRow>, TrialError> {
+pub fn objects(alloc: Global, values: &[(&[u8], i64)]) -> Result<Rows<ObjectRow>, TrialError>
+    ensures { IfOk result (λ objects. objects ≡ map (λ value. record { name = value.0.now; initial = value.1 }) values.now) }
+{
     let mut objects = Vec::new(alloc);
     for (text, initial) in values {
         let name = Name::from_bytes(alloc, *text)?;
@@ -248,15 +259,22 @@ pub fn draft(
     alloc: Global,
     participants: &[&[u8]],
     values: &[(&[u8], i64)],
-    graphs: Vec<GraphRow>,
+    mut graphs: Vec<GraphRow>,
     actions: Vec<ActionRow>,
     plays: Vec<PlayRow>,
     drills: &[Drill],
-) -> Result<Draft, TrialError> {
+) -> Result<Draft, TrialError>
+    ensures participants { IfOk result (λ draft. draft.participants ≡ map (λ text. text.now) participants.now) }
+    ensures objects { IfOk result (λ draft.
+        draft.objects ≡ map (λ value. record { name = value.0.now; initial = value.1 }) values.now) }
+    ensures graphs { IfOk result (λ draft. drop 1 draft.graphs ≡ graphs.items) }
+    ensures actions { IfOk result (λ draft. draft.actions ≡ actions.items) }
+    ensures plays { IfOk result (λ draft. draft.plays ≡ plays.items) }
+    ensures drills { IfOk result (λ draft. draft.drills ≡ drills.now) }
+    ensures watches { IfOk result (λ draft. draft.watches ≡ []) }
+{
     let mut all = vec![in alloc; GraphRow::plain(alloc)?]?;
-    for graph in graphs {
-        all.push(graph)?;
-    }
+    all.append(&mut graphs)?;
     Ok(Draft {
         participants: names(alloc, participants)?,
         objects: objects(alloc, values)?,
