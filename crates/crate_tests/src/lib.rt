@@ -8,4 +8,6 @@ mod covers;
 #[cfg(test)]
 mod graphs;
 #[cfg(test)]
+mod messages;
+#[cfg(test)]
 mod top_calls;
