@@ -3,6 +3,8 @@ use Rattle.std.specs.Prelude.{◌≡◌, ℕ, ◌+◌, ◌-◌, ◌^◌, ◌<◌
 use Rattle.std.specs.List.{list_any}
 use Rattle.caa_base.specs.declared.written.entry.Entry.{Entry}
 use Rattle.caa_base.specs.declared.written.entry.Kind.TheVariants as kind
+use Rattle.caa_base.specs.declared.written.entry.Outcome.TheVariants as outcome
+use Rattle.caa_base.specs.Written.Marks.{mark_of}
 use Rattle.place_plan.specs.Plans.PlanValue.{Plan}
 use Rattle.place_plan.specs.Plans.Places.{parent}
 use Rattle.place_plan.specs.RulesOfJournals.Entries.{is_of}
@@ -11,13 +13,9 @@ use Rattle.journal_laws.specs.Laws.{KeepsLaws}
 use Rattle.journal_replay.specs.Device.{HasValues, HasDrills}
 use Rattle.caa_commands.specs.OutsideUse.{Left}
 
--- the mark of an End that says that its place failed
-abbrev pub failed_mark : ℕ
-failed_mark = 4
-
 -- the entry ends a play as failed
 abbrev pub is_failed_play : Plan → Entry → Bool
-is_failed_play plan e = is_of kind.End e && ((e.mark == failed_mark) && is_none (parent plan e.place))
+is_failed_play plan e = is_of kind.End e && ((e.mark == mark_of outcome.Failed) && is_none (parent plan e.place))
 
 -- a play failed
 abbrev pub has_failed_play : Plan → List Entry → Bool

@@ -14,7 +14,7 @@ ghost use Rattle.caa_commands.specs.Calls.{EndsAs, DoesNotBegin, SimComesTo, Run
 use crate::finding::Finding;
 use caa_base::outside::gate::Gate;
 use caa_base::outside::plant::Plant;
-use caa_base::written::entry::{Entry, Kind};
+use caa_base::written::entry::{Entry, Kind, Outcome};
 use caa_base::written::journal::Journal;
 use journal_laws::{is_well_formed, keeps_laws};
 use journal_replay::hall::{OpenCause, PlainHall};
@@ -26,9 +26,6 @@ use role_driver::sim::sim;
 use std::alloc::Global;
 use std::sync::Wait;
 use std::thread::Threads;
-
-/// The mark of an End that says that its place failed.
-const FAILED_MARK: u32 = 4;
 
 /// What a call came to, with the device and the journal that it hands back.
 #[derive(Drop)]
@@ -56,7 +53,9 @@ impl<P: Plant> Decision<P> {
 fn is_failed_play(plan: &Plan, entry: &Entry) -> bool
     ensures { result ≡ is_failed_play plan.now entry.now }
 {
-    entry.kind == Kind::End && entry.mark == FAILED_MARK && plan.parent(entry.place).is_none()
+    entry.kind == Kind::End
+        && entry.mark == Outcome::Failed.mark().0
+        && plan.parent(entry.place).is_none()
 }
 
 /// Whether a play failed.
