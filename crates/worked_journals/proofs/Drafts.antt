@@ -11,7 +11,7 @@ use Rattle.place_plan.specs.Plans.Bound.{action_bound}
 use Rattle.place_plan.specs.Plans.Unfolding.{plan_of, unfold_at, plays_from, tops_from}
 use Rattle.caa_base.specs.Written.Limits.{most_depth}
 use Rattle.place_plan.specs.Drafts.DraftRules.{broken_rule, depth_within}
-use Rattle.worked_journals.proofs.Notation.{plain_graph, universal, program, played, inner}
+use Rattle.worked_journals.proofs.Notation.{plain_graph, universal, program, play, played, inner}
 use Rattle.worked_journals.proofs.ThreeLevels.{ann, bob}
 use Rattle.worked_journals.proofs.FirstPath as first_path
 use Rattle.worked_journals.proofs.OrdinaryUse as ordinary_use
