@@ -25,10 +25,6 @@ all_push test (y ∷ ys) x h e =
     let p = and_parts (test y) (list_all test ys) h in
     rw (p.0, all_push test ys x p.1 e) refl
 
-pub closed_actions : (s : SoFar) (v : Verdict) (o : Option Opening) → (closed_if s o v).actions ≡ s.actions
-closed_actions s v None = refl
-closed_actions s v (Some o) = refl
-
 -- a line that ends no action adds none
 ended_none : (names : List (List ℕ)) (s : SoFar) (b : Block) → is_in_action b ≡ false → (ended names s b).actions ≡ s.actions
 ended_none names s block.Top e = refl
@@ -37,9 +33,6 @@ ended_none names s block.Action e = absurd (false≢true (sym e))
 
 pub said_none : (names : List (List ℕ)) (s : SoFar) (f : Form) → ends_action s f ≡ false → (with_said names s f).actions ≡ s.actions
 said_none names s form.End e = ended_none names s s.block e
-said_none names s form.DoneLine e = closed_actions s _ s.opening
-said_none names s (form.SignalLine x) e = closed_actions s _ s.opening
-said_none names s form.UndoLine e = closed_actions s _ s.opening
 said_none names s f e = refl
 
 -- one that ends an action adds that one

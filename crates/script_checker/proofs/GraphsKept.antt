@@ -32,10 +32,6 @@ still_first (graph ∷ graphs) more h = h
 abbrev pub IsPlainFirst : SoFar → Type 0
 IsPlainFirst s = first_alone s.graphs ≡ true
 
-closed_first : (s : SoFar) (v : Verdict) (o : Option Opening) → IsPlainFirst s → IsPlainFirst (closed_if s o v)
-closed_first s v None h = h
-closed_first s v (Some o) h = h
-
 module _ (names : List (List ℕ)) where
   ended_first : (s : SoFar) (b : Block) → IsPlainFirst s → IsPlainFirst (ended names s b)
   ended_first s block.Top h = h
@@ -44,14 +40,11 @@ module _ (names : List (List ℕ)) where
 
   says_first : (s : SoFar) (f : Form) → IsPlainFirst s → IsPlainFirst (with_said names s f)
   says_first s form.End h = ended_first s s.block h
-  says_first s form.DoneLine h = closed_first s _ s.opening h
-  says_first s (form.SignalLine x) h = closed_first s _ s.opening h
-  says_first s form.UndoLine h = closed_first s _ s.opening h
   says_first s f h = h
 
 pub first_kept : (names : List (List ℕ)) → IsKept names (λ at s. IsPlainFirst s)
 first_kept names = record {
-  settles = λ at s h. closed_first s verdict.Done s.opening h;
+  settles = λ at s h. h;
   says = λ at s f stands sound none shut h. says_first names s f h;
 }
 
