@@ -7,8 +7,8 @@ ghost use Rattle.caa_commands.specs.Scripts.{HasPlan, IsCounted, HasNoPlan, IsSp
 
 use crate::fault::{Fault, Refusal};
 use action_script::forms::form::Form;
-use action_script::lines::reader::read;
 use action_script::forms::script::Script;
+use action_script::lines::reader::read;
 use action_script::script_error::ScriptCause;
 use caa_base::written::entry::OutOfMemory;
 use caa_base::written::name::{Name, name_at};

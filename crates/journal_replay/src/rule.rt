@@ -30,12 +30,15 @@ use crate::look_back::verdicts::{
     all_have_aborted, all_have_given, has_aborted, has_given_after, has_said, least_signalled,
     wants_undo, was_refused_in_handler,
 };
-use caa_base::written::entry::{Entry, Exception, Kind, Object, Participant, Place, Verdict};
+use caa_base::written::entry::{
+    Entry, Exception, Kind, Object, Outcome, Participant, Place, Verdict,
+};
 use caa_base::written::journal::Journal;
 use caa_base::written::limits::MOST_VALUE;
 use journal_laws::{due_is_right, is_well_formed};
 use place_plan::drafts::draft_rows::{AbortRow, Step};
 use place_plan::plans::plan::Plan;
+use place_plan::rules::one_entry::outcome_at;
 use place_plan::rules::value::value_at;
 
 // ---- what an entry says
@@ -91,11 +94,8 @@ fn verdict_entry(place: Place, by: Participant, verdict: Verdict) -> Entry
     ensures entry { result ≡ verdict_entry place by verdict }
     ensures kind { result.kind ≡ kind.Verdict }
 {
-    match verdict {
-        Verdict::Done => plainly(Kind::Verdict, place, by),
-        Verdict::Signal(exception) => marked(Kind::Verdict, place, by, 1, exception),
-        Verdict::Undo => marked(Kind::Verdict, place, by, 2, 0),
-    }
+    let (mark, exception) = verdict.mark();
+    marked(Kind::Verdict, place, by, mark, exception)
 }
 
 // ---- a place that waits, or is undone
@@ -115,18 +115,19 @@ fn due_waiting(plan: &Plan, journal: &[Entry], place: Place, by: Participant) ->
     }
 }
 
-/// The mark of the end entry after an undo: 4 where the device refused a restore and the place has failed, 3 where its roles gave
-/// up and it was aborted, and otherwise 2, since a verdict asked for the undo.
+/// The mark of the end entry after an undo: failed where the device refused a restore, aborted where the roles gave up, and
+/// otherwise undone, since a verdict asked for it.
 fn undone_mark(journal: &[Entry], place: Place) -> u32
     ensures { result ≡ undone_mark (reverse journal.now) place }
 {
-    if has_failed(journal, place) {
-        4
+    let outcome = if has_failed(journal, place) {
+        Outcome::Failed
     } else if has(journal, Kind::Abort, place) {
-        3
+        Outcome::Aborted
     } else {
-        2
-    }
+        Outcome::Undone
+    };
+    outcome.mark().0
 }
 
 /// The restore that is next in a place that is undone, or its End.
@@ -482,12 +483,12 @@ fn exception_carried(
         return None;
     }
     let end = newest_in(journal, Kind::End, place)?;
-    match end.mark {
-        0 => None,
-        1 => Some(plan.map_signal(place, end.arg)),
-        2 => Some(plan.map_undo(place)),
-        3 => abort_mapped(plan, journal, place, by),
-        _ => Some(plan.map_failure(place)),
+    match outcome_at(&end) {
+        Outcome::Commit => None,
+        Outcome::Signal(exception) => Some(plan.map_signal(place, exception)),
+        Outcome::Undone => Some(plan.map_undo(place)),
+        Outcome::Aborted => abort_mapped(plan, journal, place, by),
+        Outcome::Failed => Some(plan.map_failure(place)),
     }
 }
 

@@ -1,16 +1,13 @@
 -- An accepted script declares no more parts than the limits allow.
-use Rattle.std.proofs.Common.{◌≡◌, ℕ, suc, ◌+◌, ◌<◌, ◌≤◌, nat_le, false, List, [], ◌∷◌, ◌++◌, length, Option, Some, None, refl, arith, length-append}
+use Rattle.std.proofs.Common.{◌≡◌, ℕ, suc, ◌+◌, ◌<◌, ◌≤◌, nat_le, false, List, [], ◌∷◌, ◌++◌, length, refl, arith, length-append}
 use Rattle.std.proofs.lemmas.Bool.{leb-false}
-use Rattle.caa_base.specs.declared.written.entry.Verdict.{Verdict}
-use Rattle.caa_base.specs.declared.written.entry.Verdict.TheVariants as verdict
 use Rattle.action_script.specs.declared.forms.form.Form.{Form}
 use Rattle.action_script.specs.declared.forms.form.Form.TheVariants as form
 use Rattle.script_checker.specs.declared.parts.Block.{Block}
 use Rattle.script_checker.specs.declared.parts.Block.TheVariants as block
-use Rattle.script_checker.specs.declared.parts.Opening.{Opening}
 use Rattle.script_checker.specs.DeclaredSoFar.{SoFar, nothing_yet}
 use Rattle.script_checker.specs.Causes.{is_past_limit}
-use Rattle.script_checker.specs.After.{closed_if, ended, with_said, action_row}
+use Rattle.script_checker.specs.After.{ended, with_said, action_row}
 use Rattle.script_checker.proofs.Choosing.{within}
 use Rattle.script_checker.proofs.Accepted.{IsKept}
 use Rattle.caa_base.specs.Written.Limits.{most_participants, most_objects, most_drills, most_watches, most_graphs, most_actions}

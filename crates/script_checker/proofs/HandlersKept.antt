@@ -14,12 +14,10 @@ use Rattle.place_plan.specs.Plans.Places.{no_role}
 use Rattle.place_plan.specs.Drafts.DraftRules.{all_differ, handlers_differ}
 use Rattle.action_script.specs.declared.forms.form.Form.{Form}
 use Rattle.action_script.specs.declared.forms.form.Form.TheVariants as form
-use Rattle.script_checker.specs.declared.parts.Block.{Block}
-use Rattle.script_checker.specs.declared.parts.Block.TheVariants as block
 use Rattle.script_checker.specs.declared.parts.Opening.{Opening}
 use Rattle.script_checker.specs.DeclaredSoFar.{SoFar, outer}
 use Rattle.script_checker.specs.Causes.{handles}
-use Rattle.script_checker.specs.After.{goes_on, closed_if, ended, with_said, with_program, idle_role}
+use Rattle.script_checker.specs.After.{goes_on, closed_if, with_said, with_program, idle_role}
 use Rattle.script_checker.specs.Compiled.{HasNone}
 use Rattle.script_checker.proofs.Accepted.{IsKept, once}
 use Rattle.script_checker.proofs.ActionsGrow.{said_actions}

@@ -17,14 +17,12 @@ use Rattle.place_plan.specs.Plans.Places.{no_action, no_role, no_nest}
 use Rattle.place_plan.specs.Drafts.DraftRules.{all_below, all_differ, holds_step, holds_role}
 use Rattle.action_script.specs.declared.forms.form.Form.{Form}
 use Rattle.action_script.specs.declared.forms.form.Form.TheVariants as form
-use Rattle.script_checker.specs.declared.parts.Block.{Block}
-use Rattle.script_checker.specs.declared.parts.Block.TheVariants as block
 use Rattle.script_checker.specs.declared.parts.Opening.{Opening}
 use Rattle.script_checker.specs.Blocks.{is_in_action}
 use Rattle.script_checker.specs.Numbers.{is_among}
 use Rattle.script_checker.specs.DeclaredSoFar.{SoFar, outer, nest_of}
 use Rattle.script_checker.specs.Causes.{is_action}
-use Rattle.script_checker.specs.After.{closed_if, ended, with_said, with_program, idle_role, with_nest, action_row}
+use Rattle.script_checker.specs.After.{closed_if, with_said, with_program, idle_role, with_nest, action_row}
 use Rattle.script_checker.specs.Compiled.{HasNone}
 use Rattle.caa_base.proofs.ListLemmas.{all_imply, empty_is}
 use Rattle.script_checker.proofs.Choosing.{known}

@@ -1,5 +1,5 @@
 -- The names of an accepted script tell its parts apart: each line without cause keeps that they do.
-use Rattle.std.proofs.Common.{◌≡◌, ◌≢◌, ℕ, zero, suc, ◌<◌, ◌≤◌, ◌==◌, Bool, true, false, ◌&&◌, if◌then◌else◌, List, [], ◌∷◌, ◌++◌, map, length, get_or, codes, Option, Some, None, refl, sym, ap, ◌∙◌, subst, arith}
+use Rattle.std.proofs.Common.{◌≡◌, ◌≢◌, ℕ, zero, suc, ◌<◌, ◌≤◌, ◌==◌, Bool, true, false, ◌&&◌, if◌then◌else◌, List, [], ◌∷◌, ◌++◌, map, length, get_or, codes, refl, sym, ap, ◌∙◌, subst, arith}
 use Rattle.std.specs.List.{All, AllPairs, list_all, flat_map}
 use Rattle.std.proofs.lemmas.Bool.{and_parts, or_parts, eq-eqb, ltb-false, ltb-true, false≢true, false_from_ne_true, not-false}
 use Rattle.std.proofs.lemmas.List.{get_or-map, get_or_default, map-append, length-append, length-map}
@@ -7,8 +7,6 @@ use Rattle.std.proofs.lemmas.List.Elements.{All-push, All-nil, All-map}
 use Rattle.std.proofs.lemmas.List.Quantifiers.{all_pairs_push}
 use Rattle.caa_base.specs.Written.Names.{is_name, name_at}
 use Rattle.caa_base.specs.Written.Lists.{member, index_of}
-use Rattle.caa_base.specs.declared.written.entry.Verdict.{Verdict}
-use Rattle.caa_base.specs.declared.written.entry.Verdict.TheVariants as verdict
 use Rattle.place_plan.specs.declared.drafts.draft_rows.GraphRow.{GraphRow}
 use Rattle.place_plan.specs.declared.drafts.draft_rows.ObjectRow.{ObjectRow}
 use Rattle.place_plan.specs.Plans.PlanValue.{Plan}
@@ -24,11 +22,10 @@ use Rattle.script_checker.specs.declared.check_error.CheckCause.TheVariants as c
 use Rattle.script_checker.specs.declared.parts.Block.{Block}
 use Rattle.script_checker.specs.declared.parts.Block.TheVariants as block
 use Rattle.script_checker.specs.declared.parts.DeclaredGraph.{DeclaredGraph}
-use Rattle.script_checker.specs.declared.parts.Opening.{Opening}
 use Rattle.script_checker.specs.Numbers.{is_among}
 use Rattle.script_checker.specs.DeclaredSoFar.{SoFar, nothing_yet, plain_graph}
 use Rattle.script_checker.specs.Causes.{is_unknown, is_twice}
-use Rattle.script_checker.specs.After.{goes_on, closed_if, settled_if, settled, ended, with_said, after}
+use Rattle.script_checker.specs.After.{goes_on, settled_if, settled, ended, with_said, after}
 use Rattle.script_checker.specs.Compiled.{exception_name, declared_after, AreAccepted, IsRowOf, AreRowsOf, IsPlanOf}
 use Rattle.place_plan.specs.Plans.OwnNames.{AreOwnNames, NamesExceptions, HasOwnNames}
 use Rattle.script_checker.proofs.Choosing.{known}

@@ -16,12 +16,10 @@ use Rattle.place_plan.specs.Plans.Places.{no_role, no_nest}
 use Rattle.place_plan.specs.Drafts.DraftRules.{program_fits, role_fits, nest_fits, action_fits}
 use Rattle.action_script.specs.declared.forms.form.Form.{Form}
 use Rattle.action_script.specs.declared.forms.form.Form.TheVariants as form
-use Rattle.script_checker.specs.declared.parts.Block.{Block}
-use Rattle.script_checker.specs.declared.parts.Block.TheVariants as block
 use Rattle.script_checker.specs.declared.parts.Opening.{Opening}
 use Rattle.script_checker.specs.DeclaredSoFar.{SoFar, outer, nest_of, action_of, exceptions_at}
 use Rattle.script_checker.specs.Causes.{is_past_limit, is_unfilled}
-use Rattle.script_checker.specs.After.{closed_if, ended, with_said, with_program, idle_role, with_nest, plain_nest, action_row}
+use Rattle.script_checker.specs.After.{closed_if, with_said, with_program, idle_role, with_nest, plain_nest, action_row}
 use Rattle.caa_base.proofs.ListLemmas.{as_filled}
 use Rattle.script_checker.specs.Blocks.{is_in_action}
 use Rattle.script_checker.proofs.Choosing.{within}

@@ -1,5 +1,5 @@
 -- A `play` line is judged by what the draft with its play unfolds into.
-use Rattle.std.proofs.Common.{◌≡◌, ℕ, true, false, List, [], ◌∷◌, ◌++◌, length, Option, Some, None, refl, sym, subst, ◌∙◌, arith}
+use Rattle.std.proofs.Common.{◌≡◌, ℕ, true, false, List, [], ◌∷◌, ◌++◌, length, refl, sym, subst, ◌∙◌, arith}
 use Rattle.std.specs.List.{list_all}
 use Rattle.std.proofs.lemmas.Bool.{and_parts, and_from, false_from_ne_true}
 use Rattle.caa_base.specs.declared.written.entry.Verdict.TheVariants as verdict
@@ -20,7 +20,6 @@ use Rattle.action_script.specs.Forms.LineForms.{kind_of}
 use Rattle.action_script.specs.Forms.Printing.{AreScript, is_sound, forms_of, lead_to_top}
 use Rattle.action_script.specs.Forms.ScriptValue.{Script}
 use Rattle.script_checker.specs.declared.check_error.CheckCause.TheVariants as cause
-use Rattle.script_checker.specs.declared.parts.Opening.{Opening}
 use Rattle.script_checker.specs.DeclaredSoFar.{SoFar, nothing_yet}
 use Rattle.script_checker.specs.Causes.{is_unknown, is_unfilled, fills_twice}
 use Rattle.script_checker.specs.After.{closed, with_said, play_row}

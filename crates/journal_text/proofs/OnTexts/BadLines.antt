@@ -34,9 +34,10 @@ SeensFit plan low (s ∷ seens) = MayCome plan low s × SeensFit plan s.watch se
 fit-from : (plan : Plan) (low : ℕ) (seens : List Seen) → InOrderFrom low seens
     → AllByRecursion (λ s. s.watch < length plan.watches) seens → SeensFit plan low seens
 fit-from plan low [] order watches = tt
-fit-from plan low (s ∷ seens) order watches =
-    ((order.0, record { watch = watches.0; ends = order.1; value = order.2 }),
-    fit-from plan s.watch seens order.3 watches.1)
+fit-from plan low (s ∷ seens) order watches = (
+  (order.0, record { watch = watches.0; ends = order.1; value = order.2 }),
+  fit-from plan s.watch seens order.3 watches.1,
+)
 
 seens-fit : (plan : Plan) (seens : List Seen) → AreInOrder seens → AreOfPlan plan seens → SeensFit plan 0 seens
 seens-fit plan seens order watches =
@@ -54,11 +55,11 @@ seens-same plan low [] (m ∷ ms) r t fs fm nr same = absurd (nr m (seen_lines p
 seens-same plan low (s ∷ ss) [] r t fs fm nr same = cc
 seens-same plan low (s ∷ ss) (m ∷ ms) r t fs fm nr same =
     let cut : seen_line plan s ++ (seen_lines plan ss ++ r) ≡ seen_line plan m ++ seen_lines plan ms =
-        sym (append_assoc (seen_line plan s) (seen_lines plan ss) r) ∙ same in
+    sym (append_assoc (seen_line plan s) (seen_lines plan ss) r) ∙ same in
     let one : s ≡ m = same-seen plan s m (seen_lines plan ss ++ r) (seen_lines plan ms) t fs.0.1 fm.0.1 cut in
     let rest : seen_lines plan ss ++ r ≡ seen_lines plan ms =
     append_cancel_left (seen_line plan s) (seen_lines plan ss ++ r) (seen_lines plan ms)
-        (cut ∙ ap (λ k. seen_line plan k ++ seen_lines plan ms) (sym one)) in
+    (cut ∙ ap (λ k. seen_line plan k ++ seen_lines plan ms) (sym one)) in
     let later = seens-same plan s.watch ss ms r t fs.1 (subst (λ k. SeensFit plan k.watch ms) (sym one) fm.1) nr rest in
     (ap (λ k. k ∷ ss) one ∙ ap (λ ks. m ∷ ks) later.0, later.1)
 
@@ -99,8 +100,8 @@ seens-shared plan low (s ∷ ss) (m ∷ ms) r t fs fm nr =
     by (inr unlike) later =
         let none = shared-none (seen_line plan m) (seen_line plan s ++ rest) (seen_lines plan ms) (seen_line-is plan m t.named fm.0.1)
         (λ z q. false≢true (sym unlike
-            ∙ (bytes_eq-Decides (seen_line plan s) (seen_line plan m)).1
-            (ap (seen_line plan) (same-seen plan s m rest z t fs.0.1 fm.0.1 q)))) in
+        ∙ (bytes_eq-Decides (seen_line plan s) (seen_line plan m)).1
+        (ap (seen_line plan) (same-seen plan s m rest z t fs.0.1 fm.0.1 q)))) in
         omega (arith, cut, none)
 
 -- ---- whole texts
@@ -120,17 +121,17 @@ each plan es f = recursion_from_All (IsWellFormed plan) es f
 pub texts-differ : (plan : Plan) → Tells plan → TextsDiffer plan
 texts-differ plan t limit es js ss ms h k same =
     let cut : first_line ++ (entry_lines plan es ++ tail_of plan es ss) ≡ first_line
-        ++ (entry_lines plan js ++ tail_of plan js ms) = sym (text-split plan es ss) ∙ same ∙ text-split plan js ms in
+    ++ (entry_lines plan js ++ tail_of plan js ms) = sym (text-split plan es ss) ∙ same ∙ text-split plan js ms in
     let rest = append_cancel_left first_line (entry_lines plan es ++ tail_of plan es ss) (entry_lines plan js ++ tail_of plan js ms) cut in
     let entries =
-        entries-same plan es js (tail_of plan es ss) (tail_of plan js ms) t (each plan es h.entries)
-        (each plan js k.entries) (tail-no-entry plan es ss t.named t.small)
-        (tail-no-entry plan js ms t.named t.small) rest in
+    entries-same plan es js (tail_of plan es ss) (tail_of plan js ms) t (each plan es h.entries)
+    (each plan js k.entries) (tail-no-entry plan es ss t.named t.small)
+    (tail-no-entry plan js ms t.named t.small) rest in
     let tails : tail_of plan es ss ≡ tail_of plan es ms = entries.1 ∙ ap (λ ks. tail_of plan ks ms) (sym entries.0) in
     let looks = append_cancel_left (closing_lines plan (reverse es)) (seen_lines plan ss) (seen_lines plan ms) tails in
     let seens =
-        seens-same plan 0 ss ms [] t (seens-fit plan ss h.order h.watches) (seens-fit plan ms k.order k.watches)
-        (λ s rest f e. cc) (append-nil (seen_lines plan ss) ∙ looks) in
+    seens-same plan 0 ss ms [] t (seens-fit plan ss h.order h.watches) (seens-fit plan ms k.order k.watches)
+    (λ s rest f e. cc) (append-nil (seen_lines plan ss) ∙ looks) in
     (entries.0, seens.0)
 
 -- ---- the first bad line
@@ -165,7 +166,7 @@ first-bad plan limit bytes es r ss number t far fit best other is = record {
         ≡ suc (lines_shared (entry_lines plan es ++ r) (entry_lines plan js ++ tail_of plan js ms))
     shared js ms =
         ap (lines_shared bytes) (text-split plan js ms)
-            ∙ ap (λ b. lines_shared b (first_line ++ (entry_lines plan js ++ tail_of plan js ms))) far.front
+        ∙ ap (λ b. lines_shared b (first_line ++ (entry_lines plan js ++ tail_of plan js ms))) far.front
         ∙ shared-line first_line (entry_lines plan es ++ r) (entry_lines plan js ++ tail_of plan js ms) first-is
 
     own : (ms : List Seen) → lines_shared bytes (text_of plan es ms) ≡ suc (length es + lines_shared r (tail_of plan es ms))
@@ -182,17 +183,17 @@ first-bad plan limit bytes es r ss number t far fit best other is = record {
     no_text : (js : List Entry) (ms : List Seen) → IsText plan limit bytes js ms → ⊥
     no_text js ms h =
         let cut : first_line ++ (entry_lines plan es ++ r) ≡ first_line ++ (entry_lines plan js ++ tail_of plan js ms) =
-            sym far.front ∙ h.same ∙ text-split plan js ms in
+        sym far.front ∙ h.same ∙ text-split plan js ms in
         let rest = append_cancel_left first_line (entry_lines plan es ++ r) (entry_lines plan js ++ tail_of plan js ms) cut in
         let two =
-            entries-same plan es js r (tail_of plan js ms) t (each plan es far.fit) (each plan js h.fit.entries) far.all
-            (tail-no-entry plan js ms t.named t.small) rest in
+        entries-same plan es js r (tail_of plan js ms) t (each plan es far.fit) (each plan js h.fit.entries) far.all
+        (tail-no-entry plan js ms t.named t.small) rest in
         other ms h.fit.order h.fit.watches (two.1 ∙ ap (λ ks. tail_of plan ks ms) (sym two.0))
 
     no_more : HasTooMany plan limit bytes → ⊥
     no_more h =
         let cut : first_line ++ (entry_lines plan es ++ r) ≡ first_line ++ (entry_lines plan h.journal ++ h.rest) =
-            sym far.front ∙ h.begins ∙ append_assoc first_line (entry_lines plan h.journal) h.rest in
+        sym far.front ∙ h.begins ∙ append_assoc first_line (entry_lines plan h.journal) h.rest in
         let rest = append_cancel_left first_line (entry_lines plan es ++ r) (entry_lines plan h.journal ++ h.rest) cut in
         let less = front-longest plan es h.journal r h.rest t (each plan es far.fit) (each plan h.journal h.entries) far.all rest in
         omega (arith, less, far.few, h.many)
@@ -249,9 +250,13 @@ bad-rest plan limit bytes text es r looks ss rest error.OutOfMemory t begins h q
 bad-rest plan limit bytes text es r looks ss rest (error.BadLine line) t begins h q s n k =
     first-bad plan limit bytes es r ss line t (so-far plan limit bytes text es r begins h)
     (record { entries = h.fit; few = h.few; order = s.order; watches = s.fit })
-    (λ ms order watches. omega
-        (arith, shared ms, shared ss, most ms order watches,
-        seens-front plan 0 ss rest t (seens-fit plan ss s.order s.fit)))
+    (λ ms order watches. omega (
+      arith,
+      shared ms,
+      shared ss,
+      most ms order watches,
+      seens-front plan 0 ss rest t (seens-fit plan ss s.order s.fit),
+    ))
     (λ ms order watches same. n (ends ms order watches same))
     k
   where
@@ -278,7 +283,7 @@ bad-rest plan limit bytes text es r looks ss rest (error.BadLine line) t begins 
 pub good : (plan : Plan) (limit : ℕ) (bytes text : List ℕ) (es : List Entry) (r looks : List ℕ) (ss : List Seen)
     (rest : List ℕ) → bytes ≡ first_line ++ text
     → EntriesRead plan limit text es r → r ≡ closing_lines plan (reverse es) ++ looks → SeensRead plan looks ss rest
-        → rest ≡ [] → IsText plan limit bytes es ss
+    → rest ≡ [] → IsText plan limit bytes es ss
 good plan limit bytes text es r looks ss rest begins h q s end = record {
   fit = record { entries = h.fit; few = h.few; order = s.order; watches = s.fit };
   same =
@@ -286,23 +291,19 @@ good plan limit bytes text es r looks ss rest begins h q s end = record {
       (s.front ∙ ap (λ z. seen_lines plan ss ++ z) end ∙ append-nil (seen_lines plan ss)))) ∙ sym (text-split plan es ss);
 }
 
-)
-stopped plan limit bytes text (error.BadLine line) begins h = absurd h
-stopped plan limit bytes text error.OutOfMemory begins h = tt
-
 -- what was written is read back
 pub reads-back : (plan : Plan) (limit : ℕ) (bytes : List ℕ) (result : Result (Entries × Looks) TextError) → Tells plan
     → Reads plan limit bytes result → ReadsBack plan limit bytes result
 reads-back plan limit bytes (Ok r) t h js ms k = texts-differ plan t limit r.0.entries js r.1.seens ms h.fit k.fit (sym h.same ∙ k.same)
 reads-back plan limit bytes (Err (error.TooMany line)) t h js ms k =
     let cut : first_line ++ (entry_lines plan js ++ tail_of plan js ms) ≡ first_line
-        ++ (entry_lines plan h.1.journal ++ h.1.rest) =
-        sym (text-split plan js ms) ∙ sym k.same ∙ h.1.begins
-        ∙ append_assoc first_line (entry_lines plan h.1.journal) h.1.rest in
+    ++ (entry_lines plan h.1.journal ++ h.1.rest) =
+    sym (text-split plan js ms) ∙ sym k.same ∙ h.1.begins
+    ∙ append_assoc first_line (entry_lines plan h.1.journal) h.1.rest in
     let rest = append_cancel_left first_line (entry_lines plan js ++ tail_of plan js ms) (entry_lines plan h.1.journal ++ h.1.rest) cut in
     let less =
-        front-longest plan js h.1.journal (tail_of plan js ms) h.1.rest t (each plan js k.fit.entries)
-        (each plan h.1.journal h.1.entries) (tail-no-entry plan js ms t.named t.small) rest in
+    front-longest plan js h.1.journal (tail_of plan js ms) h.1.rest t (each plan js k.fit.entries)
+    (each plan h.1.journal h.1.entries) (tail-no-entry plan js ms t.named t.small) rest in
     absurd (omega (arith, less, k.fit.few, h.1.many))
 reads-back plan limit bytes (Err (error.BadLine line)) t h js ms k = absurd (h.none js ms k)
 reads-back plan limit bytes (Err error.OutOfMemory) t h js ms k = refl
@@ -313,7 +314,7 @@ pub front-more : {A : Type 0} (line_of : A → List ℕ) (xs : List A) (x : A) (
     → text ≡ flat_map line_of xs ++ rest → rest ≡ line_of x ++ after → text ≡ flat_map line_of (xs ++ x ∷ []) ++ after
 front-more line_of xs x text rest after h k =
     let more : flat_map line_of (xs ++ x ∷ []) ≡ flat_map line_of xs ++ line_of x =
-        flat_map-append line_of xs (x ∷ []) ∙ ap (λ z. flat_map line_of xs ++ z) (append-nil (line_of x)) in
+    flat_map-append line_of xs (x ∷ []) ∙ ap (λ z. flat_map line_of xs ++ z) (append-nil (line_of x)) in
     h ∙ ap (λ z. flat_map line_of xs ++ z) k ∙ sym (append_assoc (flat_map line_of xs) (line_of x) after) ∙ ap (λ z. z ++ after) (sym more)
 
 pub last_watch-push : (low : ℕ) (seens : List Seen) (s : Seen) → last_watch low (seens ++ s ∷ []) ≡ s.watch

@@ -1,5 +1,4 @@
-use Rattle.std.proofs.Common.{◌≡◌, ◌++◌, ℕ, List, ap, sym, ◌∙◌, subst}
-use Rattle.std.specs.Option.{MatchOption}
+use Rattle.std.proofs.Common.{◌≡◌, ◌++◌, ℕ, List, ap, sym, ◌∙◌, subst, rules}
 use Rattle.std.proofs.lemmas.Bool.{both_ways}
 use Rattle.journal_text.specs.Texts.Text.{seen_line}
 use Rattle.journal_text.specs.inner.TextSteps.{MayCome}
@@ -14,12 +13,12 @@ returns-then-not-may_stand c =
     let own : MayCome c.args.plan.now c.args.least seen = subst (MayCome c.args.plan.now c.args.least) (sym found) fit in
     both_ways c.may_stand.result c.if-not-may_stand.true (c.may_stand.ensures.1 (own.0, own.1.watch, own.1.value)))
 
-pub returns-in-Ok-None : goal.returns-in-Ok-None
-returns-in-Ok-None c =
+pub returns : goal.returns
+returns c =
     let seen = c.seen_in-seen.result in
     let text = c.args.text.now in
+    let printed : c.push_seen.new.text.items ≡ seen_line c.args.plan.now seen = search rules in
     let none : (rest : List ℕ) → text ≡ seen_line c.args.plan.now seen ++ rest → ⊥ =
-    subst (λ o. MatchOption o ((rest : List ℕ) → text ≡ seen_line c.args.plan.now seen ++ rest → ⊥)
-    (λ rest. text ≡ seen_line c.args.plan.now seen ++ rest.now)) c.in-Ok-None.field-0-is c.in-Ok-None.ensures in
+    subst (λ l. (rest : List ℕ) → text ≡ l ++ rest → ⊥) (c.as_slice.ensures.value ∙ printed) c.in-None.ensures in
     no-seen c.args.plan.now c.args.least text seen c.requires c.seen_in-seen.ensures
     (λ s rest found fit same. none rest (same ∙ ap (λ k. seen_line c.args.plan.now k ++ rest) (sym found)))
