@@ -47,21 +47,21 @@ module _ (s : SoFar) (f : Form) (none : HasNone s f) where
 
 -- ---- what is being declared has ended
 
-closed_shut : (s : SoFar) (v : Verdict) (o : Option Opening) → s.opening ≡ o → (closed_if s o v).opening ≡ None
+closed_shut : (s : SoFar) (v : Verdict) (o : Option Opening) → s.action.opening ≡ o → (closed_if s.action o v).opening ≡ None
 closed_shut s v None e = e
 closed_shut s v (Some o) e = refl
 
 -- so it has before a line that doesn't go on with it
-pub settled_shut : (s : SoFar) (b : Bool) → b ≡ false → (settled_if b s).opening ≡ None
+pub settled_shut : (s : SoFar) (b : Bool) → b ≡ false → (settled_if b s).action.opening ≡ None
 settled_shut s true e = absurd (false≢true (sym e))
-settled_shut s false e = closed_shut s verdict.Done s.opening refl
+settled_shut s false e = closed_shut s verdict.Done s.action.opening refl
 
 -- ---- induction on the lines
 
 -- the end of a body or a handler keeps it, and so does a line without cause that may stand there
 pub record IsKept (names : List (List ℕ)) (Holds : Section → SoFar → Type 0) : Type 0 where
   pub settles : (at : Section) (s : SoFar) → Holds at s → Holds at (closed s verdict.Done)
-  pub says : (at : Section) (s : SoFar) (f : Form) → stands_in (kind_of f) at ≡ true → is_sound names f ≡ true → HasNone s f → (goes_on f ≡ false → s.opening ≡ None) → Holds at s → Holds (goes_to (kind_of f) at) (with_said names s f)
+  pub says : (at : Section) (s : SoFar) (f : Form) → stands_in (kind_of f) at ≡ true → is_sound names f ≡ true → HasNone s f → (goes_on f ≡ false → s.action.opening ≡ None) → Holds at s → Holds (goes_to (kind_of f) at) (with_said names s f)
 
 module _ (names : List (List ℕ)) (Holds : Section → SoFar → Type 0) (kept : IsKept names Holds) where
   settled_holds : (at : Section) (s : SoFar) (b : Bool) → Holds at s → Holds at (settled_if b s)

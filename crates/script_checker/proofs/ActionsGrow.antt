@@ -1,17 +1,15 @@
 -- A line adds an action at most, where it ends it.
-use Rattle.std.proofs.Common.{◌≡◌, ℕ, Bool, true, false, List, [], ◌∷◌, ◌++◌, Option, Some, None, refl, sym}
+use Rattle.std.proofs.Common.{◌≡◌, ℕ, Bool, true, false, List, [], ◌∷◌, ◌++◌, refl, sym}
 use Rattle.std.specs.List.{list_all}
 use Rattle.std.proofs.lemmas.Bool.{and_parts, false≢true}
-use Rattle.caa_base.specs.declared.written.entry.Verdict.{Verdict}
 use Rattle.place_plan.specs.declared.drafts.draft_rows.ActionRow.{ActionRow}
 use Rattle.action_script.specs.declared.forms.form.Form.{Form}
 use Rattle.action_script.specs.declared.forms.form.Form.TheVariants as form
 use Rattle.script_checker.specs.declared.parts.Block.{Block}
 use Rattle.script_checker.specs.declared.parts.Block.TheVariants as block
-use Rattle.script_checker.specs.declared.parts.Opening.{Opening}
 use Rattle.script_checker.specs.Blocks.{is_in_action}
 use Rattle.script_checker.specs.DeclaredSoFar.{SoFar}
-use Rattle.script_checker.specs.After.{closed_if, ended, with_said, action_row}
+use Rattle.script_checker.specs.After.{ended, with_said, action_row}
 
 -- the line ends an action
 abbrev pub ends_action : SoFar → Form → Bool
@@ -25,10 +23,6 @@ all_push test (y ∷ ys) x h e =
     let p = and_parts (test y) (list_all test ys) h in
     rw (p.0, all_push test ys x p.1 e) refl
 
-pub closed_actions : (s : SoFar) (v : Verdict) (o : Option Opening) → (closed_if s o v).actions ≡ s.actions
-closed_actions s v None = refl
-closed_actions s v (Some o) = refl
-
 -- a line that ends no action adds none
 ended_none : (names : List (List ℕ)) (s : SoFar) (b : Block) → is_in_action b ≡ false → (ended names s b).actions ≡ s.actions
 ended_none names s block.Top e = refl
@@ -37,9 +31,6 @@ ended_none names s block.Action e = absurd (false≢true (sym e))
 
 pub said_none : (names : List (List ℕ)) (s : SoFar) (f : Form) → ends_action s f ≡ false → (with_said names s f).actions ≡ s.actions
 said_none names s form.End e = ended_none names s s.block e
-said_none names s form.DoneLine e = closed_actions s _ s.opening
-said_none names s (form.SignalLine x) e = closed_actions s _ s.opening
-said_none names s form.UndoLine e = closed_actions s _ s.opening
 said_none names s f e = refl
 
 -- one that ends an action adds that one

@@ -8,8 +8,8 @@ use Rattle.script_checker.specs.declared.check_error.CheckCause.{CheckCause}
 use Rattle.script_checker.specs.declared.check_error.CheckCause.TheVariants as cause
 use Rattle.script_checker.specs.DeclaredSoFar.{SoFar}
 use Rattle.script_checker.specs.Causes.{HasCause, is_unknown, is_twice, is_unfilled, fills_twice, enters_otherwise, is_not_held, is_too_deep, is_past_limit, is_past_bound, has_other_face, ends_graph}
-use Rattle.script_checker.specs.Chosen.{cause_if, name_cause, size_cause, part_cause}
-use Rattle.script_checker.specs.Graphs.{IsGraphRefusal, IsFaultless, Ends}
+use Rattle.script_checker.specs.inner.Chosen.{cause_if, name_cause, size_cause, part_cause}
+use Rattle.script_checker.specs.inner.Graphs.{IsGraphRefusal, IsFaultless, Ends}
 use Rattle.script_checker.specs.Compiled.{number_of, HasNoneBelow, IsLeast, HasNone}
 
 module _ (s : SoFar) (f : Form) where
@@ -137,14 +137,14 @@ module _ (s : SoFar) (f : Form) where
   -- ---- graphs
 
   -- why a graph is refused is the least cause of the line that ends it
-  pub least_graph : (c : CheckCause) → HasNoneBelow s f 12 → ends_graph s f ≡ true → (c ≡ cause.OutOfMemory → ⊥) → IsGraphRefusal (length s.exceptions) s.pairs c → IsLeast s f c
+  pub least_graph : (c : CheckCause) → HasNoneBelow s f 12 → ends_graph s f ≡ true → (c ≡ cause.OutOfMemory → ⊥) → IsGraphRefusal (length s.graph.exceptions) s.graph.pairs c → IsLeast s f c
   least_graph (cause.Cycle at) p ends memory h = record { has = (ends, h); lesser = p }
   least_graph (cause.NoLeast a b) p ends memory h = record {
     has = (ends, h);
     lesser = λ other l here. passes_cycle (λ at i. h.acyclic at i.in_range i.cycle) p other l here;
   }
     where
-      passes_cycle : ((at : ℕ) → ¬ (IsFirstInCycle (length s.exceptions) s.pairs at)) → HasNoneBelow s f 12 → HasNoneBelow s f 13
+      passes_cycle : ((at : ℕ) → ¬ (IsFirstInCycle (length s.graph.exceptions) s.graph.pairs at)) → HasNoneBelow s f 12 → HasNoneBelow s f 13
       passes_cycle free p (cause.Cycle at) l h = free at h.1
       passes_cycle free p other l h = p other (omega arith) h
   least_graph cause.OutOfMemory p ends memory h = absurd (memory refl)
@@ -163,7 +163,7 @@ module _ (s : SoFar) (f : Form) where
   pub none_ends : ends_graph s f ≡ false → HasNoneBelow s f 12 → HasNoneBelow s f 14
   none_ends e p = passes_graph (λ at h. false≢true (sym e ∙ h.0)) (λ a b h. false≢true (sym e ∙ h.0)) p
 
-  pub none_faulty : IsFaultless (length s.exceptions) s.pairs → HasNoneBelow s f 12 → HasNoneBelow s f 14
+  pub none_faulty : IsFaultless (length s.graph.exceptions) s.graph.pairs → HasNoneBelow s f 12 → HasNoneBelow s f 14
   none_faulty h p = passes_graph (λ at k. h.acyclic at k.1) (λ a b k. h.joined a b k.1) p
 
   -- the graph that a line ends, if it ends one, has neither

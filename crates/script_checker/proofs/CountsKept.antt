@@ -1,16 +1,13 @@
 -- An accepted script declares no more parts than the limits allow.
-use Rattle.std.proofs.Common.{◌≡◌, ℕ, suc, ◌+◌, ◌<◌, ◌≤◌, nat_le, false, List, [], ◌∷◌, ◌++◌, length, Option, Some, None, refl, arith, length-append}
+use Rattle.std.proofs.Common.{◌≡◌, ℕ, suc, ◌+◌, ◌<◌, ◌≤◌, nat_le, false, List, [], ◌∷◌, ◌++◌, length, refl, arith, length-append}
 use Rattle.std.proofs.lemmas.Bool.{leb-false}
-use Rattle.caa_base.specs.declared.written.entry.Verdict.{Verdict}
-use Rattle.caa_base.specs.declared.written.entry.Verdict.TheVariants as verdict
 use Rattle.action_script.specs.declared.forms.form.Form.{Form}
 use Rattle.action_script.specs.declared.forms.form.Form.TheVariants as form
 use Rattle.script_checker.specs.declared.parts.Block.{Block}
 use Rattle.script_checker.specs.declared.parts.Block.TheVariants as block
-use Rattle.script_checker.specs.declared.parts.Opening.{Opening}
 use Rattle.script_checker.specs.DeclaredSoFar.{SoFar, nothing_yet}
 use Rattle.script_checker.specs.Causes.{is_past_limit}
-use Rattle.script_checker.specs.After.{closed_if, ended, with_said, action_row}
+use Rattle.script_checker.specs.After.{ended, with_said, action_row}
 use Rattle.script_checker.proofs.Choosing.{within}
 use Rattle.script_checker.proofs.Accepted.{IsKept}
 use Rattle.caa_base.specs.Written.Limits.{most_participants, most_objects, most_drills, most_watches, most_graphs, most_actions}
@@ -60,92 +57,30 @@ FewGraphs s = (length s.graphs + open_graphs s.block ≤ suc (length s.graph_nam
 abbrev pub FewActions : SoFar → Type 0
 FewActions s = (length s.actions + open_actions s.block ≤ length s.action_names) × (length s.action_names ≤ most_actions)
 
-module _ where
-
-closed_participants : (s : SoFar) (v : Verdict) (o : Option Opening) → FewParticipants s → FewParticipants (closed_if s o v)
-closed_participants s v None h = h
-closed_participants s v (Some o) h = h
-
-closed_objects : (s : SoFar) (v : Verdict) (o : Option Opening) → FewObjects s → FewObjects (closed_if s o v)
-closed_objects s v None h = h
-closed_objects s v (Some o) h = h
-
-closed_drills : (s : SoFar) (v : Verdict) (o : Option Opening) → FewDrills s → FewDrills (closed_if s o v)
-closed_drills s v None h = h
-closed_drills s v (Some o) h = h
-
-closed_watches : (s : SoFar) (v : Verdict) (o : Option Opening) → FewWatches s → FewWatches (closed_if s o v)
-closed_watches s v None h = h
-closed_watches s v (Some o) h = h
-
-closed_graphs : (s : SoFar) (v : Verdict) (o : Option Opening) → FewGraphs s → FewGraphs (closed_if s o v)
-closed_graphs s v None h = h
-closed_graphs s v (Some o) h = h
-
-closed_actions : (s : SoFar) (v : Verdict) (o : Option Opening) → FewActions s → FewActions (closed_if s o v)
-closed_actions s v None h = h
-closed_actions s v (Some o) h = h
-
 module _ (names : List (List ℕ)) where
-  ended_participants : (s : SoFar) (b : Block) → FewParticipants s → FewParticipants (ended names s b)
-  ended_participants s block.Top h = h
-  ended_participants s block.Graph h = h
-  ended_participants s block.Action h = h
-
   says_participants : (s : SoFar) (f : Form) → is_past_limit s f ≡ false → FewParticipants s → FewParticipants (with_said names s f)
   says_participants s (form.Participant name) w h = (same_more s.participant_rows s.participants _ name h.0, few_more most_participants s.participants name w)
-  says_participants s form.End w h = ended_participants s s.block h
-  says_participants s form.DoneLine w h = closed_participants s _ s.opening h
-  says_participants s (form.SignalLine x) w h = closed_participants s _ s.opening h
-  says_participants s form.UndoLine w h = closed_participants s _ s.opening h
   says_participants s f w h = h
-
-  ended_objects : (s : SoFar) (b : Block) → FewObjects s → FewObjects (ended names s b)
-  ended_objects s block.Top h = h
-  ended_objects s block.Graph h = h
-  ended_objects s block.Action h = h
 
   says_objects : (s : SoFar) (f : Form) → is_past_limit s f ≡ false → FewObjects s → FewObjects (with_said names s f)
   says_objects s (form.Object name value) w h = (same_more s.object_rows s.objects _ name h.0, few_more most_objects s.objects name w)
-  says_objects s form.End w h = ended_objects s s.block h
-  says_objects s form.DoneLine w h = closed_objects s _ s.opening h
-  says_objects s (form.SignalLine x) w h = closed_objects s _ s.opening h
-  says_objects s form.UndoLine w h = closed_objects s _ s.opening h
   says_objects s f w h = h
-
-  ended_drills : (s : SoFar) (b : Block) → FewDrills s → FewDrills (ended names s b)
-  ended_drills s block.Top h = h
-  ended_drills s block.Graph h = h
-  ended_drills s block.Action h = h
 
   says_drills : (s : SoFar) (f : Form) → is_past_limit s f ≡ false → FewDrills s → FewDrills (with_said names s f)
   says_drills s (form.Drill object nth) w h = few_more most_drills s.drills _ w
-  says_drills s form.End w h = ended_drills s s.block h
-  says_drills s form.DoneLine w h = closed_drills s _ s.opening h
-  says_drills s (form.SignalLine x) w h = closed_drills s _ s.opening h
-  says_drills s form.UndoLine w h = closed_drills s _ s.opening h
   says_drills s f w h = h
-
-  ended_watches : (s : SoFar) (b : Block) → FewWatches s → FewWatches (ended names s b)
-  ended_watches s block.Top h = h
-  ended_watches s block.Graph h = h
-  ended_watches s block.Action h = h
 
   says_watches : (s : SoFar) (f : Form) → is_past_limit s f ≡ false → FewWatches s → FewWatches (with_said names s f)
   says_watches s (form.Watch object) w h = few_more most_watches s.watches _ w
-  says_watches s form.End w h = ended_watches s s.block h
-  says_watches s form.DoneLine w h = closed_watches s _ s.opening h
-  says_watches s (form.SignalLine x) w h = closed_watches s _ s.opening h
-  says_watches s form.UndoLine w h = closed_watches s _ s.opening h
   says_watches s f w h = h
 
   -- ---- graphs and actions
 
   ended_graphs : (s : SoFar) (b : Block) → s.block ≡ b → FewGraphs s → FewGraphs (ended names s b)
-  ended_graphs s block.Top e h = h
+  ended_graphs s block.Top e h = (omega (arith, h.0), h.1)
   ended_graphs s block.Graph e h =
       let k : length s.graphs + 1 ≤ suc (length s.graph_names) = rw e at h.0 in
-      let n : length (s.graphs ++ record { exceptions = s.exceptions; pairs = s.pairs } ∷ []) ≡ length s.graphs + 1 = length-append s.graphs _ in
+      let n : length (s.graphs ++ s.graph ∷ []) ≡ length s.graphs + 1 = length-append s.graphs _ in
       (omega arith, h.1)
   ended_graphs s block.Action e h = (omega (arith, h.0), h.1)
 
@@ -155,13 +90,10 @@ module _ (names : List (List ℕ)) where
       (omega (arith, h.0), few_more most_graphs s.graph_names name w)
   says_graphs s (form.Action name) w h = (omega (arith, h.0), h.1)
   says_graphs s form.End w h = ended_graphs s s.block refl h
-  says_graphs s form.DoneLine w h = closed_graphs s _ s.opening h
-  says_graphs s (form.SignalLine x) w h = closed_graphs s _ s.opening h
-  says_graphs s form.UndoLine w h = closed_graphs s _ s.opening h
   says_graphs s f w h = h
 
   ended_actions : (s : SoFar) (b : Block) → s.block ≡ b → FewActions s → FewActions (ended names s b)
-  ended_actions s block.Top e h = h
+  ended_actions s block.Top e h = (omega (arith, h.0), h.1)
   ended_actions s block.Graph e h = (omega (arith, h.0), h.1)
   ended_actions s block.Action e h =
       let k : length s.actions + 1 ≤ length s.action_names = rw e at h.0 in
@@ -174,9 +106,6 @@ module _ (names : List (List ℕ)) where
       (omega (arith, h.0), few_more most_actions s.action_names name w)
   says_actions s (form.Graph name) w h = (omega (arith, h.0), h.1)
   says_actions s form.End w h = ended_actions s s.block refl h
-  says_actions s form.DoneLine w h = closed_actions s _ s.opening h
-  says_actions s (form.SignalLine x) w h = closed_actions s _ s.opening h
-  says_actions s form.UndoLine w h = closed_actions s _ s.opening h
   says_actions s f w h = h
 
 -- ---- all counts
@@ -192,12 +121,12 @@ pub record AreFew (s : SoFar) : Type 0 where
 pub counts_kept : (names : List (List ℕ)) → IsKept names (λ at s. AreFew s)
 counts_kept names = record {
   settles = λ at s h. record {
-    participants = closed_participants s verdict.Done s.opening h.participants;
-    objects = closed_objects s verdict.Done s.opening h.objects;
-    drills = closed_drills s verdict.Done s.opening h.drills;
-    watches = closed_watches s verdict.Done s.opening h.watches;
-    graphs = closed_graphs s verdict.Done s.opening h.graphs;
-    actions = closed_actions s verdict.Done s.opening h.actions;
+    participants = h.participants;
+    objects = h.objects;
+    drills = h.drills;
+    watches = h.watches;
+    graphs = h.graphs;
+    actions = h.actions;
   };
   says = λ at s f stands sound none shut h. record {
     participants = says_participants names s f (within s f none) h.participants;

@@ -90,9 +90,9 @@ pub record DepthsTell (depths : List ℕ) (actions : List ActionRow) (rows : Lis
   pub tell : (a : ℕ) → a < length actions → IsDepth depths actions a
 
 abbrev Tell : SoFar → Type 0
-Tell s = DepthsTell s.depths s.actions s.nest_rows
+Tell s = DepthsTell s.depths s.actions s.action.nest_rows
 
-closed_tell : (s : SoFar) (v : Verdict) (o : Option Opening) → Tell s → Tell (closed_if s o v)
+closed_tell : (s : SoFar) (v : Verdict) (o : Option Opening) → Tell s → Tell (record s { action = closed_if s.action o v })
 closed_tell s v None h = h
 closed_tell s v (Some o) h = h
 
@@ -113,11 +113,11 @@ one_more depths actions action h here there =
 
 module _ (names : List (List ℕ)) where
   ended_tell : (s : SoFar) (b : Block) → Pass uses_there s → Tell s → Tell (ended names s b)
-  ended_tell s block.Top there h = h
-  ended_tell s block.Graph there h = h
+  ended_tell s block.Top there h = record { many = h.many; open_rows = refl; tell = h.tell }
+  ended_tell s block.Graph there h = record { many = h.many; open_rows = refl; tell = h.tell }
   ended_tell s block.Action there h =
       let row = action_row names s in
-      let v = counted (1 + deepest (at s.depths) s.nest_rows) in
+      let v = counted (1 + deepest (at s.depths) s.action.nest_rows) in
       let m : length (s.depths ++ v ∷ []) ≡ length s.depths + 1 = length-append s.depths (v ∷ []) in
       let n : length (s.actions ++ row ∷ []) ≡ length s.actions + 1 = length-append s.actions (row ∷ []) in
       record {
@@ -127,7 +127,7 @@ module _ (names : List (List ℕ)) where
       }
 
   tell_still : (s : SoFar) (nest : ℕ) (row : NestRow) → Tell s → (is_shallow s.depths (nest_of s nest) ≡ true → is_shallow s.depths row ≡ true) → Tell (with_nest s nest row)
-  tell_still s nest row h keeps = record { many = h.many; open_rows = all_set (is_shallow s.depths) s.nest_rows (index_of nest s.nests) no_nest row keeps h.open_rows; tell = h.tell }
+  tell_still s nest row h keeps = record { many = h.many; open_rows = all_set (is_shallow s.depths) s.action.nest_rows (index_of nest s.action.nests) no_nest row keeps h.open_rows; tell = h.tell }
 
   below_most : (d : ℕ) → nat_le most_depth d ≡ false → nat_lt d most_depth ≡ true
   below_most d e = lt-ltb d most_depth (leb-false most_depth d e)
@@ -136,7 +136,7 @@ module _ (names : List (List ℕ)) where
   says_tell s (form.Action name) none there h = record { many = h.many; open_rows = refl; tell = h.tell }
   says_tell s (form.Nest nest action roles) none there h = record {
     many = h.many;
-    open_rows = all_push (is_shallow s.depths) s.nest_rows _ h.open_rows (and_from _ _ (below_most _ (shallow s (form.Nest nest action roles) none)) refl);
+    open_rows = all_push (is_shallow s.depths) s.action.nest_rows _ h.open_rows (and_from _ _ (below_most _ (shallow s (form.Nest nest action roles) none)) refl);
     tell = h.tell;
   }
   says_tell s (form.Map nest lower upper) none there h = tell_still s nest _ h (λ k. k)
@@ -145,18 +145,18 @@ module _ (names : List (List ℕ)) where
   says_tell s (form.Alternate nest action) none there h =
       tell_still s nest _ h (λ k. all_push (λ a. nat_lt (at s.depths a) most_depth) (nest_of s nest).actions (index_of action s.action_names) k (below_most _ (shallow s (form.Alternate nest action) none)))
   says_tell s form.End none there h = ended_tell s s.block there h
-  says_tell s form.DoneLine none there h = closed_tell s _ s.opening h
-  says_tell s (form.SignalLine x) none there h = closed_tell s _ s.opening h
-  says_tell s form.UndoLine none there h = closed_tell s _ s.opening h
+  says_tell s form.DoneLine none there h = closed_tell s _ s.action.opening h
+  says_tell s (form.SignalLine x) none there h = closed_tell s _ s.action.opening h
+  says_tell s form.UndoLine none there h = closed_tell s _ s.action.opening h
   says_tell s f none there h = h
 
 pub record AreShallow (s : SoFar) : Type 0 where
   pub there : Pass uses_there s
-  pub depths : DepthsTell s.depths s.actions s.nest_rows
+  pub depths : DepthsTell s.depths s.actions s.action.nest_rows
 
 pub depths_kept : (names : List (List ℕ)) → IsKept names (λ at s. AreShallow s)
 depths_kept names = record {
-  settles = λ at s h. record { there = (pass_kept uses_there there_test names).settles at s h.there; depths = closed_tell s verdict.Done s.opening h.depths };
+  settles = λ at s h. record { there = (pass_kept uses_there there_test names).settles at s h.there; depths = closed_tell s verdict.Done s.action.opening h.depths };
   says = λ at s f stands sound none shut h. record { there = (pass_kept uses_there there_test names).says at s f stands sound none shut h.there; depths = says_tell names s f none h.there h.depths };
 }
 

@@ -5,7 +5,7 @@ use Rattle.std.proofs.lemmas.List.Folds.{list_any-append}
 use Rattle.std.specs.HashSet.{HashSet, contains}
 use Rattle.caa_base.specs.declared.written.entry.Drill.{Drill}
 use Rattle.script_checker.specs.Causes.{is_drill}
-use Rattle.script_checker.specs.DrillTable.{same_put, HasPutsOf}
+use Rattle.script_checker.specs.inner.DrillTable.{same_put, HasPutsOf}
 
 one_more : (new old : Bool) → cond new true old ≡ (old || (new || false))
 one_more true true = refl

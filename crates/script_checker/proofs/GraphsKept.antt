@@ -1,11 +1,9 @@
 -- The graphs of an accepted script: the plain one stands first, each row has its names, and each use of a graph is of one that is
 -- there.
-use Rattle.std.proofs.Common.{◌≡◌, ℕ, suc, zero, Bool, true, false, ◌==◌, List, [], ◌∷◌, ◌++◌, length, slice_index_or, Option, Some, None, refl, sym, ap, ◌∙◌}
+use Rattle.std.proofs.Common.{◌≡◌, ℕ, suc, zero, Bool, true, false, ◌==◌, List, [], ◌∷◌, ◌++◌, length, slice_index_or, refl, sym, ap, ◌∙◌}
 use Rattle.std.proofs.lemmas.List.{length-map}
 use Rattle.std.specs.List.{list_all}
 use Rattle.std.proofs.lemmas.Bool.{false≢true, eq-eqb}
-use Rattle.caa_base.specs.declared.written.entry.Verdict.{Verdict}
-use Rattle.caa_base.specs.declared.written.entry.Verdict.TheVariants as verdict
 use Rattle.place_plan.specs.declared.drafts.draft_rows.GraphRow.{GraphRow}
 use Rattle.place_plan.specs.Plans.Places.{no_graph as no_row}
 use Rattle.place_plan.specs.Drafts.DraftRules.{first_is_plain, is_named}
@@ -14,9 +12,8 @@ use Rattle.action_script.specs.declared.forms.form.Form.TheVariants as form
 use Rattle.script_checker.specs.declared.parts.Block.{Block}
 use Rattle.script_checker.specs.declared.parts.Block.TheVariants as block
 use Rattle.script_checker.specs.declared.parts.DeclaredGraph.{DeclaredGraph}
-use Rattle.script_checker.specs.declared.parts.Opening.{Opening}
 use Rattle.script_checker.specs.DeclaredSoFar.{SoFar, exceptions_at}
-use Rattle.script_checker.specs.After.{closed_if, ended, with_said}
+use Rattle.script_checker.specs.After.{ended, with_said}
 use Rattle.script_checker.specs.Compiled.{AreRowsOf, exception_name}
 use Rattle.script_checker.proofs.Accepted.{IsKept}
 
@@ -32,10 +29,6 @@ still_first (graph ∷ graphs) more h = h
 abbrev pub IsPlainFirst : SoFar → Type 0
 IsPlainFirst s = first_alone s.graphs ≡ true
 
-closed_first : (s : SoFar) (v : Verdict) (o : Option Opening) → IsPlainFirst s → IsPlainFirst (closed_if s o v)
-closed_first s v None h = h
-closed_first s v (Some o) h = h
-
 module _ (names : List (List ℕ)) where
   ended_first : (s : SoFar) (b : Block) → IsPlainFirst s → IsPlainFirst (ended names s b)
   ended_first s block.Top h = h
@@ -44,14 +37,11 @@ module _ (names : List (List ℕ)) where
 
   says_first : (s : SoFar) (f : Form) → IsPlainFirst s → IsPlainFirst (with_said names s f)
   says_first s form.End h = ended_first s s.block h
-  says_first s form.DoneLine h = closed_first s _ s.opening h
-  says_first s (form.SignalLine x) h = closed_first s _ s.opening h
-  says_first s form.UndoLine h = closed_first s _ s.opening h
   says_first s f h = h
 
 pub first_kept : (names : List (List ℕ)) → IsKept names (λ at s. IsPlainFirst s)
 first_kept names = record {
-  settles = λ at s h. closed_first s verdict.Done s.opening h;
+  settles = λ at s h. h;
   says = λ at s f stands sound none shut h. says_first names s f h;
 }
 

@@ -49,7 +49,7 @@ pub record GraphsAre (here there : Block) (graphs : List DeclaredGraph) (names e
   pub interface_there : interface < length graphs
 
 abbrev pub GraphsThere : Section → SoFar → Type 0
-GraphsThere at s = GraphsAre (block_of at) s.block s.graphs s.graph_names s.exceptions (internal_graph s) (interface_graph s)
+GraphsThere at s = GraphsAre (block_of at) s.block s.graphs s.graph_names s.graph.exceptions (internal_graph s) (interface_graph s)
 
 -- a graph that is there has an exception
 pub some_exception : (graphs : List DeclaredGraph) (g : ℕ) → list_all has_exception graphs ≡ true → g < length graphs → 0 < length (exceptions_at graphs g)
@@ -61,7 +61,7 @@ first_there (graph ∷ graphs) h = omega arith
 
 -- ---- sections
 
-pub closed_there : (at : Section) (s : SoFar) (v : Verdict) (o : Option Opening) → GraphsThere at s → GraphsThere at (closed_if s o v)
+pub closed_there : (at : Section) (s : SoFar) (v : Verdict) (o : Option Opening) → GraphsThere at s → GraphsThere at (record s { action = closed_if s.action o v })
 closed_there at s v None h = h
 closed_there at s v (Some o) h = h
 
@@ -104,23 +104,26 @@ named_there s graph a h =
 
 module _ (names : List (List ℕ)) where
   ended_there : (at : Section) (s : SoFar) (b : Block) → s.block ≡ b → GraphsThere at s → GraphsThere section.Top (ended names s b)
-  ended_there at s block.Top e h = record { linked = sym e; many = h.many; plain = h.plain; filled = h.filled; begun = h.begun; internal_there = h.internal_there; interface_there = h.interface_there }
+  ended_there at s block.Top e h =
+      let many : length s.graphs + 0 ≡ suc (length s.graph_names) = rw e at h.many in
+      let first = first_there s.graphs h.plain in
+      record { linked = refl; many = many; plain = h.plain; filled = h.filled; begun = λ g. absurd (false≢true g); internal_there = first; interface_there = first }
   ended_there at s block.Graph e h =
-      let graph : DeclaredGraph = record { exceptions = s.exceptions; pairs = s.pairs } in
-      let n : length (s.graphs ++ graph ∷ []) ≡ length s.graphs + 1 = length-append s.graphs (graph ∷ []) in
+      let n : length (s.graphs ++ s.graph ∷ []) ≡ length s.graphs + 1 = length-append s.graphs (s.graph ∷ []) in
       let many : length s.graphs + 1 ≡ suc (length s.graph_names) = rw e at h.many in
       record {
         linked = refl;
         many = omega arith;
         plain = still_first s.graphs _ h.plain;
-        filled = all_push has_exception s.graphs graph h.filled (lt-ltb 0 (length s.exceptions) (h.begun (rw e refl)));
+        filled = all_push has_exception s.graphs s.graph h.filled (lt-ltb 0 (length s.graph.exceptions) (h.begun (rw e refl)));
         begun = λ g. absurd (false≢true g);
-        internal_there = omega (arith, h.internal_there);
-        interface_there = omega (arith, h.interface_there);
+        internal_there = omega arith;
+        interface_there = omega arith;
       }
   ended_there at s block.Action e h =
       let many : length s.graphs + 0 ≡ suc (length s.graph_names) = rw e at h.many in
-      record { linked = refl; many = many; plain = h.plain; filled = h.filled; begun = λ g. absurd (false≢true g); internal_there = h.internal_there; interface_there = h.interface_there }
+      let first = first_there s.graphs h.plain in
+      record { linked = refl; many = many; plain = h.plain; filled = h.filled; begun = λ g. absurd (false≢true g); internal_there = first; interface_there = first }
 
   pub says_there : (at : Section) (s : SoFar) (f : Form) → stands_in (kind_of f) at ≡ true → HasNone s f → GraphsThere at s → GraphsThere (goes_to (kind_of f) at) (with_said names s f)
   says_there at s (form.Graph name) e none h =
@@ -134,7 +137,7 @@ module _ (names : List (List ℕ)) where
       let first = first_there s.graphs h.plain in
       record { linked = refl; many = omega arith; plain = h.plain; filled = h.filled; begun = λ g. absurd (false≢true g); internal_there = first; interface_there = first }
   says_there at s (form.Exception name) e none h =
-      let n : length (s.exceptions ++ name ∷ []) ≡ length s.exceptions + 1 = length-append s.exceptions (name ∷ []) in
+      let n : length (s.graph.exceptions ++ name ∷ []) ≡ length s.graph.exceptions + 1 = length-append s.graph.exceptions (name ∷ []) in
       record { linked = h.linked; many = h.many; plain = h.plain; filled = h.filled; begun = λ g. omega arith; internal_there = h.internal_there; interface_there = h.interface_there }
   says_there at s form.End e none h = ended_there at s s.block refl h
   says_there at s (form.Internal graph) e none h =
@@ -157,7 +160,7 @@ module _ (names : List (List ℕ)) where
   says_there at s (form.AbortTest role t v x) e none h = as_action at s e h
   says_there at s (form.Body role) e none h = as_action at s e h
   says_there at s (form.Handler role x) e none h = as_action at s e h
-  says_there at s form.DoneLine e none h = closed_there section.Action s _ s.opening (as_program at s e h)
-  says_there at s (form.SignalLine x) e none h = closed_there section.Action s _ s.opening (as_program at s e h)
-  says_there at s form.UndoLine e none h = closed_there section.Action s _ s.opening (as_program at s e h)
+  says_there at s form.DoneLine e none h = closed_there section.Action s _ s.action.opening (as_program at s e h)
+  says_there at s (form.SignalLine x) e none h = closed_there section.Action s _ s.action.opening (as_program at s e h)
+  says_there at s form.UndoLine e none h = closed_there section.Action s _ s.action.opening (as_program at s e h)
   says_there at s f e none h = h

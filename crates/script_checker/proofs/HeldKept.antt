@@ -14,22 +14,20 @@ use Rattle.place_plan.specs.declared.drafts.draft_rows.Program.{Program}
 use Rattle.place_plan.specs.declared.drafts.draft_rows.Step.{Step}
 use Rattle.place_plan.specs.declared.drafts.draft_rows.Step.TheVariants as step
 use Rattle.place_plan.specs.Plans.Places.{no_action, no_role, no_nest}
-use Rattle.place_plan.specs.Drafts.DraftRules.{all_below, holds_step, holds_role}
+use Rattle.place_plan.specs.Drafts.DraftRules.{all_below, all_differ, holds_step, holds_role}
 use Rattle.action_script.specs.declared.forms.form.Form.{Form}
 use Rattle.action_script.specs.declared.forms.form.Form.TheVariants as form
-use Rattle.script_checker.specs.declared.parts.Block.{Block}
-use Rattle.script_checker.specs.declared.parts.Block.TheVariants as block
 use Rattle.script_checker.specs.declared.parts.Opening.{Opening}
 use Rattle.script_checker.specs.Blocks.{is_in_action}
-use Rattle.script_checker.specs.Numbers.{is_among, has_twice}
+use Rattle.script_checker.specs.Numbers.{is_among}
 use Rattle.script_checker.specs.DeclaredSoFar.{SoFar, outer, nest_of}
 use Rattle.script_checker.specs.Causes.{is_action}
-use Rattle.script_checker.specs.After.{closed_if, ended, with_said, with_program, idle_role, with_nest, action_row}
+use Rattle.script_checker.specs.After.{closed_if, with_said, with_program, idle_role, with_nest, action_row}
 use Rattle.script_checker.specs.Compiled.{HasNone}
 use Rattle.caa_base.proofs.ListLemmas.{all_imply, empty_is}
 use Rattle.script_checker.proofs.Choosing.{known}
 use Rattle.script_checker.proofs.Accepted.{IsKept, once, held}
-use Rattle.script_checker.proofs.ActionsGrow.{all_push, ends_action, closed_actions, said_none, said_one}
+use Rattle.script_checker.proofs.ActionsGrow.{all_push, ends_action, said_none, said_one}
 use Rattle.script_checker.proofs.ListsChange.{all_change, all_set, all_mapped}
 use Rattle.script_checker.proofs.NestTests.{neither, below_more, one_longer, acts_same}
 
@@ -47,7 +45,7 @@ pub record TouchesOnly (actions : List ActionRow) (objects : List ℕ) (steps : 
   pub holds_nests : list_all (uses_held actions objects) nests ≡ true
 
 abbrev pub OpenHeld : SoFar → Type 0
-OpenHeld s = is_in_action s.block ≡ true → TouchesOnly s.actions s.uses s.steps s.role_rows s.nest_rows
+OpenHeld s = is_in_action s.block ≡ true → TouchesOnly s.actions s.action.uses s.action.steps s.action.role_rows s.action.nest_rows
 
 abbrev pub held_in : List ActionRow → ActionRow → Bool
 held_in actions action = list_all (holds_role action.objects) action.roles && list_all (uses_held actions action.objects) action.nests
@@ -94,65 +92,60 @@ holds_program objects (Some x) program p row h =
     let parts = and_parts (list_all (holds_step objects) row.body.steps) (list_all (λ (h : HandlerRow). list_all (holds_step objects) h.program.steps) row.handlers) h in
     and_from _ _ parts.0 (all_push (λ (h : HandlerRow). list_all (holds_step objects) h.program.steps) row.handlers (record { exception = x; program = program }) parts.1 p)
 
-closed_held : (s : SoFar) (v : Verdict) (o : Option Opening) → OpenHeld s → OpenHeld (closed_if s o v)
+closed_held : (s : SoFar) (v : Verdict) (o : Option Opening) → OpenHeld s → OpenHeld (record s { action = closed_if s.action o v })
 closed_held s v None h = h
 closed_held s v (Some o) h = λ e.
     let k = h e in
-    let program : Program = record { steps = s.steps; verdict = v } in
+    let program : Program = record { steps = s.action.steps; verdict = v } in
     record {
       steps_held = refl;
-      holds_roles = all_change (holds_role s.uses) (λ (row : RoleRow). with_program row o.exception program) s.role_rows o.role no_role (holds_program s.uses o.exception program k.steps_held) k.holds_roles;
+      holds_roles = all_change (holds_role s.action.uses) (λ (row : RoleRow). with_program row o.exception program) s.action.role_rows o.role no_role (holds_program s.action.uses o.exception program k.steps_held) k.holds_roles;
       holds_nests = k.holds_nests;
     }
 
 -- ---- lines
 
-ended_held : (names : List (List ℕ)) (s : SoFar) (b : Block) → s.block ≡ b → OpenHeld s → OpenHeld (ended names s b)
-ended_held names s block.Top e h = h
-ended_held names s block.Graph e h = λ e. absurd (false≢true e)
-ended_held names s block.Action e h = λ e. absurd (false≢true e)
-
 module _ (names : List (List ℕ)) where
-  one_step : (s : SoFar) (x : Step) → holds_step s.uses x ≡ true → OpenHeld s → is_in_action s.block ≡ true → TouchesOnly s.actions s.uses (s.steps ++ x ∷ []) s.role_rows s.nest_rows
-  one_step s x m h e = let k = h e in record { steps_held = all_push (holds_step s.uses) s.steps x k.steps_held m; holds_roles = k.holds_roles; holds_nests = k.holds_nests }
+  one_step : (s : SoFar) (x : Step) → holds_step s.action.uses x ≡ true → OpenHeld s → is_in_action s.block ≡ true → TouchesOnly s.actions s.action.uses (s.action.steps ++ x ∷ []) s.action.role_rows s.action.nest_rows
+  one_step s x m h e = let k = h e in record { steps_held = all_push (holds_step s.action.uses) s.action.steps x k.steps_held m; holds_roles = k.holds_roles; holds_nests = k.holds_nests }
 
-  no_steps : (s : SoFar) → OpenHeld s → is_in_action s.block ≡ true → TouchesOnly s.actions s.uses [] s.role_rows s.nest_rows
+  no_steps : (s : SoFar) → OpenHeld s → is_in_action s.block ≡ true → TouchesOnly s.actions s.action.uses [] s.action.role_rows s.action.nest_rows
   no_steps s h e = let k = h e in record { steps_held = refl; holds_roles = k.holds_roles; holds_nests = k.holds_nests }
 
-  other_abort : (s : SoFar) (roles : List RoleRow) → OpenHeld s → (list_all (holds_role s.uses) s.role_rows ≡ true → list_all (holds_role s.uses) roles ≡ true) → is_in_action s.block ≡ true → TouchesOnly s.actions s.uses s.steps roles s.nest_rows
+  other_abort : (s : SoFar) (roles : List RoleRow) → OpenHeld s → (list_all (holds_role s.action.uses) s.action.role_rows ≡ true → list_all (holds_role s.action.uses) roles ≡ true) → is_in_action s.block ≡ true → TouchesOnly s.actions s.action.uses s.action.steps roles s.action.nest_rows
   other_abort s roles h keeps e = let k = h e in record { steps_held = k.steps_held; holds_roles = keeps k.holds_roles; holds_nests = k.holds_nests }
 
-  nest_held_still : (s : SoFar) (nest : ℕ) (row : NestRow) → OpenHeld s → (uses_held s.actions s.uses (nest_of s nest) ≡ true → uses_held s.actions s.uses row ≡ true) → OpenHeld (with_nest s nest row)
+  nest_held_still : (s : SoFar) (nest : ℕ) (row : NestRow) → OpenHeld s → (uses_held s.actions s.action.uses (nest_of s nest) ≡ true → uses_held s.actions s.action.uses row ≡ true) → OpenHeld (with_nest s nest row)
   nest_held_still s nest row h keeps = λ e.
       let k = h e in
-      record { steps_held = k.steps_held; holds_roles = k.holds_roles; holds_nests = all_set (uses_held s.actions s.uses) s.nest_rows (index_of nest s.nests) no_nest row keeps k.holds_nests }
+      record { steps_held = k.steps_held; holds_roles = k.holds_roles; holds_nests = all_set (uses_held s.actions s.action.uses) s.action.nest_rows (index_of nest s.action.nests) no_nest row keeps k.holds_nests }
 
   says_held : (s : SoFar) (f : Form) → HasNone s f → OpenHeld s → OpenHeld (with_said names s f)
   says_held s (form.Graph name) none h = λ e. absurd (false≢true e)
   says_held s (form.Action name) none h = λ e. record { steps_held = refl; holds_roles = refl; holds_nests = refl }
   says_held s (form.Uses objects) none h = λ e.
-      any_objects s.actions s.uses _ s.steps s.role_rows s.nest_rows (empty_is s.uses (not-false _ (or_parts (not (is_empty s.uses)) (has_twice objects) (once s (form.Uses objects) none)).0)) (h e)
-  says_held s (form.Roles roles) none h = other_abort s _ h (λ k. all_mapped (holds_role s.uses) (idle_role names) roles (λ name. refl))
+      any_objects s.actions s.action.uses _ s.action.steps s.action.role_rows s.action.nest_rows (empty_is s.action.uses (not-false _ (or_parts (not (is_empty s.action.uses)) (not (all_differ objects)) (once s (form.Uses objects) none)).0)) (h e)
+  says_held s (form.Roles roles) none h = other_abort s _ h (λ k. all_mapped (holds_role s.action.uses) (idle_role names) roles (λ name. refl))
   says_held s (form.Nest nest action roles) none h = λ e.
       let k = h e in
-      let a = neither (is_action s action) (list_all (is_among s.roles) roles) (known s (form.Nest nest action roles) none) in
+      let a = neither (is_action s action) (list_all (is_among s.action.roles) roles) (known s (form.Nest nest action roles) none) in
       let m = not-false _ (held s (form.Nest nest action roles) none) in
-      record { steps_held = k.steps_held; holds_roles = k.holds_roles; holds_nests = all_push (uses_held s.actions s.uses) s.nest_rows _ k.holds_nests (rw (a.0, m) refl) }
+      record { steps_held = k.steps_held; holds_roles = k.holds_roles; holds_nests = all_push (uses_held s.actions s.action.uses) s.action.nest_rows _ k.holds_nests (rw (a.0, m) refl) }
   says_held s (form.Map nest lower upper) none h = nest_held_still s nest _ h (λ k. k)
   says_held s (form.MapUndo nest x) none h = nest_held_still s nest _ h (λ k. k)
   says_held s (form.MapFailure nest x) none h = nest_held_still s nest _ h (λ k. k)
   says_held s (form.Alternate nest action) none h =
-      let a = neither (is_among s.nests nest) (is_action s action) (known s (form.Alternate nest action) none) in
+      let a = neither (is_among s.action.nests nest) (is_action s action) (known s (form.Alternate nest action) none) in
       let m = not-false _ (held s (form.Alternate nest action) none) in
       let row = nest_of s nest in
       nest_held_still s nest _ h (λ k.
       let p = and_parts (all_below (length s.actions) row.actions) _ k in
       and_from _ _ (all_push (λ a. nat_lt a (length s.actions)) row.actions (index_of action s.action_names) p.0 a.1)
-      (all_push (λ a. all_members s.uses (slice_index_or s.actions a no_action)) row.actions (index_of action s.action_names) p.1 m))
+      (all_push (λ a. all_members s.action.uses (slice_index_or s.actions a no_action)) row.actions (index_of action s.action_names) p.1 m))
   says_held s (form.Abort role x) none h =
-      other_abort s _ h (all_change (holds_role s.uses) (λ (row : RoleRow). record row { abort = abort.Always (index_of x (outer s)) }) s.role_rows (index_of role s.roles) no_role (λ row k. k))
+      other_abort s _ h (all_change (holds_role s.action.uses) (λ (row : RoleRow). record row { abort = abort.Always (index_of x (outer s)) }) s.action.role_rows (index_of role s.action.roles) no_role (λ row k. k))
   says_held s (form.AbortTest role t v x) none h =
-      other_abort s _ h (all_change (holds_role s.uses) (λ (row : RoleRow). record row { abort = abort.Where t v (index_of x (outer s)) }) s.role_rows (index_of role s.roles) no_role (λ row k. k))
+      other_abort s _ h (all_change (holds_role s.action.uses) (λ (row : RoleRow). record row { abort = abort.Where t v (index_of x (outer s)) }) s.action.role_rows (index_of role s.action.roles) no_role (λ row k. k))
   says_held s (form.Body role) none h = no_steps s h
   says_held s (form.Handler role x) none h = no_steps s h
   says_held s (form.ReadStep object) none h = one_step s _ (not-false _ (held s (form.ReadStep object) none)) h
@@ -162,10 +155,10 @@ module _ (names : List (List ℕ)) where
   says_held s (form.CheckStep t v x) none h = one_step s _ refl h
   says_held s (form.RaiseStep x) none h = one_step s _ refl h
   says_held s (form.EnterStep n) none h = one_step s _ refl h
-  says_held s form.End none h = ended_held names s s.block refl h
-  says_held s form.DoneLine none h = closed_held s _ s.opening h
-  says_held s (form.SignalLine x) none h = closed_held s _ s.opening h
-  says_held s form.UndoLine none h = closed_held s _ s.opening h
+  says_held s form.End none h = λ e. absurd (false≢true e)
+  says_held s form.DoneLine none h = closed_held s _ s.action.opening h
+  says_held s (form.SignalLine x) none h = closed_held s _ s.action.opening h
+  says_held s form.UndoLine none h = closed_held s _ s.action.opening h
   says_held s f none h = h
 
 -- ---- actions that have ended
@@ -201,8 +194,8 @@ says_ended names s f h false e = rw (said_none names s f e) h.ended_held
 pub held_kept : (names : List (List ℕ)) → IsKept names (λ at s. AreHeld s)
 held_kept names = record {
   settles = λ at s h. record {
-    open_held = closed_held s verdict.Done s.opening h.open_held;
-    ended_held = rw (closed_actions s verdict.Done s.opening) h.ended_held;
+    open_held = closed_held s verdict.Done s.action.opening h.open_held;
+    ended_held = h.ended_held;
   };
   says = λ at s f stands sound none shut h. record {
     open_held = says_held names s f none h.open_held;

@@ -24,11 +24,8 @@ pub mod RangesKept
 pub mod MapsKept
 pub mod AcceptedDraft
 pub mod PlayLines
-pub mod PlaysAgain
 pub mod Unbroken
 pub mod NamesKept
 pub mod NumberTables
-pub mod NearNames
 pub mod ChosenNumbers
 pub mod DrillTables
-pub mod HandlerTables

@@ -41,7 +41,7 @@ pub record AreCounted (graphs : List DeclaredGraph) (actions : List ActionRow) (
 
 -- the uses that are being declared are mapped, and those of the actions that have ended
 abbrev pub MapsRight : SoFar → Type 0
-MapsRight s = (count face : ℕ → ℕ) → AreCounted s.graphs s.actions count face → (list_all (use_mapped count face) s.nest_rows ≡ true) × (list_all (λ (action : ActionRow). list_all (use_mapped count face) action.nests) s.actions ≡ true)
+MapsRight s = (count face : ℕ → ℕ) → AreCounted s.graphs s.actions count face → (list_all (use_mapped count face) s.action.nest_rows ≡ true) × (list_all (λ (action : ActionRow). list_all (use_mapped count face) action.nests) s.actions ≡ true)
 
 -- ---- one graph or action more
 
@@ -80,14 +80,14 @@ alternate_still count face row a h =
 
 -- ---- lines
 
-closed_maps : (s : SoFar) (v : Verdict) (o : Option Opening) → MapsRight s → MapsRight (closed_if s o v)
+closed_maps : (s : SoFar) (v : Verdict) (o : Option Opening) → MapsRight s → MapsRight (record s { action = closed_if s.action o v })
 closed_maps s v None h = h
 closed_maps s v (Some o) h = h
 
 nest_maps : (s : SoFar) (nest : ℕ) (row : NestRow) → ((count face : ℕ → ℕ) → use_mapped count face (nest_of s nest) ≡ true → use_mapped count face row ≡ true) → MapsRight s → MapsRight (with_nest s nest row)
 nest_maps s nest row keeps h = λ count face b.
     let k = h count face b in
-    (all_set (use_mapped count face) s.nest_rows (index_of nest s.nests) no_nest row (keeps count face) k.0, k.1)
+    (all_set (use_mapped count face) s.action.nest_rows (index_of nest s.action.nests) no_nest row (keeps count face) k.0, k.1)
 
 -- the graph of what an action tells outside is there
 face_there : (at : Section) (s : SoFar) (a : ℕ) → AreInRange at s → a < length s.actions → (slice_index_or s.actions a no_action).interface < length s.graphs
@@ -99,8 +99,8 @@ face_there at s a h l =
 
 module _ (names : List (List ℕ)) where
   ended_maps : (s : SoFar) (b : Block) → MapsRight s → MapsRight (ended names s b)
-  ended_maps s block.Top h = h
-  ended_maps s block.Graph h = λ count face b. h count face (fewer_graphs s.graphs _ s.actions count face b)
+  ended_maps s block.Top h = λ count face b. (refl, (h count face b).1)
+  ended_maps s block.Graph h = λ count face b. (refl, (h count face (fewer_graphs s.graphs _ s.actions count face b)).1)
   ended_maps s block.Action h = λ count face b.
       let k = h count face (fewer_actions s.graphs s.actions (action_row names s) count face b) in
       (refl, all_push (λ (action : ActionRow). list_all (use_mapped count face) action.nests) s.actions (action_row names s) k.1 k.0)
@@ -109,19 +109,19 @@ module _ (names : List (List ℕ)) where
   says_maps at s (form.Action name) none ranges h = λ count face b. (refl, (h count face b).1)
   says_maps at s (form.Nest nest action roles) none ranges h = λ count face b.
       let k = h count face b in
-      let a = ltb-true _ _ (neither (is_action s action) (list_all (is_among s.roles) roles) (known s (form.Nest nest action roles) none)).0 in
+      let a = ltb-true _ _ (neither (is_action s action) (list_all (is_among s.action.roles) roles) (known s (form.Nest nest action roles) none)).0 in
       let outside = (action_of s action).interface in
       let n : length (replicate (length (exceptions_at s.graphs outside)) 0) ≡ count (face (index_of action s.action_names)) =
       length-replicate (length (exceptions_at s.graphs outside)) 0 ∙ sym (b.counts outside (face_there at s (index_of action s.action_names) ranges a)) ∙ ap count (sym (b.faces (index_of action s.action_names) a)) in
-      (all_push (use_mapped count face) s.nest_rows _ k.0 (eq-eqb _ _ n), k.1)
+      (all_push (use_mapped count face) s.action.nest_rows _ k.0 (eq-eqb _ _ n), k.1)
   says_maps at s (form.Map nest lower upper) none ranges h = nest_maps s nest _ (λ count face k. mapped_still count face (nest_of s nest) _ _ k) h
   says_maps at s (form.MapUndo nest x) none ranges h = nest_maps s nest _ (λ count face k. k) h
   says_maps at s (form.MapFailure nest x) none ranges h = nest_maps s nest _ (λ count face k. k) h
   says_maps at s (form.Alternate nest action) none ranges h = nest_maps s nest _ (λ count face k. alternate_still count face (nest_of s nest) _ k) h
   says_maps at s form.End none ranges h = ended_maps s s.block h
-  says_maps at s form.DoneLine none ranges h = closed_maps s _ s.opening h
-  says_maps at s (form.SignalLine x) none ranges h = closed_maps s _ s.opening h
-  says_maps at s form.UndoLine none ranges h = closed_maps s _ s.opening h
+  says_maps at s form.DoneLine none ranges h = closed_maps s _ s.action.opening h
+  says_maps at s (form.SignalLine x) none ranges h = closed_maps s _ s.action.opening h
+  says_maps at s form.UndoLine none ranges h = closed_maps s _ s.action.opening h
   says_maps at s f none ranges h = h
 
 pub record AreMapped (at : Section) (s : SoFar) : Type 0 where
@@ -130,7 +130,7 @@ pub record AreMapped (at : Section) (s : SoFar) : Type 0 where
 
 pub maps_kept : (names : List (List ℕ)) → IsKept names AreMapped
 maps_kept names = record {
-  settles = λ at s h. record { ranges = (ranges_kept names).settles at s h.ranges; maps = closed_maps s verdict.Done s.opening h.maps };
+  settles = λ at s h. record { ranges = (ranges_kept names).settles at s h.ranges; maps = closed_maps s verdict.Done s.action.opening h.maps };
   says = λ at s f stands sound none shut h. record {
     ranges = (ranges_kept names).says at s f stands sound none shut h.ranges;
     maps = says_maps names at s f none h.ranges h.maps;

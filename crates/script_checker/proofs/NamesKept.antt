@@ -1,5 +1,5 @@
 -- The names of an accepted script tell its parts apart: each line without cause keeps that they do.
-use Rattle.std.proofs.Common.{◌≡◌, ◌≢◌, ℕ, zero, suc, ◌<◌, ◌≤◌, ◌==◌, Bool, true, false, ◌&&◌, if◌then◌else◌, List, [], ◌∷◌, ◌++◌, map, length, get_or, codes, Option, Some, None, refl, sym, ap, ◌∙◌, subst, arith}
+use Rattle.std.proofs.Common.{◌≡◌, ◌≢◌, ℕ, zero, suc, ◌<◌, ◌≤◌, ◌==◌, Bool, true, false, ◌&&◌, if◌then◌else◌, List, [], ◌∷◌, ◌++◌, map, length, get_or, codes, refl, sym, ap, ◌∙◌, subst, arith}
 use Rattle.std.specs.List.{All, AllPairs, list_all, flat_map}
 use Rattle.std.proofs.lemmas.Bool.{and_parts, or_parts, eq-eqb, ltb-false, ltb-true, false≢true, false_from_ne_true, not-false}
 use Rattle.std.proofs.lemmas.List.{get_or-map, get_or_default, map-append, length-append, length-map}
@@ -7,8 +7,6 @@ use Rattle.std.proofs.lemmas.List.Elements.{All-push, All-nil, All-map}
 use Rattle.std.proofs.lemmas.List.Quantifiers.{all_pairs_push}
 use Rattle.caa_base.specs.Written.Names.{is_name, name_at}
 use Rattle.caa_base.specs.Written.Lists.{member, index_of}
-use Rattle.caa_base.specs.declared.written.entry.Verdict.{Verdict}
-use Rattle.caa_base.specs.declared.written.entry.Verdict.TheVariants as verdict
 use Rattle.place_plan.specs.declared.drafts.draft_rows.GraphRow.{GraphRow}
 use Rattle.place_plan.specs.declared.drafts.draft_rows.ObjectRow.{ObjectRow}
 use Rattle.place_plan.specs.Plans.PlanValue.{Plan}
@@ -24,11 +22,10 @@ use Rattle.script_checker.specs.declared.check_error.CheckCause.TheVariants as c
 use Rattle.script_checker.specs.declared.parts.Block.{Block}
 use Rattle.script_checker.specs.declared.parts.Block.TheVariants as block
 use Rattle.script_checker.specs.declared.parts.DeclaredGraph.{DeclaredGraph}
-use Rattle.script_checker.specs.declared.parts.Opening.{Opening}
 use Rattle.script_checker.specs.Numbers.{is_among}
-use Rattle.script_checker.specs.DeclaredSoFar.{SoFar, nothing_yet}
+use Rattle.script_checker.specs.DeclaredSoFar.{SoFar, nothing_yet, plain_graph}
 use Rattle.script_checker.specs.Causes.{is_unknown, is_twice}
-use Rattle.script_checker.specs.After.{goes_on, closed_if, settled_if, settled, ended, with_said, after}
+use Rattle.script_checker.specs.After.{goes_on, settled_if, settled, ended, with_said, after}
 use Rattle.script_checker.specs.Compiled.{exception_name, declared_after, AreAccepted, IsRowOf, AreRowsOf, IsPlanOf}
 use Rattle.place_plan.specs.Plans.OwnNames.{AreOwnNames, NamesExceptions, HasOwnNames}
 use Rattle.script_checker.proofs.Choosing.{known}
@@ -127,7 +124,7 @@ abbrev NamesStand : List (List ℕ) → SoFar → Type 0
 NamesStand names s =
     AreNamedBy names s.participants s.participant_rows
     × AreNamedBy names s.objects (object_names s.object_rows)
-    × AreGraphsNamed names s.universal s.exceptions s.graphs
+    × AreGraphsNamed names s.universal s.graph.exceptions s.graphs
     × AreWatches (length s.objects) s.watches
 
 watches_stand : (xs : List ℕ) (x : ℕ) (watches : List ℕ) → AreWatches (length xs) watches → AreWatches (length (xs ++ x ∷ [])) watches
@@ -165,25 +162,24 @@ module _ (names : List (List ℕ)) (numbered : AreNumbered names) where
     own = h.own;
   }
 
-  graphs_push : (universal : ℕ) (exceptions : List ℕ) (pairs : List (ℕ × ℕ)) (graphs : List DeclaredGraph) → AreGraphsNamed names universal exceptions graphs → AreGraphsNamed names universal [] (graphs ++ record { exceptions = exceptions; pairs = pairs } ∷ [])
-  graphs_push universal exceptions pairs graphs h = record {
+  graph_left : (universal : ℕ) (exceptions : List ℕ) (graphs : List DeclaredGraph) → AreGraphsNamed names universal exceptions graphs → AreGraphsNamed names universal [] graphs
+  graph_left universal exceptions graphs h = record { first = h.first; open_own = own_none names (exception_name names); own = h.own }
+
+  graphs_push : (universal : ℕ) (graph : DeclaredGraph) (graphs : List DeclaredGraph) → AreGraphsNamed names universal graph.exceptions graphs → AreGraphsNamed names universal [] (graphs ++ graph ∷ [])
+  graphs_push universal graph graphs h = record {
     first = h.first;
     open_own = own_none names (exception_name names);
-    own = All-push (λ (graph : DeclaredGraph). AreOwn names (exception_name names) graph.exceptions) graphs (record { exceptions = exceptions; pairs = pairs }) h.own h.open_own;
+    own = All-push (λ (graph : DeclaredGraph). AreOwn names (exception_name names) graph.exceptions) graphs graph h.own h.open_own;
   }
-
-  closed_stand : (s : SoFar) (v : Verdict) (o : Option Opening) → NamesStand names s → NamesStand names (closed_if s o v)
-  closed_stand s v None h = h
-  closed_stand s v (Some o) h = h
 
   settled_stand : (s : SoFar) (b : Bool) → NamesStand names s → NamesStand names (settled_if b s)
   settled_stand s true h = h
-  settled_stand s false h = closed_stand s verdict.Done s.opening h
+  settled_stand s false h = h
 
   ended_stand : (s : SoFar) (b : Block) → NamesStand names s → NamesStand names (ended names s b)
-  ended_stand s block.Top h = h
-  ended_stand s block.Graph h = (h.0, h.1, graphs_push s.universal s.exceptions s.pairs s.graphs h.2, h.3)
-  ended_stand s block.Action h = h
+  ended_stand s block.Top h = (h.0, h.1, graph_left s.universal s.graph.exceptions s.graphs h.2, h.3)
+  ended_stand s block.Graph h = (h.0, h.1, graphs_push s.universal s.graph s.graphs h.2, h.3)
+  ended_stand s block.Action h = (h.0, h.1, graph_left s.universal s.graph.exceptions s.graphs h.2, h.3)
 
   -- the first word of a line that declares something is a name
   first_spelled : (n : ℕ) (rest : Bool) → (is_name (name_at names n) && rest) ≡ true → is_name (name_at names n) ≡ true
@@ -194,12 +190,9 @@ module _ (names : List (List ℕ)) (numbered : AreNumbered names) where
   said_stand s (form.Object n v) sound known once h =
       (h.0, objects_push s.objects s.object_rows (record { name = name_at names n; initial = v }) n refl (first_spelled n _ sound) once h.1, h.2, watches_stand s.objects n s.watches h.3)
   said_stand s (form.Watch n) sound known once h = (h.0, h.1, h.2, watches_push s.objects s.watches n (not-false (is_among s.objects n) known) once h.3)
-  said_stand s (form.Graph n) sound known once h = (h.0, h.1, graph_begins s.universal s.exceptions s.graphs h.2, h.3)
-  said_stand s (form.Exception n) sound known once h = (h.0, h.1, exceptions_push s.universal s.exceptions s.graphs n (first_spelled n _ sound) once h.2, h.3)
+  said_stand s (form.Graph n) sound known once h = (h.0, h.1, graph_begins s.universal s.graph.exceptions s.graphs h.2, h.3)
+  said_stand s (form.Exception n) sound known once h = (h.0, h.1, exceptions_push s.universal s.graph.exceptions s.graphs n (first_spelled n _ sound) once h.2, h.3)
   said_stand s form.End sound known once h = ended_stand s s.block h
-  said_stand s form.DoneLine sound known once h = closed_stand s _ s.opening h
-  said_stand s (form.SignalLine x) sound known once h = closed_stand s _ s.opening h
-  said_stand s form.UndoLine sound known once h = closed_stand s _ s.opening h
   said_stand s f sound known once h = h
 
   lines_stand : (s : SoFar) (lines : List Line) → list_all (is_sound names) (forms_of lines) ≡ true → AreAccepted names s lines → NamesStand names s → NamesStand names (declared_after names s lines)
@@ -215,7 +208,7 @@ module _ (names : List (List ℕ)) (numbered : AreNumbered names) where
   nothing_stands = (
     record { own = own_none names (name_at names); same = refl },
     record { own = own_none names (name_at names); same = refl },
-    graphs_push (number_in names (codes "universal")) (number_in names (codes "universal") ∷ []) [] [] (record {
+    graphs_push (number_in names (codes "universal")) (plain_graph (number_in names (codes "universal"))) [] (record {
       first = refl;
       open_own = own_push names (exception_name names) [] _ (own_none names (exception_name names)) (universal_own names _ refl) refl;
       own = All-nil (λ (graph : DeclaredGraph). AreOwn names (exception_name names) graph.exceptions);

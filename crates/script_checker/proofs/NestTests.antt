@@ -2,7 +2,7 @@
 use Rattle.std.proofs.Common.{◌≡◌, ℕ, suc, zero, ◌+◌, ◌<◌, ◌≤◌, nat_lt, ◌==◌, Bool, true, false, not, cond, ◌&&◌, ◌||◌, List, [], ◌∷◌, ◌++◌, map, length, slice_index_or, refl, sym, ap, ◌∙◌, subst, arith, length-append}
 use Rattle.std.proofs.lemmas.List.{length-map}
 use Rattle.std.specs.List.{list_all}
-use Rattle.std.proofs.lemmas.Bool.{and_parts, false≢true, ltb-true, lt-ltb, eqb-true, eq-eqb, and_from, not-false, or_parts}
+use Rattle.std.proofs.lemmas.Bool.{and_parts, false≢true, ltb-true, lt-ltb, eqb-true, eq-eqb, and_from, not-false, not-true, or_parts}
 use Rattle.caa_base.specs.Written.Lists.{member, index_of}
 use Rattle.place_plan.specs.declared.drafts.draft_rows.ActionRow.{ActionRow}
 use Rattle.place_plan.specs.declared.drafts.draft_rows.NestRow.{NestRow}
@@ -10,7 +10,7 @@ use Rattle.place_plan.specs.Plans.Places.{no_action}
 use Rattle.place_plan.specs.Drafts.DraftRules.{all_below, all_differ}
 use Rattle.action_script.specs.declared.forms.form.Form.TheVariants as form
 use Rattle.script_checker.specs.declared.parts.DeclaredGraph.{DeclaredGraph}
-use Rattle.script_checker.specs.Numbers.{is_among, has_twice}
+use Rattle.script_checker.specs.Numbers.{is_among}
 use Rattle.script_checker.specs.DeclaredSoFar.{nest_of, action_of}
 use Rattle.script_checker.specs.Causes.{is_action}
 use Rattle.script_checker.proofs.Choosing.{known}
@@ -50,12 +50,12 @@ absent_mapped ns x (y ∷ ys) a h =
     by_test true e f = absurd (false≢true (sym f ∙ eq-eqb y x (index_one ns x y (ltb-true _ _ a) (eqb-true _ _ e))))
 
 -- different names have different numbers
-pub differ_mapped : (ns xs : List ℕ) → has_twice xs ≡ false → list_all (is_among ns) xs ≡ true → all_differ (map (λ r. index_of r ns) xs) ≡ true
+pub differ_mapped : (ns xs : List ℕ) → all_differ xs ≡ true → list_all (is_among ns) xs ≡ true → all_differ (map (λ r. index_of r ns) xs) ≡ true
 differ_mapped ns [] h a = refl
 differ_mapped ns (x ∷ xs) h a =
-    let p = or_parts (member x xs) (has_twice xs) h in
+    let p = and_parts (not (member x xs)) (all_differ xs) h in
     let q = and_parts (is_among ns x) (list_all (is_among ns) xs) a in
-    rw (absent_mapped ns x xs q.0 p.0, differ_mapped ns xs p.1 q.1) refl
+    rw (absent_mapped ns x xs q.0 (not-true _ p.0), differ_mapped ns xs p.1 q.1) refl
 
 -- what is below a count is below a greater one, and the number of a name that is there is below the count of names
 pub still_below : (n few many : ℕ) → nat_lt n few ≡ true → few ≤ many → nat_lt n many ≡ true
@@ -98,13 +98,13 @@ one_longer actions more = let n : length (actions ++ more ∷ []) ≡ length act
 pub there_test : IsNestTest uses_there
 there_test = record {
   nested = λ names s nest action roles none.
-      let k = neither (is_action s action) (list_all (is_among s.roles) roles) (known s (form.Nest nest action roles) none) in
+      let k = neither (is_action s action) (list_all (is_among s.action.roles) roles) (known s (form.Nest nest action roles) none) in
       rw k.0 refl;
   mapped = λ actions graphs row i x h. h;
   undone = λ actions graphs row x h. h;
   failed = λ actions graphs row x h. h;
   alternated = λ s nest action none h.
-      let k = neither (is_among s.nests nest) (is_action s action) (known s (form.Alternate nest action) none) in
+      let k = neither (is_among s.action.nests nest) (is_action s action) (known s (form.Alternate nest action) none) in
       all_push (λ a. nat_lt a (length s.actions)) (nest_of s nest).actions _ h k.1;
   one_action = λ actions graphs action row h. below_more (length actions) _ row.actions (one_longer actions action) h;
   one_graph = λ actions graphs graph row h. h;
@@ -124,9 +124,9 @@ eqb_turn a b h = eq-eqb b a (sym (eqb-true a b h))
 pub filled_test : IsNestTest uses_filled
 filled_test = record {
   nested = λ names s nest action roles none.
-      let k = neither (is_action s action) (list_all (is_among s.roles) roles) (known s (form.Nest nest action roles) none) in
-      let d : all_differ (map (λ r. index_of r s.roles) roles) ≡ true = differ_mapped s.roles roles (differing s (form.Nest nest action roles) none) k.1 in
-      let f : (length (map (λ r. index_of r s.roles) roles) == length (action_of s action).roles) ≡ true =
+      let k = neither (is_action s action) (list_all (is_among s.action.roles) roles) (known s (form.Nest nest action roles) none) in
+      let d : all_differ (map (λ r. index_of r s.action.roles) roles) ≡ true = differ_mapped s.action.roles roles (not-false _ (differing s (form.Nest nest action roles) none)) k.1 in
+      let f : (length (map (λ r. index_of r s.action.roles) roles) == length (action_of s action).roles) ≡ true =
       rw length-map (eqb_turn (length (action_of s action).roles) (length roles) (not-false _ (filled s (form.Nest nest action roles) none))) in
       rw (k.0, d, f) refl;
   mapped = λ actions graphs row i x h. h;
@@ -134,7 +134,7 @@ filled_test = record {
   failed = λ actions graphs row x h. h;
   alternated = λ s nest action none h.
       let row = nest_of s nest in
-      let k = neither (is_among s.nests nest) (is_action s action) (known s (form.Alternate nest action) none) in
+      let k = neither (is_among s.action.nests nest) (is_action s action) (known s (form.Alternate nest action) none) in
       let p = and_parts (all_below (length s.actions) row.actions) _ h in
       let q = and_parts (all_differ row.roles) _ p.1 in
       let f = eqb_turn (length (action_of s action).roles) (length row.roles) (not-false _ (filled s (form.Alternate nest action) none)) in
@@ -187,13 +187,13 @@ one_face_longer actions action (b ∷ acts) h =
 pub faced_test : IsNestTest uses_faced
 faced_test = record {
   nested = λ names s nest action roles none.
-      let k = neither (is_action s action) (list_all (is_among s.roles) roles) (known s (form.Nest nest action roles) none) in
+      let k = neither (is_action s action) (list_all (is_among s.action.roles) roles) (known s (form.Nest nest action roles) none) in
       rw (k.0, eq-eqb (action_of s action).interface (action_of s action).interface refl) refl;
   mapped = λ actions graphs row i x h. h;
   undone = λ actions graphs row x h. h;
   failed = λ actions graphs row x h. h;
   alternated = λ s nest action none h.
-      let k = neither (is_among s.nests nest) (is_action s action) (known s (form.Alternate nest action) none) in
+      let k = neither (is_among s.action.nests nest) (is_action s action) (known s (form.Alternate nest action) none) in
       one_face_more s.actions (nest_of s nest).actions (index_of action s.action_names) k.1 (not-false _ (faced s (form.Alternate nest action) none)) h;
   one_action = λ actions graphs action row h. one_face_longer actions action row.actions h;
   one_graph = λ actions graphs graph row h. h;

@@ -2,7 +2,6 @@
 use Rattle.std.proofs.Common.{◌≡◌, ℕ, suc, ◌+◌, Bool, true, false, List, [], ◌∷◌, ◌++◌, length, refl, sym, subst, arith}
 use Rattle.std.specs.List.{list_all}
 use Rattle.std.proofs.lemmas.Bool.{and_parts}
-use Rattle.caa_base.specs.declared.written.entry.Verdict.TheVariants as verdict
 use Rattle.place_plan.specs.declared.drafts.draft_rows.ActionRow.{ActionRow}
 use Rattle.place_plan.specs.declared.drafts.draft_rows.NestRow.{NestRow}
 use Rattle.place_plan.specs.Drafts.DraftRules.{all_below, nests_below}
@@ -10,7 +9,7 @@ use Rattle.action_script.specs.declared.forms.form.Form.{Form}
 use Rattle.script_checker.specs.DeclaredSoFar.{SoFar}
 use Rattle.script_checker.specs.After.{with_said, action_row}
 use Rattle.script_checker.proofs.Accepted.{IsKept}
-use Rattle.script_checker.proofs.ActionsGrow.{ends_action, closed_actions, said_none, said_one}
+use Rattle.script_checker.proofs.ActionsGrow.{ends_action, said_none, said_one}
 use Rattle.script_checker.proofs.NestsKept.{Pass, pass_kept}
 use Rattle.script_checker.proofs.NestTests.{uses_there, there_test}
 
@@ -34,7 +33,7 @@ pub order_kept : (names : List (List ℕ)) → IsKept names (λ at s. IsInOrder 
 order_kept names = record {
   settles = λ at s h. record {
     there = (pass_kept uses_there there_test names).settles at s h.there;
-    order = rw (closed_actions s verdict.Done s.opening) h.order;
+    order = h.order;
   };
   says = λ at s f stands sound none shut h. record {
     there = (pass_kept uses_there there_test names).says at s f stands sound none shut h.there;

@@ -1,5 +1,5 @@
 -- A `play` line is judged by what the draft with its play unfolds into.
-use Rattle.std.proofs.Common.{◌≡◌, ℕ, true, false, List, [], ◌∷◌, ◌++◌, length, Option, Some, None, refl, sym, subst, ◌∙◌, arith}
+use Rattle.std.proofs.Common.{◌≡◌, ℕ, true, false, List, [], ◌∷◌, ◌++◌, length, refl, sym, subst, ◌∙◌, arith}
 use Rattle.std.specs.List.{list_all}
 use Rattle.std.proofs.lemmas.Bool.{and_parts, and_from, false_from_ne_true}
 use Rattle.caa_base.specs.declared.written.entry.Verdict.TheVariants as verdict
@@ -20,10 +20,9 @@ use Rattle.action_script.specs.Forms.LineForms.{kind_of}
 use Rattle.action_script.specs.Forms.Printing.{AreScript, is_sound, forms_of, lead_to_top}
 use Rattle.action_script.specs.Forms.ScriptValue.{Script}
 use Rattle.script_checker.specs.declared.check_error.CheckCause.TheVariants as cause
-use Rattle.script_checker.specs.declared.parts.Opening.{Opening}
 use Rattle.script_checker.specs.DeclaredSoFar.{SoFar, nothing_yet}
 use Rattle.script_checker.specs.Causes.{is_unknown, is_unfilled, fills_twice}
-use Rattle.script_checker.specs.After.{closed_if, with_said, play_row}
+use Rattle.script_checker.specs.After.{closed, with_said, play_row}
 use Rattle.script_checker.specs.Compiled.{HasNoneBelow, declared_after, AreAccepted, IsDraftOf}
 use Rattle.script_checker.specs.PlaySizes.{AreSizesOf, CountsUnfolding}
 use Rattle.script_checker.proofs.ActionsGrow.{all_push}
@@ -115,9 +114,8 @@ module _ (names : List (List ℕ)) (lines : List Line) (lead : lead_to_top secti
       sized names last action who draft drafted (counts names lines lead sound accepted some without) (shallow names lines lead sound accepted some without) (weighed names lines lead sound accepted some without) (keeps_parts names lines lead sound accepted some without) known filled apart
 
   -- the end of a body or a handler changes none of it
-  sized_closed : (o : Option Opening) → IsDraftOf names (with_said names (closed_if last o verdict.Done) (form.Play action who)) draft → is_unknown (closed_if last o verdict.Done) (form.Play action who) ≡ false → is_unfilled (closed_if last o verdict.Done) (form.Play action who) ≡ false → fills_twice (form.Play action who) ≡ false → AreSizesOf (closed_if last o verdict.Done) action draft
-  sized_closed None drafted known filled apart = sized_last drafted known filled apart
-  sized_closed (Some o) drafted known filled apart =
+  sized_closed : IsDraftOf names (with_said names (closed last verdict.Done) (form.Play action who)) draft → is_unknown last (form.Play action who) ≡ false → is_unfilled last (form.Play action who) ≡ false → fills_twice (form.Play action who) ≡ false → AreSizesOf (closed last verdict.Done) action draft
+  sized_closed drafted known filled apart =
       let h = sized_last
       (record {
         participants = drafted.participants;
@@ -130,12 +128,12 @@ module _ (names : List (List ℕ)) (lines : List Line) (lead : lead_to_top secti
       }) known filled apart in
       record { parts = h.parts; places = h.places; bound = h.bound }
 
-  sized_at : (s : SoFar) → s ≡ closed_if last last.opening verdict.Done → HasNoneBelow s (form.Play action who) 19 → IsDraftOf names (with_said names s (form.Play action who)) draft → AreSizesOf s action draft
+  sized_at : (s : SoFar) → s ≡ closed last verdict.Done → HasNoneBelow s (form.Play action who) 19 → IsDraftOf names (with_said names s (form.Play action who)) draft → AreSizesOf s action draft
   sized_at s e lesser drafted =
-      let t = closed_if last last.opening verdict.Done in
+      let t = closed last verdict.Done in
       let none = subst (λ (t : SoFar). HasNoneBelow t (form.Play action who) 19) e lesser in
       subst (λ (t : SoFar). AreSizesOf t action draft) (sym e)
-      (sized_closed last.opening (subst (λ (t : SoFar). IsDraftOf names (with_said names t (form.Play action who)) draft) e drafted)
+      (sized_closed (subst (λ (t : SoFar). IsDraftOf names (with_said names t (form.Play action who)) draft) e drafted)
       (false_from_ne_true (is_unknown t (form.Play action who)) (λ h. none cause.Unknown (omega arith) h))
       (false_from_ne_true (is_unfilled t (form.Play action who)) (λ h. none cause.RoleUnfilled (omega arith) h))
       (false_from_ne_true (fills_twice (form.Play action who)) (λ h. none cause.RoleTwice (omega arith) h)))

@@ -1,11 +1,9 @@
 -- The plays of an accepted script are of actions that are there, and their roles are filled, each by another participant.
-use Rattle.std.proofs.Common.{◌≡◌, ℕ, ◌+◌, ◌<◌, nat_lt, ◌==◌, Bool, true, false, ◌&&◌, List, [], ◌∷◌, ◌++◌, map, length, slice_index_or, Option, Some, None, arith, length-append}
+use Rattle.std.proofs.Common.{◌≡◌, ℕ, ◌+◌, ◌<◌, nat_lt, ◌==◌, Bool, true, false, ◌&&◌, List, [], ◌∷◌, ◌++◌, map, length, slice_index_or, arith, length-append}
 use Rattle.std.proofs.lemmas.List.{length-map}
 use Rattle.std.specs.List.{list_all}
 use Rattle.std.proofs.lemmas.Bool.{and_parts, ltb-true, lt-ltb, and_from, not-false}
 use Rattle.caa_base.specs.Written.Lists.{index_of}
-use Rattle.caa_base.specs.declared.written.entry.Verdict.{Verdict}
-use Rattle.caa_base.specs.declared.written.entry.Verdict.TheVariants as verdict
 use Rattle.place_plan.specs.declared.drafts.draft_rows.ActionRow.{ActionRow}
 use Rattle.place_plan.specs.declared.drafts.draft_rows.PlayRow.{PlayRow}
 use Rattle.place_plan.specs.Plans.Places.{no_action}
@@ -15,11 +13,10 @@ use Rattle.action_script.specs.declared.forms.form.Form.{Form}
 use Rattle.action_script.specs.declared.forms.form.Form.TheVariants as form
 use Rattle.script_checker.specs.declared.parts.Block.{Block}
 use Rattle.script_checker.specs.declared.parts.Block.TheVariants as block
-use Rattle.script_checker.specs.declared.parts.Opening.{Opening}
 use Rattle.script_checker.specs.Numbers.{is_among}
 use Rattle.script_checker.specs.DeclaredSoFar.{SoFar, action_of}
 use Rattle.script_checker.specs.Causes.{is_action, is_unknown, is_unfilled, fills_twice}
-use Rattle.script_checker.specs.After.{closed_if, ended, with_said, action_row, play_row}
+use Rattle.script_checker.specs.After.{ended, with_said, action_row, play_row}
 use Rattle.script_checker.specs.Compiled.{HasNone}
 use Rattle.caa_base.proofs.ListLemmas.{all_imply}
 use Rattle.script_checker.proofs.Choosing.{known}
@@ -34,10 +31,6 @@ play_right participants actions play =
 
 abbrev pub PlaysRight : SoFar → Type 0
 PlaysRight s = list_all (play_right (length s.participants) s.actions) s.plays ≡ true
-
-closed_plays : (s : SoFar) (v : Verdict) (o : Option Opening) → PlaysRight s → PlaysRight (closed_if s o v)
-closed_plays s v None h = h
-closed_plays s v (Some o) h = h
 
 -- one participant more, or one action more
 more_participants : (m n : ℕ) (actions : List ActionRow) → m < n → (play : PlayRow) → play_right m actions play ≡ true → play_right n actions play ≡ true
@@ -64,7 +57,7 @@ module _ (names : List (List ℕ)) where
   pub said_play : (s : SoFar) (action : ℕ) (who : List ℕ) → is_unknown s (form.Play action who) ≡ false → is_unfilled s (form.Play action who) ≡ false → fills_twice (form.Play action who) ≡ false → play_right (length s.participants) s.actions (play_row s action who) ≡ true
   said_play s action who here full apart =
       let k = neither (is_action s action) (list_all (is_among s.participants) who) here in
-      let d : all_differ (map (λ p. index_of p s.participants) who) ≡ true = differ_mapped s.participants who apart k.1 in
+      let d : all_differ (map (λ p. index_of p s.participants) who) ≡ true = differ_mapped s.participants who (not-false _ apart) k.1 in
       let f : (length (map (λ p. index_of p s.participants) who) == length (action_of s action).roles) ≡ true =
       rw length-map (eqb_turn (length (action_of s action).roles) (length who) (not-false _ full)) in
       let b : all_below (length s.participants) (map (λ p. index_of p s.participants) who) ≡ true = numbers_below s.participants who (length s.participants) k.1 (omega arith) in
@@ -76,14 +69,11 @@ module _ (names : List (List ℕ)) where
       all_imply (play_right (length s.participants) s.actions) (play_right (length (s.participants ++ name ∷ [])) s.actions) s.plays (more_participants (length s.participants) _ s.actions (omega arith)) h
   says_plays s (form.Play action who) none h = all_push (play_right (length s.participants) s.actions) s.plays _ h (said_play s action who (known s (form.Play action who) none) (filled s (form.Play action who) none) (differing s (form.Play action who) none))
   says_plays s form.End none h = ended_plays s s.block h
-  says_plays s form.DoneLine none h = closed_plays s _ s.opening h
-  says_plays s (form.SignalLine x) none h = closed_plays s _ s.opening h
-  says_plays s form.UndoLine none h = closed_plays s _ s.opening h
   says_plays s f none h = h
 
 pub plays_kept : (names : List (List ℕ)) → IsKept names (λ at s. PlaysRight s)
 plays_kept names = record {
-  settles = λ at s h. closed_plays s verdict.Done s.opening h;
+  settles = λ at s h. h;
   says = λ at s f stands sound none shut h. says_plays names s f none h;
 }
 

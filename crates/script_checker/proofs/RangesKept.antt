@@ -17,7 +17,7 @@ use Rattle.place_plan.specs.declared.drafts.draft_rows.Program.{Program}
 use Rattle.place_plan.specs.declared.drafts.draft_rows.Step.{Step}
 use Rattle.place_plan.specs.declared.drafts.draft_rows.Step.TheVariants as step
 use Rattle.place_plan.specs.Plans.Places.{no_role, no_nest}
-use Rattle.place_plan.specs.Drafts.DraftRules.{is_rising, all_below, step_in_range, verdict_in_range, abort_in_range, program_in_range, handler_in_range, role_in_range, nest_in_range}
+use Rattle.place_plan.specs.Drafts.DraftRules.{is_rising, all_below, all_differ, step_in_range, verdict_in_range, abort_in_range, program_in_range, handler_in_range, role_in_range, nest_in_range}
 use Rattle.action_script.specs.declared.forms.form.Form.{Form}
 use Rattle.action_script.specs.declared.forms.form.Form.TheVariants as form
 use Rattle.action_script.specs.declared.lines.kind.Section.{Section}
@@ -29,11 +29,11 @@ use Rattle.script_checker.specs.declared.parts.Block.{Block}
 use Rattle.script_checker.specs.declared.parts.Block.TheVariants as block
 use Rattle.script_checker.specs.declared.parts.DeclaredGraph.{DeclaredGraph}
 use Rattle.script_checker.specs.declared.parts.Opening.{Opening}
-use Rattle.script_checker.specs.Numbers.{is_among, has_twice, chosen_from}
+use Rattle.script_checker.specs.Numbers.{is_among, chosen_from}
 use Rattle.script_checker.specs.Blocks.{is_in_action}
 use Rattle.script_checker.specs.DeclaredSoFar.{SoFar, nothing_yet, graph_number, internal_graph, interface_graph, inner, outer, exceptions_at, nest_of, face}
 use Rattle.script_checker.specs.Causes.{is_action}
-use Rattle.script_checker.specs.After.{closed_if, ended, with_said, with_program, idle_role, with_abort, with_nest, action_row}
+use Rattle.script_checker.specs.After.{closed_if, closed, graphs_with, ended, with_said, with_program, idle_role, with_abort, with_nest, action_row}
 use Rattle.script_checker.specs.Compiled.{HasNone}
 use Rattle.caa_base.proofs.ListLemmas.{empty_is}
 use Rattle.script_checker.proofs.Choosing.{known, within}
@@ -100,10 +100,10 @@ pub record ArePartsRight (c : Counts) (steps : List Step) (opening : Option Open
   pub nests_right : list_all (nest_in_range c.actions c.roles c.internal) nests ≡ true
 
 abbrev PartsRight : Counts → SoFar → Type 0
-PartsRight c s = ArePartsRight c s.steps s.opening s.uses s.fault s.role_rows s.nest_rows
+PartsRight c s = ArePartsRight c s.action.steps s.action.opening s.action.uses s.action.fault s.action.role_rows s.action.nest_rows
 
 abbrev Enough : Counts → SoFar → Type 0
-Enough c s = AreEnough c s.objects s.actions s.roles (inner s) (outer s)
+Enough c s = AreEnough c s.objects s.actions s.action.roles (inner s) (outer s)
 
 abbrev pub OpenRight : SoFar → Type 0
 OpenRight s = (c : Counts) → Enough c s → PartsRight c s
@@ -117,10 +117,10 @@ program_right c (Some x) program e p row h =
     let more = and_parts (list_all (handler_in_range c.objects c.internal c.interface) row.handlers) (abort_in_range c.interface row.abort) parts.1 in
     and_from _ _ parts.0 (and_from _ _ (all_push (handler_in_range c.objects c.internal c.interface) row.handlers (record { exception = x; program = program }) more.0 (and_from _ _ e p)) more.1)
 
-closed_parts : (c : Counts) (s : SoFar) (v : Verdict) (o : Option Opening) → s.opening ≡ o → verdict_in_range c.interface v ≡ true → PartsRight c s → PartsRight c (closed_if s o v)
+closed_parts : (c : Counts) (s : SoFar) (v : Verdict) (o : Option Opening) → s.action.opening ≡ o → verdict_in_range c.interface v ≡ true → PartsRight c s → PartsRight c (record s { action = closed_if s.action o v })
 closed_parts c s v None e w h = h
 closed_parts c s v (Some o) e w h =
-    let program : Program = record { steps = s.steps; verdict = v } in
+    let program : Program = record { steps = s.action.steps; verdict = v } in
     let handled : handled_in_range c.internal o.exception ≡ true = rw e at h.opening_right in
     record {
       steps_right = refl;
@@ -128,19 +128,19 @@ closed_parts c s v (Some o) e w h =
       uses_rise = h.uses_rise;
       uses_right = h.uses_right;
       fault_right = h.fault_right;
-      roles_right = all_change (role_in_range c.objects c.internal c.interface) (λ (row : RoleRow). with_program row o.exception program) s.role_rows o.role no_role (program_right c o.exception program handled (and_from _ _ h.steps_right w)) h.roles_right;
+      roles_right = all_change (role_in_range c.objects c.internal c.interface) (λ (row : RoleRow). with_program row o.exception program) s.action.role_rows o.role no_role (program_right c o.exception program handled (and_from _ _ h.steps_right w)) h.roles_right;
       nests_right = h.nests_right;
     }
 
 -- where it is closed, there is as much as before
-closed_enough : (c : Counts) (s : SoFar) (v : Verdict) (o : Option Opening) → Enough c (closed_if s o v) → Enough c s
+closed_enough : (c : Counts) (s : SoFar) (v : Verdict) (o : Option Opening) → Enough c (record s { action = closed_if s.action o v }) → Enough c s
 closed_enough c s v None b = b
 closed_enough c s v (Some o) b = b
 
-pub closed_right : (s : SoFar) (v : Verdict) → ((c : Counts) → Enough c s → verdict_in_range c.interface v ≡ true) → OpenRight s → OpenRight (closed_if s s.opening v)
+pub closed_right : (s : SoFar) (v : Verdict) → ((c : Counts) → Enough c s → verdict_in_range c.interface v ≡ true) → OpenRight s → OpenRight (closed s v)
 closed_right s v w h = λ c b.
-    let k = closed_enough c s v s.opening b in
-    closed_parts c s v s.opening refl (w c k) (h c k)
+    let k = closed_enough c s v s.action.opening b in
+    closed_parts c s v s.action.opening refl (w c k) (h c k)
 
 -- ---- nested uses
 
@@ -188,11 +188,11 @@ alternated_right c row a l h =
 -- ---- lines that change a part
 
 -- one step more
-step_more : (s : SoFar) (x : Step) → ((c : Counts) → Enough c s → step_in_range c.objects c.internal x ≡ true) → OpenRight s → (c : Counts) → Enough c s → ArePartsRight c (s.steps ++ x ∷ []) s.opening s.uses s.fault s.role_rows s.nest_rows
+step_more : (s : SoFar) (x : Step) → ((c : Counts) → Enough c s → step_in_range c.objects c.internal x ≡ true) → OpenRight s → (c : Counts) → Enough c s → ArePartsRight c (s.action.steps ++ x ∷ []) s.action.opening s.action.uses s.action.fault s.action.role_rows s.action.nest_rows
 step_more s x right h = λ c b.
     let k = h c b in
     record {
-      steps_right = all_push (step_in_range c.objects c.internal) s.steps x k.steps_right (right c b);
+      steps_right = all_push (step_in_range c.objects c.internal) s.action.steps x k.steps_right (right c b);
       opening_right = k.opening_right;
       uses_rise = k.uses_rise;
       uses_right = k.uses_right;
@@ -202,7 +202,7 @@ step_more s x right h = λ c b.
     }
 
 -- a body or a handler is begun
-opened : (s : SoFar) (o : Opening) → ((c : Counts) → Enough c s → handled_in_range c.internal o.exception ≡ true) → OpenRight s → (c : Counts) → Enough c s → ArePartsRight c [] (Some o) s.uses s.fault s.role_rows s.nest_rows
+opened : (s : SoFar) (o : Opening) → ((c : Counts) → Enough c s → handled_in_range c.internal o.exception ≡ true) → OpenRight s → (c : Counts) → Enough c s → ArePartsRight c [] (Some o) s.action.uses s.action.fault s.action.role_rows s.action.nest_rows
 opened s o right h = λ c b.
     let k = h c b in
     record {
@@ -225,7 +225,7 @@ abort_said s role row right h = λ c b.
       uses_rise = k.uses_rise;
       uses_right = k.uses_right;
       fault_right = k.fault_right;
-      roles_right = all_change (role_in_range c.objects c.internal c.interface) (λ (r : RoleRow). record r { abort = row }) s.role_rows (index_of role s.roles) no_role
+      roles_right = all_change (role_in_range c.objects c.internal c.interface) (λ (r : RoleRow). record r { abort = row }) s.action.role_rows (index_of role s.action.roles) no_role
           (λ r m.
           let p = and_parts (program_in_range c.objects c.internal c.interface r.body) _ m in
           let q = and_parts (list_all (handler_in_range c.objects c.internal c.interface) r.handlers) (abort_in_range c.interface r.abort) p.1 in
@@ -245,7 +245,7 @@ nest_changes s nest row keeps h = λ c b.
       uses_right = k.uses_right;
       fault_right = k.fault_right;
       roles_right = k.roles_right;
-      nests_right = all_set (nest_in_range c.actions c.roles c.internal) s.nest_rows (index_of nest s.nests) no_nest row (keeps c b) k.nests_right;
+      nests_right = all_set (nest_in_range c.actions c.roles c.internal) s.action.nest_rows (index_of nest s.action.nests) no_nest row (keeps c b) k.nests_right;
     }
 
 -- ---- exceptions of graphs
@@ -275,25 +275,6 @@ said_graph graphs old g plain filled e l =
 -- ---- lines
 
 module _ (names : List (List ℕ)) where
-  ended_open : (s : SoFar) (b : Block) → OpenRight s → OpenRight (ended names s b)
-  ended_open s block.Top h = h
-  ended_open s block.Graph h = λ c b.
-      let graph : DeclaredGraph = record { exceptions = s.exceptions; pairs = s.pairs } in
-      let inside = grown s.graphs graph (internal_graph s) in
-      let outside = grown s.graphs graph (interface_graph s) in
-      h c (record {
-        of_objects = b.of_objects;
-        of_actions = b.of_actions;
-        of_roles = b.of_roles;
-        of_inner = omega (arith, b.of_inner);
-        of_outer = omega (arith, b.of_outer);
-      })
-  ended_open s block.Action h = λ c b.
-      let n : length (s.actions ++ action_row names s ∷ []) ≡ length s.actions + 1 = length-append s.actions _ in
-      let m : length (s.actions ++ action_row names s ∷ []) ≤ c.actions = b.of_actions in
-      let k = h c (record { of_objects = b.of_objects; of_actions = omega arith; of_roles = b.of_roles; of_inner = b.of_inner; of_outer = b.of_outer }) in
-      record { steps_right = k.steps_right; opening_right = k.opening_right; uses_rise = refl; uses_right = refl; fault_right = k.fault_right; roles_right = refl; nests_right = refl }
-
   says_open : (at then : Section) (s : SoFar) (f : Form) → is_sound names f ≡ true → HasNone s f → GraphsThere at s → GraphsThere then (with_said names s f) → OpenRight s → OpenRight (with_said names s f)
   says_open at then s (form.Object name v) sound none now later h = λ c b.
       let n : length (s.objects ++ name ∷ []) ≡ length s.objects + 1 = length-append s.objects (name ∷ []) in
@@ -304,11 +285,11 @@ module _ (names : List (List ℕ)) where
       let m : length (exceptions_at s.graphs 0) ≤ c.internal = b.of_inner in
       record { steps_right = refl; opening_right = refl; uses_rise = refl; uses_right = refl; fault_right = lt-ltb 0 c.internal (omega arith); roles_right = refl; nests_right = refl }
   says_open at then s (form.Internal graph) sound none now later h = λ c b.
-      let few = said_graph s.graphs s.internal (graph_number s graph) now.plain now.filled (once s (form.Internal graph) none) later.internal_there in
+      let few = said_graph s.graphs s.action.internal (graph_number s graph) now.plain now.filled (once s (form.Internal graph) none) later.internal_there in
       let m : length (exceptions_at s.graphs (graph_number s graph)) ≤ c.internal = b.of_inner in
       h c (record { of_objects = b.of_objects; of_actions = b.of_actions; of_roles = b.of_roles; of_inner = omega arith; of_outer = b.of_outer })
   says_open at then s (form.Interface graph) sound none now later h = λ c b.
-      let few = said_graph s.graphs s.interface (graph_number s graph) now.plain now.filled (once s (form.Interface graph) none) later.interface_there in
+      let few = said_graph s.graphs s.action.interface (graph_number s graph) now.plain now.filled (once s (form.Interface graph) none) later.interface_there in
       let m : length (exceptions_at s.graphs (graph_number s graph)) ≤ c.interface = b.of_outer in
       h c (record { of_objects = b.of_objects; of_actions = b.of_actions; of_roles = b.of_roles; of_inner = b.of_inner; of_outer = omega arith })
   says_open at then s (form.Fault x) sound none now later h = λ c b.
@@ -335,8 +316,8 @@ module _ (names : List (List ℕ)) where
         nests_right = k.nests_right;
       }
   says_open at then s (form.Roles roles) sound none now later h = λ c b.
-      let e = empty_is s.roles (not-false _ (or_parts (not (is_empty s.roles)) (has_twice roles) (once s (form.Roles roles) none)).0) in
-      let few : length s.roles ≤ c.roles = rw e (omega arith) in
+      let e = empty_is s.action.roles (not-false _ (or_parts (not (is_empty s.action.roles)) (not (all_differ roles)) (once s (form.Roles roles) none)).0) in
+      let few : length s.action.roles ≤ c.roles = rw e (omega arith) in
       let k = h c (record { of_objects = b.of_objects; of_actions = b.of_actions; of_roles = few; of_inner = b.of_inner; of_outer = b.of_outer }) in
       record {
         steps_right = k.steps_right;
@@ -349,7 +330,7 @@ module _ (names : List (List ℕ)) where
       }
   says_open at then s (form.Nest nest action roles) sound none now later h = λ c b.
       let k = h c b in
-      let a = neither (is_action s action) (list_all (is_among s.roles) roles) (known s (form.Nest nest action roles) none) in
+      let a = neither (is_action s action) (list_all (is_among s.action.roles) roles) (known s (form.Nest nest action roles) none) in
       let some = some_exception s.graphs (internal_graph s) now.filled now.internal_there in
       let one : nat_lt 0 c.internal ≡ true = lt-ltb 0 c.internal (omega (arith, b.of_inner)) in
       record {
@@ -359,33 +340,33 @@ module _ (names : List (List ℕ)) where
         uses_right = k.uses_right;
         fault_right = k.fault_right;
         roles_right = k.roles_right;
-        nests_right = all_push (nest_in_range c.actions c.roles c.internal) s.nest_rows _ k.nests_right
+        nests_right = all_push (nest_in_range c.actions c.roles c.internal) s.action.nest_rows _ k.nests_right
             (and_from _ _ (and_from _ _ (still_below (index_of action s.action_names) (length s.actions) c.actions a.0 b.of_actions) refl)
-            (and_from _ _ (numbers_below s.roles roles c.roles a.1 b.of_roles) (and_from _ _ (zeros_below _ c.internal one) (and_from _ _ one one))));
+            (and_from _ _ (numbers_below s.action.roles roles c.roles a.1 b.of_roles) (and_from _ _ (zeros_below _ c.internal one) (and_from _ _ one one))));
       }
   says_open at then s (form.Map nest lower upper) sound none now later h =
-      let a = (neither (is_among (face s nest) lower) (is_among (inner s) upper) (or_parts (not (is_among s.nests nest)) _ (known s (form.Map nest lower upper) none)).1).1 in
+      let a = (neither (is_among (face s nest) lower) (is_among (inner s) upper) (or_parts (not (is_among s.action.nests nest)) _ (known s (form.Map nest lower upper) none)).1).1 in
       nest_changes s nest _ (λ c b. mapped_right c (nest_of s nest) (index_of lower (face s nest)) (index_of upper (inner s)) (still_below (index_of upper (inner s)) (length (inner s)) c.internal a b.of_inner)) h
   says_open at then s (form.MapUndo nest x) sound none now later h =
-      let a = (neither (is_among s.nests nest) (is_among (inner s) x) (known s (form.MapUndo nest x) none)).1 in
+      let a = (neither (is_among s.action.nests nest) (is_among (inner s) x) (known s (form.MapUndo nest x) none)).1 in
       nest_changes s nest _ (λ c b. undone_right c (nest_of s nest) (index_of x (inner s)) (still_below (index_of x (inner s)) (length (inner s)) c.internal a b.of_inner)) h
   says_open at then s (form.MapFailure nest x) sound none now later h =
-      let a = (neither (is_among s.nests nest) (is_among (inner s) x) (known s (form.MapFailure nest x) none)).1 in
+      let a = (neither (is_among s.action.nests nest) (is_among (inner s) x) (known s (form.MapFailure nest x) none)).1 in
       nest_changes s nest _ (λ c b. failed_right c (nest_of s nest) (index_of x (inner s)) (still_below (index_of x (inner s)) (length (inner s)) c.internal a b.of_inner)) h
   says_open at then s (form.Alternate nest action) sound none now later h =
-      let a = (neither (is_among s.nests nest) (is_action s action) (known s (form.Alternate nest action) none)).1 in
+      let a = (neither (is_among s.action.nests nest) (is_action s action) (known s (form.Alternate nest action) none)).1 in
       nest_changes s nest _ (λ c b. alternated_right c (nest_of s nest) (index_of action s.action_names) (still_below (index_of action s.action_names) (length s.actions) c.actions a b.of_actions)) h
   says_open at then s (form.Abort role x) sound none now later h =
-      let a = (neither (is_among s.roles role) (is_among (outer s) x) (known s (form.Abort role x) none)).1 in
+      let a = (neither (is_among s.action.roles role) (is_among (outer s) x) (known s (form.Abort role x) none)).1 in
       abort_said s role (abort.Always (index_of x (outer s))) (λ c b. still_below (index_of x (outer s)) (length (outer s)) c.interface a b.of_outer) h
   says_open at then s (form.AbortTest role t v x) sound none now later h =
-      let a = (neither (is_among s.roles role) (is_among (outer s) x) (known s (form.AbortTest role t v x) none)).1 in
+      let a = (neither (is_among s.action.roles role) (is_among (outer s) x) (known s (form.AbortTest role t v x) none)).1 in
       let w = value_second _ v _ (parts_sound names (form.AbortTest role t v x) sound) in
       abort_said s role (abort.Where t v (index_of x (outer s))) (λ c b. and_from _ _ w (still_below (index_of x (outer s)) (length (outer s)) c.interface a b.of_outer)) h
-  says_open at then s (form.Body role) sound none now later h = opened s (record { role = index_of role s.roles; exception = None }) (λ c b. refl) h
+  says_open at then s (form.Body role) sound none now later h = opened s (record { role = index_of role s.action.roles; exception = None }) (λ c b. refl) h
   says_open at then s (form.Handler role x) sound none now later h =
-      let a = (neither (is_among s.roles role) (is_among (inner s) x) (known s (form.Handler role x) none)).1 in
-      opened s (record { role = index_of role s.roles; exception = Some (index_of x (inner s)) }) (λ c b. still_below (index_of x (inner s)) (length (inner s)) c.internal a b.of_inner) h
+      let a = (neither (is_among s.action.roles role) (is_among (inner s) x) (known s (form.Handler role x) none)).1 in
+      opened s (record { role = index_of role s.action.roles; exception = Some (index_of x (inner s)) }) (λ c b. still_below (index_of x (inner s)) (length (inner s)) c.internal a b.of_inner) h
   says_open at then s (form.ReadStep object) sound none now later h =
       let a = not-false _ (known s (form.ReadStep object) none) in
       step_more s (step.Read (index_of object s.objects)) (λ c b. still_below (index_of object s.objects) (length s.objects) c.objects a b.of_objects) h
@@ -406,8 +387,11 @@ module _ (names : List (List ℕ)) where
   says_open at then s (form.RaiseStep x) sound none now later h =
       let a = not-false _ (known s (form.RaiseStep x) none) in
       step_more s (step.Raise (index_of x (inner s))) (λ c b. still_below (index_of x (inner s)) (length (inner s)) c.internal a b.of_inner) h
-  says_open at then s (form.EnterStep nest) sound none now later h = step_more s (step.Enter (index_of nest s.nests)) (λ c b. refl) h
-  says_open at then s form.End sound none now later h = ended_open s s.block h
+  says_open at then s (form.EnterStep nest) sound none now later h = step_more s (step.Enter (index_of nest s.action.nests)) (λ c b. refl) h
+  says_open at then s form.End sound none now later h = λ c b.
+      let one = plain_one (graphs_with s s.block) later.plain in
+      let m : length (exceptions_at (graphs_with s s.block) 0) ≤ c.internal = b.of_inner in
+      record { steps_right = refl; opening_right = refl; uses_rise = refl; uses_right = refl; fault_right = lt-ltb 0 c.internal (omega arith); roles_right = refl; nests_right = refl }
   says_open at then s form.DoneLine sound none now later h = closed_right s verdict.Done (λ c b. refl) h
   says_open at then s (form.SignalLine x) sound none now later h =
       let a = not-false _ (known s (form.SignalLine x) none) in
@@ -428,17 +412,13 @@ action_right objects actions graphs count action =
 abbrev pub EndedRight : SoFar → Type 0
 EndedRight s = (objects actions graphs : ℕ) (count : ℕ → ℕ) → length s.objects ≤ objects → length s.actions ≤ actions → length s.graphs ≤ graphs → ((g : ℕ) → length (exceptions_at s.graphs g) ≤ count g) → list_all (action_right objects actions graphs count) s.actions ≡ true
 
-closed_ended : (s : SoFar) (v : Verdict) (o : Option Opening) → EndedRight s → EndedRight (closed_if s o v)
-closed_ended s v None h = h
-closed_ended s v (Some o) h = h
-
 in_action_here : (s : SoFar) → s.block ≡ block.Action → is_in_action s.block ≡ true
 in_action_here s e = rw e refl
 
 module _ (names : List (List ℕ)) where
   ended_row : (at : Section) (s : SoFar) → s.block ≡ block.Action → GraphsThere at s → AreRoles s → OpenRight s → (objects actions graphs : ℕ) (count : ℕ → ℕ) → length s.objects ≤ objects → length s.actions ≤ actions → length s.graphs ≤ graphs → ((g : ℕ) → length (exceptions_at s.graphs g) ≤ count g) → action_right objects actions graphs count (action_row names s) ≡ true
   ended_row at s e there roles here objects actions graphs count lo la lg lc =
-      let c : Counts = record { objects = objects; actions = actions; roles = length s.role_rows; internal = count (internal_graph s); interface = count (interface_graph s) } in
+      let c : Counts = record { objects = objects; actions = actions; roles = length s.action.role_rows; internal = count (internal_graph s); interface = count (interface_graph s) } in
       let k = here c (record { of_objects = lo; of_actions = la; of_roles = omega (arith, roles.1 (in_action_here s e)); of_inner = lc (internal_graph s); of_outer = lc (interface_graph s) }) in
       and_from _ _
       (and_from _ _ (lt-ltb (internal_graph s) graphs (omega (arith, there.internal_there))) (and_from _ _ (lt-ltb (interface_graph s) graphs (omega (arith, there.interface_there))) k.fault_right))
@@ -447,7 +427,7 @@ module _ (names : List (List ℕ)) where
   ended_ended : (at : Section) (s : SoFar) (b : Block) → s.block ≡ b → GraphsThere at s → AreRoles s → OpenRight s → EndedRight s → EndedRight (ended names s b)
   ended_ended at s block.Top e there roles here h = h
   ended_ended at s block.Graph e there roles here h = λ objects actions graphs count lo la lg lc.
-      let graph : DeclaredGraph = record { exceptions = s.exceptions; pairs = s.pairs } in
+      let graph : DeclaredGraph = s.graph in
       let n : length (s.graphs ++ graph ∷ []) ≡ length s.graphs + 1 = length-append s.graphs (graph ∷ []) in
       let m : length (s.graphs ++ graph ∷ []) ≤ graphs = lg in
       h objects actions graphs count lo la (omega arith) (λ g.
@@ -467,9 +447,6 @@ module _ (names : List (List ℕ)) where
       let m : length (s.objects ++ name ∷ []) ≤ objects = lo in
       h objects actions graphs count (omega arith) la lg lc
   says_ended at s form.End there roles here h = ended_ended at s s.block refl there roles here h
-  says_ended at s form.DoneLine there roles here h = closed_ended s _ s.opening h
-  says_ended at s (form.SignalLine x) there roles here h = closed_ended s _ s.opening h
-  says_ended at s form.UndoLine there roles here h = closed_ended s _ s.opening h
   says_ended at s f there roles here h = h
 
 -- ---- objects, drills and watches
@@ -489,16 +466,7 @@ pub record ObjectsRight (objects : List ℕ) (rows : List ObjectRow) (drills : L
 abbrev pub OutsideRight : SoFar → Type 0
 OutsideRight s = ObjectsRight s.objects s.object_rows s.drills s.watches
 
-closed_outside : (s : SoFar) (v : Verdict) (o : Option Opening) → OutsideRight s → OutsideRight (closed_if s o v)
-closed_outside s v None h = h
-closed_outside s v (Some o) h = h
-
 module _ (names : List (List ℕ)) where
-  ended_outside : (s : SoFar) (b : Block) → OutsideRight s → OutsideRight (ended names s b)
-  ended_outside s block.Top h = h
-  ended_outside s block.Graph h = h
-  ended_outside s block.Action h = h
-
   says_outside : (s : SoFar) (f : Form) → is_sound names f ≡ true → HasNone s f → OutsideRight s → OutsideRight (with_said names s f)
   says_outside s (form.Object name v) sound none h =
       let n : length (s.objects ++ name ∷ []) ≡ length s.objects + 1 = length-append s.objects (name ∷ []) in
@@ -521,10 +489,6 @@ module _ (names : List (List ℕ)) where
         drilled = h.drilled;
         watched = λ many l. all_push (λ n. nat_lt n many) s.watches _ (h.watched many l) (still_below (index_of object s.objects) (length s.objects) many a l);
       }
-  says_outside s form.End sound none h = ended_outside s s.block h
-  says_outside s form.DoneLine sound none h = closed_outside s _ s.opening h
-  says_outside s (form.SignalLine x) sound none h = closed_outside s _ s.opening h
-  says_outside s form.UndoLine sound none h = closed_outside s _ s.opening h
   says_outside s f sound none h = h
 
 -- ---- all of it
@@ -539,11 +503,11 @@ pub record AreInRange (at : Section) (s : SoFar) : Type 0 where
 pub ranges_kept : (names : List (List ℕ)) → IsKept names AreInRange
 ranges_kept names = record {
   settles = λ at s h. record {
-    there = closed_there at s verdict.Done s.opening h.there;
-    roles_there = closed_roles s verdict.Done s.opening h.roles_there;
+    there = closed_there at s verdict.Done s.action.opening h.there;
+    roles_there = closed_roles s verdict.Done s.action.opening h.roles_there;
     open_right = closed_right s verdict.Done (λ c b. refl) h.open_right;
-    ended_right = closed_ended s verdict.Done s.opening h.ended_right;
-    outside_right = closed_outside s verdict.Done s.opening h.outside_right;
+    ended_right = h.ended_right;
+    outside_right = h.outside_right;
   };
   says = λ at s f stands sound none shut h.
       let later = says_there names at s f stands none h.there in

@@ -12,7 +12,7 @@ use Rattle.script_checker.specs.declared.check_error.CheckCause.TheVariants as c
 use Rattle.script_checker.specs.declared.check_error.CheckError.{CheckError}
 use Rattle.script_checker.specs.DeclaredSoFar.{SoFar, nothing_yet}
 use Rattle.script_checker.specs.After.{after}
-use Rattle.script_checker.specs.Rows.{parted}
+use Rattle.script_checker.specs.inner.Rows.{parted}
 use Rattle.script_checker.specs.Compiled.{number_of, IsAccepted, AreAccepted, IsLeastCause, declared_after, AreRowsOf, IsDeclared, IsDraftOf, IsPlanOf, IsFirstRefused, IsAnswer}
 use Rattle.script_checker.specs.Compiled.IsAnswer.{refused, wanting}
 

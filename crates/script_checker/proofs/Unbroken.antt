@@ -6,7 +6,7 @@ use Rattle.place_plan.specs.Plans.Unfolding.{plan_of}
 use Rattle.action_script.specs.Forms.Printing.{AreScript, forms_of}
 use Rattle.action_script.specs.Forms.ScriptValue.{Script}
 use Rattle.script_checker.specs.DeclaredSoFar.{SoFar}
-use Rattle.script_checker.specs.Rows.{parted}
+use Rattle.script_checker.specs.inner.Rows.{parted}
 use Rattle.script_checker.specs.Compiled.{IsDeclared, BreaksNoRule}
 use Rattle.script_checker.specs.PlanSizes.{counts_so_far, HasCounts}
 use Rattle.script_checker.proofs.AcceptedDraft.{counts, keeps_parts, sizes_counted}

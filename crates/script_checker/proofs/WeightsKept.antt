@@ -1,10 +1,8 @@
 -- How much the plays of an accepted script unfold into is counted, and within the limits.
-use Rattle.std.proofs.Common.{◌≡◌, ℕ, ◌+◌, ◌<◌, ◌≤◌, nat_lt, true, List, [], ◌∷◌, ◌++◌, length, slice_index_or, Option, Some, None, refl, arith, below_more, sum_by, length-append}
+use Rattle.std.proofs.Common.{◌≡◌, ℕ, ◌+◌, ◌<◌, ◌≤◌, nat_lt, true, List, [], ◌∷◌, ◌++◌, length, slice_index_or, refl, arith, below_more, sum_by, length-append}
 use Rattle.std.specs.List.{list_all}
 use Rattle.std.proofs.lemmas.Bool.{and_parts, ltb-true, ltb-false}
 use Rattle.std.proofs.lemmas.List.Sums.{sum_by-append, sum_by-cons}
-use Rattle.caa_base.specs.declared.written.entry.Verdict.{Verdict}
-use Rattle.caa_base.specs.declared.written.entry.Verdict.TheVariants as verdict
 use Rattle.place_plan.specs.declared.drafts.draft_rows.ActionRow.{ActionRow}
 use Rattle.place_plan.specs.declared.drafts.draft_rows.NestRow.{NestRow}
 use Rattle.place_plan.specs.declared.drafts.draft_rows.PlayRow.{PlayRow}
@@ -15,10 +13,9 @@ use Rattle.action_script.specs.declared.forms.form.Form.{Form}
 use Rattle.action_script.specs.declared.forms.form.Form.TheVariants as form
 use Rattle.script_checker.specs.declared.parts.Block.{Block}
 use Rattle.script_checker.specs.declared.parts.Block.TheVariants as block
-use Rattle.script_checker.specs.declared.parts.Opening.{Opening}
 use Rattle.script_checker.specs.DeclaredSoFar.{SoFar}
 use Rattle.script_checker.specs.Causes.{places_with, bound_with}
-use Rattle.script_checker.specs.After.{closed_if, ended, with_said, action_row}
+use Rattle.script_checker.specs.After.{ended, with_said, action_row}
 use Rattle.script_checker.specs.Compiled.{HasNone}
 use Rattle.script_checker.proofs.Choosing.{within}
 use Rattle.script_checker.proofs.Accepted.{IsKept, bounded}
@@ -96,14 +93,6 @@ PlacesWeigh s = Weighs one_place s.places s.actions s.plays s.all_places × (s.a
 abbrev pub EntriesWeigh : SoFar → Type 0
 EntriesWeigh s = Weighs own_entries s.bounds s.actions s.plays s.whole_bound × (s.whole_bound ≤ most_entries)
 
-closed_places : (s : SoFar) (v : Verdict) (o : Option Opening) → PlacesWeigh s → PlacesWeigh (closed_if s o v)
-closed_places s v None h = h
-closed_places s v (Some o) h = h
-
-closed_entries : (s : SoFar) (v : Verdict) (o : Option Opening) → EntriesWeigh s → EntriesWeigh (closed_if s o v)
-closed_entries s v None h = h
-closed_entries s v (Some o) h = h
-
 module _ (names : List (List ℕ)) where
   ended_places : (s : SoFar) (b : Block) → Pass uses_there s → PlaysRight s → PlacesWeigh s → PlacesWeigh (ended names s b)
   ended_places s block.Top there right h = h
@@ -118,17 +107,11 @@ module _ (names : List (List ℕ)) where
   says_places : (s : SoFar) (f : Form) → HasNone s f → Pass uses_there s → PlaysRight s → PlacesWeigh s → PlacesWeigh (with_said names s f)
   says_places s (form.Play action who) none there right h = (weighs_play one_place s.places s.actions s.plays s.all_places h.0 _, ltb-false most_places (places_with s action) (within s (form.Play action who) none))
   says_places s form.End none there right h = ended_places s s.block there right h
-  says_places s form.DoneLine none there right h = closed_places s _ s.opening h
-  says_places s (form.SignalLine x) none there right h = closed_places s _ s.opening h
-  says_places s form.UndoLine none there right h = closed_places s _ s.opening h
   says_places s f none there right h = h
 
   says_entries : (s : SoFar) (f : Form) → HasNone s f → Pass uses_there s → PlaysRight s → EntriesWeigh s → EntriesWeigh (with_said names s f)
   says_entries s (form.Play action who) none there right h = (weighs_play own_entries s.bounds s.actions s.plays s.whole_bound h.0 _, ltb-false most_entries (bound_with s action) (bounded s (form.Play action who) none))
   says_entries s form.End none there right h = ended_entries s s.block there right h
-  says_entries s form.DoneLine none there right h = closed_entries s _ s.opening h
-  says_entries s (form.SignalLine x) none there right h = closed_entries s _ s.opening h
-  says_entries s form.UndoLine none there right h = closed_entries s _ s.opening h
   says_entries s f none there right h = h
 
 pub record AreWeighed (s : SoFar) : Type 0 where
@@ -142,8 +125,8 @@ weights_kept names = record {
   settles = λ at s h. record {
     there = (pass_kept uses_there there_test names).settles at s h.there;
     right = (plays_kept names).settles at s h.right;
-    places = closed_places s verdict.Done s.opening h.places;
-    entries = closed_entries s verdict.Done s.opening h.entries;
+    places = h.places;
+    entries = h.entries;
   };
   says = λ at s f stands sound none shut h. record {
     there = (pass_kept uses_there there_test names).says at s f stands sound none shut h.there;

@@ -19,11 +19,14 @@ use Rattle.action_script.specs.declared.forms.form.Form.{Form}
 use Rattle.action_script.specs.declared.forms.form.Form.TheVariants as form
 use Rattle.script_checker.specs.declared.parts.Block.{Block}
 use Rattle.script_checker.specs.declared.parts.Block.TheVariants as block
+use Rattle.script_checker.specs.declared.parts.DeclaredGraph.{DeclaredGraph}
 use Rattle.script_checker.specs.declared.parts.NestSaid.{NestSaid}
 use Rattle.script_checker.specs.declared.parts.Opening.{Opening}
+use Rattle.script_checker.specs.declared.parts.Outcome.{Outcome}
+use Rattle.script_checker.specs.declared.parts.Outcome.TheVariants as outcome
 use Rattle.place_plan.specs.Plans.Weights.{counted, at, nested_weight, own_entries}
 use Rattle.script_checker.specs.Numbers.{chosen_from}
-use Rattle.script_checker.specs.DeclaredSoFar.{SoFar, graph_number, exceptions_at, internal_graph, interface_graph, inner, outer, face, action_of, nest_of, said_of, role_of, nothing_said}
+use Rattle.script_checker.specs.DeclaredSoFar.{SoFar, ActionSoFar, plain_graph, no_graph, named, graph_number, exceptions_at, inner, outer, face, action_of, nest_of, said_of, role_of, nothing_said}
 use Rattle.script_checker.specs.Causes.{places_with, bound_with}
 
 -- the step that a line says
@@ -34,7 +37,7 @@ step_of s (form.AddStep object value) = Some (step.Add (index_of object s.object
 step_of s (form.WorkStep rounds) = Some (step.Work rounds)
 step_of s (form.CheckStep test value exception) = Some (step.Check test value (index_of exception (inner s)))
 step_of s (form.RaiseStep exception) = Some (step.Raise (index_of exception (inner s)))
-step_of s (form.EnterStep nest) = Some (step.Enter (index_of nest s.nests))
+step_of s (form.EnterStep nest) = Some (step.Enter (index_of nest s.action.nests))
 step_of s _ = None
 
 -- the verdict that a line says
@@ -81,11 +84,6 @@ is_of_action (form.Uses objects) = true
 is_of_action (form.Roles roles) = true
 is_of_action _ = false
 
--- of the objects of an action
-abbrev pub is_use : Form → Bool
-is_use (form.Uses objects) = true
-is_use _ = false
-
 -- outside actions, or at the beginning or the end of one
 abbrev pub is_outside : Form → Bool
 is_outside f = not (goes_on f) && (not (is_of_parts f) && not (is_of_action f))
@@ -99,18 +97,18 @@ with_program role (Some exception) program =
     record role { handlers = role.handlers ++ record { exception = exception; program = program } ∷ [] }
 
 -- this body or handler, if there is one, has ended with this verdict
-abbrev pub closed_if : SoFar → Option Opening → Verdict → SoFar
-closed_if s None verdict = s
-closed_if s (Some o) verdict = record s {
-  role_rows = slice_set s.role_rows o.role
-      (with_program (slice_index_or s.role_rows o.role no_role) o.exception (record { steps = s.steps; verdict = verdict }));
+abbrev pub closed_if : ActionSoFar → Option Opening → Verdict → ActionSoFar
+closed_if a None verdict = a
+closed_if a (Some o) verdict = record a {
+  role_rows = slice_set a.role_rows o.role
+      (with_program (slice_index_or a.role_rows o.role no_role) o.exception (record { steps = a.steps; verdict = verdict }));
   opening = None;
   steps = [];
 }
 
 -- the body or handler that is being declared, if any, has ended with this verdict
 abbrev pub closed : SoFar → Verdict → SoFar
-closed s verdict = closed_if s s.opening verdict
+closed s verdict = record s { action = closed_if s.action s.action.opening verdict }
 
 -- what is declared is as it was, or with the body or handler ended
 abbrev pub settled_if : Bool → SoFar → SoFar
@@ -123,11 +121,12 @@ settled s f = settled_if (goes_on f) s
 
 -- one step more in what is being declared
 abbrev pub with_step : SoFar → Step → SoFar
-with_step s step = record s { steps = s.steps ++ step ∷ [] }
+with_step s step = record s { action = record s.action { steps = s.action.steps ++ step ∷ [] } }
 
 -- the body of this role begins, or its handler for this exception
 abbrev pub with_opening : SoFar → ℕ → Option ℕ → SoFar
-with_opening s role exception = record s { opening = Some (record { role = role; exception = exception }); steps = [] }
+with_opening s role exception =
+    record s { action = record s.action { opening = Some (record { role = role; exception = exception }); steps = [] } }
 
 -- ---- roles and nested uses
 
@@ -143,7 +142,11 @@ idle_role names name = record {
 -- what the role of this name raises where it gives up
 abbrev pub with_abort : SoFar → ℕ → AbortRow → SoFar
 with_abort s role row =
-    record s { role_rows = slice_set s.role_rows (index_of role s.roles) (record (role_of s role) { abort = row }) }
+    record s {
+      action = record s.action {
+        role_rows = slice_set s.action.role_rows (index_of role s.action.roles) (record (role_of s role) { abort = row });
+      };
+    }
 
 -- a nested use that carries `universal` out whatever happens
 abbrev pub plain_nest : List ℕ → ℕ → List ℕ → ℕ → NestRow
@@ -152,57 +155,50 @@ plain_nest name action roles exceptions =
 
 -- the row of a nested use is another
 abbrev pub with_nest : SoFar → ℕ → NestRow → SoFar
-with_nest s nest row = record s { nest_rows = slice_set s.nest_rows (index_of nest s.nests) row }
+with_nest s nest row =
+    record s { action = record s.action { nest_rows = slice_set s.action.nest_rows (index_of nest s.action.nests) row } }
 
--- so is what was said of it
-abbrev pub with_nest_said : SoFar → ℕ → NestRow → NestSaid → SoFar
-with_nest_said s nest row said = record (with_nest s nest row) { nests_said = slice_set s.nests_said (index_of nest s.nests) said }
+-- it carries this outcome out as this exception
+abbrev pub carried : NestRow → Outcome → ℕ → NestRow
+carried row (outcome.Exception lower) exception = record row { maps = slice_set row.maps lower exception }
+carried row outcome.Undo exception = record row { undo = exception }
+carried row outcome.Failure exception = record row { failure = exception }
 
--- ---- graphs and actions
+-- it was said of this outcome
+abbrev pub with_mapped : NestSaid → Outcome → NestSaid
+with_mapped said (outcome.Exception lower) = record said { mapped = said.mapped ++ lower ∷ [] }
+with_mapped said outcome.Undo = record said { has_undo = true }
+with_mapped said outcome.Failure = record said { has_failure = true }
 
--- the graph that was being declared has ended
-abbrev pub with_graph : SoFar → SoFar
-with_graph s =
+-- both for the use of this name
+abbrev pub with_mapping : SoFar → ℕ → Outcome → ℕ → SoFar
+with_mapping s nest outcome exception =
     record s {
-      block = block.Top;
-      graphs = s.graphs ++ record { exceptions = s.exceptions; pairs = s.pairs } ∷ [];
-      exceptions = [];
-      pairs = [];
+      action = record s.action {
+        nest_rows = slice_set s.action.nest_rows (index_of nest s.action.nests) (carried (nest_of s nest) outcome exception);
+        nests_said = slice_set s.action.nests_said (index_of nest s.action.nests) (with_mapped (said_of s nest) outcome);
+      };
     }
 
--- an action of which nothing is said yet but its name
-abbrev pub begun : SoFar → ℕ → SoFar
-begun s name = record s {
-  action_names = s.action_names ++ name ∷ [];
-  block = block.Action;
-  action_name = name;
-  internal = None;
-  interface = None;
-  fault = None;
-  uses = [];
-  roles = [];
-  role_rows = [];
-  bodies = [];
-  nests = [];
-  nest_rows = [];
-  nests_said = [];
-  opening = None;
-  steps = [];
+-- ---- the end of graphs and actions
+
+-- the row of an action
+abbrev pub row_of : List (List ℕ) → ActionSoFar → ActionRow
+row_of names a = record {
+  name = name_at names a.name;
+  internal = unwrap_or a.internal 0;
+  interface = unwrap_or a.interface 0;
+  fault = unwrap_or a.fault 0;
+  objects = a.uses;
+  roles = a.role_rows;
+  nests = a.nest_rows;
 }
 
--- the action that is being declared
+-- that of the action that is being declared
 abbrev pub action_row : List (List ℕ) → SoFar → ActionRow
-action_row names s = record {
-  name = name_at names s.action_name;
-  internal = internal_graph s;
-  interface = interface_graph s;
-  fault = unwrap_or s.fault 0;
-  objects = s.uses;
-  roles = s.role_rows;
-  nests = s.nest_rows;
-}
+action_row names s = row_of names s.action
 
--- the sizes of one more action, by those of the actions before it
+-- the sizes of one more action, by those of the actions before it: how deep it is
 abbrev pub with_depth : SoFar → ActionRow → SoFar
 with_depth s row = record s { depths = s.depths ++ counted (1 + deepest (at s.depths) row.nests) ∷ [] }
 
@@ -215,23 +211,52 @@ abbrev pub with_bound : SoFar → ActionRow → SoFar
 with_bound s row =
     record s { bounds = s.bounds ++ counted (own_entries row + nested_weight (at s.bounds) row.nests) ∷ [] }
 
--- one more action, and what comes next stands outside actions
-abbrev pub with_action_row : SoFar → ActionRow → SoFar
-with_action_row s row = record s { block = block.Top; actions = s.actions ++ row ∷ [] }
-
--- one more action, with its sizes
+-- one more action
 abbrev pub with_action : SoFar → ActionRow → SoFar
-with_action s row = with_action_row (with_bound (with_places (with_depth s row) row) row) row
+with_action s row = record s { actions = s.actions ++ row ∷ [] }
 
--- what was said of it goes with it
-abbrev pub without_parts : SoFar → SoFar
-without_parts s = record s { uses = []; role_rows = []; nest_rows = [] }
+-- what comes next stands outside graphs and actions
+abbrev pub left : SoFar → SoFar
+left s = record s { block = block.Top; graph = no_graph; action = named 0 }
+
+-- the graphs that have ended, where a block of this kind ends
+abbrev pub graphs_with : SoFar → Block → List DeclaredGraph
+graphs_with s block.Graph = s.graphs ++ s.graph ∷ []
+graphs_with s _ = s.graphs
+
+-- the actions
+abbrev pub actions_with : List (List ℕ) → SoFar → Block → List ActionRow
+actions_with names s block.Action = s.actions ++ action_row names s ∷ []
+actions_with names s _ = s.actions
+
+-- how deep each is
+abbrev pub depths_with : SoFar → Block → List ℕ
+depths_with s block.Action = s.depths ++ counted (1 + deepest (at s.depths) s.action.nest_rows) ∷ []
+depths_with s _ = s.depths
+
+-- of how many places an instance of each is
+abbrev pub weights_with : SoFar → Block → List ℕ
+weights_with s block.Action = s.places ++ counted (1 + nested_weight (at s.places) s.action.nest_rows) ∷ []
+weights_with s _ = s.places
+
+-- how many entries these may have
+abbrev pub bounds_with : List (List ℕ) → SoFar → Block → List ℕ
+bounds_with names s block.Action =
+    s.bounds ++ counted (own_entries (action_row names s) + nested_weight (at s.bounds) s.action.nest_rows) ∷ []
+bounds_with names s _ = s.bounds
 
 -- an `end` line ends the graph or the action that is being declared
 abbrev pub ended : List (List ℕ) → SoFar → Block → SoFar
-ended names s block.Top = s
-ended names s block.Graph = with_graph s
-ended names s block.Action = with_action (without_parts s) (action_row names s)
+ended names s b = record s {
+  block = block.Top;
+  graphs = graphs_with s b;
+  graph = no_graph;
+  actions = actions_with names s b;
+  depths = depths_with s b;
+  places = weights_with s b;
+  bounds = bounds_with names s b;
+  action = named 0;
+}
 
 -- ---- plays
 
@@ -262,53 +287,57 @@ with_said names s (form.Drill object nth) =
     record s { drills = s.drills ++ record { object = index_of object s.objects; nth = nth } ∷ [] }
 with_said names s (form.Watch object) = record s { watches = s.watches ++ index_of object s.objects ∷ [] }
 with_said names s (form.Graph name) =
-    record s { graph_names = s.graph_names ++ name ∷ []; block = block.Graph; exceptions = s.universal ∷ []; pairs = [] }
-with_said names s (form.Action name) = begun s name
+    record s { graph_names = s.graph_names ++ name ∷ []; block = block.Graph; graph = plain_graph s.universal }
+with_said names s (form.Action name) =
+    record s { action_names = s.action_names ++ name ∷ []; block = block.Action; action = named name }
 with_said names s (form.Play action who) = with_play s action (play_row s action who)
-with_said names s (form.Exception name) = record s { exceptions = s.exceptions ++ name ∷ [] }
+with_said names s (form.Exception name) = record s { graph = record s.graph { exceptions = s.graph.exceptions ++ name ∷ [] } }
 with_said names s (form.Cover upper lower) =
-    record s { pairs = s.pairs ++ (index_of upper s.exceptions, index_of lower s.exceptions) ∷ [] }
+    record s {
+      graph = record s.graph {
+        pairs = s.graph.pairs ++ (index_of upper s.graph.exceptions, index_of lower s.graph.exceptions) ∷ [];
+      };
+    }
 with_said names s form.End = ended names s s.block
-with_said names s (form.Internal graph) = record s { internal = Some (graph_number s graph) }
-with_said names s (form.Interface graph) = record s { interface = Some (graph_number s graph) }
-with_said names s (form.Fault exception) = record s { fault = Some (index_of exception (inner s)) }
-with_said names s (form.Uses objects) = record s { uses = chosen_from 0 objects s.objects }
-with_said names s (form.Roles roles) = record s { roles = roles; role_rows = map (idle_role names) roles }
+with_said names s (form.Internal graph) = record s { action = record s.action { internal = Some (graph_number s graph) } }
+with_said names s (form.Interface graph) = record s { action = record s.action { interface = Some (graph_number s graph) } }
+with_said names s (form.Fault exception) = record s { action = record s.action { fault = Some (index_of exception (inner s)) } }
+with_said names s (form.Uses objects) = record s { action = record s.action { uses = chosen_from 0 objects s.objects } }
+with_said names s (form.Roles roles) =
+    record s { action = record s.action { roles = roles; role_rows = map (idle_role names) roles } }
 with_said names s (form.Nest nest action roles) = record s {
-  nests = s.nests ++ nest ∷ [];
-  nest_rows = s.nest_rows
-      ++ plain_nest (name_at names nest) (index_of action s.action_names) (map (λ r. index_of r s.roles) roles)
-      (length (exceptions_at s.graphs (action_of s action).interface)) ∷ [];
-  nests_said = s.nests_said ++ nothing_said ∷ [];
+  action = record s.action {
+    nests = s.action.nests ++ nest ∷ [];
+    nest_rows = s.action.nest_rows
+        ++ plain_nest (name_at names nest) (index_of action s.action_names) (map (λ r. index_of r s.action.roles) roles)
+        (length (exceptions_at s.graphs (action_of s action).interface)) ∷ [];
+    nests_said = s.action.nests_said ++ nothing_said ∷ [];
+  };
 }
 with_said names s (form.Map nest lower upper) =
-    let number = index_of lower (face s nest) in
-    with_nest_said s nest
-    (record (nest_of s nest) { maps = slice_set (nest_of s nest).maps number (index_of upper (inner s)) })
-    (record (said_of s nest) { mapped = (said_of s nest).mapped ++ number ∷ [] })
-with_said names s (form.MapUndo nest exception) =
-    with_nest_said s nest
-    (record (nest_of s nest) { undo = index_of exception (inner s) })
-    (record (said_of s nest) { has_undo = true })
-with_said names s (form.MapFailure nest exception) =
-    with_nest_said s nest
-    (record (nest_of s nest) { failure = index_of exception (inner s) })
-    (record (said_of s nest) { has_failure = true })
+    with_mapping s nest (outcome.Exception (index_of lower (face s nest))) (index_of upper (inner s))
+with_said names s (form.MapUndo nest exception) = with_mapping s nest outcome.Undo (index_of exception (inner s))
+with_said names s (form.MapFailure nest exception) = with_mapping s nest outcome.Failure (index_of exception (inner s))
 with_said names s (form.Alternate nest action) =
     with_nest s nest (record (nest_of s nest) { actions = (nest_of s nest).actions ++ index_of action s.action_names ∷ [] })
 with_said names s (form.Abort role exception) = with_abort s role (abort.Always (index_of exception (outer s)))
 with_said names s (form.AbortTest role test value exception) =
     with_abort s role (abort.Where test value (index_of exception (outer s)))
-with_said names s (form.Body role) =
-    record (with_opening s (index_of role s.roles) None) { bodies = s.bodies ++ index_of role s.roles ∷ [] }
-with_said names s (form.Handler role exception) = with_opening s (index_of role s.roles) (Some (index_of exception (inner s)))
+with_said names s (form.Body role) = record s {
+  action = record s.action {
+    bodies = s.action.bodies ++ index_of role s.action.roles ∷ [];
+    opening = Some (record { role = index_of role s.action.roles; exception = None });
+    steps = [];
+  };
+}
+with_said names s (form.Handler role exception) = with_opening s (index_of role s.action.roles) (Some (index_of exception (inner s)))
 with_said names s (form.ReadStep object) = with_step s (step.Read (index_of object s.objects))
 with_said names s (form.PutStep object value) = with_step s (step.Put (index_of object s.objects) value)
 with_said names s (form.AddStep object value) = with_step s (step.Add (index_of object s.objects) value)
 with_said names s (form.WorkStep rounds) = with_step s (step.Work rounds)
 with_said names s (form.CheckStep test value exception) = with_step s (step.Check test value (index_of exception (inner s)))
 with_said names s (form.RaiseStep exception) = with_step s (step.Raise (index_of exception (inner s)))
-with_said names s (form.EnterStep nest) = with_step s (step.Enter (index_of nest s.nests))
+with_said names s (form.EnterStep nest) = with_step s (step.Enter (index_of nest s.action.nests))
 with_said names s form.DoneLine = closed s verdict.Done
 with_said names s (form.SignalLine exception) = closed s (verdict.Signal (index_of exception (outer s)))
 with_said names s form.UndoLine = closed s verdict.Undo

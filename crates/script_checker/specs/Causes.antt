@@ -9,14 +9,17 @@ use Rattle.place_plan.specs.declared.drafts.draft_rows.AbortRow.TheVariants as a
 use Rattle.place_plan.specs.declared.drafts.draft_rows.HandlerRow.{HandlerRow}
 use Rattle.caa_base.specs.Written.Lists.{member, index_of, is_empty}
 use Rattle.caa_base.specs.Written.Limits.{most_participants, most_objects, most_actions, most_graphs, most_roles, most_nests, most_alternates, most_steps, most_watches, most_drills, most_depth, most_places, most_entries}
-use Rattle.place_plan.specs.Drafts.DraftRules.{roles_enter}
+use Rattle.place_plan.specs.Drafts.DraftRules.{roles_enter, all_differ}
 use Rattle.action_script.specs.declared.forms.form.Form.{Form}
 use Rattle.action_script.specs.declared.forms.form.Form.TheVariants as form
 use Rattle.script_checker.specs.declared.check_error.CheckCause.{CheckCause}
 use Rattle.script_checker.specs.declared.check_error.CheckCause.TheVariants as cause
+use Rattle.script_checker.specs.declared.parts.NestSaid.{NestSaid}
+use Rattle.script_checker.specs.declared.parts.Outcome.{Outcome}
+use Rattle.script_checker.specs.declared.parts.Outcome.TheVariants as outcome
 use Rattle.script_checker.specs.Blocks.{is_in_graph, is_in_action}
 use Rattle.place_plan.specs.Plans.Weights.{counted, at}
-use Rattle.script_checker.specs.Numbers.{is_among, has_twice}
+use Rattle.script_checker.specs.Numbers.{is_among}
 use Rattle.script_checker.specs.DeclaredSoFar.{SoFar, inner, outer, face, face_of, action_of, nest_of, said_of, role_of}
 
 -- ---- a name that the line uses isn't declared
@@ -30,27 +33,27 @@ abbrev pub is_unknown : SoFar → Form → Bool
 is_unknown s (form.Drill object nth) = not (is_among s.objects object)
 is_unknown s (form.Watch object) = not (is_among s.objects object)
 is_unknown s (form.Play action who) = not (is_action s action) || not (list_all (is_among s.participants) who)
-is_unknown s (form.Cover upper lower) = not (is_among s.exceptions upper) || not (is_among s.exceptions lower)
+is_unknown s (form.Cover upper lower) = not (is_among s.graph.exceptions upper) || not (is_among s.graph.exceptions lower)
 is_unknown s (form.Internal graph) = not (is_among s.graph_names graph)
 is_unknown s (form.Interface graph) = not (is_among s.graph_names graph)
 is_unknown s (form.Fault exception) = not (is_among (inner s) exception)
 is_unknown s (form.Uses objects) = not (list_all (is_among s.objects) objects)
-is_unknown s (form.Nest nest action roles) = not (is_action s action) || not (list_all (is_among s.roles) roles)
+is_unknown s (form.Nest nest action roles) = not (is_action s action) || not (list_all (is_among s.action.roles) roles)
 is_unknown s (form.Map nest lower upper) =
-    not (is_among s.nests nest) || (not (is_among (face s nest) lower) || not (is_among (inner s) upper))
-is_unknown s (form.MapUndo nest exception) = not (is_among s.nests nest) || not (is_among (inner s) exception)
-is_unknown s (form.MapFailure nest exception) = not (is_among s.nests nest) || not (is_among (inner s) exception)
-is_unknown s (form.Alternate nest action) = not (is_among s.nests nest) || not (is_action s action)
-is_unknown s (form.Abort role exception) = not (is_among s.roles role) || not (is_among (outer s) exception)
-is_unknown s (form.AbortTest role test value exception) = not (is_among s.roles role) || not (is_among (outer s) exception)
-is_unknown s (form.Body role) = not (is_among s.roles role)
-is_unknown s (form.Handler role exception) = not (is_among s.roles role) || not (is_among (inner s) exception)
+    not (is_among s.action.nests nest) || (not (is_among (face s nest) lower) || not (is_among (inner s) upper))
+is_unknown s (form.MapUndo nest exception) = not (is_among s.action.nests nest) || not (is_among (inner s) exception)
+is_unknown s (form.MapFailure nest exception) = not (is_among s.action.nests nest) || not (is_among (inner s) exception)
+is_unknown s (form.Alternate nest action) = not (is_among s.action.nests nest) || not (is_action s action)
+is_unknown s (form.Abort role exception) = not (is_among s.action.roles role) || not (is_among (outer s) exception)
+is_unknown s (form.AbortTest role test value exception) = not (is_among s.action.roles role) || not (is_among (outer s) exception)
+is_unknown s (form.Body role) = not (is_among s.action.roles role)
+is_unknown s (form.Handler role exception) = not (is_among s.action.roles role) || not (is_among (inner s) exception)
 is_unknown s (form.ReadStep object) = not (is_among s.objects object)
 is_unknown s (form.PutStep object value) = not (is_among s.objects object)
 is_unknown s (form.AddStep object value) = not (is_among s.objects object)
 is_unknown s (form.CheckStep test value exception) = not (is_among (inner s) exception)
 is_unknown s (form.RaiseStep exception) = not (is_among (inner s) exception)
-is_unknown s (form.EnterStep nest) = not (is_among s.nests nest)
+is_unknown s (form.EnterStep nest) = not (is_among s.action.nests nest)
 is_unknown s (form.SignalLine exception) = not (is_among (outer s) exception)
 is_unknown s _ = false
 
@@ -69,6 +72,12 @@ is_said _ = true
 abbrev pub handles : ℕ → HandlerRow → Bool
 handles exception handler = handler.exception == exception
 
+-- it was said as which exception this outcome of a nested use is carried out
+abbrev pub is_mapped : NestSaid → Outcome → Bool
+is_mapped said (outcome.Exception lower) = member lower said.mapped
+is_mapped said outcome.Undo = said.has_undo
+is_mapped said outcome.Failure = said.has_failure
+
 -- the line says what may be said once only, and was
 abbrev pub is_twice : SoFar → Form → Bool
 is_twice s (form.Participant name) = is_among s.participants name
@@ -77,19 +86,19 @@ is_twice s (form.Drill object nth) = list_any (is_drill (index_of object s.objec
 is_twice s (form.Watch object) = member (index_of object s.objects) s.watches
 is_twice s (form.Graph name) = is_among s.graph_names name
 is_twice s (form.Action name) = is_among s.action_names name
-is_twice s (form.Exception name) = is_among s.exceptions name
-is_twice s (form.Internal graph) = is_some s.internal
-is_twice s (form.Interface graph) = is_some s.interface
-is_twice s (form.Fault exception) = is_some s.fault
-is_twice s (form.Uses objects) = not (is_empty s.uses) || has_twice objects
-is_twice s (form.Roles roles) = not (is_empty s.roles) || has_twice roles
-is_twice s (form.Nest nest action roles) = is_among s.nests nest
-is_twice s (form.Map nest lower upper) = member (index_of lower (face s nest)) (said_of s nest).mapped
-is_twice s (form.MapUndo nest exception) = (said_of s nest).has_undo
-is_twice s (form.MapFailure nest exception) = (said_of s nest).has_failure
+is_twice s (form.Exception name) = is_among s.graph.exceptions name
+is_twice s (form.Internal graph) = is_some s.action.internal
+is_twice s (form.Interface graph) = is_some s.action.interface
+is_twice s (form.Fault exception) = is_some s.action.fault
+is_twice s (form.Uses objects) = not (is_empty s.action.uses) || not (all_differ objects)
+is_twice s (form.Roles roles) = not (is_empty s.action.roles) || not (all_differ roles)
+is_twice s (form.Nest nest action roles) = is_among s.action.nests nest
+is_twice s (form.Map nest lower upper) = is_mapped (said_of s nest) (outcome.Exception (index_of lower (face s nest)))
+is_twice s (form.MapUndo nest exception) = is_mapped (said_of s nest) outcome.Undo
+is_twice s (form.MapFailure nest exception) = is_mapped (said_of s nest) outcome.Failure
 is_twice s (form.Abort role exception) = is_said (role_of s role).abort
 is_twice s (form.AbortTest role test value exception) = is_said (role_of s role).abort
-is_twice s (form.Body role) = member (index_of role s.roles) s.bodies
+is_twice s (form.Body role) = member (index_of role s.action.roles) s.action.bodies
 is_twice s (form.Handler role exception) = list_any (handles (index_of exception (inner s))) (role_of s role).handlers
 is_twice s _ = false
 
@@ -104,33 +113,33 @@ abbrev pub is_unfilled : SoFar → Form → Bool
 is_unfilled s (form.Play action who) = not (is_filled_by s action (length who))
 is_unfilled s (form.Nest nest action roles) = not (is_filled_by s action (length roles))
 is_unfilled s (form.Alternate nest action) = not (is_filled_by s action (length (nest_of s nest).roles))
-is_unfilled s form.End = is_in_action s.block && is_empty s.roles
+is_unfilled s form.End = is_in_action s.block && is_empty s.action.roles
 is_unfilled s _ = false
 
 -- ---- the line fills two roles by one
 
 -- somebody would play two roles
 abbrev pub fills_twice : Form → Bool
-fills_twice (form.Play action who) = has_twice who
-fills_twice (form.Nest nest action roles) = has_twice roles
+fills_twice (form.Play action who) = not (all_differ who)
+fills_twice (form.Nest nest action roles) = not (all_differ roles)
 fills_twice _ = false
 
 -- ---- the line ends an action in which a role doesn't enter just the uses that it fills, each once, in their order
 
 -- at an `end`, the roles of the action enter other uses, or in another order
 abbrev pub enters_otherwise : SoFar → Form → Bool
-enters_otherwise s form.End = is_in_action s.block && not (roles_enter s.nest_rows 0 s.role_rows)
+enters_otherwise s form.End = is_in_action s.block && not (roles_enter s.action.nest_rows 0 s.action.role_rows)
 enters_otherwise s _ = false
 
 -- ---- the line touches an object that the action doesn't use, as far as its objects were said
 
 -- the action uses the object of this name
 abbrev pub holds : SoFar → ℕ → Bool
-holds s object = member (index_of object s.objects) s.uses
+holds s object = member (index_of object s.objects) s.action.uses
 
 -- all objects of an action
 abbrev pub holds_all : SoFar → ℕ → Bool
-holds_all s action = list_all (λ o. member o s.uses) (action_of s action).objects
+holds_all s action = list_all (λ o. member o s.action.uses) (action_of s action).objects
 
 -- an object that the line names, or that an action of it uses, is not among the objects of the action
 abbrev pub is_not_held : SoFar → Form → Bool
@@ -168,17 +177,17 @@ is_past_limit s (form.Watch object) = nat_le most_watches (length s.watches)
 is_past_limit s (form.Graph name) = nat_le most_graphs (length s.graph_names)
 is_past_limit s (form.Action name) = nat_le most_actions (length s.action_names)
 is_past_limit s (form.Play action who) = nat_lt most_places (places_with s action)
-is_past_limit s (form.Exception name) = nat_le most_exceptions (length s.exceptions)
+is_past_limit s (form.Exception name) = nat_le most_exceptions (length s.graph.exceptions)
 is_past_limit s (form.Roles roles) = nat_lt most_roles (length roles)
-is_past_limit s (form.Nest nest action roles) = nat_le most_nests (length s.nests)
+is_past_limit s (form.Nest nest action roles) = nat_le most_nests (length s.action.nests)
 is_past_limit s (form.Alternate nest action) = nat_le most_alternates (length (nest_of s nest).actions)
-is_past_limit s (form.ReadStep object) = nat_le most_steps (length s.steps)
-is_past_limit s (form.PutStep object value) = nat_le most_steps (length s.steps)
-is_past_limit s (form.AddStep object value) = nat_le most_steps (length s.steps)
-is_past_limit s (form.WorkStep rounds) = nat_le most_steps (length s.steps)
-is_past_limit s (form.CheckStep test value exception) = nat_le most_steps (length s.steps)
-is_past_limit s (form.RaiseStep exception) = nat_le most_steps (length s.steps)
-is_past_limit s (form.EnterStep nest) = nat_le most_steps (length s.steps)
+is_past_limit s (form.ReadStep object) = nat_le most_steps (length s.action.steps)
+is_past_limit s (form.PutStep object value) = nat_le most_steps (length s.action.steps)
+is_past_limit s (form.AddStep object value) = nat_le most_steps (length s.action.steps)
+is_past_limit s (form.WorkStep rounds) = nat_le most_steps (length s.action.steps)
+is_past_limit s (form.CheckStep test value exception) = nat_le most_steps (length s.action.steps)
+is_past_limit s (form.RaiseStep exception) = nat_le most_steps (length s.action.steps)
+is_past_limit s (form.EnterStep nest) = nat_le most_steps (length s.action.steps)
 is_past_limit s _ = false
 
 -- ---- with the play a journal could have too many entries
@@ -212,8 +221,8 @@ ends_graph s _ = false
 abbrev pub HasCause : SoFar → Form → CheckCause → Type 0
 HasCause s f cause.Unknown = is_unknown s f ≡ true
 HasCause s f cause.Twice = is_twice s f ≡ true
-HasCause s f (cause.Cycle at) = (ends_graph s f ≡ true) × IsFirstInCycle (length s.exceptions) s.pairs at
-HasCause s f (cause.NoLeast a b) = (ends_graph s f ≡ true) × IsFirstUnjoined (length s.exceptions) s.pairs a b
+HasCause s f (cause.Cycle at) = (ends_graph s f ≡ true) × IsFirstInCycle (length s.graph.exceptions) s.graph.pairs at
+HasCause s f (cause.NoLeast a b) = (ends_graph s f ≡ true) × IsFirstUnjoined (length s.graph.exceptions) s.graph.pairs a b
 HasCause s f cause.RoleUnfilled = is_unfilled s f ≡ true
 HasCause s f cause.RoleTwice = fills_twice f ≡ true
 HasCause s f cause.NestOrder = enters_otherwise s f ≡ true

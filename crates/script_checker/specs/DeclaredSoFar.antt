@@ -16,7 +16,28 @@ use Rattle.script_checker.specs.declared.parts.DeclaredGraph.{DeclaredGraph}
 use Rattle.script_checker.specs.declared.parts.NestSaid.{NestSaid}
 use Rattle.script_checker.specs.declared.parts.Opening.{Opening}
 
--- names go by their numbers in the script
+-- the action that is being declared; names go by their numbers in the script
+pub record ActionSoFar : Type 0 where
+  pub name : ℕ
+  -- its graphs and its fault exception, where they were said
+  pub internal : Option ℕ
+  pub interface : Option ℕ
+  pub fault : Option ℕ
+  -- its objects, roles and nested uses
+  pub uses : List ℕ
+  pub roles : List ℕ
+  pub role_rows : List RoleRow
+  -- the roles that have a body
+  pub bodies : List ℕ
+  pub nests : List ℕ
+  pub nest_rows : List NestRow
+  -- what was said of each of these
+  pub nests_said : List NestSaid
+  -- the body or handler that is being declared, and its steps so far
+  pub opening : Option Opening
+  pub steps : List Step
+
+-- all that is declared; names go by their numbers in the script
 pub record SoFar : Type 0 where
   -- the number of the name `universal`; where the script has no such name, it is no name's
   pub universal : ℕ
@@ -44,33 +65,38 @@ pub record SoFar : Type 0 where
   pub watches : List ℕ
   -- where the line stands
   pub block : Block
-  -- of the graph that is being declared: its exceptions by name, and which cover which, by their numbers in it
-  pub exceptions : List ℕ
-  pub pairs : List (ℕ × ℕ)
-  -- of the action that is being declared: its name, graphs and fault exception, where they were said, its objects, roles and
-  -- nested uses
-  pub action_name : ℕ
-  pub internal : Option ℕ
-  pub interface : Option ℕ
-  pub fault : Option ℕ
-  pub uses : List ℕ
-  pub roles : List ℕ
-  pub role_rows : List RoleRow
-  -- the roles that have a body
-  pub bodies : List ℕ
-  pub nests : List ℕ
-  pub nest_rows : List NestRow
-  -- what was said of each of these
-  pub nests_said : List NestSaid
-  -- the body or handler that is being declared, and its steps so far
-  pub opening : Option Opening
-  pub steps : List Step
+  -- the graph that is being declared, its pairs by the numbers of exceptions in it; in no graph, it is empty
+  pub graph : DeclaredGraph
+  -- the action that is being declared; outside actions, nothing is said of it
+  pub action : ActionSoFar
 
 -- ---- before the first line
 
 -- the plain graph has `universal` alone
 abbrev pub plain_graph : ℕ → DeclaredGraph
 plain_graph universal = record { exceptions = universal ∷ []; pairs = [] }
+
+-- a graph without exceptions
+abbrev pub no_graph : DeclaredGraph
+no_graph = record { exceptions = []; pairs = [] }
+
+-- an action of which nothing is said yet but its name
+abbrev pub named : ℕ → ActionSoFar
+named name = record {
+  name = name;
+  internal = None;
+  interface = None;
+  fault = None;
+  uses = [];
+  roles = [];
+  role_rows = [];
+  bodies = [];
+  nests = [];
+  nest_rows = [];
+  nests_said = [];
+  opening = None;
+  steps = [];
+}
 
 -- nothing is declared but the plain graph; the names of the script are these
 abbrev pub nothing_yet : List (List ℕ) → SoFar
@@ -93,28 +119,11 @@ nothing_yet names = record {
   drills = [];
   watches = [];
   block = block.Top;
-  exceptions = [];
-  pairs = [];
-  action_name = 0;
-  internal = None;
-  interface = None;
-  fault = None;
-  uses = [];
-  roles = [];
-  role_rows = [];
-  bodies = [];
-  nests = [];
-  nest_rows = [];
-  nests_said = [];
-  opening = None;
-  steps = [];
+  graph = no_graph;
+  action = named 0;
 }
 
 -- ---- what the names of a line mean there
-
--- a graph without exceptions
-abbrev pub no_graph : DeclaredGraph
-no_graph = record { exceptions = []; pairs = [] }
 
 -- nothing was said of a nested use
 abbrev pub nothing_said : NestSaid
@@ -130,11 +139,11 @@ exceptions_at graphs g = (slice_index_or graphs g no_graph).exceptions
 
 -- the internal graph of the action that is being declared, as far as it is known
 abbrev pub internal_graph : SoFar → ℕ
-internal_graph s = unwrap_or s.internal 0
+internal_graph s = unwrap_or s.action.internal 0
 
 -- and the graph of what it tells outside
 abbrev pub interface_graph : SoFar → ℕ
-interface_graph s = unwrap_or s.interface 0
+interface_graph s = unwrap_or s.action.interface 0
 
 -- the exceptions that may be raised in the action
 abbrev pub inner : SoFar → List ℕ
@@ -150,11 +159,11 @@ action_of s name = slice_index_or s.actions (index_of name s.action_names) no_ac
 
 -- a nested use of this name
 abbrev pub nest_of : SoFar → ℕ → NestRow
-nest_of s name = slice_index_or s.nest_rows (index_of name s.nests) no_nest
+nest_of s name = slice_index_or s.action.nest_rows (index_of name s.action.nests) no_nest
 
 -- what was said of it
 abbrev pub said_of : SoFar → ℕ → NestSaid
-said_of s name = slice_index_or s.nests_said (index_of name s.nests) nothing_said
+said_of s name = slice_index_or s.action.nests_said (index_of name s.action.nests) nothing_said
 
 -- the graph of the exceptions that the actions of a nested use tell outside: that of its first action
 abbrev pub face_of : SoFar → ℕ → ℕ
@@ -166,4 +175,4 @@ face s nest = exceptions_at s.graphs (face_of s nest)
 
 -- a role of this name
 abbrev pub role_of : SoFar → ℕ → RoleRow
-role_of s name = slice_index_or s.role_rows (index_of name s.roles) no_role
+role_of s name = slice_index_or s.action.role_rows (index_of name s.action.roles) no_role

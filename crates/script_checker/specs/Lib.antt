@@ -1,16 +1,9 @@
 pub mod After
 pub mod Blocks
 pub mod Causes
-pub mod Chosen
 pub mod Compiled
-pub mod Graphs
 pub mod Numbers
-pub mod NumberTable
-pub mod DrillTable
-pub mod Handled
-pub mod Rows
 pub mod DeclaredSoFar
-pub mod View
 pub mod PlaySizes
 pub mod PlanSizes
-pub mod PlaysAgain
+pub mod inner

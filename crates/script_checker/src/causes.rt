@@ -8,25 +8,25 @@ ghost use Rattle.place_plan.specs.Drafts.DraftRules.{roles_enter};
 ghost use Rattle.place_plan.specs.Plans.Weights.{counted, at};
 ghost use Rattle.script_checker.specs.Numbers.{is_among};
 ghost use Rattle.script_checker.specs.DeclaredSoFar.{nest_of, said_of, role_of, face, inner};
-ghost use Rattle.script_checker.specs.Causes.{is_action, is_unknown, is_drill, is_said, handles, is_twice, is_filled_by, is_unfilled, fills_twice, enters_otherwise, holds, holds_all, is_not_held, is_deepest, is_too_deep, places_with, is_past_limit, bound_with, is_past_bound, has_other_face};
+ghost use Rattle.script_checker.specs.Causes.{is_action, is_unknown, is_drill, is_mapped, is_said, handles, is_twice, is_filled_by, is_unfilled, fills_twice, enters_otherwise, holds, holds_all, is_not_held, is_deepest, is_too_deep, places_with, is_past_limit, bound_with, is_past_bound, has_other_face};
 ghost use Rattle.script_checker.specs.Blocks.{is_in_action};
-ghost use Rattle.script_checker.specs.View.{so_far};
+ghost use Rattle.script_checker.specs.inner.View.{so_far};
 
 use crate::declared::Declared;
 use crate::lookups::{
-    are_among, count_roles, exception_in, face_of, has_exception, has_twice, inner_number,
-    interface_at, is_inner, is_outer,
+    all_differ, are_among, count_roles, exception_in, face_of, has_exception, inner_number,
+    interface_at, is_inner, is_outer, nest_row, role_row,
 };
-use crate::parts::Block;
+use crate::parts::{Block, NestSaid, Outcome};
 use action_script::forms::form::Form;
 use caa_base::written::limits::{
     MOST_ACTIONS, MOST_ALTERNATES, MOST_DEPTH, MOST_DRILLS, MOST_ENTRIES, MOST_GRAPHS, MOST_NESTS,
     MOST_OBJECTS, MOST_PARTICIPANTS, MOST_PLACES, MOST_ROLES, MOST_STEPS, MOST_WATCHES,
 };
 use cover_table::MOST_EXCEPTIONS;
-use place_plan::drafts::draft_rows::AbortRow;
-use place_plan::plans::tables::{counted_sum, number_at};
+use place_plan::drafts::draft_rows::{AbortRow, HandlerRow};
 use place_plan::drafts::uses::roles_enter;
+use place_plan::plans::tables::{counted_sum, number_at};
 use std::alloc::{AllocError, Global};
 
 // ---- a name that isn't declared
@@ -42,7 +42,7 @@ fn is_action(declared: &Declared, action: u32) -> bool
 fn is_mapping(declared: &Declared, nest: u32, lower: u32, upper: u32) -> bool
     ensures { result ≡ not (is_unknown (so_far declared.now) (Form.Map nest lower upper)) }
 {
-    declared.nests.contains(nest)
+    declared.action.nests.contains(nest)
         && has_exception(declared, face_of(declared, nest), lower)
         && is_inner(declared, upper)
 }
@@ -61,7 +61,8 @@ pub(crate) fn is_unknown(declared: &Declared, form: &Form) -> bool
             !is_action(declared, *action) || !are_among(&declared.participants, who.as_slice())
         }
         Form::Cover(upper, lower) => {
-            !declared.exceptions.contains(*upper) || !declared.exceptions.contains(*lower)
+            !declared.graph.exceptions.contains(*upper)
+                || !declared.graph.exceptions.contains(*lower)
         }
         Form::Internal(graph) | Form::Interface(graph) => !declared.graph_names.contains(*graph),
         Form::Fault(exception) | Form::CheckStep(_, _, exception) | Form::RaiseStep(exception) => {
@@ -69,23 +70,23 @@ pub(crate) fn is_unknown(declared: &Declared, form: &Form) -> bool
         }
         Form::Uses(objects) => !are_among(&declared.objects, objects.as_slice()),
         Form::Nest(_, action, roles) => {
-            !is_action(declared, *action) || !are_among(&declared.roles, roles.as_slice())
+            !is_action(declared, *action) || !are_among(&declared.action.roles, roles.as_slice())
         }
         Form::Map(nest, lower, upper) => !is_mapping(declared, *nest, *lower, *upper),
         Form::MapUndo(nest, exception) | Form::MapFailure(nest, exception) => {
-            !declared.nests.contains(*nest) || !is_inner(declared, *exception)
+            !declared.action.nests.contains(*nest) || !is_inner(declared, *exception)
         }
         Form::Alternate(nest, action) => {
-            !declared.nests.contains(*nest) || !is_action(declared, *action)
+            !declared.action.nests.contains(*nest) || !is_action(declared, *action)
         }
         Form::Abort(role, exception) | Form::AbortTest(role, _, _, exception) => {
-            !declared.roles.contains(*role) || !is_outer(declared, *exception)
+            !declared.action.roles.contains(*role) || !is_outer(declared, *exception)
         }
-        Form::Body(role) => !declared.roles.contains(*role),
+        Form::Body(role) => !declared.action.roles.contains(*role),
         Form::Handler(role, exception) => {
-            !declared.roles.contains(*role) || !is_inner(declared, *exception)
+            !declared.action.roles.contains(*role) || !is_inner(declared, *exception)
         }
-        Form::EnterStep(nest) => !declared.nests.contains(*nest),
+        Form::EnterStep(nest) => !declared.action.nests.contains(*nest),
         Form::SignalLine(exception) => !is_outer(declared, *exception),
         _ => false,
     }
@@ -100,45 +101,25 @@ fn is_drilled(declared: &Declared, object: u32, nth: u32) -> bool
     declared.drills.contains(object, nth)
 }
 
-/// Whether an exception of a nested use is mapped.
-fn is_mapped(declared: &Declared, nest: u32, lower: u32) -> bool
-    ensures { result ≡ is_twice (so_far declared.now) (Form.Map nest lower 0) }
+/// Whether an outcome was mapped, by what was said of a nested use.
+#[tactic(auto, using(crate::proofs::NumberTables::among_is_member))]
+fn is_said_of(said: &NestSaid, outcome: Outcome) -> bool
+    ensures { result ≡ is_mapped said.now outcome }
 {
-    let number = exception_in(declared, face_of(declared, nest), lower);
-    match declared
-        .nests_said
-        .as_slice()
-        .get(declared.nests.find(nest) as usize)
-    {
-        Some(row) => row.mapped.contains(number),
-        None => false,
+    match outcome {
+        Outcome::Exception(lower) => said.mapped.contains(lower),
+        Outcome::Undo => said.has_undo,
+        Outcome::Failure => said.has_failure,
     }
 }
 
-/// Whether the undo of a nested use is mapped.
-fn has_undo(declared: &Declared, nest: u32) -> bool
-    ensures { result ≡ (said_of (so_far declared.now) nest).has_undo }
+/// Whether an outcome of a nested use was mapped.
+fn is_mapped(declared: &Declared, nest: u32, outcome: Outcome) -> bool
+    ensures { result ≡ is_mapped (said_of (so_far declared.now) nest) outcome }
 {
-    match declared
-        .nests_said
-        .as_slice()
-        .get(declared.nests.find(nest) as usize)
-    {
-        Some(row) => row.has_undo,
-        None => false,
-    }
-}
-
-/// Whether the failure of a nested use is mapped.
-fn has_failure(declared: &Declared, nest: u32) -> bool
-    ensures { result ≡ (said_of (so_far declared.now) nest).has_failure }
-{
-    match declared
-        .nests_said
-        .as_slice()
-        .get(declared.nests.find(nest) as usize)
-    {
-        Some(row) => row.has_failure,
+    let number = declared.action.nests.find(nest) as usize;
+    match declared.action.nests_said.as_slice().get(number) {
+        Some(said) => is_said_of(said, outcome),
         None => false,
     }
 }
@@ -157,14 +138,19 @@ fn is_said(abort: &AbortRow) -> bool
 fn has_abort(declared: &Declared, role: u32) -> bool
     ensures { result ≡ is_said (role_of (so_far declared.now) role).abort }
 {
-    match declared
-        .role_rows
-        .as_slice()
-        .get(declared.roles.find(role) as usize)
-    {
+    match role_row(declared, role) {
         Some(row) => is_said(&row.abort),
         None => false,
     }
+}
+
+/// Whether one of some handlers is for an exception.
+fn handles(handlers: &[HandlerRow], exception: u32) -> bool
+    ensures { result ≡ list_any (handles exception) handlers.now }
+{
+    handlers
+        .iter()
+        .any(|handler| handler.exception == exception)
 }
 
 /// Whether a role handles an exception.
@@ -172,10 +158,10 @@ fn has_handler(declared: &Declared, role: u32, exception: u32) -> bool
     ensures { result
         ≡ list_any (handles (index_of exception (inner (so_far declared.now)))) (role_of (so_far declared.now) role).handlers }
 {
-    let number = inner_number(declared, exception);
-    declared
-        .role_rows
-        .handles(declared.roles.find(role), number)
+    match role_row(declared, role) {
+        Some(row) => handles(row.handlers.as_slice(), inner_number(declared, exception)),
+        None => false,
+    }
 }
 
 /// Whether the line declares or says again what was declared or said.
@@ -186,25 +172,31 @@ pub(crate) fn is_twice(declared: &Declared, form: &Form) -> Result<bool, AllocEr
         Form::Participant(name) => declared.participants.contains(*name),
         Form::Object(name, _) => declared.objects.contains(*name),
         Form::Drill(object, nth) => is_drilled(declared, declared.objects.find(*object), *nth),
-        Form::Watch(object) => declared.watches.contains(declared.objects.find(*object)),
+        Form::Watch(object) => declared.watches.contains(&declared.objects.find(*object)),
         Form::Graph(name) => declared.graph_names.contains(*name),
         Form::Action(name) => declared.action_names.contains(*name),
-        Form::Exception(name) => declared.exceptions.contains(*name),
-        Form::Internal(_) => declared.internal.is_some(),
-        Form::Interface(_) => declared.interface.is_some(),
-        Form::Fault(_) => declared.fault.is_some(),
+        Form::Exception(name) => declared.graph.exceptions.contains(*name),
+        Form::Internal(_) => declared.action.internal.is_some(),
+        Form::Interface(_) => declared.action.interface.is_some(),
+        Form::Fault(_) => declared.action.fault.is_some(),
         Form::Uses(objects) => {
-            !declared.uses.is_empty() || has_twice(declared.alloc, objects.as_slice())?
+            !declared.action.uses.is_empty() || !all_differ(declared.alloc, objects.as_slice())?
         }
         Form::Roles(roles) => {
-            !declared.roles.is_empty() || has_twice(declared.alloc, roles.as_slice())?
+            !declared.action.roles.is_empty() || !all_differ(declared.alloc, roles.as_slice())?
         }
-        Form::Nest(nest, _, _) => declared.nests.contains(*nest),
-        Form::Map(nest, lower, _) => is_mapped(declared, *nest, *lower),
-        Form::MapUndo(nest, _) => has_undo(declared, *nest),
-        Form::MapFailure(nest, _) => has_failure(declared, *nest),
+        Form::Nest(nest, _, _) => declared.action.nests.contains(*nest),
+        Form::Map(nest, lower, _) => {
+            let lower = exception_in(declared, face_of(declared, *nest), *lower);
+            is_mapped(declared, *nest, Outcome::Exception(lower))
+        }
+        Form::MapUndo(nest, _) => is_mapped(declared, *nest, Outcome::Undo),
+        Form::MapFailure(nest, _) => is_mapped(declared, *nest, Outcome::Failure),
         Form::Abort(role, _) | Form::AbortTest(role, _, _, _) => has_abort(declared, *role),
-        Form::Body(role) => declared.bodies.contains(declared.roles.find(*role)),
+        Form::Body(role) => declared
+            .action
+            .bodies
+            .contains(&declared.action.roles.find(*role)),
         Form::Handler(role, exception) => has_handler(declared, *role, *exception),
         _ => false,
     };
@@ -224,11 +216,7 @@ fn is_filled_by(declared: &Declared, action: u32, count: usize) -> bool
 fn count_fillings(declared: &Declared, nest: u32) -> usize
     ensures { result ≡ length (nest_of (so_far declared.now) nest).roles }
 {
-    match declared
-        .nest_rows
-        .as_slice()
-        .get(declared.nests.find(nest) as usize)
-    {
+    match nest_row(declared, nest) {
         Some(row) => row.roles.len(),
         None => 0,
     }
@@ -254,7 +242,7 @@ pub(crate) fn is_unfilled(declared: &Declared, form: &Form) -> bool
         Form::Alternate(nest, action) => {
             !is_filled_by(declared, *action, count_fillings(declared, *nest))
         }
-        Form::End => is_in_action(declared.block) && declared.roles.is_empty(),
+        Form::End => is_in_action(declared.block) && declared.action.roles.is_empty(),
         _ => false,
     }
 }
@@ -264,8 +252,8 @@ pub(crate) fn fills_twice(alloc: Global, form: &Form) -> Result<bool, AllocError
     ensures { IfOk result (λ yes. yes ≡ fills_twice form.now) }
 {
     match form {
-        Form::Play(_, who) => has_twice(alloc, who.as_slice()),
-        Form::Nest(_, _, roles) => has_twice(alloc, roles.as_slice()),
+        Form::Play(_, who) => Ok(!all_differ(alloc, who.as_slice())?),
+        Form::Nest(_, _, roles) => Ok(!all_differ(alloc, roles.as_slice())?),
         _ => Ok(false),
     }
 }
@@ -277,7 +265,7 @@ pub(crate) fn enters_otherwise(declared: &Declared, form: &Form) -> bool
     match form {
         Form::End => {
             is_in_action(declared.block)
-                && !roles_enter(&declared.nest_rows, declared.role_rows.as_slice())
+                && !roles_enter(&declared.action.nest_rows, &declared.action.role_rows)
         }
         _ => false,
     }
@@ -289,7 +277,7 @@ pub(crate) fn enters_otherwise(declared: &Declared, form: &Form) -> bool
 fn holds(declared: &Declared, object: u32) -> bool
     ensures { result ≡ holds (so_far declared.now) object }
 {
-    declared.uses.contains(declared.objects.find(object))
+    declared.action.uses.contains(declared.objects.find(object))
 }
 
 /// Whether the action uses all objects of another one.
@@ -301,7 +289,7 @@ fn holds_all(declared: &Declared, action: u32) -> bool
         .as_slice()
         .get(declared.action_names.find(action) as usize)
     {
-        Some(row) => declared.uses.has_all(&row.objects),
+        Some(row) => declared.action.uses.has_all(&row.objects),
         None => true,
     }
 }
@@ -358,11 +346,7 @@ pub(crate) fn bound_with(declared: &Declared, action: u32) -> u64
 fn count_alternates(declared: &Declared, nest: u32) -> usize
     ensures { result ≡ length (nest_of (so_far declared.now) nest).actions }
 {
-    match declared
-        .nest_rows
-        .as_slice()
-        .get(declared.nests.find(nest) as usize)
-    {
+    match nest_row(declared, nest) {
         Some(row) => row.actions.len(),
         None => 0,
     }
@@ -370,9 +354,9 @@ fn count_alternates(declared: &Declared, nest: u32) -> usize
 
 /// Whether a body or handler has as many steps as it may have.
 fn is_full(declared: &Declared) -> bool
-    ensures { result ≡ nat_le most_steps (length (so_far declared.now).steps) }
+    ensures { result ≡ nat_le most_steps (length (so_far declared.now).action.steps) }
 {
-    declared.steps.len() >= MOST_STEPS
+    declared.action.steps.len() >= MOST_STEPS
 }
 
 /// Whether the line passes a limit.
@@ -383,13 +367,13 @@ pub(crate) fn is_past_limit(declared: &Declared, form: &Form) -> bool
         Form::Participant(_) => declared.participants.len() as usize >= MOST_PARTICIPANTS,
         Form::Object(_, _) => declared.objects.len() as usize >= MOST_OBJECTS,
         Form::Drill(_, _) => declared.drills.len() >= MOST_DRILLS,
-        Form::Watch(_) => declared.watches.len() as usize >= MOST_WATCHES,
+        Form::Watch(_) => declared.watches.len() >= MOST_WATCHES,
         Form::Graph(_) => declared.graph_names.len() as usize >= MOST_GRAPHS,
         Form::Action(_) => declared.action_names.len() as usize >= MOST_ACTIONS,
         Form::Play(action, _) => places_with(declared, *action) > MOST_PLACES as u64,
-        Form::Exception(_) => declared.exceptions.len() as usize >= MOST_EXCEPTIONS,
+        Form::Exception(_) => declared.graph.exceptions.len() as usize >= MOST_EXCEPTIONS,
         Form::Roles(roles) => roles.len() > MOST_ROLES,
-        Form::Nest(_, _, _) => declared.nests.len() as usize >= MOST_NESTS,
+        Form::Nest(_, _, _) => declared.action.nests.len() as usize >= MOST_NESTS,
         Form::Alternate(nest, _) => count_alternates(declared, *nest) >= MOST_ALTERNATES,
         Form::ReadStep(_)
         | Form::PutStep(_, _)

@@ -1,20 +1,18 @@
-ghost use Rattle.std.specs.Prelude.{◌≡◌, ◌≢◌, ◌<◌, ◌^◌, false, length, [], Some, None, OnOk, IfOk, IfErr, IfSome, MatchOption};
+ghost use Rattle.std.specs.Prelude.{◌≡◌, ◌≢◌, length, OnOk, IfOk, IfErr};
 ghost use Rattle.place_plan.specs.Plans.Unfolding.{plan_of};
 ghost use Rattle.script_checker.specs.DeclaredSoFar.{nothing_yet};
-ghost use Rattle.script_checker.specs.Causes.{HasCause, ends_graph};
-ghost use Rattle.script_checker.specs.Numbers.{chosen_from};
-ghost use Rattle.script_checker.specs.After.{after, is_use, with_said};
-ghost use Rattle.script_checker.specs.Chosen.{name_cause, size_cause, part_cause};
-ghost use Rattle.script_checker.specs.Graphs.{Ends};
+ghost use Rattle.script_checker.specs.Causes.{ends_graph};
+ghost use Rattle.script_checker.specs.After.{after, with_said};
+ghost use Rattle.script_checker.specs.inner.Chosen.{name_cause, size_cause, part_cause};
+ghost use Rattle.script_checker.specs.inner.Graphs.{Ends};
 ghost use Rattle.script_checker.specs.Compiled.{IsLeast, HasNone, IsLeastCause, IsAccepted, AreRowsOf, IsDeclared, IsDraftOf, BreaksNoRule, IsFirstRefused, IsAnswer};
 ghost use Rattle.script_checker.specs.PlanSizes.{counts_so_far, HasCounts};
 ghost use Rattle.script_checker.specs.PlaySizes.{CountsUnfolding};
-ghost use Rattle.script_checker.specs.PlaysAgain.{is_same_play, IsJustTaken, StandsAgain};
-ghost use Rattle.script_checker.specs.Rows.{AddsRow, parted};
-ghost use Rattle.script_checker.specs.View.{so_far};
+ghost use Rattle.script_checker.specs.inner.Rows.{AddsRow, parted};
+ghost use Rattle.script_checker.specs.inner.View.{so_far};
 ghost use Rattle.script_checker.specs.declared.check_error.CheckCause.TheVariants as cause;
 
-use crate::adding::{add, add_again, settle};
+use crate::adding::{add, settle};
 use crate::causes::{
     enters_otherwise, fills_twice, has_other_face, is_not_held, is_past_bound, is_past_limit,
     is_too_deep, is_twice, is_unfilled, is_unknown,
@@ -22,7 +20,6 @@ use crate::causes::{
 use crate::check_error::{CheckCause, CheckError};
 use crate::declared::Declared;
 use crate::graphs::{graph_of, row_of};
-use crate::lookups::{are_among, places_once};
 use crate::plan_counts::PlanCounts;
 use action_script::forms::form::Form;
 use action_script::forms::script::Script;
@@ -32,8 +29,7 @@ use caa_base::written::rows::Rows;
 use exception_graph::Graph;
 use place_plan::drafts::draft::Draft;
 use place_plan::drafts::draft_rows::GraphRow;
-use place_plan::drafts::object_list::ObjectList;
-use place_plan::plans::plan::{Plan, PlanError};
+use place_plan::plans::plan::Plan;
 use std::alloc::{AllocError, Global};
 
 /// The first cause of a line that its names alone tell.
@@ -112,56 +108,26 @@ fn add_row(
     declared: &Declared,
     graph: Graph,
 ) -> Result<(), OutOfMemory>
-    ensures { OnOk result (AddsRow names.now declared.now.exceptions graph rows.old.items rows.new.items) }
+    ensures { OnOk result (AddsRow names.now declared.now.graph.exceptions graph rows.old.items rows.new.items) }
 {
-    let row = row_of(declared.alloc, names, declared.exceptions.items(), graph)?;
+    let row = row_of(
+        declared.alloc,
+        names,
+        declared.graph.exceptions.items(),
+        graph,
+    )?;
     rows.push(row)?;
     Ok(())
 }
 
-/// The cause of a `use` line that has one.
-fn cause_of_uses(declared: &Declared, objects: &[u32]) -> CheckCause
-    requires { name_cause (so_far declared.now) (Form.Uses objects.now) ≢ None }
-    ensures { name_cause (so_far declared.now) (Form.Uses objects.now) ≡ Some result }
-{
-    if are_among(&declared.objects, objects) {
-        CheckCause::Twice
-    } else {
-        CheckCause::Unknown
-    }
-}
-
-/// The objects that a `use` line without cause says, or the least cause of the line. Each object is looked up once.
-fn uses_of(declared: &Declared, objects: &[u32]) -> Result<ObjectList, CheckCause>
-    ensures uses { IfOk result (λ uses. uses ≡ chosen_from 0 objects.now (so_far declared.now).objects) }
-    ensures accepted { OnOk result (HasNone (so_far declared.now) (Form.Uses objects.now)) }
-    ensures refused { IfErr result (λ c. c ≢ cause.OutOfMemory → IsLeast (so_far declared.now) (Form.Uses objects.now) c) }
-{
-    match places_once(declared.alloc, &declared.objects, objects)? {
-        Some(uses) if declared.uses.is_empty() => Ok(uses),
-        _ => Err(cause_of_uses(declared, objects)),
-    }
-}
-
-/// Takes a `use` line, once a body or handler before it has ended.
-fn take_uses(declared: &mut Declared, objects: &[u32]) -> Result<(), CheckCause>
-    ensures accepted { OnOk result (HasNone (so_far declared.old) (Form.Uses objects.now)) }
-    ensures taken { OnOk result (so_far declared.new ≡ with_said [] (so_far declared.old) (Form.Uses objects.now)) }
-    ensures refused { IfErr result (λ c. c ≢ cause.OutOfMemory → IsLeast (so_far declared.old) (Form.Uses objects.now) c) }
-{
-    declared.uses = uses_of(declared, objects)?;
-    Ok(())
-}
-
-/// Takes a line that isn't a `use` line, once a body or handler before it has ended.
-fn take_other(
+/// Takes a line, once a body or handler before it has ended.
+fn take_settled(
     declared: &mut Declared,
     rows: &mut Vec<GraphRow>,
     names: &[Name],
     form: &Form,
 ) -> Result<(), CheckCause>
-    requires other { is_use form.now ≡ false }
-    requires rows { AreRowsOf names.now (so_far declared.old).graphs rows.old.items }
+    requires { AreRowsOf names.now (so_far declared.old).graphs rows.old.items }
     ensures accepted { OnOk result (HasNone (so_far declared.old) form.now) }
     ensures taken { OnOk result (so_far declared.new ≡ with_said names.now (so_far declared.old) form.now) }
     ensures rows { OnOk result (AreRowsOf names.now (so_far declared.new).graphs rows.new.items) }
@@ -190,59 +156,7 @@ fn take(
     ensures refused { IfErr result (λ c. c ≢ cause.OutOfMemory → IsLeastCause (so_far declared.old) form.now c) }
 {
     settle(declared, form)?;
-    match form {
-        Form::Uses(objects) => take_uses(declared, objects.as_slice()),
-        _ => take_other(declared, rows, names, form),
-    }
-}
-
-/// Whether two lines are the same play.
-fn is_same_play(line: &Form, next: &Form) -> bool
-    ensures { result ≡ is_same_play line.now next.now }
-{
-    match (line, next) {
-        (Form::Play(action, who), Form::Play(again, others)) => {
-            *action == *again && who.as_slice() == others.as_slice()
-        }
-        _ => false,
-    }
-}
-
-/// Takes a play that stands again. What its names and roles tell was told of the line before, so only its sizes are asked.
-fn take_again(declared: &mut Declared, form: &Form) -> Result<(), CheckCause>
-    requires { StandsAgain (so_far declared.old) form.now }
-    ensures accepted { OnOk result (HasNone (so_far declared.old) form.now) }
-    ensures taken { OnOk result (so_far declared.new ≡ with_said [] (so_far declared.old) form.now) }
-    ensures refused { IfErr result (λ c. c ≢ cause.OutOfMemory → IsLeast (so_far declared.old) form.now c) }
-{
-    match size_cause(declared, form) {
-        Some(cause) => Err(cause),
-        None => {
-            add_again(declared, form)?;
-            Ok(())
-        }
-    }
-}
-
-/// Takes a line into what is declared, as `take` does; the line before it, if there is one, was just taken.
-fn take_next(
-    declared: &mut Declared,
-    rows: &mut Vec<GraphRow>,
-    names: &[Name],
-    before: Option<&Form>,
-    form: &Form,
-) -> Result<(), CheckCause>
-    requires rows { AreRowsOf names.now (so_far declared.old).graphs rows.old.items }
-    requires before { IfSome before (λ line. IsJustTaken names.now (so_far declared.old) line.now) }
-    ensures accepted { OnOk result (IsAccepted (so_far declared.old) form.now) }
-    ensures taken { OnOk result (so_far declared.new ≡ after names.now (so_far declared.old) form.now) }
-    ensures rows { OnOk result (AreRowsOf names.now (so_far declared.new).graphs rows.new.items) }
-    ensures refused { IfErr result (λ c. c ≢ cause.OutOfMemory → IsLeastCause (so_far declared.old) form.now c) }
-{
-    match before {
-        Some(line) if is_same_play(line, form) => take_again(declared, form),
-        _ => take(declared, rows, names, form),
-    }
+    take_settled(declared, rows, names, form)
 }
 
 /// The draft of what a script declares.
@@ -256,7 +170,7 @@ fn draft_of(declared: Declared, rows: Vec<GraphRow>) -> Draft
         actions: Rows::from_vec(declared.actions),
         plays: Rows::from_vec(declared.plays),
         drills: Rows::from_vec(declared.drills.into_vec()),
-        watches: Rows::from_vec(declared.watches.into_items()),
+        watches: Rows::from_vec(declared.watches),
     }
 }
 
@@ -307,16 +221,12 @@ fn declare(alloc: Global, script: &Script) -> Result<(Declared, Vec<GraphRow>), 
     let Ok(mut rows) = plain_rows(alloc, names) else {
         return Err(wanting());
     };
-    let mut before: Option<&Form> = None;
     for line in script.lines() {
-        match take_next(&mut declared, &mut rows, names, before, &line.form) {
-            Ok(()) => before = Some(&line.form),
-            Err(cause) => {
-                return Err(CheckError {
-                    line: line.number,
-                    cause,
-                });
-            }
+        if let Err(cause) = take(&mut declared, &mut rows, names, &line.form) {
+            return Err(CheckError {
+                line: line.number,
+                cause,
+            });
         }
     }
     Ok((declared, rows))
@@ -360,10 +270,9 @@ pub fn compile(alloc: Global, script: &Script) -> Result<Plan, CheckError>
         Ok(made) => made,
         Err(error) => return Err(error),
     };
-    match Plan::close(alloc, draft_of(declared, rows)) {
+    match Plan::of_sound(alloc, draft_of(declared, rows)) {
         Ok(plan) => Ok(plan),
-        Err(PlanError::OutOfMemory) => Err(wanting()),
-        Err(PlanError::BadPart { rule: _ }) => unreachable!(),
+        Err(OutOfMemory) => Err(wanting()),
     }
 }
 

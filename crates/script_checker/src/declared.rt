@@ -1,19 +1,16 @@
-ghost use Rattle.std.specs.Prelude.{◌≡◌, ◌≤◌, ◌<◌, true, false, length, All, IfOk};
-ghost use Rattle.caa_base.specs.Written.Limits.{most_roles};
-ghost use Rattle.cover_table.specs.Cover.{most_exceptions};
+ghost use Rattle.std.specs.Prelude.{◌≡◌, ◌<◌, true, length, IfOk};
 ghost use Rattle.script_checker.specs.Blocks.{is_in_graph};
-ghost use Rattle.script_checker.specs.Numbers.{has_twice};
 ghost use Rattle.script_checker.specs.DeclaredSoFar.{plain_graph};
 
 use crate::drill_list::DrillList;
 use crate::number_list::NumberList;
-use crate::parts::{Block, DeclaredGraph, NestSaid, Opening};
-use crate::role_list::RoleList;
+use crate::open_action::OpenAction;
+use crate::open_graph::OpenGraph;
+use crate::parts::{Block, DeclaredGraph};
 use action_script::forms::script::Script;
 use caa_base::written::name::Name;
 use caa_base::written::rows::Rows;
-use place_plan::drafts::draft_rows::{ActionRow, NestRow, ObjectRow, PlayRow, Step};
-use place_plan::drafts::object_list::ObjectList;
+use place_plan::drafts::draft_rows::{ActionRow, ObjectRow, PlayRow};
 use std::alloc::{AllocError, Global};
 
 /// What the lines of a script have declared so far, by the numbers of names.
@@ -42,35 +39,13 @@ pub struct Declared {
     pub all_places: u64,
     pub whole_bound: u64,
     pub drills: DrillList,
-    pub watches: NumberList,
+    pub watches: Vec<u32>,
     pub block: Block,
-    /// The exceptions of the graph that is being declared.
-    pub exceptions: NumberList,
-    /// The pairs that it declares.
-    pub pairs: Vec<(u32, u32)>,
-    /// The name of the action that is being declared.
-    pub action_name: u32,
-    pub internal: Option<u32>,
-    pub interface: Option<u32>,
-    pub fault: Option<u32>,
-    pub uses: ObjectList,
-    pub roles: NumberList,
-    pub role_rows: RoleList,
-    /// Those of its roles that have a body.
-    pub bodies: NumberList,
-    pub nests: NumberList,
-    pub nest_rows: Vec<NestRow>,
-    /// What was said of each of these.
-    pub nests_said: Vec<NestSaid>,
-    /// The body or handler that is being declared.
-    pub opening: Option<Opening>,
-    /// Its steps.
-    pub steps: Vec<Step>,
-    ghost objects_differ: { has_twice objects ≡ false },
-    ghost few_roles: { length role_rows ≤ most_roles },
-    ghost few_exceptions: { length exceptions ≤ most_exceptions },
-    ghost some_exceptions: { is_in_graph block ≡ true → 0 < length exceptions },
-    ghost pairs_known: { All (λ p. (p.0 < length exceptions) × (p.1 < length exceptions)) pairs.items },
+    /// The graph that is being declared; in none, it is empty.
+    pub graph: OpenGraph,
+    /// The action that is being declared; outside actions, nothing is said of it.
+    pub action: OpenAction,
+    ghost some_exceptions: { is_in_graph block ≡ true → 0 < length graph.exceptions },
 }
 
 /// The graph of an action that names none: `universal`, and nothing below it.
@@ -88,7 +63,7 @@ fn plain_graph(alloc: Global, universal: u32) -> Result<DeclaredGraph, AllocErro
 impl Declared {
     ghost use Rattle.std.specs.Prelude.{◌≡◌, IfOk};
     ghost use Rattle.script_checker.specs.DeclaredSoFar.{nothing_yet};
-    ghost use Rattle.script_checker.specs.View.{so_far};
+    ghost use Rattle.script_checker.specs.inner.View.{so_far};
 
     /// What is declared before the first line of a script.
     pub fn new(alloc: Global, script: &Script) -> Result<Declared, AllocError>
@@ -114,23 +89,10 @@ impl Declared {
             all_places: 0,
             whole_bound: 0,
             drills: DrillList::new(alloc),
-            watches: NumberList::new(alloc),
+            watches: Vec::new(alloc),
             block: Block::Top,
-            exceptions: NumberList::new(alloc),
-            pairs: Vec::new(alloc),
-            action_name: 0,
-            internal: None,
-            interface: None,
-            fault: None,
-            uses: ObjectList::new(alloc),
-            roles: NumberList::new(alloc),
-            role_rows: RoleList::new(alloc),
-            bodies: NumberList::new(alloc),
-            nests: NumberList::new(alloc),
-            nest_rows: Vec::new(alloc),
-            nests_said: Vec::new(alloc),
-            opening: None,
-            steps: Vec::new(alloc),
+            graph: OpenGraph::new(alloc),
+            action: OpenAction::new(alloc, 0),
         })
     }
 }

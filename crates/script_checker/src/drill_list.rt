@@ -20,7 +20,7 @@ pub struct DrillList {
 impl Model for DrillList {
     ghost use Rattle.std.specs.Prelude.{List};
     ghost use Rattle.caa_base.specs.declared.written.entry.Drill.{Drill};
-    ghost use Rattle.script_checker.specs.DrillTable.{HasPutsOf};
+    ghost use Rattle.script_checker.specs.inner.DrillTable.{HasPutsOf};
 
     ghost Value = { List Drill };
 

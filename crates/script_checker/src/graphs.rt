@@ -5,8 +5,8 @@ ghost use Rattle.cover_table.specs.Cover.{IsSound};
 ghost use Rattle.script_checker.specs.Blocks.{is_in_graph};
 ghost use Rattle.script_checker.specs.Causes.{ends_graph};
 ghost use Rattle.script_checker.specs.Compiled.{exception_name};
-ghost use Rattle.script_checker.specs.Graphs.{IsGraphRefusal, IsOrdered, Ends};
-ghost use Rattle.script_checker.specs.View.{so_far};
+ghost use Rattle.script_checker.specs.inner.Graphs.{IsGraphRefusal, IsOrdered, Ends};
+ghost use Rattle.script_checker.specs.inner.View.{so_far};
 
 use crate::check_error::CheckCause;
 use crate::declared::Declared;
@@ -32,10 +32,14 @@ fn ends_graph(declared: &Declared, form: &Form) -> bool
 /// The graph that is being declared, or why it is refused.
 fn declared_graph(declared: &Declared) -> Result<Graph, CheckCause>
     requires { is_in_graph declared.now.block ≡ true }
-    ensures graph { IfOk result (IsOrdered (length declared.now.exceptions) declared.now.pairs.items) }
-    ensures refused { IfErr result (IsGraphRefusal (length declared.now.exceptions) declared.now.pairs.items) }
+    ensures graph { IfOk result (IsOrdered (length declared.now.graph.exceptions) declared.now.graph.pairs.items) }
+    ensures refused { IfErr result (IsGraphRefusal (length declared.now.graph.exceptions) declared.now.graph.pairs.items) }
 {
-    match Graph::build(declared.alloc, declared.exceptions.len(), &declared.pairs) {
+    match Graph::build(
+        declared.alloc,
+        declared.graph.exceptions.len(),
+        &declared.graph.pairs,
+    ) {
         Ok(graph) => {
             graph.is_sound();
             Ok(graph)
@@ -51,7 +55,7 @@ fn declared_graph(declared: &Declared) -> Result<Graph, CheckCause>
 pub(crate) fn graph_of(declared: &Declared, form: &Form) -> Result<Option<Graph>, CheckCause>
     ensures graph { IfOk result (Ends (so_far declared.now) form.now) }
     ensures ends { IfErr result (λ c. ends_graph (so_far declared.now) form.now ≡ true) }
-    ensures refused { IfErr result (IsGraphRefusal (length declared.now.exceptions) declared.now.pairs.items) }
+    ensures refused { IfErr result (IsGraphRefusal (length declared.now.graph.exceptions) declared.now.graph.pairs.items) }
 {
     if !ends_graph(declared, form) {
         return Ok(None);

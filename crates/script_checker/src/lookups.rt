@@ -1,21 +1,32 @@
 //! What the names of a line mean where it stands.
 
-ghost use Rattle.std.specs.Prelude.{◌≡◌, ◌==◌, ◌≤◌, true, false, not, length, map, replicate, slice_index_or, slice_set, IfOk};
+ghost use Rattle.std.specs.Prelude.{◌≡◌, ◌≤◌, length, map, slice_index_or, IfOk, IfSome, IfNone};
 ghost use Rattle.std.specs.List.{list_all};
 ghost use Rattle.caa_base.specs.Written.Lists.{index_of};
-ghost use Rattle.place_plan.specs.Plans.Places.{no_action};
-ghost use Rattle.script_checker.specs.Numbers.{is_among, most_names, has_twice, are_once_among, places_once, set_from, flags_of};
-ghost use Rattle.script_checker.specs.DeclaredSoFar.{exceptions_at, inner, outer, nest_of, face_of};
-ghost use Rattle.script_checker.specs.View.{so_far};
+ghost use Rattle.caa_base.specs.Written.Names.{name_at};
+ghost use Rattle.place_plan.specs.Drafts.DraftRules.{all_differ};
+ghost use Rattle.place_plan.specs.Plans.Places.{no_action, no_nest, no_role};
+ghost use Rattle.script_checker.specs.Numbers.{is_among, most_names, chosen_from};
+ghost use Rattle.script_checker.specs.DeclaredSoFar.{exceptions_at, inner, outer, nest_of, role_of, face_of};
+ghost use Rattle.script_checker.specs.inner.View.{so_far};
 
 use crate::declared::Declared;
 use crate::number_list::NumberList;
-use place_plan::drafts::differing::all_differ;
-use place_plan::drafts::object_list::ObjectList;
+use caa_base::written::entry::OutOfMemory;
+use caa_base::written::name::{Name, name_at};
+use place_plan::drafts::differing;
+use place_plan::drafts::draft_rows::{NestRow, RoleRow};
 use std::alloc::{AllocError, Global};
 
 /// So many numbers are told apart without a table, which takes less time.
 const FEW_NUMBERS: usize = 16;
+
+/// The name of this number, as a name of its own.
+pub(crate) fn name_row(alloc: Global, names: &[Name], number: u32) -> Result<Name, OutOfMemory>
+    ensures { IfOk result (λ name. name ≡ name_at names.now number) }
+{
+    Name::from_bytes(alloc, name_at(names, number))
+}
 
 /// Whether each of some names is among those.
 pub(crate) fn are_among(names: &NumberList, some: &[u32]) -> bool
@@ -24,23 +35,22 @@ pub(crate) fn are_among(names: &NumberList, some: &[u32]) -> bool
     some.iter().all(|name| names.contains(*name))
 }
 
-/// Whether a number stands twice in a list.
-///
-/// It goes over the numbers of a long list once, from the last one back, with a table of those that it has met.
-pub(crate) fn has_twice(alloc: Global, list: &[u32]) -> Result<bool, AllocError>
-    ensures { IfOk result (λ yes. yes ≡ has_twice list.now) }
+/// Whether no number stands twice in a list. A long one is gone over once, with a table of those that were met.
+#[tactic(auto, using(crate::proofs::NumberTables::next_again, crate::proofs::NumberTables::next_differs, crate::proofs::NumberTables::all_gone_over))]
+pub(crate) fn all_differ(alloc: Global, list: &[u32]) -> Result<bool, AllocError>
+    ensures { IfOk result (λ yes. yes ≡ all_differ list.now) }
 {
     if list.len() <= FEW_NUMBERS {
-        return Ok(!all_differ(list));
+        return Ok(differing::all_differ(list));
     }
     let mut met = NumberList::new(alloc);
-    for index in (0..list.len()).rev() {
-        if met.contains(list[index]) {
-            return Ok(true);
+    for number in list {
+        if met.contains(*number) {
+            return Ok(false);
         }
-        met.push(list[index])?;
+        met.push(*number)?;
     }
-    Ok(false)
+    Ok(true)
 }
 
 /// The numbers of some names among those.
@@ -54,78 +64,22 @@ pub(crate) fn places_of(
     some.iter().map(|name| names.find(*name)).collect(alloc)
 }
 
-/// So many flags, none of which is set.
-fn clear_flags(alloc: Global, count: u32) -> Result<Vec<bool>, AllocError>
-    ensures { IfOk result (λ flags. flags.items ≡ replicate count false) }
-{
-    vec![in alloc; false; count as usize]
-}
-
-/// Sets a flag, and tells whether it wasn't set yet. There may be no such flag, and then nothing is set.
-#[tactic(auto, using(std::proofs::lemmas::List::set_past))]
-fn set_flag(flags: &mut Vec<bool>, place: usize) -> bool
-    ensures set { flags.new.items ≡ slice_set flags.old.items place true }
-    ensures fresh { result ≡ not (slice_index_or flags.old.items place true) }
-{
-    if place >= flags.len() {
-        return false;
-    }
-    let is_fresh = !flags[place];
-    flags[place] = true;
-    is_fresh
-}
-
-/// For each of these names, whether it is one of some; and how many flags were set. That is as many as there are of some where all
-/// of these are among the names and none of them stands twice, and only there.
-fn flags_of(
+/// The numbers of those names that are among some, in the order of the names.
+pub(crate) fn chosen_from(
     alloc: Global,
-    names: &NumberList,
-    some: &[u32],
-) -> Result<(Vec<bool>, usize), AllocError>
-    requires apart { has_twice names.now ≡ false }
-    ensures flags { IfOk result (λ made. made.0.items ≡ flags_of some.now names.now) }
-    ensures small { IfOk result (λ made. length made.0.items ≤ most_names) }
-    ensures count { IfOk result (λ made. (made.1 == length some.now) ≡ are_once_among names.now some.now) }
+    some: &NumberList,
+    names: &[u32],
+) -> Result<Vec<u32>, AllocError>
+    requires { length names.now ≤ most_names }
+    ensures { IfOk result (λ chosen. chosen.items ≡ chosen_from 0 some.now names.now) }
 {
-    let mut flags = clear_flags(alloc, names.len())?;
-    let mut count = 0;
-    for name in some {
-        if set_flag(&mut flags, names.find(*name) as usize) {
-            count += 1;
+    let mut chosen = Vec::new(alloc);
+    for (place, name) in names.iter().enumerate() {
+        if some.contains(*name) {
+            chosen.push(place as u32)?;
         }
     }
-    Ok((flags, count))
-}
-
-/// The places of the flags that are set, in order. The room for so many places is taken at once.
-fn set_places(alloc: Global, flags: &[bool], count: usize) -> Result<Vec<u32>, AllocError>
-    requires { length flags.now ≤ most_names }
-    ensures { IfOk result (λ places. places.items ≡ set_from 0 flags.now) }
-{
-    let mut places = Vec::with_capacity(alloc, count)?;
-    for (place, flag) in flags.iter().enumerate() {
-        if *flag {
-            places.push(place as u32)?;
-        }
-    }
-    Ok(places)
-}
-
-/// The numbers of some names among those, in rising order, where all of them are there and none of them stands twice.
-pub(crate) fn places_once(
-    alloc: Global,
-    names: &NumberList,
-    some: &[u32],
-) -> Result<Option<ObjectList>, AllocError>
-    requires apart { has_twice names.now ≡ false }
-    ensures { IfOk result (λ found. found ≡ places_once names.now some.now) }
-{
-    let (flags, count) = flags_of(alloc, names, some)?;
-    if count != some.len() {
-        return Ok(None);
-    }
-    let places = set_places(alloc, &flags, count)?;
-    Ok(Some(ObjectList::from_vec(places)))
+    Ok(chosen)
 }
 
 // ---- exceptions
@@ -164,28 +118,28 @@ pub(crate) fn count_exceptions(declared: &Declared, graph: u32) -> u32
 pub(crate) fn inner_number(declared: &Declared, name: u32) -> u32
     ensures { result ≡ index_of name (inner (so_far declared.now)) }
 {
-    exception_in(declared, declared.internal.unwrap_or(0), name)
+    exception_in(declared, declared.action.internal.unwrap_or(0), name)
 }
 
 /// Whether an exception may be raised in the action.
 pub(crate) fn is_inner(declared: &Declared, name: u32) -> bool
     ensures { result ≡ is_among (inner (so_far declared.now)) name }
 {
-    has_exception(declared, declared.internal.unwrap_or(0), name)
+    has_exception(declared, declared.action.internal.unwrap_or(0), name)
 }
 
 /// The number of an exception that the action may tell outside.
 pub(crate) fn outer_number(declared: &Declared, name: u32) -> u32
     ensures { result ≡ index_of name (outer (so_far declared.now)) }
 {
-    exception_in(declared, declared.interface.unwrap_or(0), name)
+    exception_in(declared, declared.action.interface.unwrap_or(0), name)
 }
 
 /// Whether the action may tell an exception outside.
 pub(crate) fn is_outer(declared: &Declared, name: u32) -> bool
     ensures { result ≡ is_among (outer (so_far declared.now)) name }
 {
-    has_exception(declared, declared.interface.unwrap_or(0), name)
+    has_exception(declared, declared.action.interface.unwrap_or(0), name)
 }
 
 // ---- actions and nested uses
@@ -220,15 +174,29 @@ fn first_of(actions: &[u32]) -> u32
     }
 }
 
+/// The row of a nested use.
+pub(crate) fn nest_row(declared: &Declared, nest: u32) -> Option<&NestRow>
+    ensures found { IfSome result (λ row. row.now ≡ nest_of (so_far declared.now) nest) }
+    ensures missing { IfNone result (nest_of (so_far declared.now) nest ≡ no_nest) }
+{
+    let number = declared.action.nests.find(nest) as usize;
+    declared.action.nest_rows.as_slice().get(number)
+}
+
+/// The row of a role.
+pub(crate) fn role_row(declared: &Declared, role: u32) -> Option<&RoleRow>
+    ensures found { IfSome result (λ row. row.now ≡ role_of (so_far declared.now) role) }
+    ensures missing { IfNone result (role_of (so_far declared.now) role ≡ no_role) }
+{
+    let number = declared.action.roles.find(role) as usize;
+    declared.action.role_rows.as_slice().get(number)
+}
+
 /// The first action of a nested use.
 fn first_action(declared: &Declared, nest: u32) -> u32
     ensures { result ≡ slice_index_or (nest_of (so_far declared.now) nest).actions 0 0 }
 {
-    match declared
-        .nest_rows
-        .as_slice()
-        .get(declared.nests.find(nest) as usize)
-    {
+    match nest_row(declared, nest) {
         Some(row) => first_of(row.actions.as_slice()),
         None => 0,
     }

@@ -22,6 +22,15 @@ pub struct DeclaredGraph {
     pub pairs: Rows<(u32, u32)>,
 }
 
+/// What may come out of a nested use, to be carried out of it as an exception of the action around it.
+#[derive(Clone, Copy, Debug, PartialEq, Eq)]
+pub enum Outcome {
+    /// An exception, by its number in the graph of those that the use tells outside.
+    Exception(u32),
+    Undo,
+    Failure,
+}
+
 /// What was said of a nested use of the action that is being declared.
 #[derive(Drop)]
 pub struct NestSaid {

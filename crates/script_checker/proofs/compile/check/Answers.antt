@@ -1,5 +1,5 @@
 use Rattle.std.proofs.Common.{sym, ◌∙◌}
-use Rattle.script_checker.specs.View.{so_far}
+use Rattle.script_checker.specs.inner.View.{so_far}
 use Rattle.script_checker.proofs.Choosing.{least_name, none_name, least_part, none_part, least_graph, none_found}
 use Rattle.script_checker.proofs.compile.check.Goals as goal
 

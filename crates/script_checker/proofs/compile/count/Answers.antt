@@ -1,6 +1,6 @@
 use Rattle.std.proofs.Common.{sym, subst}
 use Rattle.script_checker.specs.PlanSizes.{HasCounts}
-use Rattle.script_checker.specs.View.{so_far}
+use Rattle.script_checker.specs.inner.View.{so_far}
 use Rattle.script_checker.proofs.Unbroken.{plan_counted}
 use Rattle.script_checker.proofs.compile.count.Goals as goal
 

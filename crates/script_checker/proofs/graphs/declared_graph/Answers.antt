@@ -5,11 +5,11 @@ use Rattle.script_checker.proofs.graphs.declared_graph.Goals as goal
 pub unreachable-requires : goal.unreachable-requires
 unreachable-requires c =
     let h = (c.in-Err-TooMany.ensures.too_many c.in-Err-TooMany.field-0-0).0 (ap Err c.in-Err-TooMany.field-0-is) in
-    omega (arith, h.0, c.args.declared.now.few_exceptions, c.len.ensures.count)
+    omega (arith, h.0, c.args.declared.now.graph.few_exceptions, c.len.ensures.count)
 
 pub returns-in-Ok-clause-graph : goal.returns-in-Ok-clause-graph
 returns-in-Ok-clause-graph c =
-    let few : c.len.result ≤ most_exceptions = omega (arith, c.args.declared.now.few_exceptions, c.len.ensures.count) in
+    let few : c.len.result ≤ most_exceptions = omega (arith, c.args.declared.now.graph.few_exceptions, c.len.ensures.count) in
     rw (← c.len.ensures.count, ← c.deref.ensures.value)
     (record {
       order = c.in-Ok.ensures.built;
