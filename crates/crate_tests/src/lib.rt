@@ -4,6 +4,8 @@
 #[cfg(test)]
 mod base;
 #[cfg(test)]
+mod checks;
+#[cfg(test)]
 mod covers;
 #[cfg(test)]
 mod drafts;

@@ -275,6 +275,3 @@ pub fn compile(alloc: Global, script: &Script) -> Result<Plan, CheckError>
         Err(OutOfMemory) => Err(wanting()),
     }
 }
-
-#[cfg(test)]
-mod tests;

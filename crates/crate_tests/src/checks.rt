@@ -1,5 +1,8 @@
-use super::*;
 use action_script::lines::reader::read;
+use place_plan::plans::plan::Plan;
+use script_checker::check_error::{CheckCause, CheckError};
+use script_checker::compile::compile;
+use std::alloc::Global;
 use std::test::Fail;
 
 /// What a script comes to.
