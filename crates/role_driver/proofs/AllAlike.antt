@@ -13,6 +13,5 @@ alike (suc n) w (y ∷ ys) x is =
     (cc (first, rest.0), rest.1)
 
 -- where all are alike, the last is as they are, and so are those before it
-pub last_alike : {X : Type 0} (n : ℕ) (w : X) (xs ys : List X) (x : X) (r : Option X) → xs ≡ replicate (suc n) w
-    → xs ≡ ys ++ option_to_list r → r ≡ Some x → (ys ≡ replicate n w) × (x ≡ w)
+pub last_alike : {X : Type 0} (n : ℕ) (w : X) (xs ys : List X) (x : X) (r : Option X) → xs ≡ replicate (suc n) w → xs ≡ ys ++ option_to_list r → r ≡ Some x → (ys ≡ replicate n w) × (x ≡ w)
 last_alike n w xs ys x r all is some = alike n w ys x (ap (λ o. ys ++ option_to_list o) (sym some) ∙ sym is ∙ all)

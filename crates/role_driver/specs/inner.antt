@@ -1,5 +1,4 @@
 -- What the code keeps and finds its answers by: no contract of a public call cites it.
-pub mod Threads
 pub mod Crew
 pub mod CrewRooms
 pub mod Gathering

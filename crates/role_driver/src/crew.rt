@@ -4,7 +4,6 @@ ghost use Rattle.action_manager.specs.Managers.{IsSeatIn};
 ghost use Rattle.action_manager.specs.Seats.{participant_of, IsBeside};
 
 use crate::driving::{drive, step_and_ask};
-use crate::threads::{Started, start};
 use action_manager::{Manager, Seat};
 use caa_base::outside::gate::Gate;
 use caa_base::written::entry::Participant;
@@ -14,7 +13,7 @@ use std::snapshot::Snapshot;
 use std::sync::Wait;
 use std::sync::atomic::{AtomicBool, Ordering};
 use std::thread;
-use std::thread::{Promise, Scope, Threads};
+use std::thread::{Promise, PromisedHandle, Scope, Threads};
 
 /// A seat of this participant comes back, of the manager of the seat that went.
 #[derive(Drop)]
@@ -51,19 +50,16 @@ fn drive_unless<M: Machine, G: Gate, R: Wait>(
     }
 }
 
-/// A thread that drives a seat, or the seat where none could be started.
-pub type Member<M> = Started<Seat<M>, Belongs<M>>;
-
 /// A thread for a seat, or the seat where none can be started.
 #[tactic(auto, using(action_manager::proofs::Beside::beside_opened))]
-fn start_one<'s, E, M: Machine + Send, G: Gate + Sync, R: Threads + Wait + Sync>(
+pub fn start<'s, E, M: Machine + Send, G: Gate + Sync, R: Threads + Wait + Sync>(
     scope: &'s Scope<'s, E>,
     rt: &'s R,
     manager: &'s Manager<M>,
     seat: Seat<M>,
     handed_back: &'s AtomicBool,
     gate: &'s G,
-) -> Member<M>
+) -> Result<PromisedHandle<Seat<M>, Belongs<M>>, Seat<M>>
     requires opened { IsSeatIn M.base_of manager.now seat }
     ensures ok { IfOk result (λ h.
         IsSeatIn M.base_of manager.now h.promise.seat.value × (h.promise.participant ≡ participant_of seat)) }
@@ -73,15 +69,29 @@ fn start_one<'s, E, M: Machine + Send, G: Gate + Sync, R: Threads + Wait + Sync>
         seat: Snapshot::of(&seat),
         participant: seat.participant(),
     };
-    start(
-        scope,
+    match scope.spawn_with(
         promise,
-        handed_back,
         move || -> Seat<M>
             requires { IsSeatIn M.base_of manager.now seat }
             ensures { IsBeside seat result × (participant_of result ≡ participant_of seat) }
         { drive_unless(rt, manager, seat, handed_back, gate) },
-    )
+    ) {
+        Ok(child) => Ok(child),
+        Err(refused) => {
+            handed_back.store(true, Ordering::SeqCst);
+            Err((refused.value)())
+        }
+    }
+}
+
+/// A thread that drives a seat, or the seat where none could be started.
+pub type Member<M> = Result<PromisedHandle<Seat<M>, Belongs<M>>, Seat<M>>;
+
+/// Seats, with room for the members that drive them, and for the seats when they come back.
+pub struct Crew<M> {
+    pub seats: Vec<Seat<M>>,
+    pub members: Vec<Member<M>>,
+    pub back: Vec<Seat<M>>,
 }
 
 /// Starts a thread for each seat.
@@ -102,7 +112,7 @@ pub fn start_all<'s, E, M: Machine + Send, G: Gate + Sync, R: Threads + Wait + S
 {
     for seat in seats {
         let flag = &handed_back[crew.len()];
-        crew.push_reserved(start_one(scope, rt, manager, seat, flag, gate));
+        crew.push_reserved(start(scope, rt, manager, seat, flag, gate));
     }
     crew
 }
@@ -189,4 +199,41 @@ pub fn drive_handed_back<M: Machine, G: Gate, R: Wait>(
         thread::yield_now();
     }
     unreachable!()
+}
+
+/// The seat of a member, once its thread has ended.
+#[tactic(auto, using(action_manager::proofs::Beside::beside_opened))]
+fn join_one<M: Machine, G: Gate, R: Threads + Wait>(
+    rt: &R,
+    manager: &Manager<M>,
+    member: Member<M>,
+    gate: &G,
+) -> Seat<M>
+    requires member { IsMember M.base_of manager.now (λ h. h.promise.seat.value) member }
+    ensures opened { IsSeatIn M.base_of manager.now result }
+    ensures same { participant_of result ≡ who_of (λ h. h.promise.participant) member }
+{
+    match member {
+        Ok(child) => child.join(rt),
+        Err(seat) => drive(rt, manager, seat, gate),
+    }
+}
+
+/// The seats of all members, in order.
+pub fn join_all<M: Machine, G: Gate, R: Threads + Wait>(
+    rt: &R,
+    manager: &Manager<M>,
+    crew: Vec<Member<M>>,
+    mut seats: Vec<Seat<M>>,
+    gate: &G,
+) -> Vec<Seat<M>>
+    requires room { (seats.items ≡ []) × (vec_capacity seats ≡ length crew.items) }
+    requires crew { All (λ r. IsMember M.base_of manager.now (λ h. h.promise.seat.value) r) crew.items }
+    ensures opened { All (λ s. IsSeatIn M.base_of manager.now s) result.items }
+    ensures order { map participant_of result.items ≡ map (λ r. who_of (λ h. h.promise.participant) r) crew.items }
+{
+    for member in crew {
+        seats.push_reserved(join_one(rt, manager, member, gate));
+    }
+    seats
 }

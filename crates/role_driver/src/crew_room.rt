@@ -1,15 +1,28 @@
-ghost use Rattle.std.specs.Prelude.{IfOk};
+ghost use Rattle.std.specs.Prelude.{◌≡◌, length, IfOk};
 
-use crate::crew::Belongs;
-use crate::threads::ThreadRoom;
+use crate::crew::Member;
 use action_manager::Seat;
 use std::alloc::{AllocError, Global};
+use std::sync::atomic::AtomicBool;
 
 /// All the memory that the drivers of the seats of a machine need.
 #[derive(Drop)]
 pub struct CrewRoom<M> {
-    pub threads: ThreadRoom<Seat<M>, Belongs<M>>,
+    pub members: Vec<Member<M>>,
+    pub back: Vec<Seat<M>>,
     pub driven: Vec<Seat<M>>,
+    pub handed_back: Vec<AtomicBool>,
+}
+
+/// Flags that aren't raised.
+pub fn lowered_flags(alloc: Global, count: usize) -> Result<Vec<AtomicBool>, AllocError>
+    ensures { IfOk result (λ flags. length flags.items ≡ count) }
+{
+    let mut flags = Vec::new(alloc);
+    for _made in 0..count {
+        flags.push(AtomicBool::new(false))?;
+    }
+    Ok(flags)
 }
 
 impl<M> CrewRoom<M> {
@@ -20,8 +33,10 @@ impl<M> CrewRoom<M> {
         ensures { IfOk result (λ r. IsRoomForAll count r) }
     {
         Ok(CrewRoom {
-            threads: ThreadRoom::take(alloc, count)?,
+            members: Vec::with_capacity(alloc, count)?,
+            back: Vec::with_capacity(alloc, count)?,
             driven: Vec::with_capacity(alloc, count)?,
+            handed_back: lowered_flags(alloc, count)?,
         })
     }
 }

@@ -1,12 +1,11 @@
 ghost use Rattle.std.specs.Prelude.{◌≡◌, [], length, map, vec_capacity};
 ghost use Rattle.role_driver.specs.inner.Watching.{task_of, task_at};
 
-use crate::threads::{Started, start};
 use crate::watcher::Watcher;
 use std::snapshot::Snapshot;
 use std::sync::Wait;
-use std::sync::atomic::AtomicBool;
-use std::thread::{Promise, Scope, Threads};
+use std::sync::atomic::{AtomicBool, Ordering};
+use std::thread::{Promise, PromisedHandle, Scope, Threads};
 
 /// The watcher comes back, with the task that it had.
 #[derive(Drop)]
@@ -22,7 +21,14 @@ impl Promise<Watcher> for Returns {
 }
 
 /// A thread that a watcher looks in, or the watcher where none could be started.
-pub type Post = Started<Watcher, Returns>;
+pub type Post = Result<PromisedHandle<Watcher, Returns>, Watcher>;
+
+/// Watchers, with room for their threads, and for them when they come back.
+pub struct Watch {
+    pub watchers: Vec<Watcher>,
+    pub posts: Vec<Post>,
+    pub back: Vec<Watcher>,
+}
 
 /// Starts a thread in which a watcher looks until the flag is raised. Where none can be started, the watcher comes back.
 fn post<'s, E, R: Threads + Wait + Sync>(
@@ -36,14 +42,18 @@ fn post<'s, E, R: Threads + Wait + Sync>(
     let promise = Returns {
         watcher: Snapshot::of(&watcher),
     };
-    start(
-        scope,
+    match scope.spawn_with(
         promise,
-        over,
         move || -> Watcher
             ensures { task_of result ≡ task_of watcher }
         { watcher.watch(rt, over) },
-    )
+    ) {
+        Ok(child) => Ok(child),
+        Err(refused) => {
+            over.store(true, Ordering::SeqCst);
+            Err((refused.value)())
+        }
+    }
 }
 
 /// Starts a thread for each watcher.
@@ -63,4 +73,32 @@ pub fn post_all<'s, E, R: Threads + Wait + Sync>(
         posts.push_reserved(post(scope, rt, watcher, flag));
     }
     posts
+}
+
+/// Raises all flags.
+pub fn raise(flags: &[AtomicBool]) {
+    for flag in flags {
+        flag.store(true, Ordering::SeqCst);
+    }
+}
+
+/// The watcher of a post, once its thread has ended.
+fn call_back<R: Threads>(rt: &R, post: Post) -> Watcher
+    ensures { task_of result ≡ task_at (λ h. h.promise.watcher.value) post }
+{
+    match post {
+        Ok(child) => child.join(rt),
+        Err(watcher) => watcher,
+    }
+}
+
+/// The watchers of all posts, in order.
+pub fn call_all_back<R: Threads>(rt: &R, posts: Vec<Post>, mut back: Vec<Watcher>) -> Vec<Watcher>
+    requires room { (back.items ≡ []) × (vec_capacity back ≡ length posts.items) }
+    ensures { map task_of result.items ≡ map (λ p. task_at (λ h. h.promise.watcher.value) p) posts.items }
+{
+    for post in posts {
+        back.push_reserved(call_back(rt, post));
+    }
+    back
 }

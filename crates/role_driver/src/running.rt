@@ -1,4 +1,4 @@
-ghost use Rattle.std.specs.Prelude.{◌≡◌, ◌*◌, [], length, map, replicate, reverse, suc, All, None, IfSome, IfOk, IfErr};
+ghost use Rattle.std.specs.Prelude.{◌≡◌, ◌*◌, [], length, map, replicate, reverse, suc, All, None, IfSome, IfOk, IfErr, vec_capacity};
 ghost use Rattle.std.specs.List.{range_with_len};
 ghost use mathlib.Core.List.{IsPrefix};
 ghost use Rattle.place_plan.specs.Plans.Closed.{IsClosed};
@@ -10,18 +10,16 @@ ghost use Rattle.action_manager.specs.Publishing.{Publishes};
 ghost use Rattle.action_manager.specs.Managers.{plan_in, handed_in, IsSeatIn};
 ghost use Rattle.action_manager.specs.Seats.{participant_of};
 ghost use Rattle.role_driver.specs.inner.CrewRooms.{IsRoomForAll};
-ghost use Rattle.role_driver.specs.inner.Threads.{HasRoom};
 ghost use Rattle.role_driver.specs.inner.Watching.{task_of};
 ghost use Rattle.role_driver.specs.inner.WatchRooms.{IsRoomFor, observer_of};
 ghost use Rattle.role_driver.specs.inner.Gathering.{task_by};
 
 use crate::all_seats::{close_done, drive_each};
 use crate::assigning::watchers_for;
-use crate::crew::{Belongs, drive_handed_back, start_all};
+use crate::crew::{Crew, drive_handed_back, join_all, start_all};
 use crate::crew_room::CrewRoom;
 use crate::gathering::gather;
-use crate::posts::{Returns, post_all};
-use crate::threads::{Crew, join_all, raise};
+use crate::posts::{Watch, call_all_back, post_all, raise};
 use crate::watch_room::WatchRoom;
 use crate::watcher::Watcher;
 use action_manager::{Closed, Manager, ManagerError, Opened, Seat};
@@ -33,7 +31,7 @@ use std::alloc::Global;
 use std::sync::Wait;
 use std::sync::atomic::AtomicBool;
 use std::thread;
-use std::thread::{Scope, Threads};
+use std::thread::Threads;
 
 /// A machine that was played to its end, and what was seen of the watched objects meanwhile.
 pub struct Finished<M> {
@@ -47,38 +45,60 @@ pub struct RunError<M> {
     pub machine: M,
 }
 
-/// Starts a thread for each watcher and each seat, and joins these once all seats are over; then the watchers may end.
-fn drive_in_scope<'s, E, M: Machine + Send, G: Gate + Sync, R: Threads + Wait + Sync>(
-    scope: &'s Scope<'s, E>,
-    rt: &'s R,
-    manager: &'s Manager<M>,
-    crew: Crew<Seat<M>, Belongs<M>>,
-    handed_back: &'s [AtomicBool],
-    watch: Crew<Watcher, Returns>,
-    over: &'s [AtomicBool],
-    gate: &'s G,
+/// Drives each seat in a thread of its own, and lets the watchers look in theirs until all of these have ended.
+fn drive_in_threads<M: Machine + Send, G: Gate + Sync, R: Threads + Wait + Sync>(
+    rt: &R,
+    manager: &Manager<M>,
+    crew: Crew<M>,
+    handed_back: &[AtomicBool],
+    watch: Watch,
+    over: &[AtomicBool],
+    gate: &G,
 ) -> (Vec<Seat<M>>, Vec<Watcher>)
-    requires crew { HasRoom (length handed_back.now) crew }
-    requires watch { HasRoom (length over.now) watch }
-    requires opened { All (λ s. IsSeatIn M.base_of manager.now s) crew.things.items }
+    requires room { (crew.members.items ≡ []) × (vec_capacity crew.members ≡ length crew.seats.items) × (crew.back.items ≡ [])
+        × (vec_capacity crew.back ≡ length crew.seats.items) }
+    requires flags { length handed_back.now ≡ length crew.seats.items }
+    requires opened { All (λ s. IsSeatIn M.base_of manager.now s) crew.seats.items }
+    requires watch { (watch.posts.items ≡ []) × (vec_capacity watch.posts ≡ length watch.watchers.items) × (watch.back.items ≡ [])
+        × (vec_capacity watch.back ≡ length watch.watchers.items) }
+    requires over { length over.now ≡ length watch.watchers.items }
     ensures opened { All (λ s. IsSeatIn M.base_of manager.now s) result.0.items }
-    ensures order { map participant_of result.0.items ≡ map participant_of crew.things.items }
-    ensures tasks { map task_of result.1.items ≡ map task_of watch.things.items }
+    ensures order { map participant_of result.0.items ≡ map participant_of crew.seats.items }
+    ensures tasks { map task_of result.1.items ≡ map task_of watch.watchers.items }
 {
-    let posts = post_all(scope, rt, watch.things, watch.started, over);
-    let mut members = start_all(
-        scope,
+    let Crew {
+        seats,
+        members,
+        back,
+    } = crew;
+    let Watch {
+        watchers,
+        posts,
+        back: called,
+    } = watch;
+    thread::scope(
+        thread::scope_env(),
         rt,
-        manager,
-        crew.things,
-        crew.started,
-        handed_back,
-        gate,
-    );
-    drive_handed_back(rt, manager, &mut members, gate);
-    let seats = join_all(rt, members, crew.back);
-    raise(over);
-    (seats, join_all(rt, posts, watch.back))
+        |scope| -> (Vec<Seat<M>>, Vec<Watcher>)
+            requires room { (members.items ≡ []) × (vec_capacity members ≡ length seats.items) × (back.items ≡ [])
+                × (vec_capacity back ≡ length seats.items) }
+            requires flags { length handed_back.now ≡ length seats.items }
+            requires opened { All (λ s. IsSeatIn M.base_of manager.now s) seats.items }
+            requires watch { (posts.items ≡ []) × (vec_capacity posts ≡ length watchers.items) × (called.items ≡ [])
+                × (vec_capacity called ≡ length watchers.items) }
+            requires over { length over.now ≡ length watchers.items }
+            ensures opened { All (λ s. IsSeatIn M.base_of manager.entry.now s) result.0.items }
+            ensures order { map participant_of result.0.items ≡ map participant_of seats.items }
+            ensures tasks { map task_of result.1.items ≡ map task_of watchers.items }
+        {
+            let posts = post_all(scope, rt, watchers, posts, over);
+            let mut members = start_all(scope, rt, manager, seats, members, handed_back, gate);
+            drive_handed_back(rt, manager, &mut members, gate);
+            let seats = join_all(rt, manager, members, back, gate);
+            raise(over);
+            (seats, call_all_back(rt, posts, called))
+        },
+    )
 }
 
 /// What all watchers saw, unless the writer is stale.
@@ -133,22 +153,24 @@ fn play_opened<M: Machine + Send, G: Gate + Sync, R: Threads + Wait + Sync>(
         seats,
         observers,
     } = opened;
-    let handed_back = crew_room.threads.flags;
     let crew = Crew {
-        things: seats,
-        started: crew_room.threads.started,
-        back: crew_room.threads.back,
+        seats,
+        members: crew_room.members,
+        back: crew_room.back,
     };
-    let over = watch_room.threads.flags;
-    let watch = Crew {
-        things: watchers_for(&manager, watch_room.blanks, observers, watch_room.watchers),
-        started: watch_room.threads.started,
-        back: watch_room.threads.back,
+    let watch = Watch {
+        watchers: watchers_for(&manager, watch_room.blanks, observers, watch_room.watchers),
+        posts: watch_room.posts,
+        back: watch_room.back,
     };
-    let (seats, mut watchers) = thread::scope(
-        thread::scope_env(),
+    let (seats, mut watchers) = drive_in_threads(
         rt,
-        |scope| drive_in_scope(scope, rt, &manager, crew, &handed_back, watch, &over, gate),
+        &manager,
+        crew,
+        crew_room.handed_back.as_slice(),
+        watch,
+        watch_room.over.as_slice(),
+        gate,
     );
     let seats = drive_each(rt, &manager, seats, crew_room.driven, gate);
     let Closed {

@@ -1,13 +1,14 @@
 ghost use Rattle.std.specs.Prelude.{◌≡◌, IfOk};
 
-use crate::posts::Returns;
-use crate::threads::ThreadRoom;
+use crate::crew_room::lowered_flags;
+use crate::posts::Post;
 use crate::watcher::Watcher;
 use caa_base::written::entry::{Object, OutOfMemory};
 use journal_text::looks::seens::Seens;
 use place_plan::plans::plan::Plan;
 use shared_views::Reading;
 use std::alloc::{AllocError, Global};
+use std::sync::atomic::AtomicBool;
 
 /// Room for what is read of one object.
 #[derive(Drop)]
@@ -21,7 +22,9 @@ pub struct Blank {
 pub struct WatchRoom {
     pub blanks: Vec<Blank>,
     pub watchers: Vec<Watcher>,
-    pub threads: ThreadRoom<Watcher, Returns>,
+    pub posts: Vec<Post>,
+    pub back: Vec<Watcher>,
+    pub over: Vec<AtomicBool>,
     pub seens: Seens,
 }
 
@@ -52,7 +55,9 @@ impl WatchRoom {
         Ok(WatchRoom {
             blanks: WatchRoom::blanks(alloc, plan)?,
             watchers: Vec::with_capacity(alloc, count)?,
-            threads: ThreadRoom::take(alloc, count)?,
+            posts: Vec::with_capacity(alloc, count)?,
+            back: Vec::with_capacity(alloc, count)?,
+            over: lowered_flags(alloc, count)?,
             seens: Seens::with_room(alloc, looks)?,
         })
     }

@@ -5,7 +5,6 @@ use Rattle.action_manager.specs.Managers.{plan_in, IsSeatIn}
 use Rattle.action_manager.specs.Seats.{participant_of, seen_by}
 use Rattle.action_manager.specs.declared.manager.Manager.{Manager}
 use Rattle.action_manager.specs.declared.seat.Seat.{Seat}
-use Rattle.role_driver.specs.inner.Threads.{of_started}
 
 -- the seat is one of this manager's, and its participant is over in what it has seen
 pub record IsDone {M : Type 0} (base_of : M → ℕ) (manager : Manager M) (seat : Seat M) : Type 0 where
@@ -19,4 +18,5 @@ IsMember base_of manager seat_of (Err seat) = IsSeatIn base_of manager seat
 
 -- whose seat it is
 abbrev pub who_of : {M H : Type 0} → (H → ℕ) → Result H (Seat M) → ℕ
-who_of f r = of_started f participant_of r
+who_of f (Ok thread) = f thread
+who_of f (Err seat) = participant_of seat

@@ -5,7 +5,6 @@ use Rattle.shared_views.specs.Committing.{Watching}
 use Rattle.action_manager.specs.declared.manager.Manager.{Manager}
 use Rattle.action_manager.specs.Managers.{plan_in, book_in}
 use Rattle.action_manager.specs.Publishing.{new_observer}
-use Rattle.role_driver.specs.inner.Threads.{IsRoomForThreads}
 use Rattle.role_driver.specs.inner.Watching.{Task}
 use Rattle.role_driver.specs.declared.watch_room.WatchRoom.{WatchRoom}
 
@@ -21,5 +20,7 @@ observer_of manager = new_observer (plan_in manager) (book_in manager)
 pub record IsRoomFor (plan : Plan) (r : WatchRoom) : Type 0 where
   pub blanks : map (λ b. b.object) r.blanks.items ≡ plan.watches
   pub watchers : (r.watchers.items ≡ []) × (vec_capacity r.watchers ≡ length plan.watches)
-  pub threads : IsRoomForThreads (length plan.watches) r.threads
+  pub posts : (r.posts.items ≡ []) × (vec_capacity r.posts ≡ length plan.watches)
+  pub back : (r.back.items ≡ []) × (vec_capacity r.back ≡ length plan.watches)
+  pub over : length r.over.items ≡ length plan.watches
   pub seens : (r.seens.seens ≡ []) × (r.seens.room ≡ length plan.watches * suc (length plan.plays))

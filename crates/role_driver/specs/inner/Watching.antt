@@ -1,8 +1,7 @@
 -- Watchers, and the threads that they look in.
-use Rattle.std.specs.Prelude.{ℕ, ℤ, List, Result}
+use Rattle.std.specs.Prelude.{ℕ, ℤ, List, Result, Ok, Err}
 use Rattle.logbook.specs.Pages.{Book}
 use Rattle.role_driver.specs.declared.watcher.Watcher.{Watcher}
-use Rattle.role_driver.specs.inner.Threads.{of_started}
 
 -- what a watcher is to watch: an object, by its initial values and by one list of publications
 pub record Task : Type 0 where
@@ -16,4 +15,5 @@ task_of w = record { object = w.object; initials = w.observer.initials; book = w
 
 -- the task of a watcher that has a thread, or of one that was handed back
 abbrev pub task_at : {H : Type 0} → (H → Watcher) → Result H Watcher → Task
-task_at watcher_of r = of_started (λ h. task_of (watcher_of h)) task_of r
+task_at watcher_of (Ok thread) = task_of (watcher_of thread)
+task_at watcher_of (Err watcher) = task_of watcher

@@ -12,5 +12,4 @@ unreachable-requires g c =
 pub returns-clause-complete : goal.returns-clause-complete
 returns-clause-complete g c =
     let all = order_has_all (length (plan_in c.args.manager).participants) c.args.seats.items c.requires.order in
-    all_over g.M.Machine.base_of c.args.manager
-    (g.M.Machine.journal_of c.in-Ok.closed.machine) c.args.seats.items c.requires.done c.in-Ok.ensures.accounts all
+    all_over g.M.Machine.base_of c.args.manager (g.M.Machine.journal_of c.in-Ok.closed.machine) c.args.seats.items c.requires.done c.in-Ok.ensures.accounts all

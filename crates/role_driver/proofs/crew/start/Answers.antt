@@ -9,27 +9,21 @@ use Rattle.action_manager.specs.contracts.manager.Manager as manager
 use Rattle.action_manager.specs.contracts.seat.Seat as seat
 use Rattle.action_manager.proofs.SeatsCross.{seat_send, manager_sync}
 use Rattle.role_driver.proofs.ClosuresCross.{closure_send}
-use Rattle.role_driver.proofs.crew.start_one.Lts as lts
-use Rattle.role_driver.proofs.crew.start_one.Goals as goal
+use Rattle.role_driver.proofs.crew.start.Lts as lts
+use Rattle.role_driver.proofs.crew.start.Goals as goal
 
-pub start-requires-send-F : goal.start-requires-send-F
-start-requires-send-F g c κs within =
+pub spawn_with-requires-send-F : goal.spawn_with-requires-send-F
+spawn_with-requires-send-F g c κs within =
     let bounds = c.type_bounds in
-    param_send 2 (lts.arg-2-2 g.row.E g.row.M g.row.G g.row.R g.E.laws g.M.laws g.G.laws g.R.laws g.M.Machine
-    g.M.Machine-dict g.G.Gate g.G.Gate-dict g.R.Threads g.R.Threads-dict g.R.Wait g.R.Wait-dict κs)
+    param_send 2 (lts.arg-2-2 g.row.E g.row.M g.row.G g.row.R g.E.laws g.M.laws g.G.laws g.R.laws g.M.Machine g.M.Machine-dict g.G.Gate g.G.Gate-dict g.R.Threads g.R.Threads-dict g.R.Wait g.R.Wait-dict κs)
     (arg_send _ denote.Exit.no _ (closure_send _
     (ShrRef (named 6) κs.1.1.1.1.1.1.0 (param 3 g.row.R)
     ∷ ShrRef (named 7) κs.1.1.1.1.1.1.1.0 (manager.the_row (param 1 g.row.M) g.M.Machine)
     ∷ seat.the_row (param 1 g.row.M)
     ∷ ShrRef (named 8) κs.1.1.1.1.1.1.1.1.0 flag.the_row
     ∷ ShrRef (named 9) κs.1.1.1.1.1.1.1.1.1.0 (param 2 g.row.G)
-    ∷ []) (
-      shr_send (named 6) _ _ bounds.sync-R,
-      (
-        search (sendable, manager_sync),
-        (search (sendable, seat_send), (shr_send _ _ _ flag_crosses.the_sync, (shr_send _ _ _ bounds.sync-G, tt))),
-      ),
-    )))
+    ∷ [])
+    (shr_send (named 6) _ _ bounds.sync-R, (search (sendable, manager_sync), (search (sendable, seat_send), (shr_send _ _ _ flag_crosses.the_sync, (shr_send _ _ _ bounds.sync-G, tt)))))))
 
-pub start-requires-send-T : goal.start-requires-send-T
-start-requires-send-T g c κs within = search (sendable, seat_send)
+pub spawn_with-requires-send-T : goal.spawn_with-requires-send-T
+spawn_with-requires-send-T g c κs within = search (sendable, seat_send)
