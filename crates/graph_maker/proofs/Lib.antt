@@ -1,0 +1,7 @@
+pub mod Chosen
+pub mod Halves
+pub mod Lowered
+pub mod Numbers
+pub mod SetChains
+pub mod Sizes
+pub mod Unions

@@ -1,0 +1,10 @@
+use Rattle.std.proofs.Common.{◌≡◌}
+use Rattle.graph_maker.specs.Sets.{exception_count}
+use Rattle.graph_maker.specs.inner.Counts.{CountSets}
+use Rattle.graph_maker.proofs.count.count_exceptions.Given as goal
+
+abbrev pub invariant-loop-_primitive : goal.invariant-loop-_primitive
+invariant-loop-_primitive l = CountSets l._primitive l.counts
+
+abbrev pub invariant-loop-size : goal.invariant-loop-size
+invariant-loop-size l = l.count ≡ exception_count l.primitives l.size
