@@ -1,4 +1,5 @@
 pub mod Chosen
+pub mod Counted
 pub mod Halves
 pub mod Lowered
 pub mod Numbers

@@ -1,10 +1,12 @@
 -- Which pairs the graph of sets declares.
-use Rattle.std.proofs.Common.{◌≡◌, Bool, ℕ, zero, suc, ◌+◌, ◌-◌, ◌^◌, ◌<◌, ◌≤◌, ◌⊎◌, ◌&&◌, inl, inr, true, false, nat_lt, cond, List, [], ◌∷◌, ◌++◌, map, length, get_or, slice_index, Contains, All, sym, ap, ◌∙◌, refl, subst, arith}
-use Rattle.std.proofs.lemmas.Bool.{and_from, and_parts, both_ways, cases_Bool, cases_eq, cond-false, cond-true, lt-ltb, ltb-true}
+use Rattle.std.proofs.Common.{◌≡◌, Bool, ℕ, zero, suc, ◌+◌, ◌-◌, ◌*◌, ◌%◌, ◌^◌, ◌<◌, ◌≤◌, ◌⊎◌, ◌&&◌, inl, inr, true, false, nat_lt, cond, List, [], ◌∷◌, ◌++◌, map, length, get_or, slice_index, Contains, All, sym, ap, ◌∙◌, refl, subst, arith, append_assoc}
+use Rattle.std.proofs.lemmas.Bool.{and_from, and_parts, cases_Bool, cases_eq, cond-false, cond-true, false_from_ne_true, lt-ltb, ltb-true}
+use Rattle.std.proofs.lemmas.Nat.{one_shl}
 use Rattle.std.proofs.lemmas.List.{get_or-map, length-map}
 use Rattle.std.proofs.lemmas.List.Elements.{Contains-append_cases, Contains-append_left, Contains-append_right, Contains-get_or, All-nil, All-append, All-map}
 use Rattle.cover_table.specs.Cover.{has_bit}
 use Rattle.graph_maker.specs.Sets.{lowered, number_in, pairs_at, pairs_below, without_member}
+use Rattle.graph_maker.proofs.Halves.{taken_out}
 use Rattle.graph_maker.proofs.Numbers.{number_below}
 use Rattle.graph_maker.proofs.Sizes.{Contains-map}
 
@@ -115,3 +117,44 @@ pairs_in_range n all (suc bound) few =
     let P : ℕ × ℕ → Type 0 = λ (p : ℕ × ℕ). (p.0 < length all) × (p.1 < length all) in
     All-append P (pairs_below n all bound) (pairs_at n all bound) (pairs_in_range n all bound (omega (arith, few)))
     (All-map P (λ (set : ℕ). (bound, number_in all set)) (lowered n (slice_index all bound)) (λ k d lt. (omega (arith, few), number_below all _ (omega (arith, few)))))
+
+-- ---- a loop that adds the pairs of one exception, from the greatest member on
+-- the exception over a set
+abbrev pub pair_over : List ℕ → ℕ → ℕ → ℕ × ℕ
+pair_over all exception set = (exception, number_in all set)
+
+-- a member left out, and one pair more
+pub pair_added : (all : List ℕ) (exception bit set lower : ℕ) (old new rest : List (ℕ × ℕ)) (number : ℕ) → 0 < bit
+    → old ++ map (pair_over all exception) (lowered bit set) ≡ rest → has_bit set (bit - 1) ≡ true → 0 < lower → lower ≡ without_member set (bit - 1)
+    → number ≡ number_in all lower → new ≡ old ++ (exception, number) ∷ []
+    → new ++ map (pair_over all exception) (lowered (bit - 1) set) ≡ rest
+pair_added all exception zero set lower old new rest number some before had full is numbered step = absurd (omega (arith, some))
+pair_added all exception (suc bit) set lower old new rest number some before had full is numbered step =
+    let at : suc bit - 1 ≡ bit = omega arith in
+    let here : lower ≡ without_member set bit = is ∙ ap (without_member set) at in
+    let counted = and_from (has_bit set bit) (nat_lt 0 (without_member set bit)) (subst (λ (b : ℕ). has_bit set b ≡ true) at had) (lt-ltb 0 (without_member set bit) (subst (λ (s : ℕ). 0 < s) here full)) in
+    let pair : new ≡ old ++ pair_over all exception (without_member set bit) ∷ [] = step ∙ ap (λ (k : ℕ). old ++ (exception, k) ∷ []) (numbered ∙ ap (number_in all) here) in
+    let left = map (pair_over all exception) (lowered bit set) in
+    ap (λ (b : ℕ). new ++ map (pair_over all exception) (lowered b set)) at
+    ∙ (ap (λ (l : List (ℕ × ℕ)). l ++ left) pair
+    ∙ (append_assoc old (pair_over all exception (without_member set bit) ∷ []) left
+    ∙ (ap (λ (l : List ℕ). old ++ map (pair_over all exception) l) (sym (lowered_with bit set counted)) ∙ before)))
+
+-- no pair, since the primitive isn't a member or no other is
+pub no_pair : (all : List ℕ) (exception bit set : ℕ) (old rest : List (ℕ × ℕ)) → 0 < bit
+    → old ++ map (pair_over all exception) (lowered bit set) ≡ rest → (has_bit set (bit - 1) ≡ true → without_member set (bit - 1) ≡ 0)
+    → old ++ map (pair_over all exception) (lowered (bit - 1) set) ≡ rest
+no_pair all exception zero set old rest some before past = absurd (omega (arith, some))
+no_pair all exception (suc bit) set old rest some before past =
+    let at : suc bit - 1 ≡ bit = omega arith in
+    let not : is_counted set bit ≡ false = false_from_ne_true (is_counted set bit) (λ counted.
+        let parts = and_parts (has_bit set bit) (nat_lt 0 (without_member set bit)) counted in
+        let full = ltb-true 0 (without_member set bit) parts.1 in
+        let empty = subst (λ (b : ℕ). has_bit set b ≡ true → without_member set b ≡ 0) at past parts.0 in
+        omega (arith, full, empty)) in
+    ap (λ (b : ℕ). old ++ map (pair_over all exception) (lowered b set)) at
+    ∙ (ap (λ (l : List ℕ). old ++ map (pair_over all exception) l) (sym (lowered_past bit set not)) ∙ before)
+
+-- what is taken out of a set was in it
+pub member_fits : (set bit : ℕ) → bit < 128 → has_bit set bit ≡ true → (1 * 2 ^ bit % 2 ^ 128 ≡ 2 ^ bit) × (2 ^ bit ≤ set)
+member_fits set bit below had = (one_shl bit 128 below, (taken_out (suc bit) set bit (omega arith) had).had)

@@ -1,16 +1,26 @@
-ghost use Rattle.std.specs.Prelude.{◌≡◌, ◌<◌, ◌≤◌, ◌++◌, ℕ, All, IfOk, OnOk, length};
+ghost use Rattle.std.specs.Prelude.{◌≡◌, ◌==◌, ◌<◌, ◌≤◌, ◌++◌, ℕ, All, IfOk, OnOk, length, position};
 ghost use Rattle.graph_maker.specs.Sets.{number_in, pairs_at, pairs_below};
 
 use crate::sets::Set;
 use cover_table::has_bit;
 use std::alloc::{AllocError, Global};
 
-/// Where a set stands in a table, or 0 where it doesn't.
+/// Where a set first stands in a table.
+fn place_in(table: &[Set], set: Set) -> Option<usize>
+    ensures { result ≡ position (λ other. other == set) table.now }
+{
+    table.iter().position(|other| *other == set)
+}
+
+/// The number of a set in a table, or 0 where the table hasn't got it.
 pub fn number_in(table: &[Set], set: Set) -> u32
     requires { length table.now ≤ 128 }
     ensures { result ≡ number_in table.now set }
 {
-    table.iter().position(|other| *other == set).unwrap_or(0) as u32
+    match place_in(table, set) {
+        Some(place) => place as u32,
+        None => 0,
+    }
 }
 
 /// Adds the pairs of one exception: over each that lacks just one of its members, the greatest left out first.
