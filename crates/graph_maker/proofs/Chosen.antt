@@ -33,7 +33,7 @@ pub moved_with : (before next : ℕ) (lists : List ℕ) → map (moved_after (be
 moved_with before next [] = refl
 moved_with before next (set ∷ lists) =
     let e : moved_after (before + 2 ^ next) (next + 1) set ≡ moved_after before next (with_first set) =
-        subst (λ p. before + 2 ^ next + p * set ≡ before + 2 ^ next * (1 + 2 * set)) (sym (two_pow_more next)) (twice_moved (2 ^ next) before set) in
+    subst (λ p. before + 2 ^ next + p * set ≡ before + 2 ^ next * (1 + 2 * set)) (sym (two_pow_more next)) (twice_moved (2 ^ next) before set) in
     λ i. e i ∷ moved_with before next lists i
 
 -- and without it
@@ -41,7 +41,7 @@ pub moved_without : (before next : ℕ) (lists : List ℕ) → map (moved_after 
 moved_without before next [] = refl
 moved_without before next (set ∷ lists) =
     let e : moved_after before (next + 1) set ≡ moved_after before next (without_first set) =
-        subst (λ p. before + p * set ≡ before + 2 ^ next * (2 * set)) (sym (two_pow_more next)) (moved_twice (2 ^ next) before set) in
+    subst (λ p. before + p * set ≡ before + 2 ^ next * (2 * set)) (sym (two_pow_more next)) (moved_twice (2 ^ next) before set) in
     λ i. e i ∷ moved_without before next lists i
 
 -- what both calls add is what is to be added

@@ -123,11 +123,11 @@ missing zero set other low =
 missing (suc n) set other low =
     elim (missing n (set / 2) (other / 2) (half_below n set low)) [
       | inl found ↦ inl (record {
-          bit = suc found.bit;
-          in_range = let below = found.in_range in omega arith;
-          had = bit_next set found.bit ∙ found.had;
-          lacked = bit_next other found.bit ∙ found.lacked;
-        })
+        bit = suc found.bit;
+        in_range = let below = found.in_range in omega arith;
+        had = bit_next set found.bit ∙ found.had;
+        lacked = bit_next other found.bit ∙ found.lacked;
+      })
       | inr within ↦ elim (cases_Bool (has_bit set 0)) [
         | inl had ↦ elim (cases_Bool (has_bit other 0)) [
           | inl too ↦ inr (λ bit. after set other within (λ _. too) bit)

@@ -148,10 +148,10 @@ no_pair all exception zero set old rest some before past = absurd (omega (arith,
 no_pair all exception (suc bit) set old rest some before past =
     let at : suc bit - 1 ≡ bit = omega arith in
     let not : is_counted set bit ≡ false = false_from_ne_true (is_counted set bit) (λ counted.
-        let parts = and_parts (has_bit set bit) (nat_lt 0 (without_member set bit)) counted in
-        let full = ltb-true 0 (without_member set bit) parts.1 in
-        let empty = subst (λ (b : ℕ). has_bit set b ≡ true → without_member set b ≡ 0) at past parts.0 in
-        omega (arith, full, empty)) in
+    let parts = and_parts (has_bit set bit) (nat_lt 0 (without_member set bit)) counted in
+    let full = ltb-true 0 (without_member set bit) parts.1 in
+    let empty = subst (λ (b : ℕ). has_bit set b ≡ true → without_member set b ≡ 0) at past parts.0 in
+    omega (arith, full, empty)) in
     ap (λ (b : ℕ). old ++ map (pair_over all exception) (lowered b set)) at
     ∙ (ap (λ (l : List ℕ). old ++ map (pair_over all exception) l) (sym (lowered_past bit set not)) ∙ before)
 

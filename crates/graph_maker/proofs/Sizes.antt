@@ -176,10 +176,10 @@ sets_whole n (suc most) set is =
     elim (cases_eq (size_of n set) (suc most)) [
       | inl full ↦ Contains-append_right (sets n most) (choose n (suc most)) set (chosen_all n (suc most) set is.primitives full)
       | inr less ↦ Contains-append_left (sets n most) (choose n (suc most)) set (sets_whole n most set (record {
-          some = is.some;
-          primitives = is.primitives;
-          few = let few = is.few in omega (arith, few, less);
-        }))
+        some = is.some;
+        primitives = is.primitives;
+        few = let few = is.few in omega (arith, few, less);
+      }))
     ]
 
 pub sets_ordered : (n most : ℕ) → AllPairs (ComesFirst n) (sets n most)
@@ -188,9 +188,9 @@ sets_ordered n (suc most) =
     let all = choose n (suc most) in
     AllPairs-append (ComesFirst n) (sets n most) all (sets_ordered n most)
     (λ i j d less below.
-        let i_in : i < length all = omega (arith, less, below) in
-        inr ((chosen n (suc most) i d i_in).1 ∙ sym (chosen n (suc most) j d below).1, chosen_ordered n (suc most) i j d less below))
+    let i_in : i < length all = omega (arith, less, below) in
+    inr ((chosen n (suc most) i d i_in).1 ∙ sym (chosen n (suc most) j d below).1, chosen_ordered n (suc most) i j d less below))
     (λ x y in_left in_right.
-        let few = (All-contains (IsSet n most) (sets n most) x (sets_are n most) in_left).few in
-        let full = (All-contains (IsOfSize n (suc most)) all y (chosen n (suc most)) in_right).1 in
-        inl (omega (arith, few, full)))
+    let few = (All-contains (IsSet n most) (sets n most) x (sets_are n most) in_left).few in
+    let full = (All-contains (IsOfSize n (suc most)) all y (chosen n (suc most)) in_right).1 in
+    inl (omega (arith, few, full)))

@@ -1,12 +1,15 @@
 -- The least cover of sets is the exception of their union.
-use Rattle.std.proofs.Common.{◌≡◌, Bool, ℕ, zero, suc, ◌+◌, ◌^◌, ◌<◌, ◌≤◌, ◌⊎◌, ◌↔◌, ◌==◌, ◌&&◌, ◌||◌, inl, inr, true, false, cond, List, [], ◌∷◌, length, All, bit_or, sym, ap, ◌∙◌, refl, subst, arith}
+use Rattle.std.proofs.Common.{◌≡◌, Bool, ℕ, zero, suc, ◌+◌, ◌^◌, ◌<◌, ◌≤◌, ◌⊎◌, ◌↔◌, ◌==◌, ◌&&◌, ◌||◌, inl, inr, true, false, cond, List, [], ◌∷◌, length, All, bit_or, Result, Ok, Err, sym, ap, ◌∙◌, refl, subst, arith}
 use Rattle.std.specs.List.{list_all, list_any}
 use Rattle.std.proofs.lemmas.Bool.{and_from, and_parts, both_ways, cases_Bool, cases_eq, cases_lt, cond-false, cond-true, eqb-true, eqb-false, or_cases, or_parts}
 use Rattle.std.proofs.lemmas.Nat.{or_lt, pow_pos}
 use Rattle.std.proofs.lemmas.List.Elements.{All-nil, All-cons, All-head, All-tail}
-use Rattle.cover_table.specs.Cover.{covers, covers_each, has_bit, CoverOrder, HasLeastCover, IsLeastCover}
+use Rattle.std.specs.Prelude.{IsErrOf}
+use Rattle.cover_table.specs.Cover.{covers, covers_each, has_bit, most_exceptions, CoverOrder, IsLeastCover}
 use Rattle.cover_table.proofs.Bits.{had_in_zero, had_in_either, had_from_left, had_from_right}
-use Rattle.exception_graph.specs.Chains.{Chain, IsOrderOf, IsFirstInCycle, IsFirstUnjoined}
+use Rattle.exception_graph.specs.Chains.{IsOrderOf, IsFirstInCycle, IsFirstUnjoined}
+use Rattle.exception_graph.specs.declared.graph_error.GraphError.{GraphError}
+use Rattle.exception_graph.specs.declared.graph_error.GraphError.TheVariants.{Cycle, NoLeast, TooMany, OutOfMemory}
 use Rattle.graph_maker.specs.Sets.{exception_count, members_of, number_of, pairs_of, size_of, union_of, IsSet, IsWithin}
 use Rattle.graph_maker.specs.SetGraph.{least_of, CoversSubsets, JoinsUnions}
 use Rattle.graph_maker.proofs.Halves.{size_within}
@@ -181,6 +184,20 @@ module _ (n most : ℕ) where
       let less = first.ascending in
       let below = first.in_range in
       let in_range : All (λ (x : ℕ). x < exception_count n most) (a ∷ b ∷ []) =
-          All-cons (λ (x : ℕ). x < exception_count n most) a (b ∷ []) (omega (arith, less, below, many))
-          (All-cons (λ (x : ℕ). x < exception_count n most) b [] (omega (arith, below, many)) (All-nil (λ (x : ℕ). x < exception_count n most))) in
+      All-cons (λ (x : ℕ). x < exception_count n most) a (b ∷ []) (omega (arith, less, below, many))
+      (All-cons (λ (x : ℕ). x < exception_count n most) b [] (omega (arith, below, many)) (All-nil (λ (x : ℕ). x < exception_count n most))) in
       first.without (least_of n most (a ∷ b ∷ []), least_is unjoined.order unjoined.is_order_of (a ∷ b ∷ []) (omega arith) in_range)
+
+  -- so that nothing but want of memory is left
+  pub only_memory : (count : ℕ) (pairs : List (ℕ × ℕ)) (result : Result CoverOrder GraphError) (refusal : GraphError)
+      → count ≡ exception_count n most → pairs ≡ pairs_of n most → count ≤ most_exceptions → result ≡ Err refusal
+      → ((number : ℕ) → IsErrOf result (TooMany number) ↔ ((most_exceptions < count) × (number ≡ count)))
+      → ((at : ℕ) → IsErrOf result (Cycle at) ↔ ((count ≤ most_exceptions) × IsFirstInCycle count pairs at))
+      → ((a b : ℕ) → IsErrOf result (NoLeast a b) ↔ ((count ≤ most_exceptions) × IsFirstUnjoined count pairs a b))
+      → refusal ≡ OutOfMemory
+  only_memory count pairs result (Cycle at) counts declares few is many cycle unjoined =
+      absurd (no_cycle at (subst (λ (k : ℕ). IsFirstInCycle k (pairs_of n most) at) counts (subst (λ (l : List (ℕ × ℕ)). IsFirstInCycle count l at) declares ((cycle at).0 is).1)))
+  only_memory count pairs result (NoLeast a b) counts declares few is many cycle unjoined =
+      absurd (all_joined a b (subst (λ (k : ℕ). IsFirstUnjoined k (pairs_of n most) a b) counts (subst (λ (l : List (ℕ × ℕ)). IsFirstUnjoined count l a b) declares ((unjoined a b).0 is).1)))
+  only_memory count pairs result (TooMany number) counts declares few is many cycle unjoined = absurd (let past = ((many number).0 is).0 in omega (arith, past, few))
+  only_memory count pairs result OutOfMemory counts declares few is many cycle unjoined = refl

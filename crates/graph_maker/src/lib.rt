@@ -7,4 +7,4 @@ mod set_graph;
 mod sets;
 
 pub use set_graph::{MakeError, SetGraph};
-pub use sets::{Set, are_numbered};
+pub use sets::Set;

@@ -24,7 +24,12 @@ pub fn number_in(table: &[Set], set: Set) -> u32
 }
 
 /// Adds the pairs of one exception: over each that lacks just one of its members, the greatest left out first.
-fn push_pairs_at(pairs: &mut Vec<(u32, u32)>, table: &[Set], primitives: u32, exception: u32) -> Result<(), AllocError>
+fn push_pairs_at(
+    pairs: &mut Vec<(u32, u32)>,
+    table: &[Set],
+    primitives: u32,
+    exception: u32,
+) -> Result<(), AllocError>
     requires few { length table.now ≤ 128 }
     requires in_range { exception < length table.now }
     requires primitives_fit { primitives < 128 }
@@ -43,7 +48,11 @@ fn push_pairs_at(pairs: &mut Vec<(u32, u32)>, table: &[Set], primitives: u32, ex
 }
 
 /// The pairs of all exceptions of a table.
-pub fn make_pairs(alloc: Global, table: &[Set], primitives: u32) -> Result<Vec<(u32, u32)>, AllocError>
+pub fn make_pairs(
+    alloc: Global,
+    table: &[Set],
+    primitives: u32,
+) -> Result<Vec<(u32, u32)>, AllocError>
     requires few { length table.now ≤ 128 }
     requires primitives_fit { primitives < 128 }
     ensures pairs { IfOk result (λ pairs. pairs.items ≡ pairs_below primitives table.now (length table.now)) }

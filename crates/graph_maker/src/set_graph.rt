@@ -25,9 +25,11 @@ pub enum MakeError {
 }
 
 impl From<AllocError> for MakeError {
-    ghost from_gives = { λ _. MakeError.OutOfMemory };
+    ghost use Rattle.graph_maker.specs.declared.set_graph.MakeError.{MakeError};
 
-    fn from(_: AllocError) -> MakeError {
+    ghost from_gives = { λ _ error. error ≡ MakeError.OutOfMemory };
+
+    fn from(_error: AllocError) -> MakeError {
         MakeError::OutOfMemory
     }
 }
@@ -68,7 +70,6 @@ impl SetGraph {
         ensures made { IfOk result (λ made. (made.primitives ≡ primitives) × (made.most ≡ most)) }
         ensures order { IfOk result (λ made.
             IsOrderOf (exception_count primitives most) (pairs_of primitives most) made.order) }
-        ensures numbered { AreNumbered primitives most }
         ensures too_many { (count : ℕ) → IsErrOf result (MakeError.TooMany count)
             ↔ ((most_exceptions < exception_count primitives most) × (count ≡ exception_count primitives most)) }
         ensures accepted { exception_count primitives most ≤ most_exceptions → IsOkUnless result MakeError.OutOfMemory }
@@ -80,9 +81,16 @@ impl SetGraph {
         let table = make_table(alloc, primitives, most)?;
         let pairs = make_pairs(alloc, &table, primitives)?;
         match Graph::build(alloc, count as u32, &pairs) {
-            Ok(graph) => Ok(SetGraph { primitives, most, table, graph }),
-            Err(GraphError::OutOfMemory) => Err(MakeError::OutOfMemory),
-            Err(_) => unreachable!(),
+            Ok(graph) => Ok(SetGraph {
+                primitives,
+                most,
+                table,
+                graph,
+            }),
+            Err(refusal) => match refusal {
+                GraphError::OutOfMemory => Err(MakeError::OutOfMemory),
+                _ => unreachable!(),
+            },
         }
     }
 
@@ -91,6 +99,7 @@ impl SetGraph {
     pub fn graph(&self) -> &Graph
         ensures value { result.now ≡ self.now.order }
         ensures count { self.now.order.count ≡ exception_count self.now.primitives self.now.most }
+        ensures numbered { AreNumbered self.now.primitives self.now.most }
         ensures covers { CoversSubsets self.now.primitives self.now.most result.now }
         ensures least { JoinsUnions self.now.primitives self.now.most result.now }
     {

@@ -1,5 +1,5 @@
 ghost use Rattle.std.specs.Prelude.{◌≡◌, ◌<◌, ◌≤◌, ◌+◌, ◌-◌, ◌*◌, ◌^◌, ◌++◌, ℕ, map, OnOk, IfOk, length, unwrap_or};
-ghost use Rattle.graph_maker.specs.Sets.{choose, sets, table, AreNumbered};
+ghost use Rattle.graph_maker.specs.Sets.{choose, sets, table};
 ghost use Rattle.graph_maker.specs.inner.Moved.{moved_after};
 
 use std::alloc::{AllocError, Global};
@@ -8,7 +8,13 @@ use std::alloc::{AllocError, Global};
 pub type Set = u128;
 
 /// Adds the sets of `size` of the `left` primitives from `next` on, each with the primitives of `before`.
-fn push_sets(sets: &mut Vec<Set>, before: Set, next: u32, left: u32, size: u32) -> Result<(), AllocError>
+fn push_sets(
+    sets: &mut Vec<Set>,
+    before: Set,
+    next: u32,
+    left: u32,
+    size: u32,
+) -> Result<(), AllocError>
     requires last { next + left ≤ 127 }
     requires low { before < 2 ^ next }
     ensures { OnOk result (sets.new.items ≡ sets.old.items ++ map (moved_after before next) (choose left size)) }
@@ -35,10 +41,4 @@ pub fn make_table(alloc: Global, primitives: u32, most: u32) -> Result<Vec<Set>,
         push_sets(&mut sets, 0, 0, primitives, size + 1)?;
     }
     Ok(sets)
-}
-
-/// Exceptions stand for sets, those that come first by lower numbers, and each set has one.
-pub fn are_numbered(primitives: u32, most: u32)
-    ensures { AreNumbered primitives most }
-{
 }
