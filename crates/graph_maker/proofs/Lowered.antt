@@ -1,5 +1,5 @@
 -- Which pairs the graph of sets declares.
-use Rattle.std.proofs.Common.{◌≡◌, Bool, ℕ, zero, suc, ◌+◌, ◌-◌, ◌*◌, ◌%◌, ◌^◌, ◌<◌, ◌≤◌, ◌⊎◌, ◌&&◌, inl, inr, true, false, nat_lt, cond, List, [], ◌∷◌, ◌++◌, map, length, get_or, slice_index, Contains, All, sym, ap, ◌∙◌, refl, subst, arith, append_assoc}
+use Rattle.std.proofs.Common.{◌≡◌, Bool, ℕ, zero, suc, ◌-◌, ◌*◌, ◌%◌, ◌^◌, ◌<◌, ◌≤◌, ◌&&◌, inl, inr, true, false, nat_lt, List, [], ◌∷◌, ◌++◌, map, length, get_or, slice_index, Contains, All, sym, ap, ◌∙◌, refl, subst, arith, append_assoc}
 use Rattle.std.proofs.lemmas.Bool.{and_from, and_parts, cases_Bool, cases_eq, cond-false, cond-true, false_from_ne_true, lt-ltb, ltb-true}
 use Rattle.std.proofs.lemmas.Nat.{one_shl}
 use Rattle.std.proofs.lemmas.List.{get_or-map, length-map}

@@ -1,12 +1,12 @@
 -- Each set has one number, and each number one set.
-use Rattle.std.proofs.Common.{◌≡◌, Bool, ℕ, zero, suc, ◌+◌, ◌<◌, ◌≤◌, ◌⊎◌, inl, inr, true, false, ◌==◌, nat_eq, nat_lt, cond, List, [], ◌∷◌, length, get_or, Contains, All, Some, None, unwrap_or, position, sym, ap, ◌∙◌, refl, subst, arith}
+use Rattle.std.proofs.Common.{◌≡◌, Bool, ℕ, zero, suc, ◌<◌, ◌⊎◌, inl, inr, ◌==◌, nat_lt, cond, List, length, get_or, Some, None, unwrap_or, sym, ap, ◌∙◌, refl, subst, arith}
 use Rattle.std.specs.List.{position_or_len}
-use Rattle.std.proofs.lemmas.Bool.{both_ways, cases_Bool, cases_eq, cases_order, eq-eqb, eqb-true, lt-ltb, ltb-true, ne_eqb}
+use Rattle.std.proofs.lemmas.Bool.{both_ways, cases_Bool, cases_eq, cases_order, eq-eqb, eqb-true, lt-ltb, ne_eqb}
 use Rattle.std.proofs.lemmas.List.{get_or_default}
 use Rattle.std.proofs.lemmas.List.Sums.{position_or_len_is}
 use Rattle.std.proofs.lemmas.List.Quantifiers.{position-Some}
 use Rattle.cover_table.specs.Cover.{has_bit}
-use Rattle.graph_maker.specs.Sets.{exception_count, members_of, number_in, number_of, sets, size_of, table, AreNumbered, ComesFirst, HasLeastApart, IsSet}
+use Rattle.graph_maker.specs.Sets.{exception_count, members_of, number_in, number_of, sets, size_of, table, AreNumbered, ComesFirst, IsSet}
 use Rattle.graph_maker.proofs.Sizes.{sets_are, sets_ordered, sets_whole}
 
 stands : (n most exception : ℕ) → 0 < exception → exception < exception_count n most → IsSet n most (members_of n most exception)

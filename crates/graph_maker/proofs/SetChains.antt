@@ -1,12 +1,12 @@
 -- Chains of the pairs that the graph of sets declares tell which set is within which.
-use Rattle.std.proofs.Common.{◌≡◌, ℕ, zero, suc, ◌+◌, ◌-◌, ◌^◌, ◌<◌, ◌≤◌, ◌⊎◌, ◌↔◌, inl, inr, true, false, List, length, Contains, sym, ap, ◌∙◌, refl, subst, arith}
+use Rattle.std.proofs.Common.{◌≡◌, ℕ, zero, suc, ◌+◌, ◌<◌, ◌≤◌, inl, inr, true, false, Contains, sym, ap, ◌∙◌, refl, subst, arith}
 use Rattle.std.proofs.lemmas.Bool.{both_ways, cases_eq}
 use Rattle.cover_table.specs.Cover.{has_bit}
 use Rattle.cover_table.proofs.Bits.{had_in_zero}
 use Rattle.exception_graph.specs.Chains.{Chain, IsDeclared, IsInCycle, none, more, universal, pair}
 use Rattle.graph_maker.specs.Sets.{exception_count, members_of, number_of, pairs_of, size_of, table, without_member, IsSet, IsWithin}
 use Rattle.graph_maker.proofs.Halves.{missing, same_within, size_within, taken_out, IsMissing}
-use Rattle.graph_maker.proofs.Lowered.{lowered_has, lowered_is, pair_has, pair_is, IsLowered, IsPairOf}
+use Rattle.graph_maker.proofs.Lowered.{lowered_has, lowered_is, pair_has, pair_is, IsLowered}
 use Rattle.graph_maker.proofs.Numbers.{members_apart, number_whole, numbered}
 
 -- without a member a set is within itself, as it was

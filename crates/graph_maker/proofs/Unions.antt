@@ -1,5 +1,5 @@
 -- The least cover of sets is the exception of their union.
-use Rattle.std.proofs.Common.{◌≡◌, Bool, ℕ, zero, suc, ◌+◌, ◌^◌, ◌<◌, ◌≤◌, ◌⊎◌, ◌↔◌, ◌==◌, ◌&&◌, ◌||◌, inl, inr, true, false, cond, List, [], ◌∷◌, length, All, bit_or, Result, Ok, Err, sym, ap, ◌∙◌, refl, subst, arith}
+use Rattle.std.proofs.Common.{◌≡◌, Bool, ℕ, ◌^◌, ◌<◌, ◌≤◌, ◌↔◌, ◌==◌, inl, inr, true, false, List, [], ◌∷◌, length, All, Result, Err, sym, refl, subst, arith}
 use Rattle.std.specs.List.{list_all, list_any}
 use Rattle.std.proofs.lemmas.Bool.{and_from, and_parts, both_ways, cases_Bool, cases_eq, cases_lt, cond-false, cond-true, eqb-true, eqb-false, or_cases, or_parts}
 use Rattle.std.proofs.lemmas.Nat.{or_lt, pow_pos}
@@ -10,10 +10,10 @@ use Rattle.cover_table.proofs.Bits.{had_in_zero, had_in_either, had_from_left, h
 use Rattle.exception_graph.specs.Chains.{IsOrderOf, IsFirstInCycle, IsFirstUnjoined}
 use Rattle.exception_graph.specs.declared.graph_error.GraphError.{GraphError}
 use Rattle.exception_graph.specs.declared.graph_error.GraphError.TheVariants.{Cycle, NoLeast, TooMany, OutOfMemory}
-use Rattle.graph_maker.specs.Sets.{exception_count, members_of, number_of, pairs_of, size_of, union_of, IsSet, IsWithin}
+use Rattle.graph_maker.specs.Sets.{exception_count, members_of, number_of, pairs_of, size_of, union_of, IsWithin}
 use Rattle.graph_maker.specs.SetGraph.{least_of, CoversSubsets, JoinsUnions}
 use Rattle.graph_maker.proofs.Halves.{size_within}
-use Rattle.graph_maker.proofs.Numbers.{number_past, number_whole, numbered, IsNumberOf}
+use Rattle.graph_maker.proofs.Numbers.{number_past, number_whole, numbered}
 use Rattle.graph_maker.proofs.SetChains.{acyclic, chain_from, over_apart, over_from, over_universal, some_within, top, within, within_from, IsOver}
 
 -- ---- tests over lists

@@ -1,6 +1,6 @@
-use Rattle.std.proofs.Common.{◌≡◌, ◌<◌, ◌≤◌, ◌^◌, ◌+◌, ◌*◌, ◌%◌, ℕ, arith, ap, sym, ◌∙◌, length, slice_index}
+use Rattle.std.proofs.Common.{◌≡◌, ◌+◌, ℕ, arith, ap, sym, ◌∙◌, length, slice_index}
 use Rattle.graph_maker.specs.Sets.{choose, exception_count}
-use Rattle.graph_maker.proofs.Counted.{chosen_fit, counts_fit, counts_more, exceptions_fit, exceptions_more}
+use Rattle.graph_maker.proofs.Counted.{counts_fit, counts_more, exceptions_fit, exceptions_more}
 use Rattle.graph_maker.proofs.count.count_exceptions.Goals as goal
 
 pub add_primitive-requires : goal.add_primitive-requires

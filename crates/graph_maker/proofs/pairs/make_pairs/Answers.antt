@@ -1,5 +1,4 @@
-use Rattle.std.proofs.Common.{◌≡◌, List, ℕ, All, length, ◌<◌, arith, subst, sym, ap, ◌∙◌}
-use Rattle.graph_maker.specs.Sets.{pairs_below}
+use Rattle.std.proofs.Common.{List, ℕ, All, length, ◌<◌, subst, sym}
 use Rattle.graph_maker.proofs.Lowered.{pairs_in_range}
 use Rattle.graph_maker.proofs.pairs.make_pairs.Goals as goal
 

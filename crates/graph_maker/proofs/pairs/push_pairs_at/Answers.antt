@@ -1,4 +1,4 @@
-use Rattle.std.proofs.Common.{◌≡◌, ◌≢◌, ◌-◌, ◌*◌, ◌%◌, ◌^◌, ◌<◌, ℕ, true, arith, ap, sym, ◌∙◌, slice_index}
+use Rattle.std.proofs.Common.{◌≢◌, ◌-◌, ◌*◌, ◌%◌, ◌^◌, ◌<◌, ℕ, arith, ap, sym, ◌∙◌, slice_index}
 use Rattle.std.proofs.lemmas.Bool.{both_ways}
 use Rattle.cover_table.specs.Cover.{has_bit}
 use Rattle.graph_maker.proofs.Lowered.{member_fits, no_pair, pair_added}

@@ -1,6 +1,3 @@
-use Rattle.std.proofs.Common.{◌≡◌, ◌+◌, ◌++◌, ap, ◌∙◌, map, sym}
-use Rattle.graph_maker.specs.Sets.{choose, sets, table}
-use Rattle.graph_maker.specs.inner.Moved.{moved_after}
 use Rattle.graph_maker.proofs.Chosen.{table_more}
 use Rattle.graph_maker.proofs.sets.make_table.Goals as goal
 

@@ -1,4 +1,4 @@
-use Rattle.std.proofs.Common.{◌≡◌, subst}
+use Rattle.std.proofs.Common.{subst}
 use Rattle.graph_maker.specs.SetGraph.{CoversSubsets, JoinsUnions, SetOrder}
 use Rattle.graph_maker.proofs.Numbers.{numbered}
 use Rattle.graph_maker.proofs.Unions.{covers_subsets, joins_unions}

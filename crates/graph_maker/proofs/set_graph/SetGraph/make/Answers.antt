@@ -1,4 +1,4 @@
-use Rattle.std.proofs.Common.{◌≡◌, ◌<◌, ◌≤◌, List, ℕ, length, ap, ◌∙◌, arith}
+use Rattle.std.proofs.Common.{◌≡◌, List, ℕ, length, ap, ◌∙◌, arith}
 use Rattle.graph_maker.specs.Sets.{pairs_below, pairs_of}
 use Rattle.graph_maker.proofs.Unions.{only_memory}
 use Rattle.graph_maker.proofs.set_graph.SetGraph.make.Goals as goal

@@ -1,5 +1,5 @@
-use Rattle.std.proofs.Common.{◌≡◌, ◌<◌, ◌≤◌, ◌^◌, List, ℕ, subst, sym, ap, ◌∙◌, arith}
-use Rattle.graph_maker.specs.Sets.{exception_count, members_of, number_in, number_of, size_of}
+use Rattle.std.proofs.Common.{◌≡◌, ◌<◌, ◌≤◌, ◌^◌, List, ℕ, subst, ap, ◌∙◌, arith}
+use Rattle.graph_maker.specs.Sets.{members_of, number_in, number_of, size_of}
 use Rattle.graph_maker.specs.SetGraph.{SetOrder}
 use Rattle.graph_maker.proofs.Numbers.{number_past, number_whole}
 use Rattle.graph_maker.proofs.set_graph.SetGraph.number.Goals as goal
