@@ -1,0 +1,2 @@
+-- What a node's parts tell of its member.
+pub mod States

@@ -1,0 +1,5 @@
+pub mod Containing
+pub mod Ranges
+pub mod LeastCovers
+pub mod WorkedRows
+pub mod Knowing

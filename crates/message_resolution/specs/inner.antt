@@ -1,0 +1,2 @@
+-- Inner definitions, of what tables and steps keep: nobody who reads the contracts of this crate has to believe them.
+pub mod TakingIn

@@ -1,0 +1,13 @@
+use caa_base::entry::Exception;
+
+/// What a member sends to all others.
+#[derive(Clone, Copy, Debug, PartialEq, Eq)]
+pub enum Message {
+    /// The sender raised this exception.
+    Raised { from: u32, exception: Exception },
+    /// The sender was told that something was raised, and raises nothing itself.
+    Suspended { from: u32 },
+    /// The sender has heard all others, and this is the least exception that covers all that was
+    /// raised.
+    Resolved { from: u32, exception: Exception },
+}
