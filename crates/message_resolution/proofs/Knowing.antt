@@ -1,2 +1,4 @@
--- What a node's parts tell of its member.
+-- What a node's parts tell of its member, and how they follow its events.
 pub mod States
+pub mod TakingSteps
+pub mod Resolving

@@ -5,6 +5,7 @@
 mod node;
 mod world;
 
+pub use node::Node;
 pub use node::message::Message;
 pub use node::sent::Sent;
 pub use node::state::State;

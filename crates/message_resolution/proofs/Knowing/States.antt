@@ -1,13 +1,15 @@
 -- A state tells whether its member has raised or spoken.
-use Rattle.std.proofs.Common.{◌≡◌, ℕ, ◌<◌, ◌==◌, ◌||◌, Bool, true, false, List, [], ◌∷◌, ◌++◌, length, slice_index_or, slice_set, inl, inr, arith, refl, sym, ◌∙◌, ap}
+use Rattle.std.proofs.Common.{◌≡◌, ℕ, ◌<◌, ◌==◌, ◌||◌, Bool, true, false, List, [], ◌∷◌, ◌++◌, length, slice_index_or, slice_set, inl, inr, arith, refl, sym, ◌∙◌, ap, All}
 use Rattle.std.specs.List.{flat_map, list_any}
 use Rattle.std.proofs.lemmas.Bool.{eq-eqb, ne_eqb, cases_eq, or_right}
 use Rattle.std.proofs.lemmas.List.{get_or-set_same, get_or-set_other}
 use Rattle.message_resolution.specs.declared.node.message.Message.TheVariants as message
 use Rattle.message_resolution.specs.declared.node.state.State.{State}
 use Rattle.message_resolution.specs.declared.node.state.State.TheVariants.{Normal, Raised, Suspended}
-use Rattle.message_resolution.specs.Members.LocalEvents.{LocalEvent, raises, receives, own, has_raised, has_spoken}
-use Rattle.message_resolution.specs.Members.Nodes.{state_with, state_of}
+use Rattle.message_resolution.specs.Members.LocalEvents.{LocalEvent, raises, receives, own, told, told_at, has_raised, has_spoken}
+use Rattle.message_resolution.specs.Members.Nodes.{MayMeet, state_with, state_of}
+use Rattle.cover_table.specs.Cover.{CoverOrder}
+use Rattle.std.proofs.lemmas.List.Elements.{All-nil, All-cons, All-head, All-tail, All-append}
 
 -- who has raised something has raised, and has spoken
 pub own_raised : (past : List LocalEvent) (e : ℕ) (earlier : List ℕ) → own past ≡ e ∷ earlier → has_raised past ≡ true
@@ -59,3 +61,31 @@ heard_more heard from me u before fits was = elim (cases_eq from u) [
   | inl same ↦ rw (sym same) (get_or-set_same heard from true false fits ∙ sym (or_right (from == me) (from == from || before) (rw (eq-eqb from from refl))))
   | inr other ↦ get_or-set_other heard from u true false (λ same. other (sym same)) ∙ was ∙ ap (λ b. u == me || (b || before)) (sym (ne_eqb from u other))
 ]
+
+-- without the state Raised nothing was raised
+own_cases : (past : List LocalEvent) (xs : List ℕ) → own past ≡ xs → ((e : ℕ) → state_of past ≡ Raised e → ⊥) → has_raised past ≡ false
+own_cases past [] is other = own_nothing past is
+own_cases past (e ∷ xs) is other = absurd (other e (ap (λ ys. state_with ys (has_spoken past)) is))
+
+pub not_raised : (past : List LocalEvent) → ((e : ℕ) → state_of past ≡ Raised e → ⊥) → has_raised past ≡ false
+not_raised past other = own_cases past (own past) refl other
+
+-- who has raised was told something
+pub raised_told : (past : List LocalEvent) → has_raised past ≡ true → told past ≡ [] → ⊥
+raised_told [] holds none = absurd cc
+raised_told (raises x ∷ past) holds none = absurd cc
+raised_told (receives (message.Raised u e) ∷ past) holds none = absurd cc
+raised_told (receives (message.Suspended u) ∷ past) holds none = raised_told past holds none
+raised_told (receives (message.Resolved u e) ∷ past) holds none = raised_told past holds none
+
+-- all that a member is told is in range
+told_at_in : (order : CoverOrder) (count me : ℕ) (x : LocalEvent) → MayMeet order count me x → All (λ e. e < order.count) (told_at x)
+told_at_in order count me (raises e) may = All-cons (λ n. n < order.count) e [] may (All-nil (λ n. n < order.count))
+told_at_in order count me (receives (message.Raised u e)) may = All-cons (λ n. n < order.count) e [] may.0.1 (All-nil (λ n. n < order.count))
+told_at_in order count me (receives (message.Suspended u)) may = All-nil (λ n. n < order.count)
+told_at_in order count me (receives (message.Resolved u e)) may = All-nil (λ n. n < order.count)
+
+pub told_in : (order : CoverOrder) (count me : ℕ) (past : List LocalEvent) → All (MayMeet order count me) past → All (λ e. e < order.count) (told past)
+told_in order count me [] met = All-nil (λ n. n < order.count)
+told_in order count me (x ∷ past) met =
+    All-append (λ n. n < order.count) (told_at x) (told past) (told_at_in order count me x (All-head (MayMeet order count me) x past met)) (told_in order count me past (All-tail (MayMeet order count me) x past met))

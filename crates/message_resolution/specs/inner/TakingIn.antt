@@ -3,6 +3,8 @@ use Rattle.std.specs.Prelude.{◌≡◌, ℕ, ◌<◌, ◌==◌, ◌||◌, Bool,
 use Rattle.cover_table.specs.Cover.{CoverOrder, IsOrder}
 use Rattle.message_resolution.specs.declared.node.message.Message.{Message}
 use Rattle.message_resolution.specs.declared.node.message.Message.TheVariants as message
+use Rattle.message_resolution.specs.declared.node.state.State.{State}
+use Rattle.message_resolution.specs.declared.node.state.State.TheVariants.{Normal, Raised, Suspended}
 use Rattle.message_resolution.specs.Members.LocalEvents.{LocalEvent, told, has_heard, has_greater, resolved_at}
 use Rattle.message_resolution.specs.Members.Answers.{has_resolved, decisions, resolution, word}
 use Rattle.message_resolution.specs.Members.Nodes.{Known, MayMeet, StandsFor, IsCoverOf, IsOneOf, state_of, listed}
@@ -45,3 +47,12 @@ pub record Resolves (old new : Known) (sent : Option Message) : Type 0 where
       → StandsFor order (x ∷ past) new
   pub sends : (order : CoverOrder) (past : List LocalEvent) (x : LocalEvent) → IsOrder order → HasTakenIn order past x old
       → listed sent ≡ map (λ e. message.Resolved old.me e) (resolution order old.count old.me past x)
+
+-- where the node was Normal it is Suspended and says so, and else nothing changes
+abbrev pub SuspendsFrom : Known → State → Known → Option Message → Type 0
+SuspendsFrom old Normal new said = (new ≡ record old { state = Suspended }) × (said ≡ Some (message.Suspended old.me))
+SuspendsFrom old (Raised e) new said = (new ≡ old) × (said ≡ None)
+SuspendsFrom old Suspended new said = (new ≡ old) × (said ≡ None)
+
+abbrev pub Suspends : Known → Known → Option Message → Type 0
+Suspends old new said = SuspendsFrom old old.state new said

@@ -1,0 +1,9 @@
+use Rattle.std.proofs.Common.{[], subst, sym}
+use Rattle.std.proofs.lemmas.List.Elements.{All-nil}
+use Rattle.cover_table.specs.Cover.{IsLeastCover}
+use Rattle.cover_table.proofs.Orders.{least_cons, least-one}
+use Rattle.message_resolution.specs.Members.Nodes.{IsCoverOf}
+use Rattle.message_resolution.proofs.node.joined.Goals as goal
+
+pub returns-in-Some : goal.returns-in-Some
+returns-in-Some c = λ xs in_range is. least_cons c.args.graph.now c.args.exception xs c.in-Some.cover c.least.result c.is_sound.ensures.sound.is_order in_range (subst (λ o. IsCoverOf c.args.graph.now xs o) c.in-Some.is is) c.least.ensures
