@@ -13,7 +13,7 @@ pub mod state;
 use crate::node::message::Message;
 use crate::node::sent::Sent;
 use crate::node::state::State;
-use caa_base::entry::{Exception, OutOfMemory};
+use caa_base::written::entry::{Exception, OutOfMemory};
 use exception_graph::Graph;
 use std::alloc::Global;
 use std::marker::Model;

@@ -1,4 +1,4 @@
-use caa_base::entry::Exception;
+use caa_base::written::entry::Exception;
 
 /// What a member sends to all others.
 #[derive(Clone, Copy, Debug, PartialEq, Eq)]

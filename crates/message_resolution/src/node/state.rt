@@ -1,4 +1,4 @@
-use caa_base::entry::Exception;
+use caa_base::written::entry::Exception;
 
 /// How far a member is with what was raised.
 #[derive(Clone, Copy, Debug, PartialEq, Eq)]

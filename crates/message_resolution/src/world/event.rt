@@ -1,4 +1,4 @@
-use caa_base::entry::Exception;
+use caa_base::written::entry::Exception;
 
 /// One event of a history.
 #[derive(Clone, Copy, Debug, PartialEq, Eq)]
