@@ -3,3 +3,4 @@ pub mod Ranges
 pub mod LeastCovers
 pub mod WorkedRows
 pub mod Knowing
+pub mod Coming
