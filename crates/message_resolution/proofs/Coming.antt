@@ -3,3 +3,7 @@ pub mod Answering
 pub mod Kept
 pub mod Advance
 pub mod Deciding
+pub mod LegalPasts
+pub mod FewMessages
+pub mod Settled
+

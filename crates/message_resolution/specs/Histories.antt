@@ -1,4 +1,5 @@
--- All members: the history of their events, what is legal, and what is agreed.
+-- All members: the history of their events, what is legal, what is agreed, and how the network settles.
 pub mod Courses
 pub mod Legal
 pub mod Agreement
+pub mod Settling

@@ -25,7 +25,7 @@ resolved_only (receives (message.Suspended v)) e at = absurd (nothing_in e at)
 resolved_only (receives (message.Resolved v f)) e at = (v, ap (λ y. receives (message.Resolved v y)) (one_in f e at))
 
 -- once all have spoken, an event raises nothing
-raises_no_more : (order : CoverOrder) (count : ℕ) (course : Course) (t : ℕ) (x : LocalEvent) → t < count → AllSpoken count course → MeetsNow order course t x → raised_at x ≡ []
+pub raises_no_more : (order : CoverOrder) (count : ℕ) (course : Course) (t : ℕ) (x : LocalEvent) → t < count → AllSpoken count course → MeetsNow order course t x → raised_at x ≡ []
 raises_no_more order count course t (raises e) t_in spoken may = absurd (both_ways (has_spoken (course.local t)) may.0 (spoken t t_in))
 raises_no_more order count course t (receives m) t_in spoken may = refl
 
