@@ -4,3 +4,4 @@ pub mod LeastCovers
 pub mod WorkedRows
 pub mod Knowing
 pub mod Coming
+pub mod Running

@@ -3,3 +3,4 @@ pub mod Courses
 pub mod Legal
 pub mod Agreement
 pub mod Settling
+pub mod Worlds

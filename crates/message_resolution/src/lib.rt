@@ -10,3 +10,4 @@ pub use node::message::Message;
 pub use node::sent::Sent;
 pub use node::state::State;
 pub use world::event::Event;
+pub use world::{NotLegal, World};

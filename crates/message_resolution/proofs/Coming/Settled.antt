@@ -15,6 +15,7 @@ use Rattle.message_resolution.specs.Members.Nodes.{IsMessage, sender_of}
 use Rattle.message_resolution.specs.Histories.Courses.{Course, course_of, member_of, met_at, all_raised, HasDecided}
 use Rattle.message_resolution.specs.Histories.Legal.{LegalPast, is_from_other}
 use Rattle.message_resolution.specs.Histories.Settling.{IsDue, IsSettled, Settles, settled, delivers, AllHaveDecided}
+use Rattle.message_resolution.specs.inner.Deliveries.{is_delivery}
 use Rattle.message_resolution.proofs.Containing.{nothing_in, first_in, later_in, cases_in, any_member, any_from, flat_map_from, flat_map_member}
 use Rattle.message_resolution.proofs.Ranges.{all_in_range}
 use Rattle.message_resolution.proofs.Coming.Kept.{KeepsWords, KeepsDecisions, HasSaid, AllSpoken, has_own_spoken}
@@ -31,13 +32,7 @@ mapped : (o : Option Message) (x : LocalEvent) → option_map (λ m. receives m)
 mapped None x is = absurd cc
 mapped (Some m) x is = let same : x ≡ receives m = cc in (m, refl, same)
 
--- whether a message was delivered to a member
-is_delivery : ℕ → ℕ → Event → Bool
-is_delivery t number (Raise by e) = false
-is_delivery t number (Deliver to n) = (to == t) && (n == number)
-
-is_delivery_true : (t number : ℕ) (e : Event) → is_delivery t number e ≡ true → e ≡ Deliver t number
-unfolding is_delivery
+pub is_delivery_true : (t number : ℕ) (e : Event) → is_delivery t number e ≡ true → e ≡ Deliver t number
 is_delivery_true t number (Raise by f) is = absurd cc
 is_delivery_true t number (Deliver to n) is =
     let parts = and_parts (to == t) (n == number) is in
@@ -45,8 +40,7 @@ is_delivery_true t number (Deliver to n) is =
     let second = eqb-true n number parts.1 in
     cc
 
-delivers_itself : (t number : ℕ) → is_delivery t number (Deliver t number) ≡ true
-unfolding is_delivery
+pub delivers_itself : (t number : ℕ) → is_delivery t number (Deliver t number) ≡ true
 delivers_itself t number = and_from _ _ (eq-eqb t t refl) (eq-eqb number number refl)
 
 pub delivered_or_not : (past : List Event) (t number : ℕ) → Contains past (Deliver t number) ⊎ (Contains past (Deliver t number) → ⊥)
@@ -61,7 +55,7 @@ got_contained messages m at = (at.0, slice_get-get_or messages at.0 m at.1 ∙ a
 from_other : (t : ℕ) (o : Option Message) (m : Message) → o ≡ Some m → sender_of m ≢ t → is_from_other t o ≡ true
 from_other t o m is other = ap (is_from_other t) is ∙ not_from_false (sender_of m == t) (ne_eqb (sender_of m) t other)
 
-other_some : (t : ℕ) (o : Option Message) → is_from_other t o ≡ true → (m : Message) × (o ≡ Some m)
+pub other_some : (t : ℕ) (o : Option Message) → is_from_other t o ≡ true → (m : Message) × (o ≡ Some m)
 other_some t None other = absurd cc
 other_some t (Some m) other = (m, refl)
 

@@ -1,3 +1,5 @@
+ghost use Rattle.std.specs.Prelude.{◌≡◌};
+
 use caa_base::written::entry::Exception;
 
 /// What a member sends to all others.
@@ -10,4 +12,17 @@ pub enum Message {
     /// The sender has heard all others, and this is the least exception that covers all that was
     /// raised.
     Resolved { from: u32, exception: Exception },
+}
+
+impl Message {
+    ghost use Rattle.message_resolution.specs.Members.Nodes.{sender_of};
+
+    /// Who sent it.
+    pub fn sender(&self) -> u32
+        ensures { result ≡ sender_of self.now }
+    {
+        match *self {
+            Message::Raised { from, .. } | Message::Suspended { from } | Message::Resolved { from, .. } => from,
+        }
+    }
 }
