@@ -2,3 +2,4 @@
 pub mod Places
 pub mod NodesFollow
 pub mod SettlingSteps
+pub mod Worlds

@@ -1,4 +1,4 @@
-ghost use Rattle.std.specs.Prelude.{◌≡◌, ◌≢◌, ◌<◌, ◌≤◌, ◌∷◌, ◌↔◌, [], ℕ, Contains, IfOk, IfSome, OnOk, OnErr, Err, true, false, length, reverse, slice_get};
+ghost use Rattle.std.specs.Prelude.{◌≡◌, ◌≢◌, ◌<◌, ◌≤◌, ◌∷◌, ◌↔◌, [], ℕ, Contains, IfOk, IfSome, OnOk, OnErr, IsErr, true, false, length, reverse, slice_get};
 ghost use Rattle.message_resolution.specs.Members.LocalEvents.{own};
 ghost use Rattle.message_resolution.specs.Members.Answers.{decisions};
 ghost use Rattle.message_resolution.specs.Members.Nodes.{IsOneOf, most_members};
@@ -99,7 +99,7 @@ impl World {
         requires room { length self.old.past < self.old.room }
         ensures ok { OnOk result (self.new ≡ record self.old { past = event ∷ self.old.past }) }
         ensures err { OnErr result (self.new ≡ self.old) }
-        ensures refused { (result ≡ Err NotLegal)
+        ensures refused { IsErr result
             ↔ (is_legal_event (course_of self.old.order self.old.count self.old.past) event ≡ false) }
         ensures agreed { DecidersAgree self.new.order self.new.count self.new.past }
     {

@@ -260,3 +260,11 @@ module _ (order : CoverOrder) (count : ℕ) where
   pub settles_same : {past new : List Event} → Settles order count past new → IsSettled order count past → new ≡ past
   settles_same (settled calm) is = refl
   settles_same (delivers {number = number} {t = t} first later) is = absurd (is number t first.due)
+
+  -- so after settling all have decided, where anything was raised, and else nothing has changed
+  pub settles_decide : {past new : List Event} → IsSound order → LegalPast order count past → Settles order count past new → (all_raised past ≡ [] → ⊥) → AllHaveDecided order count new
+  settles_decide {new = new} sound legal settling some =
+      all_decide sound new (settles_legal settling legal) (settles_settled settling) (λ none. some (sym (settles_raised settling) ∙ none))
+
+  pub settles_none : {past new : List Event} → IsSound order → LegalPast order count past → Settles order count past new → all_raised past ≡ [] → new ≡ past
+  settles_none {past = past} sound legal settling none = settles_same settling (calm_unraised sound past legal none)
