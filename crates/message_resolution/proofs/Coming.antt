@@ -6,4 +6,3 @@ pub mod Deciding
 pub mod LegalPasts
 pub mod FewMessages
 pub mod Settled
-

@@ -1,6 +1,5 @@
 -- The least cover as a number, and as what it is.
-use Rattle.std.proofs.Common.{◌≡◌, ℕ, ◌+◌, ◌<◌, Bool, true, false, not, ◌||◌, List, inl, inr, arith, Contains, ◌↔◌}
-use Rattle.std.specs.List.{list_all, range_with_len}
+use Rattle.std.proofs.Common.{◌≡◌, ℕ, ◌<◌, true, not, ◌||◌, List, inl, inr, arith, Contains}
 use Rattle.std.proofs.lemmas.Bool.{and_parts, and_from, cases_Bool, or_cases, or_left, or_right, not_from_false, not-true, both_ways}
 use Rattle.cover_table.specs.Cover.{CoverOrder, covers, covers_each, IsLeastCover, IsOrder}
 use Rattle.message_resolution.specs.Members.LeastCover.{is_least, least_cover}

@@ -1,7 +1,6 @@
 -- Worked histories, by computation.
 use Rattle.std.specs.Prelude.{◌≡◌, ℕ, true, false, List, [], ◌∷◌, refl}
 use Rattle.cover_table.specs.Cover.{CoverOrder}
-use Rattle.message_resolution.specs.declared.node.message.Message.{Message}
 use Rattle.message_resolution.specs.declared.node.message.Message.TheVariants as message
 use Rattle.message_resolution.specs.declared.node.state.State.TheVariants as state
 use Rattle.message_resolution.specs.declared.world.event.Event.{Event}

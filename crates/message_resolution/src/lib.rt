@@ -3,6 +3,8 @@
 #![tactic(auto)]
 
 mod node;
+#[cfg(test)]
+mod tests;
 mod world;
 
 pub use node::Node;

@@ -42,8 +42,14 @@ impl Model for Node {
     ghost Value = { Known };
 
     ghost view = { λ n. record {
-        me = n.me; count = n.count; state = n.state; heard = n.heard.items; cover = n.cover;
-        has_greater = n.has_greater; has_resolved = n.has_resolved; decided = n.decided;
+      me = n.me;
+      count = n.count;
+      state = n.state;
+      heard = n.heard.items;
+      cover = n.cover;
+      has_greater = n.has_greater;
+      has_resolved = n.has_resolved;
+      decided = n.decided;
     } };
 }
 

@@ -1,19 +1,18 @@
 -- One more event keeps what is kept of the words that were sent.
-use Rattle.std.proofs.Common.{◌≡◌, ◌≢◌, ℕ, ◌+◌, ◌<◌, ◌==◌, ◌&&◌, ◌||◌, not, Bool, true, false, List, [], ◌∷◌, ◌++◌, inl, inr, ◌⊎◌, Option, Some, refl, sym, ◌∙◌, ap, subst, map, All, Contains, arith}
-use Rattle.std.specs.Prelude.{if◌then◌else◌}
-use Rattle.std.proofs.lemmas.Bool.{cases_eq, cases_Bool, cond-true, cond-false, eq-eqb, ne_eqb, eqb-true, both_ways, or_cases, or_right}
-use Rattle.std.proofs.lemmas.List.Elements.{All-nil, All-cons, All-append, All-map, All-contains, Contains-append_left, Contains-append_right, Contains-append_cases}
-use Rattle.cover_table.specs.Cover.{CoverOrder, IsLeastCover, IsSound}
+use Rattle.std.proofs.Common.{◌≡◌, ◌≢◌, ℕ, ◌<◌, true, false, List, [], ◌∷◌, ◌++◌, inl, inr, ◌⊎◌, Some, refl, sym, ◌∙◌, ap, subst, map, All, Contains}
+use Rattle.std.proofs.lemmas.Bool.{cases_eq, cases_Bool, cond-true, cond-false, eq-eqb, ne_eqb, both_ways, or_right}
+use Rattle.std.proofs.lemmas.List.Elements.{All-nil, All-cons, All-append, All-contains, Contains-append_left, Contains-append_right, Contains-append_cases}
+use Rattle.cover_table.specs.Cover.{CoverOrder, IsSound}
 use Rattle.message_resolution.specs.declared.node.message.Message.{Message}
 use Rattle.message_resolution.specs.declared.node.message.Message.TheVariants as message
 use Rattle.message_resolution.specs.Members.LocalEvents.{LocalEvent, raises, receives, raised_at, own, told, has_spoken}
-use Rattle.message_resolution.specs.Members.Answers.{may_resolve, has_resolved, resolution, word, answers, decisions}
+use Rattle.message_resolution.specs.Members.Answers.{resolution, word, answers}
 use Rattle.message_resolution.specs.Members.Nodes.{IsMessage, MayMeet, sender_of}
 use Rattle.message_resolution.specs.Histories.Courses.{Course, course_with}
 use Rattle.message_resolution.proofs.Containing.{nothing_in, first_in, later_in, one_in, cases_in}
 use Rattle.message_resolution.proofs.Knowing.States.{told_in}
 use Rattle.message_resolution.proofs.Coming.Answering.{sends_raised, sends_suspended, word_sent, in_resolution_only, resolution_least}
-use Rattle.message_resolution.proofs.Coming.Kept.{HasSaid, KeepsWords, has_own_spoken, silent_own}
+use Rattle.message_resolution.proofs.Coming.Kept.{HasSaid, KeepsWords, silent_own}
 
 -- what t may meet in a course: it raises while it has not spoken, or another's message that was sent is delivered
 abbrev pub MeetsNow : CoverOrder → Course → ℕ → LocalEvent → Type 0

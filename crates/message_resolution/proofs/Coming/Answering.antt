@@ -1,14 +1,13 @@
 -- What a member sends at one event.
-use Rattle.std.proofs.Common.{◌≡◌, ◌≢◌, ℕ, ◌<◌, ◌&&◌, ◌||◌, not, Bool, true, false, List, [], ◌∷◌, ◌++◌, length, inl, inr, ◌⊎◌, refl, sym, ◌∙◌, ap, subst, map, All, Contains, arith}
-use Rattle.std.specs.Prelude.{if◌then◌else◌}
-use Rattle.std.proofs.lemmas.Bool.{and_parts, and_from, cases_Bool, cond-true, cond-false, not-true, cases_cond, or_cases}
-use Rattle.std.proofs.lemmas.List.Elements.{Contains-append_left, Contains-append_right, Contains-append_cases, All-append}
-use Rattle.cover_table.specs.Cover.{CoverOrder, IsLeastCover, IsOrder, IsSound}
+use Rattle.std.proofs.Common.{◌≡◌, ℕ, ◌<◌, ◌&&◌, not, true, false, List, [], ◌∷◌, length, inl, inr, refl, sym, ◌∙◌, ap, subst, map, All, Contains, arith}
+use Rattle.std.proofs.lemmas.Bool.{and_parts, cases_Bool, cond-true, cond-false, cases_cond}
+use Rattle.std.proofs.lemmas.List.Elements.{Contains-append_left, Contains-append_right, Contains-append_cases}
+use Rattle.cover_table.specs.Cover.{CoverOrder, IsLeastCover, IsSound}
 use Rattle.cover_table.proofs.Orders.{sound_sets}
 use Rattle.message_resolution.specs.declared.node.message.Message.{Message}
 use Rattle.message_resolution.specs.declared.node.message.Message.TheVariants as message
 use Rattle.message_resolution.specs.Members.LeastCover.{least_cover}
-use Rattle.message_resolution.specs.Members.LocalEvents.{LocalEvent, raises, receives, raised_at, own, told, has_raised, has_spoken}
+use Rattle.message_resolution.specs.Members.LocalEvents.{LocalEvent, raises, receives, own, told, has_raised, has_spoken}
 use Rattle.message_resolution.specs.Members.Answers.{may_resolve, has_resolved, resolution, word, answers}
 use Rattle.message_resolution.proofs.Containing.{nothing_in, first_in, one_in, cases_in}
 use Rattle.message_resolution.proofs.LeastCovers.{least_cover-is}

@@ -1,16 +1,16 @@
 -- One more event keeps what is kept of what was resolved and decided.
-use Rattle.std.proofs.Common.{◌≡◌, ◌≢◌, ℕ, ◌+◌, ◌<◌, ◌==◌, ◌&&◌, ◌||◌, not, Bool, true, false, List, [], ◌∷◌, ◌++◌, inl, inr, ◌⊎◌, Option, Some, refl, sym, ◌∙◌, ap, subst, map, All, Contains, arith}
+use Rattle.std.proofs.Common.{◌≡◌, ℕ, ◌<◌, true, List, [], ◌∷◌, ◌++◌, inl, inr, refl, sym, ap, subst, All, Contains}
 use Rattle.std.proofs.lemmas.Bool.{cases_Bool, both_ways, or_cases, or_right}
 use Rattle.std.proofs.lemmas.List.Elements.{Contains-append_left, Contains-append_right, Contains-append_cases}
 use Rattle.cover_table.specs.Cover.{CoverOrder, IsLeastCover, IsSound}
 use Rattle.message_resolution.specs.declared.node.message.Message.{Message}
 use Rattle.message_resolution.specs.declared.node.message.Message.TheVariants as message
-use Rattle.message_resolution.specs.Members.LocalEvents.{LocalEvent, raises, receives, raised_at, resolved_at, own, told, has_spoken}
-use Rattle.message_resolution.specs.Members.Answers.{may_resolve, has_resolved, resolution, word, answers, decisions}
+use Rattle.message_resolution.specs.Members.LocalEvents.{LocalEvent, raises, receives, raised_at, resolved_at, told, has_spoken}
+use Rattle.message_resolution.specs.Members.Answers.{may_resolve, has_resolved, resolution, answers, decisions}
 use Rattle.message_resolution.specs.Members.LeastCover.{least_cover}
-use Rattle.message_resolution.specs.Members.Nodes.{IsMessage, MayMeet, sender_of}
-use Rattle.message_resolution.specs.Histories.Courses.{Course, course_with}
-use Rattle.message_resolution.proofs.Containing.{nothing_in, first_in, later_in, one_in, cases_in}
+use Rattle.message_resolution.specs.Members.Nodes.{MayMeet}
+use Rattle.message_resolution.specs.Histories.Courses.{Course}
+use Rattle.message_resolution.proofs.Containing.{nothing_in, first_in, one_in}
 use Rattle.message_resolution.proofs.LeastCovers.{least-same_set}
 use Rattle.message_resolution.proofs.Knowing.States.{told_in}
 use Rattle.message_resolution.proofs.Knowing.Resolving.{resolves_rightly, does_resolve}

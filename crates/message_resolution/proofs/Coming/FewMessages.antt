@@ -1,10 +1,9 @@
 -- No member sends more than two messages.
-use Rattle.std.proofs.Common.{◌≡◌, ◌≢◌, ℕ, zero, suc, ◌+◌, ◌*◌, ◌<◌, ◌≤◌, ◌&&◌, ◌||◌, not, Bool, true, false, List, [], ◌∷◌, ◌++◌, length, length-append, inl, inr, refl, sym, ◌∙◌, ap, subst, map, arith}
+use Rattle.std.proofs.Common.{◌≡◌, ◌≢◌, ℕ, zero, suc, ◌+◌, ◌*◌, ◌<◌, ◌≤◌, ◌&&◌, ◌||◌, not, Bool, true, false, List, [], ◌∷◌, length, length-append, inl, inr, refl, sym, ◌∙◌, ap, subst, map, arith}
 use Rattle.std.specs.Prelude.{if◌then◌else◌}
 use Rattle.std.proofs.lemmas.Bool.{cases_eq, cases_Bool}
 use Rattle.std.proofs.lemmas.List.{length-map}
 use Rattle.cover_table.specs.Cover.{CoverOrder}
-use Rattle.message_resolution.specs.declared.node.message.Message.{Message}
 use Rattle.message_resolution.specs.declared.node.message.Message.TheVariants as message
 use Rattle.message_resolution.specs.declared.world.event.Event.{Event}
 use Rattle.message_resolution.specs.Members.LeastCover.{least_cover}

@@ -1,11 +1,10 @@
 -- The facts that every legal past keeps, and what follows where a member may resolve.
-use Rattle.std.proofs.Common.{◌≡◌, ◌≢◌, ℕ, ◌+◌, ◌<◌, ◌==◌, ◌&&◌, ◌||◌, not, Bool, true, false, List, [], ◌∷◌, ◌++◌, inl, inr, ◌⊎◌, refl, sym, ◌∙◌, ap, subst, All, Contains, arith}
-use Rattle.std.specs.List.{list_any}
-use Rattle.std.proofs.lemmas.Bool.{and_parts, cases_eq, or_cases, eqb-true, both_ways, cases_Bool}
+use Rattle.std.proofs.Common.{◌≡◌, ◌≢◌, ℕ, ◌<◌, ◌==◌, ◌||◌, true, false, List, [], ◌∷◌, inl, inr, ◌⊎◌, refl, sym, ap, subst, All, Contains, arith}
+use Rattle.std.proofs.lemmas.Bool.{and_parts, cases_eq, or_cases, eqb-true, both_ways}
 use Rattle.cover_table.specs.Cover.{CoverOrder, IsLeastCover}
 use Rattle.message_resolution.specs.declared.node.message.Message.{Message}
 use Rattle.message_resolution.specs.declared.node.message.Message.TheVariants as message
-use Rattle.message_resolution.specs.Members.LocalEvents.{LocalEvent, raises, receives, raised_at, own, told_at, told, is_word_of, is_call, has_raised, has_spoken, has_heard, has_greater}
+use Rattle.message_resolution.specs.Members.LocalEvents.{LocalEvent, raises, receives, raised_at, own, told_at, told, is_word_of, is_call, has_raised, has_spoken, has_heard}
 use Rattle.message_resolution.specs.Members.Answers.{has_heard_all, may_resolve, has_resolved, decisions}
 use Rattle.message_resolution.specs.Members.Nodes.{IsMessage, MayMeet}
 use Rattle.message_resolution.specs.Histories.Courses.{Course}

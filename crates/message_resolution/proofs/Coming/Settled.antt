@@ -1,8 +1,8 @@
 -- Once nothing is due, all have decided, where anything was raised.
-use Rattle.std.proofs.Common.{◌≡◌, ◌≢◌, ℕ, zero, suc, ◌+◌, ◌<◌, ◌≤◌, ◌==◌, ◌&&◌, ◌||◌, nat_lt, not, Bool, true, false, List, [], ◌∷◌, ◌++◌, length, slice_get, slice_index_or, Option, Some, None, option_map, inl, inr, ◌⊎◌, refl, sym, ◌∙◌, ap, subst, Contains, arith}
+use Rattle.std.proofs.Common.{◌≡◌, ◌≢◌, ℕ, zero, suc, ◌<◌, ◌==◌, ◌||◌, Bool, true, false, List, [], ◌∷◌, ◌++◌, slice_get, Option, Some, None, option_map, inl, inr, ◌⊎◌, refl, sym, ◌∙◌, ap, subst, Contains, arith}
 use Rattle.std.specs.List.{list_any}
-use Rattle.std.proofs.lemmas.Bool.{cases_Bool, cases_eq, cases_order, and_from, and_parts, or_left, or_right, or_cases, eq-eqb, ne_eqb, not_from_false, not-true, both_ways, lt-ltb, ltb-true, false_from_ne_true, eqb-true}
-use Rattle.std.proofs.lemmas.Option.{slice_get_within, get_or_from_slice_get, slice_get-get_or}
+use Rattle.std.proofs.lemmas.Bool.{cases_Bool, cases_eq, and_from, and_parts, or_left, or_right, eq-eqb, ne_eqb, not_from_false, both_ways, ltb-true, false_from_ne_true, eqb-true}
+use Rattle.std.proofs.lemmas.Option.{slice_get-get_or}
 use Rattle.std.proofs.lemmas.List.Elements.{All-contains, Contains-append_left, Contains-append_right}
 use Rattle.cover_table.specs.Cover.{CoverOrder, IsSound}
 use Rattle.message_resolution.specs.declared.node.message.Message.{Message}
@@ -12,15 +12,15 @@ use Rattle.message_resolution.specs.declared.world.event.Event.TheVariants.{Rais
 use Rattle.message_resolution.specs.Members.LocalEvents.{LocalEvent, raises, receives, is_call, is_word_of, is_greater, is_raise, raised_at, resolved_at, own, has_raised, has_spoken, has_heard, has_greater}
 use Rattle.message_resolution.specs.Members.Answers.{has_heard_all, may_resolve, has_resolved, resolution, decisions}
 use Rattle.message_resolution.specs.Members.Nodes.{IsMessage, sender_of}
-use Rattle.message_resolution.specs.Histories.Courses.{Course, course_of, member_of, met_at, all_raised, HasDecided}
+use Rattle.message_resolution.specs.Histories.Courses.{Course, course_of, member_of, met_at, all_raised}
 use Rattle.message_resolution.specs.Histories.Legal.{LegalPast, is_from_other}
-use Rattle.message_resolution.specs.Histories.Settling.{IsDue, IsSettled, Settles, settled, delivers, AllHaveDecided}
+use Rattle.message_resolution.specs.Histories.Settling.{IsSettled, Settles, settled, delivers, AllHaveDecided}
 use Rattle.message_resolution.specs.inner.Deliveries.{is_delivery}
 use Rattle.message_resolution.proofs.Containing.{nothing_in, first_in, later_in, cases_in, any_member, any_from, flat_map_from, flat_map_member}
 use Rattle.message_resolution.proofs.Ranges.{all_in_range}
-use Rattle.message_resolution.proofs.Coming.Kept.{KeepsWords, KeepsDecisions, HasSaid, AllSpoken, has_own_spoken}
-use Rattle.message_resolution.proofs.Coming.Advance.{MeetsNow, advanced, local_same, lasting}
-use Rattle.message_resolution.proofs.Coming.LegalPasts.{StepOf, step_of, course_step, keeps, contains_got}
+use Rattle.message_resolution.proofs.Coming.Kept.{KeepsWords, KeepsDecisions, AllSpoken, has_own_spoken}
+use Rattle.message_resolution.proofs.Coming.Advance.{advanced, local_same, lasting}
+use Rattle.message_resolution.proofs.Coming.LegalPasts.{step_of, course_step, keeps, contains_got}
 
 -- a message keeps its number as more is sent
 pub got_more : (messages more : List Message) (number : ℕ) (m : Message) → slice_get messages number ≡ Some m → slice_get (messages ++ more) number ≡ Some m
@@ -67,11 +67,15 @@ greatest p (suc n) u u_in holds = elim (cases_Bool (p n)) [
   | inr fails ↦
       let apart : u ≡ n → ⊥ = λ same. both_ways (p n) fails (subst (λ k. p k ≡ true) same holds) in
       let found = greatest p n u (omega arith) holds in
-      let below_n = found.1 in
-      (found.0, omega arith, found.2, λ v above below. elim (cases_eq v n) [
-        | inl same ↦ subst (λ k. p k ≡ false) (sym same) fails
-        | inr other ↦ found.3 v above (omega arith)
-      ])
+      let below_n = found.1 in (
+        found.0,
+        omega arith,
+        found.2,
+        λ v above below. elim (cases_eq v n) [
+          | inl same ↦ subst (λ k. p k ≡ false) (sym same) fails
+          | inr other ↦ found.3 v above (omega arith)
+        ],
+      )
 ]
 
 own_has_raised : (past : List LocalEvent) (e : ℕ) → Contains (own past) e → has_raised past ≡ true
@@ -210,11 +214,13 @@ module _ (order : CoverOrder) (count : ℕ) where
     all_decide calm some t t_in =
         let first = some_in (all_raised past) some in
         let who = words.from_raised first.0 first.1 in
-        let found = resolver calm who.0 first.0 who.1 in
-        (found.1, elim (cases_eq found.0 t) [
-          | inl same ↦ subst (λ v. Contains (decisions order count v (course.local v)) found.1) same (kept.resolved_decided found.0 found.1 found.2)
-          | inr other ↦ heard_decides order count t (course.local t) found.0 found.1 (reached calm t (message.Resolved found.0 found.1) t_in other found.2)
-        ])
+        let found = resolver calm who.0 first.0 who.1 in (
+          found.1,
+          elim (cases_eq found.0 t) [
+            | inl same ↦ subst (λ v. Contains (decisions order count v (course.local v)) found.1) same (kept.resolved_decided found.0 found.1 found.2)
+            | inr other ↦ heard_decides order count t (course.local t) found.0 found.1 (reached calm t (message.Resolved found.0 found.1) t_in other found.2)
+          ],
+        )
       where
         some_in : (xs : List ℕ) → (xs ≡ [] → ⊥) → (x : ℕ) × Contains xs x
         some_in [] any = absurd (any refl)

@@ -1,17 +1,17 @@
 -- When a node that has taken an event in resolves, and what it stands for then.
-use Rattle.std.proofs.Common.{◌≡◌, ℕ, ◌<◌, ◌&&◌, ◌||◌, ◌==◌, not, Bool, true, false, List, [], ◌∷◌, ◌++◌, length, slice_index_or, Option, Some, None, inl, inr, ◌⊎◌, refl, sym, ◌∙◌, ap, subst, map, arith, zero-add, Contains}
+use Rattle.std.proofs.Common.{◌≡◌, ℕ, ◌&&◌, ◌||◌, ◌==◌, not, true, false, List, [], ◌∷◌, ◌++◌, Option, Some, None, inl, inr, refl, sym, ◌∙◌, ap, subst, map, arith, zero-add, Contains}
 use Rattle.std.specs.List.{list_all, range_with_len}
-use Rattle.std.specs.Prelude.{if◌then◌else◌, IfNone}
-use Rattle.std.proofs.lemmas.Bool.{and_parts, and_from, and_left, and_right, cases_Bool, cond-true, cond-false, not_from_true, not_from_false, not-true, or_left, or_right, or_from, both_ways, cases_cond}
+use Rattle.std.specs.Prelude.{IfNone}
+use Rattle.std.proofs.lemmas.Bool.{and_parts, and_from, and_left, and_right, cases_Bool, cond-true, cond-false, not_from_true, not_from_false, not-true, or_left, or_right, or_from}
 use Rattle.cover_table.specs.Cover.{CoverOrder, IsOrder}
 use Rattle.message_resolution.specs.declared.node.message.Message.{Message}
 use Rattle.message_resolution.specs.declared.node.message.Message.TheVariants as message
 use Rattle.message_resolution.specs.declared.node.sent.Sent.{Sent}
 use Rattle.message_resolution.specs.declared.node.state.State.TheVariants.{Raised}
 use Rattle.message_resolution.specs.Members.LeastCover.{least_cover}
-use Rattle.message_resolution.specs.Members.LocalEvents.{LocalEvent, resolved_at, told, has_raised, has_heard, has_greater}
+use Rattle.message_resolution.specs.Members.LocalEvents.{LocalEvent, resolved_at, told, has_raised, has_heard}
 use Rattle.message_resolution.specs.Members.Answers.{has_heard_all, may_resolve, has_resolved, resolution, word, decisions}
-use Rattle.message_resolution.specs.Members.Nodes.{Known, IsCoverOf, IsOneOf, StandsFor, Meets, messages_of, listed}
+use Rattle.message_resolution.specs.Members.Nodes.{Known, IsCoverOf, IsOneOf, Meets, messages_of, listed}
 use Rattle.message_resolution.specs.inner.TakingIn.{HasTakenIn, IsResolutionOf, Resolves, TakesIn, as_list}
 use Rattle.message_resolution.proofs.Containing.{first_in}
 use Rattle.message_resolution.proofs.Ranges.{all_of_answers}

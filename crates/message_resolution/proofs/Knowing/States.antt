@@ -1,10 +1,8 @@
 -- A state tells whether its member has raised or spoken.
-use Rattle.std.proofs.Common.{◌≡◌, ℕ, ◌<◌, ◌==◌, ◌||◌, Bool, true, false, List, [], ◌∷◌, ◌++◌, length, slice_index_or, slice_set, inl, inr, arith, refl, sym, ◌∙◌, ap, All}
-use Rattle.std.specs.List.{flat_map, list_any}
+use Rattle.std.proofs.Common.{◌≡◌, ℕ, ◌<◌, ◌==◌, ◌||◌, Bool, true, false, List, [], ◌∷◌, length, slice_index_or, slice_set, inl, inr, refl, sym, ◌∙◌, ap, All}
 use Rattle.std.proofs.lemmas.Bool.{eq-eqb, ne_eqb, cases_eq, or_right}
 use Rattle.std.proofs.lemmas.List.{get_or-set_same, get_or-set_other}
 use Rattle.message_resolution.specs.declared.node.message.Message.TheVariants as message
-use Rattle.message_resolution.specs.declared.node.state.State.{State}
 use Rattle.message_resolution.specs.declared.node.state.State.TheVariants.{Normal, Raised, Suspended}
 use Rattle.message_resolution.specs.Members.LocalEvents.{LocalEvent, raises, receives, own, told, told_at, has_raised, has_spoken}
 use Rattle.message_resolution.specs.Members.Nodes.{MayMeet, state_with, state_of}

@@ -1,5 +1,5 @@
 -- How a node takes an event in.
-use Rattle.std.proofs.Common.{◌≡◌, ◌≢◌, ℕ, ◌<◌, ◌||◌, nat_lt, Bool, true, false, List, [], ◌∷◌, length, slice_set, Option, Some, None, refl, sym, ◌∙◌, ap, subst, All, arith}
+use Rattle.std.proofs.Common.{◌≡◌, ◌≢◌, ℕ, ◌<◌, ◌||◌, nat_lt, true, false, List, [], ◌∷◌, slice_set, Option, Some, None, refl, sym, ◌∙◌, ap, subst, All, arith}
 use Rattle.std.specs.Prelude.{if◌then◌else◌}
 use Rattle.std.proofs.lemmas.List.{length-set}
 use Rattle.std.proofs.lemmas.List.Elements.{All-cons}
@@ -8,7 +8,7 @@ use Rattle.message_resolution.specs.declared.node.message.Message.{Message}
 use Rattle.message_resolution.specs.declared.node.message.Message.TheVariants as message
 use Rattle.message_resolution.specs.declared.node.state.State.{State}
 use Rattle.message_resolution.specs.declared.node.state.State.TheVariants.{Normal, Raised, Suspended}
-use Rattle.message_resolution.specs.Members.LocalEvents.{LocalEvent, raises, receives, told, own, has_spoken, has_heard}
+use Rattle.message_resolution.specs.Members.LocalEvents.{LocalEvent, raises, receives, told, has_spoken, has_heard}
 use Rattle.message_resolution.specs.Members.Nodes.{Known, MayMeet, IsCoverOf, StandsFor, state_with, state_of, listed}
 use Rattle.message_resolution.specs.inner.TakingIn.{HasTakenIn, TakesIn, Suspends, SuspendsFrom}
 use Rattle.message_resolution.proofs.Containing.{first_in}

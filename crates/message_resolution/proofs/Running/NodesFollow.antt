@@ -1,7 +1,7 @@
 -- The nodes of a run follow its history.
-use Rattle.std.proofs.Common.{◌≡◌, ◌≢◌, ℕ, ◌+◌, ◌*◌, ◌<◌, ◌≤◌, ◌==◌, not, Bool, true, false, List, [], ◌∷◌, ◌++◌, length, length-append, slice_get, slice_set, slice_index_or, reverse, Option, Some, None, inl, inr, ◌⊎◌, refl, sym, ◌∙◌, ap, subst, arith}
+use Rattle.std.proofs.Common.{◌≡◌, ◌≢◌, ℕ, ◌+◌, ◌*◌, ◌<◌, ◌≤◌, true, false, List, [], ◌∷◌, ◌++◌, length, length-append, slice_get, slice_index_or, reverse, Option, Some, None, inl, inr, refl, sym, ◌∙◌, ap, subst, arith}
 use Rattle.std.proofs.lemmas.Option.{slice_get_read}
-use Rattle.std.proofs.lemmas.Bool.{not-true, not_from_true, not_from_false, eqb-false}
+use Rattle.std.proofs.lemmas.Bool.{not-true, eqb-false}
 use Rattle.std.proofs.lemmas.List.{length-set}
 use Rattle.std.proofs.lemmas.List.Elements.{All-contains}
 use Rattle.cover_table.specs.Cover.{CoverOrder, IsSound}
@@ -11,16 +11,16 @@ use Rattle.message_resolution.specs.declared.node.state.State.{State}
 use Rattle.message_resolution.specs.declared.node.state.State.TheVariants.{Normal, Raised, Suspended}
 use Rattle.message_resolution.specs.declared.world.event.Event.{Event}
 use Rattle.message_resolution.specs.declared.world.event.Event.TheVariants.{Raise, Deliver}
-use Rattle.message_resolution.specs.Members.LocalEvents.{LocalEvent, own, has_spoken}
+use Rattle.message_resolution.specs.Members.LocalEvents.{LocalEvent, has_spoken}
 use Rattle.message_resolution.specs.Members.Answers.{answers}
-use Rattle.message_resolution.specs.Members.Nodes.{Known, IsMessage, IsNodeOf, most_members, StandsFor, Meets, messages_of, sender_of, state_with, state_of}
+use Rattle.message_resolution.specs.Members.Nodes.{Known, IsMessage, IsNodeOf, most_members, StandsFor, messages_of, sender_of, state_with}
 use Rattle.message_resolution.specs.Histories.Courses.{Course, course_of, member_of, met_at}
 use Rattle.message_resolution.specs.Histories.Legal.{MayCome, is_from_other}
 use Rattle.message_resolution.specs.Histories.Worlds.{IsNodeAt}
 use Rattle.message_resolution.specs.inner.Runs.{AreFreshNodes, HoldsRun, MayMeetNode, NodesMeet, OneMeets}
 use Rattle.message_resolution.proofs.Knowing.States.{normal, raised, suspended, own_raised, raised_spoken}
 use Rattle.message_resolution.proofs.Coming.Kept.{silent_own}
-use Rattle.message_resolution.proofs.Coming.Advance.{advanced, local_same, local_other}
+use Rattle.message_resolution.proofs.Coming.Advance.{local_same, local_other}
 use Rattle.message_resolution.proofs.Coming.LegalPasts.{step_of, course_step, keeps, contains_got}
 use Rattle.message_resolution.proofs.Coming.FewMessages.{few_messages}
 use Rattle.message_resolution.proofs.Running.Places.{got_push, got_set}
@@ -106,8 +106,8 @@ module _ (order : CoverOrder) (sound : IsSound order) (count : ℕ) (past : List
               let at = holds.each t one.node one.was in
               let meets = one.meets in
               let stands : StandsFor order ((course_of order count (e ∷ past)).local t) one.next =
-                  subst (λ (c : Course). StandsFor order (c.local t) one.next) (sym same_course)
-                  (subst (λ local. StandsFor order local one.next) (sym (local_same order count course t step.x)) (meets.stands (course.local t) at.stands)) in
+              subst (λ (c : Course). StandsFor order (c.local t) one.next) (sym same_course)
+              (subst (λ local. StandsFor order local one.next) (sym (local_same order count course t step.x)) (meets.stands (course.local t) at.stands)) in
               let at_t : IsNodeAt order count (e ∷ past) t one.next = record { me = meets.me ∙ at.me; members = meets.count ∙ at.members; stands = stands } in
               subst (IsNodeAt order count (e ∷ past) u) here.1 (subst (λ v. IsNodeAt order count (e ∷ past) v one.next) (sym here.0) at_t)
           | inr other ↦

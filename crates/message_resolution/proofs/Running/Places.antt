@@ -1,14 +1,14 @@
 -- What stands at a place of a list, as an option.
-use Rattle.std.proofs.Common.{◌≡◌, ◌≢◌, ℕ, zero, suc, ◌+◌, ◌<◌, List, [], ◌∷◌, ◌++◌, length, slice_get, slice_set, Option, Some, None, inl, inr, ◌⊎◌, refl, sym, ◌∙◌, ap, subst, Contains, reverse, arith, Bool, true, ◌↔◌}
+use Rattle.std.proofs.Common.{◌≡◌, ◌≢◌, ℕ, zero, suc, List, [], ◌∷◌, ◌++◌, length, slice_get, slice_set, Some, inl, inr, ◌⊎◌, refl, sym, ◌∙◌, subst, Contains, reverse, arith, Bool, ◌↔◌}
 use Rattle.std.specs.Prelude.{IsTrue}
 use Rattle.std.specs.List.{list_any}
 use Rattle.message_resolution.specs.declared.world.event.Event.{Event}
-use Rattle.message_resolution.specs.declared.world.event.Event.TheVariants.{Raise, Deliver}
+use Rattle.message_resolution.specs.declared.world.event.Event.TheVariants.{Deliver}
 use Rattle.message_resolution.specs.inner.Deliveries.{is_delivery}
 use Rattle.message_resolution.proofs.Coming.Settled.{is_delivery_true, delivers_itself}
-use Rattle.std.proofs.lemmas.List.Elements.{Contains-append_left, Contains-append_right, Contains-append_cases}
+use Rattle.std.proofs.lemmas.List.Elements.{Contains-append_left, Contains-append_right}
 use Rattle.std.proofs.lemmas.List.{reverse-append, reverse-reverse}
-use Rattle.message_resolution.proofs.Containing.{nothing_in, first_in, later_in, cases_in, one_in, any_member, any_from}
+use Rattle.message_resolution.proofs.Containing.{nothing_in, first_in, cases_in, any_member, any_from}
 
 -- at a place of a longer list
 pub got_push : {A : Type 0} (xs : List A) (y x : A) (k : ℕ) → slice_get (xs ++ y ∷ []) k ≡ Some x → (slice_get xs k ≡ Some x) ⊎ ((k ≡ length xs) × (y ≡ x))

@@ -1,6 +1,6 @@
 -- Settling, one message and one member at a time.
-use Rattle.std.proofs.Common.{◌≡◌, ◌≢◌, ℕ, zero, suc, ◌+◌, ◌*◌, ◌<◌, ◌≤◌, true, List, [], ◌∷◌, ◌++◌, length, slice_get, Option, Some, None, inl, inr, ◌⊎◌, refl, sym, ◌∙◌, ap, subst, Contains, arith}
-use Rattle.std.proofs.lemmas.Bool.{cases_eq, cases_lt}
+use Rattle.std.proofs.Common.{◌≡◌, ℕ, zero, suc, ◌+◌, ◌*◌, ◌<◌, ◌≤◌, List, [], ◌∷◌, ◌++◌, length, slice_get, inl, inr, ◌⊎◌, refl, sym, ◌∙◌, ap, subst, Contains, arith}
+use Rattle.std.proofs.lemmas.Bool.{cases_eq}
 use Rattle.std.proofs.lemmas.Option.{slice_get_within}
 use Rattle.cover_table.specs.Cover.{CoverOrder, ComesBefore}
 use Rattle.message_resolution.specs.declared.node.message.Message.{Message}
@@ -8,7 +8,7 @@ use Rattle.message_resolution.specs.declared.world.event.Event.{Event}
 use Rattle.message_resolution.specs.declared.world.event.Event.TheVariants.{Deliver}
 use Rattle.message_resolution.specs.Histories.Courses.{Course, course_of}
 use Rattle.message_resolution.specs.Histories.Legal.{LegalPast, MayCome, is_from_other}
-use Rattle.message_resolution.specs.Histories.Settling.{IsDue, IsSettled, Settles, settled, delivers}
+use Rattle.message_resolution.specs.Histories.Settling.{IsDue, Settles, settled, delivers}
 use Rattle.message_resolution.specs.inner.Rows.{DeliversDue, DeliversRow, SettlesUpTo}
 use Rattle.message_resolution.specs.inner.Runs.{RunView}
 use Rattle.std.proofs.Math.Nat.{mul-le-mul_left}
@@ -37,7 +37,7 @@ module _ (order : CoverOrder) (count : ℕ) where
       let below = due_sent past number t due in
       let step = step_of order count past (Deliver t number) (due_may_come past number t due) in
       let same : slice_get (course_of order count (Deliver t number ∷ past)).messages n ≡ slice_get (course_of order count past).messages n =
-        ap (λ (c : Course). slice_get c.messages n) (course_step order count past (Deliver t number) step) ∙ got_before (course_of order count past).messages _ n (omega arith) in
+      ap (λ (c : Course). slice_get c.messages n) (course_step order count past (Deliver t number) step) ∙ got_before (course_of order count past).messages _ n (omega arith) in
       record {
         member = now.member;
         other = sym (ap (is_from_other u) same) ∙ now.other;

@@ -1,5 +1,5 @@
 -- What a world's run gives its readers, and keeps of its room.
-use Rattle.std.proofs.Common.{◌≡◌, ℕ, ◌+◌, ◌*◌, ◌<◌, ◌≤◌, List, length, Option, Some, None, refl, sym, ◌∙◌, ap, subst, Contains, arith}
+use Rattle.std.proofs.Common.{◌≡◌, ℕ, ◌+◌, ◌*◌, ◌≤◌, List, length, Option, Some, None, sym, subst, arith}
 use Rattle.std.specs.Prelude.{IfSome}
 use Rattle.cover_table.specs.Cover.{CoverOrder, IsSound}
 use Rattle.message_resolution.specs.declared.world.event.Event.{Event}

@@ -1,5 +1,5 @@
 -- What members that have decided agree on.
-use Rattle.std.specs.Prelude.{◌≡◌, ℕ, List, [], ◌∷◌, ◌++◌}
+use Rattle.std.specs.Prelude.{◌≡◌, ℕ, List, ◌++◌}
 use Rattle.cover_table.specs.Cover.{CoverOrder, IsLeastCover}
 use Rattle.message_resolution.specs.declared.world.event.Event.{Event}
 use Rattle.message_resolution.specs.Histories.Courses.{all_raised, HasDecided}

@@ -1,5 +1,5 @@
 -- How the network delivers all that it has not delivered.
-use Rattle.std.specs.Prelude.{◌≡◌, ◌≢◌, ℕ, ◌<◌, true, List, [], ◌∷◌, slice_get, Contains}
+use Rattle.std.specs.Prelude.{◌≡◌, ℕ, ◌<◌, true, List, ◌∷◌, slice_get, Contains}
 use Rattle.cover_table.specs.Cover.{CoverOrder, ComesBefore}
 use Rattle.message_resolution.specs.declared.world.event.Event.{Event}
 use Rattle.message_resolution.specs.declared.world.event.Event.TheVariants.{Deliver}

@@ -1,5 +1,5 @@
 -- What a run keeps: the messages that its history sent, and a node that stands for each member.
-use Rattle.std.specs.Prelude.{◌≡◌, ◌≢◌, ℕ, ◌+◌, ◌*◌, ◌<◌, ◌≤◌, List, [], ◌∷◌, length, reverse, slice_get, slice_set, Option, Some}
+use Rattle.std.specs.Prelude.{◌≡◌, ◌≢◌, ℕ, ◌*◌, ◌<◌, ◌≤◌, List, [], length, slice_get, slice_set, Some}
 use Rattle.cover_table.specs.Cover.{CoverOrder}
 use Rattle.message_resolution.specs.declared.node.message.Message.{Message}
 use Rattle.message_resolution.specs.declared.node.sent.Sent.{Sent}

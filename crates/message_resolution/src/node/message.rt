@@ -1,6 +1,7 @@
-ghost use Rattle.std.specs.Prelude.{◌≡◌};
+ghost use Rattle.std.specs.Prelude.{◌≡◌, ◌↔◌, IsTrue};
 
 use caa_base::written::entry::Exception;
+use exception_graph::Graph;
 
 /// What a member sends to all others.
 #[derive(Clone, Copy, Debug, PartialEq, Eq)]
@@ -15,14 +16,29 @@ pub enum Message {
 }
 
 impl Message {
-    ghost use Rattle.message_resolution.specs.Members.Nodes.{sender_of};
+    ghost use Rattle.message_resolution.specs.Members.Nodes.{IsMessage, sender_of};
 
     /// Who sent it.
     pub fn sender(&self) -> u32
         ensures { result ≡ sender_of self.now }
     {
         match *self {
-            Message::Raised { from, .. } | Message::Suspended { from } | Message::Resolved { from, .. } => from,
+            Message::Raised { from, .. }
+            | Message::Suspended { from }
+            | Message::Resolved { from, .. } => from,
+        }
+    }
+
+    /// Whether its sender is one of so many members and its exception, if it has one, is one of the
+    /// graph. A network may bring what isn't.
+    pub fn is_of(&self, graph: &Graph, count: u32) -> bool
+        ensures { IsTrue result ↔ IsMessage graph.now count self.now }
+    {
+        match *self {
+            Message::Raised { from, exception } | Message::Resolved { from, exception } => {
+                from < count && exception < graph.count()
+            }
+            Message::Suspended { from } => from < count,
         }
     }
 }

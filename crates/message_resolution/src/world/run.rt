@@ -33,7 +33,7 @@ pub struct Run {
 impl Model for Run {
     ghost use Rattle.std.specs.Prelude.{reverse, vec_capacity};
     ghost use Rattle.message_resolution.specs.inner.Rows.{DeliversDue, DeliversRow};
-ghost use Rattle.message_resolution.specs.inner.Runs.{HoldsRun, RunView};
+    ghost use Rattle.message_resolution.specs.inner.Runs.{HoldsRun, RunView};
 
     ghost Value = { RunView };
 
@@ -63,7 +63,10 @@ fn tell(graph: &Graph, messages: &Vec<Message>, nodes: &mut Vec<Node>, event: Ev
 {
     match event {
         Event::Raise { by, exception } => nodes[by as usize].raise(graph, exception),
-        Event::Deliver { to, message } => nodes[to as usize].receive(graph, messages[message as usize]),
+        Event::Deliver { to, message } => nodes[to as usize].receive(
+            graph,
+            messages[message as usize],
+        ),
     }
 }
 
@@ -97,7 +100,12 @@ fn has_delivery(events: &Vec<Event>, to: u32, message: u32) -> bool
 
 impl Run {
     /// A run without events, and with room for so many.
-    pub fn open(alloc: Global, graph: Graph, count: u32, event_room: usize) -> Result<Run, OutOfMemory>
+    pub fn open(
+        alloc: Global,
+        graph: Graph,
+        count: u32,
+        event_room: usize,
+    ) -> Result<Run, OutOfMemory>
         requires few { count ≤ most_members }
         ensures order { IfOk result (λ run. run.order ≡ graph) }
         ensures count { IfOk result (λ run. run.count ≡ count) }

@@ -1,7 +1,5 @@
-use Rattle.std.proofs.Common.{[], subst, sym}
-use Rattle.std.proofs.lemmas.List.Elements.{All-nil}
-use Rattle.cover_table.specs.Cover.{IsLeastCover}
-use Rattle.cover_table.proofs.Orders.{least_cons, least-one}
+use Rattle.std.proofs.Common.{subst}
+use Rattle.cover_table.proofs.Orders.{least_cons}
 use Rattle.message_resolution.specs.Members.Nodes.{IsCoverOf}
 use Rattle.message_resolution.proofs.node.joined.Goals as goal
 

@@ -1,4 +1,4 @@
-use Rattle.std.proofs.Common.{◌≡◌, true, false, Bool, None, subst, sym, ◌∙◌, ap}
+use Rattle.std.proofs.Common.{◌≡◌, true, None, subst, sym, ◌∙◌, ap}
 use Rattle.std.specs.List.{list_all}
 use Rattle.message_resolution.specs.contracts.node.Node.{the_view}
 use Rattle.message_resolution.specs.Members.Nodes.{Known}

@@ -1,9 +1,9 @@
-use Rattle.std.proofs.Common.{true, Some, None, subst, sym}
+use Rattle.std.proofs.Common.{true, Some, subst, sym}
 use Rattle.message_resolution.specs.contracts.node.Node.{the_view}
 use Rattle.message_resolution.specs.declared.node.message.Message.TheVariants as message
 use Rattle.message_resolution.specs.Members.Nodes.{Known}
 use Rattle.message_resolution.specs.inner.TakingIn.{IsResolutionOf, Resolves}
-use Rattle.message_resolution.proofs.Knowing.Resolving.{resolves_some, resolves_none}
+use Rattle.message_resolution.proofs.Knowing.Resolving.{resolves_some}
 use Rattle.message_resolution.proofs.node.Node.resolve.Goals as goal
 
 pub returns-in-Some : goal.returns-in-Some

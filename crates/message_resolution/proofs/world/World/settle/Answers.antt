@@ -1,4 +1,4 @@
-use Rattle.std.proofs.Common.{◌≡◌, ◌≢◌, ◌<◌, ℕ, List, [], length, subst, sym, arith}
+use Rattle.std.proofs.Common.{◌≡◌, ◌≢◌, List, [], subst, arith}
 use Rattle.message_resolution.specs.declared.world.event.Event.{Event}
 use Rattle.message_resolution.specs.Histories.Courses.{all_raised}
 use Rattle.message_resolution.specs.Histories.Settling.{AllHaveDecided, IsSettled, Settles, settled}

@@ -1,4 +1,4 @@
-use Rattle.std.proofs.Common.{◌≡◌, ◌∷◌, [], ◌++◌, List, length, length-append, subst, sym, ◌∙◌, arith}
+use Rattle.std.proofs.Common.{◌∷◌, [], length-append, subst, sym, ◌∙◌, arith}
 use Rattle.message_resolution.specs.Members.Nodes.{Known}
 use Rattle.message_resolution.specs.inner.Runs.{AreFreshNodes}
 use Rattle.message_resolution.proofs.Running.NodesFollow.{fresh_more}

@@ -1,4 +1,4 @@
-use Rattle.std.proofs.Common.{◌≡◌, ◌≤◌, ◌<◌, vec_capacity, length}
+use Rattle.std.proofs.Common.{◌≡◌, vec_capacity, length}
 use Rattle.message_resolution.specs.inner.Runs.{AreFreshNodes}
 use Rattle.message_resolution.proofs.world.run.open_nodes.Given as goal
 

@@ -1,8 +1,7 @@
-use Rattle.std.proofs.Common.{◌≡◌, ◌≤◌, ◌+◌, ℕ, List, vec_capacity, [], ◌∷◌, ◌++◌, reverse, length, subst, sym, ◌∙◌, ap, arith}
+use Rattle.std.proofs.Common.{◌≡◌, ℕ, List, vec_capacity, [], ◌∷◌, ◌++◌, reverse, subst, sym, ◌∙◌, ap, arith}
 use Rattle.std.proofs.lemmas.List.{reverse-append}
 use Rattle.message_resolution.specs.declared.node.message.Message.{Message}
 use Rattle.message_resolution.specs.Members.Nodes.{Known, messages_of}
-use Rattle.message_resolution.specs.declared.world.event.Event.{Event}
 use Rattle.message_resolution.specs.Histories.Legal.{MayCome}
 use Rattle.message_resolution.specs.inner.Runs.{RunView, HoldsRun}
 use Rattle.message_resolution.proofs.Running.NodesFollow.{may_meet_at, next_room, next_holds}

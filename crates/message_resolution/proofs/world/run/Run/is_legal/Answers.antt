@@ -1,6 +1,5 @@
-use Rattle.std.proofs.Common.{◌≡◌, ◌<◌, reverse, true, false, Bool, Some, subst, sym, ◌∙◌, ap, slice_get, arith}
+use Rattle.std.proofs.Common.{◌≡◌, reverse, true, false, subst, sym, ◌∙◌}
 use Rattle.std.proofs.lemmas.Bool.{not_from_true, not_from_false}
-use Rattle.std.proofs.lemmas.Option.{slice_get_read}
 use Rattle.message_resolution.specs.declared.world.event.Event.{Event}
 use Rattle.message_resolution.specs.declared.world.event.Event.TheVariants.{Raise}
 use Rattle.message_resolution.specs.Histories.Courses.{course_of}

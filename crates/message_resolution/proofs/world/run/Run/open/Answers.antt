@@ -1,5 +1,4 @@
-use Rattle.std.proofs.Common.{arith, sym, ◌∙◌}
-use Rattle.message_resolution.specs.inner.Runs.{HoldsRun}
+use Rattle.std.proofs.Common.{arith}
 use Rattle.message_resolution.proofs.Running.NodesFollow.{starts}
 use Rattle.message_resolution.proofs.world.run.Run.open.Goals as goal
 

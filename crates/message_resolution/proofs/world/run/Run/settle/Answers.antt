@@ -1,4 +1,4 @@
-use Rattle.std.proofs.Common.{◌≡◌, ◌*◌, ◌≤◌, ◌+◌, ℕ, length, subst, sym, ◌∙◌, ap, arith}
+use Rattle.std.proofs.Common.{◌≡◌, ◌*◌, ℕ, subst, ap, arith}
 use Rattle.cover_table.specs.Cover.{CoverOrder}
 use Rattle.message_resolution.specs.Histories.Legal.{LegalPast}
 use Rattle.message_resolution.specs.inner.Rows.{SettlesUpTo}
