@@ -18,6 +18,8 @@ mod replays;
 #[cfg(test)]
 mod script_texts;
 #[cfg(test)]
+mod messages;
+#[cfg(test)]
 mod top_calls;
 #[cfg(test)]
 mod views;

@@ -3,8 +3,6 @@
 #![tactic(auto)]
 
 mod node;
-#[cfg(test)]
-mod tests;
 mod world;
 
 pub use node::Node;

@@ -3,22 +3,19 @@ ghost use Rattle.message_resolution.specs.Histories.Legal.{IsInRange};
 
 mod network;
 
-use crate::node::message::Message;
-use crate::node::state::State;
-use crate::world::World;
-use crate::world::event::Event;
 use exception_graph::{Graph, GraphError};
+use message_resolution::{Event, Message, State, World};
 use std::alloc::Global;
 use std::test::Fail;
 
-const MID: u32 = 1;
-const LEFT: u32 = 2;
-const RIGHT: u32 = 3;
+pub const MID: u32 = 1;
+pub const LEFT: u32 = 2;
+pub const RIGHT: u32 = 3;
 const FAR: u32 = 4;
 const ROOM: u32 = 13;
 
 /// Universal; mid, over left and right; far.
-fn tree(alloc: Global) -> Result<Graph, GraphError>
+pub fn tree(alloc: Global) -> Result<Graph, GraphError>
     ensures { IfOk result (λ graph. graph.count ≡ 5) }
 {
     Graph::build(alloc, 5, &[(MID, LEFT), (MID, RIGHT)])

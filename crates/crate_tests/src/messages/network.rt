@@ -1,12 +1,9 @@
 ghost use Rattle.std.specs.Prelude.{◌≡◌, ◌<◌, ◌≤◌, IfOk};
 
-use crate::node::Node;
-use crate::node::message::Message;
-use crate::node::sent::Sent;
-use crate::node::state::State;
-use crate::tests::{LEFT, MID, RIGHT, tree};
+use crate::messages::{LEFT, MID, RIGHT, tree};
 use caa_base::written::entry::{Exception, OutOfMemory};
 use exception_graph::Graph;
+use message_resolution::{Message, Node, Sent, State};
 use std::alloc::{AllocError, Global};
 use std::marker::Model;
 use std::test::Fail;
@@ -63,7 +60,7 @@ impl Controller {
     }
 }
 
-/// A network of which nothing is known: here it loses two messages in three, and brings the others twice.
+/// A network of which nothing is known: here it loses four messages in five, and brings the others twice.
 #[derive(Drop)]
 struct Network {
     said: Vec<Message>,
@@ -84,7 +81,7 @@ impl Network {
     /// Whether it carries a message this time.
     fn carries(&mut self) -> bool {
         self.carried = self.carried.wrapping_add(1);
-        self.carried % 3 == 0
+        self.carried % 5 == 0
     }
 }
 
@@ -115,7 +112,7 @@ fn agree_over_a_network_that_loses_and_doubles(rt: HostRuntime) -> Result<(), Fa
     network.say(sent)?;
     let sent = bob.raise(RIGHT);
     network.say(sent)?;
-    for _ in 0..8 {
+    for _ in 0..12 {
         say_all_again(&mut network, &mut ann)?;
         say_all_again(&mut network, &mut bob)?;
     }
