@@ -1,5 +1,0 @@
--- How a world of a plan goes on as the definitions say, and what is written of it.
-pub mod Wishes
-pub mod Steps
-pub mod Rounds
-pub mod Lines

@@ -1,2 +1,0 @@
--- Inner definitions: nobody who reads the contracts of this crate has to believe them.
-pub mod WorldOfPlan
