@@ -9,9 +9,13 @@ use std::alloc::Global;
 use std::test::Fail;
 
 pub const MID: u32 = 1;
+
 pub const LEFT: u32 = 2;
+
 pub const RIGHT: u32 = 3;
+
 const FAR: u32 = 4;
+
 const ROOM: u32 = 13;
 
 /// Universal; mid, over left and right; far.
@@ -33,14 +37,36 @@ fn happens(world: &mut World, event: Event) -> bool
 #[test]
 fn the_greater_of_two_raisers_resolves(rt: HostRuntime) -> Result<(), Fail> {
     let mut world = World::open(rt.alloc(), tree(rt.alloc())?, 2, ROOM)?;
-    assert!(rt; happens(&mut world, Event::Raise { by: 0, exception: LEFT }));
-    assert!(rt; happens(&mut world, Event::Raise { by: 1, exception: RIGHT }));
+    assert!(rt;
+        happens(
+            &mut world,
+            Event::Raise {
+                by: 0,
+                exception: LEFT
+            }
+        )
+    );
+    assert!(rt;
+        happens(
+            &mut world,
+            Event::Raise {
+                by: 1,
+                exception: RIGHT
+            }
+        )
+    );
     assert!(rt; happens(&mut world, Event::Deliver { to: 1, message: 0 }));
     assert!(rt; happens(&mut world, Event::Deliver { to: 1, message: 0 }));
     assert_eq!(rt; world.decided(0), None);
     assert_eq!(rt; world.decided(1), Some(MID));
     assert_eq!(rt; world.sent(), 3);
-    assert_eq!(rt; world.message(2), Message::Resolved { from: 1, exception: MID });
+    assert_eq!(rt;
+        world.message(2),
+        Message::Resolved {
+            from: 1,
+            exception: MID
+        }
+    );
 
     world.settle();
     assert_eq!(rt; world.len(), 6);
@@ -56,11 +82,35 @@ fn the_greater_of_two_raisers_resolves(rt: HostRuntime) -> Result<(), Fail> {
 fn who_is_told_first_raises_no_more(rt: HostRuntime) -> Result<(), Fail> {
     let mut world = World::open(rt.alloc(), tree(rt.alloc())?, 2, ROOM)?;
     assert!(rt; !happens(&mut world, Event::Deliver { to: 1, message: 0 }));
-    assert!(rt; happens(&mut world, Event::Raise { by: 0, exception: FAR }));
+    assert!(rt;
+        happens(
+            &mut world,
+            Event::Raise {
+                by: 0,
+                exception: FAR
+            }
+        )
+    );
     assert!(rt; !happens(&mut world, Event::Deliver { to: 0, message: 0 }));
     assert!(rt; happens(&mut world, Event::Deliver { to: 1, message: 0 }));
-    assert!(rt; !happens(&mut world, Event::Raise { by: 1, exception: RIGHT }));
-    assert!(rt; !happens(&mut world, Event::Raise { by: 0, exception: RIGHT }));
+    assert!(rt;
+        !happens(
+            &mut world,
+            Event::Raise {
+                by: 1,
+                exception: RIGHT
+            }
+        )
+    );
+    assert!(rt;
+        !happens(
+            &mut world,
+            Event::Raise {
+                by: 0,
+                exception: RIGHT
+            }
+        )
+    );
     assert_eq!(rt; world.len(), 2);
     assert_eq!(rt; world.raised(1), None);
 
