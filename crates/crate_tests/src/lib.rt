@@ -16,8 +16,6 @@ mod graphs;
 #[cfg(test)]
 mod journal_texts;
 #[cfg(test)]
-mod messages;
-#[cfg(test)]
 mod replays;
 #[cfg(test)]
 mod script_texts;
