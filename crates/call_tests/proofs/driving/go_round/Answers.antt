@@ -1,6 +1,6 @@
 use Rattle.std.proofs.lemmas.List.Elements.{All-set}
 use Rattle.action_manager.specs.Managers.{IsSeatIn}
-use Rattle.crate_tests.proofs.driving.go_round.Goals as goal
+use Rattle.call_tests.proofs.driving.go_round.Goals as goal
 
 pub loop-index-preserved : goal.loop-index-preserved
 loop-index-preserved g c =

@@ -1,6 +1,6 @@
 use Rattle.std.proofs.Common.{◌≡◌, length}
 use Rattle.place_plan.specs.RulesOfJournals.WellFormed.{AllWellFormed}
-use Rattle.crate_tests.proofs.journal_texts.texts.journal_of.Given as goal
+use Rattle.journal_tests.proofs.journal_texts.texts.journal_of.Given as goal
 
 abbrev pub invariant-loop-entry : goal.invariant-loop-entry
 invariant-loop-entry g l = record {
