@@ -1,2 +1,0 @@
-mod seens;
-mod texts;
