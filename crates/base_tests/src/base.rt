@@ -1,0 +1,11 @@
+mod digits;
+mod errors;
+mod gate;
+mod journal;
+mod line;
+mod memory;
+mod name;
+mod reading;
+mod rows;
+mod standard;
+mod work;
