@@ -5,7 +5,7 @@ use Rattle.std.proofs.lemmas.Bool.{or_cases, or_right, eqb-true, eq-eqb}
 use Rattle.std.proofs.lemmas.List.Elements.{All-contains}
 use Rattle.cover_table.specs.Cover.{order_of_rows, tells}
 use Rattle.exception_graph.specs.Chains.{Chain, IsDeclared, IsOrderOf, none, more, universal, pair}
-use Rattle.exception_graph.specs.inner.Closing.{AddsPairs, AreBare, AreClosedOver, TellChains, TellDeclared, TellMore}
+use Rattle.exception_graph.specs.inner.Closing.{AddsPairs, AreBare, AreClosedOver, StayBelow, TellChains, TellDeclared, TellMore}
 
 module _ (count : ℕ) (pairs : List (ℕ × ℕ)) (in_range : All (λ (p : ℕ × ℕ). (p.0 < count) × (p.1 < count)) pairs) where
   declared_in : {a b : ℕ} → IsDeclared count pairs a b → b < count
@@ -62,10 +62,23 @@ module _ (count : ℕ) (pairs : List (ℕ × ℕ)) (in_range : All (λ (p : ℕ 
     declared = λ a b a_in b_in step. grows a b (omega arith) (declares.declared a b a_in b_in step);
   }
 
+  -- and stay below the count, as the bare ones do
+  pub added_within : (bare added : List ℕ) → length bare ≡ count → StayBelow count bare
+      → AddsPairs bare added pairs (length pairs) → StayBelow count added
+  added_within bare added many within adds a b a_in told =
+      let as_many = adds.as_many in
+      elim (adds.only a b (omega arith) told) [
+        | inl before ↦ within a b (omega arith) before
+        | inr among ↦ declared_in (pair (subst (λ (xs : List (ℕ × ℕ)). Contains xs (a, b)) (take-length pairs) among))
+      ]
+
   -- such rows are the order of the pairs
   pub order_told : (rows : List ℕ) → length rows ≡ count → TellDeclared count pairs rows
-      → AreClosedOver rows (length rows) → TellChains count pairs rows → IsOrderOf count pairs (order_of_rows rows)
-  order_told rows many declares closed chains = record {
+      → AreClosedOver rows (length rows) → TellChains count pairs rows → StayBelow count rows
+      → IsOrderOf count pairs (order_of_rows rows)
+  order_told rows many declares closed chains within = record {
     counts = many;
+    rows = many;
+    within = λ a b a_in told. within a b (omega arith) told;
     tells = λ a b a_in b_in. (chains a b a_in b_in, λ chain. chain_told rows many declares closed chain a_in);
   }

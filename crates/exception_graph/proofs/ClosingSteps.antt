@@ -3,7 +3,7 @@ use Rattle.std.proofs.Common.{◌≡◌, ◌<◌, ◌+◌, ◌&&◌, ◌⊎◌, 
 use Rattle.std.proofs.lemmas.Bool.{or_cases, or_left, or_right, and_parts, and_from, cases_eq}
 use Rattle.cover_table.specs.Cover.{tells}
 use Rattle.exception_graph.specs.Chains.{Chain, none, more}
-use Rattle.exception_graph.specs.inner.Closing.{TellChains, AreClosedOver, AreExtended}
+use Rattle.exception_graph.specs.inner.Closing.{TellChains, AreClosedOver, AreExtended, StayBelow}
 
 -- chains one after another
 pub chain-append : {count : ℕ} {pairs : List (ℕ × ℕ)} {a b c : ℕ} → Chain count pairs a b → Chain count pairs b c → Chain count pairs a c
@@ -69,3 +69,10 @@ module _ (old new : List ℕ) (m : ℕ) (step : AreExtended old new m) where
         | inl one ↦ chains a b a_in b_in one
         | inr two ↦ chain-append (chains a m a_in m_in two.0) (chains m b m_in b_in two.1)
       ]
+
+  -- rows that stay below a count still do
+  pub within_more : (count : ℕ) → m < length old → StayBelow count old → StayBelow count new
+  within_more count m_in within a b a_new told =
+      let many = step.as_many in
+      let a_in : a < length old = omega arith in
+      elim (told_before a b a_in told) [ inl one ↦ within a b a_in one | inr two ↦ within m b m_in two.1 ]

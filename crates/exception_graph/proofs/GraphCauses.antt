@@ -1,8 +1,12 @@
 -- Each refusal has its own cause, and no graph has two.
-use Rattle.std.proofs.Common.{◌≡◌, ◌<◌, ◌≤◌, ◌↔◌, inl, inr, ℕ, Bool, true, false, List, [], ◌∷◌, Result, Ok, Err, MatchResult, sym, ap, ◌∙◌, subst, refl, arith}
+use Rattle.std.proofs.Common.{◌≡◌, ◌<◌, ◌≤◌, ◌↔◌, inl, inr, ℕ, Bool, true, false, List, [], ◌∷◌, Result, Ok, Err, MatchResult, get_or, sym, ap, ◌∙◌, subst, refl, arith}
 use Rattle.std.specs.Prelude.{IsErrOf, IsOkUnless}
+use Rattle.std.specs.Int.{bit_at}
 use Rattle.std.proofs.lemmas.Bool.{cases_order}
+use Rattle.std.proofs.lemmas.List.{ext_get_or}
+use Rattle.std.proofs.lemmas.Nat.Bits.{same_from_bits}
 use Rattle.cover_table.specs.Cover.{most_exceptions, CoverOrder, covers, covers_each, IsLeastCover, IsFirstWithoutLeast}
+use Rattle.cover_table.proofs.Bits.{same_bit}
 use Rattle.cover_table.proofs.Orders.{first-same, sound_has_none}
 use Rattle.exception_graph.specs.Chains.{IsFirstInCycle, IsFirstUnjoined, IsInCycle, IsOrderOf, IsSoundGraph}
 use Rattle.exception_graph.specs.inner.Refusals.{IsRefusal}
@@ -14,6 +18,9 @@ same_tests : {P : Type 0} (x y : Bool) → (x ≡ true) ↔ P → (y ≡ true) �
 same_tests true y h k = sym (k.1 (h.0 refl))
 same_tests false true h k = h.1 (k.0 refl)
 same_tests false false h k = refl
+
+abbrev with_rows : ℕ → List ℕ → CoverOrder
+with_rows n rows = record { count = n; rows = rows }
 
 module _ (count : ℕ) (pairs : List (ℕ × ℕ)) where
   module _ (order other : CoverOrder) (is : IsOrderOf count pairs order) (too : IsOrderOf count pairs other) where
@@ -38,6 +45,22 @@ module _ (count : ℕ) (pairs : List (ℕ × ℕ)) where
               let y_below : y < count = omega arith in
               sym (covers-same y x y_below x_in) ∙ h.least y (omega arith) (covers_both-same y a b y_below a_in b_in ∙ each);
         }
+
+    -- bit by bit, also past the count, where neither has any
+    bit-same : (a b : ℕ) → a < count → bit_at (get_or order.rows a 0) b ≡ bit_at (get_or other.rows a 0) b
+    bit-same a b a_in = same_bit (get_or order.rows a 0) (get_or other.rows a 0) b
+        (λ told. sym (covers-same a b a_in (is.within a b a_in told)) ∙ told)
+        (λ told. covers-same a b a_in (too.within a b a_in told) ∙ told)
+
+    rows-same : order.rows ≡ other.rows
+    rows-same =
+        let many = is.rows in
+        ext_get_or 0 order.rows other.rows (is.rows ∙ sym too.rows)
+        (λ a a_in. same_from_bits (get_or order.rows a 0) (get_or other.rows a 0) (λ b. bit-same a b (omega arith)))
+
+    -- so they are one
+    pub order-same : order ≡ other
+    order-same = ap (λ (n : ℕ). with_rows n order.rows) (is.counts ∙ sym too.counts) ∙ ap (with_rows other.count) rows-same
 
   -- the first pair without a least cover in the one is so in the other
   unjoined-same : (order other : CoverOrder) → IsOrderOf count pairs order → IsOrderOf count pairs other → (a b : ℕ)

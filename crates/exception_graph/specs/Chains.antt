@@ -1,5 +1,5 @@
 -- The order that declared pairs make, and what makes a graph of exceptions unsound.
-use Rattle.std.specs.Prelude.{◌≡◌, ◌≢◌, ◌↔◌, ◌<◌, ◌≤◌, ℕ, true, List, Contains}
+use Rattle.std.specs.Prelude.{◌≡◌, ◌≢◌, ◌↔◌, ◌<◌, ◌≤◌, ℕ, true, List, Contains, length}
 use Rattle.cover_table.specs.Cover.{most_exceptions, CoverOrder, covers, IsFirstWithoutLeast, IsSound}
 
 -- a is declared over b: by a pair, or since 0 is universal
@@ -12,9 +12,11 @@ pub data Chain (count : ℕ) (pairs : List (ℕ × ℕ)) : ℕ → ℕ → Type 
   none : {a : ℕ} → Chain count pairs a a
   more : {a b c : ℕ} → IsDeclared count pairs a b → Chain count pairs b c → Chain count pairs a c
 
--- an order whose rows tell just the chains
+-- the order whose rows tell just the chains: a row for each exception, and no bit past them
 pub record IsOrderOf (count : ℕ) (pairs : List (ℕ × ℕ)) (order : CoverOrder) : Type 0 where
   pub counts : order.count ≡ count
+  pub rows : length order.rows ≡ count
+  pub within : (a b : ℕ) → a < count → covers order a b ≡ true → b < count
   pub tells : (a b : ℕ) → a < count → b < count → (covers order a b ≡ true) ↔ Chain count pairs a b
 
 -- a covers another exception that covers it

@@ -1,7 +1,7 @@
-ghost use Rattle.std.specs.Prelude.{◌≡◌, ◌==◌, ◌&&◌, ◌||◌, ◌<◌, ◌≤◌, ℕ, List, length, All};
+ghost use Rattle.std.specs.Prelude.{◌≡◌, ◌==◌, ◌&&◌, ◌||◌, ◌<◌, ◌≤◌, ◌↔◌, ℕ, true, List, length, All};
 ghost use Rattle.cover_table.specs.Cover.{has_bit, order_of_rows, most_exceptions};
 ghost use Rattle.exception_graph.specs.Chains.{IsOrderOf};
-ghost use Rattle.exception_graph.specs.inner.Closing.{AddsPair, AddsPairs, AreBare, AreClosedOver, AreExtended, TellChains, TellMore};
+ghost use Rattle.exception_graph.specs.inner.Closing.{AddsPair, AddsPairs, AreBare, AreClosedOver, AreExtended, StayBelow, TellChains, TellMore};
 
 use cover_table::{Row, has_bit, with_bit};
 
@@ -38,18 +38,37 @@ fn close(rows: &mut [Row])
     ensures closed { AreClosedOver rows.new (length rows.new) }
     ensures chains { (pairs : List (ℕ × ℕ)) →
         TellChains (length rows.old) pairs rows.old → TellChains (length rows.old) pairs rows.new }
+    ensures within { (count : ℕ) → StayBelow count rows.old → StayBelow count rows.new }
 {
     for over in 0..rows.len() as u32 {
         extend_over(rows, over);
     }
 }
 
-/// The row of an exception before anything is declared: itself, or all for 0.
-fn bare_row(a: u32) -> Row
-    requires { a < most_exceptions }
-    ensures { (b : ℕ) → b < most_exceptions → has_bit result b ≡ (a == 0 || b == a) }
+/// A row of the first `count` exceptions.
+fn full_row(count: u32) -> Row
+    requires { count ≤ most_exceptions }
+    ensures { (b : ℕ) → (has_bit result b ≡ true) ↔ (b < count) }
 {
-    if a == 0 { Row::MAX } else { with_bit(0, a) }
+    let mut row = 0;
+    for b in 0..count {
+        row = with_bit(row, b);
+    }
+    row
+}
+
+/// The row of one of `count` exceptions before anything is declared: itself, or all of them for 0.
+fn bare_row(a: u32, count: u32) -> Row
+    requires few { count ≤ most_exceptions }
+    requires a_in { a < count }
+    ensures tells { (b : ℕ) → b < count → has_bit result b ≡ (a == 0 || b == a) }
+    ensures within { (b : ℕ) → has_bit result b ≡ true → b < count }
+{
+    if a == 0 {
+        full_row(count)
+    } else {
+        with_bit(0, a)
+    }
 }
 
 /// Makes rows tell that each exception covers itself and 0 covers all, and nothing more.
@@ -57,9 +76,11 @@ fn make_bare(rows: &mut [Row])
     requires { length rows.old ≤ most_exceptions }
     ensures as_many { length rows.new ≡ length rows.old }
     ensures bare { AreBare rows.new }
+    ensures within { StayBelow (length rows.new) rows.new }
 {
+    let count = rows.len() as u32;
     for (a, row) in rows.iter_mut().enumerate() {
-        *row = bare_row(a as u32);
+        *row = bare_row(a as u32, count);
     }
 }
 

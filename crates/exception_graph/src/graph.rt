@@ -1,5 +1,5 @@
-ghost use Rattle.std.specs.Prelude.{◌≡◌, ◌<◌, ◌≤◌, ◌↔◌, ℕ, length, All, IfOk, IfErr, OnOk, IsErrOf, IsOkUnless};
-ghost use Rattle.cover_table.specs.Cover.{IsLeastCover, IsSound, SetsHaveLeastCovers, covers, most_exceptions};
+ghost use Rattle.std.specs.Prelude.{◌≡◌, ◌<◌, ◌≤◌, ◌↔◌, ℕ, List, length, All, IfOk, IfErr, OnOk, IsErrOf, IsOkUnless};
+ghost use Rattle.cover_table.specs.Cover.{CoverOrder, IsLeastCover, IsSound, SetsHaveLeastCovers, covers, most_exceptions};
 ghost use Rattle.exception_graph.specs.Chains.{IsFirstInCycle, IsFirstUnjoined, IsOrderOf, IsSoundGraph};
 ghost use Rattle.exception_graph.specs.Graph.{HasUniversal};
 ghost use Rattle.exception_graph.specs.inner.Refusals.{IsRefusal};
@@ -30,6 +30,12 @@ impl Model for Graph {
 
     ghost invariant = { λ g. HasUniversal g.table };
 }
+
+/// Declared pairs make one order: `Graph::build` has one graph to answer with.
+pub fn one_order()
+    ensures { (count : ℕ) (pairs : List (ℕ × ℕ)) (one other : CoverOrder) →
+        IsOrderOf count pairs one → IsOrderOf count pairs other → one ≡ other }
+{}
 
 /// The table of least covers of the order that these pairs make.
 fn table_of_pairs(alloc: Global, count: u32, pairs: &[(u32, u32)]) -> Result<BoxedTable, GraphError>

@@ -17,6 +17,10 @@ abbrev pub AreClosedOver : List ℕ → ℕ → Type 0
 AreClosedOver rows bound =
     (m a b : ℕ) → m < bound → a < length rows → tells rows a m ≡ true → tells rows m b ≡ true → tells rows a b ≡ true
 
+-- no row tells of an exception from the count on
+abbrev pub StayBelow : ℕ → List ℕ → Type 0
+StayBelow count rows = (a b : ℕ) → a < length rows → tells rows a b ≡ true → b < count
+
 -- the new rows tell what the old ones did
 abbrev pub TellMore : List ℕ → List ℕ → Type 0
 TellMore old new = (a b : ℕ) → a < length old → tells old a b ≡ true → tells new a b ≡ true

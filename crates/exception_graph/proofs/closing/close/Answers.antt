@@ -1,5 +1,5 @@
 use Rattle.std.proofs.Common.{◌<◌, length, arith}
-use Rattle.exception_graph.proofs.ClosingSteps.{told_in_one, closed_more, chains_more}
+use Rattle.exception_graph.proofs.ClosingSteps.{told_in_one, closed_more, chains_more, within_more}
 use Rattle.exception_graph.proofs.closing.close.Goals as goal
 
 pub loop-over-preserved : goal.loop-over-preserved
@@ -16,4 +16,6 @@ loop-over-preserved c =
       chains =
           λ pairs chains. chains_more old new _ step (length c.args.rows.now) pairs (omega arith) (omega arith)
           (before.chains pairs chains);
+      within =
+          λ count within. within_more old new _ step count (omega arith) (before.within count within);
     }

@@ -1,5 +1,5 @@
 use Rattle.std.proofs.Common.{◌≡◌, ℕ, List, length}
-use Rattle.exception_graph.specs.inner.Closing.{AreClosedOver, TellChains, TellMore}
+use Rattle.exception_graph.specs.inner.Closing.{AreClosedOver, StayBelow, TellChains, TellMore}
 use Rattle.exception_graph.proofs.closing.close.Given as goal
 
 abbrev pub invariant-loop-over : goal.invariant-loop-over
@@ -9,4 +9,5 @@ invariant-loop-over l = record {
   closed : AreClosedOver l.rows l.over;
   chains : (pairs : List (ℕ × ℕ)) → TellChains (length l.initial.rows) pairs l.initial.rows
       → TellChains (length l.initial.rows) pairs l.rows;
+  within : (count : ℕ) → StayBelow count l.initial.rows → StayBelow count l.rows;
 }

@@ -1,6 +1,6 @@
 use Rattle.std.proofs.Common.{◌≡◌, ℕ, List, length, sym, ◌∙◌, subst}
-use Rattle.exception_graph.specs.inner.Closing.{TellChains}
-use Rattle.exception_graph.proofs.Chained.{added_declared, added_chains, declared_more, order_told}
+use Rattle.exception_graph.specs.inner.Closing.{StayBelow, TellChains}
+use Rattle.exception_graph.proofs.Chained.{added_declared, added_chains, added_within, declared_more, order_told}
 use Rattle.exception_graph.proofs.closing.tell_chains.Goals as goal
 
 pub returns-clause-chains : goal.returns-clause-chains
@@ -23,4 +23,9 @@ returns-clause-chains c =
     let chains : TellChains count pairs closed =
     subst (λ (n : ℕ). TellChains n pairs closed) many_added
     (c.close.ensures.chains pairs (subst (λ (n : ℕ). TellChains n pairs added) (sym many_added) before)) in
-    order_told count pairs c.requires.in_range closed many_closed declares c.close.ensures.closed chains
+    let bare_below : StayBelow count bare =
+    subst (λ (n : ℕ). StayBelow n bare) many_bare c.make_bare.ensures.within in
+    let within : StayBelow count closed =
+    c.close.ensures.within count
+    (added_within count pairs c.requires.in_range bare added many_bare bare_below c.add_pairs.ensures) in
+    order_told count pairs c.requires.in_range closed many_closed declares c.close.ensures.closed chains within
