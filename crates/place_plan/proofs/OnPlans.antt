@@ -9,3 +9,4 @@ pub mod Weighing
 pub mod Unfolds
 pub mod MadePlan
 pub mod ClosedPlan
+pub mod SmallParts

@@ -1,6 +1,8 @@
 ghost use Rattle.std.specs.Prelude.{◌≡◌, ◌<◌, ◌≤◌, ◌+◌, ◌-◌, ◌^◌, ℕ, List, length, slice_index_or, reverse, IsTrue, ◌↔◌};
 ghost use Rattle.caa_base.specs.declared.written.entry.Entry.{Entry as JournalEntry};
+ghost use Rattle.place_plan.specs.Plans.Bound.{bound};
 ghost use Rattle.place_plan.specs.Plans.PlanValue.{Plan as PlanValue};
+ghost use Rattle.place_plan.specs.declared.rules.machine.Base.{Base as BaseValue};
 ghost use Rattle.place_plan.specs.RulesOfJournals.Objects.{value_of};
 ghost use Rattle.place_plan.specs.RulesOfJournals.Journals.{LegalPast, IsComplete, faults_in};
 ghost use Rattle.caa_base.specs.Outside.Counts.{CountsFault};
@@ -27,17 +29,29 @@ pub enum Answer {
     Over,
 }
 
+/// What stands before a play, and stays as it is. Contracts speak of it; no value of it is made.
+#[derive(Drop)]
+pub struct Base {
+    /// How many faults the device had counted before the play.
+    pub faults: u64,
+    /// Whether the device tells its values.
+    pub tells_values: bool,
+    /// Whether the device tells its drills.
+    pub tells_drills: bool,
+}
+
 /// A plan that is played entry by entry.
 ///
-/// Contracts see its plan, its journal and two counts of the device's faults: the one that stood before the play, and that of now.
-/// The journal is legal at all times. The plan and the first count stay as they are. The second goes up by one as a refused put or
-/// restore is entered, unless it stands at its end, and at no other time. No call takes memory.
+/// Contracts see its plan, its journal, its base and a count of the device's faults. The base is that count as it stood before the
+/// play, and whether the device tells its values and its drills. The journal is legal at all times. The plan and the base stay as
+/// they are, so what the device told before it goes on telling. The count goes up by one as a refused put or restore is entered,
+/// unless it stands at its end, and at no other time. No call takes memory.
 pub trait Machine {
     ghost plan_of: { Self → PlanValue };
 
     ghost journal_of: { Self → List JournalEntry };
 
-    ghost base_of: { Self → ℕ };
+    ghost base_of: { Self → BaseValue };
 
     ghost count_of: { Self → ℕ };
 
@@ -58,9 +72,10 @@ pub trait Machine {
         ensures count { CountsFault (made_fault result) (count_of self.old) (count_of self.new) }
         ensures answer { Answers (plan_of self.old) (journal_of self.old) (journal_of self.new) by hint result };
 
-    /// How many entries the journal has.
+    /// How many entries the journal has: no more than the plan's bound.
     fn journal_len(&self) -> u64
-        ensures { result ≡ length (journal_of self.now) };
+        ensures value { result ≡ length (journal_of self.now) }
+        ensures bound { result ≤ bound (plan_of self.now) };
 
     /// The entry at this index of the journal, counted from 0.
     fn entry(&self, index: u64) -> Entry
@@ -80,9 +95,9 @@ pub trait Machine {
     ghost legal: { (m : Self) → LegalPast (plan_of m) (reverse (journal_of m)) };
 
     /// Faults that were counted before the play are counted now.
-    ghost counted: { (m : Self) → base_of m ≤ count_of m };
+    ghost counted: { (m : Self) → (base_of m).faults ≤ count_of m };
 
     /// Fault law: as long as the device's count isn't at its end, it rose at least once for each put and restore of the journal
     /// that the device refused.
-    ghost faulted: { (m : Self) → count_of m < 2 ^ 64 - 1 → base_of m + faults_in (journal_of m) ≤ count_of m };
+    ghost faulted: { (m : Self) → count_of m < 2 ^ 64 - 1 → (base_of m).faults + faults_in (journal_of m) ≤ count_of m };
 }
