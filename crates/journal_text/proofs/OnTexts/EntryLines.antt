@@ -9,19 +9,16 @@ use Rattle.caa_base.specs.Written.Lines.{spaced, line}
 use Rattle.caa_base.specs.declared.written.entry.Entry.{Entry}
 use Rattle.caa_base.specs.declared.written.entry.Kind.{Kind}
 use Rattle.caa_base.specs.declared.written.entry.Kind.TheVariants as kind
-use Rattle.caa_base.specs.declared.written.entry.Verdict.{Verdict}
-use Rattle.caa_base.specs.declared.written.entry.Verdict.TheVariants as verdict
-use Rattle.caa_base.specs.declared.written.entry.Outcome.{Outcome}
-use Rattle.caa_base.specs.declared.written.entry.Outcome.TheVariants as outcome
 use Rattle.place_plan.specs.Plans.PlanValue.{Plan}
 use Rattle.place_plan.specs.Plans.Places.{action_at, parent, graph_at, exception_name, interface_of}
 use Rattle.place_plan.specs.RulesOfJournals.Rules.{IsPlain}
 use Rattle.place_plan.specs.RulesOfJournals.WellFormed.{FieldsFit, IsWellFormed, ShowsException, MayShowException, MayCarry}
 use Rattle.caa_base.specs.Written.Limits.{IsValue}
+use Rattle.caa_base.specs.Written.Marks.{verdict_mark, verdict_of_mark, outcome_mark, outcome_of_mark}
 use Rattle.journal_text.specs.declared.texts.entry_line.Fields.{Fields}
 use Rattle.journal_text.specs.Texts.Naming.{watch_in, is_well_named}
 use Rattle.journal_text.specs.Texts.Text.{participant_name, object_name, watched_object, seen_line, kind_word, object_words, restore_word, verdict_words, outcome_words, leave_words, field_words, entry_line}
-use Rattle.journal_text.specs.inner.Words.{word_in, after_word, next_word, after_next, number_in, value_in, participant_in, object_in, exception_in, kind_in, nothing_more, naming, object_fields, work_fields, restore_mark, verdict_fields, end_fields, named_fields, leave_fields, fields_in, entry_with, entry_after, entry_in, seen_in, is_gap}
+use Rattle.journal_text.specs.inner.Words.{word_in, after_word, next_word, after_next, number_in, value_in, participant_in, object_in, exception_in, kind_in, nothing_more, naming, object_fields, work_fields, restore_mark, marked_fields, verdict_in, outcome_in, named_fields, leave_fields, fields_in, entry_with, entry_after, entry_in, seen_in, is_gap}
 use Rattle.journal_text.proofs.OnTexts.WordLemmas.{is_whole, word_in-whole, after_word-whole, begins-line, next_word-line, after_next-line, whole-decimal, whole-signed, number_in-decimal}
 use Rattle.journal_text.proofs.OnTexts.NamingLemmas.{participants-named, objects-named, exceptions-named, watches-named}
 use Rattle.journal_text.specs.declared.looks.seens.Seen.{Seen}
@@ -126,18 +123,9 @@ named-read plan g e (suc zero) more h fit same =
     fields-same _ e.arg 1 e.mark (pos 0) e.value (exception-read plan g e.arg more h (fit.named same)) (sym same) (sym fit.value)
 named-read plan g e (suc (suc m)) more h fit same = absurd (omega (arith, fit.mark, same))
 
--- the verdict and the outcome of a mark
-abbrev verdict_by : ℕ → ℕ → Verdict
-verdict_by m x = cond (m == 0) verdict.Done (cond (m == 1) (verdict.Signal x) verdict.Undo)
-
-abbrev outcome_by : ℕ → ℕ → Outcome
-outcome_by m x =
-    cond (m == 0) outcome.Commit
-    (cond (m == 1) (outcome.Signal x) (cond (m == 2) outcome.Undone (cond (m == 3) outcome.Aborted outcome.Failed)))
-
 verdict-read : (plan : Plan) (p : ℕ) (e : Entry) (m : ℕ) (more : List ℕ) → is_well_named plan ≡ true
     → MayShowException (interface_of plan p) 1 3 e → e.mark ≡ m
-    → verdict_fields plan (action_at plan p).interface (rest_of (verdict_words plan p (verdict_by m e.arg)) more)
+    → marked_fields (verdict_mark (verdict_in plan (action_at plan p).interface (rest_of (verdict_words plan p (verdict_of_mark m e.arg)) more)))
     ≡ fields e.arg e.mark e.value
 verdict-read plan p e zero more h fit same =
     fields-same 0 e.arg 0 e.mark (pos 0) e.value (sym (fit.bare (λ one. omega (arith, one, same)))) (sym same) (sym fit.value)
@@ -150,7 +138,8 @@ verdict-read plan p e (suc (suc (suc m))) more h fit same = absurd (omega (arith
 
 end-read : (plan : Plan) (p : ℕ) (e : Entry) (m : ℕ) (more : List ℕ) → is_well_named plan ≡ true
     → MayShowException (interface_of plan p) 1 5 e → e.mark ≡ m
-    → end_fields plan (action_at plan p).interface (rest_of (outcome_words plan p (outcome_by m e.arg)) more) ≡ fields e.arg e.mark e.value
+    → marked_fields (outcome_mark (outcome_in plan (action_at plan p).interface (rest_of (outcome_words plan p (outcome_of_mark m e.arg)) more)))
+    ≡ fields e.arg e.mark e.value
 end-read plan p e zero more h fit same =
     fields-same 0 e.arg 0 e.mark (pos 0) e.value (sym (fit.bare (λ one. omega (arith, one, same)))) (sym same) (sym fit.value)
 end-read plan p e (suc zero) more h fit same =
@@ -339,7 +328,7 @@ named-whole plan g e (suc (suc m)) h fit same = absurd (omega (arith, fit.mark, 
 
 verdict-whole : (plan : Plan) (p : ℕ) (e : Entry) (m : ℕ) → is_well_named plan ≡ true
     → MayShowException (interface_of plan p) 1 3 e → e.mark ≡ m
-    → list_all is_whole (verdict_words plan p (verdict_by m e.arg)) ≡ true
+    → list_all is_whole (verdict_words plan p (verdict_of_mark m e.arg)) ≡ true
 verdict-whole plan p e zero h fit same = refl
 verdict-whole plan p e (suc zero) h fit same =
     and_from _ _ refl (exception-whole plan (action_at plan p).interface e.arg h (fit.named same))
@@ -348,7 +337,7 @@ verdict-whole plan p e (suc (suc (suc m))) h fit same = absurd (omega (arith, fi
 
 end-whole : (plan : Plan) (p : ℕ) (e : Entry) (m : ℕ) → is_well_named plan ≡ true
     → MayShowException (interface_of plan p) 1 5 e → e.mark ≡ m
-    → list_all is_whole (outcome_words plan p (outcome_by m e.arg)) ≡ true
+    → list_all is_whole (outcome_words plan p (outcome_of_mark m e.arg)) ≡ true
 end-whole plan p e zero h fit same = refl
 end-whole plan p e (suc zero) h fit same = and_from _ _ refl (exception-whole plan (action_at plan p).interface e.arg h (fit.named same))
 end-whole plan p e (suc (suc zero)) h fit same = refl

@@ -6,7 +6,8 @@ use Rattle.std.proofs.lemmas.Bool.Decides.{nat_tests}
 use Rattle.caa_base.specs.declared.written.entry.Entry.{Entry}
 use Rattle.caa_base.specs.declared.written.entry.Kind.TheVariants as kind
 use Rattle.place_plan.specs.RulesOfJournals.Entries.{is_of}
-use Rattle.journal_text.specs.Texts.Text.{outcome_at, last_outcome}
+use Rattle.place_plan.specs.RulesOfJournals.Whereabouts.{outcome_at}
+use Rattle.journal_text.specs.Texts.Text.{last_outcome}
 use Rattle.caa_base.proofs.ListLemmas.{range_more}
 
 -- the line of one number more

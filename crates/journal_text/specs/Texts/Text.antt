@@ -16,6 +16,7 @@ use Rattle.place_plan.specs.Plans.Places.{no_object, action_at, parent, exceptio
 use Rattle.place_plan.specs.RulesOfJournals.Entries.{is_in, newest}
 use Rattle.place_plan.specs.RulesOfJournals.Objects.{value_of}
 use Rattle.place_plan.specs.RulesOfJournals.Roles.{verdict_at}
+use Rattle.place_plan.specs.RulesOfJournals.Whereabouts.{outcome_at}
 use Rattle.journal_text.specs.declared.looks.seens.Seen.{Seen}
 
 -- ---- names; past the end of a table they are empty
@@ -76,15 +77,6 @@ abbrev pub verdict_words : Plan → ℕ → Verdict → List (List ℕ)
 verdict_words plan p verdict.Done = codes "done" ∷ []
 verdict_words plan p (verdict.Signal x) = codes "signal" ∷ interface_name plan p x ∷ []
 verdict_words plan p verdict.Undo = codes "undo" ∷ []
-
--- the outcome that an End says, by its mark
-abbrev pub outcome_at : Entry → Outcome
-outcome_at e =
-    if e.mark == 0 then outcome.Commit
-    else (if e.mark == 1 then outcome.Signal e.arg
-    else (if e.mark == 2 then outcome.Undone
-    else (if e.mark == 3 then outcome.Aborted
-    else outcome.Failed)))
 
 -- an outcome of p, with the exception that it signals
 abbrev pub outcome_words : Plan → ℕ → Outcome → List (List ℕ)

@@ -2,9 +2,14 @@
 use Rattle.std.specs.Prelude.{ℕ, ℤ, pos, neg_ℤ, ◌-◌, ◌^◌, ◌==◌, if◌then◌else◌, Bool, false, ◌||◌, List, [], ◌∷◌, length, drop, Option, Some, None, option_map, unwrap_or, bytes_eq, codes}
 use Rattle.std.specs.List.{find}
 use Rattle.caa_base.specs.Written.Limits.{most_value, most_count}
+use Rattle.caa_base.specs.Written.Marks.{verdict_mark, outcome_mark}
 use Rattle.caa_base.specs.declared.written.entry.Entry.{Entry}
 use Rattle.caa_base.specs.declared.written.entry.Kind.{Kind}
 use Rattle.caa_base.specs.declared.written.entry.Kind.TheVariants as kind
+use Rattle.caa_base.specs.declared.written.entry.Verdict.{Verdict}
+use Rattle.caa_base.specs.declared.written.entry.Verdict.TheVariants as verdict
+use Rattle.caa_base.specs.declared.written.entry.Outcome.{Outcome}
+use Rattle.caa_base.specs.declared.written.entry.Outcome.TheVariants as outcome
 use Rattle.place_plan.specs.Plans.PlanValue.{Plan}
 use Rattle.place_plan.specs.Plans.Places.{action_at, parent, graph_at, exception_name}
 use Rattle.journal_text.specs.declared.looks.seens.Seen.{Seen}
@@ -78,10 +83,6 @@ kind_in word = find (λ k. bytes_eq (kind_word k) word) KINDS
 abbrev pub nothing_more : Fields
 nothing_more = record { arg = 0; mark = 0; value = pos 0 }
 
--- a mark alone
-abbrev pub marked : ℕ → Fields
-marked mark = record { arg = 0; mark = mark; value = pos 0 }
-
 -- an exception under a mark
 abbrev pub naming : ℕ → ℕ → Fields
 naming mark x = record { arg = x; mark = mark; value = pos 0 }
@@ -99,21 +100,25 @@ work_fields rest = record { arg = number_in most_count (next_word rest); mark = 
 abbrev pub restore_mark : List ℕ → ℕ
 restore_mark word = if bytes_eq word (codes "well") then 0 else 1
 
+-- a mark with an exception beside it
+abbrev pub marked_fields : ℕ × ℕ → Fields
+marked_fields mark = naming mark.0 mark.1
+
 -- a verdict; a signal has an exception of this graph
-abbrev pub verdict_fields : Plan → ℕ → List ℕ → Fields
-verdict_fields plan g rest =
-    if bytes_eq (next_word rest) (codes "done") then marked 0
-    else (if bytes_eq (next_word rest) (codes "undo") then marked 2
-    else naming 1 (exception_in plan g (next_word (after_next rest))))
+abbrev pub verdict_in : Plan → ℕ → List ℕ → Verdict
+verdict_in plan g rest =
+    if bytes_eq (next_word rest) (codes "done") then verdict.Done
+    else (if bytes_eq (next_word rest) (codes "undo") then verdict.Undo
+    else verdict.Signal (exception_in plan g (next_word (after_next rest))))
 
 -- an outcome; a signal has an exception of this graph
-abbrev pub end_fields : Plan → ℕ → List ℕ → Fields
-end_fields plan g rest =
-    if bytes_eq (next_word rest) (codes "commit") then marked 0
-    else (if bytes_eq (next_word rest) (codes "undone") then marked 2
-    else (if bytes_eq (next_word rest) (codes "aborted") then marked 3
-    else (if bytes_eq (next_word rest) (codes "failed") then marked 4
-    else naming 1 (exception_in plan g (next_word (after_next rest))))))
+abbrev pub outcome_in : Plan → ℕ → List ℕ → Outcome
+outcome_in plan g rest =
+    if bytes_eq (next_word rest) (codes "commit") then outcome.Commit
+    else (if bytes_eq (next_word rest) (codes "undone") then outcome.Undone
+    else (if bytes_eq (next_word rest) (codes "aborted") then outcome.Aborted
+    else (if bytes_eq (next_word rest) (codes "failed") then outcome.Failed
+    else outcome.Signal (exception_in plan g (next_word (after_next rest))))))
 
 -- an exception of the graph, or nothing
 abbrev pub named_fields : Plan → ℕ → List ℕ → Fields
@@ -133,10 +138,10 @@ fields_in kind.PutFault plan p rest = object_fields plan rest 0
 fields_in kind.Raise plan p rest = naming 0 (exception_in plan (action_at plan p).internal (next_word rest))
 fields_in kind.Resolve plan p rest = naming 0 (exception_in plan (action_at plan p).internal (next_word rest))
 fields_in kind.Handle plan p rest = naming 0 (exception_in plan (action_at plan p).internal (next_word rest))
-fields_in kind.Verdict plan p rest = verdict_fields plan (action_at plan p).interface rest
+fields_in kind.Verdict plan p rest = marked_fields (verdict_mark (verdict_in plan (action_at plan p).interface rest))
 fields_in kind.Abort plan p rest = named_fields plan (action_at plan p).interface rest
 fields_in kind.Restore plan p rest = object_fields plan rest (restore_mark (next_word (after_next (after_next rest))))
-fields_in kind.End plan p rest = end_fields plan (action_at plan p).interface rest
+fields_in kind.End plan p rest = marked_fields (outcome_mark (outcome_in plan (action_at plan p).interface rest))
 fields_in kind.Leave plan p rest = leave_fields plan (parent plan p) rest
 fields_in _ plan p rest = nothing_more
 

@@ -1,10 +1,12 @@
 ghost use Rattle.std.specs.Prelude.{◌≡◌, ◌<◌};
 ghost use Rattle.journal_text.specs.Texts.Text.{participant_name, object_name};
-ghost use Rattle.journal_text.specs.inner.Words.{participant_in, object_in, exception_in, kind_in, nothing_more, marked, naming, object_fields, work_fields, verdict_fields, end_fields, named_fields, leave_fields, fields_in, entry_after, entry_in};
+ghost use Rattle.journal_text.specs.inner.Words.{participant_in, object_in, exception_in, kind_in, nothing_more, naming, object_fields, work_fields, verdict_in, outcome_in, marked_fields, named_fields, leave_fields, fields_in, entry_after, entry_in};
 
 use crate::texts::text_writer::kind_word;
 use crate::texts::words::{goes_on, next_word, number_in, split_word, value_in};
-use caa_base::written::entry::{Entry, Exception, Kind, Object, Participant, Place};
+use caa_base::written::entry::{
+    Entry, Exception, Kind, Object, Outcome, Participant, Place, Verdict,
+};
 use caa_base::written::limits::MOST_COUNT;
 use place_plan::plans::plan::Plan;
 
@@ -77,10 +79,10 @@ fn fields_in(kind: Kind, plan: &Plan, place: Place, rest: &[u8]) -> Fields
                 exception_in(plan, plan.internal_number(place), next_word(rest).0),
             )
         },
-        Kind::Verdict => verdict_fields(plan, plan.interface_number(place), rest),
+        Kind::Verdict => marked_fields(verdict_in(plan, plan.interface_number(place), rest).mark()),
         Kind::Abort => named_fields(plan, plan.interface_number(place), rest),
         Kind::Restore => restore_fields(plan, rest),
-        Kind::End => end_fields(plan, plan.interface_number(place), rest),
+        Kind::End => marked_fields(outcome_in(plan, plan.interface_number(place), rest).mark()),
         Kind::Leave => leave_fields(plan, plan.parent(place), rest),
         Kind::Arrive | Kind::Withdraw | Kind::Start | Kind::Check | Kind::Inform | Kind::Undo => {
             nothing_more()
@@ -92,14 +94,14 @@ fn fields_in(kind: Kind, plan: &Plan, place: Place, rest: &[u8]) -> Fields
 fn nothing_more() -> Fields
     ensures { result ≡ nothing_more }
 {
-    marked(0)
+    naming(0, 0)
 }
 
-/// A mark alone.
-fn marked(mark: u32) -> Fields
-    ensures { result ≡ marked mark }
+/// A mark, and the exception beside it.
+fn marked_fields(mark: (u32, Exception)) -> Fields
+    ensures { result ≡ marked_fields mark }
 {
-    naming(mark, 0)
+    naming(mark.0, mark.1)
 }
 
 /// An exception under a mark.
@@ -151,34 +153,34 @@ fn restore_fields(plan: &Plan, rest: &[u8]) -> Fields
 }
 
 /// A verdict, with an exception of this graph.
-fn verdict_fields(plan: &Plan, graph: u32, rest: &[u8]) -> Fields
-    ensures { result ≡ verdict_fields plan.now graph rest.now }
+fn verdict_in(plan: &Plan, graph: u32, rest: &[u8]) -> Verdict
+    ensures { result ≡ verdict_in plan.now graph rest.now }
 {
     let (word, more) = next_word(rest);
     if word == b"done".as_slice() {
-        marked(0)
+        Verdict::Done
     } else if word == b"undo".as_slice() {
-        marked(2)
+        Verdict::Undo
     } else {
-        naming(1, exception_in(plan, graph, next_word(more).0))
+        Verdict::Signal(exception_in(plan, graph, next_word(more).0))
     }
 }
 
 /// An outcome, with an exception of this graph.
-fn end_fields(plan: &Plan, graph: u32, rest: &[u8]) -> Fields
-    ensures { result ≡ end_fields plan.now graph rest.now }
+fn outcome_in(plan: &Plan, graph: u32, rest: &[u8]) -> Outcome
+    ensures { result ≡ outcome_in plan.now graph rest.now }
 {
     let (word, more) = next_word(rest);
     if word == b"commit".as_slice() {
-        marked(0)
+        Outcome::Commit
     } else if word == b"undone".as_slice() {
-        marked(2)
+        Outcome::Undone
     } else if word == b"aborted".as_slice() {
-        marked(3)
+        Outcome::Aborted
     } else if word == b"failed".as_slice() {
-        marked(4)
+        Outcome::Failed
     } else {
-        naming(1, exception_in(plan, graph, next_word(more).0))
+        Outcome::Signal(exception_in(plan, graph, next_word(more).0))
     }
 }
 

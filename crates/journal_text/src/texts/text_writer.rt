@@ -5,7 +5,7 @@ ghost use Rattle.caa_base.specs.Written.Lines.{spaced, line};
 ghost use Rattle.place_plan.specs.Plans.Places.{parent};
 ghost use Rattle.place_plan.specs.RulesOfJournals.Entries.{is_of};
 ghost use Rattle.place_plan.specs.RulesOfJournals.WellFormed.{IsWellFormed, AllWellFormed};
-ghost use Rattle.journal_text.specs.Texts.Text.{action_name, object_name, internal_name, interface_name, kind_word, object_words, restore_word, verdict_words, outcome_at, outcome_words, abort_words, leave_words, field_words, entry_line, object_lines, last_outcome, ending_words, outcome_lines, closing_lines, seen_line, text_of};
+ghost use Rattle.journal_text.specs.Texts.Text.{action_name, object_name, internal_name, interface_name, kind_word, object_words, restore_word, verdict_words, outcome_words, abort_words, leave_words, field_words, entry_line, object_lines, last_outcome, ending_words, outcome_lines, closing_lines, seen_line, text_of};
 ghost use Rattle.journal_text.specs.inner.KnownValues.{value_found};
 ghost use Rattle.journal_text.specs.Watching.Looks.{AreOfPlan};
 
@@ -17,7 +17,7 @@ use caa_base::written::entry::{
 use caa_base::written::journal::Journal;
 use caa_base::written::line::{end_line, push_number, push_value, push_word};
 use place_plan::plans::plan::Plan;
-use place_plan::rules::one_entry::verdict_at;
+use place_plan::rules::one_entry::{outcome_at, verdict_at};
 use std::alloc::{AllocError, Global};
 
 /// The text of a journal: one line for each entry, with the names of the plan, then the value of each object and the outcome of
@@ -154,7 +154,7 @@ fn last_outcomes(
     let mut outcomes = vec![in alloc; None; plan.places() as usize]?;
     for entry in entries {
         if is_end(entry) {
-            outcomes[entry.place as usize] = Some(outcome_of(entry));
+            outcomes[entry.place as usize] = Some(outcome_at(entry));
         }
     }
     Ok(outcomes)
@@ -167,8 +167,10 @@ fn is_end(entry: &Entry) -> bool
     entry.kind == Kind::End
 }
 
-/// Adds the line of an entry.
-pub(crate) fn push_entry(text: &mut Vec<u8>, plan: &Plan, entry: &Entry) -> Result<(), OutOfMemory>
+/// Adds the line of one entry, as it stands in the text of a journal: for whoever prints or logs each entry as it is made.
+///
+/// Where memory is wanting, what the text had is still there, and part of the line may stand behind it.
+pub fn push_entry(text: &mut Vec<u8>, plan: &Plan, entry: &Entry) -> Result<(), OutOfMemory>
     requires { IsWellFormed plan.now entry.now }
     ensures { OnOk result (text.new.items ≡ text.old.items ++ entry_line plan.now entry.now) }
 {
@@ -308,7 +310,7 @@ fn push_fields(text: &mut Vec<u8>, plan: &Plan, entry: &Entry) -> Result<(), Out
         Kind::Verdict => push_verdict(text, plan, entry.place, verdict_at(entry)),
         Kind::Abort => push_abort(text, plan, entry),
         Kind::Restore => push_restore(text, plan, entry),
-        Kind::End => push_outcome(text, plan, entry.place, outcome_of(entry)),
+        Kind::End => push_outcome(text, plan, entry.place, outcome_at(entry)),
         Kind::Leave => push_leave(text, plan, entry),
         Kind::Arrive | Kind::Withdraw | Kind::Start | Kind::Check | Kind::Inform | Kind::Undo => Ok(
             (),
@@ -387,19 +389,6 @@ fn push_outcome(
         Outcome::Undone => push_word(text, b"undone"),
         Outcome::Aborted => push_word(text, b"aborted"),
         Outcome::Failed => push_word(text, b"failed"),
-    }
-}
-
-/// The outcome that an End says.
-fn outcome_of(entry: &Entry) -> Outcome
-    ensures { result ≡ outcome_at entry.now }
-{
-    match entry.mark {
-        0 => Outcome::Commit,
-        1 => Outcome::Signal(entry.arg),
-        2 => Outcome::Undone,
-        3 => Outcome::Aborted,
-        _ => Outcome::Failed,
     }
 }
 
