@@ -146,20 +146,6 @@ role_enters nests n (role ∷ roles) (suc r) h l =
     × (list_all (λ (h : HandlerRow). is_empty (entered_by h.program.steps))
     (slice_index_or roles r no_role).handlers ≡ true)) same (role_enters nests (suc n) roles r b.1 (omega arith))
 
--- what all handlers pass, and the idle program, the program for an exception passes
-pub handler_passes : (test : Program → Bool) (x : ℕ) (handlers : List HandlerRow)
-    → list_all (λ (h : HandlerRow). test h.program) handlers ≡ true → test idle ≡ true
-    → test (or_idle (handler_in x handlers)) ≡ true
-handler_passes test x [] h i = i
-handler_passes test x (handler ∷ handlers) h i =
-    let parts = and_parts (test handler.program) (list_all (λ (h : HandlerRow). test h.program) handlers) h in
-    either (handler.exception == x) parts.0 (handler_passes test x handlers parts.1 i)
-  where
-    either : (b : Bool) → test handler.program ≡ true → test (or_idle (handler_in x handlers)) ≡ true
-        → test (or_idle (cond b (Some handler.program) (handler_in x handlers))) ≡ true
-    either true h k = h
-    either false h k = k
-
 -- where what is entered is empty, no step enters
 pub enters_none : (steps : List Step) (n k : ℕ) → is_empty (entered_by steps) ≡ true → slice_get steps n ≡ Some (step.Enter k) → ⊥
 enters_none steps n k h e = false≢true (subst (λ xs. member k xs ≡ true) (empty_is (entered_by steps) h) (entered_member steps n k e))

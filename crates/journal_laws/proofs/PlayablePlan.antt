@@ -30,7 +30,8 @@ use Rattle.place_plan.proofs.OnPlans.UnfoldedPlan.{IsUnfolded, is_unfolded, know
 use Rattle.place_plan.proofs.OnPlans.Casts.{all_cast, action_is, use_there, from_picked, in_picked, member_at}
 use Rattle.place_plan.proofs.OnPlans.ClosedPlan.{action_passes, keeps_of, of_plan, made_graphs, made_players, member_index, other_index}
 use Rattle.journal_laws.proofs.Playable.{IsTree, IsPlayable, LeadsInside}
-use Rattle.journal_laws.proofs.EnterSteps.{get_all, entered_member, entered_at, entered_order, filled_rises, Fills, filled_is, filled_has, role_enters, handler_passes, enters_none, player_at, index_is}
+use Rattle.place_plan.proofs.OnPlans.SmallParts.{handler_passes}
+use Rattle.journal_laws.proofs.EnterSteps.{get_all, entered_member, entered_at, entered_order, filled_rises, Fills, filled_is, filled_has, role_enters, enters_none, player_at, index_is}
 
 module _ (draft : Draft) (keeps : KeepsParts draft) where
   abbrev plan : Plan

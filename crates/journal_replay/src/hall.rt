@@ -118,6 +118,7 @@ fn lay_out<P: Plant>(alloc: Global, plan: &Plan, plant: &mut P) -> Result<(), Pl
 }
 
 /// Asks a plant for a put, once, and gives the entry for its answer.
+#[tactic(auto, using(crate::proofs::Telling::goes_on_telling))]
 fn answer_of<P: Plant>(plant: &mut P, well: Entry, fault: Entry) -> Entry
     requires room { P.calls plant.old < P.room plant.old }
     requires laid { well.arg < P.objects plant.old }
@@ -126,6 +127,8 @@ fn answer_of<P: Plant>(plant: &mut P, well: Entry, fault: Entry) -> Entry
     ensures either { (result ≡ well) ⊎ (result ≡ fault) }
     ensures state { P.state plant.new ≡ (if is_fault result then P.state plant.old else after_put (P.state plant.old) well.arg well.value) }
     ensures drilling { P.drilling plant.new ≡ after_try (P.drilling plant.old) well.arg }
+    ensures tells_state { is_some (P.state plant.new) ≡ is_some (P.state plant.old) }
+    ensures tells_drilling { is_some (P.drilling plant.new) ≡ is_some (P.drilling plant.old) }
     ensures drilled { IfSome (P.drilling plant.old) (λ d. is_fault result ≡ is_drilled d well.arg) }
     ensures calls { P.calls plant.new ≡ P.calls plant.old + 1 }
     ensures room { P.room plant.new ≡ P.room plant.old }
@@ -156,7 +159,7 @@ impl<P: Plant> PlainHall<P> {
     pub fn open(alloc: Global, plan: Plan, plant: P) -> Result<PlainHall<P>, OpenError<P>>
         ensures plan { IfOk result (λ hall. plan_in hall ≡ plan) }
         ensures journal { IfOk result (λ hall. journal_in hall ≡ []) }
-        ensures base { IfOk result (λ hall. base_in hall ≡ P.faults plant) }
+        ensures base { IfOk result (λ hall. (base_in hall).faults ≡ P.faults plant) }
         ensures count { IfOk result (λ hall. P.faults (plant_in hall) ≡ P.faults plant) }
         ensures lay_count { IfOk result (λ hall. P.lay_faults (plant_in hall) ≡ P.lay_faults plant) }
         ensures state { IfOk result (λ hall. is_some (P.state (plant_in hall)) ≡ is_some (P.state plant)) }
@@ -201,7 +204,7 @@ impl<P: Plant> PlainHall<P> {
         ensures plant { result.1 ≡ plant_in self }
         ensures journal { result.2.entries ≡ journal_in self }
         ensures legal { IsLegal result.0 result.2.entries }
-        ensures faults { P.faults result.1 < 2 ^ 64 - 1 → P.faults result.1 ≡ base_in self + faults_in result.2.entries }
+        ensures faults { P.faults result.1 < 2 ^ 64 - 1 → P.faults result.1 ≡ (base_in self).faults + faults_in result.2.entries }
         ensures calls { P.calls result.1 ≡ attempts_in result.2.entries }
         ensures state { IfSome (P.state result.1) (HasValues result.0 result.2.entries) }
         ensures drilling { IfSome (P.drilling result.1) (HasDrills result.0 result.2.entries) }
@@ -314,6 +317,7 @@ impl<P: Plant> Machine for PlainHall<P> {
     }
 
     fn journal_len(&self) -> u64 {
+        is_bounded(self.plan());
         self.journal.len()
     }
 

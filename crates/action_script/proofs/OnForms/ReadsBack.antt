@@ -13,7 +13,7 @@ use Rattle.action_script.specs.Lines.Kinds.{word_of, parts_of, takes, stands_in,
 use Rattle.action_script.specs.Words.NumberedNames.{with_names}
 use Rattle.action_script.specs.Forms.LineForms.{kind_of, fields_of}
 use Rattle.action_script.specs.Forms.ScriptValue.{Script}
-use Rattle.action_script.specs.Lines.Spelling.{names_of, Numbered, before, with_line, said_from, script_names, line_by, script_by, script_of, reading_of}
+use Rattle.action_script.specs.Lines.Spelling.{lines_read, names_of, Numbered, before, with_line, said_from, script_names, line_by, script_by, script_of, reading_of}
 use Rattle.action_script.specs.Forms.Printing.{words_after, form_line, line_text, text_of, said_by, is_sound, is_short, lead_to_top, form_names, AreScript, forms_of, numbered_from, reread_of}
 use Rattle.action_script.proofs.OnWords.Inky.{first_word}
 use Rattle.action_script.proofs.OnForms.Fits.{AreNumbered}
@@ -70,8 +70,9 @@ lines-saids number names (form ∷ forms) numbered sound =
 numbered-script : (names : List (List ℕ)) (forms : List Form) → AreScript names forms → AreNumbered names
 numbered-script names forms h = subst AreNumbered h.order (numbered-with_names [] (flat_map (form_names names) forms) numbered-none)
 
-pub reads_back : (script : Script) → AreScript script.names (forms_of script.lines) → length (text_of script) ≤ most_script_bytes → reading_of (text_of script) ≡ Ok (reread_of script)
-reads_back script h small =
+-- the lines of the text say the script
+pub lines_spell : (script : Script) → AreScript script.names (forms_of script.lines) → lines_read (text_of script) ≡ Ok (reread_of script)
+lines_spell script h =
     let names = script.names in
     let forms = forms_of script.lines in
     let numbered = numbered-script names forms h in
@@ -79,7 +80,12 @@ reads_back script h small =
     let own_names : script_names saids ≡ names = ap (with_names []) (names-saids 1 names forms) ∙ h.order in
     let own_lines : map (line_by (script_names saids)) saids ≡ numbered_from 1 forms = ap (λ n. map (line_by n) saids) own_names ∙ lines-saids 1 names forms numbered h.sound in
     let same : script_by saids ≡ reread_of script = (λ j. record { lines = own_lines j; names = own_names j }) in
-    ap (λ b. if b then Err (record { line = 0; cause = cause.TooLong }) else script_of (said_from 1 section.Top (lines_of (text_of script)))) (le-ltb most_script_bytes (length (text_of script)) small)
-    ∙ ap (λ lines. script_of (said_from 1 section.Top lines)) (lines_of-text names script.lines numbered h.sound)
+    ap (λ lines. script_of (said_from 1 section.Top lines)) (lines_of-text names script.lines numbered h.sound)
     ∙ ap script_of (said_from-forms 1 section.Top names forms numbered h.lead h.sound h.short)
     ∙ ap Ok same
+
+-- and where it isn't too long, the text spells it
+pub reads_back : (script : Script) → AreScript script.names (forms_of script.lines) → length (text_of script) ≤ most_script_bytes → reading_of (text_of script) ≡ Ok (reread_of script)
+reads_back script h small =
+    ap (λ b. if b then Err (record { line = 0; cause = cause.TooLong }) else lines_read (text_of script)) (le-ltb most_script_bytes (length (text_of script)) small)
+    ∙ lines_spell script h

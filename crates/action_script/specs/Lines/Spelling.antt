@@ -172,15 +172,22 @@ abbrev pub script_of : Result (List Numbered) ScriptError → Result Script Scri
 script_of (Ok lines) = Ok (script_by lines)
 script_of (Err e) = Err e
 
--- the script that these bytes spell, or the first fault
+-- the script that the lines of these bytes say, or the first fault of a line; however many bytes there are
+abbrev pub lines_read : List ℕ → Result Script ScriptError
+lines_read bytes = script_of (said_from 1 section.Top (lines_of bytes))
+
+-- the script that these bytes spell, or the first fault: that there are too many bytes, or that of a line
 abbrev pub reading_of : List ℕ → Result Script ScriptError
 reading_of bytes =
-    if nat_lt most_script_bytes (length bytes) then Err (record { line = 0; cause = cause.TooLong })
-    else script_of (said_from 1 section.Top (lines_of bytes))
+    if nat_lt most_script_bytes (length bytes) then Err (record { line = 0; cause = cause.TooLong }) else lines_read bytes
 
 -- these bytes spell this script; no bytes spell two
 abbrev pub Spells : List ℕ → Script → Type 0
 Spells bytes script = reading_of bytes ≡ Ok script
+
+-- the lines of these bytes spell this script: where there aren't too many bytes for a script, they spell it
+abbrev pub LinesSpell : List ℕ → Script → Type 0
+LinesSpell bytes script = lines_read bytes ≡ Ok script
 
 -- this is the first fault of these bytes, which spell no script
 abbrev pub HasFirstFault : List ℕ → ScriptError → Type 0

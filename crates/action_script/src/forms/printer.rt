@@ -2,7 +2,7 @@ ghost use Rattle.std.specs.Prelude.{◌≡◌, ◌≤◌, ◌∷◌, ◌++◌, [
 ghost use Rattle.std.specs.List.{flat_map};
 ghost use Rattle.caa_base.specs.Written.Limits.{most_script_bytes};
 ghost use Rattle.caa_base.specs.Written.Lines.{spaced};
-ghost use Rattle.action_script.specs.Lines.Spelling.{Spells};
+ghost use Rattle.action_script.specs.Lines.Spelling.{LinesSpell, Spells};
 ghost use Rattle.action_script.specs.Forms.Printing.{reread_of, field_word, line_text, text_of};
 
 use crate::forms::script::{Line, Script};
@@ -68,7 +68,9 @@ fn push_lines(
 /// The text of a script, one line for each form. What the text that was read had besides, as comments or empty lines, isn't kept.
 pub fn print(alloc: Global, script: &Script) -> Result<Vec<u8>, OutOfMemory>
     ensures text { IfOk result (λ text. text.items ≡ text_of script.now) }
-    // As long as a script may have so many bytes, the text reads back; there, no line number is passed over.
+    // The lines of the text spell the script again, on lines that are numbered without a gap, however long the text is.
+    ensures spells { IfOk result (λ text. LinesSpell text.items (reread_of script.now)) }
+    // So as long as a script may have so many bytes, the text reads back.
     ensures reads_back { IfOk result (λ text. length text.items ≤ most_script_bytes → Spells text.items (reread_of script.now)) }
 {
     script.are_script();
