@@ -6,5 +6,7 @@ mod pairs;
 mod set_graph;
 mod sets;
 
+pub use count::count_exceptions;
+pub use pairs::make_pairs;
 pub use set_graph::{MakeError, SetGraph};
-pub use sets::Set;
+pub use sets::{Set, make_table};

@@ -1,0 +1,4 @@
+pub mod SetNames
+pub mod Refusals
+pub mod MadeScripts
+pub mod Answers
