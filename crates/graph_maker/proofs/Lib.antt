@@ -1,0 +1,9 @@
+pub mod Accepting
+pub mod Ascending
+pub mod Distinct
+pub mod MadeWords
+pub mod Naming
+pub mod Refusing
+pub mod Rooms
+pub mod Scripted
+pub mod Staged

@@ -1,7 +1,6 @@
 -- What is answered where a graph of sets is asked for.
 use Rattle.std.specs.Prelude.{◌≡◌, ℕ, Result, Ok, Err, Some, None}
 use Rattle.action_script.specs.Forms.ScriptValue.{Script}
-use Rattle.graph_maker.specs.declared.made_error.MadeCause.{MadeCause}
 use Rattle.graph_maker.specs.declared.made_error.MadeCause.TheVariants as cause
 use Rattle.graph_maker.specs.declared.made_error.MadeError.{MadeError}
 use Rattle.graph_maker.specs.Refusals.{refusal_of}
@@ -11,4 +10,4 @@ use Rattle.graph_maker.specs.MadeScripts.{script_of_sets}
 pub data IsAnswer (script : Script) (most : ℕ) : Result Script MadeError → Type 0 where
   made : {made : Script} → refusal_of script most ≡ None → made ≡ script_of_sets script most → IsAnswer script most (Ok made)
   refused : {error : MadeError} → refusal_of script most ≡ Some error → IsAnswer script most (Err error)
-  wanting : IsAnswer script most (Err (record { line = 0; cause = cause.OutOfMemory }))
+  wanting : {error : MadeError} → error ≡ record { line = 0; cause = cause.OutOfMemory } → IsAnswer script most (Err error)

@@ -1,7 +1,7 @@
-ghost use Rattle.std.specs.Prelude.{◌≡◌, ◌<◌, ◌≤◌, ◌^◌, ◌×◌, ◌++◌, ◌∷◌, [], All, true, drop, length, map, IfOk, OnOk};
+ghost use Rattle.std.specs.Prelude.{◌≡◌, ◌<◌, ◌≤◌, ◌^◌, ◌++◌, ◌∷◌, [], All, true, drop, length, map, IfOk, OnOk};
 ghost use Rattle.std.specs.List.{list_all};
 ghost use Rattle.caa_base.specs.Written.Names.{is_name, name_at};
-ghost use Rattle.action_script.specs.Words.NumberedNames.{number_in, with_names};
+ghost use Rattle.action_script.specs.Words.NumberedNames.{number_in, with_name, with_names};
 ghost use Rattle.action_script.specs.declared.forms.form.Form.TheVariants as form;
 ghost use Rattle.graph_maker.specs.MadeScripts.{cover_form, made_forms, made_script};
 ghost use Rattle.graph_maker.specs.SetNames.{set_name};
@@ -35,6 +35,17 @@ pub fn push_made(words: &mut Vec<Name>, alloc: Global, primitives: u32, sets: &[
     Ok(())
 }
 
+/// Adds a word to the names where it isn't there already.
+fn push_new(names: &mut Vec<Name>, alloc: Global, word: &[u8]) -> Result<(), OutOfMemory>
+    requires { length names.old.items < 2 ^ 31 }
+    ensures { OnOk result (names.new.items ≡ with_name names.old.items word.now) }
+{
+    if number_in(names, word) as usize == names.len() {
+        names.push(Name::from_bytes(alloc, word)?)?;
+    }
+    Ok(())
+}
+
 /// Each of these words once, in the order in which they first come.
 fn distinct(alloc: Global, words: &[Name]) -> Result<Vec<Name>, OutOfMemory>
     requires { length words.now < 2 ^ 31 }
@@ -42,9 +53,7 @@ fn distinct(alloc: Global, words: &[Name]) -> Result<Vec<Name>, OutOfMemory>
 {
     let mut names = Vec::new(alloc);
     for word in words {
-        if number_in(&names, word.bytes()) as usize == names.len() {
-            names.push(Name::from_bytes(alloc, word.bytes())?)?;
-        }
+        push_new(&mut names, alloc, word.bytes())?;
     }
     Ok(names)
 }

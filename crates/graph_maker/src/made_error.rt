@@ -1,5 +1,3 @@
-use caa_base::written::entry::OutOfMemory;
-use std::alloc::AllocError;
 use thiserror::Error;
 
 /// What is wrong with a script of primitive exceptions.
@@ -26,32 +24,4 @@ pub struct MadeError {
     /// The number of the line in the text, counted from 1; 0 where memory was lacking.
     pub line: u32,
     pub cause: MadeCause,
-}
-
-impl From<OutOfMemory> for MadeError {
-    ghost use Rattle.std.specs.Prelude.{◌≡◌};
-    ghost use Rattle.graph_maker.specs.declared.made_error.MadeCause.TheVariants as cause;
-
-    ghost from_gives = { λ _ e. e ≡ record { line = 0; cause = cause.OutOfMemory } };
-
-    fn from(_error: OutOfMemory) -> MadeError {
-        MadeError {
-            line: 0,
-            cause: MadeCause::OutOfMemory,
-        }
-    }
-}
-
-impl From<AllocError> for MadeError {
-    ghost use Rattle.std.specs.Prelude.{◌≡◌};
-    ghost use Rattle.graph_maker.specs.declared.made_error.MadeCause.TheVariants as cause;
-
-    ghost from_gives = { λ _ e. e ≡ record { line = 0; cause = cause.OutOfMemory } };
-
-    fn from(_error: AllocError) -> MadeError {
-        MadeError {
-            line: 0,
-            cause: MadeCause::OutOfMemory,
-        }
-    }
 }

@@ -1,5 +1,6 @@
-ghost use Rattle.std.specs.Prelude.{◌≡◌, length};
-ghost use Rattle.graph_maker.specs.Refusals.{bad_line, cause_of, exceptions_in, has_room, is_taken, refusal_of, refused_from};
+ghost use Rattle.std.specs.Prelude.{◌≡◌, ◌==◌, ◌<◌, ◌≤◌, length, take};
+ghost use Rattle.std.specs.List.{list_any};
+ghost use Rattle.graph_maker.specs.Refusals.{bad_line, cause_of, exception_in, exceptions_in, has_room, is_taken, refusal_of, refused_from};
 
 use crate::made_error::{MadeCause, MadeError};
 use crate::set_names::is_made_name;
@@ -22,12 +23,19 @@ fn has_room(primitives: usize, most: u32) -> bool
     primitives <= MOST_PRIMITIVES && count_exceptions(primitives as u32, most) <= MOST_EXCEPTIONS as u64
 }
 
+/// Whether a name is that of one of the first exceptions, so many of them.
+fn is_among(exceptions: &[u32], passed: usize, name: u32) -> bool
+    ensures { result ≡ list_any (λ exception. exception == name) (take passed exceptions.now) }
+{
+    exceptions.iter().take(passed).any(|exception| *exception == name)
+}
+
 /// Whether a name may not be that of an exception which is declared after so many of all these.
 fn is_taken(script: &Script, exceptions: &[u32], most: u32, passed: usize, name: u32) -> bool
     requires { exceptions.now ≡ exceptions_in script.now.lines }
     ensures { result ≡ is_taken script.now most passed name }
 {
-    exceptions.iter().take(passed).any(|exception| *exception == name)
+    is_among(exceptions, passed, name)
         || name == script.universal()
         || is_made_name(name_at(script.names(), name), exceptions.len() as u64, most)
 }
@@ -47,6 +55,17 @@ fn cause_of(script: &Script, exceptions: &[u32], most: u32, passed: usize, form:
     }
 }
 
+/// How many exceptions a line declares.
+fn declared_by(form: &Form) -> usize
+    ensures value { result ≡ length (exception_in form.now) }
+    ensures few { result ≤ 1 }
+{
+    match form {
+        Form::Exception(_) => 1,
+        _ => 0,
+    }
+}
+
 /// The first line of a script that has a cause.
 fn first_refused(script: &Script, exceptions: &[u32], most: u32) -> Option<MadeError>
     requires some_member { 0 < most }
@@ -62,9 +81,7 @@ fn first_refused(script: &Script, exceptions: &[u32], most: u32) -> Option<MadeE
                 cause,
             });
         }
-        if let Form::Exception(_) = &line.form {
-            passed += 1;
-        }
+        passed += declared_by(&line.form);
     }
     None
 }
