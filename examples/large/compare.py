@@ -199,13 +199,13 @@ def limits():
 
 # ---- words and short scripts
 
-USAGE = "usage: check | sim SEED | run | audit | cell N\n"
+USAGE = "usage: check | sim SEED | run | audit | cell N | graph K | messages SEED\n"
 
 
 def wrong_words():
     """Words that are no command."""
     return [[], ["sim"], ["sim", "01"], ["sim", "-0"], ["sim", "2147483648"], ["sim", "1", "1"], ["check", "1"], ["audit", "1"],
-            ["run", "1"], ["cell", "1"], ["cell", "2001"], ["--help"]]
+            ["run", "1"], ["messages"], ["messages", "2147483648"], ["cell", "1"], ["cell", "2001"], ["--help"]]
 
 
 def refusals():

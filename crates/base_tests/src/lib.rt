@@ -1,4 +1,4 @@
-//! The tests of entries, names, the outside, tables of least covers and graphs, over public calls.
+//! The tests of entries, names, the outside, tables of least covers, graphs and agreement by messages, over public calls.
 #![tactic(auto)]
 
 #[cfg(test)]
@@ -7,3 +7,5 @@ mod base;
 mod covers;
 #[cfg(test)]
 mod graphs;
+#[cfg(test)]
+mod messages;

@@ -10,6 +10,7 @@ use Rattle.caa_base.specs.declared.outside.reading.ReadError.TheVariants as erro
 use Rattle.action_script.specs.Forms.ScriptValue.{Script}
 use Rattle.script_checker.specs.Compiled.{IsFirstRefused}
 use Rattle.journal_text.specs.declared.looks.seens.Seen.{Seen}
+use Rattle.message_plays.specs.Texts.{IsPlayedByMessages}
 use Rattle.place_plan.specs.Plans.PlanValue.{Plan}
 use Rattle.caa_commands.specs.declared.command.Command.{Command}
 use Rattle.caa_commands.specs.declared.command.Command.TheVariants as command
@@ -22,7 +23,7 @@ use Rattle.caa_commands.specs.Findings.{status_of, finding_text}
 use Rattle.caa_commands.specs.Inputs.{most_bytes, script_in}
 use Rattle.caa_commands.specs.Scripts.{HasPlan, IsRefusedScript}
 use Rattle.caa_commands.specs.OutsideUse.{SinkUse, Left, Call}
-use Rattle.caa_commands.specs.Calls.{CheckComesTo, EndsAs, DoesNotBegin, AuditComesTo, PlanComesTo, InputComesTo, IsNotServed, IsUnread, IsRead, HasStopped, unread_finding, CameTo, with_journal, Tells, Answers}
+use Rattle.caa_commands.specs.Calls.{CheckComesTo, Prints, EndsAs, DoesNotBegin, AuditComesTo, PlanComesTo, InputComesTo, IsNotServed, IsUnread, IsRead, HasStopped, unread_finding, CameTo, with_journal, Tells, Answers}
 use Rattle.caa_commands.specs.Served.{IsGiven, WasTold, IsServable, WasServed, IsToFind, legal_journal, illegal_line, too_many_entries, IsAuditable, HoldsRefused, IsRefusable, WasRefused, MissesNothing}
 use Rattle.caa_base.proofs.Counting.{counted_up-rose}
 use Rattle.caa_commands.proofs.NotRefused.{plan_not_refused}
@@ -95,12 +96,14 @@ most_of_script : (c : Command) → (c ≡ command.Audit → ⊥) → most_bytes 
 most_of_script command.Check h = refl
 most_of_script (command.Sim seed) h = refl
 most_of_script command.Run h = refl
+most_of_script (command.Messages seed) h = refl
 most_of_script command.Audit h = absurd (h refl)
 
 script_of_script : (c : Command) (bytes : List ℕ) → (c ≡ command.Audit → ⊥) → script_in c bytes ≡ bytes
 script_of_script command.Check bytes h = refl
 script_of_script (command.Sim seed) bytes h = refl
 script_of_script command.Run bytes h = refl
+script_of_script (command.Messages seed) bytes h = refl
 script_of_script command.Audit bytes h = absurd (h refl)
 
 -- a play that ended is served, or its text found no memory
@@ -115,6 +118,7 @@ ended_served plan journal seens (finding.Checked counts) h = elim h [ ]
 ended_served plan journal seens finding.PlantFault h = elim h [ ]
 ended_served plan journal seens (finding.Legal entries) h = elim h [ ]
 ended_served plan journal seens (finding.Illegal line) h = elim h [ ]
+ended_served plan journal seens (finding.Printed text) h = elim h [ ]
 
 -- where the device could be laid out, a play that didn't begin found no memory
 begun_served : {P : Type 0} (found : Finding) (left : Left P) → (Rose left.plant.lay_faults_before left.plant.lay_faults_after → ⊥) → DoesNotBegin found left → WasServed (status_of found)
@@ -127,6 +131,7 @@ begun_served (finding.Checked counts) left laid h = elim h [ ]
 begun_served (finding.Played failed text) left laid h = elim h [ ]
 begun_served (finding.Legal entries) left laid h = elim h [ ]
 begun_served (finding.Illegal line) left laid h = elim h [ ]
+begun_served (finding.Printed text) left laid h = elim h [ ]
 
 checked_served : {P : Type 0} (plan : Plan) (found : Finding) (left : Left P) → CheckComesTo plan found left → WasServed (status_of found)
 checked_served plan (finding.Checked counts) left h = inl refl
@@ -137,7 +142,21 @@ checked_served plan finding.PlantFault left h = elim h [ ]
 checked_served plan (finding.Played failed text) left h = elim h [ ]
 checked_served plan (finding.Legal entries) left h = elim h [ ]
 checked_served plan (finding.Illegal line) left h = elim h [ ]
+checked_served plan (finding.Printed text) left h = elim h [ ]
 checked_served plan finding.OutOfMemory left h = elim h [ ]
+
+-- a text that is printed is served, or found no memory
+printed_served : {P : Type 0} (holds : List ℕ → Type 0) (found : Finding) (left : Left P) → Prints holds found left → WasServed (status_of found)
+printed_served holds (finding.Printed text) left h = inl refl
+printed_served holds finding.OutOfMemory left h = inr (inr refl)
+printed_served holds finding.Usage left h = elim h [ ]
+printed_served holds finding.SourceFault left h = elim h [ ]
+printed_served holds (finding.Refused refusal) left h = elim h [ ]
+printed_served holds (finding.Checked counts) left h = elim h [ ]
+printed_served holds finding.PlantFault left h = elim h [ ]
+printed_served holds (finding.Played failed text) left h = elim h [ ]
+printed_served holds (finding.Legal entries) left h = elim h [ ]
+printed_served holds (finding.Illegal line) left h = elim h [ ]
 
 -- over a plan, a command other than `audit` comes to nothing else
 plan_served : {P : Type 0} (c : Command) (plan : Plan) (bytes : List ℕ) (found : Finding) (left : Left P) → (c ≡ command.Audit → ⊥)
@@ -148,6 +167,7 @@ plan_served (command.Sim seed) plan bytes found left other laid (inl played) = e
 plan_served (command.Sim seed) plan bytes found left other laid (inr unopened) = begun_served found left laid unopened
 plan_served command.Run plan bytes found left other laid (inl played) = ended_served plan left.journal played.seens found played.ends
 plan_served command.Run plan bytes found left other laid (inr unopened) = begun_served found left laid unopened
+plan_served (command.Messages seed) plan bytes found left other laid h = printed_served (IsPlayedByMessages plan seed) found left h
 
 -- a script that has a plan isn't turned away
 not_away : {P : Type 0} (c : Command) (bytes : List ℕ) (plan : Plan) (found : Finding) (left : Left P) → HasPlan (script_in c bytes) plan → IsNotServed c bytes found left → found ≡ finding.OutOfMemory
@@ -160,6 +180,7 @@ not_away c bytes plan (finding.Checked counts) left script h = elim h [ ]
 not_away c bytes plan (finding.Played failed text) left script h = elim h [ ]
 not_away c bytes plan (finding.Legal entries) left script h = elim h [ ]
 not_away c bytes plan (finding.Illegal line) left script h = elim h [ ]
+not_away c bytes plan (finding.Printed text) left script h = elim h [ ]
 
 lost_served : (found : Finding) → found ≡ finding.OutOfMemory → WasServed (status_of found)
 lost_served found lost = inr (inr (ap status_of lost))
@@ -195,6 +216,7 @@ audited plan bytes finding.SourceFault left h = elim h [ ]
 audited plan bytes finding.PlantFault left h = elim h [ ]
 audited plan bytes (finding.Checked counts) left h = elim h [ ]
 audited plan bytes (finding.Played failed text) left h = elim h [ ]
+audited plan bytes (finding.Printed text) left h = elim h [ ]
 
 -- over a plan of the script nothing else is found than what is to be found by each
 as_to_find : {P : Type 0} (call : Call P) (sink : SinkUse) (found other : Finding) (left : Left P) (h : IsAuditable call sink found) (plan : Plan) → HasPlan (script_in command.Audit h.bytes) plan
@@ -230,6 +252,7 @@ refused_away c bytes (finding.Checked counts) left h = elim h [ ]
 refused_away c bytes (finding.Played failed text) left h = elim h [ ]
 refused_away c bytes (finding.Legal entries) left h = elim h [ ]
 refused_away c bytes (finding.Illegal line) left h = elim h [ ]
+refused_away c bytes (finding.Printed text) left h = elim h [ ]
 
 module _ {P : Type 0} (call : Call P) (sink : SinkUse) (c : Command) (bytes : List ℕ) (given : IsGiven call sink c bytes) (found : Finding) where
   -- an input that is too long isn't read to its end

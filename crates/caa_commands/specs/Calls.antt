@@ -13,6 +13,7 @@ use Rattle.role_driver.specs.Schedule.{GrewBy, first_of_seed}
 use Rattle.journal_text.specs.declared.looks.seens.Seen.{Seen}
 use Rattle.journal_text.specs.Watching.Right.{first_wrong}
 use Rattle.journal_text.specs.Texts.Text.{text_of}
+use Rattle.message_plays.specs.Texts.{IsPlayedByMessages}
 use Rattle.caa_commands.specs.declared.command.Command.{Command}
 use Rattle.caa_commands.specs.declared.command.Command.TheVariants as command
 use Rattle.caa_commands.specs.declared.fault.Fault.TheVariants as fault
@@ -33,6 +34,12 @@ use Rattle.caa_commands.specs.OutsideUse.{SourceUse, SinkUse, Left, Call, IsIdle
 abbrev pub CheckComesTo : {P : Type 0} → Plan → Finding → Left P → Type 0
 CheckComesTo plan (finding.Checked counts) left = (counts ≡ counts_of plan) × IsIdle left
 CheckComesTo plan _ left = ⊥
+
+-- a command that prints one text and does nothing else; this holds of the text, if memory was found for it
+abbrev pub Prints : {P : Type 0} → (List ℕ → Type 0) → Finding → Left P → Type 0
+Prints holds (finding.Printed text) left = holds text.items × IsIdle left
+Prints holds finding.OutOfMemory left = IsIdle left
+Prints holds _ left = ⊥
 
 -- a play that ended: status clause, and printed clause with these looks. Its text may have found no memory
 abbrev pub EndsAs : Plan → List Entry → List Seen → Finding → Type 0
@@ -88,6 +95,7 @@ PlanComesTo command.Check plan bytes found left = CheckComesTo plan found left
 PlanComesTo (command.Sim seed) plan bytes found left = SimComesTo plan seed found left
 PlanComesTo command.Run plan bytes found left = RunComesTo plan found left
 PlanComesTo command.Audit plan bytes found left = AuditComesTo plan bytes found left
+PlanComesTo (command.Messages seed) plan bytes found left = Prints (IsPlayedByMessages plan seed) found left
 
 -- ---- what each command comes to over the bytes that were read
 

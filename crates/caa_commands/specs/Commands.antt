@@ -1,5 +1,5 @@
 -- The command lines that are served.
-use Rattle.std.specs.Prelude.{ℕ, ℤ, pos, negsuc, ◌≤◌, nat_le, if◌then◌else◌, List, [], ◌∷◌, Option, Some, None, option_map, bytes_eq, codes}
+use Rattle.std.specs.Prelude.{ℕ, ℤ, pos, negsuc, ◌≤◌, ◌&&◌, nat_le, if◌then◌else◌, List, [], ◌∷◌, Option, Some, None, option_map, bytes_eq, codes}
 use Rattle.action_script.specs.Words.ScriptWords.{value_of}
 use Rattle.caa_commands.specs.declared.command.Command.{Command}
 use Rattle.caa_commands.specs.declared.command.Command.TheVariants as command
@@ -8,40 +8,38 @@ use Rattle.caa_commands.specs.declared.command.Command.TheVariants as command
 abbrev pub most_seed : ℕ
 most_seed = 2147483647
 
--- a value that is a seed: from 0 to the greatest
-abbrev pub seed_within : Option ℤ → Option ℕ
-seed_within None = None
-seed_within (Some (pos n)) = if nat_le n most_seed then Some n else None
-seed_within (Some (negsuc n)) = None
+-- a value that is a number from the least to the greatest
+abbrev pub number_within : ℕ → ℕ → Option ℤ → Option ℕ
+number_within least most None = None
+number_within least most (Some (pos n)) = if nat_le least n && nat_le n most then Some n else None
+number_within least most (Some (negsuc n)) = None
 
--- a seed, in decimal digits without a sign and without leading zeros
-abbrev pub seed_of : List ℕ → Option ℕ
-seed_of word = seed_within (value_of word)
+-- just a number from the least to the greatest, in decimal digits without a sign and without leading zeros
+abbrev pub number_alone : ℕ → ℕ → List (List ℕ) → Option ℕ
+number_alone least most [] = None
+number_alone least most (word ∷ []) = number_within least most (value_of word)
+number_alone least most (word ∷ next ∷ more) = None
 
--- the seed of a command, where it has one, is at most the greatest
-abbrev pub HasSeed : Command → Type 0
-HasSeed (command.Sim seed) = seed ≤ most_seed
-HasSeed _ = Unit {0}
-
--- just a seed
-abbrev pub sim_of : List (List ℕ) → Option Command
-sim_of [] = None
-sim_of (word ∷ []) = option_map command.Sim (seed_of word)
-sim_of (word ∷ next ∷ more) = None
+-- the number of a command, where it has one, is in its range: a seed is at most the greatest
+abbrev pub IsWithinRange : Command → Type 0
+IsWithinRange (command.Sim seed) = seed ≤ most_seed
+IsWithinRange (command.Messages seed) = seed ≤ most_seed
+IsWithinRange _ = Unit {0}
 
 -- nothing more
 abbrev pub alone : Command → List (List ℕ) → Option Command
 alone command [] = Some command
 alone command (word ∷ words) = None
 
--- the command of these words, where they are `check`, `sim SEED`, `run` or `audit`
+-- the command of these words, where they are `check`, `sim SEED`, `run`, `audit` or `messages SEED`
 abbrev pub command_of : List (List ℕ) → Option Command
 command_of [] = None
 command_of (word ∷ words) =
     if bytes_eq word (codes "check") then alone command.Check words
-    else (if bytes_eq word (codes "sim") then sim_of words
+    else (if bytes_eq word (codes "sim") then option_map command.Sim (number_alone 0 most_seed words)
     else (if bytes_eq word (codes "run") then alone command.Run words
-    else (if bytes_eq word (codes "audit") then alone command.Audit words else None)))
+    else (if bytes_eq word (codes "audit") then alone command.Audit words
+    else (if bytes_eq word (codes "messages") then option_map command.Messages (number_alone 0 most_seed words) else None))))
 
 -- a command that needs no threads; `run` needs them
 abbrev pub without_threads : Option Command → Option Command

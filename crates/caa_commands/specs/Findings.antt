@@ -65,12 +65,13 @@ numbered_text word number = line word (decimal number ∷ [])
 
 -- what is printed
 abbrev pub finding_text : Finding → List ℕ
-finding_text finding.Usage = codes "usage: check | sim SEED | run | audit | cell N\n"
+finding_text finding.Usage = codes "usage: check | sim SEED | run | audit | cell N | graph K | messages SEED\n"
 finding_text finding.SourceFault = codes "fault source\n"
 finding_text (finding.Refused refusal) = refusal_text refusal
 finding_text (finding.Checked counts) = checked_text counts
 finding_text finding.PlantFault = codes "fault plant\n"
 finding_text (finding.Played failed text) = text.items
+finding_text (finding.Printed text) = text.items
 finding_text (finding.Legal entries) = numbered_text (codes "legal") entries
 finding_text (finding.Illegal line) = numbered_text (codes "illegal") line
 finding_text finding.OutOfMemory = []
@@ -84,6 +85,7 @@ status_of (finding.Checked counts) = status.Done
 status_of finding.PlantFault = status.PlantFault
 status_of (finding.Played true text) = status.SomeFailed
 status_of (finding.Played false text) = status.Done
+status_of (finding.Printed text) = status.Done
 status_of (finding.Legal entries) = status.Done
 status_of (finding.Illegal line) = status.Illegal
 status_of finding.OutOfMemory = status.OutOfMemory

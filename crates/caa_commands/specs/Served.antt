@@ -30,7 +30,7 @@ WasTold found sink answer =
     ((answer ≡ status_of found) × (sink.held_after ≡ append_known sink.held_before (finding_text found)))
     ⊎ (answer ≡ status.OutOfMemory)
 
--- ---- `check`, `sim SEED` and `run`
+-- ---- `check`, `sim SEED`, `run` and `messages SEED`
 
 -- the bytes spell a script with a plan, and the device didn't refuse to be laid out
 pub record IsServable {P : Type 0} (call : Call P) (sink : SinkUse) : Type 0 where

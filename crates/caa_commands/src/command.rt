@@ -1,10 +1,10 @@
-ghost use Rattle.std.specs.Prelude.{◌≡◌, map, string_bytes, IfSome};
-ghost use Rattle.caa_commands.specs.Commands.{command_of, sim_of, seed_of, alone, without_threads, HasSeed};
+ghost use Rattle.std.specs.Prelude.{◌≡◌, ◌<◌, ◌^◌, map, string_bytes, IfSome};
+ghost use Rattle.caa_commands.specs.Commands.{command_of, number_alone, alone, without_threads, IsWithinRange};
 
 use action_script::words::word::value_of;
 
 /// The greatest seed.
-const MOST_SEED: i64 = 2_147_483_647;
+const MOST_SEED: u32 = 2_147_483_647;
 
 /// A command line that is served.
 #[derive(Clone, Copy, Debug, PartialEq, Eq)]
@@ -17,26 +17,21 @@ pub enum Command {
     Run,
     /// Judges a journal by the script before it.
     Audit,
+    /// Lets the roles of a script's first play agree by messages. This seed, below 2^31, says what their network delivers.
+    Messages(u32),
 }
 
-/// A seed: a number from 0 to 2147483647, in decimal digits without a sign and without leading zeros.
-fn seed_of(word: &[u8]) -> Option<u32>
-    ensures { result ≡ seed_of word.now }
+/// Just a number from the least to the greatest, in decimal digits without a sign and without leading zeros.
+fn number_alone(least: u32, most: u32, words: &[String]) -> Option<u32>
+    ensures { result ≡ number_alone least most (map string_bytes words.now) }
 {
-    match value_of(word) {
-        Some(seed) if 0 <= seed && seed <= MOST_SEED => Some(seed as u32),
-        _ => None,
-    }
-}
-
-/// The command `sim` with these words after it.
-fn sim_of(words: &[String]) -> Option<Command>
-    ensures { result ≡ sim_of (map string_bytes words.now) }
-{
-    let [seed] = words else {
+    let [word] = words else {
         return None;
     };
-    Some(Command::Sim(seed_of(seed.as_bytes())?))
+    match value_of(word.as_bytes()) {
+        Some(value) if i64::from(least) <= value && value <= i64::from(most) => Some(value as u32),
+        _ => None,
+    }
 }
 
 /// A command that has no words after it.
@@ -53,17 +48,19 @@ fn alone(command: Command, words: &[String]) -> Option<Command>
 /// The command of these words, where they are those of one that is served.
 pub fn command_of(words: &[String]) -> Option<Command>
     ensures command { result ≡ command_of (map string_bytes words.now) }
-    ensures seed { IfSome result HasSeed }
+    ensures range { IfSome result IsWithinRange }
 {
     let (word, more) = words.split_first()?;
     if word.as_str() == "check" {
         alone(Command::Check, more)
     } else if word.as_str() == "sim" {
-        sim_of(more)
+        Some(Command::Sim(number_alone(0, MOST_SEED, more)?))
     } else if word.as_str() == "run" {
         alone(Command::Run, more)
     } else if word.as_str() == "audit" {
         alone(Command::Audit, more)
+    } else if word.as_str() == "messages" {
+        Some(Command::Messages(number_alone(0, MOST_SEED, more)?))
     } else {
         None
     }
@@ -73,7 +70,7 @@ pub fn command_of(words: &[String]) -> Option<Command>
 pub fn quiet_command_of(words: &[String]) -> Option<Command>
     ensures command { result ≡ without_threads (command_of (map string_bytes words.now)) }
     ensures quiet { without_threads result ≡ result }
-    ensures seed { IfSome result HasSeed }
+    ensures range { IfSome result IsWithinRange }
 {
     match command_of(words) {
         Some(Command::Run) => None,

@@ -23,6 +23,8 @@ pub enum Finding {
     PlantFault,
     /// The script was played; whether a play failed, and the text of the journal.
     Played { failed: bool, text: Vec<u8> },
+    /// What the command prints of the script is this text.
+    Printed(Vec<u8>),
     /// The journal is legal and complete, and has so many entries.
     Legal { entries: u64 },
     /// The journal is none, or isn't legal and complete, or shows a wrong value: the first line at fault.
@@ -95,6 +97,7 @@ impl Finding {
                 failed: false,
                 text: _,
             }
+            | Finding::Printed(_)
             | Finding::Legal { entries: _ } => Status::Done,
             Finding::Illegal { line: _ } => Status::Illegal,
             Finding::OutOfMemory => Status::OutOfMemory,
@@ -108,17 +111,17 @@ impl Finding {
         matches!(self, Finding::Played { failed: _, text: _ })
     }
 
-    /// Its text. A text that is always the same, and that of a journal, needs no memory.
+    /// Its text. One that is always the same needs no memory, nor does one that was written before.
     pub fn into_text(self, alloc: Global) -> Result<Text, OutOfMemory>
         ensures text { IfOk result (λ text. text_bytes text ≡ finding_text self) }
         ensures wanting { IsErr result → needs_memory self ≡ true }
     {
         match self {
-            Finding::Usage => Ok(Text::Fixed(b"usage: check | sim SEED | run | audit | cell N\n")),
+            Finding::Usage => Ok(Text::Fixed(b"usage: check | sim SEED | run | audit | cell N | graph K | messages SEED\n")),
             Finding::SourceFault => Ok(Text::Fixed(b"fault source\n")),
             Finding::PlantFault => Ok(Text::Fixed(b"fault plant\n")),
             Finding::OutOfMemory => Ok(Text::Fixed(b"")),
-            Finding::Played { failed: _, text } => Ok(Text::Written(text)),
+            Finding::Played { failed: _, text } | Finding::Printed(text) => Ok(Text::Written(text)),
             Finding::Refused(refusal) => Ok(Text::Written(refusal.text(alloc)?)),
             Finding::Checked(counts) => Ok(Text::Written(checked(alloc, counts)?)),
             Finding::Legal { entries } => Ok(Text::Written(numbered(alloc, b"legal", entries)?)),

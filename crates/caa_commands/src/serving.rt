@@ -1,12 +1,13 @@
 //! What the commands come to over the input, before anything is written.
 
-ghost use Rattle.std.specs.Prelude.{◌≡◌, ◌≢◌, ◌<◌, ◌≤◌, None, Some, true, IfSome};
+ghost use Rattle.std.specs.Prelude.{◌≡◌, ◌≢◌, ◌<◌, ◌≤◌, ◌^◌, None, Some, true, IfSome};
 ghost use Rattle.caa_base.specs.Written.Limits.{most_audit_bytes};
 ghost use Rattle.journal_text.specs.Texts.Naming.{is_well_named};
+ghost use Rattle.message_plays.specs.Texts.{IsPlayedByMessages};
 ghost use Rattle.caa_commands.specs.declared.command.Command.{Command};
-ghost use Rattle.caa_commands.specs.Commands.{without_threads, HasSeed};
+ghost use Rattle.caa_commands.specs.Commands.{without_threads, IsWithinRange};
 ghost use Rattle.caa_commands.specs.OutsideUse.{source_use, plant_use, left_of, call_of};
-ghost use Rattle.caa_commands.specs.Calls.{AuditComesTo, PlanComesTo, InputComesTo, unread_finding, CameTo};
+ghost use Rattle.caa_commands.specs.Calls.{AuditComesTo, Prints, PlanComesTo, InputComesTo, unread_finding, CameTo};
 ghost use Rattle.caa_commands.specs.Inputs.{most_bytes, script_in};
 
 use crate::command::Command;
@@ -21,6 +22,7 @@ use caa_base::outside::plant::Plant;
 use caa_base::outside::reading::{ReadError, read_all};
 use caa_base::outside::source::Source;
 use caa_base::written::limits::{MOST_AUDIT_BYTES, MOST_AUDITED, MOST_SCRIPT_BYTES};
+use message_plays::messages_text;
 use place_plan::plans::plan::Plan;
 use std::alloc::Global;
 use std::sync::Wait;
@@ -68,6 +70,19 @@ fn judge_after<P: Plant>(alloc: Global, plan: &Plan, bytes: &[u8], plant: P) -> 
     }
 }
 
+/// Lets the members of a plan's first place agree by messages.
+fn agree<P: Plant>(alloc: Global, plan: &Plan, seed: u32, plant: P) -> Decision<P>
+    requires { seed < 2 ^ 31 }
+    ensures { Prints (IsPlayedByMessages plan.now seed) result.finding
+        (left_of (plant_use ⟦<P as Plant>⟧ plant result.plant) result.journal.entries) }
+{
+    let finding = match messages_text(alloc, plan, seed) {
+        Ok(text) => Finding::Printed(text),
+        Err(_) => Finding::OutOfMemory,
+    };
+    Decision::idle(alloc, finding, plant)
+}
+
 /// Serves a command over a plan, and over all bytes that were read. It is none that needs threads, nor `check`, which needs no plan.
 fn serve_plan<P: Plant>(
     alloc: Global,
@@ -76,7 +91,7 @@ fn serve_plan<P: Plant>(
     bytes: &[u8],
     plant: P,
 ) -> Decision<P>
-    requires seed { HasSeed command }
+    requires range { IsWithinRange command }
     requires quiet { without_threads (Some command) ≡ Some command }
     requires other { command ≢ Command.Check }
     requires named { is_well_named plan ≡ true }
@@ -87,6 +102,7 @@ fn serve_plan<P: Plant>(
         Command::Check | Command::Run => unreachable!(),
         Command::Sim(seed) => simulate(alloc, plan, seed, plant),
         Command::Audit => judge_after(alloc, &plan, bytes, plant),
+        Command::Messages(seed) => agree(alloc, &plan, seed, plant),
     }
 }
 
@@ -96,13 +112,13 @@ fn script_in(command: Command, bytes: &[u8]) -> &[u8]
 {
     match command {
         Command::Audit => &bytes[..find_journal(bytes).place],
-        Command::Check | Command::Sim(_) | Command::Run => bytes,
+        Command::Check | Command::Sim(_) | Command::Run | Command::Messages(_) => bytes,
     }
 }
 
 /// Serves a command over the bytes that were read.
 fn serve<P: Plant>(alloc: Global, command: Command, bytes: &[u8], plant: P) -> Decision<P>
-    requires seed { HasSeed command }
+    requires range { IsWithinRange command }
     requires quiet { without_threads (Some command) ≡ Some command }
     ensures { InputComesTo command bytes.now result.finding
         (left_of (plant_use ⟦<P as Plant>⟧ plant result.plant) result.journal.entries) }
@@ -124,7 +140,7 @@ fn most_bytes(command: Command) -> u64
 {
     match command {
         Command::Audit => MOST_AUDIT_BYTES,
-        Command::Check | Command::Sim(_) | Command::Run => MOST_SCRIPT_BYTES,
+        Command::Check | Command::Sim(_) | Command::Run | Command::Messages(_) => MOST_SCRIPT_BYTES,
     }
 }
 
@@ -149,7 +165,7 @@ pub fn decide<S: Source, P: Plant>(
     source: &mut S,
     plant: P,
 ) -> Decision<P>
-    requires seed { IfSome asked HasSeed }
+    requires range { IfSome asked IsWithinRange }
     requires quiet { without_threads asked ≡ asked }
     ensures came { CameTo
         (call_of asked

@@ -70,14 +70,15 @@ fn tell<K: Sink, P: Plant>(alloc: Global, decision: Decision<P>, sink: &mut K) -
 ///
 /// `check` reads a script and tells how large its plan is. `sim SEED`, with a seed from 0 to 2147483647, plays it to its end in
 /// the order that the seed gives and writes the text of the journal. `audit` reads a script and the text of a journal after it,
-/// and tells whether the journal is legal and complete. Things are tried in this order: the words (`Usage`); the reading
-/// (`SourceFault`, or `Refused` where it is too long); the script (`Refused`); for `audit` the journal (`Refused` past its most
-/// entries, or `Illegal`); for `sim` that the device is laid out (`PlantFault`), and the play (`SomeFailed` where a play failed);
-/// and the writing. Where not all of the text is written, the status is `SinkFault`, and a part of the text was written. At
-/// `OutOfMemory` nothing was written; it never comes for wrong words.
+/// and tells whether the journal is legal and complete. `messages SEED`, with such a seed too, reads a script, lets the roles of
+/// its first play agree by messages, and writes what happened and what each has resolved. Things are tried in this order: the
+/// words (`Usage`); the reading (`SourceFault`, or `Refused` where it is too long); the script (`Refused`); for `audit` the
+/// journal (`Refused` past its most entries, or `Illegal`); for `sim` that the device is laid out (`PlantFault`), and the play
+/// (`SomeFailed` where a play failed); and the writing. Where not all of the text is written, the status is `SinkFault`, and a
+/// part of the text was written. At `OutOfMemory` nothing was written; it never comes for wrong words.
 ///
 /// The journal that is handed back is the played one, wherever the script was played; for `audit` at `Done` the one that was
-/// read; and else empty. The device is as it was for `check` and `audit`, and wherever nothing was tried beyond the script.
+/// read; and else empty. The device is as it was for `check`, `audit` and `messages`, and wherever nothing was tried beyond the script.
 pub fn top_quiet<S: Source, K: Sink, P: Plant>(
     alloc: Global,
     words: &[String],

@@ -153,7 +153,7 @@ module _ (order : CoverOrder) (count : ℕ) where
     abbrev course : Course
     course = course_of order count past
 
-    words : KeepsWords order count course (all_raised past)
+    pub words : KeepsWords order count course (all_raised past)
     words = (keeps order count past sound legal).0
 
     kept : KeepsDecisions order count course (all_raised past)
@@ -230,7 +230,7 @@ module _ (order : CoverOrder) (count : ℕ) where
     unraised : all_raised past ≡ [] → (u e : ℕ) → Contains course.messages (message.Raised u e) → ⊥
     unraised none u e at = nothing_in e (subst (λ es. Contains es e) none (words.to_raised u e (words.raised_sent u e at)))
 
-    unspoken : all_raised past ≡ [] → (u : ℕ) → has_spoken (course.local u) ≡ true → ⊥
+    pub unspoken : all_raised past ≡ [] → (u : ℕ) → has_spoken (course.local u) ≡ true → ⊥
     unspoken none u spoken =
         let found = any_member is_call (course.local u) spoken in
         elim (call_from found.0 found.2) [
@@ -238,7 +238,7 @@ module _ (order : CoverOrder) (count : ℕ) where
           | inr other ↦ unraised none other.0 other.1 (words.received u (message.Raised other.0 other.1) (subst (Contains (course.local u)) other.2 found.1))
         ]
 
-    unsent : all_raised past ≡ [] → (m : Message) → Contains course.messages m → ⊥
+    pub unsent : all_raised past ≡ [] → (m : Message) → Contains course.messages m → ⊥
     unsent none (message.Raised u e) at = unraised none u e at
     unsent none (message.Suspended u) at = unspoken none u (words.suspended u at).0
     unsent none (message.Resolved u e) at =
