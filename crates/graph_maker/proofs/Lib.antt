@@ -1,8 +1,9 @@
-pub mod Chosen
-pub mod Counted
-pub mod Halves
-pub mod Lowered
-pub mod Numbers
-pub mod SetChains
-pub mod Sizes
-pub mod Unions
+pub mod Accepting
+pub mod Ascending
+pub mod Distinct
+pub mod MadeWords
+pub mod Naming
+pub mod Refusing
+pub mod Rooms
+pub mod Scripted
+pub mod Staged

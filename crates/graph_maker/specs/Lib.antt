@@ -1,3 +1,4 @@
-pub mod Sets
-pub mod SetGraph
-pub mod inner
+pub mod SetNames
+pub mod Refusals
+pub mod MadeScripts
+pub mod Answers

@@ -73,7 +73,7 @@ impl Script {
         ensures names { IfOk result (λ script. script.names ≡ names.items) }
     {
         let lines = numbered(alloc, forms)?;
-        let universal = universal_in(names.as_slice());
+        let universal = number_in(names.as_slice(), b"universal");
         Ok(Script::from_parts(lines, names, universal))
     }
 
@@ -147,13 +147,13 @@ impl Script {
     }
 }
 
-/// The number of the name `universal` among these, or how many names there are.
-fn universal_in(names: &[Name]) -> u32
+/// The number of a name among these, or how many names there are.
+pub fn number_in(names: &[Name], word: &[u8]) -> u32
     requires { length names.now < 2 ^ 32 }
-    ensures { result ≡ number_in names.now (codes "universal") }
+    ensures { result ≡ number_in names.now word.now }
 {
     for (number, name) in names.iter().enumerate() {
-        if b"universal".as_slice() == name.bytes() {
+        if word == name.bytes() {
             return number as u32;
         }
     }

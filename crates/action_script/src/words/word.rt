@@ -30,7 +30,7 @@ fn are_digits(word: &[u8]) -> bool
 }
 
 /// The number that a word writes without a sign, where there is one and it is at most `most`.
-fn natural_of(word: &[u8], most: u64) -> Option<u64>
+pub fn natural_of(word: &[u8], most: u64) -> Option<u64>
     ensures value { result ≡ at_most most (natural_of word.now) }
     ensures small { IfSome result (λ number. number ≤ most) }
 {

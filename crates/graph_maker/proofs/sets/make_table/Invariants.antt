@@ -1,6 +1,0 @@
-use Rattle.std.proofs.Common.{◌≡◌}
-use Rattle.graph_maker.specs.Sets.{table}
-use Rattle.graph_maker.proofs.sets.make_table.Given as goal
-
-abbrev pub invariant-loop-size : goal.invariant-loop-size
-invariant-loop-size l = l.sets.items ≡ table l.primitives l.size

@@ -1,0 +1,4 @@
+use Rattle.set_graphs.proofs.sets.+push_sets.Given as goal
+
+abbrev pub decreases-push_sets : goal.decreases-push_sets
+decreases-push_sets l = l.left
