@@ -188,6 +188,13 @@ module _ (d : Declared) (g : DeclaredGraph) where
   none_graph h cause.OutOfMemory k = k
   none_graph h other k = false≢true k
 
+-- the same where the graph is known to be the block
+pub least_of_graph : (s : SoFar) (g : DeclaredGraph) → s.block ≡ block.Graph g → (c : CheckCause) → IsGraphRefusal (length g.exceptions) g.pairs c → (c ≡ cause.OutOfMemory → ⊥) → IsLeast s form.End c
+least_of_graph s g e c h memory = subst (λ (b : Block). IsLeast (record { declared = s.declared; block = b }) form.End c) (sym e) (least_graph s.declared g c memory h)
+
+pub none_of_graph : (s : SoFar) (g : DeclaredGraph) → s.block ≡ block.Graph g → IsFaultless (length g.exceptions) g.pairs → HasNone s form.End
+none_of_graph s g e h = subst (λ (b : Block). HasNone (record { declared = s.declared; block = b }) form.End) (sym e) (none_graph s.declared g h)
+
 -- ---- the end of an action
 
 module _ (d : Declared) (a : OpenAction) where
@@ -224,3 +231,10 @@ none_top d cause.OutOfMemory k = k
 none_top d (cause.Cycle at) k = k
 none_top d (cause.NoLeast x y) k = k
 none_top d other k = false≢true k
+
+-- the same where the action is known to be the block
+pub least_of_action : (s : SoFar) (a : OpenAction) → s.block ≡ block.Action a → (c : CheckCause) → IsActionRefusal a c → (c ≡ cause.OutOfMemory → ⊥) → IsLeast s form.End c
+least_of_action s a e c h memory = subst (λ (b : Block). IsLeast (record { declared = s.declared; block = b }) form.End c) (sym e) (least_action s.declared a c memory h)
+
+pub none_of_action : (s : SoFar) (a : OpenAction) → s.block ≡ block.Action a → IsUnrefused a → HasNone s form.End
+none_of_action s a e h = subst (λ (b : Block). HasNone (record { declared = s.declared; block = b }) form.End) (sym e) (none_action s.declared a h)

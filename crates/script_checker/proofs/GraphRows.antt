@@ -1,22 +1,12 @@
 -- The rows of graphs stand for the graphs that are declared.
 use Rattle.std.proofs.Common.{◌≡◌, ℕ, ◌+◌, suc, Bool, true, false, cond, List, [], ◌∷◌, ◌++◌, length, slice_index_or, bytes_eq, codes, refl, sym, ap, ◌∙◌, subst, arith}
-use Rattle.std.proofs.lemmas.Bool.{false≢true}
 use Rattle.std.proofs.lemmas.Slice.Eq.{bytes_eq-Decides}
-use Rattle.cover_table.specs.Cover.{CoverOrder, IsSound}
+use Rattle.cover_table.specs.Cover.{IsSound}
 use Rattle.exception_graph.specs.Chains.{IsOrderOf}
 use Rattle.place_plan.specs.declared.drafts.draft_rows.GraphRow.{GraphRow}
 use Rattle.action_script.specs.Words.NumberedNames.{number_in}
-use Rattle.action_script.specs.declared.forms.form.Form.{Form}
-use Rattle.action_script.specs.declared.forms.form.Form.TheVariants as form
-use Rattle.script_checker.specs.declared.declared.Declared.{Declared}
-use Rattle.script_checker.specs.declared.declared.Block.{Block}
-use Rattle.script_checker.specs.declared.declared.Block.TheVariants as block
 use Rattle.script_checker.specs.declared.open_graph.DeclaredGraph.{DeclaredGraph}
-use Rattle.script_checker.specs.DeclaredSoFar.{SoFar, plain_graph}
-use Rattle.script_checker.specs.Causes.{ends_graph}
-use Rattle.script_checker.specs.After.{with_said, ended}
-use Rattle.script_checker.specs.inner.Graphs.{IsOrdered}
-use Rattle.script_checker.specs.inner.Rows.{AddsRow}
+use Rattle.script_checker.specs.DeclaredSoFar.{plain_graph}
 use Rattle.script_checker.specs.Compiled.{IsRowOf, AreRowsOf}
 
 -- ---- the plain graph
