@@ -17,9 +17,9 @@ use Rattle.script_checker.specs.declared.open_graph.DeclaredGraph.{DeclaredGraph
 use Rattle.script_checker.specs.declared.open_action.OpenAction.{OpenAction}
 use Rattle.script_checker.specs.declared.open_action.OpenProgram.{OpenProgram}
 use Rattle.script_checker.specs.AtTop.{unknown_at_top, twice_at_top, unfilled_at_top, filled_twice_at_top, past_limit_at_top, past_bound_at_top, declared_with, block_begun}
-use Rattle.script_checker.specs.InGraph.{twice_in_graph, past_limit_in_graph, graph_with}
+use Rattle.script_checker.specs.InGraph.{twice_in_graph, graph_with}
 use Rattle.script_checker.specs.InAction.{goes_on, closed, closed_if, action_with, unknown_in_action, twice_in_action, unfilled_in_action, filled_twice_in_action, enters_otherwise_in_action, not_held_in_action, too_deep_in_action, past_limit_in_action, other_face_in_action}
-use Rattle.script_checker.specs.After.{ended, said_in, settled_block, settled, after}
+use Rattle.script_checker.specs.After.{ended, said_in, settled_block, after}
 use Rattle.script_checker.specs.Compiled.{HasNone, declared_after, AreAccepted}
 
 -- ---- what a line without cause hasn't: at the top

@@ -1,12 +1,11 @@
 -- In the actions of an accepted script each role enters just the uses that it fills.
-use Rattle.std.proofs.Common.{◌≡◌, ℕ, Bool, true, false, List}
+use Rattle.std.proofs.Common.{◌≡◌, ℕ, Bool, true, List}
 use Rattle.std.specs.List.{list_all}
 use Rattle.std.proofs.lemmas.Bool.{not-false}
 use Rattle.place_plan.specs.declared.drafts.draft_rows.ActionRow.{ActionRow}
 use Rattle.place_plan.specs.Drafts.DraftRules.{roles_enter}
 use Rattle.action_script.specs.declared.forms.form.Form.{Form}
 use Rattle.action_script.specs.declared.forms.form.Form.TheVariants as form
-use Rattle.script_checker.specs.declared.declared.SoFar.{SoFar}
 use Rattle.script_checker.specs.declared.declared.Declared.{Declared}
 use Rattle.script_checker.specs.declared.declared.Block.{Block}
 use Rattle.script_checker.specs.declared.declared.Block.TheVariants as block

@@ -1,5 +1,5 @@
 -- The rows of graphs stand for the graphs that are declared.
-use Rattle.std.proofs.Common.{◌≡◌, ℕ, ◌+◌, suc, Bool, true, false, cond, List, [], ◌∷◌, ◌++◌, length, slice_index_or, bytes_eq, codes, refl, sym, ap, ◌∙◌, subst, arith}
+use Rattle.std.proofs.Common.{◌≡◌, ℕ, ◌+◌, suc, Bool, true, false, cond, List, [], ◌∷◌, ◌++◌, slice_index_or, bytes_eq, codes, refl, sym, ap, ◌∙◌, subst, arith}
 use Rattle.std.proofs.lemmas.Slice.Eq.{bytes_eq-Decides}
 use Rattle.cover_table.specs.Cover.{IsSound}
 use Rattle.exception_graph.specs.Chains.{IsOrderOf}

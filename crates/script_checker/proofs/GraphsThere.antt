@@ -1,5 +1,5 @@
 -- In an accepted script each graph has an exception, and the graphs of an action are there.
-use Rattle.std.proofs.Common.{◌≡◌, ℕ, suc, ◌+◌, ◌<◌, nat_lt, Bool, true, false, List, [], ◌∷◌, ◌++◌, length, unwrap_or, Option, Some, None, refl, arith, length-append}
+use Rattle.std.proofs.Common.{◌≡◌, ℕ, suc, ◌+◌, ◌<◌, nat_lt, Bool, true, List, [], ◌∷◌, ◌++◌, length, unwrap_or, Option, Some, None, refl, arith, length-append}
 use Rattle.std.specs.List.{list_all}
 use Rattle.std.proofs.lemmas.Bool.{false≢true, ltb-true, lt-ltb, not-false}
 use Rattle.caa_base.specs.Written.Lists.{index_of}

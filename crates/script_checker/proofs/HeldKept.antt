@@ -1,5 +1,5 @@
 -- An accepted action owns the objects that its steps, and the actions nested in it, touch.
-use Rattle.std.proofs.Common.{◌≡◌, ℕ, nat_lt, Bool, true, false, not, ◌&&◌, List, [], ◌∷◌, ◌++◌, length, slice_index_or, Option, Some, None, refl, subst}
+use Rattle.std.proofs.Common.{◌≡◌, ℕ, nat_lt, Bool, true, not, ◌&&◌, List, [], ◌∷◌, ◌++◌, length, slice_index_or, Option, Some, None, refl, subst}
 use Rattle.std.specs.List.{list_all}
 use Rattle.std.proofs.lemmas.Bool.{and_parts, false≢true, and_from, not-false, or_parts}
 use Rattle.caa_base.specs.Written.Lists.{member, index_of, is_empty}
@@ -196,11 +196,10 @@ module _ (names : List (List ℕ)) (d : Declared) where
 
   ends_held : (b : Block) → AreHeld d b → AreHeld (ended names d b) block.Top
   ends_held (block.Action a) h =
-      let row = row_of names a in
-      (
+      let row = row_of names a in (
         all_push (held_in (d.actions ++ row ∷ [])) d.actions row
-        (all_imply (held_in d.actions) (held_in (d.actions ++ row ∷ [])) d.actions (held_longer d.actions row) h.0)
-        (held_longer d.actions row row (and_from _ _ h.1.holds_roles (all_rows (uses_held d.actions a.uses) a.nests h.1.holds_nests))),
+            (all_imply (held_in d.actions) (held_in (d.actions ++ row ∷ [])) d.actions (held_longer d.actions row) h.0)
+            (held_longer d.actions row row (and_from _ _ h.1.holds_roles (all_rows (uses_held d.actions a.uses) a.nests h.1.holds_nests))),
         tt,
       )
   ends_held block.Top h = h

@@ -1,5 +1,5 @@
 -- Lists all of whose members pass a test, and one member that changes.
-use Rattle.std.proofs.Common.{◌≡◌, ℕ, ◌≤◌, suc, zero, Bool, true, List, [], ◌∷◌, ◌++◌, map, length, slice_index_or, slice_set, refl, length-set}
+use Rattle.std.proofs.Common.{◌≡◌, ℕ, suc, zero, Bool, true, List, [], ◌∷◌, ◌++◌, map, length, slice_index_or, slice_set, refl, length-set}
 use Rattle.std.proofs.lemmas.List.{length-map}
 use Rattle.std.specs.List.{list_all}
 use Rattle.std.proofs.lemmas.Bool.{and_parts, and_from}

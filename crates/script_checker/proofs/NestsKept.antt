@@ -76,16 +76,15 @@ module _ (test : List ActionRow → List DeclaredGraph → NestRow → Bool) (is
     ends_pass block.Top h = h
     ends_pass (block.Graph g) h = (
       all_imply (ends_well d.actions d.graphs) (ends_well d.actions (d.graphs ++ g ∷ [])) d.actions
-      (λ action k. all_imply (test d.actions d.graphs) (test d.actions (d.graphs ++ g ∷ [])) action.nests (is_test.one_graph d.actions d.graphs g) k) h.0,
+          (λ action k. all_imply (test d.actions d.graphs) (test d.actions (d.graphs ++ g ∷ [])) action.nests (is_test.one_graph d.actions d.graphs g) k) h.0,
       tt,
     )
     ends_pass (block.Action a) h =
         let row = row_of names a in
-        let more = all_imply (test d.actions d.graphs) (test (d.actions ++ row ∷ []) d.graphs) in
-        (
+        let more = all_imply (test d.actions d.graphs) (test (d.actions ++ row ∷ []) d.graphs) in (
           all_push (ends_well (d.actions ++ row ∷ []) d.graphs) d.actions row
-          (all_imply (ends_well d.actions d.graphs) (ends_well (d.actions ++ row ∷ []) d.graphs) d.actions (λ action k. more action.nests (is_test.one_action d.actions d.graphs row) k) h.0)
-          (more row.nests (is_test.one_action d.actions d.graphs row) (all_rows (test d.actions d.graphs) a.nests h.1)),
+              (all_imply (ends_well d.actions d.graphs) (ends_well (d.actions ++ row ∷ []) d.graphs) d.actions (λ action k. more action.nests (is_test.one_action d.actions d.graphs row) k) h.0)
+              (more row.nests (is_test.one_action d.actions d.graphs row) (all_rows (test d.actions d.graphs) a.nests h.1)),
           tt,
         )
 

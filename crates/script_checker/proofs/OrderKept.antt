@@ -1,5 +1,5 @@
 -- What an accepted action nests was declared before it.
-use Rattle.std.proofs.Common.{◌≡◌, ℕ, suc, ◌+◌, Bool, true, false, List, [], ◌∷◌, ◌++◌, length, refl, sym, subst, arith}
+use Rattle.std.proofs.Common.{◌≡◌, ℕ, suc, ◌+◌, true, List, [], ◌∷◌, ◌++◌, length, refl, sym, subst, arith}
 use Rattle.std.specs.List.{list_all}
 use Rattle.std.proofs.lemmas.Bool.{and_parts}
 use Rattle.place_plan.specs.declared.drafts.draft_rows.ActionRow.{ActionRow}
@@ -10,7 +10,7 @@ use Rattle.action_script.specs.declared.forms.form.Form.TheVariants as form
 use Rattle.script_checker.specs.declared.declared.Declared.{Declared}
 use Rattle.script_checker.specs.declared.declared.Block.{Block}
 use Rattle.script_checker.specs.declared.declared.Block.TheVariants as block
-use Rattle.script_checker.specs.AtTop.{declared_with, block_begun}
+use Rattle.script_checker.specs.AtTop.{declared_with}
 use Rattle.script_checker.specs.InAction.{row_of}
 use Rattle.script_checker.specs.After.{ended}
 use Rattle.script_checker.proofs.Accepted.{IsKept}

@@ -1,16 +1,14 @@
 -- The roles and nested uses of accepted actions are within the limits.
-use Rattle.std.proofs.Common.{subst, ◌≡◌, ℕ, ◌+◌, ◌≤◌, nat_le, Bool, true, false, not, ◌&&◌, List, [], ◌∷◌, ◌++◌, map, length, Option, Some, None, refl, arith, length-append, length-set}
+use Rattle.std.proofs.Common.{subst, ◌≡◌, ℕ, ◌≤◌, nat_le, true, false, not, ◌&&◌, List, [], ◌∷◌, ◌++◌, length, Option, Some, None, refl, arith, length-set}
 use Rattle.std.proofs.lemmas.List.{length-map}
 use Rattle.std.specs.List.{list_all}
-use Rattle.std.proofs.lemmas.Bool.{and_parts, false≢true, ltb-false, le-leb, and_from}
+use Rattle.std.proofs.lemmas.Bool.{and_parts, ltb-false, le-leb, and_from}
 use Rattle.caa_base.specs.Written.Lists.{is_empty, index_of}
-use Rattle.caa_base.specs.Written.Names.{name_at}
 use Rattle.caa_base.specs.declared.written.entry.Verdict.{Verdict}
 use Rattle.caa_base.specs.declared.written.entry.Verdict.TheVariants as verdict
 use Rattle.place_plan.specs.declared.drafts.draft_rows.AbortRow.{AbortRow}
 use Rattle.place_plan.specs.declared.drafts.draft_rows.Step.{Step}
 use Rattle.place_plan.specs.declared.drafts.draft_rows.RoleRow.{RoleRow}
-use Rattle.place_plan.specs.declared.drafts.draft_rows.NestRow.{NestRow}
 use Rattle.place_plan.specs.declared.drafts.draft_rows.HandlerRow.{HandlerRow}
 use Rattle.place_plan.specs.declared.drafts.draft_rows.Program.{Program}
 use Rattle.place_plan.specs.Plans.Places.{no_role, no_nest}
@@ -29,7 +27,7 @@ use Rattle.script_checker.specs.InAction.{past_limit_in_action, closed_if, steps
 use Rattle.script_checker.specs.After.{ended}
 use Rattle.script_checker.specs.Compiled.{HasNone}
 use Rattle.caa_base.proofs.ListLemmas.{as_filled}
-use Rattle.script_checker.proofs.Accepted.{IsKept, NoneInAction, within, filled}
+use Rattle.script_checker.proofs.Accepted.{IsKept, within, filled}
 use Rattle.script_checker.proofs.ListsChange.{all_push, all_change, all_set, all_mapped, all_rows}
 use Rattle.script_checker.proofs.CountsKept.{few_more}
 use Rattle.caa_base.specs.Written.Limits.{most_steps, most_roles, most_nests, most_alternates}

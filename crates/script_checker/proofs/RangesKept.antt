@@ -29,7 +29,7 @@ use Rattle.script_checker.specs.declared.open_action.OpenAction.{OpenAction}
 use Rattle.script_checker.specs.declared.open_action.OpenNest.{OpenNest}
 use Rattle.script_checker.specs.declared.open_action.OpenProgram.{OpenProgram}
 use Rattle.script_checker.specs.Numbers.{is_among, chosen_from}
-use Rattle.script_checker.specs.DeclaredSoFar.{nothing_declared, begun_nest, graph_number, inner, outer, exceptions_at, nest_of, face, nest_rows}
+use Rattle.script_checker.specs.DeclaredSoFar.{nothing_declared, begun_nest, graph_number, inner, outer, exceptions_at, nest_of, face}
 use Rattle.script_checker.specs.AtTop.{is_action, declared_with, block_begun}
 use Rattle.script_checker.specs.InAction.{closed_if, steps_of, with_step, begun_program, with_program, idle_role, with_abort, with_nest, action_with, row_of}
 use Rattle.script_checker.specs.After.{ended}
@@ -392,7 +392,6 @@ module _ (names : List (List ℕ)) (d : Declared) (a : OpenAction) (now : Graphs
       closed_right d a (verdict.Signal (index_of x (outer d a))) (λ c b. still_below (index_of x (outer d a)) (length (outer d a)) c.interface among b.of_outer) h
   says_open form.UndoLine sound none = closed_right d a verdict.Undo (λ c b. refl) h
   says_open f sound none = h
-
 
 -- ---- actions that have ended
 

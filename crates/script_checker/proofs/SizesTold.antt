@@ -10,7 +10,6 @@ use Rattle.place_plan.specs.Plans.Weights.{counted, at, played_weight, own_entri
 use Rattle.place_plan.proofs.OnPlans.Weighing.{counted_places, counted_bound}
 use Rattle.script_checker.specs.declared.declared.Declared.{Declared}
 use Rattle.script_checker.specs.declared.declared.Block.{Block}
-use Rattle.script_checker.specs.declared.declared.Block.TheVariants as block
 use Rattle.script_checker.proofs.DepthsKept.{AreShallow}
 use Rattle.script_checker.proofs.WeightsTell.{IsWeight, own_weights, own_at, weighs}
 use Rattle.script_checker.proofs.WeightsKept.{one_place}

@@ -1,5 +1,5 @@
 -- What the lines of a script up to some line have declared; names go by their numbers in the script.
-use Rattle.std.specs.Prelude.{ℕ, ◌+◌, false, List, [], ◌∷◌, map, slice_index_or, Option, None, unwrap_or, codes}
+use Rattle.std.specs.Prelude.{ℕ, ◌+◌, false, List, [], ◌∷◌, map, slice_index_or, None, unwrap_or, codes}
 use Rattle.place_plan.specs.declared.drafts.draft_rows.ActionRow.{ActionRow}
 use Rattle.place_plan.specs.declared.drafts.draft_rows.RoleRow.{RoleRow}
 use Rattle.place_plan.specs.declared.drafts.draft_rows.NestRow.{NestRow}

@@ -41,10 +41,8 @@ impl Model for OpenGraph {
 
     ghost view = { λ g. record { exceptions = g.exceptions; pairs = g.pairs.items } };
 
-    ghost invariant = {
-        λ g. (0 < length g.exceptions) × (length g.exceptions ≤ most_exceptions)
-            × All (λ p. (p.0 < length g.exceptions) × (p.1 < length g.exceptions)) g.pairs.items
-    };
+    ghost invariant = { λ g. (0 < length g.exceptions) × (length g.exceptions ≤ most_exceptions)
+        × All (λ p. (p.0 < length g.exceptions) × (p.1 < length g.exceptions)) g.pairs.items };
 }
 
 /// The order that pairs of these exceptions make, or why it is refused.
@@ -108,7 +106,7 @@ impl OpenGraph {
         ensures { OnOk result (
             self.new
             ≡ record self.old {
-                pairs = self.old.pairs ++ (index_of upper self.old.exceptions, index_of lower self.old.exceptions) ∷ [];
+              pairs = self.old.pairs ++ (index_of upper self.old.exceptions, index_of lower self.old.exceptions) ∷ [];
             }) }
     {
         let upper = self.exceptions.find(upper);

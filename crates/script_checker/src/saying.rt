@@ -10,19 +10,14 @@ ghost use Rattle.script_checker.specs.declared.check_error.CheckCause.TheVariant
 use crate::action::{adding, causes};
 use crate::check_error::CheckCause;
 use crate::declared::{Block, SoFar};
-use crate::graph;
-use crate::top;
+use crate::{graph, top};
 use action_script::forms::form::Form;
 use caa_base::written::entry::OutOfMemory;
 use caa_base::written::name::Name;
 use std::alloc::{AllocError, Global};
 
 /// The first cause of a line.
-fn first_cause(
-    alloc: Global,
-    so_far: &SoFar,
-    form: &Form,
-) -> Result<Option<CheckCause>, AllocError>
+fn first_cause(alloc: Global, so_far: &SoFar, form: &Form) -> Result<Option<CheckCause>, AllocError>
     requires { is_end form.now ≡ false }
     ensures { IfOk result (λ cause. cause ≡ first_cause so_far.now.declared so_far.now.block form.now) }
 {
@@ -35,12 +30,7 @@ fn first_cause(
 }
 
 /// Adds what a line says that isn't refused.
-fn add(
-    alloc: Global,
-    so_far: &mut SoFar,
-    names: &[Name],
-    form: &Form,
-) -> Result<(), OutOfMemory>
+fn add(alloc: Global, so_far: &mut SoFar, names: &[Name], form: &Form) -> Result<(), OutOfMemory>
     requires same { is_end form.now ≡ false }
     requires known { is_unknown so_far.old.declared so_far.old.block form.now ≡ false }
     requires once { is_twice so_far.old.declared so_far.old.block form.now ≡ false }

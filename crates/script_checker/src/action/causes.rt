@@ -19,9 +19,7 @@ use crate::lookups::{
 };
 use crate::open_action::{OpenAction, OpenNest, Outcome};
 use action_script::forms::form::Form;
-use caa_base::written::limits::{
-    MOST_ALTERNATES, MOST_DEPTH, MOST_NESTS, MOST_ROLES, MOST_STEPS,
-};
+use caa_base::written::limits::{MOST_ALTERNATES, MOST_DEPTH, MOST_NESTS, MOST_ROLES, MOST_STEPS};
 use place_plan::drafts::draft_rows::{AbortRow, HandlerRow};
 use place_plan::plans::tables::number_at;
 use std::alloc::{AllocError, Global};
@@ -29,13 +27,7 @@ use std::alloc::{AllocError, Global};
 // ---- a name that isn't declared
 
 /// Whether a nested use has these exceptions below and above.
-fn is_mapping(
-    declared: &Declared,
-    action: &OpenAction,
-    nest: u32,
-    lower: u32,
-    upper: u32,
-) -> bool
+fn is_mapping(declared: &Declared, action: &OpenAction, nest: u32, lower: u32, upper: u32) -> bool
     ensures { result ≡ not (unknown_in_action declared.now action.now (Form.Map nest lower upper)) }
 {
     action.nest_names.contains(nest)
