@@ -4,7 +4,8 @@ use Rattle.action_script.specs.Forms.ScriptValue.{Script}
 use Rattle.action_script.specs.declared.forms.script.Line.{Line}
 use Rattle.place_plan.specs.Plans.PlanValue.{Plan}
 use Rattle.script_checker.specs.declared.check_error.CheckError.{CheckError}
-use Rattle.script_checker.specs.DeclaredSoFar.{SoFar, nothing_yet}
+use Rattle.script_checker.specs.declared.declared.SoFar.{SoFar}
+use Rattle.script_checker.specs.DeclaredSoFar.{nothing_yet}
 use Rattle.script_checker.specs.After.{after}
 use Rattle.script_checker.specs.Compiled.{IsPlanOf, IsFirstRefused, IsAccepted, AreAccepted, declared_after}
 

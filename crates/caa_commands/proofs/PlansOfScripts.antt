@@ -105,7 +105,7 @@ module _ (bytes : List ℕ) (plan : Plan) (h : HasPlan bytes plan) where
   few_places : length plan.places ≤ most_places
   few_places =
       let draft = h.compiled.draft in
-      let whole = breaks_none h.script.names h.script.lines are_script.lead are_script.sound h.compiled.accepted draft h.compiled.declared in
+      let whole = breaks_none h.script.names h.script.lines are_script.sound h.compiled.accepted draft h.compiled.declared in
       let parts = and_parts (nat_le (length (plan_of draft).places) most_places) (nat_le (bound (plan_of draft)) most_entries) (keeps_rules draft whole).1 in
       subst (λ (p : Plan). length p.places ≤ most_places) (sym h.compiled.unfolded) (leb-true _ _ parts.0)
 

@@ -13,16 +13,19 @@ use Rattle.place_plan.specs.Drafts.DraftRules.{all_below, deepest_of, deepest, d
 use Rattle.place_plan.specs.Plans.Weights.{counted, at}
 use Rattle.action_script.specs.declared.forms.form.Form.{Form}
 use Rattle.action_script.specs.declared.forms.form.Form.TheVariants as form
-use Rattle.script_checker.specs.declared.parts.Block.{Block}
-use Rattle.script_checker.specs.declared.parts.Block.TheVariants as block
-use Rattle.script_checker.specs.declared.parts.Opening.{Opening}
-use Rattle.script_checker.specs.DeclaredSoFar.{SoFar, nest_of}
-use Rattle.script_checker.specs.After.{closed_if, ended, with_said, with_nest, action_row}
-use Rattle.script_checker.specs.Compiled.{HasNone}
+use Rattle.script_checker.specs.declared.declared.Declared.{Declared}
+use Rattle.script_checker.specs.declared.declared.Block.{Block}
+use Rattle.script_checker.specs.declared.declared.Block.TheVariants as block
+use Rattle.script_checker.specs.declared.open_action.OpenAction.{OpenAction}
+use Rattle.script_checker.specs.declared.open_action.OpenNest.{OpenNest}
+use Rattle.script_checker.specs.declared.open_action.OpenProgram.{OpenProgram}
+use Rattle.script_checker.specs.DeclaredSoFar.{begun_nest, nest_of}
+use Rattle.script_checker.specs.AtTop.{declared_with, block_begun}
+use Rattle.script_checker.specs.InAction.{closed_if, action_with, with_nest, row_of}
+use Rattle.script_checker.specs.After.{ended}
 use Rattle.caa_base.proofs.ListLemmas.{at_row}
-use Rattle.script_checker.proofs.Accepted.{IsKept, shallow}
-use Rattle.script_checker.proofs.ActionsGrow.{all_push}
-use Rattle.script_checker.proofs.ListsChange.{all_set}
+use Rattle.script_checker.proofs.Accepted.{IsKept, NoneInAction, shallow}
+use Rattle.script_checker.proofs.ListsChange.{all_push, all_set, all_rows}
 use Rattle.script_checker.proofs.NestsKept.{Pass, pass_kept}
 use Rattle.script_checker.proofs.NestTests.{same_action, uses_there, there_test}
 
@@ -84,26 +87,18 @@ deepest_small depths (nest ∷ nests) h =
 abbrev pub IsDepth : List ℕ → List ActionRow → ℕ → Type 0
 IsDepth depths actions a = (suc (deepest (at depths) (slice_index_or actions a no_action).nests) ≤ at depths a) × (at depths a ≤ most_depth)
 
-pub record DepthsTell (depths : List ℕ) (actions : List ActionRow) (rows : List NestRow) : Type 0 where
+pub record DepthsTell (depths : List ℕ) (actions : List ActionRow) : Type 0 where
   pub many : length depths ≡ length actions
-  pub open_rows : list_all (is_shallow depths) rows ≡ true
   pub tell : (a : ℕ) → a < length actions → IsDepth depths actions a
-
-abbrev Tell : SoFar → Type 0
-Tell s = DepthsTell s.depths s.actions s.action.nest_rows
-
-closed_tell : (s : SoFar) (v : Verdict) (o : Option Opening) → Tell s → Tell (record s { action = closed_if s.action o v })
-closed_tell s v None h = h
-closed_tell s v (Some o) h = h
 
 pub nests_there : (actions : List ActionRow) (depths : List ℕ) (a : ℕ) → length depths ≡ length actions → a < length actions → list_all (λ (action : ActionRow). list_all (λ (nest : NestRow). all_below (length actions) nest.actions) action.nests) actions ≡ true → list_all (λ (nest : NestRow). all_below (length depths) nest.actions) (slice_index_or actions a no_action).nests ≡ true
 nests_there actions depths a e l h =
     rw e (at_row (λ (action : ActionRow). list_all (λ (nest : NestRow). all_below (length actions) nest.actions) action.nests) actions a no_action h l)
 
-one_more : (depths : List ℕ) (actions : List ActionRow) (action : ActionRow) → DepthsTell depths actions action.nests → list_all (λ (nest : NestRow). all_below (length actions) nest.actions) action.nests ≡ true → list_all (λ (action : ActionRow). list_all (λ (nest : NestRow). all_below (length actions) nest.actions) action.nests) actions ≡ true → (a : ℕ) → a < length actions + 1 → IsDepth (depths ++ counted (1 + deepest (at depths) action.nests) ∷ []) (actions ++ action ∷ []) a
-one_more depths actions action h here there =
+one_more : (depths : List ℕ) (actions : List ActionRow) (action : ActionRow) → DepthsTell depths actions → list_all (is_shallow depths) action.nests ≡ true → list_all (λ (nest : NestRow). all_below (length actions) nest.actions) action.nests ≡ true → list_all (λ (action : ActionRow). list_all (λ (nest : NestRow). all_below (length actions) nest.actions) action.nests) actions ≡ true → (a : ℕ) → a < length actions + 1 → IsDepth (depths ++ counted (1 + deepest (at depths) action.nests) ∷ []) (actions ++ action ∷ []) a
+one_more depths actions action h flat here there =
     let v = counted (1 + deepest (at depths) action.nests) in
-    let small = deepest_small depths action.nests h.open_rows in
+    let small = deepest_small depths action.nests flat in
     let is : v ≡ suc (deepest (at depths) action.nests) = omega arith in
     below_more (IsDepth (depths ++ v ∷ []) (actions ++ action ∷ [])) (length actions)
     (λ k l.
@@ -111,54 +106,71 @@ one_more depths actions action h here there =
     rw (same_action actions action k l, at_longer depths v k within, deepest_longer depths v (slice_index_or actions k no_action).nests (nests_there actions depths k h.many l there)) (h.tell k l))
     (rw (action_last actions action (length actions) refl, at_last depths v (length actions) h.many, deepest_longer depths v action.nests (rw h.many here)) (omega arith, omega arith))
 
-module _ (names : List (List ℕ)) where
-  ended_tell : (s : SoFar) (b : Block) → Pass uses_there s → Tell s → Tell (ended names s b)
-  ended_tell s block.Top there h = record { many = h.many; open_rows = refl; tell = h.tell }
-  ended_tell s block.Graph there h = record { many = h.many; open_rows = refl; tell = h.tell }
-  ended_tell s block.Action there h =
-      let row = action_row names s in
-      let v = counted (1 + deepest (at s.depths) s.action.nest_rows) in
-      let m : length (s.depths ++ v ∷ []) ≡ length s.depths + 1 = length-append s.depths (v ∷ []) in
-      let n : length (s.actions ++ row ∷ []) ≡ length s.actions + 1 = length-append s.actions (row ∷ []) in
+-- what the action that is being declared nests is shallow
+abbrev ShallowIn : Declared → Block → Type 0
+ShallowIn d (block.Action a) = list_all (λ (nest : OpenNest). is_shallow d.depths nest.row) a.nests ≡ true
+ShallowIn d b = Unit {0}
+
+pub record AreShallow (d : Declared) (b : Block) : Type 0 where
+  pub there : Pass uses_there there_test d b
+  pub depths : DepthsTell d.depths d.actions
+  pub shallow_in : ShallowIn d b
+
+closed_shallow : (d : Declared) (a : OpenAction) (v : Verdict) (o : Option OpenProgram) → ShallowIn d (block.Action a) → ShallowIn d (block.Action (closed_if a o v))
+closed_shallow d a v None h = h
+closed_shallow d a v (Some p) h = h
+
+module _ (names : List (List ℕ)) (d : Declared) where
+  begins_told : (f : Form) → DepthsTell d.depths d.actions → DepthsTell (declared_with names d f).depths (declared_with names d f).actions
+  begins_told (form.Action name) h = h
+  begins_told f h = h
+
+  begins_shallow : (f : Form) → ShallowIn (declared_with names d f) (block_begun d f)
+  begins_shallow (form.Action name) = refl
+  begins_shallow f = tt
+
+  nest_changes : (a : OpenAction) (name : ℕ) (nest : OpenNest) → ShallowIn d (block.Action a) → (is_shallow d.depths (nest_of a name).row ≡ true → is_shallow d.depths nest.row ≡ true) → ShallowIn d (block.Action (with_nest a name nest))
+  nest_changes a name nest h keeps = all_set (λ (nest : OpenNest). is_shallow d.depths nest.row) a.nests (index_of name a.nest_names) (begun_nest no_nest) nest keeps h
+
+  below_most : (depth : ℕ) → nat_le most_depth depth ≡ false → nat_lt depth most_depth ≡ true
+  below_most depth e = lt-ltb depth most_depth (leb-false most_depth depth e)
+
+  says_shallow : (a : OpenAction) (f : Form) → NoneInAction d a f → ShallowIn d (block.Action a) → ShallowIn d (block.Action (action_with names d a f))
+  says_shallow a (form.Nest nest action roles) none h =
+      all_push (λ (nest : OpenNest). is_shallow d.depths nest.row) a.nests _ h (and_from _ _ (below_most _ (shallow d a (form.Nest nest action roles) none)) refl)
+  says_shallow a (form.Map nest lower upper) none h = nest_changes a nest _ h (λ k. k)
+  says_shallow a (form.MapUndo nest x) none h = nest_changes a nest _ h (λ k. k)
+  says_shallow a (form.MapFailure nest x) none h = nest_changes a nest _ h (λ k. k)
+  says_shallow a (form.Alternate nest action) none h =
+      nest_changes a nest _ h (λ k. all_push (λ n. nat_lt (at d.depths n) most_depth) (nest_of a nest).row.actions (index_of action d.action_names) k (below_most _ (shallow d a (form.Alternate nest action) none)))
+  says_shallow a form.DoneLine none h = closed_shallow d a _ a.program h
+  says_shallow a (form.SignalLine x) none h = closed_shallow d a _ a.program h
+  says_shallow a form.UndoLine none h = closed_shallow d a _ a.program h
+  says_shallow a f none h = h
+
+  ends_told : (b : Block) → AreShallow d b → DepthsTell (ended names d b).depths (ended names d b).actions
+  ends_told (block.Action a) h =
+      let row = row_of names a in
+      let v = counted (1 + deepest (at d.depths) row.nests) in
+      let m : length (d.depths ++ v ∷ []) ≡ length d.depths + 1 = length-append d.depths (v ∷ []) in
+      let n : length (d.actions ++ row ∷ []) ≡ length d.actions + 1 = length-append d.actions (row ∷ []) in
       record {
-        many = omega (arith, h.many);
-        open_rows = refl;
-        tell = λ a l. one_more s.depths s.actions row h there.open_rows there.ended_rows a (omega arith);
+        many = omega (arith, h.depths.many);
+        tell = λ k l. one_more d.depths d.actions row h.depths (all_rows (is_shallow d.depths) a.nests h.shallow_in) (all_rows (uses_there d.actions d.graphs) a.nests h.there.1) h.there.0 k (omega arith);
       }
+  ends_told block.Top h = h.depths
+  ends_told (block.Graph g) h = h.depths
 
-  tell_still : (s : SoFar) (nest : ℕ) (row : NestRow) → Tell s → (is_shallow s.depths (nest_of s nest) ≡ true → is_shallow s.depths row ≡ true) → Tell (with_nest s nest row)
-  tell_still s nest row h keeps = record { many = h.many; open_rows = all_set (is_shallow s.depths) s.action.nest_rows (index_of nest s.action.nests) no_nest row keeps h.open_rows; tell = h.tell }
-
-  below_most : (d : ℕ) → nat_le most_depth d ≡ false → nat_lt d most_depth ≡ true
-  below_most d e = lt-ltb d most_depth (leb-false most_depth d e)
-
-  says_tell : (s : SoFar) (f : Form) → HasNone s f → Pass uses_there s → Tell s → Tell (with_said names s f)
-  says_tell s (form.Action name) none there h = record { many = h.many; open_rows = refl; tell = h.tell }
-  says_tell s (form.Nest nest action roles) none there h = record {
-    many = h.many;
-    open_rows = all_push (is_shallow s.depths) s.action.nest_rows _ h.open_rows (and_from _ _ (below_most _ (shallow s (form.Nest nest action roles) none)) refl);
-    tell = h.tell;
-  }
-  says_tell s (form.Map nest lower upper) none there h = tell_still s nest _ h (λ k. k)
-  says_tell s (form.MapUndo nest x) none there h = tell_still s nest _ h (λ k. k)
-  says_tell s (form.MapFailure nest x) none there h = tell_still s nest _ h (λ k. k)
-  says_tell s (form.Alternate nest action) none there h =
-      tell_still s nest _ h (λ k. all_push (λ a. nat_lt (at s.depths a) most_depth) (nest_of s nest).actions (index_of action s.action_names) k (below_most _ (shallow s (form.Alternate nest action) none)))
-  says_tell s form.End none there h = ended_tell s s.block there h
-  says_tell s form.DoneLine none there h = closed_tell s _ s.action.opening h
-  says_tell s (form.SignalLine x) none there h = closed_tell s _ s.action.opening h
-  says_tell s form.UndoLine none there h = closed_tell s _ s.action.opening h
-  says_tell s f none there h = h
-
-pub record AreShallow (s : SoFar) : Type 0 where
-  pub there : Pass uses_there s
-  pub depths : DepthsTell s.depths s.actions s.action.nest_rows
-
-pub depths_kept : (names : List (List ℕ)) → IsKept names (λ at s. AreShallow s)
-depths_kept names = record {
-  settles = λ at s h. record { there = (pass_kept uses_there there_test names).settles at s h.there; depths = closed_tell s verdict.Done s.action.opening h.depths };
-  says = λ at s f stands sound none shut h. record { there = (pass_kept uses_there there_test names).says at s f stands sound none shut h.there; depths = says_tell names s f none h.there h.depths };
-}
+pub depths_kept : (names : List (List ℕ)) → IsKept names AreShallow
+depths_kept names =
+    let there = pass_kept uses_there there_test names in
+    record {
+      at_top = λ d f sound none h. record { there = there.at_top d f sound none h.there; depths = begins_told names d f h.depths; shallow_in = begins_shallow names d f };
+      in_graph = λ d g f sound none h. record { there = h.there; depths = h.depths; shallow_in = tt };
+      in_action = λ d a f sound none shut h. record { there = there.in_action d a f sound none shut h.there; depths = h.depths; shallow_in = says_shallow names d a f none h.shallow_in };
+      closes = λ d a h. record { there = there.closes d a h.there; depths = h.depths; shallow_in = closed_shallow d a verdict.Done a.program h.shallow_in };
+      ends = λ d b none h. record { there = there.ends d b none h.there; depths = ends_told names d b h; shallow_in = tt };
+    }
 
 -- ---- the depths of the actions
 

@@ -4,7 +4,7 @@ use Rattle.std.specs.List.{list_any}
 use Rattle.std.proofs.lemmas.List.Folds.{list_any-append}
 use Rattle.std.specs.HashSet.{HashSet, contains}
 use Rattle.caa_base.specs.declared.written.entry.Drill.{Drill}
-use Rattle.script_checker.specs.Causes.{is_drill}
+use Rattle.script_checker.specs.Numbers.{is_drill}
 use Rattle.script_checker.specs.inner.DrillTable.{same_put, HasPutsOf}
 
 one_more : (new old : Bool) → cond new true old ≡ (old || (new || false))

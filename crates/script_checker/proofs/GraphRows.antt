@@ -1,22 +1,12 @@
 -- The rows of graphs stand for the graphs that are declared.
-use Rattle.std.proofs.Common.{◌≡◌, ℕ, ◌+◌, suc, Bool, true, false, cond, List, [], ◌∷◌, ◌++◌, length, slice_index_or, bytes_eq, codes, refl, sym, ap, ◌∙◌, subst, arith}
-use Rattle.std.proofs.lemmas.Bool.{false≢true}
+use Rattle.std.proofs.Common.{◌≡◌, ℕ, ◌+◌, suc, Bool, true, false, cond, List, [], ◌∷◌, ◌++◌, slice_index_or, bytes_eq, codes, refl, sym, ap, ◌∙◌, subst, arith}
 use Rattle.std.proofs.lemmas.Slice.Eq.{bytes_eq-Decides}
-use Rattle.cover_table.specs.Cover.{CoverOrder, IsSound}
+use Rattle.cover_table.specs.Cover.{IsSound}
 use Rattle.exception_graph.specs.Chains.{IsOrderOf}
 use Rattle.place_plan.specs.declared.drafts.draft_rows.GraphRow.{GraphRow}
 use Rattle.action_script.specs.Words.NumberedNames.{number_in}
-use Rattle.action_script.specs.declared.forms.form.Form.{Form}
-use Rattle.action_script.specs.declared.forms.form.Form.TheVariants as form
-use Rattle.script_checker.specs.declared.parts.Block.{Block}
-use Rattle.script_checker.specs.declared.parts.Block.TheVariants as block
-use Rattle.script_checker.specs.declared.parts.DeclaredGraph.{DeclaredGraph}
-use Rattle.script_checker.specs.Blocks.{is_in_graph}
-use Rattle.script_checker.specs.DeclaredSoFar.{SoFar, plain_graph}
-use Rattle.script_checker.specs.Causes.{ends_graph}
-use Rattle.script_checker.specs.After.{with_said, ended}
-use Rattle.script_checker.specs.inner.Graphs.{IsOrdered}
-use Rattle.script_checker.specs.inner.Rows.{AddsRow}
+use Rattle.script_checker.specs.declared.open_graph.DeclaredGraph.{DeclaredGraph}
+use Rattle.script_checker.specs.DeclaredSoFar.{plain_graph}
 use Rattle.script_checker.specs.Compiled.{IsRowOf, AreRowsOf}
 
 -- ---- the plain graph
@@ -41,34 +31,3 @@ rows_push names [] [] graph row h g = (g, tt)
 rows_push names [] (r ∷ rows) graph row h g = absurd h
 rows_push names (d ∷ graphs) [] graph row h g = absurd h
 rows_push names (d ∷ graphs) (r ∷ rows) graph row h g = (h.0, rows_push names graphs rows graph row h.1 g)
-
--- the row that is added is that of the graph
-pub rows_added : (names : List (List ℕ)) (s : SoFar) (order : CoverOrder) (old new : List GraphRow) → AreRowsOf names s.graphs old → IsOrdered (length s.graph.exceptions) s.graph.pairs order → AddsRow names s.graph.exceptions order old new → AreRowsOf names (s.graphs ++ s.graph ∷ []) new
-rows_added names s order old new h g a =
-    subst (λ (rows : List GraphRow). AreRowsOf names (s.graphs ++ s.graph ∷ []) rows) (sym a.rows)
-    (rows_push names s.graphs old (s.graph) a.row h (record {
-      named = a.named;
-      order = subst (λ o. IsOrderOf (length s.graph.exceptions) s.graph.pairs o) (sym a.order) g.order;
-      sound = subst (λ o. IsSound o) (sym a.order) g.sound;
-    }))
-
--- ---- lines that end none
-
-ended_same : (names : List (List ℕ)) (s : SoFar) (b : Block) → is_in_graph b ≡ false → (ended names s b).graphs ≡ s.graphs
-ended_same names s block.Top e = refl
-ended_same names s block.Graph e = absurd (false≢true (sym e))
-ended_same names s block.Action e = refl
-
-pub said_same : (names : List (List ℕ)) (s : SoFar) (f : Form) → ends_graph s f ≡ false → (with_said names s f).graphs ≡ s.graphs
-said_same names s form.End e = ended_same names s s.block e
-said_same names s f e = refl
-
-ended_graph : (names : List (List ℕ)) (s : SoFar) (b : Block) → is_in_graph b ≡ true → (ended names s b).graphs ≡ (s.graphs ++ s.graph ∷ [])
-ended_graph names s block.Top e = absurd (false≢true e)
-ended_graph names s block.Graph e = refl
-ended_graph names s block.Action e = absurd (false≢true e)
-
--- a line that ends a graph adds it
-pub said_graph : (names : List (List ℕ)) (s : SoFar) (f : Form) → ends_graph s f ≡ true → (with_said names s f).graphs ≡ (s.graphs ++ s.graph ∷ [])
-said_graph names s form.End e = ended_graph names s s.block e
-said_graph names s f e = absurd (false≢true e)

@@ -9,11 +9,13 @@ use Rattle.place_plan.specs.Plans.Places.{no_graph as no_row}
 use Rattle.place_plan.specs.Drafts.DraftRules.{first_is_plain, is_named}
 use Rattle.action_script.specs.declared.forms.form.Form.{Form}
 use Rattle.action_script.specs.declared.forms.form.Form.TheVariants as form
-use Rattle.script_checker.specs.declared.parts.Block.{Block}
-use Rattle.script_checker.specs.declared.parts.Block.TheVariants as block
-use Rattle.script_checker.specs.declared.parts.DeclaredGraph.{DeclaredGraph}
-use Rattle.script_checker.specs.DeclaredSoFar.{SoFar, exceptions_at}
-use Rattle.script_checker.specs.After.{ended, with_said}
+use Rattle.script_checker.specs.declared.declared.Declared.{Declared}
+use Rattle.script_checker.specs.declared.declared.Block.{Block}
+use Rattle.script_checker.specs.declared.declared.Block.TheVariants as block
+use Rattle.script_checker.specs.declared.open_graph.DeclaredGraph.{DeclaredGraph}
+use Rattle.script_checker.specs.DeclaredSoFar.{exceptions_at}
+use Rattle.script_checker.specs.AtTop.{declared_with}
+use Rattle.script_checker.specs.After.{ended}
 use Rattle.script_checker.specs.Compiled.{AreRowsOf, exception_name}
 use Rattle.script_checker.proofs.Accepted.{IsKept}
 
@@ -26,23 +28,25 @@ pub still_first : (graphs more : List DeclaredGraph) → first_alone graphs ≡ 
 still_first [] more h = absurd (false≢true h)
 still_first (graph ∷ graphs) more h = h
 
-abbrev pub IsPlainFirst : SoFar → Type 0
-IsPlainFirst s = first_alone s.graphs ≡ true
+abbrev pub IsPlainFirst : Declared → Block → Type 0
+IsPlainFirst d b = first_alone d.graphs ≡ true
 
-module _ (names : List (List ℕ)) where
-  ended_first : (s : SoFar) (b : Block) → IsPlainFirst s → IsPlainFirst (ended names s b)
-  ended_first s block.Top h = h
-  ended_first s block.Graph h = still_first s.graphs _ h
-  ended_first s block.Action h = h
+module _ (names : List (List ℕ)) (d : Declared) where
+  says_first : (f : Form) → first_alone d.graphs ≡ true → first_alone (declared_with names d f).graphs ≡ true
+  says_first (form.Graph name) h = h
+  says_first f h = h
 
-  says_first : (s : SoFar) (f : Form) → IsPlainFirst s → IsPlainFirst (with_said names s f)
-  says_first s form.End h = ended_first s s.block h
-  says_first s f h = h
+  ends_first : (b : Block) → first_alone d.graphs ≡ true → first_alone (ended names d b).graphs ≡ true
+  ends_first (block.Graph g) h = still_first d.graphs _ h
+  ends_first b h = h
 
-pub first_kept : (names : List (List ℕ)) → IsKept names (λ at s. IsPlainFirst s)
+pub first_kept : (names : List (List ℕ)) → IsKept names IsPlainFirst
 first_kept names = record {
-  settles = λ at s h. h;
-  says = λ at s f stands sound none shut h. says_first names s f h;
+  at_top = λ d f sound none h. says_first names d f h;
+  in_graph = λ d g f sound none h. h;
+  in_action = λ d a f sound none shut h. h;
+  closes = λ d a h. h;
+  ends = λ d b none h. ends_first names d b h;
 }
 
 -- ---- the rows

@@ -6,7 +6,8 @@ use Rattle.caa_base.specs.Written.Lists.{member, index_of}
 use Rattle.caa_base.specs.declared.written.entry.Verdict.{Verdict}
 use Rattle.caa_base.specs.declared.written.entry.Verdict.TheVariants as verdict
 use Rattle.place_plan.specs.declared.drafts.draft_rows.ActionRow.{ActionRow}
-use Rattle.place_plan.specs.declared.drafts.draft_rows.AbortRow.TheVariants as abort
+use Rattle.place_plan.specs.declared.drafts.draft_rows.AbortRow.{AbortRow}
+use Rattle.place_plan.specs.declared.drafts.draft_rows.Step.{Step}
 use Rattle.place_plan.specs.declared.drafts.draft_rows.RoleRow.{RoleRow}
 use Rattle.place_plan.specs.declared.drafts.draft_rows.HandlerRow.{HandlerRow}
 use Rattle.place_plan.specs.declared.drafts.draft_rows.Program.{Program}
@@ -14,14 +15,16 @@ use Rattle.place_plan.specs.Plans.Places.{no_role}
 use Rattle.place_plan.specs.Drafts.DraftRules.{all_differ, handlers_differ}
 use Rattle.action_script.specs.declared.forms.form.Form.{Form}
 use Rattle.action_script.specs.declared.forms.form.Form.TheVariants as form
-use Rattle.script_checker.specs.declared.parts.Opening.{Opening}
-use Rattle.script_checker.specs.DeclaredSoFar.{SoFar, outer}
-use Rattle.script_checker.specs.Causes.{handles}
-use Rattle.script_checker.specs.After.{goes_on, closed_if, with_said, with_program, idle_role}
-use Rattle.script_checker.specs.Compiled.{HasNone}
-use Rattle.script_checker.proofs.Accepted.{IsKept, once}
-use Rattle.script_checker.proofs.ActionsGrow.{said_actions}
-use Rattle.script_checker.proofs.ListsChange.{all_change, all_set, all_mapped}
+use Rattle.script_checker.specs.declared.declared.Declared.{Declared}
+use Rattle.script_checker.specs.declared.declared.Block.{Block}
+use Rattle.script_checker.specs.declared.declared.Block.TheVariants as block
+use Rattle.script_checker.specs.declared.open_action.OpenAction.{OpenAction}
+use Rattle.script_checker.specs.declared.open_action.OpenProgram.{OpenProgram}
+use Rattle.script_checker.specs.AtTop.{declared_with, block_begun}
+use Rattle.script_checker.specs.InAction.{handles, goes_on, closed_if, step_of, with_step, with_program, idle_role, with_abort, action_with, row_of}
+use Rattle.script_checker.specs.After.{ended}
+use Rattle.script_checker.proofs.Accepted.{IsKept, NoneInAction, once}
+use Rattle.script_checker.proofs.ListsChange.{all_change, all_set, all_mapped, all_push}
 use Rattle.script_checker.proofs.NestTests.{eqb_turn}
 
 -- the exceptions that some handlers are for
@@ -57,48 +60,68 @@ abbrev fresh_in : RoleRow → Option ℕ → Bool
 fresh_in row None = true
 fresh_in row (Some x) = not (list_any (handles x) row.handlers)
 
-abbrev fresh_for : List RoleRow → Option Opening → Bool
+abbrev fresh_for : List RoleRow → Option OpenProgram → Bool
 fresh_for rows None = true
-fresh_for rows (Some o) = fresh_in (slice_index_or rows o.role no_role) o.exception
+fresh_for rows (Some p) = fresh_in (slice_index_or rows p.role no_role) p.exception
 
-abbrev pub OpenDiffer : SoFar → Type 0
-OpenDiffer s = (list_all handlers_differ s.action.role_rows ≡ true) × (fresh_for s.action.role_rows s.action.opening ≡ true)
+abbrev OpenDiffer : OpenAction → Type 0
+OpenDiffer a = (list_all handlers_differ a.role_rows ≡ true) × (fresh_for a.role_rows a.program ≡ true)
 
 program_differs : (exception : Option ℕ) (program : Program) (row : RoleRow) → fresh_in row exception ≡ true → handlers_differ row ≡ true → handlers_differ (with_program row exception program) ≡ true
 program_differs None program row f h = h
 program_differs (Some x) program row f h = differ_push x program row.handlers h (not-true _ f)
 
-closed_differ : (s : SoFar) (v : Verdict) (o : Option Opening) → s.action.opening ≡ o → OpenDiffer s → OpenDiffer (record s { action = closed_if s.action o v })
-closed_differ s v None e h = h
-closed_differ s v (Some o) e h =
-    let fresh : fresh_for s.action.role_rows (Some o) ≡ true = subst (λ (o : Option Opening). fresh_for s.action.role_rows o ≡ true) e h.1 in
-    (all_set handlers_differ s.action.role_rows o.role no_role _ (program_differs o.exception (record { steps = s.action.steps; verdict = v }) (slice_index_or s.action.role_rows o.role no_role) fresh) h.0, refl)
+closed_differ : (a : OpenAction) (v : Verdict) (o : Option OpenProgram) → a.program ≡ o → OpenDiffer a → OpenDiffer (closed_if a o v)
+closed_differ a v None e h = h
+closed_differ a v (Some p) e h =
+    let fresh : fresh_for a.role_rows (Some p) ≡ true = subst (λ (o : Option OpenProgram). fresh_for a.role_rows o ≡ true) e h.1 in
+    (all_set handlers_differ a.role_rows p.role no_role _ (program_differs p.exception (record { steps = p.steps; verdict = v }) (slice_index_or a.role_rows p.role no_role) fresh) h.0, refl)
 
-module _ (names : List (List ℕ)) where
-  says_differ : (s : SoFar) (f : Form) → HasNone s f → (goes_on f ≡ false → s.action.opening ≡ None) → OpenDiffer s → OpenDiffer (with_said names s f)
-  says_differ s (form.Action name) none shut h = (refl, refl)
-  says_differ s (form.Roles roles) none shut h = (all_mapped handlers_differ (idle_role names) roles (λ name. refl), rw (shut refl) refl)
-  says_differ s (form.Abort role x) none shut h =
-      (all_change handlers_differ (λ (row : RoleRow). record row { abort = abort.Always (index_of x (outer s)) }) s.action.role_rows (index_of role s.action.roles) no_role (λ row k. k) h.0, rw (shut refl) refl)
-  says_differ s (form.AbortTest role t v x) none shut h =
-      (all_change handlers_differ (λ (row : RoleRow). record row { abort = abort.Where t v (index_of x (outer s)) }) s.action.role_rows (index_of role s.action.roles) no_role (λ row k. k) h.0, rw (shut refl) refl)
-  says_differ s (form.Body role) none shut h = (h.0, refl)
-  says_differ s (form.Handler role x) none shut h = (h.0, rw (once s (form.Handler role x) none) refl)
-  says_differ s form.End none shut h = (refl, refl)
-  says_differ s form.DoneLine none shut h = closed_differ s _ s.action.opening refl h
-  says_differ s (form.SignalLine x) none shut h = closed_differ s _ s.action.opening refl h
-  says_differ s form.UndoLine none shut h = closed_differ s _ s.action.opening refl h
-  says_differ s f none shut h = h
+fresh_still : (rows : List RoleRow) (o : Option OpenProgram) (x : Option Step) → fresh_for rows o ≡ true → fresh_for rows (with_step o x) ≡ true
+fresh_still rows o None h = h
+fresh_still rows None (Some x) h = h
+fresh_still rows (Some p) (Some x) h = h
 
-pub record HandlersDiffer (s : SoFar) : Type 0 where
-  pub open_differ : OpenDiffer s
-  pub ended_differ : list_all (λ (action : ActionRow). list_all handlers_differ action.roles) s.actions ≡ true
+module _ (names : List (List ℕ)) (d : Declared) (a : OpenAction) where
+  abort_differs : (role : ℕ) (row : AbortRow) → a.program ≡ None → OpenDiffer a → OpenDiffer (with_abort a role row)
+  abort_differs role row shut h =
+      (all_change handlers_differ (λ (r : RoleRow). record r { abort = row }) a.role_rows (index_of role a.roles) no_role (λ r k. k) h.0, rw shut refl)
 
-pub differ_kept : (names : List (List ℕ)) → IsKept names (λ at s. HandlersDiffer s)
+  says_differ : (f : Form) → NoneInAction d a f → (goes_on f ≡ false → a.program ≡ None) → OpenDiffer a → OpenDiffer (action_with names d a f)
+  says_differ (form.Roles roles) none shut h = (all_mapped handlers_differ (idle_role names) roles (λ name. refl), rw (shut refl) refl)
+  says_differ (form.Abort role x) none shut h = abort_differs role _ (shut refl) h
+  says_differ (form.AbortTest role t v x) none shut h = abort_differs role _ (shut refl) h
+  says_differ (form.Body role) none shut h = (h.0, refl)
+  says_differ (form.Handler role x) none shut h = (h.0, rw (once d a (form.Handler role x) none) refl)
+  says_differ form.DoneLine none shut h = closed_differ a _ a.program refl h
+  says_differ (form.SignalLine x) none shut h = closed_differ a _ a.program refl h
+  says_differ form.UndoLine none shut h = closed_differ a _ a.program refl h
+  says_differ f none shut h = (h.0, fresh_still a.role_rows a.program (step_of d a f) h.1)
+
+abbrev roles_differ : ActionRow → Bool
+roles_differ action = list_all handlers_differ action.roles
+
+abbrev DifferIn : Block → Type 0
+DifferIn (block.Action a) = OpenDiffer a
+DifferIn b = Unit {0}
+
+abbrev pub HandlersDiffer : Declared → Block → Type 0
+HandlersDiffer d b = (list_all roles_differ d.actions ≡ true) × DifferIn b
+
+begins_differ : (names : List (List ℕ)) (d : Declared) (f : Form) → HandlersDiffer d block.Top → HandlersDiffer (declared_with names d f) (block_begun d f)
+begins_differ names d (form.Action name) h = (h.0, (refl, refl))
+begins_differ names d f h = h
+
+ends_differ : (names : List (List ℕ)) (d : Declared) (b : Block) → HandlersDiffer d b → HandlersDiffer (ended names d b) block.Top
+ends_differ names d (block.Action a) h = (all_push roles_differ d.actions (row_of names a) h.0 h.1.0, tt)
+ends_differ names d block.Top h = h
+ends_differ names d (block.Graph g) h = h
+
+pub differ_kept : (names : List (List ℕ)) → IsKept names HandlersDiffer
 differ_kept names = record {
-  settles = λ at s h. record { open_differ = closed_differ s verdict.Done s.action.opening refl h.open_differ; ended_differ = h.ended_differ };
-  says = λ at s f stands sound none shut h. record {
-    open_differ = says_differ names s f none shut h.open_differ;
-    ended_differ = said_actions names s f (λ (action : ActionRow). list_all handlers_differ action.roles) h.ended_differ (λ e. h.open_differ.0);
-  };
+  at_top = λ d f sound none h. begins_differ names d f h;
+  in_graph = λ d g f sound none h. h;
+  in_action = λ d a f sound none shut h. (h.0, says_differ names d a f none shut h.1);
+  closes = λ d a h. (h.0, closed_differ a verdict.Done a.program refl h.1);
+  ends = λ d b none h. ends_differ names d b h;
 }

@@ -1,7 +1,11 @@
 -- Lists all of whose members pass a test, and one member that changes.
-use Rattle.std.proofs.Common.{◌≡◌, ℕ, suc, zero, Bool, true, List, [], ◌∷◌, map, slice_index_or, slice_set, refl}
+use Rattle.std.proofs.Common.{◌≡◌, ℕ, suc, zero, Bool, true, List, [], ◌∷◌, ◌++◌, map, length, slice_index_or, slice_set, refl, length-set}
+use Rattle.std.proofs.lemmas.List.{length-map}
 use Rattle.std.specs.List.{list_all}
-use Rattle.std.proofs.lemmas.Bool.{and_parts}
+use Rattle.std.proofs.lemmas.Bool.{and_parts, and_from}
+use Rattle.place_plan.specs.declared.drafts.draft_rows.NestRow.{NestRow}
+use Rattle.script_checker.specs.declared.open_action.OpenNest.{OpenNest}
+use Rattle.script_checker.specs.DeclaredSoFar.{nest_rows}
 
 -- a member that passes is replaced by what still passes
 pub all_change : {A : Type 0} (test : A → Bool) (change : A → A) (xs : List A) (i : ℕ) (d : A) → ((x : A) → test x ≡ true → test (change x) ≡ true) → list_all test xs ≡ true → list_all test (slice_set xs i (change (slice_index_or xs i d))) ≡ true
@@ -27,3 +31,25 @@ all_set test (x ∷ xs) zero d y keeps h =
 all_set test (x ∷ xs) (suc i) d y keeps h =
     let p = and_parts (test x) (list_all test xs) h in
     rw (p.0, all_set test xs i d y keeps p.1) refl
+
+-- one member more that passes
+pub all_push : {A : Type 0} (test : A → Bool) (xs : List A) (x : A) → list_all test xs ≡ true → test x ≡ true → list_all test (xs ++ x ∷ []) ≡ true
+all_push test [] x h e = rw e refl
+all_push test (y ∷ ys) x h e =
+    let p = and_parts (test y) (list_all test ys) h in
+    rw (p.0, all_push test ys x p.1 e) refl
+
+-- the rows of nested uses pass a test that they pass in them
+pub all_rows : (test : NestRow → Bool) (nests : List OpenNest) → list_all (λ (nest : OpenNest). test nest.row) nests ≡ true → list_all test (nest_rows nests) ≡ true
+all_rows test [] h = refl
+all_rows test (nest ∷ nests) h =
+    let p = and_parts (test nest.row) (list_all (λ (nest : OpenNest). test nest.row) nests) h in
+    and_from _ _ p.0 (all_rows test nests p.1)
+
+-- ---- how many there are
+
+pub many_set : {A : Type 0} (xs : List A) (i : ℕ) (y : A) → length (slice_set xs i y) ≡ length xs
+many_set xs i y = length-set xs i y
+
+pub many_mapped : {A B : Type 0} (f : A → B) (xs : List A) → length (map f xs) ≡ length xs
+many_mapped f xs = length-map xs f

@@ -11,22 +11,21 @@ use Rattle.place_plan.specs.declared.drafts.draft_rows.NestRow.{NestRow}
 use Rattle.place_plan.specs.Plans.Places.{no_action, no_nest}
 use Rattle.action_script.specs.declared.forms.form.Form.{Form}
 use Rattle.action_script.specs.declared.forms.form.Form.TheVariants as form
-use Rattle.action_script.specs.declared.lines.kind.Section.{Section}
-use Rattle.action_script.specs.declared.lines.kind.Section.TheVariants as section
-use Rattle.script_checker.specs.declared.parts.Block.{Block}
-use Rattle.script_checker.specs.declared.parts.Block.TheVariants as block
-use Rattle.script_checker.specs.declared.parts.DeclaredGraph.{DeclaredGraph}
-use Rattle.script_checker.specs.declared.parts.Opening.{Opening}
+use Rattle.script_checker.specs.declared.declared.Declared.{Declared}
+use Rattle.script_checker.specs.declared.declared.Block.{Block}
+use Rattle.script_checker.specs.declared.declared.Block.TheVariants as block
+use Rattle.script_checker.specs.declared.open_graph.DeclaredGraph.{DeclaredGraph}
+use Rattle.script_checker.specs.declared.open_action.OpenAction.{OpenAction}
+use Rattle.script_checker.specs.declared.open_action.OpenNest.{OpenNest}
+use Rattle.script_checker.specs.declared.open_action.OpenProgram.{OpenProgram}
 use Rattle.script_checker.specs.Numbers.{is_among}
-use Rattle.script_checker.specs.DeclaredSoFar.{SoFar, nothing_yet, exceptions_at, action_of, nest_of}
-use Rattle.script_checker.specs.Causes.{is_action}
-use Rattle.script_checker.specs.After.{closed_if, ended, with_said, with_nest, action_row}
-use Rattle.script_checker.specs.Compiled.{HasNone}
+use Rattle.script_checker.specs.DeclaredSoFar.{nothing_declared, begun_nest, exceptions_at, action_of, nest_of}
+use Rattle.script_checker.specs.AtTop.{is_action, declared_with, block_begun}
+use Rattle.script_checker.specs.InAction.{closed_if, with_nest, action_with, row_of}
+use Rattle.script_checker.specs.After.{ended}
 use Rattle.caa_base.proofs.ListLemmas.{at_row}
-use Rattle.script_checker.proofs.Choosing.{known}
-use Rattle.script_checker.proofs.Accepted.{IsKept}
-use Rattle.script_checker.proofs.ActionsGrow.{all_push}
-use Rattle.script_checker.proofs.ListsChange.{all_set}
+use Rattle.script_checker.proofs.Accepted.{IsKept, NoneInAction, known}
+use Rattle.script_checker.proofs.ListsChange.{all_push, all_set, all_rows}
 use Rattle.script_checker.proofs.NestTests.{neither, same_action}
 use Rattle.script_checker.proofs.RangesKept.{AreInRange, action_right, ranges_kept, in_range_at_first}
 
@@ -39,9 +38,17 @@ pub record AreCounted (graphs : List DeclaredGraph) (actions : List ActionRow) (
   pub counts : (g : ℕ) → g < length graphs → count g ≡ length (exceptions_at graphs g)
   pub faces : (a : ℕ) → a < length actions → face a ≡ (slice_index_or actions a no_action).interface
 
--- the uses that are being declared are mapped, and those of the actions that have ended
-abbrev pub MapsRight : SoFar → Type 0
-MapsRight s = (count face : ℕ → ℕ) → AreCounted s.graphs s.actions count face → (list_all (use_mapped count face) s.action.nest_rows ≡ true) × (list_all (λ (action : ActionRow). list_all (use_mapped count face) action.nests) s.actions ≡ true)
+-- the uses of an action are mapped
+abbrev all_mapped : (ℕ → ℕ) → (ℕ → ℕ) → ActionRow → Bool
+all_mapped count face action = list_all (use_mapped count face) action.nests
+
+abbrev MappedIn : (ℕ → ℕ) → (ℕ → ℕ) → Block → Type 0
+MappedIn count face (block.Action a) = list_all (λ (nest : OpenNest). use_mapped count face nest.row) a.nests ≡ true
+MappedIn count face b = Unit {0}
+
+-- those of the actions that have ended are mapped, and those that are being declared
+abbrev pub MapsRight : Declared → Block → Type 0
+MapsRight d b = (count face : ℕ → ℕ) → AreCounted d.graphs d.actions count face → (list_all (all_mapped count face) d.actions ≡ true) × MappedIn count face b
 
 -- ---- one graph or action more
 
@@ -80,63 +87,70 @@ alternate_still count face row a h =
 
 -- ---- lines
 
-closed_maps : (s : SoFar) (v : Verdict) (o : Option Opening) → MapsRight s → MapsRight (record s { action = closed_if s.action o v })
-closed_maps s v None h = h
-closed_maps s v (Some o) h = h
-
-nest_maps : (s : SoFar) (nest : ℕ) (row : NestRow) → ((count face : ℕ → ℕ) → use_mapped count face (nest_of s nest) ≡ true → use_mapped count face row ≡ true) → MapsRight s → MapsRight (with_nest s nest row)
-nest_maps s nest row keeps h = λ count face b.
-    let k = h count face b in
-    (all_set (use_mapped count face) s.action.nest_rows (index_of nest s.action.nests) no_nest row (keeps count face) k.0, k.1)
+closed_maps : (count face : ℕ → ℕ) (a : OpenAction) (v : Verdict) (o : Option OpenProgram) → MappedIn count face (block.Action a) → MappedIn count face (block.Action (closed_if a o v))
+closed_maps count face a v None h = h
+closed_maps count face a v (Some p) h = h
 
 -- the graph of what an action tells outside is there
-face_there : (at : Section) (s : SoFar) (a : ℕ) → AreInRange at s → a < length s.actions → (slice_index_or s.actions a no_action).interface < length s.graphs
-face_there at s a h l =
-    let count : ℕ → ℕ = λ g. length (exceptions_at s.graphs g) in
-    let k = at_row (action_right (length s.objects) (length s.actions) (length s.graphs) count) s.actions a no_action (h.ended_right (length s.objects) (length s.actions) (length s.graphs) count (omega arith) (omega arith) (omega arith) (λ g. omega arith)) l in
-    let action = slice_index_or s.actions a no_action in
-    ltb-true action.interface (length s.graphs) (and_parts (nat_lt action.interface (length s.graphs)) _ (and_parts (nat_lt action.internal (length s.graphs)) _ (and_parts _ _ k).0).1).0
+face_there : (d : Declared) (b : Block) (a : ℕ) → AreInRange d b → a < length d.actions → (slice_index_or d.actions a no_action).interface < length d.graphs
+face_there d b a h l =
+    let count : ℕ → ℕ = λ g. length (exceptions_at d.graphs g) in
+    let k = at_row (action_right (length d.objects) (length d.actions) (length d.graphs) count) d.actions a no_action (h.ended_right (length d.objects) (length d.actions) (length d.graphs) count (omega arith) (omega arith) (omega arith) (λ g. omega arith)) l in
+    let action = slice_index_or d.actions a no_action in
+    ltb-true action.interface (length d.graphs) (and_parts (nat_lt action.interface (length d.graphs)) _ (and_parts (nat_lt action.internal (length d.graphs)) _ (and_parts _ _ k).0).1).0
 
-module _ (names : List (List ℕ)) where
-  ended_maps : (s : SoFar) (b : Block) → MapsRight s → MapsRight (ended names s b)
-  ended_maps s block.Top h = λ count face b. (refl, (h count face b).1)
-  ended_maps s block.Graph h = λ count face b. (refl, (h count face (fewer_graphs s.graphs _ s.actions count face b)).1)
-  ended_maps s block.Action h = λ count face b.
-      let k = h count face (fewer_actions s.graphs s.actions (action_row names s) count face b) in
-      (refl, all_push (λ (action : ActionRow). list_all (use_mapped count face) action.nests) s.actions (action_row names s) k.1 k.0)
+module _ (names : List (List ℕ)) (d : Declared) where
+  begins_maps : (f : Form) → MapsRight d block.Top → MapsRight (declared_with names d f) (block_begun d f)
+  begins_maps (form.Action name) h = λ count face b. ((h count face b).0, refl)
+  begins_maps f h = h
 
-  says_maps : (at : Section) (s : SoFar) (f : Form) → HasNone s f → AreInRange at s → MapsRight s → MapsRight (with_said names s f)
-  says_maps at s (form.Action name) none ranges h = λ count face b. (refl, (h count face b).1)
-  says_maps at s (form.Nest nest action roles) none ranges h = λ count face b.
-      let k = h count face b in
-      let a = ltb-true _ _ (neither (is_action s action) (list_all (is_among s.action.roles) roles) (known s (form.Nest nest action roles) none)).0 in
-      let outside = (action_of s action).interface in
-      let n : length (replicate (length (exceptions_at s.graphs outside)) 0) ≡ count (face (index_of action s.action_names)) =
-      length-replicate (length (exceptions_at s.graphs outside)) 0 ∙ sym (b.counts outside (face_there at s (index_of action s.action_names) ranges a)) ∙ ap count (sym (b.faces (index_of action s.action_names) a)) in
-      (all_push (use_mapped count face) s.action.nest_rows _ k.0 (eq-eqb _ _ n), k.1)
-  says_maps at s (form.Map nest lower upper) none ranges h = nest_maps s nest _ (λ count face k. mapped_still count face (nest_of s nest) _ _ k) h
-  says_maps at s (form.MapUndo nest x) none ranges h = nest_maps s nest _ (λ count face k. k) h
-  says_maps at s (form.MapFailure nest x) none ranges h = nest_maps s nest _ (λ count face k. k) h
-  says_maps at s (form.Alternate nest action) none ranges h = nest_maps s nest _ (λ count face k. alternate_still count face (nest_of s nest) _ k) h
-  says_maps at s form.End none ranges h = ended_maps s s.block h
-  says_maps at s form.DoneLine none ranges h = closed_maps s _ s.action.opening h
-  says_maps at s (form.SignalLine x) none ranges h = closed_maps s _ s.action.opening h
-  says_maps at s form.UndoLine none ranges h = closed_maps s _ s.action.opening h
-  says_maps at s f none ranges h = h
+  ends_maps : (b : Block) → MapsRight d b → MapsRight (ended names d b) block.Top
+  ends_maps block.Top h = h
+  ends_maps (block.Graph g) h = λ count face b. ((h count face (fewer_graphs d.graphs _ d.actions count face b)).0, tt)
+  ends_maps (block.Action a) h = λ count face b.
+      let k = h count face (fewer_actions d.graphs d.actions (row_of names a) count face b) in
+      (all_push (all_mapped count face) d.actions (row_of names a) k.0 (all_rows (use_mapped count face) a.nests k.1), tt)
 
-pub record AreMapped (at : Section) (s : SoFar) : Type 0 where
-  pub ranges : AreInRange at s
-  pub maps : MapsRight s
+  nest_maps : (count face : ℕ → ℕ) (a : OpenAction) (name : ℕ) (nest : OpenNest) → (use_mapped count face (nest_of a name).row ≡ true → use_mapped count face nest.row ≡ true) → MappedIn count face (block.Action a) → MappedIn count face (block.Action (with_nest a name nest))
+  nest_maps count face a name nest keeps h = all_set (λ (nest : OpenNest). use_mapped count face nest.row) a.nests (index_of name a.nest_names) (begun_nest no_nest) nest keeps h
+
+  acts_maps : (a : OpenAction) (f : Form) → NoneInAction d a f → AreInRange d (block.Action a) → (count face : ℕ → ℕ) → AreCounted d.graphs d.actions count face → MappedIn count face (block.Action a) → MappedIn count face (block.Action (action_with names d a f))
+  acts_maps a (form.Nest nest action roles) none ranges count face b h =
+      let there = ltb-true _ _ (neither (is_action d action) (list_all (is_among a.roles) roles) (known d a (form.Nest nest action roles) none)).0 in
+      let outside = (action_of d action).interface in
+      let n : length (replicate (length (exceptions_at d.graphs outside)) 0) ≡ count (face (index_of action d.action_names)) =
+      length-replicate (length (exceptions_at d.graphs outside)) 0 ∙ sym (b.counts outside (face_there d (block.Action a) (index_of action d.action_names) ranges there)) ∙ ap count (sym (b.faces (index_of action d.action_names) there)) in
+      all_push (λ (nest : OpenNest). use_mapped count face nest.row) a.nests _ h (eq-eqb _ _ n)
+  acts_maps a (form.Map nest lower upper) none ranges count face b h = nest_maps count face a nest _ (mapped_still count face (nest_of a nest).row _ _) h
+  acts_maps a (form.MapUndo nest x) none ranges count face b h = nest_maps count face a nest _ (λ k. k) h
+  acts_maps a (form.MapFailure nest x) none ranges count face b h = nest_maps count face a nest _ (λ k. k) h
+  acts_maps a (form.Alternate nest action) none ranges count face b h = nest_maps count face a nest _ (alternate_still count face (nest_of a nest).row _) h
+  acts_maps a form.DoneLine none ranges count face b h = closed_maps count face a _ a.program h
+  acts_maps a (form.SignalLine x) none ranges count face b h = closed_maps count face a _ a.program h
+  acts_maps a form.UndoLine none ranges count face b h = closed_maps count face a _ a.program h
+  acts_maps a f none ranges count face b h = h
+
+pub record AreMapped (d : Declared) (b : Block) : Type 0 where
+  pub ranges : AreInRange d b
+  pub maps : MapsRight d b
 
 pub maps_kept : (names : List (List ℕ)) → IsKept names AreMapped
-maps_kept names = record {
-  settles = λ at s h. record { ranges = (ranges_kept names).settles at s h.ranges; maps = closed_maps s verdict.Done s.action.opening h.maps };
-  says = λ at s f stands sound none shut h. record {
-    ranges = (ranges_kept names).says at s f stands sound none shut h.ranges;
-    maps = says_maps names at s f none h.ranges h.maps;
-  };
-}
+maps_kept names =
+    let ranges = ranges_kept names in
+    record {
+      at_top = λ d f sound none h. record { ranges = ranges.at_top d f sound none h.ranges; maps = begins_maps names d f h.maps };
+      in_graph = λ d g f sound none h. record { ranges = ranges.in_graph d g f sound none h.ranges; maps = h.maps };
+      in_action = λ d a f sound none shut h. record {
+        ranges = ranges.in_action d a f sound none shut h.ranges;
+        maps = λ count face b. let k = h.maps count face b in (k.0, acts_maps names d a f none h.ranges count face b k.1);
+      };
+      closes = λ d a h. record {
+        ranges = ranges.closes d a h.ranges;
+        maps = λ count face b. let k = h.maps count face b in (k.0, closed_maps count face a verdict.Done a.program k.1);
+      };
+      ends = λ d b none h. record { ranges = ranges.ends d b none h.ranges; maps = ends_maps names d b h.maps };
+    }
 
 -- before the first line
-pub mapped_at_first : (names : List (List ℕ)) → AreMapped section.Top (nothing_yet names)
-mapped_at_first names = record { ranges = in_range_at_first names; maps = λ count face b. (refl, refl) }
+pub mapped_at_first : (universal : ℕ) → AreMapped (nothing_declared universal) block.Top
+mapped_at_first universal = record { ranges = in_range_at_first universal; maps = λ count face b. (refl, tt) }

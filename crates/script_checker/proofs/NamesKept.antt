@@ -1,7 +1,7 @@
 -- The names of an accepted script tell its parts apart: each line without cause keeps that they do.
 use Rattle.std.proofs.Common.{◌≡◌, ◌≢◌, ℕ, zero, suc, ◌<◌, ◌≤◌, ◌==◌, Bool, true, false, ◌&&◌, if◌then◌else◌, List, [], ◌∷◌, ◌++◌, map, length, get_or, codes, refl, sym, ap, ◌∙◌, subst, arith}
-use Rattle.std.specs.List.{All, AllPairs, list_all, flat_map}
-use Rattle.std.proofs.lemmas.Bool.{and_parts, or_parts, eq-eqb, ltb-false, ltb-true, false≢true, false_from_ne_true, not-false}
+use Rattle.std.specs.List.{All, AllPairs, flat_map}
+use Rattle.std.proofs.lemmas.Bool.{and_parts, or_parts, eq-eqb, ltb-false, ltb-true, false≢true, not-false}
 use Rattle.std.proofs.lemmas.List.{get_or-map, get_or_default, map-append, length-append, length-map}
 use Rattle.std.proofs.lemmas.List.Elements.{All-push, All-nil, All-map}
 use Rattle.std.proofs.lemmas.List.Quantifiers.{all_pairs_push}
@@ -12,23 +12,23 @@ use Rattle.place_plan.specs.declared.drafts.draft_rows.ObjectRow.{ObjectRow}
 use Rattle.place_plan.specs.Plans.PlanValue.{Plan}
 use Rattle.action_script.specs.declared.forms.form.Form.{Form}
 use Rattle.action_script.specs.declared.forms.form.Form.TheVariants as form
-use Rattle.action_script.specs.declared.forms.script.Line.{Line}
 use Rattle.action_script.specs.Words.NumberedNames.{number_in}
 use Rattle.action_script.specs.Forms.ScriptValue.{Script}
 use Rattle.action_script.specs.Forms.Printing.{is_sound, forms_of, form_names, AreScript}
 use Rattle.action_script.proofs.OnForms.Fits.{AreNumbered, named_within}
 use Rattle.action_script.proofs.OnForms.Numbered.{numbered-with_names, numbered-none}
-use Rattle.script_checker.specs.declared.check_error.CheckCause.TheVariants as cause
-use Rattle.script_checker.specs.declared.parts.Block.{Block}
-use Rattle.script_checker.specs.declared.parts.Block.TheVariants as block
-use Rattle.script_checker.specs.declared.parts.DeclaredGraph.{DeclaredGraph}
+use Rattle.script_checker.specs.declared.declared.Declared.{Declared}
+use Rattle.script_checker.specs.declared.declared.Block.{Block}
+use Rattle.script_checker.specs.declared.declared.Block.TheVariants as block
+use Rattle.script_checker.specs.declared.open_graph.DeclaredGraph.{DeclaredGraph}
 use Rattle.script_checker.specs.Numbers.{is_among}
-use Rattle.script_checker.specs.DeclaredSoFar.{SoFar, nothing_yet, plain_graph}
-use Rattle.script_checker.specs.Causes.{is_unknown, is_twice}
-use Rattle.script_checker.specs.After.{goes_on, settled_if, settled, ended, with_said, after}
-use Rattle.script_checker.specs.Compiled.{exception_name, declared_after, AreAccepted, IsRowOf, AreRowsOf, IsPlanOf}
+use Rattle.script_checker.specs.DeclaredSoFar.{nothing_yet, nothing_declared, plain_graph}
+use Rattle.script_checker.specs.AtTop.{declared_with, block_begun}
+use Rattle.script_checker.specs.InGraph.{graph_with}
+use Rattle.script_checker.specs.After.{ended}
+use Rattle.script_checker.specs.Compiled.{exception_name, declared_after, IsRowOf, AreRowsOf, IsPlanOf}
 use Rattle.place_plan.specs.Plans.OwnNames.{AreOwnNames, NamesExceptions, HasOwnNames}
-use Rattle.script_checker.proofs.Choosing.{known}
+use Rattle.script_checker.proofs.Accepted.{IsKept, NoneAtTop, NoneInGraph, known_at_top, once_at_top, once_in_graph, holds_after}
 use Rattle.script_checker.proofs.GraphRows.{found}
 
 -- ---- a number that is none of some others
@@ -106,10 +106,9 @@ record AreNamedBy (names : List (List ℕ)) (xs : List ℕ) (rows : List (List �
   pub own : AreOwn names (name_at names) xs
   pub same : rows ≡ map (name_at names) xs
 
--- the exceptions of all graphs have names of their own, and so have those that are being declared
-record AreGraphsNamed (names : List (List ℕ)) (universal : ℕ) (exceptions : List ℕ) (graphs : List DeclaredGraph) : Type 0 where
+-- the exceptions of all graphs have names of their own
+record AreGraphsNamed (names : List (List ℕ)) (universal : ℕ) (graphs : List DeclaredGraph) : Type 0 where
   pub first : universal ≡ number_in names (codes "universal")
-  pub open_own : AreOwn names (exception_name names) exceptions
   pub own : All (λ (graph : DeclaredGraph). AreOwn names (exception_name names) graph.exceptions) graphs
 
 -- the watches are of so many objects, and no two are of the same
@@ -120,12 +119,19 @@ record AreWatches (count : ℕ) (watches : List ℕ) : Type 0 where
 abbrev object_names : List ObjectRow → List (List ℕ)
 object_names rows = map (λ (row : ObjectRow). row.name) rows
 
-abbrev NamesStand : List (List ℕ) → SoFar → Type 0
-NamesStand names s =
-    AreNamedBy names s.participants s.participant_rows
-    × AreNamedBy names s.objects (object_names s.object_rows)
-    × AreGraphsNamed names s.universal s.graph.exceptions s.graphs
-    × AreWatches (length s.objects) s.watches
+record AreDeclaredNamed (names : List (List ℕ)) (d : Declared) : Type 0 where
+  pub participants : AreNamedBy names d.participants d.participant_rows
+  pub objects : AreNamedBy names d.objects (object_names d.object_rows)
+  pub graphs : AreGraphsNamed names d.universal d.graphs
+  pub watches : AreWatches (length d.objects) d.watches
+
+-- and so have those of the graph that is being declared
+abbrev OpenNamed : List (List ℕ) → Block → Type 0
+OpenNamed names (block.Graph g) = AreOwn names (exception_name names) g.exceptions
+OpenNamed names b = Unit {0}
+
+abbrev NamesStand : List (List ℕ) → Declared → Block → Type 0
+NamesStand names d b = AreDeclaredNamed names d × OpenNamed names b
 
 watches_stand : (xs : List ℕ) (x : ℕ) (watches : List ℕ) → AreWatches (length xs) watches → AreWatches (length (xs ++ x ∷ [])) watches
 watches_stand xs x watches h = record { within = λ i d l. let w = h.within i d l in omega (arith, w, length-append xs (x ∷ [])); once = h.once }
@@ -148,72 +154,79 @@ module _ (names : List (List ℕ)) (numbered : AreNumbered names) where
       let e : object_names (rows ++ row ∷ []) ≡ object_names rows ++ name_at names n ∷ [] = map-append (λ (row : ObjectRow). row.name) rows (row ∷ []) ∙ ap (λ (name : List ℕ). object_names rows ++ name ∷ []) same in
       subst (λ (rows : List (List ℕ)). AreNamedBy names (xs ++ n ∷ []) rows) (sym e) (named_push xs (object_names rows) n spelled once h)
 
-  graph_begins : (universal : ℕ) (exceptions : List ℕ) (graphs : List DeclaredGraph) → AreGraphsNamed names universal exceptions graphs → AreGraphsNamed names universal (universal ∷ []) graphs
-  graph_begins universal exceptions graphs h = record {
-    first = h.first;
-    open_own = own_push names (exception_name names) [] universal (own_none names (exception_name names)) (universal_own names universal h.first) refl;
-    own = h.own;
-  }
-
-  exceptions_push : (universal : ℕ) (exceptions : List ℕ) (graphs : List DeclaredGraph) (n : ℕ) → is_name (name_at names n) ≡ true → is_among exceptions n ≡ false → AreGraphsNamed names universal exceptions graphs → AreGraphsNamed names universal (exceptions ++ n ∷ []) graphs
-  exceptions_push universal exceptions graphs n spelled once h = record {
-    first = h.first;
-    open_own = own_push names (exception_name names) exceptions n h.open_own (excepted names numbered n spelled) once;
-    own = h.own;
-  }
-
-  graph_left : (universal : ℕ) (exceptions : List ℕ) (graphs : List DeclaredGraph) → AreGraphsNamed names universal exceptions graphs → AreGraphsNamed names universal [] graphs
-  graph_left universal exceptions graphs h = record { first = h.first; open_own = own_none names (exception_name names); own = h.own }
-
-  graphs_push : (universal : ℕ) (graph : DeclaredGraph) (graphs : List DeclaredGraph) → AreGraphsNamed names universal graph.exceptions graphs → AreGraphsNamed names universal [] (graphs ++ graph ∷ [])
-  graphs_push universal graph graphs h = record {
-    first = h.first;
-    open_own = own_none names (exception_name names);
-    own = All-push (λ (graph : DeclaredGraph). AreOwn names (exception_name names) graph.exceptions) graphs graph h.own h.open_own;
-  }
-
-  settled_stand : (s : SoFar) (b : Bool) → NamesStand names s → NamesStand names (settled_if b s)
-  settled_stand s true h = h
-  settled_stand s false h = h
-
-  ended_stand : (s : SoFar) (b : Block) → NamesStand names s → NamesStand names (ended names s b)
-  ended_stand s block.Top h = (h.0, h.1, graph_left s.universal s.graph.exceptions s.graphs h.2, h.3)
-  ended_stand s block.Graph h = (h.0, h.1, graphs_push s.universal s.graph s.graphs h.2, h.3)
-  ended_stand s block.Action h = (h.0, h.1, graph_left s.universal s.graph.exceptions s.graphs h.2, h.3)
+  universal_alone : (universal : ℕ) → universal ≡ number_in names (codes "universal") → AreOwn names (exception_name names) (universal ∷ [])
+  universal_alone universal first = own_push names (exception_name names) [] universal (own_none names (exception_name names)) (universal_own names universal first) refl
 
   -- the first word of a line that declares something is a name
   first_spelled : (n : ℕ) (rest : Bool) → (is_name (name_at names n) && rest) ≡ true → is_name (name_at names n) ≡ true
   first_spelled n rest h = (and_parts (is_name (name_at names n)) rest h).0
 
-  said_stand : (s : SoFar) (f : Form) → is_sound names f ≡ true → is_unknown s f ≡ false → is_twice s f ≡ false → NamesStand names s → NamesStand names (with_said names s f)
-  said_stand s (form.Participant n) sound known once h = (named_push s.participants s.participant_rows n (first_spelled n _ sound) once h.0, h.1, h.2, h.3)
-  said_stand s (form.Object n v) sound known once h =
-      (h.0, objects_push s.objects s.object_rows (record { name = name_at names n; initial = v }) n refl (first_spelled n _ sound) once h.1, h.2, watches_stand s.objects n s.watches h.3)
-  said_stand s (form.Watch n) sound known once h = (h.0, h.1, h.2, watches_push s.objects s.watches n (not-false (is_among s.objects n) known) once h.3)
-  said_stand s (form.Graph n) sound known once h = (h.0, h.1, graph_begins s.universal s.graph.exceptions s.graphs h.2, h.3)
-  said_stand s (form.Exception n) sound known once h = (h.0, h.1, exceptions_push s.universal s.graph.exceptions s.graphs n (first_spelled n _ sound) once h.2, h.3)
-  said_stand s form.End sound known once h = ended_stand s s.block h
-  said_stand s f sound known once h = h
+  begins_stand : (d : Declared) (f : Form) → is_sound names f ≡ true → NoneAtTop d f → AreDeclaredNamed names d → AreDeclaredNamed names (declared_with names d f)
+  begins_stand d (form.Participant n) sound none h = record {
+    participants = named_push d.participants d.participant_rows n (first_spelled n _ sound) (once_at_top d (form.Participant n) none) h.participants;
+    objects = h.objects;
+    graphs = h.graphs;
+    watches = h.watches;
+  }
+  begins_stand d (form.Object n v) sound none h = record {
+    participants = h.participants;
+    objects = objects_push d.objects d.object_rows (record { name = name_at names n; initial = v }) n refl (first_spelled n _ sound) (once_at_top d (form.Object n v) none) h.objects;
+    graphs = h.graphs;
+    watches = watches_stand d.objects n d.watches h.watches;
+  }
+  begins_stand d (form.Watch n) sound none h = record {
+    participants = h.participants;
+    objects = h.objects;
+    graphs = h.graphs;
+    watches = watches_push d.objects d.watches n (not-false (is_among d.objects n) (known_at_top d (form.Watch n) none)) (once_at_top d (form.Watch n) none) h.watches;
+  }
+  begins_stand d (form.Drill object nth) sound none h = record { participants = h.participants; objects = h.objects; graphs = h.graphs; watches = h.watches }
+  begins_stand d (form.Graph n) sound none h = record { participants = h.participants; objects = h.objects; graphs = h.graphs; watches = h.watches }
+  begins_stand d (form.Action n) sound none h = record { participants = h.participants; objects = h.objects; graphs = h.graphs; watches = h.watches }
+  begins_stand d (form.Play action who) sound none h = record { participants = h.participants; objects = h.objects; graphs = h.graphs; watches = h.watches }
+  begins_stand d f sound none h = h
 
-  lines_stand : (s : SoFar) (lines : List Line) → list_all (is_sound names) (forms_of lines) ≡ true → AreAccepted names s lines → NamesStand names s → NamesStand names (declared_after names s lines)
-  lines_stand s [] sound accepted h = h
-  lines_stand s (line ∷ lines) sound accepted h =
-      let p = and_parts (is_sound names line.form) (list_all (is_sound names) (forms_of lines)) sound in
-      let before = settled s line.form in
-      let once = false_from_ne_true (is_twice before line.form) (λ e. accepted.0 cause.Twice e) in
-      lines_stand (after names s line.form) lines p.1 accepted.1
-      (said_stand before line.form p.0 (known before line.form accepted.0) once (settled_stand s (goes_on line.form) h))
+  begins_named : (d : Declared) (f : Form) → AreDeclaredNamed names d → OpenNamed names (block_begun d f)
+  begins_named d (form.Graph n) h = universal_alone d.universal h.graphs.first
+  begins_named d f h = tt
 
-  nothing_stands : NamesStand names (nothing_yet names)
+  graph_stands : (d : Declared) (g : DeclaredGraph) (f : Form) → is_sound names f ≡ true → NoneInGraph d g f → OpenNamed names (block.Graph g) → OpenNamed names (block.Graph (graph_with g f))
+  graph_stands d g (form.Exception n) sound none h = own_push names (exception_name names) g.exceptions n h (excepted names numbered n (first_spelled n _ sound)) (once_in_graph d g (form.Exception n) none)
+  graph_stands d g f sound none h = h
+
+  ends_stand : (d : Declared) (b : Block) → NamesStand names d b → AreDeclaredNamed names (ended names d b)
+  ends_stand d block.Top h = h.0
+  ends_stand d (block.Graph g) h = record {
+    participants = h.0.participants;
+    objects = h.0.objects;
+    graphs = record { first = h.0.graphs.first; own = All-push (λ (graph : DeclaredGraph). AreOwn names (exception_name names) graph.exceptions) d.graphs g h.0.graphs.own h.1 };
+    watches = h.0.watches;
+  }
+  ends_stand d (block.Action a) h = record { participants = h.0.participants; objects = h.0.objects; graphs = h.0.graphs; watches = h.0.watches }
+
+  names_kept : IsKept names (NamesStand names)
+  names_kept = record {
+    at_top = λ d f sound none h. (begins_stand d f sound none h.0, begins_named d f h.0);
+    in_graph = λ d g f sound none h. (h.0, graph_stands d g f sound none h.1);
+    in_action = λ d a f sound none shut h. h;
+    closes = λ d a h. h;
+    ends = λ d b none h. (ends_stand d b h, tt);
+  }
+
+  nothing_stands : NamesStand names (nothing_declared (number_in names (codes "universal"))) block.Top
   nothing_stands = (
-    record { own = own_none names (name_at names); same = refl },
-    record { own = own_none names (name_at names); same = refl },
-    graphs_push (number_in names (codes "universal")) (plain_graph (number_in names (codes "universal"))) [] (record {
-      first = refl;
-      open_own = own_push names (exception_name names) [] _ (own_none names (exception_name names)) (universal_own names _ refl) refl;
-      own = All-nil (λ (graph : DeclaredGraph). AreOwn names (exception_name names) graph.exceptions);
-    }),
-    record { within = All-nil (λ object. object < 0); once = λ i j d l w. absurd (omega arith) },
+    record {
+      participants = record { own = own_none names (name_at names); same = refl };
+      objects = record { own = own_none names (name_at names); same = refl };
+      graphs = record {
+        first = refl;
+        own =
+            All-push (λ (graph : DeclaredGraph). AreOwn names (exception_name names) graph.exceptions) [] (plain_graph (number_in names (codes "universal")))
+            (All-nil (λ (graph : DeclaredGraph). AreOwn names (exception_name names) graph.exceptions)) (universal_alone _ refl);
+      };
+      watches = record { within = All-nil (λ object. object < 0); once = λ i j d l w. absurd (omega arith) };
+    },
+    tt,
   )
 
 -- ---- the plan
@@ -242,15 +255,15 @@ pub own_names_of : (script : Script) (plan : Plan) → AreScript script.names (f
 own_names_of script plan whole h =
     let names = script.names in
     let numbered : AreNumbered names = subst (λ (names : List (List ℕ)). AreNumbered names) whole.order (numbered-with_names [] (flat_map (form_names names) (forms_of script.lines)) numbered-none) in
-    let s = declared_after names (nothing_yet names) script.lines in
-    let stand = lines_stand names numbered (nothing_yet names) script.lines whole.sound h.accepted (nothing_stands names numbered) in
+    let d = (declared_after names (nothing_yet names) script.lines).declared in
+    let stand = (holds_after names (NamesStand names) (names_kept names numbered) (nothing_yet names) script.lines whole.sound h.accepted (nothing_stands names numbered)).0 in
     let draft = h.draft in
-    let count : length draft.objects ≡ length s.objects =
-    ap (λ (rows : List ObjectRow). length rows) h.declared.objects ∙ sym (length-map s.object_rows (λ (row : ObjectRow). row.name)) ∙ ap (λ (rows : List (List ℕ)). length rows) stand.1.same ∙ length-map s.objects (name_at names) in
+    let count : length draft.objects ≡ length d.objects =
+    ap (λ (rows : List ObjectRow). length rows) h.declared.objects ∙ sym (length-map d.object_rows (λ (row : ObjectRow). row.name)) ∙ ap (λ (rows : List (List ℕ)). length rows) stand.objects.same ∙ length-map d.objects (name_at names) in
     subst (λ (plan : Plan). HasOwnNames plan) (sym h.unfolded) (record {
-      participants = subst (λ (rows : List (List ℕ)). AreOwnNames rows) (sym h.declared.participants) (named_rows names s.participants s.participant_rows stand.0);
-      objects = subst (λ (rows : List ObjectRow). AreOwnNames (object_names rows)) (sym h.declared.objects) (named_rows names s.objects (object_names s.object_rows) stand.1);
-      graphs = rows_named names s.graphs draft.graphs h.declared.graphs stand.2.own;
-      watched = subst (λ (watches : List ℕ). All (λ object. object < length draft.objects) watches) (sym h.declared.watches) (subst (λ (n : ℕ). All (λ object. object < n) s.watches) (sym count) stand.3.within);
-      once = subst (λ (watches : List ℕ). AllPairs (λ a b. a ≢ b) watches) (sym h.declared.watches) stand.3.once;
+      participants = subst (λ (rows : List (List ℕ)). AreOwnNames rows) (sym h.declared.participants) (named_rows names d.participants d.participant_rows stand.participants);
+      objects = subst (λ (rows : List ObjectRow). AreOwnNames (object_names rows)) (sym h.declared.objects) (named_rows names d.objects (object_names d.object_rows) stand.objects);
+      graphs = rows_named names d.graphs draft.graphs h.declared.graphs stand.graphs.own;
+      watched = subst (λ (watches : List ℕ). All (λ object. object < length draft.objects) watches) (sym h.declared.watches) (subst (λ (n : ℕ). All (λ object. object < n) d.watches) (sym count) stand.watches.within);
+      once = subst (λ (watches : List ℕ). AllPairs (λ a b. a ≢ b) watches) (sym h.declared.watches) stand.watches.once;
     })

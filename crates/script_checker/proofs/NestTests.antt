@@ -9,14 +9,13 @@ use Rattle.place_plan.specs.declared.drafts.draft_rows.NestRow.{NestRow}
 use Rattle.place_plan.specs.Plans.Places.{no_action}
 use Rattle.place_plan.specs.Drafts.DraftRules.{all_below, all_differ}
 use Rattle.action_script.specs.declared.forms.form.Form.TheVariants as form
-use Rattle.script_checker.specs.declared.parts.DeclaredGraph.{DeclaredGraph}
+use Rattle.script_checker.specs.declared.open_graph.DeclaredGraph.{DeclaredGraph}
 use Rattle.script_checker.specs.Numbers.{is_among}
 use Rattle.script_checker.specs.DeclaredSoFar.{nest_of, action_of}
-use Rattle.script_checker.specs.Causes.{is_action}
-use Rattle.script_checker.proofs.Choosing.{known}
-use Rattle.script_checker.proofs.Accepted.{filled, differing, faced}
+use Rattle.script_checker.specs.AtTop.{is_action}
+use Rattle.script_checker.proofs.Accepted.{known, filled, differing, faced}
 use Rattle.caa_base.proofs.ListLemmas.{all_imply}
-use Rattle.script_checker.proofs.ActionsGrow.{all_push}
+use Rattle.script_checker.proofs.ListsChange.{all_push}
 use Rattle.script_checker.proofs.NestsKept.{IsNestTest}
 
 -- ---- tests that aren't passed
@@ -97,15 +96,15 @@ one_longer actions more = let n : length (actions ++ more ∷ []) ≡ length act
 
 pub there_test : IsNestTest uses_there
 there_test = record {
-  nested = λ names s nest action roles none.
-      let k = neither (is_action s action) (list_all (is_among s.action.roles) roles) (known s (form.Nest nest action roles) none) in
+  nested = λ names d a nest action roles none.
+      let k = neither (is_action d action) (list_all (is_among a.roles) roles) (known d a (form.Nest nest action roles) none) in
       rw k.0 refl;
   mapped = λ actions graphs row i x h. h;
   undone = λ actions graphs row x h. h;
   failed = λ actions graphs row x h. h;
-  alternated = λ s nest action none h.
-      let k = neither (is_among s.action.nests nest) (is_action s action) (known s (form.Alternate nest action) none) in
-      all_push (λ a. nat_lt a (length s.actions)) (nest_of s nest).actions _ h k.1;
+  alternated = λ d a nest action none h.
+      let k = neither (is_among a.nest_names nest) (is_action d action) (known d a (form.Alternate nest action) none) in
+      all_push (λ a. nat_lt a (length d.actions)) (nest_of a nest).row.actions _ h k.1;
   one_action = λ actions graphs action row h. below_more (length actions) _ row.actions (one_longer actions action) h;
   one_graph = λ actions graphs graph row h. h;
 }
@@ -123,25 +122,25 @@ eqb_turn a b h = eq-eqb b a (sym (eqb-true a b h))
 
 pub filled_test : IsNestTest uses_filled
 filled_test = record {
-  nested = λ names s nest action roles none.
-      let k = neither (is_action s action) (list_all (is_among s.action.roles) roles) (known s (form.Nest nest action roles) none) in
-      let d : all_differ (map (λ r. index_of r s.action.roles) roles) ≡ true = differ_mapped s.action.roles roles (not-false _ (differing s (form.Nest nest action roles) none)) k.1 in
-      let f : (length (map (λ r. index_of r s.action.roles) roles) == length (action_of s action).roles) ≡ true =
-      rw length-map (eqb_turn (length (action_of s action).roles) (length roles) (not-false _ (filled s (form.Nest nest action roles) none))) in
-      rw (k.0, d, f) refl;
+  nested = λ names d a nest action roles none.
+      let k = neither (is_action d action) (list_all (is_among a.roles) roles) (known d a (form.Nest nest action roles) none) in
+      let apart : all_differ (map (λ r. index_of r a.roles) roles) ≡ true = differ_mapped a.roles roles (not-false _ (differing d a (form.Nest nest action roles) none)) k.1 in
+      let f : (length (map (λ r. index_of r a.roles) roles) == length (action_of d action).roles) ≡ true =
+      rw length-map (eqb_turn (length (action_of d action).roles) (length roles) (not-false _ (filled d a (form.Nest nest action roles) none))) in
+      rw (k.0, apart, f) refl;
   mapped = λ actions graphs row i x h. h;
   undone = λ actions graphs row x h. h;
   failed = λ actions graphs row x h. h;
-  alternated = λ s nest action none h.
-      let row = nest_of s nest in
-      let k = neither (is_among s.action.nests nest) (is_action s action) (known s (form.Alternate nest action) none) in
-      let p = and_parts (all_below (length s.actions) row.actions) _ h in
+  alternated = λ d a nest action none h.
+      let row = (nest_of a nest).row in
+      let k = neither (is_among a.nest_names nest) (is_action d action) (known d a (form.Alternate nest action) none) in
+      let p = and_parts (all_below (length d.actions) row.actions) _ h in
       let q = and_parts (all_differ row.roles) _ p.1 in
-      let f = eqb_turn (length (action_of s action).roles) (length row.roles) (not-false _ (filled s (form.Alternate nest action) none)) in
+      let f = eqb_turn (length (action_of d action).roles) (length row.roles) (not-false _ (filled d a (form.Alternate nest action) none)) in
       rw (
-        all_push (λ a. nat_lt a (length s.actions)) row.actions (index_of action s.action_names) p.0 k.1,
+        all_push (λ a. nat_lt a (length d.actions)) row.actions (index_of action d.action_names) p.0 k.1,
         q.0,
-        all_push (λ a. fits_roles row (slice_index_or s.actions a no_action)) row.actions (index_of action s.action_names) q.1 f,
+        all_push (λ a. fits_roles row (slice_index_or d.actions a no_action)) row.actions (index_of action d.action_names) q.1 f,
       ) refl;
   one_action = λ actions graphs action row h.
       let p = and_parts (all_below (length actions) row.actions) _ h in
@@ -186,15 +185,15 @@ one_face_longer actions action (b ∷ acts) h =
 
 pub faced_test : IsNestTest uses_faced
 faced_test = record {
-  nested = λ names s nest action roles none.
-      let k = neither (is_action s action) (list_all (is_among s.action.roles) roles) (known s (form.Nest nest action roles) none) in
-      rw (k.0, eq-eqb (action_of s action).interface (action_of s action).interface refl) refl;
+  nested = λ names d a nest action roles none.
+      let k = neither (is_action d action) (list_all (is_among a.roles) roles) (known d a (form.Nest nest action roles) none) in
+      rw (k.0, eq-eqb (action_of d action).interface (action_of d action).interface refl) refl;
   mapped = λ actions graphs row i x h. h;
   undone = λ actions graphs row x h. h;
   failed = λ actions graphs row x h. h;
-  alternated = λ s nest action none h.
-      let k = neither (is_among s.action.nests nest) (is_action s action) (known s (form.Alternate nest action) none) in
-      one_face_more s.actions (nest_of s nest).actions (index_of action s.action_names) k.1 (not-false _ (faced s (form.Alternate nest action) none)) h;
+  alternated = λ d a nest action none h.
+      let k = neither (is_among a.nest_names nest) (is_action d action) (known d a (form.Alternate nest action) none) in
+      one_face_more d.actions (nest_of a nest).row.actions (index_of action d.action_names) k.1 (not-false _ (faced d a (form.Alternate nest action) none)) h;
   one_action = λ actions graphs action row h. one_face_longer actions action row.actions h;
   one_graph = λ actions graphs graph row h. h;
 }

@@ -1,37 +1,45 @@
 -- The roles and nested uses of accepted actions are within the limits.
-use Rattle.std.proofs.Common.{◌≡◌, ℕ, ◌+◌, ◌≤◌, nat_le, Bool, true, false, not, ◌&&◌, List, [], ◌∷◌, ◌++◌, map, length, Option, Some, None, refl, arith, length-append, length-set}
+use Rattle.std.proofs.Common.{subst, ◌≡◌, ℕ, ◌≤◌, nat_le, true, false, not, ◌&&◌, List, [], ◌∷◌, ◌++◌, length, Option, Some, None, refl, arith, length-set}
 use Rattle.std.proofs.lemmas.List.{length-map}
 use Rattle.std.specs.List.{list_all}
-use Rattle.std.proofs.lemmas.Bool.{and_parts, false≢true, ltb-false, le-leb, and_from}
+use Rattle.std.proofs.lemmas.Bool.{and_parts, ltb-false, le-leb, and_from}
 use Rattle.caa_base.specs.Written.Lists.{is_empty, index_of}
-use Rattle.caa_base.specs.Written.Names.{name_at}
 use Rattle.caa_base.specs.declared.written.entry.Verdict.{Verdict}
 use Rattle.caa_base.specs.declared.written.entry.Verdict.TheVariants as verdict
-use Rattle.place_plan.specs.declared.drafts.draft_rows.AbortRow.TheVariants as abort
+use Rattle.place_plan.specs.declared.drafts.draft_rows.AbortRow.{AbortRow}
+use Rattle.place_plan.specs.declared.drafts.draft_rows.Step.{Step}
 use Rattle.place_plan.specs.declared.drafts.draft_rows.RoleRow.{RoleRow}
-use Rattle.place_plan.specs.declared.drafts.draft_rows.NestRow.{NestRow}
 use Rattle.place_plan.specs.declared.drafts.draft_rows.HandlerRow.{HandlerRow}
 use Rattle.place_plan.specs.declared.drafts.draft_rows.Program.{Program}
 use Rattle.place_plan.specs.Plans.Places.{no_role, no_nest}
 use Rattle.place_plan.specs.Drafts.DraftRules.{program_fits, role_fits, nest_fits, action_fits}
 use Rattle.action_script.specs.declared.forms.form.Form.{Form}
 use Rattle.action_script.specs.declared.forms.form.Form.TheVariants as form
-use Rattle.script_checker.specs.declared.parts.Opening.{Opening}
-use Rattle.script_checker.specs.DeclaredSoFar.{SoFar, outer, nest_of, action_of, exceptions_at}
-use Rattle.script_checker.specs.Causes.{is_past_limit, is_unfilled}
-use Rattle.script_checker.specs.After.{closed_if, with_said, with_program, idle_role, with_nest, plain_nest, action_row}
+use Rattle.script_checker.specs.declared.declared.Declared.{Declared}
+use Rattle.script_checker.specs.declared.declared.Block.{Block}
+use Rattle.script_checker.specs.declared.declared.Block.TheVariants as block
+use Rattle.script_checker.specs.declared.open_action.OpenAction.{OpenAction}
+use Rattle.script_checker.specs.declared.open_action.OpenNest.{OpenNest}
+use Rattle.script_checker.specs.declared.open_action.OpenProgram.{OpenProgram}
+use Rattle.script_checker.specs.DeclaredSoFar.{begun_nest, nest_of, nest_rows}
+use Rattle.script_checker.specs.AtTop.{declared_with, block_begun}
+use Rattle.script_checker.specs.InAction.{past_limit_in_action, closed_if, steps_of, with_step, with_program, idle_role, with_abort, with_nest, action_with, row_of}
+use Rattle.script_checker.specs.After.{ended}
+use Rattle.script_checker.specs.Compiled.{HasNone}
 use Rattle.caa_base.proofs.ListLemmas.{as_filled}
-use Rattle.script_checker.specs.Blocks.{is_in_action}
-use Rattle.script_checker.proofs.Choosing.{within}
-use Rattle.script_checker.proofs.Accepted.{IsKept, filled}
-use Rattle.script_checker.proofs.ActionsGrow.{all_push, ends_action, said_actions}
-use Rattle.script_checker.proofs.ListsChange.{all_change, all_set, all_mapped}
+use Rattle.script_checker.proofs.Accepted.{IsKept, within, filled}
+use Rattle.script_checker.proofs.ListsChange.{all_push, all_change, all_set, all_mapped, all_rows}
 use Rattle.script_checker.proofs.CountsKept.{few_more}
 use Rattle.caa_base.specs.Written.Limits.{most_steps, most_roles, most_nests, most_alternates}
 
--- the steps of what is being declared, and the roles so far
-abbrev pub ProgramsFit : SoFar → Type 0
-ProgramsFit s = (length s.action.steps ≤ most_steps) × (list_all role_fits s.action.role_rows ≡ true)
+-- the steps of what is being declared, and the roles and nested uses so far
+pub record ActionFits (a : OpenAction) : Type 0 where
+  pub steps : length (steps_of a.program) ≤ most_steps
+  pub roles : list_all role_fits a.role_rows ≡ true
+  pub few_roles : length a.role_rows ≤ most_roles
+  pub all_roles : length a.role_rows ≡ length a.roles
+  pub nests : list_all (λ (nest : OpenNest). nest_fits nest.row) a.nests ≡ true
+  pub few_nests : length a.nests ≤ most_nests
 
 -- a role with one more program that fits
 program_added : (exception : Option ℕ) (program : Program) → program_fits program ≡ true → (row : RoleRow) → role_fits row ≡ true → role_fits (with_program row exception program) ≡ true
@@ -42,126 +50,132 @@ program_added (Some x) program p row h =
     let parts = and_parts (program_fits row.body) (list_all (λ (h : HandlerRow). program_fits h.program) row.handlers) h in
     and_from _ _ parts.0 (all_push (λ (h : HandlerRow). program_fits h.program) row.handlers (record { exception = x; program = program }) parts.1 p)
 
-pub closed_programs : (s : SoFar) (v : Verdict) (o : Option Opening) → ProgramsFit s → ProgramsFit (record s { action = closed_if s.action o v })
-closed_programs s v None h = h
-closed_programs s v (Some o) h =
-    let program : Program = record { steps = s.action.steps; verdict = v } in
-    (omega arith, all_change role_fits (λ (row : RoleRow). with_program row o.exception program) s.action.role_rows o.role no_role (program_added o.exception program (le-leb _ _ h.0)) h.1)
-
-module _ (names : List (List ℕ)) where
-  pub says_programs : (s : SoFar) (f : Form) → is_past_limit s f ≡ false → ProgramsFit s → ProgramsFit (with_said names s f)
-  says_programs s (form.Action name) w h = (omega arith, refl)
-  says_programs s (form.Roles roles) w h = (h.0, all_mapped role_fits (idle_role names) roles (λ name. refl))
-  says_programs s (form.Abort role x) w h = (h.0, all_change role_fits (λ (row : RoleRow). record row { abort = abort.Always (index_of x (outer s)) }) s.action.role_rows (index_of role s.action.roles) no_role (λ row k. k) h.1)
-  says_programs s (form.AbortTest role t v x) w h = (h.0, all_change role_fits (λ (row : RoleRow). record row { abort = abort.Where t v (index_of x (outer s)) }) s.action.role_rows (index_of role s.action.roles) no_role (λ row k. k) h.1)
-  says_programs s (form.Body role) w h = (omega arith, h.1)
-  says_programs s (form.Handler role x) w h = (omega arith, h.1)
-  says_programs s (form.ReadStep object) w h = (few_more most_steps s.action.steps _ w, h.1)
-  says_programs s (form.PutStep object v) w h = (few_more most_steps s.action.steps _ w, h.1)
-  says_programs s (form.AddStep object v) w h = (few_more most_steps s.action.steps _ w, h.1)
-  says_programs s (form.WorkStep k) w h = (few_more most_steps s.action.steps _ w, h.1)
-  says_programs s (form.CheckStep t v x) w h = (few_more most_steps s.action.steps _ w, h.1)
-  says_programs s (form.RaiseStep x) w h = (few_more most_steps s.action.steps _ w, h.1)
-  says_programs s (form.EnterStep n) w h = (few_more most_steps s.action.steps _ w, h.1)
-  says_programs s form.End w h = (omega arith, refl)
-  says_programs s form.DoneLine w h = closed_programs s _ s.action.opening h
-  says_programs s (form.SignalLine x) w h = closed_programs s _ s.action.opening h
-  says_programs s form.UndoLine w h = closed_programs s _ s.action.opening h
-  says_programs s f w h = h
-
--- ---- as many role rows as roles
-
-abbrev pub AreRoles : SoFar → Type 0
-AreRoles s = (length s.action.role_rows ≤ most_roles) × (is_in_action s.block ≡ true → length s.action.role_rows ≡ length s.action.roles)
-
-pub closed_roles : (s : SoFar) (v : Verdict) (o : Option Opening) → AreRoles s → AreRoles (record s { action = closed_if s.action o v })
-closed_roles s v None h = h
-closed_roles s v (Some o) h = (rw length-set h.0, λ e. rw length-set (h.1 e))
-
-module _ (names : List (List ℕ)) where
-  pub says_roles : (s : SoFar) (f : Form) → is_past_limit s f ≡ false → AreRoles s → AreRoles (with_said names s f)
-  says_roles s (form.Graph name) w h = (h.0, λ e. absurd (false≢true e))
-  says_roles s (form.Action name) w h = (omega arith, λ e. refl)
-  says_roles s (form.Roles roles) w h = (rw length-map (ltb-false most_roles (length roles) w), λ e. rw length-map refl)
-  says_roles s (form.Abort role x) w h = (rw length-set h.0, λ e. rw length-set (h.1 e))
-  says_roles s (form.AbortTest role t v x) w h = (rw length-set h.0, λ e. rw length-set (h.1 e))
-  says_roles s form.End w h = (omega arith, λ e. absurd (false≢true e))
-  says_roles s form.DoneLine w h = closed_roles s _ s.action.opening h
-  says_roles s (form.SignalLine x) w h = closed_roles s _ s.action.opening h
-  says_roles s form.UndoLine w h = closed_roles s _ s.action.opening h
-  says_roles s f w h = h
-
--- ---- nested uses
-
-abbrev pub NestsFit : SoFar → Type 0
-NestsFit s = (length s.action.nest_rows ≤ length s.action.nests) × (length s.action.nests ≤ most_nests) × (list_all nest_fits s.action.nest_rows ≡ true)
-
-pub closed_nests : (s : SoFar) (v : Verdict) (o : Option Opening) → NestsFit s → NestsFit (record s { action = closed_if s.action o v })
-closed_nests s v None h = h
-closed_nests s v (Some o) h = h
+closed_fits : (a : OpenAction) (v : Verdict) (o : Option OpenProgram) → a.program ≡ o → ActionFits a → ActionFits (closed_if a o v)
+closed_fits a v None e h = h
+closed_fits a v (Some p) e h =
+    let program : Program = record { steps = p.steps; verdict = v } in
+    let few : length p.steps ≤ most_steps = subst (λ (o : Option OpenProgram). length (steps_of o) ≤ most_steps) e h.steps in
+    record {
+      steps = omega arith;
+      roles = all_change role_fits (λ (row : RoleRow). with_program row p.exception program) a.role_rows p.role no_role (program_added p.exception program (le-leb _ _ few)) h.roles;
+      few_roles = rw length-set h.few_roles;
+      all_roles = rw length-set h.all_roles;
+      nests = h.nests;
+      few_nests = h.few_nests;
+    }
 
 -- one action more
 more_alternates : (actions : List ℕ) (a : ℕ) → nat_le most_alternates (length actions) ≡ false → (not (is_empty (actions ++ a ∷ [])) && nat_le (length (actions ++ a ∷ [])) most_alternates) ≡ true
 more_alternates [] a w = refl
 more_alternates (b ∷ actions) a w = le-leb _ _ (few_more most_alternates (b ∷ actions) a w)
 
-module _ (names : List (List ℕ)) where
-  -- a use that changes and still fits
-  nest_changed : (s : SoFar) (nest : ℕ) (row : NestRow) → NestsFit s → (nest_fits (nest_of s nest) ≡ true → nest_fits row ≡ true) → NestsFit (with_nest s nest row)
-  nest_changed s nest row h keeps = (rw length-set h.0, h.1, all_set nest_fits s.action.nest_rows (index_of nest s.action.nests) no_nest row keeps h.2)
+-- one step more
+more_steps : (o : Option OpenProgram) (x : Step) → nat_le most_steps (length (steps_of o)) ≡ false → length (steps_of (with_step o (Some x))) ≤ most_steps
+more_steps None x w = omega arith
+more_steps (Some p) x w = few_more most_steps p.steps x w
 
-  pub says_nests : (s : SoFar) (f : Form) → is_past_limit s f ≡ false → NestsFit s → NestsFit (with_said names s f)
-  says_nests s (form.Action name) w h = (omega arith, omega arith, refl)
-  says_nests s (form.Nest nest action roles) w h =
-      let row = plain_nest (name_at names nest) (index_of action s.action_names) (map (λ r. index_of r s.action.roles) roles) (length (exceptions_at s.graphs (action_of s action).interface)) in
-      let m : length (s.action.nest_rows ++ row ∷ []) ≡ length s.action.nest_rows + 1 = length-append s.action.nest_rows (row ∷ []) in
-      let n : length (s.action.nests ++ nest ∷ []) ≡ length s.action.nests + 1 = length-append s.action.nests (nest ∷ []) in
-      (omega (arith, h.0), few_more most_nests s.action.nests nest w, all_push nest_fits s.action.nest_rows row h.2 refl)
-  says_nests s (form.Map nest lower upper) w h = nest_changed s nest _ h (λ k. k)
-  says_nests s (form.MapUndo nest x) w h = nest_changed s nest _ h (λ k. k)
-  says_nests s (form.MapFailure nest x) w h = nest_changed s nest _ h (λ k. k)
-  says_nests s (form.Alternate nest action) w h = nest_changed s nest _ h (λ k. more_alternates (nest_of s nest).actions (index_of action s.action_names) w)
-  says_nests s form.End w h = (omega arith, omega arith, refl)
-  says_nests s form.DoneLine w h = closed_nests s _ s.action.opening h
-  says_nests s (form.SignalLine x) w h = closed_nests s _ s.action.opening h
-  says_nests s form.UndoLine w h = closed_nests s _ s.action.opening h
-  says_nests s f w h = h
+module _ (names : List (List ℕ)) (d : Declared) (a : OpenAction) (h : ActionFits a) where
+  begun : (p : OpenProgram) (bodies : List ℕ) → p.steps ≡ [] → ActionFits (record a { bodies = bodies; program = Some p })
+  begun p bodies e = record { steps = rw e (omega arith); roles = h.roles; few_roles = h.few_roles; all_roles = h.all_roles; nests = h.nests; few_nests = h.few_nests }
+
+  stepped : (x : Step) → nat_le most_steps (length (steps_of a.program)) ≡ false → ActionFits (record a { program = with_step a.program (Some x) })
+  stepped x w = record { steps = more_steps a.program x w; roles = h.roles; few_roles = h.few_roles; all_roles = h.all_roles; nests = h.nests; few_nests = h.few_nests }
+
+  aborted : (role : ℕ) (row : AbortRow) → ActionFits (with_abort a role row)
+  aborted role row = record {
+    steps = h.steps;
+    roles = all_change role_fits (λ (r : RoleRow). record r { abort = row }) a.role_rows (index_of role a.roles) no_role (λ r k. k) h.roles;
+    few_roles = rw length-set h.few_roles;
+    all_roles = rw length-set h.all_roles;
+    nests = h.nests;
+    few_nests = h.few_nests;
+  }
+
+  -- a use that changes and still fits
+  nest_changed : (name : ℕ) (nest : OpenNest) → (nest_fits (nest_of a name).row ≡ true → nest_fits nest.row ≡ true) → ActionFits (with_nest a name nest)
+  nest_changed name nest keeps = record {
+    steps = h.steps;
+    roles = h.roles;
+    few_roles = h.few_roles;
+    all_roles = h.all_roles;
+    nests = all_set (λ (nest : OpenNest). nest_fits nest.row) a.nests (index_of name a.nest_names) (begun_nest no_nest) nest keeps h.nests;
+    few_nests = rw length-set h.few_nests;
+  }
+
+  says_fits : (f : Form) → past_limit_in_action d a f ≡ false → ActionFits (action_with names d a f)
+  says_fits (form.Internal graph) w = record { steps = h.steps; roles = h.roles; few_roles = h.few_roles; all_roles = h.all_roles; nests = h.nests; few_nests = h.few_nests }
+  says_fits (form.Interface graph) w = record { steps = h.steps; roles = h.roles; few_roles = h.few_roles; all_roles = h.all_roles; nests = h.nests; few_nests = h.few_nests }
+  says_fits (form.Fault x) w = record { steps = h.steps; roles = h.roles; few_roles = h.few_roles; all_roles = h.all_roles; nests = h.nests; few_nests = h.few_nests }
+  says_fits (form.Uses objects) w = record { steps = h.steps; roles = h.roles; few_roles = h.few_roles; all_roles = h.all_roles; nests = h.nests; few_nests = h.few_nests }
+  says_fits (form.Roles roles) w = record {
+    steps = h.steps;
+    roles = all_mapped role_fits (idle_role names) roles (λ name. refl);
+    few_roles = rw length-map (ltb-false most_roles (length roles) w);
+    all_roles = rw length-map refl;
+    nests = h.nests;
+    few_nests = h.few_nests;
+  }
+  says_fits (form.Nest nest action roles) w = record {
+    steps = h.steps;
+    roles = h.roles;
+    few_roles = h.few_roles;
+    all_roles = h.all_roles;
+    nests = all_push (λ (nest : OpenNest). nest_fits nest.row) a.nests _ h.nests refl;
+    few_nests = few_more most_nests a.nests _ w;
+  }
+  says_fits (form.Map nest lower upper) w = nest_changed nest _ (λ k. k)
+  says_fits (form.MapUndo nest x) w = nest_changed nest _ (λ k. k)
+  says_fits (form.MapFailure nest x) w = nest_changed nest _ (λ k. k)
+  says_fits (form.Alternate nest action) w = nest_changed nest _ (λ k. more_alternates (nest_of a nest).row.actions (index_of action d.action_names) w)
+  says_fits (form.Abort role x) w = aborted role _
+  says_fits (form.AbortTest role t v x) w = aborted role _
+  says_fits (form.Body role) w = begun _ _ refl
+  says_fits (form.Handler role x) w = begun _ a.bodies refl
+  says_fits (form.ReadStep object) w = stepped _ w
+  says_fits (form.PutStep object v) w = stepped _ w
+  says_fits (form.AddStep object v) w = stepped _ w
+  says_fits (form.WorkStep k) w = stepped _ w
+  says_fits (form.CheckStep t v x) w = stepped _ w
+  says_fits (form.RaiseStep x) w = stepped _ w
+  says_fits (form.EnterStep n) w = stepped _ w
+  says_fits form.DoneLine w = closed_fits a _ a.program refl h
+  says_fits (form.SignalLine x) w = closed_fits a _ a.program refl h
+  says_fits form.UndoLine w = closed_fits a _ a.program refl h
+  says_fits f w = h
 
 -- ---- actions that have ended
 
-pub record ActionsFit (s : SoFar) : Type 0 where
-  pub programs : ProgramsFit s
-  pub roles : AreRoles s
-  pub nests : NestsFit s
-  pub actions : list_all action_fits s.actions ≡ true
+abbrev pub FitsIn : Block → Type 0
+FitsIn (block.Action a) = ActionFits a
+FitsIn b = Unit {0}
 
--- the action that a line ends has a role
-has_roles : (s : SoFar) (f : Form) → ends_action s f ≡ true → is_unfilled s f ≡ false → (is_in_action s.block ≡ true) × (is_empty s.action.roles ≡ false)
-has_roles s form.End e u = (e, by_block (is_in_action s.block) e u)
-  where
-    by_block : (b : Bool) → b ≡ true → (b && is_empty s.action.roles) ≡ false → is_empty s.action.roles ≡ false
-    by_block true e u = u
-    by_block false e u = absurd (false≢true e)
-has_roles s f e u = absurd (false≢true e)
+abbrev pub ActionsFit : Declared → Block → Type 0
+ActionsFit d b = (list_all action_fits d.actions ≡ true) × FitsIn b
 
-end_fits : (names : List (List ℕ)) (s : SoFar) → ActionsFit s → is_in_action s.block ≡ true → is_empty s.action.roles ≡ false → action_fits (action_row names s) ≡ true
-end_fits names s h e u =
-    let some : is_empty s.action.role_rows ≡ false = as_filled s.action.role_rows s.action.roles (h.roles.1 e) u in
-    let few : length s.action.nest_rows ≤ most_nests = omega (arith, h.nests.0, h.nests.1) in
-    rw (some, le-leb (length s.action.role_rows) most_roles h.roles.0, le-leb (length s.action.nest_rows) most_nests few, h.programs.1, h.nests.2) refl
+rows_many : (nests : List OpenNest) → length (nest_rows nests) ≡ length nests
+rows_many nests = length-map nests (λ (nest : OpenNest). nest.row)
 
-pub fits_kept : (names : List (List ℕ)) → IsKept names (λ at s. ActionsFit s)
+module _ (names : List (List ℕ)) (d : Declared) where
+  end_fits : (a : OpenAction) → ActionFits a → is_empty a.roles ≡ false → action_fits (row_of names a) ≡ true
+  end_fits a h u =
+      let some : is_empty a.role_rows ≡ false = as_filled a.role_rows a.roles h.all_roles u in
+      let few : length (nest_rows a.nests) ≤ most_nests = omega (arith, h.few_nests, rows_many a.nests) in
+      rw (some, le-leb (length a.role_rows) most_roles h.few_roles, le-leb (length (nest_rows a.nests)) most_nests few, h.roles, all_rows nest_fits a.nests h.nests) refl
+
+  begins_fit : (f : Form) → ActionsFit d block.Top → ActionsFit (declared_with names d f) (block_begun d f)
+  begins_fit (form.Action name) h = (h.0, record { steps = omega arith; roles = refl; few_roles = omega arith; all_roles = refl; nests = refl; few_nests = omega arith })
+  begins_fit f h = h
+
+  ends_fit : (b : Block) → HasNone (record { declared = d; block = b }) form.End → ActionsFit d b → ActionsFit (ended names d b) block.Top
+  ends_fit (block.Action a) none h = (all_push action_fits d.actions (row_of names a) h.0 (end_fits a h.1 (filled d a form.End none)), tt)
+  ends_fit block.Top none h = h
+  ends_fit (block.Graph g) none h = h
+
+pub fits_kept : (names : List (List ℕ)) → IsKept names ActionsFit
 fits_kept names = record {
-  settles = λ at s h. record {
-    programs = closed_programs s verdict.Done s.action.opening h.programs;
-    roles = closed_roles s verdict.Done s.action.opening h.roles;
-    nests = closed_nests s verdict.Done s.action.opening h.nests;
-    actions = h.actions;
-  };
-  says = λ at s f stands sound none shut h. record {
-    programs = says_programs names s f (within s f none) h.programs;
-    roles = says_roles names s f (within s f none) h.roles;
-    nests = says_nests names s f (within s f none) h.nests;
-    actions = said_actions names s f action_fits h.actions (λ e. let r = has_roles s f e (filled s f none) in end_fits names s h r.0 r.1);
-  };
+  at_top = λ d f sound none h. begins_fit names d f h;
+  in_graph = λ d g f sound none h. h;
+  in_action = λ d a f sound none shut h. (h.0, says_fits names d a h.1 f (within d a f none));
+  closes = λ d a h. (h.0, closed_fits a verdict.Done a.program refl h.1);
+  ends = λ d b none h. ends_fit names d b none h;
 }

@@ -11,17 +11,17 @@ use Rattle.place_plan.specs.declared.drafts.draft.Draft.{Draft}
 use Rattle.place_plan.specs.Drafts.DraftRules.{all_below, all_differ, play_in_range, fills}
 use Rattle.action_script.specs.declared.forms.form.Form.{Form}
 use Rattle.action_script.specs.declared.forms.form.Form.TheVariants as form
-use Rattle.script_checker.specs.declared.parts.Block.{Block}
-use Rattle.script_checker.specs.declared.parts.Block.TheVariants as block
+use Rattle.script_checker.specs.declared.declared.Declared.{Declared}
+use Rattle.script_checker.specs.declared.declared.Block.{Block}
+use Rattle.script_checker.specs.declared.declared.Block.TheVariants as block
 use Rattle.script_checker.specs.Numbers.{is_among}
-use Rattle.script_checker.specs.DeclaredSoFar.{SoFar, action_of}
-use Rattle.script_checker.specs.Causes.{is_action, is_unknown, is_unfilled, fills_twice}
-use Rattle.script_checker.specs.After.{ended, with_said, action_row, play_row}
-use Rattle.script_checker.specs.Compiled.{HasNone}
+use Rattle.script_checker.specs.DeclaredSoFar.{action_of}
+use Rattle.script_checker.specs.AtTop.{is_action, unknown_at_top, unfilled_at_top, filled_twice_at_top, play_row, declared_with}
+use Rattle.script_checker.specs.InAction.{row_of}
+use Rattle.script_checker.specs.After.{ended}
 use Rattle.caa_base.proofs.ListLemmas.{all_imply}
-use Rattle.script_checker.proofs.Choosing.{known}
-use Rattle.script_checker.proofs.Accepted.{IsKept, filled, differing}
-use Rattle.script_checker.proofs.ActionsGrow.{all_push}
+use Rattle.script_checker.proofs.Accepted.{IsKept, NoneAtTop, known_at_top, filled_at_top, differing_at_top}
+use Rattle.script_checker.proofs.ListsChange.{all_push}
 use Rattle.script_checker.proofs.NestTests.{neither, eqb_turn, differ_mapped, below_more, one_longer, same_action, numbers_below}
 
 -- by so many participants, and these actions
@@ -29,8 +29,8 @@ abbrev pub play_right : ℕ → List ActionRow → PlayRow → Bool
 play_right participants actions play =
     nat_lt play.action (length actions) && (all_below participants play.who && ((length play.who == length (slice_index_or actions play.action no_action).roles) && all_differ play.who))
 
-abbrev pub PlaysRight : SoFar → Type 0
-PlaysRight s = list_all (play_right (length s.participants) s.actions) s.plays ≡ true
+abbrev pub PlaysRight : Declared → Block → Type 0
+PlaysRight d b = list_all (play_right (length d.participants) d.actions) d.plays ≡ true
 
 -- one participant more, or one action more
 more_participants : (m n : ℕ) (actions : List ActionRow) → m < n → (play : PlayRow) → play_right m actions play ≡ true → play_right n actions play ≡ true
@@ -47,34 +47,39 @@ more_actions n actions action play h =
     let longer = one_longer actions action in
     rw (same_action actions action play.action low) (and_from _ _ (lt-ltb play.action _ (omega arith)) p.1)
 
-module _ (names : List (List ℕ)) where
-  ended_plays : (s : SoFar) (b : Block) → PlaysRight s → PlaysRight (ended names s b)
-  ended_plays s block.Top h = h
-  ended_plays s block.Graph h = h
-  ended_plays s block.Action h = all_imply (play_right (length s.participants) s.actions) (play_right (length s.participants) (s.actions ++ action_row names s ∷ [])) s.plays (more_actions (length s.participants) s.actions (action_row names s)) h
-
+module _ (names : List (List ℕ)) (d : Declared) where
   -- one play more, whatever its sizes are
-  pub said_play : (s : SoFar) (action : ℕ) (who : List ℕ) → is_unknown s (form.Play action who) ≡ false → is_unfilled s (form.Play action who) ≡ false → fills_twice (form.Play action who) ≡ false → play_right (length s.participants) s.actions (play_row s action who) ≡ true
-  said_play s action who here full apart =
-      let k = neither (is_action s action) (list_all (is_among s.participants) who) here in
-      let d : all_differ (map (λ p. index_of p s.participants) who) ≡ true = differ_mapped s.participants who (not-false _ apart) k.1 in
-      let f : (length (map (λ p. index_of p s.participants) who) == length (action_of s action).roles) ≡ true =
-      rw length-map (eqb_turn (length (action_of s action).roles) (length who) (not-false _ full)) in
-      let b : all_below (length s.participants) (map (λ p. index_of p s.participants) who) ≡ true = numbers_below s.participants who (length s.participants) k.1 (omega arith) in
-      and_from _ _ k.0 (and_from _ _ b (and_from _ _ f d))
+  pub said_play : (action : ℕ) (who : List ℕ) → unknown_at_top d (form.Play action who) ≡ false → unfilled_at_top d (form.Play action who) ≡ false → filled_twice_at_top (form.Play action who) ≡ false → play_right (length d.participants) d.actions (play_row d action who) ≡ true
+  said_play action who here full apart =
+      let k = neither (is_action d action) (list_all (is_among d.participants) who) here in
+      let different : all_differ (map (λ p. index_of p d.participants) who) ≡ true = differ_mapped d.participants who (not-false _ apart) k.1 in
+      let f : (length (map (λ p. index_of p d.participants) who) == length (action_of d action).roles) ≡ true =
+      rw length-map (eqb_turn (length (action_of d action).roles) (length who) (not-false _ full)) in
+      let b : all_below (length d.participants) (map (λ p. index_of p d.participants) who) ≡ true = numbers_below d.participants who (length d.participants) k.1 (omega arith) in
+      and_from _ _ k.0 (and_from _ _ b (and_from _ _ f different))
 
-  says_plays : (s : SoFar) (f : Form) → HasNone s f → PlaysRight s → PlaysRight (with_said names s f)
-  says_plays s (form.Participant name) none h =
-      let n : length (s.participants ++ name ∷ []) ≡ length s.participants + 1 = length-append s.participants (name ∷ []) in
-      all_imply (play_right (length s.participants) s.actions) (play_right (length (s.participants ++ name ∷ [])) s.actions) s.plays (more_participants (length s.participants) _ s.actions (omega arith)) h
-  says_plays s (form.Play action who) none h = all_push (play_right (length s.participants) s.actions) s.plays _ h (said_play s action who (known s (form.Play action who) none) (filled s (form.Play action who) none) (differing s (form.Play action who) none))
-  says_plays s form.End none h = ended_plays s s.block h
-  says_plays s f none h = h
+  says_plays : (f : Form) → NoneAtTop d f → PlaysRight d block.Top → PlaysRight (declared_with names d f) block.Top
+  says_plays (form.Participant name) none h =
+      let n : length (d.participants ++ name ∷ []) ≡ length d.participants + 1 = length-append d.participants (name ∷ []) in
+      all_imply (play_right (length d.participants) d.actions) (play_right (length (d.participants ++ name ∷ [])) d.actions) d.plays (more_participants (length d.participants) _ d.actions (omega arith)) h
+  says_plays (form.Play action who) none h =
+      all_push (play_right (length d.participants) d.actions) d.plays _ h
+      (said_play action who (known_at_top d (form.Play action who) none) (filled_at_top d (form.Play action who) none) (differing_at_top d (form.Play action who) none))
+  says_plays f none h = h
 
-pub plays_kept : (names : List (List ℕ)) → IsKept names (λ at s. PlaysRight s)
+  ends_plays : (b : Block) → PlaysRight d b → PlaysRight (ended names d b) block.Top
+  ends_plays (block.Action a) h =
+      all_imply (play_right (length d.participants) d.actions) (play_right (length d.participants) (d.actions ++ row_of names a ∷ [])) d.plays (more_actions (length d.participants) d.actions (row_of names a)) h
+  ends_plays block.Top h = h
+  ends_plays (block.Graph g) h = h
+
+pub plays_kept : (names : List (List ℕ)) → IsKept names PlaysRight
 plays_kept names = record {
-  settles = λ at s h. h;
-  says = λ at s f stands sound none shut h. says_plays names s f none h;
+  at_top = λ d f sound none h. says_plays names d f none h;
+  in_graph = λ d g f sound none h. h;
+  in_action = λ d a f sound none shut h. h;
+  closes = λ d a h. h;
+  ends = λ d b none h. ends_plays names d b h;
 }
 
 -- ---- the plays of a draft

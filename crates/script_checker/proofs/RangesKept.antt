@@ -1,5 +1,5 @@
 -- The numbers in what an accepted script declares are in range, however much is declared later.
-use Rattle.std.proofs.Common.{◌≡◌, ℕ, suc, zero, ◌+◌, ◌<◌, ◌≤◌, nat_lt, Bool, true, false, not, ◌&&◌, is_some, List, [], ◌∷◌, ◌++◌, length, replicate, slice_set, Option, Some, None, unwrap_or, refl, sym, arith, length-append}
+use Rattle.std.proofs.Common.{subst, ◌≡◌, ℕ, suc, zero, ◌+◌, ◌<◌, ◌≤◌, nat_lt, Bool, true, false, not, ◌&&◌, is_some, List, [], ◌∷◌, ◌++◌, length, replicate, slice_set, Option, Some, None, unwrap_or, refl, sym, arith, length-append}
 use Rattle.std.specs.List.{list_all}
 use Rattle.std.proofs.lemmas.Bool.{and_parts, false≢true, lt-ltb, eqb-true, and_from, not-false, or_parts}
 use Rattle.caa_base.specs.Written.Lists.{member, index_of, is_empty}
@@ -20,31 +20,27 @@ use Rattle.place_plan.specs.Plans.Places.{no_role, no_nest}
 use Rattle.place_plan.specs.Drafts.DraftRules.{is_rising, all_below, all_differ, step_in_range, verdict_in_range, abort_in_range, program_in_range, handler_in_range, role_in_range, nest_in_range}
 use Rattle.action_script.specs.declared.forms.form.Form.{Form}
 use Rattle.action_script.specs.declared.forms.form.Form.TheVariants as form
-use Rattle.action_script.specs.declared.lines.kind.Section.{Section}
-use Rattle.action_script.specs.declared.lines.kind.Section.TheVariants as section
-use Rattle.action_script.specs.Lines.Kinds.{goes_to}
-use Rattle.action_script.specs.Forms.LineForms.{kind_of}
 use Rattle.action_script.specs.Forms.Printing.{is_sound}
-use Rattle.script_checker.specs.declared.parts.Block.{Block}
-use Rattle.script_checker.specs.declared.parts.Block.TheVariants as block
-use Rattle.script_checker.specs.declared.parts.DeclaredGraph.{DeclaredGraph}
-use Rattle.script_checker.specs.declared.parts.Opening.{Opening}
+use Rattle.script_checker.specs.declared.declared.Declared.{Declared}
+use Rattle.script_checker.specs.declared.declared.Block.{Block}
+use Rattle.script_checker.specs.declared.declared.Block.TheVariants as block
+use Rattle.script_checker.specs.declared.open_graph.DeclaredGraph.{DeclaredGraph}
+use Rattle.script_checker.specs.declared.open_action.OpenAction.{OpenAction}
+use Rattle.script_checker.specs.declared.open_action.OpenNest.{OpenNest}
+use Rattle.script_checker.specs.declared.open_action.OpenProgram.{OpenProgram}
 use Rattle.script_checker.specs.Numbers.{is_among, chosen_from}
-use Rattle.script_checker.specs.Blocks.{is_in_action}
-use Rattle.script_checker.specs.DeclaredSoFar.{SoFar, nothing_yet, graph_number, internal_graph, interface_graph, inner, outer, exceptions_at, nest_of, face}
-use Rattle.script_checker.specs.Causes.{is_action}
-use Rattle.script_checker.specs.After.{closed_if, closed, graphs_with, ended, with_said, with_program, idle_role, with_abort, with_nest, action_row}
-use Rattle.script_checker.specs.Compiled.{HasNone}
+use Rattle.script_checker.specs.DeclaredSoFar.{nothing_declared, begun_nest, graph_number, inner, outer, exceptions_at, nest_of, face}
+use Rattle.script_checker.specs.AtTop.{is_action, declared_with, block_begun}
+use Rattle.script_checker.specs.InAction.{closed_if, steps_of, with_step, begun_program, with_program, idle_role, with_abort, with_nest, action_with, row_of}
+use Rattle.script_checker.specs.After.{ended}
 use Rattle.caa_base.proofs.ListLemmas.{empty_is}
-use Rattle.script_checker.proofs.Choosing.{known, within}
-use Rattle.script_checker.proofs.Accepted.{IsKept, once}
-use Rattle.script_checker.proofs.ActionsGrow.{all_push}
-use Rattle.script_checker.proofs.ListsChange.{all_change, all_set, all_mapped}
+use Rattle.script_checker.proofs.Accepted.{IsKept, NoneAtTop, NoneInAction, known_at_top, known, once}
+use Rattle.script_checker.proofs.ListsChange.{all_push, all_change, all_set, all_mapped, all_rows}
 use Rattle.script_checker.proofs.ChosenNumbers.{either, rises}
 use Rattle.script_checker.proofs.NestTests.{neither, still_below, numbers_below}
 use Rattle.script_checker.proofs.GraphsKept.{first_alone}
-use Rattle.script_checker.proofs.GraphsThere.{has_exception, some_exception, GraphsThere, closed_there, says_there}
-use Rattle.script_checker.proofs.PartsFit.{AreRoles, closed_roles, says_roles}
+use Rattle.script_checker.proofs.GraphsThere.{has_exception, some_exception, named_there, GraphsThere, there_kept, there_at_first}
+use Rattle.script_checker.proofs.PartsFit.{ActionsFit, fits_kept}
 use Rattle.script_checker.proofs.ValuesSaid.{value_first, value_second, rounds_alone, parts_sound}
 
 -- ---- numbers below a count
@@ -72,7 +68,7 @@ pub record Counts : Type 0 where
   pub internal : ℕ
   pub interface : ℕ
 
--- the counts are no less than these
+-- the counts are no less than what is declared
 pub record AreEnough (c : Counts) (objects : List ℕ) (actions : List ActionRow) (roles inner outer : List ℕ) : Type 0 where
   pub of_objects : length objects ≤ c.objects
   pub of_actions : length actions ≤ c.actions
@@ -85,28 +81,28 @@ abbrev handled_in_range : ℕ → Option ℕ → Bool
 handled_in_range internal None = true
 handled_in_range internal (Some x) = nat_lt x internal
 
-abbrev opening_in_range : ℕ → Option Opening → Bool
+abbrev opening_in_range : ℕ → Option OpenProgram → Bool
 opening_in_range internal None = true
-opening_in_range internal (Some o) = handled_in_range internal o.exception
+opening_in_range internal (Some p) = handled_in_range internal p.exception
 
 -- all of its numbers are in range
-pub record ArePartsRight (c : Counts) (steps : List Step) (opening : Option Opening) (uses : List ℕ) (fault : Option ℕ) (roles : List RoleRow) (nests : List NestRow) : Type 0 where
+pub record ArePartsRight (c : Counts) (steps : List Step) (program : Option OpenProgram) (uses : List ℕ) (fault : Option ℕ) (roles : List RoleRow) (nests : List OpenNest) : Type 0 where
   pub steps_right : list_all (step_in_range c.objects c.internal) steps ≡ true
-  pub opening_right : opening_in_range c.internal opening ≡ true
+  pub opening_right : opening_in_range c.internal program ≡ true
   pub uses_rise : is_rising uses ≡ true
   pub uses_right : all_below c.objects uses ≡ true
   pub fault_right : nat_lt (unwrap_or fault 0) c.internal ≡ true
   pub roles_right : list_all (role_in_range c.objects c.internal c.interface) roles ≡ true
-  pub nests_right : list_all (nest_in_range c.actions c.roles c.internal) nests ≡ true
+  pub nests_right : list_all (λ (nest : OpenNest). nest_in_range c.actions c.roles c.internal nest.row) nests ≡ true
 
-abbrev PartsRight : Counts → SoFar → Type 0
-PartsRight c s = ArePartsRight c s.action.steps s.action.opening s.action.uses s.action.fault s.action.role_rows s.action.nest_rows
+abbrev PartsRight : Counts → OpenAction → Type 0
+PartsRight c a = ArePartsRight c (steps_of a.program) a.program a.uses a.fault a.role_rows a.nests
 
-abbrev Enough : Counts → SoFar → Type 0
-Enough c s = AreEnough c s.objects s.actions s.action.roles (inner s) (outer s)
+abbrev Enough : Counts → Declared → OpenAction → Type 0
+Enough c d a = AreEnough c d.objects d.actions a.roles (inner d a) (outer d a)
 
-abbrev pub OpenRight : SoFar → Type 0
-OpenRight s = (c : Counts) → Enough c s → PartsRight c s
+abbrev OpenRight : Declared → OpenAction → Type 0
+OpenRight d a = (c : Counts) → Enough c d a → PartsRight c a
 
 -- ---- programs
 
@@ -117,30 +113,31 @@ program_right c (Some x) program e p row h =
     let more = and_parts (list_all (handler_in_range c.objects c.internal c.interface) row.handlers) (abort_in_range c.interface row.abort) parts.1 in
     and_from _ _ parts.0 (and_from _ _ (all_push (handler_in_range c.objects c.internal c.interface) row.handlers (record { exception = x; program = program }) more.0 (and_from _ _ e p)) more.1)
 
-closed_parts : (c : Counts) (s : SoFar) (v : Verdict) (o : Option Opening) → s.action.opening ≡ o → verdict_in_range c.interface v ≡ true → PartsRight c s → PartsRight c (record s { action = closed_if s.action o v })
-closed_parts c s v None e w h = h
-closed_parts c s v (Some o) e w h =
-    let program : Program = record { steps = s.action.steps; verdict = v } in
-    let handled : handled_in_range c.internal o.exception ≡ true = rw e at h.opening_right in
+closed_parts : (c : Counts) (a : OpenAction) (v : Verdict) (o : Option OpenProgram) → a.program ≡ o → verdict_in_range c.interface v ≡ true → PartsRight c a → PartsRight c (closed_if a o v)
+closed_parts c a v None e w k = k
+closed_parts c a v (Some p) e w k =
+    let program : Program = record { steps = p.steps; verdict = v } in
+    let handled : handled_in_range c.internal p.exception ≡ true = subst (λ (o : Option OpenProgram). opening_in_range c.internal o ≡ true) e k.opening_right in
+    let steps : list_all (step_in_range c.objects c.internal) p.steps ≡ true = subst (λ (o : Option OpenProgram). list_all (step_in_range c.objects c.internal) (steps_of o) ≡ true) e k.steps_right in
     record {
       steps_right = refl;
       opening_right = refl;
-      uses_rise = h.uses_rise;
-      uses_right = h.uses_right;
-      fault_right = h.fault_right;
-      roles_right = all_change (role_in_range c.objects c.internal c.interface) (λ (row : RoleRow). with_program row o.exception program) s.action.role_rows o.role no_role (program_right c o.exception program handled (and_from _ _ h.steps_right w)) h.roles_right;
-      nests_right = h.nests_right;
+      uses_rise = k.uses_rise;
+      uses_right = k.uses_right;
+      fault_right = k.fault_right;
+      roles_right = all_change (role_in_range c.objects c.internal c.interface) (λ (row : RoleRow). with_program row p.exception program) a.role_rows p.role no_role (program_right c p.exception program handled (and_from _ _ steps w)) k.roles_right;
+      nests_right = k.nests_right;
     }
 
 -- where it is closed, there is as much as before
-closed_enough : (c : Counts) (s : SoFar) (v : Verdict) (o : Option Opening) → Enough c (record s { action = closed_if s.action o v }) → Enough c s
-closed_enough c s v None b = b
-closed_enough c s v (Some o) b = b
+closed_enough : (c : Counts) (d : Declared) (a : OpenAction) (v : Verdict) (o : Option OpenProgram) → Enough c d (closed_if a o v) → Enough c d a
+closed_enough c d a v None b = b
+closed_enough c d a v (Some p) b = b
 
-pub closed_right : (s : SoFar) (v : Verdict) → ((c : Counts) → Enough c s → verdict_in_range c.interface v ≡ true) → OpenRight s → OpenRight (closed s v)
-closed_right s v w h = λ c b.
-    let k = closed_enough c s v s.action.opening b in
-    closed_parts c s v s.action.opening refl (w c k) (h c k)
+closed_right : (d : Declared) (a : OpenAction) (v : Verdict) → ((c : Counts) → Enough c d a → verdict_in_range c.interface v ≡ true) → OpenRight d a → OpenRight d (closed_if a a.program v)
+closed_right d a v w h = λ c b.
+    let k = closed_enough c d a v a.program b in
+    closed_parts c a v a.program refl (w c k) (h c k)
 
 -- ---- nested uses
 
@@ -188,65 +185,74 @@ alternated_right c row a l h =
 -- ---- lines that change a part
 
 -- one step more
-step_more : (s : SoFar) (x : Step) → ((c : Counts) → Enough c s → step_in_range c.objects c.internal x ≡ true) → OpenRight s → (c : Counts) → Enough c s → ArePartsRight c (s.action.steps ++ x ∷ []) s.action.opening s.action.uses s.action.fault s.action.role_rows s.action.nest_rows
-step_more s x right h = λ c b.
-    let k = h c b in
-    record {
-      steps_right = all_push (step_in_range c.objects c.internal) s.action.steps x k.steps_right (right c b);
-      opening_right = k.opening_right;
-      uses_rise = k.uses_rise;
-      uses_right = k.uses_right;
-      fault_right = k.fault_right;
-      roles_right = k.roles_right;
-      nests_right = k.nests_right;
-    }
+steps_more : (c : Counts) (o : Option OpenProgram) (x : Step) → step_in_range c.objects c.internal x ≡ true → list_all (step_in_range c.objects c.internal) (steps_of o) ≡ true → list_all (step_in_range c.objects c.internal) (steps_of (with_step o (Some x))) ≡ true
+steps_more c None x m h = h
+steps_more c (Some p) x m h = all_push (step_in_range c.objects c.internal) p.steps x h m
 
--- a body or a handler is begun
-opened : (s : SoFar) (o : Opening) → ((c : Counts) → Enough c s → handled_in_range c.internal o.exception ≡ true) → OpenRight s → (c : Counts) → Enough c s → ArePartsRight c [] (Some o) s.action.uses s.action.fault s.action.role_rows s.action.nest_rows
-opened s o right h = λ c b.
-    let k = h c b in
-    record {
-      steps_right = refl;
-      opening_right = right c b;
-      uses_rise = k.uses_rise;
-      uses_right = k.uses_right;
-      fault_right = k.fault_right;
-      roles_right = k.roles_right;
-      nests_right = k.nests_right;
-    }
+same_opening : (internal : ℕ) (o : Option OpenProgram) (x : Step) → opening_in_range internal o ≡ true → opening_in_range internal (with_step o (Some x)) ≡ true
+same_opening internal None x h = h
+same_opening internal (Some p) x h = h
 
--- the exceptions that a role tells outside when it is aborted
-abort_said : (s : SoFar) (role : ℕ) (row : AbortRow) → ((c : Counts) → Enough c s → abort_in_range c.interface row ≡ true) → OpenRight s → OpenRight (with_abort s role row)
-abort_said s role row right h = λ c b.
-    let k = h c b in
-    record {
-      steps_right = k.steps_right;
-      opening_right = k.opening_right;
-      uses_rise = k.uses_rise;
-      uses_right = k.uses_right;
-      fault_right = k.fault_right;
-      roles_right = all_change (role_in_range c.objects c.internal c.interface) (λ (r : RoleRow). record r { abort = row }) s.action.role_rows (index_of role s.action.roles) no_role
-          (λ r m.
-          let p = and_parts (program_in_range c.objects c.internal c.interface r.body) _ m in
-          let q = and_parts (list_all (handler_in_range c.objects c.internal c.interface) r.handlers) (abort_in_range c.interface r.abort) p.1 in
-          and_from _ _ p.0 (and_from _ _ q.0 (right c b)))
-          k.roles_right;
-      nests_right = k.nests_right;
-    }
+module _ (d : Declared) (a : OpenAction) (h : OpenRight d a) where
+  step_more : (x : Step) → ((c : Counts) → Enough c d a → step_in_range c.objects c.internal x ≡ true) → OpenRight d (record a { program = with_step a.program (Some x) })
+  step_more x right = λ c b.
+      let k = h c b in
+      record {
+        steps_right = steps_more c a.program x (right c b) k.steps_right;
+        opening_right = same_opening c.internal a.program x k.opening_right;
+        uses_rise = k.uses_rise;
+        uses_right = k.uses_right;
+        fault_right = k.fault_right;
+        roles_right = k.roles_right;
+        nests_right = k.nests_right;
+      }
 
--- a nested use changes
-nest_changes : (s : SoFar) (nest : ℕ) (row : NestRow) → ((c : Counts) → Enough c s → nest_in_range c.actions c.roles c.internal (nest_of s nest) ≡ true → nest_in_range c.actions c.roles c.internal row ≡ true) → OpenRight s → OpenRight (with_nest s nest row)
-nest_changes s nest row keeps h = λ c b.
-    let k = h c b in
-    record {
-      steps_right = k.steps_right;
-      opening_right = k.opening_right;
-      uses_rise = k.uses_rise;
-      uses_right = k.uses_right;
-      fault_right = k.fault_right;
-      roles_right = k.roles_right;
-      nests_right = all_set (nest_in_range c.actions c.roles c.internal) s.action.nest_rows (index_of nest s.action.nests) no_nest row (keeps c b) k.nests_right;
-    }
+  -- a body or a handler is begun
+  opened : (p : OpenProgram) (bodies : List ℕ) → p.steps ≡ [] → ((c : Counts) → Enough c d a → handled_in_range c.internal p.exception ≡ true) → OpenRight d (record a { bodies = bodies; program = Some p })
+  opened p bodies e right = λ c b.
+      let k = h c b in
+      record {
+        steps_right = rw e refl;
+        opening_right = right c b;
+        uses_rise = k.uses_rise;
+        uses_right = k.uses_right;
+        fault_right = k.fault_right;
+        roles_right = k.roles_right;
+        nests_right = k.nests_right;
+      }
+
+  -- the exceptions that a role tells outside when it is aborted
+  abort_said : (role : ℕ) (row : AbortRow) → ((c : Counts) → Enough c d a → abort_in_range c.interface row ≡ true) → OpenRight d (with_abort a role row)
+  abort_said role row right = λ c b.
+      let k = h c b in
+      record {
+        steps_right = k.steps_right;
+        opening_right = k.opening_right;
+        uses_rise = k.uses_rise;
+        uses_right = k.uses_right;
+        fault_right = k.fault_right;
+        roles_right = all_change (role_in_range c.objects c.internal c.interface) (λ (r : RoleRow). record r { abort = row }) a.role_rows (index_of role a.roles) no_role
+            (λ r m.
+            let p = and_parts (program_in_range c.objects c.internal c.interface r.body) _ m in
+            let q = and_parts (list_all (handler_in_range c.objects c.internal c.interface) r.handlers) (abort_in_range c.interface r.abort) p.1 in
+            and_from _ _ p.0 (and_from _ _ q.0 (right c b)))
+            k.roles_right;
+        nests_right = k.nests_right;
+      }
+
+  -- a nested use changes
+  nest_changes : (name : ℕ) (nest : OpenNest) → ((c : Counts) → Enough c d a → NestRight c (nest_of a name).row → NestRight c nest.row) → OpenRight d (with_nest a name nest)
+  nest_changes name nest keeps = λ c b.
+      let k = h c b in
+      record {
+        steps_right = k.steps_right;
+        opening_right = k.opening_right;
+        uses_rise = k.uses_rise;
+        uses_right = k.uses_right;
+        fault_right = k.fault_right;
+        roles_right = k.roles_right;
+        nests_right = all_set (λ (nest : OpenNest). nest_in_range c.actions c.roles c.internal nest.row) a.nests (index_of name a.nest_names) (begun_nest no_nest) nest (keeps c b) k.nests_right;
+      }
 
 -- ---- exceptions of graphs
 
@@ -274,50 +280,42 @@ said_graph graphs old g plain filled e l =
 
 -- ---- lines
 
-module _ (names : List (List ℕ)) where
-  says_open : (at then : Section) (s : SoFar) (f : Form) → is_sound names f ≡ true → HasNone s f → GraphsThere at s → GraphsThere then (with_said names s f) → OpenRight s → OpenRight (with_said names s f)
-  says_open at then s (form.Object name v) sound none now later h = λ c b.
-      let n : length (s.objects ++ name ∷ []) ≡ length s.objects + 1 = length-append s.objects (name ∷ []) in
-      let m : length (s.objects ++ name ∷ []) ≤ c.objects = b.of_objects in
-      h c (record { of_objects = omega arith; of_actions = b.of_actions; of_roles = b.of_roles; of_inner = b.of_inner; of_outer = b.of_outer })
-  says_open at then s (form.Action name) sound none now later h = λ c b.
-      let one = plain_one s.graphs now.plain in
-      let m : length (exceptions_at s.graphs 0) ≤ c.internal = b.of_inner in
-      record { steps_right = refl; opening_right = refl; uses_rise = refl; uses_right = refl; fault_right = lt-ltb 0 c.internal (omega arith); roles_right = refl; nests_right = refl }
-  says_open at then s (form.Internal graph) sound none now later h = λ c b.
-      let few = said_graph s.graphs s.action.internal (graph_number s graph) now.plain now.filled (once s (form.Internal graph) none) later.internal_there in
-      let m : length (exceptions_at s.graphs (graph_number s graph)) ≤ c.internal = b.of_inner in
+module _ (names : List (List ℕ)) (d : Declared) (a : OpenAction) (now : GraphsThere d (block.Action a)) (h : OpenRight d a) where
+  says_open : (f : Form) → is_sound names f ≡ true → NoneInAction d a f → OpenRight d (action_with names d a f)
+  says_open (form.Internal graph) sound none = λ c b.
+      let few = said_graph d.graphs a.internal (graph_number d graph) now.plain now.filled (once d a (form.Internal graph) none) (named_there names d a graph (not-false _ (known d a (form.Internal graph) none)) now) in
+      let m : length (exceptions_at d.graphs (graph_number d graph)) ≤ c.internal = b.of_inner in
       h c (record { of_objects = b.of_objects; of_actions = b.of_actions; of_roles = b.of_roles; of_inner = omega arith; of_outer = b.of_outer })
-  says_open at then s (form.Interface graph) sound none now later h = λ c b.
-      let few = said_graph s.graphs s.action.interface (graph_number s graph) now.plain now.filled (once s (form.Interface graph) none) later.interface_there in
-      let m : length (exceptions_at s.graphs (graph_number s graph)) ≤ c.interface = b.of_outer in
+  says_open (form.Interface graph) sound none = λ c b.
+      let few = said_graph d.graphs a.interface (graph_number d graph) now.plain now.filled (once d a (form.Interface graph) none) (named_there names d a graph (not-false _ (known d a (form.Interface graph) none)) now) in
+      let m : length (exceptions_at d.graphs (graph_number d graph)) ≤ c.interface = b.of_outer in
       h c (record { of_objects = b.of_objects; of_actions = b.of_actions; of_roles = b.of_roles; of_inner = b.of_inner; of_outer = omega arith })
-  says_open at then s (form.Fault x) sound none now later h = λ c b.
+  says_open (form.Fault x) sound none = λ c b.
       let k = h c b in
       record {
         steps_right = k.steps_right;
         opening_right = k.opening_right;
         uses_rise = k.uses_rise;
         uses_right = k.uses_right;
-        fault_right = still_below (index_of x (inner s)) (length (inner s)) c.internal (not-false _ (known s (form.Fault x) none)) b.of_inner;
+        fault_right = still_below (index_of x (inner d a)) (length (inner d a)) c.internal (not-false _ (known d a (form.Fault x) none)) b.of_inner;
         roles_right = k.roles_right;
         nests_right = k.nests_right;
       }
-  says_open at then s (form.Uses objects) sound none now later h = λ c b.
+  says_open (form.Uses objects) sound none = λ c b.
       let k = h c b in
-      let m : length s.objects ≤ c.objects = b.of_objects in
+      let m : length d.objects ≤ c.objects = b.of_objects in
       record {
         steps_right = k.steps_right;
         opening_right = k.opening_right;
-        uses_rise = rises 0 objects s.objects;
-        uses_right = chosen_below 0 c.objects objects s.objects (omega arith);
+        uses_rise = rises 0 objects d.objects;
+        uses_right = chosen_below 0 c.objects objects d.objects (omega arith);
         fault_right = k.fault_right;
         roles_right = k.roles_right;
         nests_right = k.nests_right;
       }
-  says_open at then s (form.Roles roles) sound none now later h = λ c b.
-      let e = empty_is s.action.roles (not-false _ (or_parts (not (is_empty s.action.roles)) (not (all_differ roles)) (once s (form.Roles roles) none)).0) in
-      let few : length s.action.roles ≤ c.roles = rw e (omega arith) in
+  says_open (form.Roles roles) sound none = λ c b.
+      let e = empty_is a.roles (not-false _ (or_parts (not (is_empty a.roles)) (not (all_differ roles)) (once d a (form.Roles roles) none)).0) in
+      let few : length a.roles ≤ c.roles = rw e (omega arith) in
       let k = h c (record { of_objects = b.of_objects; of_actions = b.of_actions; of_roles = few; of_inner = b.of_inner; of_outer = b.of_outer }) in
       record {
         steps_right = k.steps_right;
@@ -328,10 +326,10 @@ module _ (names : List (List ℕ)) where
         roles_right = all_mapped (role_in_range c.objects c.internal c.interface) (idle_role names) roles (λ name. refl);
         nests_right = k.nests_right;
       }
-  says_open at then s (form.Nest nest action roles) sound none now later h = λ c b.
+  says_open (form.Nest nest action roles) sound none = λ c b.
       let k = h c b in
-      let a = neither (is_action s action) (list_all (is_among s.action.roles) roles) (known s (form.Nest nest action roles) none) in
-      let some = some_exception s.graphs (internal_graph s) now.filled now.internal_there in
+      let among = neither (is_action d action) (list_all (is_among a.roles) roles) (known d a (form.Nest nest action roles) none) in
+      let some = some_exception d.graphs (unwrap_or a.internal 0) now.filled now.begun.0 in
       let one : nat_lt 0 c.internal ≡ true = lt-ltb 0 c.internal (omega (arith, b.of_inner)) in
       record {
         steps_right = k.steps_right;
@@ -340,64 +338,60 @@ module _ (names : List (List ℕ)) where
         uses_right = k.uses_right;
         fault_right = k.fault_right;
         roles_right = k.roles_right;
-        nests_right = all_push (nest_in_range c.actions c.roles c.internal) s.action.nest_rows _ k.nests_right
-            (and_from _ _ (and_from _ _ (still_below (index_of action s.action_names) (length s.actions) c.actions a.0 b.of_actions) refl)
-            (and_from _ _ (numbers_below s.action.roles roles c.roles a.1 b.of_roles) (and_from _ _ (zeros_below _ c.internal one) (and_from _ _ one one))));
+        nests_right = all_push (λ (nest : OpenNest). nest_in_range c.actions c.roles c.internal nest.row) a.nests _ k.nests_right
+            (and_from _ _ (and_from _ _ (still_below (index_of action d.action_names) (length d.actions) c.actions among.0 b.of_actions) refl)
+            (and_from _ _ (numbers_below a.roles roles c.roles among.1 b.of_roles) (and_from _ _ (zeros_below _ c.internal one) (and_from _ _ one one))));
       }
-  says_open at then s (form.Map nest lower upper) sound none now later h =
-      let a = (neither (is_among (face s nest) lower) (is_among (inner s) upper) (or_parts (not (is_among s.action.nests nest)) _ (known s (form.Map nest lower upper) none)).1).1 in
-      nest_changes s nest _ (λ c b. mapped_right c (nest_of s nest) (index_of lower (face s nest)) (index_of upper (inner s)) (still_below (index_of upper (inner s)) (length (inner s)) c.internal a b.of_inner)) h
-  says_open at then s (form.MapUndo nest x) sound none now later h =
-      let a = (neither (is_among s.action.nests nest) (is_among (inner s) x) (known s (form.MapUndo nest x) none)).1 in
-      nest_changes s nest _ (λ c b. undone_right c (nest_of s nest) (index_of x (inner s)) (still_below (index_of x (inner s)) (length (inner s)) c.internal a b.of_inner)) h
-  says_open at then s (form.MapFailure nest x) sound none now later h =
-      let a = (neither (is_among s.action.nests nest) (is_among (inner s) x) (known s (form.MapFailure nest x) none)).1 in
-      nest_changes s nest _ (λ c b. failed_right c (nest_of s nest) (index_of x (inner s)) (still_below (index_of x (inner s)) (length (inner s)) c.internal a b.of_inner)) h
-  says_open at then s (form.Alternate nest action) sound none now later h =
-      let a = (neither (is_among s.action.nests nest) (is_action s action) (known s (form.Alternate nest action) none)).1 in
-      nest_changes s nest _ (λ c b. alternated_right c (nest_of s nest) (index_of action s.action_names) (still_below (index_of action s.action_names) (length s.actions) c.actions a b.of_actions)) h
-  says_open at then s (form.Abort role x) sound none now later h =
-      let a = (neither (is_among s.action.roles role) (is_among (outer s) x) (known s (form.Abort role x) none)).1 in
-      abort_said s role (abort.Always (index_of x (outer s))) (λ c b. still_below (index_of x (outer s)) (length (outer s)) c.interface a b.of_outer) h
-  says_open at then s (form.AbortTest role t v x) sound none now later h =
-      let a = (neither (is_among s.action.roles role) (is_among (outer s) x) (known s (form.AbortTest role t v x) none)).1 in
+  says_open (form.Map nest lower upper) sound none =
+      let among = (neither (is_among (face d a nest) lower) (is_among (inner d a) upper) (or_parts (not (is_among a.nest_names nest)) _ (known d a (form.Map nest lower upper) none)).1).1 in
+      nest_changes d a h nest _ (λ c b. mapped_right c (nest_of a nest).row (index_of lower (face d a nest)) (index_of upper (inner d a)) (still_below (index_of upper (inner d a)) (length (inner d a)) c.internal among b.of_inner))
+  says_open (form.MapUndo nest x) sound none =
+      let among = (neither (is_among a.nest_names nest) (is_among (inner d a) x) (known d a (form.MapUndo nest x) none)).1 in
+      nest_changes d a h nest _ (λ c b. undone_right c (nest_of a nest).row (index_of x (inner d a)) (still_below (index_of x (inner d a)) (length (inner d a)) c.internal among b.of_inner))
+  says_open (form.MapFailure nest x) sound none =
+      let among = (neither (is_among a.nest_names nest) (is_among (inner d a) x) (known d a (form.MapFailure nest x) none)).1 in
+      nest_changes d a h nest _ (λ c b. failed_right c (nest_of a nest).row (index_of x (inner d a)) (still_below (index_of x (inner d a)) (length (inner d a)) c.internal among b.of_inner))
+  says_open (form.Alternate nest action) sound none =
+      let among = (neither (is_among a.nest_names nest) (is_action d action) (known d a (form.Alternate nest action) none)).1 in
+      nest_changes d a h nest _ (λ c b. alternated_right c (nest_of a nest).row (index_of action d.action_names) (still_below (index_of action d.action_names) (length d.actions) c.actions among b.of_actions))
+  says_open (form.Abort role x) sound none =
+      let among = (neither (is_among a.roles role) (is_among (outer d a) x) (known d a (form.Abort role x) none)).1 in
+      abort_said d a h role (abort.Always (index_of x (outer d a))) (λ c b. still_below (index_of x (outer d a)) (length (outer d a)) c.interface among b.of_outer)
+  says_open (form.AbortTest role t v x) sound none =
+      let among = (neither (is_among a.roles role) (is_among (outer d a) x) (known d a (form.AbortTest role t v x) none)).1 in
       let w = value_second _ v _ (parts_sound names (form.AbortTest role t v x) sound) in
-      abort_said s role (abort.Where t v (index_of x (outer s))) (λ c b. and_from _ _ w (still_below (index_of x (outer s)) (length (outer s)) c.interface a b.of_outer)) h
-  says_open at then s (form.Body role) sound none now later h = opened s (record { role = index_of role s.action.roles; exception = None }) (λ c b. refl) h
-  says_open at then s (form.Handler role x) sound none now later h =
-      let a = (neither (is_among s.action.roles role) (is_among (inner s) x) (known s (form.Handler role x) none)).1 in
-      opened s (record { role = index_of role s.action.roles; exception = Some (index_of x (inner s)) }) (λ c b. still_below (index_of x (inner s)) (length (inner s)) c.internal a b.of_inner) h
-  says_open at then s (form.ReadStep object) sound none now later h =
-      let a = not-false _ (known s (form.ReadStep object) none) in
-      step_more s (step.Read (index_of object s.objects)) (λ c b. still_below (index_of object s.objects) (length s.objects) c.objects a b.of_objects) h
-  says_open at then s (form.PutStep object v) sound none now later h =
-      let a = not-false _ (known s (form.PutStep object v) none) in
+      abort_said d a h role (abort.Where t v (index_of x (outer d a))) (λ c b. and_from _ _ w (still_below (index_of x (outer d a)) (length (outer d a)) c.interface among b.of_outer))
+  says_open (form.Body role) sound none = opened d a h (begun_program (index_of role a.roles) None) (a.bodies ++ index_of role a.roles ∷ []) refl (λ c b. refl)
+  says_open (form.Handler role x) sound none =
+      let among = (neither (is_among a.roles role) (is_among (inner d a) x) (known d a (form.Handler role x) none)).1 in
+      opened d a h (begun_program (index_of role a.roles) (Some (index_of x (inner d a)))) a.bodies refl (λ c b. still_below (index_of x (inner d a)) (length (inner d a)) c.internal among b.of_inner)
+  says_open (form.ReadStep object) sound none =
+      let among = not-false _ (known d a (form.ReadStep object) none) in
+      step_more d a h (step.Read (index_of object d.objects)) (λ c b. still_below (index_of object d.objects) (length d.objects) c.objects among b.of_objects)
+  says_open (form.PutStep object v) sound none =
+      let among = not-false _ (known d a (form.PutStep object v) none) in
       let w = value_second _ v _ (parts_sound names (form.PutStep object v) sound) in
-      step_more s (step.Put (index_of object s.objects) v) (λ c b. and_from _ _ (still_below (index_of object s.objects) (length s.objects) c.objects a b.of_objects) w) h
-  says_open at then s (form.AddStep object v) sound none now later h =
-      let a = not-false _ (known s (form.AddStep object v) none) in
+      step_more d a h (step.Put (index_of object d.objects) v) (λ c b. and_from _ _ (still_below (index_of object d.objects) (length d.objects) c.objects among b.of_objects) w)
+  says_open (form.AddStep object v) sound none =
+      let among = not-false _ (known d a (form.AddStep object v) none) in
       let w = value_second _ v _ (parts_sound names (form.AddStep object v) sound) in
-      step_more s (step.Add (index_of object s.objects) v) (λ c b. and_from _ _ (still_below (index_of object s.objects) (length s.objects) c.objects a b.of_objects) w) h
-  says_open at then s (form.WorkStep k) sound none now later h =
-      step_more s (step.Work k) (λ c b. rounds_alone k (parts_sound names (form.WorkStep k) sound)) h
-  says_open at then s (form.CheckStep t v x) sound none now later h =
-      let a = not-false _ (known s (form.CheckStep t v x) none) in
+      step_more d a h (step.Add (index_of object d.objects) v) (λ c b. and_from _ _ (still_below (index_of object d.objects) (length d.objects) c.objects among b.of_objects) w)
+  says_open (form.WorkStep k) sound none =
+      step_more d a h (step.Work k) (λ c b. rounds_alone k (parts_sound names (form.WorkStep k) sound))
+  says_open (form.CheckStep t v x) sound none =
+      let among = not-false _ (known d a (form.CheckStep t v x) none) in
       let w = value_first v _ (parts_sound names (form.CheckStep t v x) sound) in
-      step_more s (step.Check t v (index_of x (inner s))) (λ c b. and_from _ _ w (still_below (index_of x (inner s)) (length (inner s)) c.internal a b.of_inner)) h
-  says_open at then s (form.RaiseStep x) sound none now later h =
-      let a = not-false _ (known s (form.RaiseStep x) none) in
-      step_more s (step.Raise (index_of x (inner s))) (λ c b. still_below (index_of x (inner s)) (length (inner s)) c.internal a b.of_inner) h
-  says_open at then s (form.EnterStep nest) sound none now later h = step_more s (step.Enter (index_of nest s.action.nests)) (λ c b. refl) h
-  says_open at then s form.End sound none now later h = λ c b.
-      let one = plain_one (graphs_with s s.block) later.plain in
-      let m : length (exceptions_at (graphs_with s s.block) 0) ≤ c.internal = b.of_inner in
-      record { steps_right = refl; opening_right = refl; uses_rise = refl; uses_right = refl; fault_right = lt-ltb 0 c.internal (omega arith); roles_right = refl; nests_right = refl }
-  says_open at then s form.DoneLine sound none now later h = closed_right s verdict.Done (λ c b. refl) h
-  says_open at then s (form.SignalLine x) sound none now later h =
-      let a = not-false _ (known s (form.SignalLine x) none) in
-      closed_right s (verdict.Signal (index_of x (outer s))) (λ c b. still_below (index_of x (outer s)) (length (outer s)) c.interface a b.of_outer) h
-  says_open at then s form.UndoLine sound none now later h = closed_right s verdict.Undo (λ c b. refl) h
-  says_open at then s f sound none now later h = h
+      step_more d a h (step.Check t v (index_of x (inner d a))) (λ c b. and_from _ _ w (still_below (index_of x (inner d a)) (length (inner d a)) c.internal among b.of_inner))
+  says_open (form.RaiseStep x) sound none =
+      let among = not-false _ (known d a (form.RaiseStep x) none) in
+      step_more d a h (step.Raise (index_of x (inner d a))) (λ c b. still_below (index_of x (inner d a)) (length (inner d a)) c.internal among b.of_inner)
+  says_open (form.EnterStep nest) sound none = step_more d a h (step.Enter (index_of nest a.nest_names)) (λ c b. refl)
+  says_open form.DoneLine sound none = closed_right d a verdict.Done (λ c b. refl) h
+  says_open (form.SignalLine x) sound none =
+      let among = not-false _ (known d a (form.SignalLine x) none) in
+      closed_right d a (verdict.Signal (index_of x (outer d a))) (λ c b. still_below (index_of x (outer d a)) (length (outer d a)) c.interface among b.of_outer) h
+  says_open form.UndoLine sound none = closed_right d a verdict.Undo (λ c b. refl) h
+  says_open f sound none = h
 
 -- ---- actions that have ended
 
@@ -409,45 +403,47 @@ action_right objects actions graphs count action =
     && (list_all (role_in_range objects (count action.internal) (count action.interface)) action.roles && list_all (nest_in_range actions (length action.roles) (count action.internal)) action.nests))
 
 -- their numbers are in range, however much is declared later
-abbrev pub EndedRight : SoFar → Type 0
-EndedRight s = (objects actions graphs : ℕ) (count : ℕ → ℕ) → length s.objects ≤ objects → length s.actions ≤ actions → length s.graphs ≤ graphs → ((g : ℕ) → length (exceptions_at s.graphs g) ≤ count g) → list_all (action_right objects actions graphs count) s.actions ≡ true
+abbrev pub EndedRight : Declared → Type 0
+EndedRight d = (objects actions graphs : ℕ) (count : ℕ → ℕ) → length d.objects ≤ objects → length d.actions ≤ actions → length d.graphs ≤ graphs → ((g : ℕ) → length (exceptions_at d.graphs g) ≤ count g) → list_all (action_right objects actions graphs count) d.actions ≡ true
 
-in_action_here : (s : SoFar) → s.block ≡ block.Action → is_in_action s.block ≡ true
-in_action_here s e = rw e refl
+abbrev RightIn : Declared → Block → Type 0
+RightIn d (block.Action a) = OpenRight d a
+RightIn d b = Unit {0}
 
-module _ (names : List (List ℕ)) where
-  ended_row : (at : Section) (s : SoFar) → s.block ≡ block.Action → GraphsThere at s → AreRoles s → OpenRight s → (objects actions graphs : ℕ) (count : ℕ → ℕ) → length s.objects ≤ objects → length s.actions ≤ actions → length s.graphs ≤ graphs → ((g : ℕ) → length (exceptions_at s.graphs g) ≤ count g) → action_right objects actions graphs count (action_row names s) ≡ true
-  ended_row at s e there roles here objects actions graphs count lo la lg lc =
-      let c : Counts = record { objects = objects; actions = actions; roles = length s.action.role_rows; internal = count (internal_graph s); interface = count (interface_graph s) } in
-      let k = here c (record { of_objects = lo; of_actions = la; of_roles = omega (arith, roles.1 (in_action_here s e)); of_inner = lc (internal_graph s); of_outer = lc (interface_graph s) }) in
+module _ (names : List (List ℕ)) (d : Declared) where
+  ended_row : (a : OpenAction) → GraphsThere d (block.Action a) → length a.role_rows ≡ length a.roles → OpenRight d a → (objects actions graphs : ℕ) (count : ℕ → ℕ) → length d.objects ≤ objects → length d.actions ≤ actions → length d.graphs ≤ graphs → ((g : ℕ) → length (exceptions_at d.graphs g) ≤ count g) → action_right objects actions graphs count (row_of names a) ≡ true
+  ended_row a there all_roles here objects actions graphs count lo la lg lc =
+      let inside = unwrap_or a.internal 0 in
+      let outside = unwrap_or a.interface 0 in
+      let c : Counts = record { objects = objects; actions = actions; roles = length a.role_rows; internal = count inside; interface = count outside } in
+      let k = here c (record { of_objects = lo; of_actions = la; of_roles = omega (arith, all_roles); of_inner = lc inside; of_outer = lc outside }) in
       and_from _ _
-      (and_from _ _ (lt-ltb (internal_graph s) graphs (omega (arith, there.internal_there))) (and_from _ _ (lt-ltb (interface_graph s) graphs (omega (arith, there.interface_there))) k.fault_right))
-      (and_from _ _ (and_from _ _ k.uses_rise k.uses_right) (and_from _ _ k.roles_right k.nests_right))
+      (and_from _ _ (lt-ltb inside graphs (omega (arith, there.begun.0))) (and_from _ _ (lt-ltb outside graphs (omega (arith, there.begun.1))) k.fault_right))
+      (and_from _ _ (and_from _ _ k.uses_rise k.uses_right) (and_from _ _ k.roles_right (all_rows (nest_in_range actions (length a.role_rows) (count inside)) a.nests k.nests_right)))
 
-  ended_ended : (at : Section) (s : SoFar) (b : Block) → s.block ≡ b → GraphsThere at s → AreRoles s → OpenRight s → EndedRight s → EndedRight (ended names s b)
-  ended_ended at s block.Top e there roles here h = h
-  ended_ended at s block.Graph e there roles here h = λ objects actions graphs count lo la lg lc.
-      let graph : DeclaredGraph = s.graph in
-      let n : length (s.graphs ++ graph ∷ []) ≡ length s.graphs + 1 = length-append s.graphs (graph ∷ []) in
-      let m : length (s.graphs ++ graph ∷ []) ≤ graphs = lg in
-      h objects actions graphs count lo la (omega arith) (λ g.
-      let more = grown s.graphs graph g in
-      let most : length (exceptions_at (s.graphs ++ graph ∷ []) g) ≤ count g = lc g in
+  ends_ended : (b : Block) → GraphsThere d b → ActionsFit d b → RightIn d b → EndedRight d → EndedRight (ended names d b)
+  ends_ended block.Top there fits here h = h
+  ends_ended (block.Graph g) there fits here h = λ objects actions graphs count lo la lg lc.
+      let n : length (d.graphs ++ g ∷ []) ≡ length d.graphs + 1 = length-append d.graphs (g ∷ []) in
+      let m : length (d.graphs ++ g ∷ []) ≤ graphs = lg in
+      h objects actions graphs count lo la (omega arith) (λ i.
+      let more = grown d.graphs g i in
+      let most : length (exceptions_at (d.graphs ++ g ∷ []) i) ≤ count i = lc i in
       omega arith)
-  ended_ended at s block.Action e there roles here h = λ objects actions graphs count lo la lg lc.
-      let n : length (s.actions ++ action_row names s ∷ []) ≡ length s.actions + 1 = length-append s.actions _ in
-      let m : length (s.actions ++ action_row names s ∷ []) ≤ actions = la in
-      let few : length s.actions ≤ actions = omega arith in
-      all_push (action_right objects actions graphs count) s.actions (action_row names s) (h objects actions graphs count lo few lg lc)
-      (ended_row at s e there roles here objects actions graphs count lo few lg lc)
+  ends_ended (block.Action a) there fits here h = λ objects actions graphs count lo la lg lc.
+      let row = row_of names a in
+      let n : length (d.actions ++ row ∷ []) ≡ length d.actions + 1 = length-append d.actions _ in
+      let m : length (d.actions ++ row ∷ []) ≤ actions = la in
+      let few : length d.actions ≤ actions = omega arith in
+      all_push (action_right objects actions graphs count) d.actions row (h objects actions graphs count lo few lg lc)
+      (ended_row a there fits.1.all_roles here objects actions graphs count lo few lg lc)
 
-  says_ended : (at : Section) (s : SoFar) (f : Form) → GraphsThere at s → AreRoles s → OpenRight s → EndedRight s → EndedRight (with_said names s f)
-  says_ended at s (form.Object name v) there roles here h = λ objects actions graphs count lo la lg lc.
-      let n : length (s.objects ++ name ∷ []) ≡ length s.objects + 1 = length-append s.objects (name ∷ []) in
-      let m : length (s.objects ++ name ∷ []) ≤ objects = lo in
+  begins_ended : (f : Form) → EndedRight d → EndedRight (declared_with names d f)
+  begins_ended (form.Object name v) h = λ objects actions graphs count lo la lg lc.
+      let n : length (d.objects ++ name ∷ []) ≡ length d.objects + 1 = length-append d.objects (name ∷ []) in
+      let m : length (d.objects ++ name ∷ []) ≤ objects = lo in
       h objects actions graphs count (omega arith) la lg lc
-  says_ended at s form.End there roles here h = ended_ended at s s.block refl there roles here h
-  says_ended at s f there roles here h = h
+  begins_ended f h = h
 
 -- ---- objects, drills and watches
 
@@ -463,69 +459,98 @@ pub record ObjectsRight (objects : List ℕ) (rows : List ObjectRow) (drills : L
   pub drilled : (many : ℕ) → length objects ≤ many → list_all (drill_below many) drills ≡ true
   pub watched : (many : ℕ) → length objects ≤ many → all_below many watches ≡ true
 
-abbrev pub OutsideRight : SoFar → Type 0
-OutsideRight s = ObjectsRight s.objects s.object_rows s.drills s.watches
+abbrev pub OutsideRight : Declared → Type 0
+OutsideRight d = ObjectsRight d.objects d.object_rows d.drills d.watches
 
-module _ (names : List (List ℕ)) where
-  says_outside : (s : SoFar) (f : Form) → is_sound names f ≡ true → HasNone s f → OutsideRight s → OutsideRight (with_said names s f)
-  says_outside s (form.Object name v) sound none h =
-      let n : length (s.objects ++ name ∷ []) ≡ length s.objects + 1 = length-append s.objects (name ∷ []) in
+module _ (names : List (List ℕ)) (d : Declared) where
+  says_outside : (f : Form) → is_sound names f ≡ true → NoneAtTop d f → OutsideRight d → OutsideRight (declared_with names d f)
+  says_outside (form.Object name v) sound none h =
+      let n : length (d.objects ++ name ∷ []) ≡ length d.objects + 1 = length-append d.objects (name ∷ []) in
       record {
-        valued = all_push is_valued s.object_rows _ h.valued (value_second _ v _ (parts_sound names (form.Object name v) sound));
+        valued = all_push is_valued d.object_rows _ h.valued (value_second _ v _ (parts_sound names (form.Object name v) sound));
         drilled = λ many l. h.drilled many (omega (arith, l));
         watched = λ many l. h.watched many (omega (arith, l));
       }
-  says_outside s (form.Drill object nth) sound none h =
-      let a = not-false _ (known s (form.Drill object nth) none) in
+  says_outside (form.Drill object nth) sound none h =
+      let a = not-false _ (known_at_top d (form.Drill object nth) none) in
       record {
         valued = h.valued;
-        drilled = λ many l. all_push (drill_below many) s.drills _ (h.drilled many l) (still_below (index_of object s.objects) (length s.objects) many a l);
+        drilled = λ many l. all_push (drill_below many) d.drills _ (h.drilled many l) (still_below (index_of object d.objects) (length d.objects) many a l);
         watched = h.watched;
       }
-  says_outside s (form.Watch object) sound none h =
-      let a = not-false _ (known s (form.Watch object) none) in
+  says_outside (form.Watch object) sound none h =
+      let a = not-false _ (known_at_top d (form.Watch object) none) in
       record {
         valued = h.valued;
         drilled = h.drilled;
-        watched = λ many l. all_push (λ n. nat_lt n many) s.watches _ (h.watched many l) (still_below (index_of object s.objects) (length s.objects) many a l);
+        watched = λ many l. all_push (λ n. nat_lt n many) d.watches _ (h.watched many l) (still_below (index_of object d.objects) (length d.objects) many a l);
       }
-  says_outside s f sound none h = h
+  says_outside f sound none h = h
+
+  ends_outside : (b : Block) → OutsideRight d → OutsideRight (ended names d b)
+  ends_outside block.Top h = h
+  ends_outside (block.Graph g) h = h
+  ends_outside (block.Action a) h = h
 
 -- ---- all of it
 
-pub record AreInRange (at : Section) (s : SoFar) : Type 0 where
-  pub there : GraphsThere at s
-  pub roles_there : AreRoles s
-  pub open_right : OpenRight s
-  pub ended_right : EndedRight s
-  pub outside_right : OutsideRight s
+pub record AreInRange (d : Declared) (b : Block) : Type 0 where
+  pub there : GraphsThere d b
+  pub fits : ActionsFit d b
+  pub open_right : RightIn d b
+  pub ended_right : EndedRight d
+  pub outside_right : OutsideRight d
+
+module _ (names : List (List ℕ)) (d : Declared) where
+  begins_right : (f : Form) → GraphsThere d block.Top → RightIn (declared_with names d f) (block_begun d f)
+  begins_right (form.Action name) there = λ c b.
+      let one = plain_one d.graphs there.plain in
+      let m : length (exceptions_at d.graphs 0) ≤ c.internal = b.of_inner in
+      record { steps_right = refl; opening_right = refl; uses_rise = refl; uses_right = refl; fault_right = lt-ltb 0 c.internal (omega arith); roles_right = refl; nests_right = refl }
+  begins_right f there = tt
 
 pub ranges_kept : (names : List (List ℕ)) → IsKept names AreInRange
-ranges_kept names = record {
-  settles = λ at s h. record {
-    there = closed_there at s verdict.Done s.action.opening h.there;
-    roles_there = closed_roles s verdict.Done s.action.opening h.roles_there;
-    open_right = closed_right s verdict.Done (λ c b. refl) h.open_right;
-    ended_right = h.ended_right;
-    outside_right = h.outside_right;
-  };
-  says = λ at s f stands sound none shut h.
-      let later = says_there names at s f stands none h.there in
-      record {
-        there = later;
-        roles_there = says_roles names s f (within s f none) h.roles_there;
-        open_right = says_open names at (goes_to (kind_of f) at) s f sound none h.there later h.open_right;
-        ended_right = says_ended names at s f h.there h.roles_there h.open_right h.ended_right;
-        outside_right = says_outside names s f sound none h.outside_right;
+ranges_kept names =
+    let there = there_kept names in
+    let fits = fits_kept names in
+    record {
+      at_top = λ d f sound none h. record {
+        there = there.at_top d f sound none h.there;
+        fits = fits.at_top d f sound none h.fits;
+        open_right = begins_right names d f h.there;
+        ended_right = begins_ended names d f h.ended_right;
+        outside_right = says_outside names d f sound none h.outside_right;
       };
-}
+      in_graph = λ d g f sound none h. record { there = there.in_graph d g f sound none h.there; fits = h.fits; open_right = tt; ended_right = h.ended_right; outside_right = h.outside_right };
+      in_action = λ d a f sound none shut h. record {
+        there = there.in_action d a f sound none shut h.there;
+        fits = fits.in_action d a f sound none shut h.fits;
+        open_right = says_open names d a h.there h.open_right f sound none;
+        ended_right = h.ended_right;
+        outside_right = h.outside_right;
+      };
+      closes = λ d a h. record {
+        there = there.closes d a h.there;
+        fits = fits.closes d a h.fits;
+        open_right = closed_right d a verdict.Done (λ c b. refl) h.open_right;
+        ended_right = h.ended_right;
+        outside_right = h.outside_right;
+      };
+      ends = λ d b none h. record {
+        there = there.ends d b none h.there;
+        fits = fits.ends d b none h.fits;
+        open_right = tt;
+        ended_right = ends_ended names d b h.there h.fits h.open_right h.ended_right;
+        outside_right = ends_outside names d b h.outside_right;
+      };
+    }
 
 -- before the first line
-pub in_range_at_first : (names : List (List ℕ)) → AreInRange section.Top (nothing_yet names)
-in_range_at_first names = record {
-  there = record { linked = refl; many = refl; plain = refl; filled = refl; begun = λ e. absurd (false≢true e); internal_there = omega arith; interface_there = omega arith };
-  roles_there = (omega arith, λ e. refl);
-  open_right = λ c b. record { steps_right = refl; opening_right = refl; uses_rise = refl; uses_right = refl; fault_right = lt-ltb 0 c.internal (omega (arith, b.of_inner)); roles_right = refl; nests_right = refl };
+pub in_range_at_first : (universal : ℕ) → AreInRange (nothing_declared universal) block.Top
+in_range_at_first universal = record {
+  there = there_at_first universal;
+  fits = (refl, tt);
+  open_right = tt;
   ended_right = λ objects actions graphs count lo la lg lc. refl;
   outside_right = record { valued = refl; drilled = λ many l. refl; watched = λ many l. refl };
 }

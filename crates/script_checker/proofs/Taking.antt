@@ -10,7 +10,9 @@ use Rattle.action_script.specs.Forms.ScriptValue.{Script}
 use Rattle.script_checker.specs.declared.check_error.CheckCause.{CheckCause}
 use Rattle.script_checker.specs.declared.check_error.CheckCause.TheVariants as cause
 use Rattle.script_checker.specs.declared.check_error.CheckError.{CheckError}
-use Rattle.script_checker.specs.DeclaredSoFar.{SoFar, nothing_yet}
+use Rattle.script_checker.specs.declared.declared.SoFar.{SoFar}
+use Rattle.script_checker.specs.declared.declared.Declared.{Declared}
+use Rattle.script_checker.specs.DeclaredSoFar.{nothing_yet}
 use Rattle.script_checker.specs.After.{after}
 use Rattle.script_checker.specs.inner.Rows.{parted}
 use Rattle.script_checker.specs.Compiled.{number_of, IsAccepted, AreAccepted, IsLeastCause, declared_after, AreRowsOf, IsDeclared, IsDraftOf, IsPlanOf, IsFirstRefused, IsAnswer}
@@ -20,7 +22,7 @@ use Rattle.script_checker.specs.Compiled.IsAnswer.{refused, wanting}
 pub record Taken (names : List (List ℕ)) (lines : List Line) (n : ℕ) (s : SoFar) (made : List GraphRow) : Type 0 where
   pub accepted : AreAccepted names (nothing_yet names) (take n lines)
   pub declared : s ≡ declared_after names (nothing_yet names) (take n lines)
-  pub rows : AreRowsOf names s.graphs made
+  pub rows : AreRowsOf names s.declared.graphs made
 
 accepted_push : (names : List (List ℕ)) (s : SoFar) (lines : List Line) (line : Line) → AreAccepted names s lines → IsAccepted (declared_after names s lines) line.form → AreAccepted names s (lines ++ line ∷ [])
 accepted_push names s [] line h a = (a, tt)
@@ -31,7 +33,7 @@ declared_push names s [] line = refl
 declared_push names s (l ∷ lines) line = declared_push names (after names s l.form) lines line
 
 -- one line more
-pub taken_more : (names : List (List ℕ)) (lines : List Line) (n : ℕ) (s t : SoFar) (rows more : List GraphRow) (line : Line) → n < length lines → line ≡ get_or lines n line → Taken names lines n s rows → IsAccepted s line.form → t ≡ after names s line.form → AreRowsOf names t.graphs more → Taken names lines (n + 1) t more
+pub taken_more : (names : List (List ℕ)) (lines : List Line) (n : ℕ) (s t : SoFar) (rows more : List GraphRow) (line : Line) → n < length lines → line ≡ get_or lines n line → Taken names lines n s rows → IsAccepted s line.form → t ≡ after names s line.form → AreRowsOf names t.declared.graphs more → Taken names lines (n + 1) t more
 taken_more names lines n s t rows more line l is h a e r =
     let whole : take (n + 1) lines ≡ take n lines ++ line ∷ [] = rw add-one (take-suc lines n line l ∙ ap (λ (x : Line). take n lines ++ x ∷ []) (sym is)) in
     record {
@@ -65,19 +67,21 @@ answer_refused script error first = by error.cause refl
     by c e = refused (first (λ none. let n : number_of c ≡ 21 = ap number_of (sym e ∙ none) in omega arith))
 
 -- all lines were taken
-pub all_declared : (script : Script) (names : List (List ℕ)) (lines : List Line) (n : ℕ) (s : SoFar) (rows : List GraphRow) → names ≡ script.names → lines ≡ script.lines → length lines ≤ n → Taken names lines n s rows → IsDeclared script s rows
+pub all_declared : (script : Script) (names : List (List ℕ)) (lines : List Line) (n : ℕ) (s : SoFar) (rows : List GraphRow) → names ≡ script.names → lines ≡ script.lines → length lines ≤ n → Taken names lines n s rows → IsDeclared script s.declared rows
 all_declared script names lines n s rows en el l h =
     let whole : take n lines ≡ script.lines = take_all n lines l ∙ el in
     record {
       accepted = subst (λ (lines : List Line). AreAccepted script.names (nothing_yet script.names) lines) whole (subst (λ (names : List (List ℕ)). AreAccepted names (nothing_yet names) (take n lines)) en h.accepted);
-      declared = h.declared ∙ ap (λ (names : List (List ℕ)). declared_after names (nothing_yet names) (take n lines)) en ∙ ap (λ (lines : List Line). declared_after script.names (nothing_yet script.names) lines) whole;
-      graphs = subst (λ (names : List (List ℕ)). AreRowsOf names s.graphs rows) en h.rows;
+      declared =
+          ap (λ (s : SoFar). s.declared)
+          (h.declared ∙ ap (λ (names : List (List ℕ)). declared_after names (nothing_yet names) (take n lines)) en ∙ ap (λ (lines : List Line). declared_after script.names (nothing_yet script.names) lines) whole);
+      graphs = subst (λ (names : List (List ℕ)). AreRowsOf names s.declared.graphs rows) en h.rows;
     }
 
-module _ (script : Script) (s : SoFar) (rows : List GraphRow) (h : IsDeclared script s rows) where
+module _ (script : Script) (d : Declared) (rows : List GraphRow) (h : IsDeclared script d rows) where
   -- the draft of what they declare
-  pub drafted : IsDraftOf script.names (declared_after script.names (nothing_yet script.names) script.lines) (parted s rows)
-  drafted = subst (λ (t : SoFar). IsDraftOf script.names t (parted s rows)) h.declared (record {
+  pub drafted : IsDraftOf script.names (declared_after script.names (nothing_yet script.names) script.lines).declared (parted d rows)
+  drafted = subst (λ (t : Declared). IsDraftOf script.names t (parted d rows)) h.declared (record {
     participants = refl;
     objects = refl;
     graphs = h.graphs;
@@ -88,5 +92,5 @@ module _ (script : Script) (s : SoFar) (rows : List GraphRow) (h : IsDeclared sc
   })
 
   -- and its plan
-  pub planned_by : (plan : Plan) → plan ≡ plan_of (parted s rows) → IsPlanOf script plan
-  planned_by plan e = record { accepted = h.accepted; draft = parted s rows; declared = drafted; unfolded = e }
+  pub planned_by : (plan : Plan) → plan ≡ plan_of (parted d rows) → IsPlanOf script plan
+  planned_by plan e = record { accepted = h.accepted; draft = parted d rows; declared = drafted; unfolded = e }

@@ -11,14 +11,14 @@ use Rattle.place_plan.specs.Drafts.DraftRules.{all_below}
 use Rattle.place_plan.specs.Plans.Weights.{counted, at, nested_weight, own_entries, played_weight}
 use Rattle.action_script.specs.declared.forms.form.Form.{Form}
 use Rattle.action_script.specs.declared.forms.form.Form.TheVariants as form
-use Rattle.script_checker.specs.declared.parts.Block.{Block}
-use Rattle.script_checker.specs.declared.parts.Block.TheVariants as block
-use Rattle.script_checker.specs.DeclaredSoFar.{SoFar}
-use Rattle.script_checker.specs.Causes.{places_with, bound_with}
-use Rattle.script_checker.specs.After.{ended, with_said, action_row}
-use Rattle.script_checker.specs.Compiled.{HasNone}
-use Rattle.script_checker.proofs.Choosing.{within}
-use Rattle.script_checker.proofs.Accepted.{IsKept, bounded}
+use Rattle.script_checker.specs.declared.declared.Declared.{Declared}
+use Rattle.script_checker.specs.declared.declared.Block.{Block}
+use Rattle.script_checker.specs.declared.declared.Block.TheVariants as block
+use Rattle.script_checker.specs.AtTop.{places_with, bound_with, declared_with}
+use Rattle.script_checker.specs.InAction.{row_of}
+use Rattle.script_checker.specs.After.{ended}
+use Rattle.script_checker.proofs.Accepted.{IsKept, NoneAtTop, within_at_top, bounded_at_top}
+use Rattle.script_checker.proofs.ListsChange.{all_rows}
 use Rattle.script_checker.proofs.NestsKept.{Pass, pass_kept}
 use Rattle.script_checker.proofs.NestTests.{same_action, uses_there, there_test}
 use Rattle.script_checker.proofs.PlaysKept.{play_right, PlaysRight, plays_kept}
@@ -87,51 +87,52 @@ module _ (own : ActionRow → ℕ) (table : List ℕ) (actions : List ActionRow)
 abbrev pub one_place : ActionRow → ℕ
 one_place action = 1
 
-abbrev pub PlacesWeigh : SoFar → Type 0
-PlacesWeigh s = Weighs one_place s.places s.actions s.plays s.all_places × (s.all_places ≤ most_places)
+abbrev pub PlacesWeigh : Declared → Type 0
+PlacesWeigh d = Weighs one_place d.places d.actions d.plays d.all_places × (d.all_places ≤ most_places)
 
-abbrev pub EntriesWeigh : SoFar → Type 0
-EntriesWeigh s = Weighs own_entries s.bounds s.actions s.plays s.whole_bound × (s.whole_bound ≤ most_entries)
+abbrev pub EntriesWeigh : Declared → Type 0
+EntriesWeigh d = Weighs own_entries d.bounds d.actions d.plays d.whole_bound × (d.whole_bound ≤ most_entries)
 
-module _ (names : List (List ℕ)) where
-  ended_places : (s : SoFar) (b : Block) → Pass uses_there s → PlaysRight s → PlacesWeigh s → PlacesWeigh (ended names s b)
-  ended_places s block.Top there right h = h
-  ended_places s block.Graph there right h = h
-  ended_places s block.Action there right h = (weighs_longer one_place s.places s.actions s.plays s.all_places h.0 (length s.participants) (action_row names s) there.open_rows there.ended_rows right, h.1)
+pub record AreWeighed (d : Declared) (b : Block) : Type 0 where
+  pub there : Pass uses_there there_test d b
+  pub right : PlaysRight d b
+  pub places : PlacesWeigh d
+  pub entries : EntriesWeigh d
 
-  ended_entries : (s : SoFar) (b : Block) → Pass uses_there s → PlaysRight s → EntriesWeigh s → EntriesWeigh (ended names s b)
-  ended_entries s block.Top there right h = h
-  ended_entries s block.Graph there right h = h
-  ended_entries s block.Action there right h = (weighs_longer own_entries s.bounds s.actions s.plays s.whole_bound h.0 (length s.participants) (action_row names s) there.open_rows there.ended_rows right, h.1)
+module _ (names : List (List ℕ)) (d : Declared) where
+  says_places : (f : Form) → NoneAtTop d f → PlacesWeigh d → PlacesWeigh (declared_with names d f)
+  says_places (form.Play action who) none h = (weighs_play one_place d.places d.actions d.plays d.all_places h.0 _, ltb-false most_places (places_with d action) (within_at_top d (form.Play action who) none))
+  says_places f none h = h
 
-  says_places : (s : SoFar) (f : Form) → HasNone s f → Pass uses_there s → PlaysRight s → PlacesWeigh s → PlacesWeigh (with_said names s f)
-  says_places s (form.Play action who) none there right h = (weighs_play one_place s.places s.actions s.plays s.all_places h.0 _, ltb-false most_places (places_with s action) (within s (form.Play action who) none))
-  says_places s form.End none there right h = ended_places s s.block there right h
-  says_places s f none there right h = h
+  says_entries : (f : Form) → NoneAtTop d f → EntriesWeigh d → EntriesWeigh (declared_with names d f)
+  says_entries (form.Play action who) none h = (weighs_play own_entries d.bounds d.actions d.plays d.whole_bound h.0 _, ltb-false most_entries (bound_with d action) (bounded_at_top d (form.Play action who) none))
+  says_entries f none h = h
 
-  says_entries : (s : SoFar) (f : Form) → HasNone s f → Pass uses_there s → PlaysRight s → EntriesWeigh s → EntriesWeigh (with_said names s f)
-  says_entries s (form.Play action who) none there right h = (weighs_play own_entries s.bounds s.actions s.plays s.whole_bound h.0 _, ltb-false most_entries (bound_with s action) (bounded s (form.Play action who) none))
-  says_entries s form.End none there right h = ended_entries s s.block there right h
-  says_entries s f none there right h = h
+  ends_places : (b : Block) → AreWeighed d b → PlacesWeigh (ended names d b)
+  ends_places (block.Action a) h =
+      (weighs_longer one_place d.places d.actions d.plays d.all_places h.places.0 (length d.participants) (row_of names a) (all_rows (uses_there d.actions d.graphs) a.nests h.there.1) h.there.0 h.right, h.places.1)
+  ends_places block.Top h = h.places
+  ends_places (block.Graph g) h = h.places
 
-pub record AreWeighed (s : SoFar) : Type 0 where
-  pub there : Pass uses_there s
-  pub right : PlaysRight s
-  pub places : PlacesWeigh s
-  pub entries : EntriesWeigh s
+  ends_entries : (b : Block) → AreWeighed d b → EntriesWeigh (ended names d b)
+  ends_entries (block.Action a) h =
+      (weighs_longer own_entries d.bounds d.actions d.plays d.whole_bound h.entries.0 (length d.participants) (row_of names a) (all_rows (uses_there d.actions d.graphs) a.nests h.there.1) h.there.0 h.right, h.entries.1)
+  ends_entries block.Top h = h.entries
+  ends_entries (block.Graph g) h = h.entries
 
-pub weights_kept : (names : List (List ℕ)) → IsKept names (λ at s. AreWeighed s)
-weights_kept names = record {
-  settles = λ at s h. record {
-    there = (pass_kept uses_there there_test names).settles at s h.there;
-    right = (plays_kept names).settles at s h.right;
-    places = h.places;
-    entries = h.entries;
-  };
-  says = λ at s f stands sound none shut h. record {
-    there = (pass_kept uses_there there_test names).says at s f stands sound none shut h.there;
-    right = (plays_kept names).says at s f stands sound none shut h.right;
-    places = says_places names s f none h.there h.right h.places;
-    entries = says_entries names s f none h.there h.right h.entries;
-  };
-}
+pub weights_kept : (names : List (List ℕ)) → IsKept names AreWeighed
+weights_kept names =
+    let there = pass_kept uses_there there_test names in
+    let right = plays_kept names in
+    record {
+      at_top = λ d f sound none h. record {
+        there = there.at_top d f sound none h.there;
+        right = right.at_top d f sound none h.right;
+        places = says_places names d f none h.places;
+        entries = says_entries names d f none h.entries;
+      };
+      in_graph = λ d g f sound none h. record { there = h.there; right = h.right; places = h.places; entries = h.entries };
+      in_action = λ d a f sound none shut h. record { there = there.in_action d a f sound none shut h.there; right = h.right; places = h.places; entries = h.entries };
+      closes = λ d a h. record { there = there.closes d a h.there; right = h.right; places = h.places; entries = h.entries };
+      ends = λ d b none h. record { there = there.ends d b none h.there; right = right.ends d b none h.right; places = ends_places names d b h; entries = ends_entries names d b h };
+    }

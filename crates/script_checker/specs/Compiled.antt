@@ -13,8 +13,10 @@ use Rattle.action_script.specs.Forms.ScriptValue.{Script}
 use Rattle.script_checker.specs.declared.check_error.CheckCause.{CheckCause}
 use Rattle.script_checker.specs.declared.check_error.CheckCause.TheVariants as cause
 use Rattle.script_checker.specs.declared.check_error.CheckError.{CheckError}
-use Rattle.script_checker.specs.declared.parts.DeclaredGraph.{DeclaredGraph}
-use Rattle.script_checker.specs.DeclaredSoFar.{SoFar, nothing_yet}
+use Rattle.script_checker.specs.declared.open_graph.DeclaredGraph.{DeclaredGraph}
+use Rattle.script_checker.specs.declared.declared.SoFar.{SoFar}
+use Rattle.script_checker.specs.declared.declared.Declared.{Declared}
+use Rattle.script_checker.specs.DeclaredSoFar.{nothing_yet}
 use Rattle.script_checker.specs.Causes.{HasCause}
 use Rattle.script_checker.specs.After.{settled, after}
 
@@ -89,33 +91,33 @@ AreRowsOf names (graph ∷ graphs) [] = ⊥
 AreRowsOf names (graph ∷ graphs) (row ∷ rows) = IsRowOf names graph row × AreRowsOf names graphs rows
 
 -- no line of the script has a cause, this is what they declare, and the rows are those of the graphs
-pub record IsDeclared (script : Script) (s : SoFar) (rows : List GraphRow) : Type 0 where
+pub record IsDeclared (script : Script) (d : Declared) (rows : List GraphRow) : Type 0 where
   pub accepted : AreAccepted script.names (nothing_yet script.names) script.lines
-  pub declared : s ≡ declared_after script.names (nothing_yet script.names) script.lines
-  pub graphs : AreRowsOf script.names s.graphs rows
+  pub declared : d ≡ (declared_after script.names (nothing_yet script.names) script.lines).declared
+  pub graphs : AreRowsOf script.names d.graphs rows
 
 -- the draft has the parts that are declared
-pub record IsDraftOf (names : List (List ℕ)) (s : SoFar) (draft : Draft) : Type 0 where
-  pub participants : draft.participants ≡ s.participant_rows
-  pub objects : draft.objects ≡ s.object_rows
-  pub graphs : AreRowsOf names s.graphs draft.graphs
-  pub actions : draft.actions ≡ s.actions
-  pub plays : draft.plays ≡ s.plays
-  pub drills : draft.drills ≡ s.drills
-  pub watches : draft.watches ≡ s.watches
+pub record IsDraftOf (names : List (List ℕ)) (d : Declared) (draft : Draft) : Type 0 where
+  pub participants : draft.participants ≡ d.participant_rows
+  pub objects : draft.objects ≡ d.object_rows
+  pub graphs : AreRowsOf names d.graphs draft.graphs
+  pub actions : draft.actions ≡ d.actions
+  pub plays : draft.plays ≡ d.plays
+  pub drills : draft.drills ≡ d.drills
+  pub watches : draft.watches ≡ d.watches
 
 -- where no line of the script has a cause, what is declared makes a draft that breaks no rule
 abbrev pub BreaksNoRule : Script → Type 0
 BreaksNoRule script =
     AreAccepted script.names (nothing_yet script.names) script.lines
-    → (draft : Draft) → IsDraftOf script.names (declared_after script.names (nothing_yet script.names) script.lines) draft
+    → (draft : Draft) → IsDraftOf script.names (declared_after script.names (nothing_yet script.names) script.lines).declared draft
     → broken_rule draft ≡ None
 
 -- no line of the script has a cause, and the plan is the unfolding of its draft
 pub record IsPlanOf (script : Script) (plan : Plan) : Type 0 where
   pub accepted : AreAccepted script.names (nothing_yet script.names) script.lines
   pub draft : Draft
-  pub declared : IsDraftOf script.names (declared_after script.names (nothing_yet script.names) script.lines) draft
+  pub declared : IsDraftOf script.names (declared_after script.names (nothing_yet script.names) script.lines).declared draft
   pub unfolded : plan ≡ plan_of draft
 
 -- ---- the first line that is refused

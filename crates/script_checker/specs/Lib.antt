@@ -1,9 +1,11 @@
 pub mod After
-pub mod Blocks
+pub mod AtTop
 pub mod Causes
 pub mod Compiled
-pub mod Numbers
 pub mod DeclaredSoFar
-pub mod PlaySizes
+pub mod InAction
+pub mod InGraph
+pub mod Numbers
 pub mod PlanSizes
+pub mod PlaySizes
 pub mod inner

@@ -1,5 +1,6 @@
--- Words on lists of numbers.
-use Rattle.std.specs.Prelude.{ℕ, ◌+◌, nat_lt, if◌then◌else◌, Bool, List, [], ◌∷◌, length}
+-- Words on lists of numbers, and on drills.
+use Rattle.std.specs.Prelude.{ℕ, ◌+◌, nat_lt, ◌==◌, ◌&&◌, if◌then◌else◌, Bool, List, [], ◌∷◌, length}
+use Rattle.caa_base.specs.declared.written.entry.Drill.{Drill}
 use Rattle.caa_base.specs.Written.Lists.{member, index_of}
 
 -- names of a list: so many that their number and the place of each are below the greatest number of 32 bits
@@ -14,3 +15,7 @@ is_among names name = nat_lt (index_of name names) (length names)
 abbrev pub chosen_from : ℕ → List ℕ → List ℕ → List ℕ
 chosen_from n some [] = []
 chosen_from n some (x ∷ xs) = if member x some then n ∷ chosen_from (n + 1) some xs else chosen_from (n + 1) some xs
+
+-- a drill of just this put of this object
+abbrev pub is_drill : ℕ → ℕ → Drill → Bool
+is_drill object nth drill = (drill.object == object) && (drill.nth == nth)

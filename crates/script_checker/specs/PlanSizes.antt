@@ -5,7 +5,7 @@ use Rattle.place_plan.specs.Plans.Bound.{bound}
 use Rattle.action_script.specs.Forms.ScriptValue.{Script}
 use Rattle.script_checker.specs.declared.plan_counts.PlanCounts.{PlanCounts}
 use Rattle.script_checker.specs.Compiled.{IsPlanOf}
-use Rattle.script_checker.specs.DeclaredSoFar.{SoFar}
+use Rattle.script_checker.specs.declared.declared.Declared.{Declared}
 
 -- how large a plan is
 abbrev pub counts_of : Plan → PlanCounts
@@ -17,8 +17,8 @@ counts_of plan = record {
 }
 
 -- how large it is by what is declared
-abbrev pub counts_so_far : SoFar → PlanCounts
-counts_so_far s = record { participants = length s.participants; objects = length s.objects; places = s.all_places; bound = s.whole_bound }
+abbrev pub counts_so_far : Declared → PlanCounts
+counts_so_far d = record { participants = length d.participants; objects = length d.objects; places = d.all_places; bound = d.whole_bound }
 
 -- the script has a plan, which is so large
 pub record HasCounts (script : Script) (counts : PlanCounts) : Type 0 where

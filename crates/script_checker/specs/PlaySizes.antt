@@ -9,8 +9,10 @@ use Rattle.action_script.specs.declared.forms.form.Form.TheVariants as form
 use Rattle.action_script.specs.declared.forms.script.Line.{Line}
 use Rattle.action_script.specs.Forms.ScriptValue.{Script}
 use Rattle.script_checker.specs.declared.check_error.CheckCause.TheVariants as cause
-use Rattle.script_checker.specs.DeclaredSoFar.{SoFar, nothing_yet}
-use Rattle.script_checker.specs.Causes.{places_with, bound_with}
+use Rattle.script_checker.specs.declared.declared.SoFar.{SoFar}
+use Rattle.script_checker.specs.declared.declared.Declared.{Declared}
+use Rattle.script_checker.specs.DeclaredSoFar.{nothing_yet}
+use Rattle.script_checker.specs.AtTop.{places_with, bound_with}
 use Rattle.script_checker.specs.After.{settled, with_said}
 use Rattle.script_checker.specs.Compiled.{number_of, HasNoneBelow, declared_after, AreAccepted, IsDraftOf}
 
@@ -28,13 +30,14 @@ pub record ComesToPlay (script : Script) (s : SoFar) (action : ℕ) (who : List 
 
 -- the draft breaks none of the rules 1 to 9, as `unfolded` asks, and with one more play of this action there are as many places
 -- as in its plan, and as great a bound, as far as they are counted
-pub record AreSizesOf (s : SoFar) (action : ℕ) (draft : Draft) : Type 0 where
+pub record AreSizesOf (d : Declared) (action : ℕ) (draft : Draft) : Type 0 where
   pub parts : KeepsParts draft
-  pub places : places_with s action ≡ counted (length (plan_of draft).places)
-  pub bound : bound_with s action ≡ counted (bound (plan_of draft))
+  pub places : places_with d action ≡ counted (length (plan_of draft).places)
+  pub bound : bound_with d action ≡ counted (bound (plan_of draft))
 
 -- each such line is judged by the sizes of the plan into which the draft with its play unfolds
 abbrev pub CountsUnfolding : Script → Type 0
 CountsUnfolding script =
     (s : SoFar) (action : ℕ) (who : List ℕ) → ComesToPlay script s action who
-    → (draft : Draft) → IsDraftOf script.names (with_said script.names s (form.Play action who)) draft → AreSizesOf s action draft
+    → (draft : Draft) → IsDraftOf script.names (with_said script.names s (form.Play action who)).declared draft
+    → AreSizesOf s.declared action draft

@@ -1,6 +1,6 @@
 -- What the code keeps and finds its answers by: no contract of a public call cites it.
 pub mod Chosen
 pub mod DrillTable
-pub mod Graphs
+pub mod Ends
+pub mod Lending
 pub mod Rows
-pub mod View

@@ -1,98 +1,111 @@
-ghost use Rattle.std.specs.Prelude.{◌≡◌, ◌<◌, true, length, IfOk};
-ghost use Rattle.script_checker.specs.Blocks.{is_in_graph};
-ghost use Rattle.script_checker.specs.DeclaredSoFar.{plain_graph};
+//! What the lines of a script up to some line have declared, by the numbers of names in the script.
+
+ghost use Rattle.std.specs.Prelude.{◌≡◌, IfOk};
+ghost use Rattle.script_checker.specs.DeclaredSoFar.{plain_graph, nothing_declared, nothing_yet};
 
 use crate::drill_list::DrillList;
 use crate::number_list::NumberList;
 use crate::open_action::OpenAction;
-use crate::open_graph::OpenGraph;
-use crate::parts::{Block, DeclaredGraph};
+use crate::open_graph::{DeclaredGraph, OpenGraph};
+use crate::table::Table;
 use action_script::forms::script::Script;
 use caa_base::written::name::Name;
 use caa_base::written::rows::Rows;
 use place_plan::drafts::draft_rows::{ActionRow, ObjectRow, PlayRow};
 use std::alloc::{AllocError, Global};
 
-/// What the lines of a script have declared so far, by the numbers of names.
+/// What is declared outside the block that is open; lines at the top and the ends of blocks alone add to it.
 #[derive(Drop)]
 pub struct Declared {
-    pub alloc: Global,
-    /// The number of the name `universal`, or of no name.
+    /// The number of the name `universal`; where the script has no such name, it is no name's.
     pub universal: u32,
+    /// The participants, objects, graphs and actions whose declaration has begun, by name.
     pub participants: NumberList,
     pub objects: NumberList,
     pub graph_names: NumberList,
     pub action_names: NumberList,
-    pub participant_rows: Vec<Name>,
-    pub object_rows: Vec<ObjectRow>,
+    /// What the plan has of participants and objects.
+    pub participant_rows: Table<Name>,
+    pub object_rows: Table<ObjectRow>,
     /// The plain graph, and the graphs that have ended.
-    pub graphs: Vec<DeclaredGraph>,
+    pub graphs: Table<DeclaredGraph>,
     /// The actions that have ended.
-    pub actions: Vec<ActionRow>,
-    /// How deep each of them is.
-    pub depths: Vec<u64>,
-    /// How many places an instance of each comes to.
-    pub places: Vec<u64>,
-    /// How many entries these may have.
-    pub bounds: Vec<u64>,
-    pub plays: Vec<PlayRow>,
+    pub actions: Table<ActionRow>,
+    /// How deep each of them is, of how many places an instance of it is, and how many entries these may have, all that is nested
+    /// in it counted.
+    pub depths: Table<u64>,
+    pub places: Table<u64>,
+    pub bounds: Table<u64>,
+    /// The plays, and how many places and entries they come to.
+    pub plays: Table<PlayRow>,
     pub all_places: u64,
     pub whole_bound: u64,
     pub drills: DrillList,
-    pub watches: Vec<u32>,
+    pub watches: Table<u32>,
+}
+
+/// Where a line stands, with what the lines before it in the same block have said.
+#[derive(Drop)]
+pub enum Block {
+    /// At the top, outside graphs and actions.
+    Top,
+    Graph(OpenGraph),
+    /// In an action, in a body or a handler of it or not.
+    Action(OpenAction),
+}
+
+/// What the lines so far have said.
+#[derive(Drop)]
+pub struct SoFar {
+    pub declared: Declared,
+    /// The block that the next line stands in.
     pub block: Block,
-    /// The graph that is being declared; in none, it is empty.
-    pub graph: OpenGraph,
-    /// The action that is being declared; outside actions, nothing is said of it.
-    pub action: OpenAction,
-    ghost some_exceptions: { is_in_graph block ≡ true → 0 < length graph.exceptions },
 }
 
 /// The graph of an action that names none: `universal`, and nothing below it.
 fn plain_graph(alloc: Global, universal: u32) -> Result<DeclaredGraph, AllocError>
     ensures { IfOk result (λ graph. graph ≡ plain_graph universal) }
 {
-    let mut exceptions = NumberList::new(alloc);
-    exceptions.push(universal)?;
-    Ok(DeclaredGraph {
-        exceptions,
-        pairs: Rows::from_vec(Vec::new(alloc)),
+    let graph = OpenGraph::begun(alloc, universal)?;
+    Ok(graph.end())
+}
+
+/// Nothing but the plain graph.
+fn nothing_declared(alloc: Global, universal: u32) -> Result<Declared, AllocError>
+    ensures { IfOk result (λ declared. declared ≡ nothing_declared universal) }
+{
+    let mut graphs = Table::new(alloc);
+    graphs.push(plain_graph(alloc, universal)?)?;
+    Ok(Declared {
+        universal,
+        participants: NumberList::new(alloc),
+        objects: NumberList::new(alloc),
+        graph_names: NumberList::new(alloc),
+        action_names: NumberList::new(alloc),
+        participant_rows: Table::new(alloc),
+        object_rows: Table::new(alloc),
+        graphs,
+        actions: Table::new(alloc),
+        depths: Table::new(alloc),
+        places: Table::new(alloc),
+        bounds: Table::new(alloc),
+        plays: Table::new(alloc),
+        all_places: 0,
+        whole_bound: 0,
+        drills: DrillList::new(alloc),
+        watches: Table::new(alloc),
     })
 }
 
-impl Declared {
-    ghost use Rattle.std.specs.Prelude.{◌≡◌, IfOk};
-    ghost use Rattle.script_checker.specs.DeclaredSoFar.{nothing_yet};
-    ghost use Rattle.script_checker.specs.inner.View.{so_far};
-
-    /// What is declared before the first line of a script.
-    pub fn new(alloc: Global, script: &Script) -> Result<Declared, AllocError>
-        ensures { IfOk result (λ declared. so_far declared ≡ nothing_yet script.now.names) }
+impl SoFar {
+    /// Before the first line of a script.
+    pub fn new(alloc: Global, script: &Script) -> Result<SoFar, AllocError>
+        ensures { IfOk result (λ so_far. so_far ≡ nothing_yet script.now.names) }
     {
-        let universal = script.universal();
-        let graphs = vec![in alloc; plain_graph(alloc, universal)?]?;
-        Ok(Declared {
-            alloc,
-            universal,
-            participants: NumberList::new(alloc),
-            objects: NumberList::new(alloc),
-            graph_names: NumberList::new(alloc),
-            action_names: NumberList::new(alloc),
-            participant_rows: Vec::new(alloc),
-            object_rows: Vec::new(alloc),
-            graphs,
-            actions: Vec::new(alloc),
-            depths: Vec::new(alloc),
-            places: Vec::new(alloc),
-            bounds: Vec::new(alloc),
-            plays: Vec::new(alloc),
-            all_places: 0,
-            whole_bound: 0,
-            drills: DrillList::new(alloc),
-            watches: Vec::new(alloc),
+        let declared = nothing_declared(alloc, script.universal())?;
+        Ok(SoFar {
+            declared,
             block: Block::Top,
-            graph: OpenGraph::new(alloc),
-            action: OpenAction::new(alloc, 0),
         })
     }
 }

@@ -1,6 +1,6 @@
 ghost use Rattle.std.specs.Prelude.{◌≡◌, ◌++◌, ◌∷◌, [], length, OnOk, OnErr};
 ghost use Rattle.std.specs.List.{list_any};
-ghost use Rattle.script_checker.specs.Causes.{is_drill};
+ghost use Rattle.script_checker.specs.Numbers.{is_drill};
 
 use caa_base::written::entry::Drill;
 use std::alloc::{AllocError, Global};

@@ -1,17 +1,20 @@
 //! The checks of a script, and the plan that it comes to.
 #![tactic(auto)]
 
-mod adding;
-mod causes;
+mod action;
 pub mod check_error;
 pub mod compile;
 mod declared;
 mod drill_list;
-mod graphs;
+mod ending;
+mod graph;
 mod lookups;
 mod number_list;
 mod open_action;
 mod open_graph;
 pub mod own_names;
-mod parts;
 pub mod plan_counts;
+mod role_list;
+mod saying;
+mod table;
+mod top;

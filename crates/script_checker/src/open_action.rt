@@ -1,44 +1,100 @@
-ghost use Rattle.std.specs.Prelude.{◌≤◌, length};
-ghost use Rattle.caa_base.specs.Written.Limits.{most_roles};
+//! An action that is being declared, and its parts.
+
+ghost use Rattle.std.specs.Prelude.{◌≡◌};
+ghost use Rattle.script_checker.specs.DeclaredSoFar.{named, begun_nest};
+ghost use Rattle.script_checker.specs.InAction.{begun_program};
 
 use crate::number_list::NumberList;
-use crate::parts::{NestSaid, Opening};
-use place_plan::drafts::draft_rows::{NestRow, RoleRow, Step};
+use crate::role_list::RoleList;
+use crate::table::Table;
+use place_plan::drafts::draft_rows::{NestRow, Step};
 use place_plan::drafts::object_list::ObjectList;
 use std::alloc::Global;
+
+/// What may come out of a nested use, to be carried out of it as an exception of the action around it.
+#[derive(Clone, Copy, Debug, PartialEq, Eq)]
+pub enum Outcome {
+    /// An exception, by its number in the graph of those that the use tells outside.
+    Exception(u32),
+    Undo,
+    Failure,
+}
+
+/// A nested use of the action that is being declared, and what was said of it.
+#[derive(Drop)]
+pub struct OpenNest {
+    pub row: NestRow,
+    /// The exceptions that have a `map` line.
+    pub mapped: NumberList,
+    /// Whether it has a `mapundo` line.
+    pub has_undo: bool,
+    /// Whether it has a `mapfailure` line.
+    pub has_failure: bool,
+}
+
+/// A body or a handler that is being declared.
+#[derive(Drop)]
+pub struct OpenProgram {
+    /// The number of its role.
+    pub role: u32,
+    /// The exception that it handles; none for a body.
+    pub exception: Option<u32>,
+    pub steps: Table<Step>,
+}
 
 /// An action that is being declared.
 #[derive(Drop)]
 pub struct OpenAction {
     /// Its name, by its number in the script.
     pub name: u32,
+    /// Its graphs and its fault exception, where they were said.
     pub internal: Option<u32>,
     pub interface: Option<u32>,
     pub fault: Option<u32>,
     pub uses: ObjectList,
+    /// Its roles by name, and what they do.
     pub roles: NumberList,
-    pub role_rows: Vec<RoleRow>,
+    pub role_rows: RoleList,
     /// Those of its roles that have a body.
-    pub bodies: Vec<u32>,
-    pub nests: NumberList,
-    pub nest_rows: Vec<NestRow>,
-    /// What was said of each of these.
-    pub nests_said: Vec<NestSaid>,
-    /// The body or handler that is being declared.
-    pub opening: Option<Opening>,
-    /// Its steps.
-    pub steps: Vec<Step>,
-    ghost few_roles: { length role_rows.items ≤ most_roles },
+    pub bodies: Table<u32>,
+    /// Its nested uses by name, and what was said of them.
+    pub nest_names: NumberList,
+    pub nests: Table<OpenNest>,
+    /// The body or handler that the next line stands in.
+    pub program: Option<OpenProgram>,
+}
+
+impl OpenNest {
+    /// A nested use of which nothing is mapped yet.
+    pub fn begun(alloc: Global, row: NestRow) -> OpenNest
+        ensures { result ≡ begun_nest row }
+    {
+        OpenNest {
+            row,
+            mapped: NumberList::new(alloc),
+            has_undo: false,
+            has_failure: false,
+        }
+    }
+}
+
+impl OpenProgram {
+    /// A body or a handler without steps.
+    pub fn begun(alloc: Global, role: u32, exception: Option<u32>) -> OpenProgram
+        ensures { result ≡ begun_program role exception }
+    {
+        OpenProgram {
+            role,
+            exception,
+            steps: Table::new(alloc),
+        }
+    }
 }
 
 impl OpenAction {
-    ghost use Rattle.std.specs.Prelude.{◌≡◌};
-    ghost use Rattle.script_checker.specs.DeclaredSoFar.{named};
-    ghost use Rattle.script_checker.specs.inner.View.{action_so_far};
-
     /// An action of which nothing is said yet but its name.
-    pub fn new(alloc: Global, name: u32) -> OpenAction
-        ensures { action_so_far result ≡ named name }
+    pub fn begun(alloc: Global, name: u32) -> OpenAction
+        ensures { result ≡ named name }
     {
         OpenAction {
             name,
@@ -47,13 +103,11 @@ impl OpenAction {
             fault: None,
             uses: ObjectList::new(alloc),
             roles: NumberList::new(alloc),
-            role_rows: Vec::new(alloc),
-            bodies: Vec::new(alloc),
-            nests: NumberList::new(alloc),
-            nest_rows: Vec::new(alloc),
-            nests_said: Vec::new(alloc),
-            opening: None,
-            steps: Vec::new(alloc),
+            role_rows: RoleList::new(alloc),
+            bodies: Table::new(alloc),
+            nest_names: NumberList::new(alloc),
+            nests: Table::new(alloc),
+            program: None,
         }
     }
 }

@@ -3,7 +3,7 @@ use Rattle.std.specs.Prelude.{◌≡◌, ℕ, ◌==◌, Bool, ◌&&◌, List}
 use Rattle.std.specs.List.{list_any}
 use Rattle.std.specs.HashSet.{HashSet, contains}
 use Rattle.caa_base.specs.declared.written.entry.Drill.{Drill}
-use Rattle.script_checker.specs.Causes.{is_drill}
+use Rattle.script_checker.specs.Numbers.{is_drill}
 
 -- a put is told by its object and by which put of the object it is
 abbrev pub same_put : ℕ × ℕ → ℕ × ℕ → Bool

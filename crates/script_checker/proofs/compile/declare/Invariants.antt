@@ -1,6 +1,5 @@
-use Rattle.script_checker.specs.inner.View.{so_far}
 use Rattle.script_checker.proofs.Taking.{Taken}
 use Rattle.script_checker.proofs.compile.declare.Given as goal
 
 abbrev pub invariant-loop-line : goal.invariant-loop-line
-invariant-loop-line l = Taken l.names l.line-items l.line-index (so_far l.declared) l.rows.items
+invariant-loop-line l = Taken l.names l.line-items l.line-index l.so_far l.rows.items

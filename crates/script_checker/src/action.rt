@@ -1,0 +1,8 @@
+//! What a line in an action, its bodies and its handlers is refused for, and what it adds to the action.
+
+pub(crate) mod adding;
+pub(crate) mod causes;
+mod named;
+mod nests;
+pub(crate) mod program;
+mod roles;

@@ -1,0 +1,74 @@
+//! What a line in a graph is refused for, and what it adds to the graph.
+
+ghost use Rattle.std.specs.Prelude.{◌≡◌, false, Some, None, OnOk};
+ghost use Rattle.script_checker.specs.InGraph.{unknown_in_graph, twice_in_graph, past_limit_in_graph, graph_with};
+ghost use Rattle.script_checker.specs.declared.declared.Declared.{Declared};
+ghost use Rattle.script_checker.specs.declared.declared.Block.TheVariants as block;
+ghost use Rattle.script_checker.specs.inner.Chosen.{first_cause};
+
+use crate::check_error::CheckCause;
+use crate::open_graph::OpenGraph;
+use action_script::forms::form::Form;
+use cover_table::MOST_EXCEPTIONS;
+use std::alloc::AllocError;
+
+/// Whether the line uses an exception that isn't in the graph.
+fn is_unknown(graph: &OpenGraph, form: &Form) -> bool
+    ensures { result ≡ unknown_in_graph graph.now form.now }
+{
+    match form {
+        Form::Cover(upper, lower) => {
+            !graph.exceptions().contains(*upper) || !graph.exceptions().contains(*lower)
+        }
+        _ => false,
+    }
+}
+
+/// Whether the graph has the exception already.
+fn is_twice(graph: &OpenGraph, form: &Form) -> bool
+    ensures { result ≡ twice_in_graph graph.now form.now }
+{
+    match form {
+        Form::Exception(name) => graph.exceptions().contains(*name),
+        _ => false,
+    }
+}
+
+/// Whether the graph would have too many exceptions.
+fn is_past_limit(graph: &OpenGraph, form: &Form) -> bool
+    ensures { result ≡ past_limit_in_graph graph.now form.now }
+{
+    match form {
+        Form::Exception(_) => graph.exceptions().len() as usize >= MOST_EXCEPTIONS,
+        _ => false,
+    }
+}
+
+/// The first cause of a line that doesn't end the graph.
+pub(crate) fn first_cause(graph: &OpenGraph, form: &Form) -> Option<CheckCause>
+    ensures { (declared : Declared) → result ≡ first_cause declared (block.Graph graph.now) form.now }
+{
+    if is_unknown(graph, form) {
+        Some(CheckCause::Unknown)
+    } else if is_twice(graph, form) {
+        Some(CheckCause::Twice)
+    } else if is_past_limit(graph, form) {
+        Some(CheckCause::Limit)
+    } else {
+        None
+    }
+}
+
+/// Adds what a line says that isn't refused.
+pub(crate) fn add(graph: &mut OpenGraph, form: &Form) -> Result<(), AllocError>
+    requires known { unknown_in_graph graph.old form.now ≡ false }
+    requires once { twice_in_graph graph.old form.now ≡ false }
+    requires few { past_limit_in_graph graph.old form.now ≡ false }
+    ensures { OnOk result (graph.new ≡ graph_with graph.old form.now) }
+{
+    match form {
+        Form::Exception(name) => graph.add_exception(*name),
+        Form::Cover(upper, lower) => graph.add_cover(*upper, *lower),
+        _ => Ok(()),
+    }
+}

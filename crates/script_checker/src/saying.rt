@@ -1,0 +1,71 @@
+//! A line that ends no block: whether it is refused, and what it adds to the block that is open.
+
+ghost use Rattle.std.specs.Prelude.{◌≡◌, ◌≢◌, false, OnOk, IfOk, IfErr};
+ghost use Rattle.script_checker.specs.After.{with_said};
+ghost use Rattle.script_checker.specs.Causes.{is_unknown, is_twice, is_past_limit};
+ghost use Rattle.script_checker.specs.Compiled.{IsLeast, HasNone};
+ghost use Rattle.script_checker.specs.inner.Chosen.{first_cause, is_end};
+ghost use Rattle.script_checker.specs.declared.check_error.CheckCause.TheVariants as cause;
+
+use crate::action::{adding, causes};
+use crate::check_error::CheckCause;
+use crate::declared::{Block, SoFar};
+use crate::{graph, top};
+use action_script::forms::form::Form;
+use caa_base::written::entry::OutOfMemory;
+use caa_base::written::name::Name;
+use std::alloc::{AllocError, Global};
+
+/// The first cause of a line.
+fn first_cause(alloc: Global, so_far: &SoFar, form: &Form) -> Result<Option<CheckCause>, AllocError>
+    requires { is_end form.now ≡ false }
+    ensures { IfOk result (λ cause. cause ≡ first_cause so_far.now.declared so_far.now.block form.now) }
+{
+    let declared = &so_far.declared;
+    match &so_far.block {
+        Block::Top => top::first_cause(alloc, declared, form),
+        Block::Graph(open) => Ok(graph::first_cause(open, form)),
+        Block::Action(open) => causes::first_cause(alloc, declared, open, form),
+    }
+}
+
+/// Adds what a line says that isn't refused.
+fn add(alloc: Global, so_far: &mut SoFar, names: &[Name], form: &Form) -> Result<(), OutOfMemory>
+    requires same { is_end form.now ≡ false }
+    requires known { is_unknown so_far.old.declared so_far.old.block form.now ≡ false }
+    requires once { is_twice so_far.old.declared so_far.old.block form.now ≡ false }
+    requires few { is_past_limit so_far.old.declared so_far.old.block form.now ≡ false }
+    ensures { OnOk result (so_far.new ≡ with_said names.now so_far.old form.now) }
+{
+    let declared = &mut so_far.declared;
+    match &mut so_far.block {
+        Block::Top => {
+            let block = top::block_begun(alloc, declared, form)?;
+            top::declare(alloc, declared, names, form)?;
+            so_far.block = block;
+        }
+        Block::Graph(open) => graph::add(open, form)?,
+        Block::Action(open) => adding::add(alloc, declared, names, open, form)?,
+    }
+    Ok(())
+}
+
+/// Takes a line that ends no block, where it has no cause to be refused.
+pub(crate) fn say(
+    alloc: Global,
+    so_far: &mut SoFar,
+    names: &[Name],
+    form: &Form,
+) -> Result<(), CheckCause>
+    requires { is_end form.now ≡ false }
+    ensures accepted { OnOk result (HasNone so_far.old form.now) }
+    ensures taken { OnOk result (so_far.new ≡ with_said names.now so_far.old form.now) }
+    ensures refused { IfErr result (λ c. c ≢ cause.OutOfMemory → IsLeast so_far.old form.now c) }
+{
+    let found = first_cause(alloc, so_far, form)?;
+    if let Some(cause) = found {
+        return Err(cause);
+    }
+    add(alloc, so_far, names, form)?;
+    Ok(())
+}
