@@ -7,7 +7,10 @@ use Rattle.caa_base.specs.Outside.Reading.{TookOff, TookUntil}
 use Rattle.caa_base.specs.declared.written.entry.Entry.{Entry}
 use Rattle.caa_base.specs.declared.outside.reading.ReadError.{ReadError}
 use Rattle.caa_base.specs.declared.outside.reading.ReadError.TheVariants as error
+use Rattle.action_script.specs.Forms.Printing.{text_of}
 use Rattle.action_script.specs.Forms.ScriptValue.{Script}
+use Rattle.graph_maker.specs.MadeScripts.{script_of_sets}
+use Rattle.graph_maker.specs.Refusals.{refusal_of}
 use Rattle.script_checker.specs.Compiled.{IsFirstRefused}
 use Rattle.journal_text.specs.declared.looks.seens.Seen.{Seen}
 use Rattle.message_plays.specs.Texts.{IsPlayedByMessages}
@@ -23,8 +26,9 @@ use Rattle.caa_commands.specs.Findings.{status_of, finding_text}
 use Rattle.caa_commands.specs.Inputs.{most_bytes, script_in}
 use Rattle.caa_commands.specs.Scripts.{HasPlan, IsRefusedScript}
 use Rattle.caa_commands.specs.OutsideUse.{SinkUse, Left, Call}
-use Rattle.caa_commands.specs.Calls.{CheckComesTo, Prints, EndsAs, DoesNotBegin, AuditComesTo, PlanComesTo, InputComesTo, IsNotServed, IsUnread, IsRead, HasStopped, unread_finding, CameTo, with_journal, Tells, Answers}
-use Rattle.caa_commands.specs.Served.{IsGiven, WasTold, IsServable, WasServed, IsToFind, legal_journal, illegal_line, too_many_entries, IsAuditable, HoldsRefused, IsRefusable, WasRefused, MissesNothing}
+use Rattle.caa_commands.specs.Graphs.{IsGraphText, IsRefusedGraph}
+use Rattle.caa_commands.specs.Calls.{CheckComesTo, IsRefusedFor, MakesGraph, Prints, EndsAs, DoesNotBegin, AuditComesTo, PlanComesTo, InputComesTo, IsNotServed, IsUnread, IsRead, HasStopped, unread_finding, CameTo, with_journal, Tells, Answers}
+use Rattle.caa_commands.specs.Served.{IsGiven, WasTold, IsMakeable, IsServable, ServesPlans, WasPrinted, WasServed, IsToFind, legal_journal, illegal_line, too_many_entries, IsAuditable, HoldsRefused, IsRefusable, WasRefused, MissesNothing}
 use Rattle.caa_base.proofs.Counting.{counted_up-rose}
 use Rattle.caa_commands.proofs.NotRefused.{plan_not_refused}
 use Rattle.caa_commands.proofs.PlansOfScripts.{plan_short, plan_tells}
@@ -92,19 +96,21 @@ not_refused bytes plan refusal h (inr u) =
     plan_not_refused h.script plan u.error h.compiled (subst (λ (s : Script). IsFirstRefused s u.error) same u.first)
 
 -- a command other than `audit` reads a script
-most_of_script : (c : Command) → (c ≡ command.Audit → ⊥) → most_bytes c ≡ most_script_bytes
+most_of_script : (c : Command) → ServesPlans c → most_bytes c ≡ most_script_bytes
 most_of_script command.Check h = refl
 most_of_script (command.Sim seed) h = refl
 most_of_script command.Run h = refl
 most_of_script (command.Messages seed) h = refl
-most_of_script command.Audit h = absurd (h refl)
+most_of_script (command.Graph most) h = elim h [ ]
+most_of_script command.Audit h = elim h [ ]
 
-script_of_script : (c : Command) (bytes : List ℕ) → (c ≡ command.Audit → ⊥) → script_in c bytes ≡ bytes
+script_of_script : (c : Command) (bytes : List ℕ) → ServesPlans c → script_in c bytes ≡ bytes
 script_of_script command.Check bytes h = refl
 script_of_script (command.Sim seed) bytes h = refl
 script_of_script command.Run bytes h = refl
 script_of_script (command.Messages seed) bytes h = refl
-script_of_script command.Audit bytes h = absurd (h refl)
+script_of_script (command.Graph most) bytes h = elim h [ ]
+script_of_script command.Audit bytes h = elim h [ ]
 
 -- a play that ended is served, or its text found no memory
 ended_served : (plan : Plan) (journal : List Entry) (seens : List Seen) (found : Finding) → EndsAs plan journal seens found → WasServed (status_of found)
@@ -159,9 +165,10 @@ printed_served holds (finding.Legal entries) left h = elim h [ ]
 printed_served holds (finding.Illegal line) left h = elim h [ ]
 
 -- over a plan, a command other than `audit` comes to nothing else
-plan_served : {P : Type 0} (c : Command) (plan : Plan) (bytes : List ℕ) (found : Finding) (left : Left P) → (c ≡ command.Audit → ⊥)
+plan_served : {P : Type 0} (c : Command) (plan : Plan) (bytes : List ℕ) (found : Finding) (left : Left P) → ServesPlans c
     → (Rose left.plant.lay_faults_before left.plant.lay_faults_after → ⊥) → PlanComesTo c plan bytes found left → WasServed (status_of found)
-plan_served command.Audit plan bytes found left other laid h = absurd (other refl)
+plan_served command.Audit plan bytes found left other laid h = elim other [ ]
+plan_served (command.Graph most) plan bytes found left other laid h = elim other [ ]
 plan_served command.Check plan bytes found left other laid h = checked_served plan found left h
 plan_served (command.Sim seed) plan bytes found left other laid (inl played) = ended_served plan left.journal [] found played.ends
 plan_served (command.Sim seed) plan bytes found left other laid (inr unopened) = begun_served found left laid unopened
@@ -169,30 +176,44 @@ plan_served command.Run plan bytes found left other laid (inl played) = ended_se
 plan_served command.Run plan bytes found left other laid (inr unopened) = begun_served found left laid unopened
 plan_served (command.Messages seed) plan bytes found left other laid h = printed_served (IsPlayedByMessages plan seed) found left h
 
+-- a command other than `graph` is refused for what its script is refused for
+refused_script : (c : Command) (bytes : List ℕ) (refusal : Refusal) → ((most : ℕ) → c ≡ command.Graph most → ⊥) → IsRefusedFor c bytes refusal → IsRefusedScript (script_in c bytes) refusal
+refused_script command.Check bytes refusal other h = h
+refused_script (command.Sim seed) bytes refusal other h = h
+refused_script command.Run bytes refusal other h = h
+refused_script command.Audit bytes refusal other h = h
+refused_script (command.Messages seed) bytes refusal other h = h
+refused_script (command.Graph most) bytes refusal other h = absurd (other most refl)
+
+-- a command that serves plans makes no graph
+no_graph : (c : Command) → ServesPlans c → (most : ℕ) → c ≡ command.Graph most → ⊥
+no_graph c plans most same = subst ServesPlans same plans
+
 -- a script that has a plan isn't turned away
-not_away : {P : Type 0} (c : Command) (bytes : List ℕ) (plan : Plan) (found : Finding) (left : Left P) → HasPlan (script_in c bytes) plan → IsNotServed c bytes found left → found ≡ finding.OutOfMemory
-not_away c bytes plan (finding.Refused refusal) left script h = absurd (not_refused (script_in c bytes) plan refusal script h.0)
-not_away c bytes plan finding.OutOfMemory left script h = refl
-not_away c bytes plan finding.Usage left script h = elim h [ ]
-not_away c bytes plan finding.SourceFault left script h = elim h [ ]
-not_away c bytes plan finding.PlantFault left script h = elim h [ ]
-not_away c bytes plan (finding.Checked counts) left script h = elim h [ ]
-not_away c bytes plan (finding.Played failed text) left script h = elim h [ ]
-not_away c bytes plan (finding.Legal entries) left script h = elim h [ ]
-not_away c bytes plan (finding.Illegal line) left script h = elim h [ ]
-not_away c bytes plan (finding.Printed text) left script h = elim h [ ]
+not_away : {P : Type 0} (c : Command) (bytes : List ℕ) (plan : Plan) (found : Finding) (left : Left P) → ((most : ℕ) → c ≡ command.Graph most → ⊥) → HasPlan (script_in c bytes) plan → IsNotServed c bytes found left → found ≡ finding.OutOfMemory
+not_away c bytes plan (finding.Refused refusal) left other script h = absurd (not_refused (script_in c bytes) plan refusal script (refused_script c bytes refusal other h.0))
+not_away c bytes plan finding.OutOfMemory left other script h = refl
+not_away c bytes plan finding.Usage left other script h = elim h [ ]
+not_away c bytes plan finding.SourceFault left other script h = elim h [ ]
+not_away c bytes plan finding.PlantFault left other script h = elim h [ ]
+not_away c bytes plan (finding.Checked counts) left other script h = elim h [ ]
+not_away c bytes plan (finding.Played failed text) left other script h = elim h [ ]
+not_away c bytes plan (finding.Legal entries) left other script h = elim h [ ]
+not_away c bytes plan (finding.Illegal line) left other script h = elim h [ ]
+not_away c bytes plan (finding.Printed text) left other script h = elim h [ ]
 
 lost_served : (found : Finding) → found ≡ finding.OutOfMemory → WasServed (status_of found)
 lost_served found lost = inr (inr (ap status_of lost))
 
 found_served : {P : Type 0} (call : Call P) (sink : SinkUse) (h : IsServable call sink) (journal : List Entry) (found : Finding) → CameTo (with_journal call journal) found → WasServed (status_of found)
 found_served call sink h journal found came =
-    let short : length h.bytes ≤ most_bytes h.served = subst (λ n. length h.bytes ≤ n) (sym (most_of_script h.served h.unjudged)) (plan_short h.bytes h.plan h.script) in
-    let script : HasPlan (script_in h.served h.bytes) h.plan = subst (λ b. HasPlan b h.plan) (sym (script_of_script h.served h.bytes h.unjudged)) h.script in
+    let short : length h.bytes ≤ most_bytes h.served = subst (λ n. length h.bytes ≤ n) (sym (most_of_script h.served h.plans)) (plan_short h.bytes h.plan h.script) in
+    let script : HasPlan (script_in h.served h.bytes) h.plan = subst (λ b. HasPlan b h.plan) (sym (script_of_script h.served h.bytes h.plans)) h.script in
     let left = (with_journal call journal).left in
     elim (input_comes (with_journal call journal) sink h.served h.bytes (given_with call sink h.served h.bytes h.given journal) found short came) [
-      | inl (inl served) ↦ plan_served h.served served.plan h.bytes found left h.unjudged h.laid served.comes
-      | inl (inr away) ↦ lost_served found (not_away h.served h.bytes h.plan found left script away)
+      | inl (inl served) ↦ plan_served h.served served.plan h.bytes found left h.plans h.laid served.comes
+      | inl (inr (inl away)) ↦ lost_served found (not_away h.served h.bytes h.plan found left (no_graph h.served h.plans) script away)
+      | inl (inr (inr graph)) ↦ absurd (no_graph h.served h.plans graph.most graph.asked)
       | inr lost ↦ lost_served found lost
     ]
 
@@ -229,7 +250,8 @@ found_audited call sink found other h journal came =
     let left = (with_journal call journal).left in
     elim (input_comes (with_journal call journal) sink command.Audit h.bytes (given_with call sink command.Audit h.bytes h.given journal) other h.fits came) [
       | inl (inl served) ↦ as_to_find call sink found other left h served.plan served.script (audited served.plan h.bytes other left served.comes)
-      | inl (inr away) ↦ inr (not_away command.Audit h.bytes h.plan other left h.script away)
+      | inl (inr (inl away)) ↦ inr (not_away command.Audit h.bytes h.plan other left (λ most same. cc) h.script away)
+      | inl (inr (inr graph)) ↦ let same = graph.asked in absurd cc
       | inr lost ↦ inr lost
     ]
 
@@ -254,6 +276,40 @@ refused_away c bytes (finding.Legal entries) left h = elim h [ ]
 refused_away c bytes (finding.Illegal line) left h = elim h [ ]
 refused_away c bytes (finding.Printed text) left h = elim h [ ]
 
+-- a command that is served over a plan isn't refused
+not_both : {P : Type 0} (c : Command) (bytes : List ℕ) (plan : Plan) (refusal : Refusal) (found : Finding) (left : Left P) → HasPlan (script_in c bytes) plan → PlanComesTo c plan bytes found left → IsRefusedFor c bytes refusal → ⊥
+not_both (command.Graph most) bytes plan refusal found left script comes h = comes
+not_both command.Check bytes plan refusal found left script comes h = not_refused bytes plan refusal script h
+not_both (command.Sim seed) bytes plan refusal found left script comes h = not_refused bytes plan refusal script h
+not_both command.Run bytes plan refusal found left script comes h = not_refused bytes plan refusal script h
+not_both command.Audit bytes plan refusal found left script comes h = not_refused (script_in command.Audit bytes) plan refusal script h
+not_both (command.Messages seed) bytes plan refusal found left script comes h = not_refused bytes plan refusal script h
+
+-- a script of which a text is made isn't refused
+no_text : (most : ℕ) (bytes text : List ℕ) (refusal : Refusal) → IsGraphText most bytes text → IsRefusedGraph most bytes refusal → ⊥
+no_text most bytes text refusal made (inl m) = let both : Ok made.script ≡ Err m.error = sym made.spelled ∙ m.first in absurd cc
+no_text most bytes text refusal made (inr u) =
+    let both : Ok made.script ≡ Ok u.script = sym made.spelled ∙ u.spelled in
+    let same : made.script ≡ u.script = cc in
+    let none : refusal_of u.script most ≡ None = subst (λ (s : Script). refusal_of s most ≡ None) same made.accepted in
+    let two : None ≡ Some u.error = sym none ∙ u.first in
+    absurd cc
+
+printed_refused : {P : Type 0} (most : ℕ) (bytes : List ℕ) (refusal : Refusal) (found : Finding) (left : Left P) → Prints (IsGraphText most bytes) found left → IsRefusedGraph most bytes refusal → IsRefusal found
+printed_refused most bytes refusal (finding.Printed text) left h refused = absurd (no_text most bytes text.items refusal h.0 refused)
+printed_refused most bytes refusal finding.OutOfMemory left h refused = inr refl
+printed_refused most bytes refusal finding.Usage left h refused = elim h [ ]
+printed_refused most bytes refusal finding.SourceFault left h refused = elim h [ ]
+printed_refused most bytes refusal (finding.Refused other) left h refused = elim h [ ]
+printed_refused most bytes refusal (finding.Checked counts) left h refused = elim h [ ]
+printed_refused most bytes refusal finding.PlantFault left h refused = elim h [ ]
+printed_refused most bytes refusal (finding.Played failed text) left h refused = elim h [ ]
+printed_refused most bytes refusal (finding.Legal entries) left h refused = elim h [ ]
+printed_refused most bytes refusal (finding.Illegal line) left h refused = elim h [ ]
+
+graph_refused : {P : Type 0} (c : Command) (bytes : List ℕ) (refusal : Refusal) (found : Finding) (left : Left P) → MakesGraph c bytes found left → IsRefusedFor c bytes refusal → IsRefusal found
+graph_refused c bytes refusal found left graph h = printed_refused graph.most bytes refusal found left graph.prints (subst (λ d. IsRefusedFor d bytes refusal) graph.asked h)
+
 module _ {P : Type 0} (call : Call P) (sink : SinkUse) (c : Command) (bytes : List ℕ) (given : IsGiven call sink c bytes) (found : Finding) where
   -- an input that is too long isn't read to its end
   long_refused : most_bytes c < length bytes → CameTo call found → IsRefusal found
@@ -270,8 +326,9 @@ module _ {P : Type 0} (call : Call P) (sink : SinkUse) (c : Command) (bytes : Li
 
   script_refused : HoldsRefused c bytes → CameTo call found → IsRefusal found
   script_refused h came = elim (input_comes call sink c bytes given found h.fits came) [
-    | inl (inl served) ↦ absurd (not_refused (script_in c bytes) served.plan h.refusal served.script h.script)
-    | inl (inr away) ↦ refused_away c bytes found call.left away
+    | inl (inl served) ↦ absurd (not_both c bytes served.plan h.refusal found call.left served.script served.comes h.script)
+    | inl (inr (inl away)) ↦ refused_away c bytes found call.left away
+    | inl (inr (inr graph)) ↦ graph_refused c bytes h.refusal found call.left graph h.script
     | inr lost ↦ inr lost
   ]
 
@@ -292,7 +349,69 @@ answer_refused call sink answer a h = by (found_refused call sink h a.journal a.
     by one (inr (inl cut)) = absurd (h.given.written (counted_up-rose _ _ cut.cause))
     by one (inr (inr lost)) = inr lost.answered
 
+-- ---- `graph`
+
+-- where a text can be made of a script, it is made, or memory was wanting
+made_away : {P : Type 0} (most : ℕ) (bytes text : List ℕ) (found : Finding) (left : Left P) → IsGraphText most bytes text → IsNotServed (command.Graph most) bytes found left → found ≡ finding.OutOfMemory
+made_away most bytes text (finding.Refused refusal) left made h = absurd (no_text most bytes text refusal made h.0)
+made_away most bytes text finding.OutOfMemory left made h = refl
+made_away most bytes text finding.Usage left made h = elim h [ ]
+made_away most bytes text finding.SourceFault left made h = elim h [ ]
+made_away most bytes text finding.PlantFault left made h = elim h [ ]
+made_away most bytes text (finding.Checked counts) left made h = elim h [ ]
+made_away most bytes text (finding.Played failed other) left made h = elim h [ ]
+made_away most bytes text (finding.Legal entries) left made h = elim h [ ]
+made_away most bytes text (finding.Illegal line) left made h = elim h [ ]
+made_away most bytes text (finding.Printed other) left made h = elim h [ ]
+
+one_text : (most : ℕ) (bytes text other : List ℕ) → IsGraphText most bytes text → IsGraphText most bytes other → other ≡ text
+one_text most bytes text other made more =
+    let both : Ok made.script ≡ Ok more.script = sym made.spelled ∙ more.spelled in
+    let same : made.script ≡ more.script = cc in
+    more.printed ∙ ap (λ (s : Script). text_of (script_of_sets s most)) (sym same) ∙ sym made.printed
+
+-- this text is found, or want of memory
+abbrev IsText : List ℕ → Finding → Type 0
+IsText text found = ((status_of found ≡ status.Done) × (finding_text found ≡ text)) ⊎ (found ≡ finding.OutOfMemory)
+
+printed_text : {P : Type 0} (most : ℕ) (bytes text : List ℕ) (found : Finding) (left : Left P) → IsGraphText most bytes text → Prints (IsGraphText most bytes) found left → IsText text found
+printed_text most bytes text (finding.Printed other) left made h = inl (refl, one_text most bytes text other.items made h.0)
+printed_text most bytes text finding.OutOfMemory left made h = inr refl
+printed_text most bytes text finding.Usage left made h = elim h [ ]
+printed_text most bytes text finding.SourceFault left made h = elim h [ ]
+printed_text most bytes text (finding.Refused refusal) left made h = elim h [ ]
+printed_text most bytes text (finding.Checked counts) left made h = elim h [ ]
+printed_text most bytes text finding.PlantFault left made h = elim h [ ]
+printed_text most bytes text (finding.Played failed other) left made h = elim h [ ]
+printed_text most bytes text (finding.Legal entries) left made h = elim h [ ]
+printed_text most bytes text (finding.Illegal line) left made h = elim h [ ]
+
+made_text : {P : Type 0} (most : ℕ) (bytes text : List ℕ) (found : Finding) (left : Left P) → IsGraphText most bytes text → MakesGraph (command.Graph most) bytes found left → IsText text found
+made_text most bytes text found left made graph =
+    let asked : command.Graph most ≡ command.Graph graph.most = graph.asked in
+    let same : graph.most ≡ most = cc in
+    printed_text most bytes text found left made (subst (λ m. Prints (IsGraphText m bytes) found left) same graph.prints)
+
+found_text : {P : Type 0} (call : Call P) (sink : SinkUse) (text : List ℕ) (h : IsMakeable call sink text) (journal : List Entry) (found : Finding) → CameTo (with_journal call journal) found → IsText text found
+found_text call sink text h journal found came =
+    let left = (with_journal call journal).left in
+    elim (input_comes (with_journal call journal) sink (command.Graph h.most) h.bytes (given_with call sink (command.Graph h.most) h.bytes h.given journal) found h.fits came) [
+      | inl (inl served) ↦ absurd served.comes
+      | inl (inr (inl away)) ↦ inr (made_away h.most h.bytes text found left h.made away)
+      | inl (inr (inr graph)) ↦ made_text h.most h.bytes text found left h.made graph
+      | inr lost ↦ inr lost
+    ]
+
+answer_text : {P : Type 0} (call : Call P) (sink : SinkUse) (text : List ℕ) (answer : Status) → Answers call sink answer → IsMakeable call sink text → WasPrinted text sink answer
+answer_text call sink text answer a h = by (found_text call sink text h a.journal a.finding a.came) a.tells
+  where
+    by : IsText text a.finding → Tells a.finding a.journal call.left.journal sink answer → WasPrinted text sink answer
+    by (inl is) (inl whole) = inl (whole.answered ∙ is.0, whole.written ∙ ap (append_known sink.held_before) is.1)
+    by (inr lost) (inl whole) = inr (whole.answered ∙ ap status_of lost)
+    by one (inr (inl cut)) = absurd (h.given.written (counted_up-rose _ _ cut.cause))
+    by one (inr (inr lost)) = inr lost.answered
+
 -- ---- all
 
 pub complete : {P : Type 0} (call : Call P) (sink : SinkUse) (answer : Status) → Answers call sink answer → MissesNothing call sink answer
-complete call sink answer a = record { served = answer_served call sink answer a; audited = (λ found. answer_audited call sink found answer a); refused = answer_refused call sink answer a }
+complete call sink answer a = record { served = answer_served call sink answer a; printed = (λ text. answer_text call sink text answer a); audited = (λ found. answer_audited call sink found answer a); refused = answer_refused call sink answer a }

@@ -21,6 +21,8 @@ use Rattle.caa_commands.specs.declared.finding.Finding.{Finding}
 use Rattle.caa_commands.specs.declared.finding.Finding.TheVariants as finding
 use Rattle.caa_commands.specs.declared.status.Status.{Status}
 use Rattle.caa_commands.specs.declared.status.Status.TheVariants as status
+use Rattle.caa_commands.specs.declared.fault.Refusal.{Refusal}
+use Rattle.caa_commands.specs.Graphs.{IsGraphText, IsRefusedGraph}
 use Rattle.caa_commands.specs.Findings.{status_of, finding_text, is_played, needs_memory}
 use Rattle.caa_commands.specs.Inputs.{most_bytes, script_in, journal_part}
 use Rattle.caa_commands.specs.Judging.{IsLawful, IsIllegal, HasTooManyEntries}
@@ -28,7 +30,13 @@ use Rattle.caa_commands.specs.FailedPlays.{IsPlayed, has_failed_play}
 use Rattle.caa_commands.specs.Scripts.{HasPlan, IsRefusedScript}
 use Rattle.caa_commands.specs.OutsideUse.{SourceUse, SinkUse, Left, Call, IsIdle, IsUnplayed}
 
--- ---- what each command comes to over a plan
+-- ---- a command that is served over a plan; `check` only tells how large it is, and `graph` needs none
+abbrev pub NeedsPlan : Command → Type 0
+NeedsPlan command.Check = ⊥
+NeedsPlan (command.Graph most) = ⊥
+NeedsPlan _ = Unit {0}
+
+-- what each command comes to over a plan
 
 -- `check` tells how large the plan is, and does nothing else
 abbrev pub CheckComesTo : {P : Type 0} → Plan → Finding → Left P → Type 0
@@ -89,12 +97,19 @@ AuditComesTo plan bytes (finding.Refused refusal) left = HasTooManyEntries plan 
 AuditComesTo plan bytes finding.OutOfMemory left = IsIdle left
 AuditComesTo plan bytes _ left = ⊥
 
+-- a command that is served over a plan; `check` only tells how large it is, and `graph` needs none
+abbrev pub NeedsPlan : Command → Type 0
+NeedsPlan command.Check = ⊥
+NeedsPlan (command.Graph most) = ⊥
+NeedsPlan _ = Unit {0}
+
 -- what each command comes to over a plan
 abbrev pub PlanComesTo : {P : Type 0} → Command → Plan → List ℕ → Finding → Left P → Type 0
 PlanComesTo command.Check plan bytes found left = CheckComesTo plan found left
 PlanComesTo (command.Sim seed) plan bytes found left = SimComesTo plan seed found left
 PlanComesTo command.Run plan bytes found left = RunComesTo plan found left
 PlanComesTo command.Audit plan bytes found left = AuditComesTo plan bytes found left
+PlanComesTo (command.Graph most) plan bytes found left = ⊥
 PlanComesTo (command.Messages seed) plan bytes found left = Prints (IsPlayedByMessages plan seed) found left
 
 -- ---- what each command comes to over the bytes that were read
@@ -105,15 +120,27 @@ pub record IsServed {P : Type 0} (command : Command) (bytes : List ℕ) (found :
   pub script : HasPlan (script_in command bytes) plan
   pub comes : PlanComesTo command plan bytes found left
 
+-- why the bytes are refused for a command: for `graph` there are rules of its own
+abbrev pub IsRefusedFor : Command → List ℕ → Refusal → Type 0
+IsRefusedFor (command.Graph most) bytes refusal = IsRefusedGraph most bytes refusal
+IsRefusedFor command bytes refusal = IsRefusedScript (script_in command bytes) refusal
+
 -- the script among them is refused, or no memory was found for its plan
 abbrev pub IsNotServed : {P : Type 0} → Command → List ℕ → Finding → Left P → Type 0
-IsNotServed command bytes (finding.Refused refusal) left = IsRefusedScript (script_in command bytes) refusal × IsIdle left
+IsNotServed command bytes (finding.Refused refusal) left = IsRefusedFor command bytes refusal × IsIdle left
 IsNotServed command bytes finding.OutOfMemory left = IsIdle left
 IsNotServed command bytes _ left = ⊥
 
--- the script is served, or it isn't
+-- `graph` makes a script of sets and prints it
+pub record MakesGraph {P : Type 0} (command : Command) (bytes : List ℕ) (found : Finding) (left : Left P) : Type 0 where
+  pub most : ℕ
+  pub asked : command ≡ command.Graph most
+  pub prints : Prints (IsGraphText most bytes) found left
+
+-- the script is served, or it isn't, or a graph is made of it
 abbrev pub InputComesTo : {P : Type 0} → Command → List ℕ → Finding → Left P → Type 0
-InputComesTo command bytes found left = IsServed command bytes found left ⊎ IsNotServed command bytes found left
+InputComesTo command bytes found left =
+    IsServed command bytes found left ⊎ (IsNotServed command bytes found left ⊎ MakesGraph command bytes found left)
 
 -- ---- what a call comes to, in the order in which things are tried
 

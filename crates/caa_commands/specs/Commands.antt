@@ -8,6 +8,10 @@ use Rattle.caa_commands.specs.declared.command.Command.TheVariants as command
 abbrev pub most_seed : ℕ
 most_seed = 2147483647
 
+-- the most members that a set of exceptions may have
+abbrev pub most_members : ℕ
+most_members = 7
+
 -- a value that is a number from the least to the greatest
 abbrev pub number_within : ℕ → ℕ → Option ℤ → Option ℕ
 number_within least most None = None
@@ -20,9 +24,10 @@ number_alone least most [] = None
 number_alone least most (word ∷ []) = number_within least most (value_of word)
 number_alone least most (word ∷ next ∷ more) = None
 
--- the number of a command, where it has one, is in its range: a seed is at most the greatest
+-- the number of a command, where it has one, is in its range: a seed is at most the greatest, and a set has a member at least
 abbrev pub IsWithinRange : Command → Type 0
 IsWithinRange (command.Sim seed) = seed ≤ most_seed
+IsWithinRange (command.Graph members) = (1 ≤ members) × (members ≤ most_members)
 IsWithinRange (command.Messages seed) = seed ≤ most_seed
 IsWithinRange _ = Unit {0}
 
@@ -31,7 +36,7 @@ abbrev pub alone : Command → List (List ℕ) → Option Command
 alone command [] = Some command
 alone command (word ∷ words) = None
 
--- the command of these words, where they are `check`, `sim SEED`, `run`, `audit` or `messages SEED`
+-- the command of these words, where they are `check`, `sim SEED`, `run`, `audit`, `graph K` or `messages SEED`
 abbrev pub command_of : List (List ℕ) → Option Command
 command_of [] = None
 command_of (word ∷ words) =
@@ -39,7 +44,8 @@ command_of (word ∷ words) =
     else (if bytes_eq word (codes "sim") then option_map command.Sim (number_alone 0 most_seed words)
     else (if bytes_eq word (codes "run") then alone command.Run words
     else (if bytes_eq word (codes "audit") then alone command.Audit words
-    else (if bytes_eq word (codes "messages") then option_map command.Messages (number_alone 0 most_seed words) else None))))
+    else (if bytes_eq word (codes "graph") then option_map command.Graph (number_alone 1 most_members words)
+    else (if bytes_eq word (codes "messages") then option_map command.Messages (number_alone 0 most_seed words) else None)))))
 
 -- a command that needs no threads; `run` needs them
 abbrev pub without_threads : Option Command → Option Command

@@ -102,6 +102,11 @@ pub record IsUnplannable (bytes : List ℕ) (refusal : Refusal) : Type 0 where
 abbrev pub IsRefusedScript : List ℕ → Refusal → Type 0
 IsRefusedScript bytes refusal = IsMisspelled bytes refusal ⊎ IsUnplannable bytes refusal
 
+-- why there is no script; want of memory tells nothing of the bytes
+abbrev pub HasNoScript : List ℕ → NoPlan → Type 0
+HasNoScript bytes (no_plan.Refused refusal) = IsMisspelled bytes refusal
+HasNoScript bytes no_plan.OutOfMemory = Unit {0}
+
 -- why there is no plan; want of memory tells nothing of the script
 abbrev pub HasNoPlan : List ℕ → NoPlan → Type 0
 HasNoPlan bytes (no_plan.Refused refusal) = IsRefusedScript bytes refusal

@@ -14,7 +14,9 @@ use Rattle.caa_commands.specs.declared.status.Status.TheVariants as status
 use Rattle.caa_commands.specs.Findings.{status_of, finding_text}
 use Rattle.caa_commands.specs.Inputs.{most_bytes, script_in, journal_part}
 use Rattle.caa_commands.specs.Judging.{IsLawful, IsIllegal, HasTooManyEntries}
-use Rattle.caa_commands.specs.Scripts.{HasPlan, IsRefusedScript}
+use Rattle.caa_commands.specs.Calls.{IsRefusedFor}
+use Rattle.caa_commands.specs.Graphs.{IsGraphText}
+use Rattle.caa_commands.specs.Scripts.{HasPlan}
 use Rattle.caa_commands.specs.OutsideUse.{SinkUse, Call}
 
 -- the words are this command, the source tells these bytes, and no count of failed reads or failed writes rose
@@ -32,10 +34,16 @@ WasTold found sink answer =
 
 -- ---- `check`, `sim SEED`, `run` and `messages SEED`
 
+-- a command that serves each script which has a plan
+abbrev pub ServesPlans : Command → Type 0
+ServesPlans command.Audit = ⊥
+ServesPlans (command.Graph most) = ⊥
+ServesPlans _ = Unit {0}
+
 -- the bytes spell a script with a plan, and the device didn't refuse to be laid out
 pub record IsServable {P : Type 0} (call : Call P) (sink : SinkUse) : Type 0 where
   pub served : Command
-  pub unjudged : served ≡ command.Audit → ⊥
+  pub plans : ServesPlans served
   pub bytes : List ℕ
   pub given : IsGiven call sink served bytes
   pub plan : Plan
@@ -45,6 +53,21 @@ pub record IsServable {P : Type 0} (call : Call P) (sink : SinkUse) : Type 0 whe
 -- the command was served, or no memory was found
 abbrev pub WasServed : Status → Type 0
 WasServed answer = (answer ≡ status.Done) ⊎ ((answer ≡ status.SomeFailed) ⊎ (answer ≡ status.OutOfMemory))
+
+-- ---- `graph K`
+
+-- the bytes aren't too many, and spell a script of which this text is made
+pub record IsMakeable {P : Type 0} (call : Call P) (sink : SinkUse) (text : List ℕ) : Type 0 where
+  pub most : ℕ
+  pub bytes : List ℕ
+  pub given : IsGiven call sink (command.Graph most) bytes
+  pub fits : length bytes ≤ most_bytes (command.Graph most)
+  pub made : IsGraphText most bytes text
+
+-- this text was printed, or no memory was found
+abbrev pub WasPrinted : List ℕ → SinkUse → Status → Type 0
+WasPrinted text sink answer =
+    ((answer ≡ status.Done) × (sink.held_after ≡ append_known sink.held_before text)) ⊎ (answer ≡ status.OutOfMemory)
 
 -- ---- `audit`
 
@@ -71,11 +94,11 @@ pub record IsAuditable {P : Type 0} (call : Call P) (sink : SinkUse) (found : Fi
 
 -- ---- what is refused
 
--- the bytes aren't too many, and the script among them is refused
+-- the bytes aren't too many, and the script among them is refused for this command
 pub record HoldsRefused (command : Command) (bytes : List ℕ) : Type 0 where
   pub fits : length bytes ≤ most_bytes command
   pub refusal : Refusal
-  pub script : IsRefusedScript (script_in command bytes) refusal
+  pub script : IsRefusedFor command bytes refusal
 
 -- the bytes are more than those of the command may be, or the script among them is refused
 pub record IsRefusable {P : Type 0} (call : Call P) (sink : SinkUse) : Type 0 where
@@ -93,5 +116,6 @@ WasRefused answer = (answer ≡ status.Refused) ⊎ (answer ≡ status.OutOfMemo
 -- what can be served is served, what is to be found is told, and what is to be refused is refused
 pub record MissesNothing {P : Type 0} (call : Call P) (sink : SinkUse) (answer : Status) : Type 0 where
   pub served : IsServable call sink → WasServed answer
+  pub printed : (text : List ℕ) → IsMakeable call sink text → WasPrinted text sink answer
   pub audited : (found : Finding) → IsAuditable call sink found → WasTold found sink answer
   pub refused : IsRefusable call sink → WasRefused answer

@@ -6,6 +6,9 @@ use action_script::words::word::value_of;
 /// The greatest seed.
 const MOST_SEED: u32 = 2_147_483_647;
 
+/// The most members that a set of exceptions may have.
+const MOST_MEMBERS: u32 = 7;
+
 /// A command line that is served.
 #[derive(Clone, Copy, Debug, PartialEq, Eq)]
 pub enum Command {
@@ -17,6 +20,8 @@ pub enum Command {
     Run,
     /// Judges a journal by the script before it.
     Audit,
+    /// Makes the graph of all sets of at most so many of a script's exceptions, from 1 to 7.
+    Graph(u32),
     /// Lets the roles of a script's first play agree by messages. This seed, below 2^31, says what their network delivers.
     Messages(u32),
 }
@@ -59,6 +64,8 @@ pub fn command_of(words: &[String]) -> Option<Command>
         alone(Command::Run, more)
     } else if word.as_str() == "audit" {
         alone(Command::Audit, more)
+    } else if word.as_str() == "graph" {
+        Some(Command::Graph(number_alone(1, MOST_MEMBERS, more)?))
     } else if word.as_str() == "messages" {
         Some(Command::Messages(number_alone(0, MOST_SEED, more)?))
     } else {

@@ -4,6 +4,7 @@
 mod command;
 mod fault;
 mod finding;
+mod graphs;
 mod inputs;
 mod judging;
 mod playing;

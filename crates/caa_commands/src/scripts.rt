@@ -3,7 +3,7 @@
 ghost use Rattle.std.specs.Prelude.{◌≡◌, true, [], Ok, IfOk, IfErr, OnOk};
 ghost use Rattle.action_script.specs.Lines.Spelling.{reading_of};
 ghost use Rattle.journal_text.specs.Texts.Naming.{is_well_named};
-ghost use Rattle.caa_commands.specs.Scripts.{HasPlan, IsCounted, HasNoPlan, IsSpelling, IsCause, declared_after, declared_at, exception_at};
+ghost use Rattle.caa_commands.specs.Scripts.{HasPlan, IsCounted, HasNoPlan, HasNoScript, IsSpelling, IsCause, declared_after, declared_at, exception_at};
 
 use crate::fault::{Fault, Refusal};
 use action_script::forms::form::Form;
@@ -19,7 +19,7 @@ use script_checker::own_names::has_own_names;
 use script_checker::plan_counts::PlanCounts;
 use std::alloc::{AllocError, Global};
 
-/// Why bytes have no plan.
+/// Why bytes have no plan, or no graph of sets.
 #[derive(Drop)]
 pub enum NoPlan {
     Refused(Refusal),
@@ -120,9 +120,10 @@ fn cause_of(alloc: Global, script: &Script, error: CheckError) -> Result<Fault, 
 }
 
 /// The script that these bytes spell.
-fn script_of(alloc: Global, bytes: &[u8]) -> Result<Script, NoPlan>
+pub fn script_of(alloc: Global, bytes: &[u8]) -> Result<Script, NoPlan>
     ensures script { IfOk result (λ script. reading_of bytes.now ≡ Ok script) }
     ensures refused { IfErr result (HasNoPlan bytes.now) }
+    ensures misspelled { IfErr result (HasNoScript bytes.now) }
 {
     match read(alloc, bytes) {
         Ok(script) => Ok(script),

@@ -1,18 +1,19 @@
 //! What the commands come to over the input, before anything is written.
 
-ghost use Rattle.std.specs.Prelude.{◌≡◌, ◌≢◌, ◌<◌, ◌≤◌, ◌^◌, None, Some, true, IfSome};
+ghost use Rattle.std.specs.Prelude.{◌≡◌, ◌<◌, ◌≤◌, ◌^◌, None, Some, true, IfSome};
 ghost use Rattle.caa_base.specs.Written.Limits.{most_audit_bytes};
 ghost use Rattle.journal_text.specs.Texts.Naming.{is_well_named};
 ghost use Rattle.message_plays.specs.Texts.{IsPlayedByMessages};
 ghost use Rattle.caa_commands.specs.declared.command.Command.{Command};
 ghost use Rattle.caa_commands.specs.Commands.{without_threads, IsWithinRange};
 ghost use Rattle.caa_commands.specs.OutsideUse.{source_use, plant_use, left_of, call_of};
-ghost use Rattle.caa_commands.specs.Calls.{AuditComesTo, Prints, PlanComesTo, InputComesTo, unread_finding, CameTo};
+ghost use Rattle.caa_commands.specs.Calls.{AuditComesTo, NeedsPlan, Prints, PlanComesTo, InputComesTo, unread_finding, CameTo};
 ghost use Rattle.caa_commands.specs.Inputs.{most_bytes, script_in};
 
 use crate::command::Command;
 use crate::fault::{Fault, Refusal};
 use crate::finding::Finding;
+use crate::graphs::graph_text;
 use crate::inputs::find_journal;
 use crate::judging::{Judgement, judge};
 use crate::playing::{Decision, run_plan, simulate};
@@ -35,6 +36,20 @@ fn check<P: Plant>(alloc: Global, bytes: &[u8], plant: P) -> Decision<P>
 {
     match counts_of(alloc, bytes) {
         Ok(counts) => Decision::idle(alloc, Finding::Checked(counts), plant),
+        Err(NoPlan::Refused(refusal)) => Decision::idle(alloc, Finding::Refused(refusal), plant),
+        Err(NoPlan::OutOfMemory) => Decision::idle(alloc, Finding::OutOfMemory, plant),
+    }
+}
+
+/// Makes the graph of all sets of at most so many of the exceptions that a script declares.
+fn make_graph<P: Plant>(alloc: Global, bytes: &[u8], most: u32, plant: P) -> Decision<P>
+    requires some { 1 ≤ most }
+    requires few { most ≤ 7 }
+    ensures { InputComesTo (Command.Graph most) bytes.now result.finding
+        (left_of (plant_use ⟦<P as Plant>⟧ plant result.plant) result.journal.entries) }
+{
+    match graph_text(alloc, bytes, most) {
+        Ok(text) => Decision::idle(alloc, Finding::Printed(text), plant),
         Err(NoPlan::Refused(refusal)) => Decision::idle(alloc, Finding::Refused(refusal), plant),
         Err(NoPlan::OutOfMemory) => Decision::idle(alloc, Finding::OutOfMemory, plant),
     }
@@ -83,7 +98,8 @@ fn agree<P: Plant>(alloc: Global, plan: &Plan, seed: u32, plant: P) -> Decision<
     Decision::idle(alloc, finding, plant)
 }
 
-/// Serves a command over a plan, and over all bytes that were read. It is none that needs threads, nor `check`, which needs no plan.
+/// Serves a command over a plan, and over all bytes that were read. It is none that needs threads, nor `check` or `graph`, which
+/// need no plan.
 fn serve_plan<P: Plant>(
     alloc: Global,
     command: Command,
@@ -93,13 +109,13 @@ fn serve_plan<P: Plant>(
 ) -> Decision<P>
     requires range { IsWithinRange command }
     requires quiet { without_threads (Some command) ≡ Some command }
-    requires other { command ≢ Command.Check }
+    requires other { NeedsPlan command }
     requires named { is_well_named plan ≡ true }
     ensures { PlanComesTo command plan bytes.now result.finding
         (left_of (plant_use ⟦<P as Plant>⟧ plant result.plant) result.journal.entries) }
 {
     match command {
-        Command::Check | Command::Run => unreachable!(),
+        Command::Check | Command::Run | Command::Graph(_) => unreachable!(),
         Command::Sim(seed) => simulate(alloc, plan, seed, plant),
         Command::Audit => judge_after(alloc, &plan, bytes, plant),
         Command::Messages(seed) => agree(alloc, &plan, seed, plant),
@@ -112,7 +128,27 @@ fn script_in(command: Command, bytes: &[u8]) -> &[u8]
 {
     match command {
         Command::Audit => &bytes[..find_journal(bytes).place],
-        Command::Check | Command::Sim(_) | Command::Run | Command::Messages(_) => bytes,
+        Command::Check | Command::Sim(_) | Command::Run | Command::Graph(_) | Command::Messages(_) => bytes,
+    }
+}
+
+/// Serves a command that needs a plan over the bytes that were read.
+fn serve_script<P: Plant>(
+    alloc: Global,
+    command: Command,
+    bytes: &[u8],
+    plant: P,
+) -> Decision<P>
+    requires range { IsWithinRange command }
+    requires quiet { without_threads (Some command) ≡ Some command }
+    requires other { NeedsPlan command }
+    ensures { InputComesTo command bytes.now result.finding
+        (left_of (plant_use ⟦<P as Plant>⟧ plant result.plant) result.journal.entries) }
+{
+    match plan_of(alloc, script_in(command, bytes)) {
+        Ok(plan) => serve_plan(alloc, command, plan, bytes, plant),
+        Err(NoPlan::Refused(refusal)) => Decision::idle(alloc, Finding::Refused(refusal), plant),
+        Err(NoPlan::OutOfMemory) => Decision::idle(alloc, Finding::OutOfMemory, plant),
     }
 }
 
@@ -123,13 +159,10 @@ fn serve<P: Plant>(alloc: Global, command: Command, bytes: &[u8], plant: P) -> D
     ensures { InputComesTo command bytes.now result.finding
         (left_of (plant_use ⟦<P as Plant>⟧ plant result.plant) result.journal.entries) }
 {
-    if let Command::Check = command {
-        return check(alloc, bytes, plant);
-    }
-    match plan_of(alloc, script_in(command, bytes)) {
-        Ok(plan) => serve_plan(alloc, command, plan, bytes, plant),
-        Err(NoPlan::Refused(refusal)) => Decision::idle(alloc, Finding::Refused(refusal), plant),
-        Err(NoPlan::OutOfMemory) => Decision::idle(alloc, Finding::OutOfMemory, plant),
+    match command {
+        Command::Check => check(alloc, bytes, plant),
+        Command::Graph(most) => make_graph(alloc, bytes, most, plant),
+        _ => serve_script(alloc, command, bytes, plant),
     }
 }
 
@@ -140,7 +173,7 @@ fn most_bytes(command: Command) -> u64
 {
     match command {
         Command::Audit => MOST_AUDIT_BYTES,
-        Command::Check | Command::Sim(_) | Command::Run | Command::Messages(_) => MOST_SCRIPT_BYTES,
+        Command::Check | Command::Sim(_) | Command::Run | Command::Graph(_) | Command::Messages(_) => MOST_SCRIPT_BYTES,
     }
 }
 
