@@ -1,6 +1,7 @@
 -- A manager, as its owner sees it.
 use Rattle.std.specs.Prelude.{ℕ, List}
 use Rattle.atomic_table.specs.Seated.{TableId}
+use Rattle.place_plan.specs.declared.rules.machine.Base.{Base}
 use Rattle.place_plan.specs.Plans.PlanValue.{Plan}
 use Rattle.logbook.specs.Pages.{Book}
 use Rattle.shared_views.specs.Telling.{cells_of}
@@ -33,9 +34,9 @@ abbrev pub book_in : {M : Type 0} → Manager M → Book
 book_in manager = book_of (home_at manager.lock).publishing
 
 -- what its machine keeps to in every turn
-abbrev pub terms_in : {M : Type 0} → (M → ℕ) → Manager M → Terms
+abbrev pub terms_in : {M : Type 0} → (M → Base) → Manager M → Terms
 terms_in base_of manager = terms_of (plan_in manager) (base_of (handed_in manager)) (cells_in manager) (book_in manager)
 
 -- the seat is one of this manager's, and is at rest
-abbrev pub IsSeatIn : {M : Type 0} → (M → ℕ) → Manager M → Seat M → Type 0
+abbrev pub IsSeatIn : {M : Type 0} → (M → Base) → Manager M → Seat M → Type 0
 IsSeatIn base_of manager seat = IsSeatOf (table_of manager) (terms_in base_of manager) seat

@@ -8,12 +8,13 @@ use Rattle.place_plan.specs.Plans.PlanValue.{Plan}
 use Rattle.place_plan.specs.RulesOfJournals.Journals.{IsLegal}
 use Rattle.place_plan.specs.RulesOfJournals.Machine.{Answers}
 use Rattle.place_plan.specs.declared.rules.machine.Answer.{Answer}
+use Rattle.place_plan.specs.declared.rules.machine.Base.{Base}
 use Rattle.action_manager.specs.declared.lock_view.Terms.{Terms}
 use Rattle.action_manager.specs.declared.lock_view.View.{View}
 use Rattle.action_manager.specs.OwnEntries.{Journal, entries_by}
 
 -- what a machine keeps to: its plan, its base, the cells of its places and its list of publications
-abbrev pub terms_of : Plan → ℕ → List ℕ → Book → Terms
+abbrev pub terms_of : Plan → Base → List ℕ → Book → Terms
 terms_of plan base cells book = record { plan = plan; base = base; cells = cells; book = book }
 
 -- a seat of a participant that has no turn, and has seen these entries

@@ -1,5 +1,6 @@
 use caa_base::written::entry::Entry;
 use place_plan::plans::plan::Plan;
+use place_plan::rules::machine::Base;
 use std::collections::LinkedList;
 use std::marker::Model;
 
@@ -25,7 +26,7 @@ pub struct Terms {
     /// The plan of the machine that was handed in.
     pub plan: Plan,
     /// The base of that machine.
-    pub base: u64,
+    pub base: Base,
     /// The names of the cells of resolved exceptions.
     pub cells: LinkedList<u64>,
     /// The name of the list of publications.

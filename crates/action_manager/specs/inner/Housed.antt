@@ -1,6 +1,7 @@
 -- When what lies in the slot is right.
 use Rattle.std.specs.Prelude.{◌≡◌, ℕ, List, length, reverse, vec_capacity}
 use Rattle.caa_base.specs.declared.written.entry.Entry.{Entry}
+use Rattle.place_plan.specs.declared.rules.machine.Base.{Base}
 use Rattle.place_plan.specs.Plans.PlanValue.{Plan}
 use Rattle.shared_views.specs.Telling.{cells_of, KeepsUp}
 use Rattle.action_manager.specs.declared.lock_view.Terms.{Terms}
@@ -17,7 +18,7 @@ pub record IsKept {M : Type 0} (plan_of : M → Plan) (journal_of : M → List E
 
 -- plan and base of the machine are those of the terms, and what lies beside it keeps up with its journal, by the cells of the
 -- terms and in their list of publications
-pub record IsRight {M : Type 0} (plan_of : M → Plan) (base_of : M → ℕ) (journal_of : M → List Entry)
+pub record IsRight {M : Type 0} (plan_of : M → Plan) (base_of : M → Base) (journal_of : M → List Entry)
     (terms : Terms) (h : Housed M) : Type 0 where
   pub plan : plan_of h.machine ≡ terms.plan
   pub base : base_of h.machine ≡ terms.base

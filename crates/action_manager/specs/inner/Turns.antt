@@ -6,6 +6,7 @@ use lib.ListN.{get_elem?}
 use Rattle.atomic_table.specs.Table.{State, Me, Step}
 use Rattle.logbook.specs.Pages.{Book}
 use Rattle.place_plan.specs.Plans.PlanValue.{Plan}
+use Rattle.place_plan.specs.declared.rules.machine.Base.{Base}
 use Rattle.caa_base.specs.inner.Lists.{one_if}
 use Rattle.action_manager.specs.OwnEntries.{Journal, entries_by}
 use Rattle.action_manager.specs.Stepping.{terms_of, rested}
@@ -33,6 +34,10 @@ maker terms n j =
 abbrev pub no_plan : Plan
 no_plan = record { participants = []; objects = []; graphs = []; actions = []; places = []; plays = []; drills = []; watches = [] }
 
+-- a base of nothing
+abbrev pub no_base : Base
+no_base = record { faults = 0; tells_values = false; tells_drills = false }
+
 -- a list of publications that names nothing
 abbrev pub no_book : Book
 no_book = record { number = 0; log_name = 0; cells_name = 0 }
@@ -43,7 +48,7 @@ spent_view =
     record {
       seated = false;
       making = false;
-      terms = terms_of no_plan 0 [] no_book;
+      terms = terms_of no_plan no_base [] no_book;
       who = 0;
       next = 0;
       holds = false;
