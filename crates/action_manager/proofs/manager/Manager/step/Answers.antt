@@ -36,8 +36,8 @@ returns-clause-turn g c =
     let seat = c.args.seat.now in let who = seat.participant in let seen = seat.token.me.0.seen in
     let of_plan : g.M.Machine.plan_of home ≡ plan = c.begin-ticket.ensures.right.plan in
     let grown : GrowsWithout seen was who = subst (λ t. GrowsWithout seen was t) (sym seat.who) c.begin-ticket.ensures.grown in
-    let legal_was : LegalPast (g.M.Machine.plan_of home) (reverse was) = search rules in
-    let legal_now : LegalPast (g.M.Machine.plan_of left) (reverse now) = search rules in
+    let legal_was : LegalPast (g.M.Machine.plan_of home) (reverse was) = g.met.M.Machine.legal home in
+    let legal_now : LegalPast (g.M.Machine.plan_of left) (reverse now) = g.met.M.Machine.legal left in
     let steps : Steps plan seen now who c.args.hint c.next-answer.result.0 = record {
       before = was;
       grown = grown;
