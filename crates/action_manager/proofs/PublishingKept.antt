@@ -1,7 +1,8 @@
 -- A writer goes on publishing the ends of plays, entry by entry.
-use Rattle.std.proofs.Common.{◌≡◌, ℕ, ℤ, ◌+◌, ◌<◌, ◌++◌, Bool, true, false, true≢false, List, [], ◌∷◌, length, map, take, get_or, length-append, All, Result, Ok, Err, if◌then◌else◌, refl, sym, ap, ◌∙◌, subst, arith}
+use Rattle.std.proofs.Common.{◌≡◌, ℕ, ℤ, ◌+◌, ◌<◌, ◌++◌, Bool, true, false, true≢false, List, [], ◌∷◌, length, map, take, get_or, length-append, All, Result, Ok, Err, if◌then◌else◌, refl, sym, ap, ◌∙◌, subst, arith, inl, inr, ⊎_elim}
 use Rattle.std.specs.Prelude.{MatchResult, is_err}
 use mathlib.Core.List.{IsPrefix}
+use Rattle.std.proofs.lemmas.Bool.{cases_Bool}
 use Rattle.std.proofs.lemmas.List.{take_more, map-append, length-map}
 use Rattle.std.proofs.lemmas.List.Elements.{All-map}
 use Rattle.place_plan.specs.Plans.Closed.{IsClosed}
@@ -14,7 +15,7 @@ use Rattle.caa_base.specs.declared.written.entry.Entry.{Entry}
 use Rattle.place_plan.specs.Plans.PlanValue.{Plan}
 use Rattle.shared_views.specs.Publications.{Changes, Known}
 use Rattle.shared_views.proofs.Beginnings.{begins_itself, begins_further}
-use Rattle.shared_views.specs.Committing.{Committed}
+use Rattle.shared_views.specs.Committing.{Committed, MayEnter}
 use Rattle.action_manager.specs.Publishing.{values_of, publications_of, Publishes}
 
 -- the end of a play adds what it publishes
@@ -44,39 +45,65 @@ no_elements (x ∷ xs) none = absurd (omega (arith, none))
 pub none_published : (plan : Plan) (past : List Entry) → plays_ended plan past ≡ [] → publications_of plan past ≡ []
 none_published plan past none = no_elements (publications_of plan past) (as_many plan past ∙ ap length none)
 
+-- a writer that has published all
+all_entered : (plan : Plan) (past : List Entry) (w : Committed) → w.initials ≡ initials_of plan
+    → w.publications.list ≡ publications_of plan past → w.entered ≡ w.publications → Publishes plan past w
+all_entered plan past w initials same whole = record {
+  initials = initials;
+  first = subst (IsPrefix w.publications.list) same (begins_itself w.publications.list);
+  all = λ fresh. same;
+  entered = subst (IsPrefix w.entered.list) (ap (λ (k : Known). k.list) whole ∙ same) (begins_itself w.entered.list);
+  whole = λ fresh. whole;
+}
+
 -- a new writer, before any play has ended
 pub publishes_none : (plan : Plan) (past : List Entry) (w : Committed) → plays_ended plan past ≡ []
-    → w.initials ≡ initials_of plan → w.publications.list ≡ [] → Publishes plan past w
-publishes_none plan past w none initials list =
+    → w.initials ≡ initials_of plan → w.publications.list ≡ [] → w.entered ≡ w.publications → Publishes plan past w
+publishes_none plan past w none initials list whole =
     let same : w.publications.list ≡ publications_of plan past = list ∙ sym (none_published plan past none) in
-    record {
-      initials = initials;
-      first = subst (IsPrefix w.publications.list) same (begins_itself w.publications.list);
-      all = λ fresh. same;
-    }
+    all_entered plan past w initials same whole
 
 was_fresh : {X : Type 0} (b : Bool) → (b ≡ true → X) → (X → ⊥) → b ≡ false
 was_fresh true told never = absurd (never (told refl))
 was_fresh false told never = refl
+
+-- where no memory was found, all that was entered is what the plays published
+more_entered : (plan : Plan) (past : List Entry) (e : Entry) (w w' : Committed) (changes : Changes) → ends_play plan e ≡ true
+    → changes ≡ values_of plan (e ∷ past) e.place → MayEnter w.entered changes w'.entered → (w.is_stale ≡ true → w' ≡ w)
+    → Publishes plan past w → IsPrefix w'.entered.list (publications_of plan (e ∷ past))
+more_entered plan past e w w' changes is same entered stays k =
+    let more = one_more plan past e is in
+    let before : IsPrefix w.entered.list (publications_of plan (e ∷ past)) =
+    begins_further w.entered.list (publications_of plan past) (publications_of plan (e ∷ past)) k.entered
+    (values_of plan (e ∷ past) e.place ∷ [], sym more) in
+    let as_it_was : w'.entered ≡ w.entered → IsPrefix w'.entered.list (publications_of plan (e ∷ past)) =
+    λ kept. subst (λ (l : Known). IsPrefix l.list (publications_of plan (e ∷ past))) (sym kept) before in
+    elim (cases_Bool w.is_stale) [
+      | inl late ↦ as_it_was (ap (λ (c : Committed). c.entered) (stays late))
+      | inr fresh ↦
+          ⊎_elim as_it_was
+          (λ (t : (w'.entered.book ≡ w.entered.book) × (w'.entered.list ≡ w.entered.list ++ changes ∷ [])).
+          let all : w'.entered.list ≡ publications_of plan (e ∷ past) =
+          t.1 ∙ (ap (λ l. l ++ changes ∷ []) (ap (λ (l : Known). l.list) (k.whole fresh) ∙ k.all fresh)
+          ∙ (ap (λ c. publications_of plan past ++ c ∷ []) same ∙ sym more)) in
+          subst (IsPrefix w'.entered.list) all (begins_itself w'.entered.list)) entered
+    ]
 
 -- the end of a play was published, or no memory was found
 pub an_end : {A E : Type 0} (plan : Plan) (past : List Entry) (e : Entry) (w w' : Committed) (changes : Changes)
     (r : Result A E) (late : E) → ends_play plan e ≡ true → changes ≡ values_of plan (e ∷ past) e.place
     → w'.initials ≡ w.initials
     → MatchResult r (λ _. w'.publications.list ≡ w.publications.list ++ changes ∷ [])
-    (λ _. w'.publications ≡ w.publications) → w'.is_stale ≡ is_err r
-    → (w.is_stale ≡ true → r ≡ Err late) → Publishes plan past w → Publishes plan (e ∷ past) w'
-an_end plan past e w w' changes (Ok a) late is same initials list marked stale k =
+    (λ _. w'.publications ≡ w.publications)
+    → MatchResult r (λ _. w'.entered ≡ w'.publications) (λ _. MayEnter w.entered changes w'.entered) → w'.is_stale ≡ is_err r
+    → (w.is_stale ≡ true → r ≡ Err late) → (w.is_stale ≡ true → w' ≡ w) → Publishes plan past w → Publishes plan (e ∷ past) w'
+an_end plan past e w w' changes (Ok a) late is same initials list entered marked stale stays k =
     let was : w.is_stale ≡ false = was_fresh w.is_stale stale (λ told. true≢false (ap is_err (sym told))) in
     let all : w'.publications.list ≡ publications_of plan (e ∷ past) =
     list ∙ (ap (λ l. l ++ changes ∷ []) (k.all was)
     ∙ (ap (λ c. publications_of plan past ++ c ∷ []) same ∙ sym (one_more plan past e is))) in
-    record {
-      initials = initials ∙ k.initials;
-      first = subst (IsPrefix w'.publications.list) all (begins_itself w'.publications.list);
-      all = λ fresh. all;
-    }
-an_end plan past e w w' changes (Err x) late is same initials list marked stale k =
+    all_entered plan (e ∷ past) w' (initials ∙ k.initials) all entered
+an_end plan past e w w' changes (Err x) late is same initials list entered marked stale stays k =
     let further =
     begins_further w.publications.list (publications_of plan past) (publications_of plan (e ∷ past)) k.first
     (values_of plan (e ∷ past) e.place ∷ [], sym (one_more plan past e is)) in
@@ -84,6 +111,8 @@ an_end plan past e w w' changes (Err x) late is same initials list marked stale 
       initials = initials ∙ k.initials;
       first = subst (λ (l : Known). IsPrefix l.list (publications_of plan (e ∷ past))) (sym list) further;
       all = λ fresh. absurd (true≢false (sym marked ∙ fresh));
+      entered = more_entered plan past e w w' changes is same entered stays k;
+      whole = λ fresh. absurd (true≢false (sym marked ∙ fresh));
     }
 
 -- each object of a place is one of the plan's

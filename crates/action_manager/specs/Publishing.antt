@@ -22,11 +22,13 @@ publications_of plan (e ∷ past) =
     if ends_play plan e then publications_of plan past ++ values_of plan (e ∷ past) e.place ∷ [] else publications_of plan past
 
 -- the writer has published for each play that ended in this past, in order, up to some play; up to the last one unless it found
--- no memory once
+-- no memory once. And it has entered nothing else in its list
 pub record Publishes (plan : Plan) (past : List Entry) (w : Committed) : Type 0 where
   pub initials : w.initials ≡ initials_of plan
   pub first : IsPrefix w.publications.list (publications_of plan past)
   pub all : w.is_stale ≡ false → w.publications.list ≡ publications_of plan past
+  pub entered : IsPrefix w.entered.list (publications_of plan past)
+  pub whole : w.is_stale ≡ false → w.entered ≡ w.publications
 
 -- there is room for the objects of any place
 abbrev pub HasRoom : Plan → ℕ → Type 0
@@ -36,6 +38,6 @@ HasRoom plan room = (p : ℕ) → p < length plan.places → length (objects_of 
 abbrev pub book_of : Publishing → Book
 book_of p = p.writer.publications.book
 
--- an observer of the objects of a plan, which knows of this list and of no publication in it
+-- an observer of the objects of a plan, which knows of this list and of no publication in it; its place aside
 abbrev pub new_observer : Plan → Book → Watching
-new_observer plan book = record { initials = initials_of plan; known = record { book = book; list = [] } }
+new_observer plan book = record { initials = initials_of plan; known = record { book = book; list = [] }; is_placed = false }

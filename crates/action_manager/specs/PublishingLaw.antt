@@ -5,6 +5,7 @@ use Rattle.place_plan.specs.Plans.PlanValue.{Plan}
 use Rattle.place_plan.specs.Plans.Places.{initials_of}
 use Rattle.place_plan.specs.RulesOfJournals.Journals.{plays_ended, committed_value}
 use Rattle.shared_views.specs.Publications.{value_after}
+use Rattle.shared_views.specs.declared.observed.Reading.{Reading}
 use Rattle.action_manager.specs.Publishing.{publications_of}
 
 -- what was published, play by play, gives the committed values
@@ -14,3 +15,8 @@ pub record PublishingLaw (plan : Plan) (past : List Entry) : Type 0 where
   -- after the first n publications an object has the value that the first n plays committed
   pub values : (n o : ℕ) → n ≤ length (publications_of plan past)
       → value_after (initials_of plan) (take n (publications_of plan past)) o ≡ committed_value plan past n o
+
+-- the reading is what so many of the plays that had ended in this past committed
+pub record IsCommitted (plan : Plan) (past : List Entry) (o : ℕ) (r : Reading) : Type 0 where
+  pub ends : r.ends ≤ length (plays_ended plan past)
+  pub value : r.value ≡ committed_value plan past r.ends o

@@ -15,5 +15,5 @@ mod turns;
 
 pub use crossing::crosses_threads;
 pub use manager::{Closed, Manager, ManagerError, Opened, StillOut};
-pub use publishing_law::publishes_committed;
+pub use publishing_law::{publishes_committed, readings_are_committed};
 pub use seat::{NoNote, Seat};

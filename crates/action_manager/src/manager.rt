@@ -3,12 +3,13 @@ ghost use mathlib.Core.List.{IsPrefix};
 ghost use Rattle.std.specs.List.{range_with_len};
 ghost use Rattle.place_plan.specs.RulesOfJournals.Journals.{plays_ended};
 ghost use Rattle.shared_views.specs.Telling.{cells_of, IsFresh};
+ghost use Rattle.shared_views.specs.Committing.{placeless};
 ghost use Rattle.action_manager.specs.OwnEntries.{entries_by};
 ghost use Rattle.action_manager.specs.inner.Turns.{maker, held, Has, Stands};
 ghost use Rattle.action_manager.specs.Stepping.{IsAtRest, Steps, Looks};
 ghost use Rattle.action_manager.specs.Locks.{home_at, plan_at};
 ghost use Rattle.action_manager.specs.Openings.{IsUnresolved};
-ghost use Rattle.action_manager.specs.Publishing.{Publishes, book_of, new_observer};
+ghost use Rattle.action_manager.specs.Publishing.{Publishes, publications_of, book_of, new_observer};
 ghost use Rattle.action_manager.specs.inner.Housed.{IsKept, IsRight};
 ghost use Rattle.action_manager.specs.Tidings.{TellsAfter};
 ghost use Rattle.action_manager.specs.Seats.{IsNewSeat, participant_of, seen_by, told_to, stand, has_seat, HaveAll, IsLeastMissing, Accounts};
@@ -243,7 +244,7 @@ impl<M: Machine> Manager<M> {
         ensures new { IfOk result (λ o.
             All (λ s. IsNewSeat (table_of o.manager) (terms_in M.base_of o.manager) (M.journal_of machine) s) o.seats.items) }
         ensures observers { IfOk result (λ o.
-            o.observers.items ≡ replicate observers (new_observer (M.plan_of machine) (book_in o.manager))) }
+            map placeless o.observers.items ≡ replicate observers (new_observer (M.plan_of machine) (book_in o.manager))) }
         ensures refused { IfErr result (λ e. e.machine ≡ machine) }
     {
         let participants = machine.plan().participants();
@@ -325,6 +326,23 @@ impl<M: Machine> Manager<M> {
         self.lock.hand_on(&mut seat.token, ticket, home);
         seat.seen = seen;
         was < seen
+    }
+
+    /// A law, for whoever has a seat and an observer of this manager: what the observer knows begins what the plays publish that
+    /// have ended in the journal that the seat then has seen. It takes a turn without an entry, and need not return.
+    pub fn covers<R: Wait>(&self, rt: &R, seat: &mut Seat<M>, observer: &Observer)
+        requires opened { IsSeatIn M.base_of self.now seat.old }
+        requires ours { observer.now.known.book ≡ book_in self.now }
+        ensures opened { IsSeatIn M.base_of self.now seat.new }
+        ensures same { (participant_of seat.new ≡ participant_of seat.old) × (told_to seat.new ≡ told_to seat.old) }
+        ensures turn { Looks (plan_in self.now) (seen_by seat.old) (seen_by seat.new) (participant_of seat.old) }
+        ensures begins { IsPrefix observer.now.known.list (publications_of (plan_in self.now) (reverse (seen_by seat.new))) }
+    {
+        let (ticket, mut home) = self.lock.begin(rt, &mut seat.token);
+        let seen = home.machine.journal_len();
+        home.publishing.covers(observer);
+        self.lock.hand_on(&mut seat.token, ticket, home);
+        seat.seen = seen;
     }
 
     /// Waits until the journal is longer than what the seat has seen, by entries of others alone. Then the seat has seen it.

@@ -1,7 +1,9 @@
-ghost use Rattle.std.specs.Prelude.{◌≡◌, ◌<◌, [], ◌∷◌, List, length, reverse, replicate, IfOk, vec_capacity};
+ghost use Rattle.std.specs.Prelude.{◌≡◌, ◌<◌, [], ◌∷◌, List, length, map, reverse, replicate, IfOk, vec_capacity};
 ghost use Rattle.caa_base.specs.declared.written.entry.Entry.{Entry as JournalEntry};
 ghost use Rattle.place_plan.specs.Plans.Places.{initials_of};
 ghost use Rattle.place_plan.specs.RulesOfJournals.Journals.{plays_ended};
+ghost use Rattle.shared_views.specs.Publications.{Begins};
+ghost use Rattle.shared_views.specs.Committing.{placeless};
 ghost use Rattle.action_manager.specs.Publishing.{values_of, Publishes, HasRoom, book_of, new_observer};
 
 use caa_base::written::entry::{Entry, Object, OutOfMemory, Place};
@@ -52,7 +54,7 @@ impl Publishing {
         ensures room { IfOk result (λ r. HasRoom plan.now (vec_capacity r.0.changes)) }
         ensures publishes { IfOk result (λ r. (past : List JournalEntry)
             → plays_ended plan.now past ≡ [] → Publishes plan.now past r.0.writer) }
-        ensures observers { IfOk result (λ r. r.1.items ≡ replicate observers (new_observer plan.now (book_of r.0))) }
+        ensures observers { IfOk result (λ r. map placeless r.1.items ≡ replicate observers (new_observer plan.now (book_of r.0))) }
     {
         let changes = room_for(alloc, plan)?;
         let (writer, seats) = CommittedWriter::open(rt, alloc, plan, observers)?;
@@ -98,6 +100,15 @@ impl Publishing {
             machine.plan().is_closed();
             let _ = self.writer.publish(rt, self.alloc, self.changes.as_slice());
         }
+    }
+
+    /// A law: what an observer of its list knows begins what the writer has entered. Nothing changes.
+    pub fn covers(&mut self, observer: &Observer)
+        requires ours { observer.now.known.book ≡ book_of self.old }
+        ensures same { self.new ≡ self.old }
+        ensures begins { Begins observer.now.known self.old.writer.entered }
+    {
+        self.writer.covers(observer);
     }
 
     /// The writer alone.

@@ -10,7 +10,7 @@ use Rattle.atomic_table.proofs.Lists.{at_set, at_snoc}
 use Rattle.shared_views.specs.Publications.{Changes, Known, Begins, given_after, last_given}
 use Rattle.shared_views.specs.inner.Boards.{shown, row_after, shown_after, IsRight, Fits, Keeps, Sees, Follows}
 use Rattle.shared_views.specs.declared.board.Board.{Board}
-use Rattle.shared_views.specs.declared.board.Publication.{Publication}
+use Rattle.shared_views.specs.declared.publications.Publication.{Publication}
 use Rattle.shared_views.specs.declared.board.View.{View}
 use Rattle.shared_views.proofs.Beginnings.{begins_itself, begins_further}
 

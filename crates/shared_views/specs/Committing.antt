@@ -1,22 +1,33 @@
 -- What contracts see of a committed writer and of its observers.
-use Rattle.std.specs.Prelude.{◌≡◌, ◌≤◌, ℕ, ℤ, Bool, List, length, take}
-use Rattle.shared_views.specs.Publications.{Known, value_after}
+use Rattle.std.specs.Prelude.{◌≡◌, ◌⊎◌, ◌≤◌, ℕ, ℤ, Bool, false, List, [], ◌∷◌, ◌++◌, length, take}
+use Rattle.shared_views.specs.Publications.{Changes, Known, value_after}
 use Rattle.shared_views.specs.declared.observed.Reading.{Reading}
 
--- a committed writer: the initial values, all its publications, and whether an earlier publication found no memory
+-- a committed writer: the initial values, all its publications, whether an earlier publication found no memory, and what it has
+-- entered in its list: its publications, and after want of memory perhaps one more
 pub record Committed : Type 0 where
   pub initials : List ℤ
   pub publications : Known
   pub is_stale : Bool
+  pub entered : Known
 
--- an observer: the initial values, and the publications that it has seen or was told of
+-- an observer: the initial values, the publications that it has seen or was told of, and whether it has a place at the board
 pub record Watching : Type 0 where
   pub initials : List ℤ
   pub known : Known
+  pub is_placed : Bool
 
--- an observer that knows just what the writer has published
+-- an observer that knows just what the writer has published, and has no place
 abbrev pub watching : Committed → Watching
-watching w = record { initials = w.initials; known = w.publications }
+watching w = record { initials = w.initials; known = w.publications; is_placed = false }
+
+-- the observer, its place aside
+abbrev pub placeless : Watching → Watching
+placeless o = record { initials = o.initials; known = o.known; is_placed = false }
+
+-- nothing was entered in the list, or these changes were, after all that stood in it
+abbrev pub MayEnter : Known → Changes → Known → Type 0
+MayEnter before changes after = (after ≡ before) ⊎ ((after.book ≡ before.book) × (after.list ≡ before.list ++ changes ∷ []))
 
 -- the reading is of all these publications: how many they are, and the value of o after them
 pub record IsReading (initials : List ℤ) (all : Known) (o : ℕ) (r : Reading) : Type 0 where

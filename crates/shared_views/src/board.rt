@@ -3,7 +3,7 @@ ghost use Rattle.std.specs.Prelude.{◌≡◌, ◌<◌, fold, length, replicate,
 ghost use Rattle.shared_views.specs.inner.Boards.{row_after};
 
 use crate::observed::Reading;
-use crate::publications::Publications;
+use crate::publications::{Publication, Publications};
 use atomic_table::{Join, Split};
 use caa_base::written::entry::{Object, OutOfMemory};
 use crossbeam_utils::rule::{Outcome, Protocol};
@@ -14,13 +14,6 @@ use std::alloc::{AllocError, Global};
 #[derive(Drop)]
 pub struct Board {
     pub(crate) given: Vec<Option<i64>>,
-    pub(crate) publications: Publications,
-}
-
-/// One publication, and all of them up to it.
-#[derive(Drop)]
-pub struct Publication {
-    pub(crate) changes: Vec<(Object, i64)>,
     pub(crate) publications: Publications,
 }
 

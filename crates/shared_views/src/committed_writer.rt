@@ -1,10 +1,11 @@
-ghost use Rattle.std.specs.Prelude.{◌≡◌, ◌<◌, ◌∷◌, ◌++◌, [], true, false, All, length, replicate, drop, None, Some, IfOk, MatchResult};
+ghost use Rattle.std.specs.Prelude.{◌≡◌, ◌<◌, ◌∷◌, ◌++◌, [], true, false, All, length, map, replicate, drop, None, Some, IfOk, OnOk, MatchResult};
 ghost use Rattle.left_right.specs.Sides.{view};
 ghost use Rattle.shared_views.specs.inner.Boards.{IsRight, Follows};
-ghost use Rattle.shared_views.specs.Committing.{Committed, watching, IsReading};
+ghost use Rattle.shared_views.specs.Publications.{Begins};
+ghost use Rattle.shared_views.specs.Committing.{Committed, watching, placeless, IsReading, MayEnter};
 ghost use Rattle.place_plan.specs.Plans.Places.{initials_of};
 
-use crate::board::{Board, Looks, Publication};
+use crate::board::{Board, Looks};
 use crate::observed::Reading;
 use crate::observer::{BoardWriter, Observer};
 use crate::publications::{Head, Publications};
@@ -31,7 +32,8 @@ pub enum PublishError {
 
 /// Publishes the committed values of the objects, which its observers read.
 ///
-/// Contracts see the initial values, all publications, and whether the view is stale. It isn't dropped: `end` ends it.
+/// Contracts see the initial values, all publications, whether the view is stale, and what was entered in the list. It isn't
+/// dropped: `end` ends it.
 pub struct CommittedWriter {
     writer: BoardWriter,
     head: Head,
@@ -77,7 +79,7 @@ fn showing<R: Wait>(
 fn seat_all(writer: &mut BoardWriter, observers: &mut Vec<Observer>)
     requires writer { (view writer.old.desk.place).known ≡ Some writer.old.desk.shown.value.publications }
     requires book { All (λ o. o.known.book ≡ writer.old.desk.shown.value.publications.book) observers.old.items }
-    ensures same { observers.new.items ≡ observers.old.items }
+    ensures same { map placeless observers.new.items ≡ map placeless observers.old.items }
     ensures shown { (writer.new.desk.shown ≡ writer.old.desk.shown) × (writer.new.log ≡ writer.old.log)
         × (writer.new.behind ≡ writer.old.behind) }
 {
@@ -114,12 +116,13 @@ impl CommittedWriter {
         observers: u32,
     ) -> Result<(CommittedWriter, Vec<Observer>), OutOfMemory>
         ensures initials { IfOk result (λ r. r.0.initials ≡ initials_of plan.now) }
-        ensures none { IfOk result (λ r. r.0.publications.list ≡ []) }
+        ensures none { IfOk result (λ r. (r.0.publications.list ≡ []) × (r.0.entered ≡ r.0.publications)) }
         ensures fresh { IfOk result (λ r. r.0.is_stale ≡ false) }
-        ensures observers { IfOk result (λ r. r.1.items ≡ replicate observers (watching r.0)) }
+        ensures observers { IfOk result (λ r. map placeless r.1.items ≡ replicate observers (watching r.0)) }
     {
         let initials = plan.initials(alloc)?;
-        let (publications, head) = Publications::none();
+        let head = Head::open()?;
+        let publications = head.reached();
         let mut seats = Observer::all_apart(alloc, &initials, &publications, observers)?;
         let mut writer = showing(rt, alloc, plan.objects(), &publications, observers)?;
         seat_all(&mut writer, &mut seats);
@@ -148,8 +151,12 @@ impl CommittedWriter {
         ensures published { MatchResult result
             (λ _. self.new.publications.list ≡ self.old.publications.list ++ changes.now ∷ [])
             (λ _. self.new.publications ≡ self.old.publications) }
+        ensures entered { MatchResult result
+            (λ _. self.new.entered ≡ self.new.publications)
+            (λ _. MayEnter self.old.entered changes.now self.new.entered) }
         ensures marked { self.new.is_stale ≡ is_err result }
         ensures stale { (result ≡ Err Stale) ↔ IsTrue self.old.is_stale }
+        ensures late { IsTrue self.old.is_stale → self.new ≡ self.old }
     {
         if self.stale {
             return Err(PublishError::Stale);
@@ -173,39 +180,39 @@ impl CommittedWriter {
         requires objects { All (λ c. c.0 < length self.old.initials) changes.now }
         requires fresh { self.old.is_stale ≡ false }
         ensures initials { self.new.initials ≡ self.old.initials }
-        ensures fresh { self.new.is_stale ≡ false }
+        ensures fresh { OnOk result (self.new.is_stale ≡ false) }
         ensures book { self.new.publications.book ≡ self.old.publications.book }
         ensures added { MatchResult result
             (λ _. self.new.publications.list ≡ self.old.publications.list ++ changes.now ∷ [])
             (λ _. self.new.publications ≡ self.old.publications) }
+        ensures entered { MatchResult result
+            (λ _. self.new.entered ≡ self.new.publications)
+            (λ _. MayEnter self.old.entered changes.now self.new.entered) }
     {
-        let publication = self.prepared(alloc, changes)?;
+        let mut list = Vec::new(alloc);
+        list.extend_from_slice(changes)?;
+        let publication = self.head.enter(list)?;
         match self.writer.append(publication) {
             Ok(()) => {
                 replace_with(&mut self.writer, rt, show);
                 Ok(())
             }
-            Err(_refused) => Err(OutOfMemory),
+            Err(_refused) => {
+                self.stale = true;
+                Err(OutOfMemory)
+            }
         }
     }
 
-    /// A publication of these changes, which goes on from what was published. After 2^64 - 1 publications no further one can be
-    /// counted, and the answer is as where no memory is found.
-    fn prepared(&self, alloc: Global, changes: &[(Object, i64)]) -> Result<Publication, OutOfMemory>
-        ensures changes { IfOk result (λ p. p.changes.items ≡ changes.now) }
-        ensures book { IfOk result (λ p. p.publications.book ≡ self.now.publications.book) }
-        ensures more { IfOk result (λ p. p.publications.list ≡ self.now.publications.list ++ changes.now ∷ []) }
+    /// A law: what an observer of this writer knows begins what the writer has entered in its list, which are its publications
+    /// unless it is stale. Nothing changes.
+    pub fn covers(&mut self, observer: &Observer)
+        requires ours { observer.now.known.book ≡ self.old.publications.book }
+        ensures same { self.new ≡ self.old }
+        ensures begins { Begins observer.now.known self.old.entered }
+        ensures whole { self.old.is_stale ≡ false → self.old.entered ≡ self.old.publications }
     {
-        let mut list = Vec::new(alloc);
-        list.extend_from_slice(changes)?;
-        let mut publications = self.writer.published().publications.again();
-        if !publications.add(&self.head, &list) {
-            return Err(OutOfMemory);
-        }
-        Ok(Publication {
-            changes: list,
-            publications,
-        })
+        self.head.covers(observer.known());
     }
 
     /// Tells an observer what was published.

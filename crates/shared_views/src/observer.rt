@@ -1,12 +1,12 @@
-ghost use Rattle.std.specs.Prelude.{◌≡◌, ◌<◌, ◌⊎◌, length, replicate, Some, IfSome, IfNone, IfOk, IfErr};
+ghost use Rattle.std.specs.Prelude.{◌≡◌, ◌<◌, ◌⊎◌, false, IsTrue, length, replicate, Some, IfSome, IfNone, IfOk, IfErr};
 ghost use Rattle.left_right.specs.Sides.{view};
 ghost use Rattle.shared_views.specs.inner.Boards.{IsRight};
 ghost use Rattle.shared_views.specs.Publications.{Begins};
 ghost use Rattle.shared_views.specs.Committing.{Watching, IsReading};
 
-use crate::board::{Board, Looks, Publication, Published, Tells, View};
+use crate::board::{Board, Looks, Published, Tells, View};
 use crate::observed::{ReadRefused, Reading};
-use crate::publications::Publications;
+use crate::publications::{Publication, Publications};
 use caa_base::written::entry::{Object, OutOfMemory};
 use left_right::reader::Reader;
 use left_right::writer::Writer;
@@ -18,7 +18,7 @@ pub(crate) type BoardWriter = Writer<Board, Publication, View, Published>;
 
 /// Reads committed values from any thread, and waits for nobody.
 ///
-/// Contracts see the initial values and the publications that it has seen or was told of.
+/// Contracts see the initial values, the publications that it has seen or was told of, and whether it has a place.
 #[derive(Drop)]
 pub struct Observer {
     reader: Option<Reader<Board, View, Published>>,
@@ -44,7 +44,7 @@ impl Observer {
         initials: &[i64],
         publications: &Publications,
     ) -> Result<Observer, OutOfMemory>
-        ensures { IfOk result (λ o. o ≡ record { initials = initials.now; known = publications.now }) }
+        ensures { IfOk result (λ o. o ≡ record { initials = initials.now; known = publications.now; is_placed = false }) }
     {
         let mut copy = Vec::new(alloc);
         copy.extend_from_slice(initials)?;
@@ -62,7 +62,8 @@ impl Observer {
         publications: &Publications,
         count: u32,
     ) -> Result<Vec<Observer>, OutOfMemory>
-        ensures { IfOk result (λ v. v.items ≡ replicate count (record { initials = initials.now; known = publications.now })) }
+        ensures { IfOk result (λ v.
+            v.items ≡ replicate count (record { initials = initials.now; known = publications.now; is_placed = false })) }
     {
         let mut observers = Vec::new(alloc);
         for _ in 0..count {
@@ -75,7 +76,7 @@ impl Observer {
     pub(crate) fn take_place(&mut self, writer: &mut BoardWriter)
         requires writer { (view writer.old.desk.place).known ≡ Some writer.old.desk.shown.value.publications }
         requires book { writer.old.desk.shown.value.publications.book ≡ self.old.known.book }
-        ensures same { self.new ≡ self.old }
+        ensures same { (self.new.initials ≡ self.old.initials) × (self.new.known ≡ self.old.known) }
         ensures shown { (writer.new.desk.shown ≡ writer.old.desk.shown) × (writer.new.log ≡ writer.old.log)
             × (writer.new.behind ≡ writer.old.behind) }
         ensures writer { (view writer.new.desk.place).known ≡ Some writer.new.desk.shown.value.publications }
@@ -88,10 +89,12 @@ impl Observer {
 
     /// The value of an object after all publications that the observer then knows of, which are no fewer than before.
     ///
-    /// A refusal leaves the observer as it was.
+    /// A refusal leaves the observer as it was, and an observer without a place is always refused.
     pub fn read(&mut self, object: Object) -> Result<Reading, ReadRefused>
         requires object { object < length self.old.initials }
         ensures initials { self.new.initials ≡ self.old.initials }
+        ensures place { self.new.is_placed ≡ self.old.is_placed }
+        ensures placed { IfOk result (λ _. IsTrue self.old.is_placed) }
         ensures known { Begins self.old.known self.new.known }
         ensures read { IfOk result (λ r. IsReading self.new.initials self.new.known object r) }
         ensures refused { IfErr result (λ _. self.new ≡ self.old) }
@@ -117,6 +120,7 @@ impl Observer {
         requires right { IsRight board.now }
         requires book { board.now.publications.book ≡ self.old.known.book }
         ensures initials { self.new.initials ≡ self.old.initials }
+        ensures place { self.new.is_placed ≡ self.old.is_placed }
         ensures known { Begins self.old.known self.new.known }
         ensures some { IfSome result (λ r. IsReading self.new.initials self.new.known object r) }
         ensures none { IfNone result (self.new ≡ self.old) }
@@ -132,10 +136,18 @@ impl Observer {
     pub fn learn(&mut self, told: Publications)
         requires ours { told.book ≡ self.old.known.book }
         ensures initials { self.new.initials ≡ self.old.initials }
+        ensures place { self.new.is_placed ≡ self.old.is_placed }
         ensures known { Begins self.old.known self.new.known }
         ensures told { Begins told self.new.known }
         ensures no_more { (self.new.known ≡ self.old.known) ⊎ (self.new.known ≡ told) }
     {
         self.known = self.known.longer(&told);
+    }
+
+    /// The publications that it knows of.
+    pub(crate) fn known(&self) -> &Publications
+        ensures { result.now ≡ self.now.known }
+    {
+        &self.known
     }
 }

@@ -1,32 +1,37 @@
-ghost use Rattle.std.specs.Prelude.{◌≡◌, nat_lt, if◌then◌else◌, [], ◌∷◌, ◌++◌, length, MatchBool};
-ghost use mathlib.Core.List.{IsPrefix};
-ghost use Rattle.shared_views.specs.inner.Chronicles.{head_of};
+ghost use Rattle.std.specs.Prelude.{◌≡◌, nat_lt, if◌then◌else◌, [], ◌∷◌, ◌++◌, length, IfOk, OnErr};
+ghost use Rattle.logbook.specs.Pages.{may_write};
 ghost use Rattle.shared_views.specs.Publications.{Begins};
 
-use caa_base::written::entry::Object;
-use logbook::{Gain, Offer, Plain, Play, Rule, Seen, Start, Word};
+use caa_base::written::entry::{Object, OutOfMemory};
+use logbook::{Gain, Offer, Pen, Plain, Play, Rule, Seen, Start, Word};
 use std::marker::Model;
 
-/// One publication. A clause reads an array as a list, of any length.
+/// The changes of one publication. A clause reads an array as a list, of any length.
 pub type Changes = [(Object, i64); 0];
 
-/// The rule of a list of publications, which only grows.
+/// An entry of the list: a publication, and the key of the cell whose pen adds the next one. No value of it is made.
+pub struct Entered {
+    pub changes: Changes,
+    pub next: u64,
+}
+
+/// The rule of a list of publications, to which one pen adds.
 pub struct Chronicle;
 
-impl Rule<Changes, u64> for Chronicle {
+impl Rule<Entered, u64> for Chronicle {
     ghost use Rattle.std.specs.Prelude.{[]};
     ghost use base.Fml.{ftrue};
-    ghost use Rattle.shared_views.specs.inner.Chronicles.{IsCounted};
+    ghost use Rattle.shared_views.specs.inner.Chronicles.{IsKept};
 
-    ghost holds = { λ cells list. IsCounted cells list };
+    ghost holds = { λ cells log. IsKept cells log };
 
     ghost first = { [] };
 
-    ghost hinted = { λ n list. Unit {0} };
+    ghost hinted = { λ n log. Unit {0} };
 
-    ghost shows = { λ list. [] };
+    ghost shows = { λ log. [] };
 
-    ghost keeps = { λ names list. ftrue };
+    ghost keeps = { λ names log. ftrue };
 
     ghost moves = { λ ask before after answer. Unit {0} };
 }
@@ -34,61 +39,124 @@ impl Rule<Changes, u64> for Chronicle {
 /// Nothing is traded.
 pub struct Nothing;
 
-impl Gain<Changes, u64> for Nothing {
+impl Gain<Entered, u64> for Nothing {
     ghost use base.Fml.{ftrue};
 
     ghost after = { λ names about answer. ftrue };
 }
 
-/// The step that adds a publication.
-pub struct Add;
+/// Asks for no entry.
+pub struct Silent;
 
-impl Play<Changes, u64> for Add {
-    ghost use Rattle.shared_views.specs.inner.Chronicles.{Adds};
+impl Plain<(), Entered, u64> for Silent {
+    ghost use Rattle.std.specs.Prelude.{[], None};
 
-    ghost then = { Adds };
+    ghost ask = { λ nothing. record { changes = []; next = 0 } };
+
+    ghost state = { λ nothing. None };
 }
 
-impl Plain<Vec<(Object, i64)>, Changes, u64> for Add {
+/// A publication that is to be added, and the pen that adds the one after it.
+pub struct Draft {
+    changes: Vec<(Object, i64)>,
+    next: Pen,
+}
+
+impl Plain<Draft, Entered, u64> for Draft {
     ghost use Rattle.std.specs.Prelude.{None};
 
-    ghost ask = { λ changes. changes.items };
+    ghost ask = { λ d. record { changes = d.changes.items; next = d.next.nib.key } };
 
-    ghost state = { λ changes. None };
+    ghost state = { λ d. None };
 }
 
-/// How long the list of publications is.
-pub(crate) type Head = Word<Changes, u64, Chronicle>;
+/// The step that opens a list.
+pub struct Open;
+
+impl Play<Entered, u64> for Open {
+    ghost use Rattle.shared_views.specs.inner.Chronicles.{Opens};
+
+    ghost then = { Opens };
+}
+
+/// The step that makes a pen.
+pub struct Ready;
+
+impl Play<Entered, u64> for Ready {
+    ghost use Rattle.shared_views.specs.inner.Chronicles.{Readies};
+
+    ghost then = { Readies };
+}
+
+/// The step that adds a publication.
+pub struct Enter;
+
+impl Play<Entered, u64> for Enter {
+    ghost use Rattle.shared_views.specs.inner.Chronicles.{Enters};
+
+    ghost then = { Enters };
+}
+
+/// The step that sees how many entries there are.
+pub struct Count;
+
+impl Play<Entered, u64> for Count {
+    ghost use Rattle.shared_views.specs.inner.Chronicles.{Counts};
+
+    ghost then = { Counts };
+}
+
+/// What a step offers that adds no entry of the caller's, or the draft's.
+type Asked = Offer<Entered, u64, Chronicle, Nothing>;
 
 /// The first so many publications of a committed writer, as its holder knows of them. Contracts see what they are.
 #[derive(Drop)]
 pub struct Publications {
     ends: u64,
-    reached: Seen<Changes, u64, Chronicle>,
+    reached: Seen<Entered, u64, Chronicle>,
 }
 
 impl Model for Publications {
-    ghost use Rattle.std.specs.Prelude.{◌≡◌, length};
+    ghost use Rattle.std.specs.Prelude.{◌≡◌, ◌+◌, length};
     ghost use Rattle.shared_views.specs.Publications.{Known};
+    ghost use Rattle.shared_views.specs.inner.Chronicles.{listed};
 
     ghost Value = { Known };
 
-    ghost view = { λ p. record { book = p.reached.book; list = p.reached.log } };
+    ghost view = { λ p. record { book = p.reached.book; list = listed p.reached.log } };
 
-    ghost invariant = { λ p. p.ends ≡ length p.reached.log };
+    ghost invariant = { λ p. length p.reached.log ≡ p.ends + 1 };
+}
+
+/// One publication, and all of them up to it.
+#[derive(Drop)]
+pub struct Publication {
+    pub(crate) changes: Vec<(Object, i64)>,
+    pub(crate) publications: Publications,
+}
+
+/// All publications of a list, and the right to add to it. Contracts see what they are.
+#[derive(Drop)]
+pub struct Head {
+    ends: u64,
+    reached: Seen<Entered, u64, Chronicle>,
+    word: Word<Entered, u64, Chronicle>,
+    pen: Pen,
+}
+
+impl Model for Head {
+    ghost use Rattle.shared_views.specs.Publications.{Known};
+    ghost use Rattle.shared_views.specs.inner.Chronicles.{listed};
+    ghost use Rattle.shared_views.specs.inner.Entering.{IsAtEnd};
+
+    ghost Value = { Known };
+
+    ghost view = { λ h. record { book = h.reached.book; list = listed h.reached.log } };
+
+    ghost invariant = { IsAtEnd };
 }
 
 impl Publications {
-    /// No publications of a new list, and the word that counts them.
-    pub(crate) fn none() -> (Publications, Head)
-        ensures none { result.0.list ≡ [] }
-        ensures head { result.1 ≡ head_of result.0.book }
-    {
-        let (reached, mut first, _second) = Seen::open(Start::alone(), 0, 0);
-        let head = Word::tracked(0, &mut first);
-        (Publications { ends: 0, reached }, head)
-    }
-
     /// How many they are.
     pub fn ends(&self) -> u64
         ensures { result ≡ length self.now.list }
@@ -121,30 +189,101 @@ impl Publications {
             self.again()
         }
     }
+}
 
-    /// Adds a publication to the list. It doesn't where the list is longer already, or can't grow.
-    pub(crate) fn add(&mut self, head: &Head, changes: &Vec<(Object, i64)>) -> bool
-        requires head { head.now ≡ head_of self.old.book }
-        ensures book { self.new.book ≡ self.old.book }
-        ensures added { MatchBool result (self.new.list ≡ self.old.list ++ changes.now.items ∷ [])
-            (IsPrefix self.old.list self.new.list) }
+impl Head {
+    /// The right to add to a new list, in which there is nothing.
+    ///
+    /// Where the list is open already the answer is as where no memory is found. As nobody else has the list that doesn't come,
+    /// but no contract of `logbook` says so.
+    pub(crate) fn open() -> Result<Head, OutOfMemory>
+        ensures { IfOk result (λ h. h.list ≡ []) }
     {
-        if self.ends == u64::MAX {
-            return false;
-        }
-        let mut offer: Offer<Changes, u64, Chronicle, Nothing> = self
-            .reached
-            .plain::<Nothing, Vec<(Object, i64)>, Add>(changes);
-        let mut pen = self.reached.no_pen();
-        let ends = self.ends;
-        let found = head.compare_exchange::<Add, Nothing>(
-            ends,
-            ends + 1,
-            &mut self.reached,
-            &mut offer,
+        let (mut reached, mut first, _second) = Seen::open(Start::alone(), 0, 0);
+        let word = Word::tracked(0, &mut first);
+        let mut asked: Asked = reached.plain::<Nothing, (), Silent>(&());
+        let mut pen = reached.no_pen();
+        let found = word.compare_exchange::<Open, Nothing>(
+            0,
+            1,
+            &mut reached,
+            &mut asked,
             &mut pen,
         );
-        self.ends = if found == ends { ends + 1 } else { found };
-        found == ends
+        if found != 0 {
+            return Err(OutOfMemory);
+        }
+        let _cell: Word<Entered, u64, Chronicle> = Word::tracked(0, &mut pen);
+        Ok(Head {
+            ends: 0,
+            reached,
+            word,
+            pen,
+        })
+    }
+
+    /// All publications of the list.
+    pub(crate) fn reached(&self) -> Publications
+        ensures { result ≡ self.now }
+    {
+        Publications {
+            ends: self.ends,
+            reached: self.reached.again(),
+        }
+    }
+
+    /// A pen for a new cell.
+    fn another_pen(&self) -> Pen
+        ensures { (result.book ≡ self.now.book) × (result.nib.right ≡ may_write) }
+    {
+        let mut seen = self.reached.again();
+        let mut asked: Asked = seen.plain::<Nothing, (), Silent>(&());
+        let mut pen = seen.no_pen();
+        self.word
+            .compare_exchange::<Ready, Nothing>(0, 0, &mut seen, &mut asked, &mut pen);
+        let _cell: Word<Entered, u64, Chronicle> = Word::tracked(0, &mut pen);
+        pen
+    }
+
+    /// Adds a publication of these changes to the list. After 2^64 - 1 publications no further one can be counted, and the answer
+    /// is as where no memory is found.
+    pub(crate) fn enter(&mut self, changes: Vec<(Object, i64)>) -> Result<Publication, OutOfMemory>
+        ensures book { self.new.book ≡ self.old.book }
+        ensures changes { IfOk result (λ p. p.changes.items ≡ changes.items) }
+        ensures all { IfOk result (λ p. p.publications ≡ self.new) }
+        ensures more { IfOk result (λ p. self.new.list ≡ self.old.list ++ changes.items ∷ []) }
+        ensures refused { OnErr result (self.new ≡ self.old) }
+    {
+        if self.ends == u64::MAX {
+            return Err(OutOfMemory);
+        }
+        let draft = Draft {
+            changes,
+            next: self.another_pen(),
+        };
+        let mut asked: Asked = self.reached.plain::<Nothing, Draft, Draft>(&draft);
+        self.word
+            .compare_exchange::<Enter, Nothing>(0, 0, &mut self.reached, &mut asked, &mut self.pen);
+        let Draft { changes, next } = draft;
+        self.pen = next;
+        self.ends += 1;
+        Ok(Publication {
+            changes,
+            publications: self.reached(),
+        })
+    }
+
+    /// A law: whatever is known of the list begins what was added to it. Nothing changes.
+    pub(crate) fn covers(&mut self, known: &Publications)
+        requires book { known.now.book ≡ self.old.book }
+        ensures same { self.new ≡ self.old }
+        ensures begins { Begins known.now self.old }
+    {
+        let mut both = self.reached.again();
+        both.learn(&known.reached);
+        let mut asked: Asked = both.plain::<Nothing, (), Silent>(&());
+        let ends = self.ends;
+        self.word
+            .compare_exchange::<Count, Nothing>(ends, ends, &mut both, &mut asked, &mut self.pen);
     }
 }

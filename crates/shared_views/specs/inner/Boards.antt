@@ -3,7 +3,7 @@ use Rattle.std.specs.Prelude.{◌≡◌, ◌<◌, ℕ, ℤ, All, List, [], ◌�
 use mathlib.Core.Option.{some}
 use lib.ListN.{get_elem?}
 use Rattle.shared_views.specs.Publications.{Known, Begins, last_given}
-use Rattle.shared_views.specs.declared.board.Publication.{Publication}
+use Rattle.shared_views.specs.declared.publications.Publication.{Publication}
 use Rattle.shared_views.specs.declared.board.Board.{Board}
 use Rattle.shared_views.specs.declared.board.View.{View}
 

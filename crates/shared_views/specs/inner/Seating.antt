@@ -1,9 +1,8 @@
 -- The writer and the readers of the board, as their owners keep them.
-use Rattle.std.specs.Prelude.{◌≡◌, [], false, length, drop, Option, Some, None, IfSome}
+use Rattle.std.specs.Prelude.{◌≡◌, [], false, length, drop, Option, Some, None, is_some, IfSome}
 use Rattle.logbook.specs.Pages.{Book}
 use Rattle.left_right.specs.Sides.{view}
 use Rattle.shared_views.specs.Publications.{Known}
-use Rattle.shared_views.specs.inner.Chronicles.{head_of}
 use Rattle.shared_views.specs.inner.Boards.{IsRight}
 use Rattle.shared_views.specs.Committing.{Committed, Watching}
 use Rattle.shared_views.specs.declared.committed_writer.CommittedWriter.TheInside.{Inside as WriterInside}
@@ -11,19 +10,26 @@ use Rattle.shared_views.specs.declared.observer.Observer.TheInside.{Inside as Ob
 
 -- what contracts see of a writer
 abbrev pub committed : WriterInside → Committed
-committed w = record { initials = w.initials.items; publications = w.writer.desk.shown.value.publications; is_stale = w.stale }
+committed w =
+    record {
+      initials = w.initials.items;
+      publications = w.writer.desk.shown.value.publications;
+      is_stale = w.stale;
+      entered = w.head;
+    }
 
--- the board that is shown is right, and has a place for each object; the head counts its publications; nothing waits to be shown,
--- unless the view is stale
+-- the board that is shown is right, and has a place for each object; the head adds to the list of its publications. Unless the view
+-- is stale nothing waits to be shown, and these are all that was entered
 pub record IsInOrder (w : WriterInside) : Type 0 where
   pub right : IsRight w.writer.desk.shown.value
   pub wide : length w.writer.desk.shown.value.given.items ≡ length w.initials.items
-  pub head : w.head ≡ head_of w.writer.desk.shown.value.publications.book
+  pub book : w.head.book ≡ w.writer.desk.shown.value.publications.book
   pub idle : w.stale ≡ false → drop w.writer.behind w.writer.log.items ≡ []
+  pub whole : w.stale ≡ false → w.head ≡ w.writer.desk.shown.value.publications
 
 -- what contracts see of an observer
 abbrev pub watching_view : ObserverInside → Watching
-watching_view o = record { initials = o.initials.items; known = o.known }
+watching_view o = record { initials = o.initials.items; known = o.known; is_placed = is_some o.reader }
 
 -- what is known is of this book
 abbrev pub IsOfBook : Book → Option Known → Type 0

@@ -1,9 +1,14 @@
-use Rattle.std.proofs.Common.{◌≡◌, Some}
+use Rattle.std.proofs.Common.{◌≡◌, length, map, Some}
 use Rattle.left_right.specs.Sides.{view}
+use Rattle.shared_views.specs.Committing.{placeless}
 use Rattle.shared_views.proofs.committed_writer.seat_all.Given as goal
 
 abbrev pub invariant-loop-index : goal.invariant-loop-index
-invariant-loop-index l =
-    (l.observers.items ≡ l.initial.observers.items) × (l.writer.desk.shown ≡ l.initial.writer.desk.shown)
-    × (l.writer.log ≡ l.initial.writer.log)
-    × (l.writer.behind ≡ l.initial.writer.behind) × ((view l.writer.desk.place).known ≡ Some l.writer.desk.shown.value.publications)
+invariant-loop-index l = record {
+  many : length l.observers.items ≡ length l.initial.observers.items;
+  same : map placeless l.observers.items ≡ map placeless l.initial.observers.items;
+  shown :
+      (l.writer.desk.shown ≡ l.initial.writer.desk.shown) × (l.writer.log ≡ l.initial.writer.log)
+      × (l.writer.behind ≡ l.initial.writer.behind);
+  knows : (view l.writer.desk.place).known ≡ Some l.writer.desk.shown.value.publications;
+}

@@ -40,5 +40,5 @@ returns-then-ends_play-clause-publishes g c = λ past is kept.
     let changes = c.as_slice.ensures.value ∙ (c.collect.ensures.changes ∙ ap (λ l. values_of plan l entry.place) is) in
     let told = c.publish.ensures in
     an_end plan past entry c.collect.new.self.writer c.publish.new.self c.as_slice.result.now c.publish.result Stale
-    ends changes told.initials told.published told.marked (λ late. told.stale.1 late)
+    ends changes told.initials told.published told.entered told.marked (λ late. told.stale.1 late) told.late
     (subst (Publishes plan past) (sym c.collect.ensures.writer) kept)
