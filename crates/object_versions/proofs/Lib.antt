@@ -1,0 +1,3 @@
+pub mod PlanDepths
+mod ObjectByObject
+pub mod VersionsKept
