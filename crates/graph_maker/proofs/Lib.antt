@@ -1,4 +1,5 @@
 pub mod Accepting
+pub mod Apart
 pub mod Ascending
 pub mod Distinct
 pub mod MadeWords
