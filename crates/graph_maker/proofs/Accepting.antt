@@ -58,7 +58,7 @@ module _ (script : Script) (most : ℕ) where
 
   -- ---- a script that isn't refused
 
-  none_bad : refusal_of script most ≡ None → (bad_line script ≡ None) × (refused_from script most 0 script.lines ≡ None)
+  pub none_bad : refusal_of script most ≡ None → (bad_line script ≡ None) × (refused_from script most 0 script.lines ≡ None)
   none_bad h = by (bad_line script) refl h
     where
       by : (o : Option ℕ) → bad_line script ≡ o → refusal_by (refused_from script most 0 script.lines) o ≡ None → (bad_line script ≡ None) × (refused_from script most 0 script.lines ≡ None)

@@ -4,6 +4,7 @@ pub mod Ascending
 pub mod Distinct
 pub mod MadeWords
 pub mod Naming
+pub mod OwnNames
 pub mod Refusing
 pub mod Rooms
 pub mod Scripted
