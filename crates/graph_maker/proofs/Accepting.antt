@@ -12,7 +12,7 @@ use Rattle.graph_maker.specs.declared.made_error.MadeError.{MadeError}
 use Rattle.graph_maker.specs.Refusals.{bad_from, bad_if, bad_line, cause_if, cause_of, exception_in, has_room, lacking_at, next_stage, primitive_count, refusal_by, refusal_of, refused_from, refused_if}
 
 -- a line that is passed has no cause, and nor has a later one
-passed_on : (number : ℕ) (later : Option MadeError) (c : Option MadeCause) → refused_if number later c ≡ None → (c ≡ None) × (later ≡ None)
+pub passed_on : (number : ℕ) (later : Option MadeError) (c : Option MadeCause) → refused_if number later c ≡ None → (c ≡ None) × (later ≡ None)
 passed_on number later None h = (refl, h)
 passed_on number later (Some c) h = cc
 
@@ -58,7 +58,7 @@ module _ (script : Script) (most : ℕ) where
 
   -- ---- a script that isn't refused
 
-  none_bad : refusal_of script most ≡ None → (bad_line script ≡ None) × (refused_from script most 0 script.lines ≡ None)
+  pub none_bad : refusal_of script most ≡ None → (bad_line script ≡ None) × (refused_from script most 0 script.lines ≡ None)
   none_bad h = by (bad_line script) refl h
     where
       by : (o : Option ℕ) → bad_line script ≡ o → refusal_by (refused_from script most 0 script.lines) o ≡ None → (bad_line script ≡ None) × (refused_from script most 0 script.lines ≡ None)

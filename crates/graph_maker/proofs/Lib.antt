@@ -1,8 +1,10 @@
 pub mod Accepting
+pub mod Apart
 pub mod Ascending
 pub mod Distinct
 pub mod MadeWords
 pub mod Naming
+pub mod OwnNames
 pub mod Refusing
 pub mod Rooms
 pub mod Scripted

@@ -66,7 +66,7 @@ graph_named names (line ∷ lines) fine sound = by line.form fine (and_parts (is
     by (form.Graph name) b s = (and_parts (is_name (name_at names name)) true s).0
     by _ b s = cc
 
-exceptions_named : (names : List (List ℕ)) (lines : List Line) → list_all (is_sound names) (forms_of lines) ≡ true → list_all is_name (map (name_at names) (exceptions_in lines)) ≡ true
+pub exceptions_named : (names : List (List ℕ)) (lines : List Line) → list_all (is_sound names) (forms_of lines) ≡ true → list_all is_name (map (name_at names) (exceptions_in lines)) ≡ true
 exceptions_named names [] sound = refl
 exceptions_named names (line ∷ lines) sound =
     let p = and_parts (is_sound names line.form) (list_all (is_sound names) (forms_of lines)) sound in

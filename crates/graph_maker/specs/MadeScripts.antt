@@ -1,5 +1,5 @@
 -- The script of a graph of sets, by the script of its primitives.
-use Rattle.std.specs.Prelude.{ℕ, List, [], ◌∷◌, ◌++◌, drop, length, map, slice_index}
+use Rattle.std.specs.Prelude.{◌≢◌, ◌<◌, ℕ, List, [], ◌∷◌, ◌++◌, drop, length, map, slice_index}
 use Rattle.caa_base.specs.Written.Names.{name_at}
 use Rattle.action_script.specs.declared.forms.form.Form.{Form}
 use Rattle.action_script.specs.declared.forms.form.Form.TheVariants as form
@@ -27,6 +27,10 @@ primitive_names script = map (name_at script.names) (exceptions_in script.lines)
 -- the name of its graph, and behind it that of each exception by its number
 abbrev pub words_of : Script → ℕ → List (List ℕ)
 words_of script most = name_at script.names (graph_of script.lines) ∷ exception_names (primitive_names script) most
+
+-- no two of these words are one
+abbrev pub HaveOwnNames : List (List ℕ) → Type 0
+HaveOwnNames words = (a b : ℕ) → a < b → b < length words → name_at words a ≢ name_at words b
 
 -- ---- lines
 

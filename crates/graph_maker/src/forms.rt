@@ -15,7 +15,12 @@ use set_graphs::Set;
 use std::alloc::Global;
 
 /// Adds the names of these numbers.
-pub fn push_named(words: &mut Vec<Name>, alloc: Global, names: &[Name], numbers: &[u32]) -> Result<(), OutOfMemory>
+pub fn push_named(
+    words: &mut Vec<Name>,
+    alloc: Global,
+    names: &[Name],
+    numbers: &[u32],
+) -> Result<(), OutOfMemory>
     ensures { OnOk result (words.new.items ≡ words.old.items ++ map (name_at names.now) numbers.now) }
 {
     for number in numbers {
@@ -25,7 +30,12 @@ pub fn push_named(words: &mut Vec<Name>, alloc: Global, names: &[Name], numbers:
 }
 
 /// Adds the names that are made for these sets.
-pub fn push_made(words: &mut Vec<Name>, alloc: Global, primitives: u32, sets: &[Set]) -> Result<(), OutOfMemory>
+pub fn push_made(
+    words: &mut Vec<Name>,
+    alloc: Global,
+    primitives: u32,
+    sets: &[Set],
+) -> Result<(), OutOfMemory>
     requires { primitives < 128 }
     ensures { OnOk result (words.new.items ≡ words.old.items ++ map (set_name primitives) sets.now) }
 {
@@ -81,7 +91,11 @@ fn push_exceptions(forms: &mut Vec<Form>, numbers: &[u32]) -> Result<(), OutOfMe
 }
 
 /// Adds a line for each pair of an exception and one that it covers.
-fn push_covers(forms: &mut Vec<Form>, numbers: &[u32], pairs: &[(u32, u32)]) -> Result<(), OutOfMemory>
+fn push_covers(
+    forms: &mut Vec<Form>,
+    numbers: &[u32],
+    pairs: &[(u32, u32)],
+) -> Result<(), OutOfMemory>
     requires { All (λ p. (p.0 < length numbers.now) × (p.1 < length numbers.now)) pairs.now }
     ensures { OnOk result (forms.new.items ≡ forms.old.items ++ map (cover_form numbers.now) pairs.now) }
 {
@@ -92,7 +106,11 @@ fn push_covers(forms: &mut Vec<Form>, numbers: &[u32], pairs: &[(u32, u32)]) -> 
 }
 
 /// The lines of a graph, by the numbers of names, its own first and then those of its exceptions, and its pairs.
-fn graph_forms(alloc: Global, numbers: &[u32], pairs: &[(u32, u32)]) -> Result<Vec<Form>, OutOfMemory>
+fn graph_forms(
+    alloc: Global,
+    numbers: &[u32],
+    pairs: &[(u32, u32)],
+) -> Result<Vec<Form>, OutOfMemory>
     requires some { 0 < length numbers.now }
     requires in_range { All (λ p. (p.0 < length numbers.now) × (p.1 < length numbers.now)) pairs.now }
     ensures { IfOk result (λ forms. forms.items ≡ made_forms numbers.now pairs.now) }
@@ -106,7 +124,11 @@ fn graph_forms(alloc: Global, numbers: &[u32], pairs: &[(u32, u32)]) -> Result<V
 }
 
 /// The script of one graph: of these names, its own first and then those of its exceptions, and of these pairs of exceptions.
-pub fn graph_script(alloc: Global, words: &[Name], pairs: &[(u32, u32)]) -> Result<Script, OutOfMemory>
+pub fn graph_script(
+    alloc: Global,
+    words: &[Name],
+    pairs: &[(u32, u32)],
+) -> Result<Script, OutOfMemory>
     requires some { 0 < length words.now }
     requires few { length words.now ≤ 128 }
     requires names { list_all is_name words.now ≡ true }

@@ -17,7 +17,12 @@ use set_graphs::{Set, make_pairs, make_table};
 use std::alloc::Global;
 
 /// The names of the made script: that of the graph, and behind it those of its exceptions by their numbers.
-fn words_of(alloc: Global, script: &Script, exceptions: &[u32], larger: &[Set]) -> Result<Vec<Name>, OutOfMemory>
+fn words_of(
+    alloc: Global,
+    script: &Script,
+    exceptions: &[u32],
+    larger: &[Set],
+) -> Result<Vec<Name>, OutOfMemory>
     requires few { length exceptions.now < 128 }
     ensures { IfOk result (λ words. words.items ≡ name_at script.now.names (graph_of script.now.lines)
         ∷ map (name_at script.now.names) exceptions.now ++ map (set_name (length exceptions.now)) larger.now) }
@@ -49,7 +54,12 @@ fn wanting() -> MadeError
 }
 
 /// The script of the graph of sets of these exceptions, which are those of a script that isn't refused.
-fn script_of_sets(alloc: Global, script: &Script, exceptions: &[u32], most: u32) -> Result<Script, OutOfMemory>
+fn script_of_sets(
+    alloc: Global,
+    script: &Script,
+    exceptions: &[u32],
+    most: u32,
+) -> Result<Script, OutOfMemory>
     requires some_member { 0 < most }
     requires most_fits { most < 8 }
     requires declared { exceptions.now ≡ exceptions_in script.now.lines }
@@ -60,7 +70,12 @@ fn script_of_sets(alloc: Global, script: &Script, exceptions: &[u32], most: u32)
     let primitives = exceptions.len() as u32;
     let table = make_table(alloc, primitives, most)?;
     let pairs = make_pairs(alloc, &table, primitives)?;
-    let words = words_of(alloc, script, exceptions, larger_in(&table, exceptions.len()))?;
+    let words = words_of(
+        alloc,
+        script,
+        exceptions,
+        larger_in(&table, exceptions.len()),
+    )?;
     let made = graph_script(alloc, &words, &pairs)?;
     Ok(made)
 }

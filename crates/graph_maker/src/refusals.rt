@@ -20,14 +20,18 @@ fn has_room(primitives: usize, most: u32) -> bool
     requires most_fits { most < 8 }
     ensures { result ≡ has_room primitives most }
 {
-    primitives <= MOST_PRIMITIVES && count_exceptions(primitives as u32, most) <= MOST_EXCEPTIONS as u64
+    primitives <= MOST_PRIMITIVES
+        && count_exceptions(primitives as u32, most) <= MOST_EXCEPTIONS as u64
 }
 
 /// Whether a name is that of one of the first exceptions, so many of them.
 fn is_among(exceptions: &[u32], passed: usize, name: u32) -> bool
     ensures { result ≡ list_any (λ exception. exception == name) (take passed exceptions.now) }
 {
-    exceptions.iter().take(passed).any(|exception| *exception == name)
+    exceptions
+        .iter()
+        .take(passed)
+        .any(|exception| *exception == name)
 }
 
 /// Whether a name may not be that of an exception which is declared after so many of all these.
@@ -41,14 +45,22 @@ fn is_taken(script: &Script, exceptions: &[u32], most: u32, passed: usize, name:
 }
 
 /// The cause for which a line is refused that comes after so many of all these exceptions.
-fn cause_of(script: &Script, exceptions: &[u32], most: u32, passed: usize, form: &Form) -> Option<MadeCause>
+fn cause_of(
+    script: &Script,
+    exceptions: &[u32],
+    most: u32,
+    passed: usize,
+    form: &Form,
+) -> Option<MadeCause>
     requires some_member { 0 < most }
     requires most_fits { most < 8 }
     requires declared { exceptions.now ≡ exceptions_in script.now.lines }
     ensures { result ≡ cause_of script.now most passed form.now }
 {
     match form {
-        Form::Exception(name) if is_taken(script, exceptions, most, passed, *name) => Some(MadeCause::Twice),
+        Form::Exception(name) if is_taken(script, exceptions, most, passed, *name) => Some(
+            MadeCause::Twice,
+        ),
         Form::Exception(_) if passed >= MOST_PRIMITIVES => Some(MadeCause::Limit),
         Form::End if !has_room(exceptions.len(), most) => Some(MadeCause::Limit),
         _ => None,

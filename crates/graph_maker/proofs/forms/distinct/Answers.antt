@@ -8,11 +8,10 @@ loop-word-preserved c =
     let words = c.args.words.now in
     let i = c.loop-word.word-index in
     let word = c.bytes.result.now in
-    let added = c.in_ok-push_new.ensures in
-    (
+    let added = c.in_ok-push_new.ensures in (
       few_more c.loop-word.names.items _ word i added c.loop-word.invariant.0,
       added
-      ∙ ap (λ l. with_name l word) c.loop-word.invariant.1
-      ∙ ap (λ w. with_name (with_names [] (take i words)) w) c.bytes.ensures
-      ∙ names_more words i c.word-item.result (omega (arith, c.loop-word-test.true)) c.word-item.is,
+          ∙ ap (λ l. with_name l word) c.loop-word.invariant.1
+          ∙ ap (λ w. with_name (with_names [] (take i words)) w) c.bytes.ensures
+          ∙ names_more words i c.word-item.result (omega (arith, c.loop-word-test.true)) c.word-item.is,
     )
