@@ -1,8 +1,7 @@
 -- The least cause of a line is the one that is found first.
-use Rattle.std.proofs.Common.{◌≡◌, ℕ, Bool, true, false, not, Option, Some, None, unwrap_or, refl, sym, ap, ◌∙◌, subst, arith, length}
+use Rattle.std.proofs.Common.{◌≡◌, ℕ, Bool, true, false, Option, Some, None, unwrap_or, refl, sym, ap, ◌∙◌, subst, arith, length}
 use Rattle.std.proofs.lemmas.Bool.{false≢true, false_from_ne_true}
 use Rattle.exception_graph.specs.Chains.{IsFirstInCycle}
-use Rattle.caa_base.specs.Written.Lists.{is_empty}
 use Rattle.action_script.specs.declared.forms.form.Form.{Form}
 use Rattle.action_script.specs.declared.forms.form.Form.TheVariants as form
 use Rattle.script_checker.specs.declared.check_error.CheckCause.{CheckCause}
@@ -12,11 +11,10 @@ use Rattle.script_checker.specs.declared.declared.Declared.{Declared}
 use Rattle.script_checker.specs.declared.declared.Block.{Block}
 use Rattle.script_checker.specs.declared.declared.Block.TheVariants as block
 use Rattle.script_checker.specs.declared.open_graph.DeclaredGraph.{DeclaredGraph}
-use Rattle.script_checker.specs.declared.open_action.OpenAction.{OpenAction}
 use Rattle.script_checker.specs.InAction.{enters_otherwise_in_action, not_held_in_action, too_deep_in_action, other_face_in_action}
 use Rattle.script_checker.specs.Causes.{HasCause, is_unknown, is_twice, is_unfilled, fills_twice, is_past_limit, is_past_bound, in_action, EndsGraph}
 use Rattle.script_checker.specs.inner.Chosen.{cause_if, size_cause, part_cause, first_cause, is_end}
-use Rattle.script_checker.specs.inner.Ends.{IsGraphRefusal, IsFaultless, IsActionRefusal, IsUnrefused}
+use Rattle.script_checker.specs.inner.Ends.{IsGraphRefusal, IsFaultless}
 use Rattle.script_checker.specs.Compiled.{number_of, HasNoneBelow, IsLeast, HasNone}
 
 module _ (s : SoFar) (f : Form) where
@@ -194,47 +192,3 @@ least_of_graph s g e c h memory = subst (λ (b : Block). IsLeast (record { decla
 
 pub none_of_graph : (s : SoFar) (g : DeclaredGraph) → s.block ≡ block.Graph g → IsFaultless (length g.exceptions) g.pairs → HasNone s form.End
 none_of_graph s g e h = subst (λ (b : Block). HasNone (record { declared = s.declared; block = b }) form.End) (sym e) (none_graph s.declared g h)
-
--- ---- the end of an action
-
-module _ (d : Declared) (a : OpenAction) where
-  abbrev in_an_action : SoFar
-  in_an_action = record { declared = d; block = block.Action a }
-
-  below_unfilled : HasNoneBelow in_an_action form.End 14
-  below_unfilled =
-      passes_graph in_an_action form.End (λ at h. h) (λ a b h. h)
-      (passes_twice in_an_action form.End refl (passes_unknown in_an_action form.End refl (passes_start in_an_action form.End)))
-
-  below_order : is_empty a.roles ≡ false → HasNoneBelow in_an_action form.End 16
-  below_order some = passes_filled in_an_action form.End refl (passes_unfilled in_an_action form.End some below_unfilled)
-
-  -- why the action is refused is the least cause of the line
-  pub least_action : (c : CheckCause) → (c ≡ cause.OutOfMemory → ⊥) → IsActionRefusal a c → IsLeast in_an_action form.End c
-  least_action cause.RoleUnfilled memory h = record { has = h; lesser = below_unfilled }
-  least_action cause.NestOrder memory h = record { has = ap not h.1; lesser = below_order h.0 }
-  least_action cause.OutOfMemory memory h = absurd (memory refl)
-  least_action other memory h = absurd h
-
-  -- else it has none
-  pub none_action : IsUnrefused a → HasNone in_an_action form.End
-  none_action h cause.RoleUnfilled k = false≢true (sym h.some_role ∙ k)
-  none_action h cause.NestOrder k = false≢true (sym (ap not h.in_order) ∙ k)
-  none_action h cause.OutOfMemory k = k
-  none_action h (cause.Cycle at) k = k
-  none_action h (cause.NoLeast x y) k = k
-  none_action h other k = false≢true k
-
--- an `end` line never stands at the top, and would have no cause there
-pub none_top : (d : Declared) → HasNone (record { declared = d; block = block.Top }) form.End
-none_top d cause.OutOfMemory k = k
-none_top d (cause.Cycle at) k = k
-none_top d (cause.NoLeast x y) k = k
-none_top d other k = false≢true k
-
--- the same where the action is known to be the block
-pub least_of_action : (s : SoFar) (a : OpenAction) → s.block ≡ block.Action a → (c : CheckCause) → IsActionRefusal a c → (c ≡ cause.OutOfMemory → ⊥) → IsLeast s form.End c
-least_of_action s a e c h memory = subst (λ (b : Block). IsLeast (record { declared = s.declared; block = b }) form.End c) (sym e) (least_action s.declared a c memory h)
-
-pub none_of_action : (s : SoFar) (a : OpenAction) → s.block ≡ block.Action a → IsUnrefused a → HasNone s form.End
-none_of_action s a e h = subst (λ (b : Block). HasNone (record { declared = s.declared; block = b }) form.End) (sym e) (none_action s.declared a h)

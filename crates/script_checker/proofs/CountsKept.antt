@@ -89,18 +89,6 @@ module _ (names : List (List ℕ)) (d : Declared) where
       (omega (arith, h.0), few_more most_actions d.action_names name w)
   says_actions f w h = h
 
-  ended_graphs : (b : Block) → FewGraphs d (open_graphs b) → FewGraphs (ended names d b) 0
-  ended_graphs (block.Graph g) h =
-      let n : length (d.graphs ++ g ∷ []) ≡ length d.graphs + 1 = length-append d.graphs _ in
-      (omega (arith, h.0), h.1)
-  ended_graphs b h = h
-
-  ended_actions : (b : Block) → FewActions d (open_actions b) → FewActions (ended names d b) 0
-  ended_actions (block.Action a) h =
-      let n : length (d.actions ++ row_of names a ∷ []) ≡ length d.actions + 1 = length-append d.actions _ in
-      (omega (arith, h.0), h.1)
-  ended_actions b h = h
-
 -- ---- all counts
 
 pub record AreFew (d : Declared) (in_graph in_action : ℕ) : Type 0 where
@@ -116,22 +104,14 @@ AreCountsFew d b = AreFew d (open_graphs b) (open_actions b)
 
 ends_few : (names : List (List ℕ)) (d : Declared) (b : Block) → AreCountsFew d b → AreFew (ended names d b) 0 0
 ends_few names d block.Top h = h
-ends_few names d (block.Graph g) h = record {
-  participants = h.participants;
-  objects = h.objects;
-  drills = h.drills;
-  watches = h.watches;
-  graphs = ended_graphs names d (block.Graph g) h.graphs;
-  actions = h.actions;
-}
-ends_few names d (block.Action a) h = record {
-  participants = h.participants;
-  objects = h.objects;
-  drills = h.drills;
-  watches = h.watches;
-  graphs = h.graphs;
-  actions = ended_actions names d (block.Action a) h.actions;
-}
+ends_few names d (block.Graph g) h =
+    let n : length (d.graphs ++ g ∷ []) ≡ length d.graphs + 1 = length-append d.graphs _ in
+    let graphs : FewGraphs (ended names d (block.Graph g)) 0 = (omega (arith, h.graphs.0), h.graphs.1) in
+    record { participants = h.participants; objects = h.objects; drills = h.drills; watches = h.watches; graphs = graphs; actions = h.actions }
+ends_few names d (block.Action a) h =
+    let n : length (d.actions ++ row_of names a ∷ []) ≡ length d.actions + 1 = length-append d.actions _ in
+    let actions : FewActions (ended names d (block.Action a)) 0 = (omega (arith, h.actions.0), h.actions.1) in
+    record { participants = h.participants; objects = h.objects; drills = h.drills; watches = h.watches; graphs = h.graphs; actions = actions }
 
 pub counts_kept : (names : List (List ℕ)) → IsKept names AreCountsFew
 counts_kept names = record {

@@ -119,11 +119,12 @@ record AreWatches (count : ℕ) (watches : List ℕ) : Type 0 where
 abbrev object_names : List ObjectRow → List (List ℕ)
 object_names rows = map (λ (row : ObjectRow). row.name) rows
 
-record AreDeclaredNamed (names : List (List ℕ)) (d : Declared) : Type 0 where
-  pub participants : AreNamedBy names d.participants d.participant_rows
-  pub objects : AreNamedBy names d.objects (object_names d.object_rows)
-  pub graphs : AreGraphsNamed names d.universal d.graphs
-  pub watches : AreWatches (length d.objects) d.watches
+abbrev AreDeclaredNamed : List (List ℕ) → Declared → Type 0
+AreDeclaredNamed names d =
+    AreNamedBy names d.participants d.participant_rows
+    × AreNamedBy names d.objects (object_names d.object_rows)
+    × AreGraphsNamed names d.universal d.graphs
+    × AreWatches (length d.objects) d.watches
 
 -- and so have those of the graph that is being declared
 abbrev OpenNamed : List (List ℕ) → Block → Type 0
@@ -162,32 +163,20 @@ module _ (names : List (List ℕ)) (numbered : AreNumbered names) where
   first_spelled n rest h = (and_parts (is_name (name_at names n)) rest h).0
 
   begins_stand : (d : Declared) (f : Form) → is_sound names f ≡ true → NoneAtTop d f → AreDeclaredNamed names d → AreDeclaredNamed names (declared_with names d f)
-  begins_stand d (form.Participant n) sound none h = record {
-    participants = named_push d.participants d.participant_rows n (first_spelled n _ sound) (once_at_top d (form.Participant n) none) h.participants;
-    objects = h.objects;
-    graphs = h.graphs;
-    watches = h.watches;
-  }
-  begins_stand d (form.Object n v) sound none h = record {
-    participants = h.participants;
-    objects = objects_push d.objects d.object_rows (record { name = name_at names n; initial = v }) n refl (first_spelled n _ sound) (once_at_top d (form.Object n v) none) h.objects;
-    graphs = h.graphs;
-    watches = watches_stand d.objects n d.watches h.watches;
-  }
-  begins_stand d (form.Watch n) sound none h = record {
-    participants = h.participants;
-    objects = h.objects;
-    graphs = h.graphs;
-    watches = watches_push d.objects d.watches n (not-false (is_among d.objects n) (known_at_top d (form.Watch n) none)) (once_at_top d (form.Watch n) none) h.watches;
-  }
-  begins_stand d (form.Drill object nth) sound none h = record { participants = h.participants; objects = h.objects; graphs = h.graphs; watches = h.watches }
-  begins_stand d (form.Graph n) sound none h = record { participants = h.participants; objects = h.objects; graphs = h.graphs; watches = h.watches }
-  begins_stand d (form.Action n) sound none h = record { participants = h.participants; objects = h.objects; graphs = h.graphs; watches = h.watches }
-  begins_stand d (form.Play action who) sound none h = record { participants = h.participants; objects = h.objects; graphs = h.graphs; watches = h.watches }
+  begins_stand d (form.Participant n) sound none h =
+      (named_push d.participants d.participant_rows n (first_spelled n _ sound) (once_at_top d (form.Participant n) none) h.0, h.1, h.2, h.3)
+  begins_stand d (form.Object n v) sound none h = (
+    h.0,
+    objects_push d.objects d.object_rows (record { name = name_at names n; initial = v }) n refl (first_spelled n _ sound) (once_at_top d (form.Object n v) none) h.1,
+    h.2,
+    watches_stand d.objects n d.watches h.3,
+  )
+  begins_stand d (form.Watch n) sound none h =
+      (h.0, h.1, h.2, watches_push d.objects d.watches n (not-false (is_among d.objects n) (known_at_top d (form.Watch n) none)) (once_at_top d (form.Watch n) none) h.3)
   begins_stand d f sound none h = h
 
   begins_named : (d : Declared) (f : Form) → AreDeclaredNamed names d → OpenNamed names (block_begun d f)
-  begins_named d (form.Graph n) h = universal_alone d.universal h.graphs.first
+  begins_named d (form.Graph n) h = universal_alone d.universal h.2.first
   begins_named d f h = tt
 
   graph_stands : (d : Declared) (g : DeclaredGraph) (f : Form) → is_sound names f ≡ true → NoneInGraph d g f → OpenNamed names (block.Graph g) → OpenNamed names (block.Graph (graph_with g f))
@@ -195,14 +184,14 @@ module _ (names : List (List ℕ)) (numbered : AreNumbered names) where
   graph_stands d g f sound none h = h
 
   ends_stand : (d : Declared) (b : Block) → NamesStand names d b → AreDeclaredNamed names (ended names d b)
+  ends_stand d (block.Graph g) h = (
+    h.0.0,
+    h.0.1,
+    record { first = h.0.2.first; own = All-push (λ (graph : DeclaredGraph). AreOwn names (exception_name names) graph.exceptions) d.graphs g h.0.2.own h.1 },
+    h.0.3,
+  )
   ends_stand d block.Top h = h.0
-  ends_stand d (block.Graph g) h = record {
-    participants = h.0.participants;
-    objects = h.0.objects;
-    graphs = record { first = h.0.graphs.first; own = All-push (λ (graph : DeclaredGraph). AreOwn names (exception_name names) graph.exceptions) d.graphs g h.0.graphs.own h.1 };
-    watches = h.0.watches;
-  }
-  ends_stand d (block.Action a) h = record { participants = h.0.participants; objects = h.0.objects; graphs = h.0.graphs; watches = h.0.watches }
+  ends_stand d (block.Action a) h = h.0
 
   names_kept : IsKept names (NamesStand names)
   names_kept = record {
@@ -215,17 +204,17 @@ module _ (names : List (List ℕ)) (numbered : AreNumbered names) where
 
   nothing_stands : NamesStand names (nothing_declared (number_in names (codes "universal"))) block.Top
   nothing_stands = (
-    record {
-      participants = record { own = own_none names (name_at names); same = refl };
-      objects = record { own = own_none names (name_at names); same = refl };
-      graphs = record {
+    (
+      record { own = own_none names (name_at names); same = refl },
+      record { own = own_none names (name_at names); same = refl },
+      record {
         first = refl;
         own =
             All-push (λ (graph : DeclaredGraph). AreOwn names (exception_name names) graph.exceptions) [] (plain_graph (number_in names (codes "universal")))
             (All-nil (λ (graph : DeclaredGraph). AreOwn names (exception_name names) graph.exceptions)) (universal_alone _ refl);
-      };
-      watches = record { within = All-nil (λ object. object < 0); once = λ i j d l w. absurd (omega arith) };
-    },
+      },
+      record { within = All-nil (λ object. object < 0); once = λ i j d l w. absurd (omega arith) },
+    ),
     tt,
   )
 
@@ -259,11 +248,11 @@ own_names_of script plan whole h =
     let stand = (holds_after names (NamesStand names) (names_kept names numbered) (nothing_yet names) script.lines whole.sound h.accepted (nothing_stands names numbered)).0 in
     let draft = h.draft in
     let count : length draft.objects ≡ length d.objects =
-    ap (λ (rows : List ObjectRow). length rows) h.declared.objects ∙ sym (length-map d.object_rows (λ (row : ObjectRow). row.name)) ∙ ap (λ (rows : List (List ℕ)). length rows) stand.objects.same ∙ length-map d.objects (name_at names) in
+    ap (λ (rows : List ObjectRow). length rows) h.declared.objects ∙ sym (length-map d.object_rows (λ (row : ObjectRow). row.name)) ∙ ap (λ (rows : List (List ℕ)). length rows) stand.1.same ∙ length-map d.objects (name_at names) in
     subst (λ (plan : Plan). HasOwnNames plan) (sym h.unfolded) (record {
-      participants = subst (λ (rows : List (List ℕ)). AreOwnNames rows) (sym h.declared.participants) (named_rows names d.participants d.participant_rows stand.participants);
-      objects = subst (λ (rows : List ObjectRow). AreOwnNames (object_names rows)) (sym h.declared.objects) (named_rows names d.objects (object_names d.object_rows) stand.objects);
-      graphs = rows_named names d.graphs draft.graphs h.declared.graphs stand.graphs.own;
-      watched = subst (λ (watches : List ℕ). All (λ object. object < length draft.objects) watches) (sym h.declared.watches) (subst (λ (n : ℕ). All (λ object. object < n) d.watches) (sym count) stand.watches.within);
-      once = subst (λ (watches : List ℕ). AllPairs (λ a b. a ≢ b) watches) (sym h.declared.watches) stand.watches.once;
+      participants = subst (λ (rows : List (List ℕ)). AreOwnNames rows) (sym h.declared.participants) (named_rows names d.participants d.participant_rows stand.0);
+      objects = subst (λ (rows : List ObjectRow). AreOwnNames (object_names rows)) (sym h.declared.objects) (named_rows names d.objects (object_names d.object_rows) stand.1);
+      graphs = rows_named names d.graphs draft.graphs h.declared.graphs stand.2.own;
+      watched = subst (λ (watches : List ℕ). All (λ object. object < length draft.objects) watches) (sym h.declared.watches) (subst (λ (n : ℕ). All (λ object. object < n) d.watches) (sym count) stand.3.within);
+      once = subst (λ (watches : List ℕ). AllPairs (λ a b. a ≢ b) watches) (sym h.declared.watches) stand.3.once;
     })

@@ -21,9 +21,9 @@ use Rattle.script_checker.specs.declared.declared.Block.TheVariants as block
 use Rattle.script_checker.specs.declared.open_action.OpenAction.{OpenAction}
 use Rattle.script_checker.specs.declared.open_action.OpenNest.{OpenNest}
 use Rattle.script_checker.specs.declared.open_action.OpenProgram.{OpenProgram}
-use Rattle.script_checker.specs.DeclaredSoFar.{begun_nest, nest_of, nest_rows}
+use Rattle.script_checker.specs.DeclaredSoFar.{begun_nest, inner, nest_of, nest_rows}
 use Rattle.script_checker.specs.AtTop.{declared_with, block_begun}
-use Rattle.script_checker.specs.InAction.{past_limit_in_action, closed_if, steps_of, with_step, with_program, idle_role, with_abort, with_nest, action_with, row_of}
+use Rattle.script_checker.specs.InAction.{past_limit_in_action, closed_if, steps_of, with_step, begun_program, with_program, idle_role, with_abort, with_nest, action_with, row_of}
 use Rattle.script_checker.specs.After.{ended}
 use Rattle.script_checker.specs.Compiled.{HasNone}
 use Rattle.caa_base.proofs.ListLemmas.{as_filled}
@@ -33,13 +33,16 @@ use Rattle.script_checker.proofs.CountsKept.{few_more}
 use Rattle.caa_base.specs.Written.Limits.{most_steps, most_roles, most_nests, most_alternates}
 
 -- the steps of what is being declared, and the roles and nested uses so far
-pub record ActionFits (a : OpenAction) : Type 0 where
-  pub steps : length (steps_of a.program) ≤ most_steps
-  pub roles : list_all role_fits a.role_rows ≡ true
-  pub few_roles : length a.role_rows ≤ most_roles
-  pub all_roles : length a.role_rows ≡ length a.roles
-  pub nests : list_all (λ (nest : OpenNest). nest_fits nest.row) a.nests ≡ true
-  pub few_nests : length a.nests ≤ most_nests
+pub record AreFit (program : Option OpenProgram) (rows : List RoleRow) (names : List ℕ) (uses : List OpenNest) : Type 0 where
+  pub steps : length (steps_of program) ≤ most_steps
+  pub roles : list_all role_fits rows ≡ true
+  pub few_roles : length rows ≤ most_roles
+  pub all_roles : length rows ≡ length names
+  pub nests : list_all (λ (nest : OpenNest). nest_fits nest.row) uses ≡ true
+  pub few_nests : length uses ≤ most_nests
+
+abbrev pub ActionFits : OpenAction → Type 0
+ActionFits a = AreFit a.program a.role_rows a.roles a.nests
 
 -- a role with one more program that fits
 program_added : (exception : Option ℕ) (program : Program) → program_fits program ≡ true → (row : RoleRow) → role_fits row ≡ true → role_fits (with_program row exception program) ≡ true
@@ -75,8 +78,8 @@ more_steps None x w = omega arith
 more_steps (Some p) x w = few_more most_steps p.steps x w
 
 module _ (names : List (List ℕ)) (d : Declared) (a : OpenAction) (h : ActionFits a) where
-  begun : (p : OpenProgram) (bodies : List ℕ) → p.steps ≡ [] → ActionFits (record a { bodies = bodies; program = Some p })
-  begun p bodies e = record { steps = rw e (omega arith); roles = h.roles; few_roles = h.few_roles; all_roles = h.all_roles; nests = h.nests; few_nests = h.few_nests }
+  begun : (p : OpenProgram) → p.steps ≡ [] → AreFit (Some p) a.role_rows a.roles a.nests
+  begun p e = record { steps = rw e (omega arith); roles = h.roles; few_roles = h.few_roles; all_roles = h.all_roles; nests = h.nests; few_nests = h.few_nests }
 
   stepped : (x : Step) → nat_le most_steps (length (steps_of a.program)) ≡ false → ActionFits (record a { program = with_step a.program (Some x) })
   stepped x w = record { steps = more_steps a.program x w; roles = h.roles; few_roles = h.few_roles; all_roles = h.all_roles; nests = h.nests; few_nests = h.few_nests }
@@ -103,10 +106,6 @@ module _ (names : List (List ℕ)) (d : Declared) (a : OpenAction) (h : ActionFi
   }
 
   says_fits : (f : Form) → past_limit_in_action d a f ≡ false → ActionFits (action_with names d a f)
-  says_fits (form.Internal graph) w = record { steps = h.steps; roles = h.roles; few_roles = h.few_roles; all_roles = h.all_roles; nests = h.nests; few_nests = h.few_nests }
-  says_fits (form.Interface graph) w = record { steps = h.steps; roles = h.roles; few_roles = h.few_roles; all_roles = h.all_roles; nests = h.nests; few_nests = h.few_nests }
-  says_fits (form.Fault x) w = record { steps = h.steps; roles = h.roles; few_roles = h.few_roles; all_roles = h.all_roles; nests = h.nests; few_nests = h.few_nests }
-  says_fits (form.Uses objects) w = record { steps = h.steps; roles = h.roles; few_roles = h.few_roles; all_roles = h.all_roles; nests = h.nests; few_nests = h.few_nests }
   says_fits (form.Roles roles) w = record {
     steps = h.steps;
     roles = all_mapped role_fits (idle_role names) roles (λ name. refl);
@@ -129,8 +128,8 @@ module _ (names : List (List ℕ)) (d : Declared) (a : OpenAction) (h : ActionFi
   says_fits (form.Alternate nest action) w = nest_changed nest _ (λ k. more_alternates (nest_of a nest).row.actions (index_of action d.action_names) w)
   says_fits (form.Abort role x) w = aborted role _
   says_fits (form.AbortTest role t v x) w = aborted role _
-  says_fits (form.Body role) w = begun _ _ refl
-  says_fits (form.Handler role x) w = begun _ a.bodies refl
+  says_fits (form.Body role) w = begun (begun_program (index_of role a.roles) None) refl
+  says_fits (form.Handler role x) w = begun (begun_program (index_of role a.roles) (Some (index_of x (inner d a)))) refl
   says_fits (form.ReadStep object) w = stepped _ w
   says_fits (form.PutStep object v) w = stepped _ w
   says_fits (form.AddStep object v) w = stepped _ w

@@ -85,18 +85,16 @@ abbrev opening_in_range : ℕ → Option OpenProgram → Bool
 opening_in_range internal None = true
 opening_in_range internal (Some p) = handled_in_range internal p.exception
 
--- all of its numbers are in range
-pub record ArePartsRight (c : Counts) (steps : List Step) (program : Option OpenProgram) (uses : List ℕ) (fault : Option ℕ) (roles : List RoleRow) (nests : List OpenNest) : Type 0 where
-  pub steps_right : list_all (step_in_range c.objects c.internal) steps ≡ true
-  pub opening_right : opening_in_range c.internal program ≡ true
-  pub uses_rise : is_rising uses ≡ true
-  pub uses_right : all_below c.objects uses ≡ true
-  pub fault_right : nat_lt (unwrap_or fault 0) c.internal ≡ true
-  pub roles_right : list_all (role_in_range c.objects c.internal c.interface) roles ≡ true
-  pub nests_right : list_all (λ (nest : OpenNest). nest_in_range c.actions c.roles c.internal nest.row) nests ≡ true
-
+-- all of its numbers are in range: those of the steps so far, of what they are of, of the objects, which rise, of the fault
+-- exception, of the roles and of the nested uses
 abbrev PartsRight : Counts → OpenAction → Type 0
-PartsRight c a = ArePartsRight c (steps_of a.program) a.program a.uses a.fault a.role_rows a.nests
+PartsRight c a =
+    (list_all (step_in_range c.objects c.internal) (steps_of a.program) ≡ true)
+    × (opening_in_range c.internal a.program ≡ true)
+    × ((is_rising a.uses && all_below c.objects a.uses) ≡ true)
+    × (nat_lt (unwrap_or a.fault 0) c.internal ≡ true)
+    × (list_all (role_in_range c.objects c.internal c.interface) a.role_rows ≡ true)
+    × (list_all (λ (nest : OpenNest). nest_in_range c.actions c.roles c.internal nest.row) a.nests ≡ true)
 
 abbrev Enough : Counts → Declared → OpenAction → Type 0
 Enough c d a = AreEnough c d.objects d.actions a.roles (inner d a) (outer d a)
@@ -117,17 +115,9 @@ closed_parts : (c : Counts) (a : OpenAction) (v : Verdict) (o : Option OpenProgr
 closed_parts c a v None e w k = k
 closed_parts c a v (Some p) e w k =
     let program : Program = record { steps = p.steps; verdict = v } in
-    let handled : handled_in_range c.internal p.exception ≡ true = subst (λ (o : Option OpenProgram). opening_in_range c.internal o ≡ true) e k.opening_right in
-    let steps : list_all (step_in_range c.objects c.internal) p.steps ≡ true = subst (λ (o : Option OpenProgram). list_all (step_in_range c.objects c.internal) (steps_of o) ≡ true) e k.steps_right in
-    record {
-      steps_right = refl;
-      opening_right = refl;
-      uses_rise = k.uses_rise;
-      uses_right = k.uses_right;
-      fault_right = k.fault_right;
-      roles_right = all_change (role_in_range c.objects c.internal c.interface) (λ (row : RoleRow). with_program row p.exception program) a.role_rows p.role no_role (program_right c p.exception program handled (and_from _ _ steps w)) k.roles_right;
-      nests_right = k.nests_right;
-    }
+    let handled : handled_in_range c.internal p.exception ≡ true = subst (λ (o : Option OpenProgram). opening_in_range c.internal o ≡ true) e k.1 in
+    let steps : list_all (step_in_range c.objects c.internal) p.steps ≡ true = subst (λ (o : Option OpenProgram). list_all (step_in_range c.objects c.internal) (steps_of o) ≡ true) e k.0 in
+    (refl, refl, k.2, k.3, all_change (role_in_range c.objects c.internal c.interface) (λ (row : RoleRow). with_program row p.exception program) a.role_rows p.role no_role (program_right c p.exception program handled (and_from _ _ steps w)) k.4, k.5)
 
 -- where it is closed, there is as much as before
 closed_enough : (c : Counts) (d : Declared) (a : OpenAction) (v : Verdict) (o : Option OpenProgram) → Enough c d (closed_if a o v) → Enough c d a
@@ -197,62 +187,36 @@ module _ (d : Declared) (a : OpenAction) (h : OpenRight d a) where
   step_more : (x : Step) → ((c : Counts) → Enough c d a → step_in_range c.objects c.internal x ≡ true) → OpenRight d (record a { program = with_step a.program (Some x) })
   step_more x right = λ c b.
       let k = h c b in
-      record {
-        steps_right = steps_more c a.program x (right c b) k.steps_right;
-        opening_right = same_opening c.internal a.program x k.opening_right;
-        uses_rise = k.uses_rise;
-        uses_right = k.uses_right;
-        fault_right = k.fault_right;
-        roles_right = k.roles_right;
-        nests_right = k.nests_right;
-      }
+      (steps_more c a.program x (right c b) k.0, same_opening c.internal a.program x k.1, k.2, k.3, k.4, k.5)
 
   -- a body or a handler is begun
   opened : (p : OpenProgram) (bodies : List ℕ) → p.steps ≡ [] → ((c : Counts) → Enough c d a → handled_in_range c.internal p.exception ≡ true) → OpenRight d (record a { bodies = bodies; program = Some p })
   opened p bodies e right = λ c b.
       let k = h c b in
-      record {
-        steps_right = rw e refl;
-        opening_right = right c b;
-        uses_rise = k.uses_rise;
-        uses_right = k.uses_right;
-        fault_right = k.fault_right;
-        roles_right = k.roles_right;
-        nests_right = k.nests_right;
-      }
+      (rw e refl, right c b, k.2, k.3, k.4, k.5)
 
   -- the exceptions that a role tells outside when it is aborted
   abort_said : (role : ℕ) (row : AbortRow) → ((c : Counts) → Enough c d a → abort_in_range c.interface row ≡ true) → OpenRight d (with_abort a role row)
   abort_said role row right = λ c b.
-      let k = h c b in
-      record {
-        steps_right = k.steps_right;
-        opening_right = k.opening_right;
-        uses_rise = k.uses_rise;
-        uses_right = k.uses_right;
-        fault_right = k.fault_right;
-        roles_right = all_change (role_in_range c.objects c.internal c.interface) (λ (r : RoleRow). record r { abort = row }) a.role_rows (index_of role a.roles) no_role
+      let k = h c b in (
+        k.0,
+        k.1,
+        k.2,
+        k.3,
+        all_change (role_in_range c.objects c.internal c.interface) (λ (r : RoleRow). record r { abort = row }) a.role_rows (index_of role a.roles) no_role
             (λ r m.
             let p = and_parts (program_in_range c.objects c.internal c.interface r.body) _ m in
             let q = and_parts (list_all (handler_in_range c.objects c.internal c.interface) r.handlers) (abort_in_range c.interface r.abort) p.1 in
             and_from _ _ p.0 (and_from _ _ q.0 (right c b)))
-            k.roles_right;
-        nests_right = k.nests_right;
-      }
+            k.4,
+        k.5,
+      )
 
   -- a nested use changes
   nest_changes : (name : ℕ) (nest : OpenNest) → ((c : Counts) → Enough c d a → NestRight c (nest_of a name).row → NestRight c nest.row) → OpenRight d (with_nest a name nest)
   nest_changes name nest keeps = λ c b.
       let k = h c b in
-      record {
-        steps_right = k.steps_right;
-        opening_right = k.opening_right;
-        uses_rise = k.uses_rise;
-        uses_right = k.uses_right;
-        fault_right = k.fault_right;
-        roles_right = k.roles_right;
-        nests_right = all_set (λ (nest : OpenNest). nest_in_range c.actions c.roles c.internal nest.row) a.nests (index_of name a.nest_names) (begun_nest no_nest) nest (keeps c b) k.nests_right;
-      }
+      (k.0, k.1, k.2, k.3, k.4, all_set (λ (nest : OpenNest). nest_in_range c.actions c.roles c.internal nest.row) a.nests (index_of name a.nest_names) (begun_nest no_nest) nest (keeps c b) k.5)
 
 -- ---- exceptions of graphs
 
@@ -292,56 +256,30 @@ module _ (names : List (List ℕ)) (d : Declared) (a : OpenAction) (now : Graphs
       h c (record { of_objects = b.of_objects; of_actions = b.of_actions; of_roles = b.of_roles; of_inner = b.of_inner; of_outer = omega arith })
   says_open (form.Fault x) sound none = λ c b.
       let k = h c b in
-      record {
-        steps_right = k.steps_right;
-        opening_right = k.opening_right;
-        uses_rise = k.uses_rise;
-        uses_right = k.uses_right;
-        fault_right = still_below (index_of x (inner d a)) (length (inner d a)) c.internal (not-false _ (known d a (form.Fault x) none)) b.of_inner;
-        roles_right = k.roles_right;
-        nests_right = k.nests_right;
-      }
+      (k.0, k.1, k.2, still_below (index_of x (inner d a)) (length (inner d a)) c.internal (not-false _ (known d a (form.Fault x) none)) b.of_inner, k.4, k.5)
   says_open (form.Uses objects) sound none = λ c b.
       let k = h c b in
       let m : length d.objects ≤ c.objects = b.of_objects in
-      record {
-        steps_right = k.steps_right;
-        opening_right = k.opening_right;
-        uses_rise = rises 0 objects d.objects;
-        uses_right = chosen_below 0 c.objects objects d.objects (omega arith);
-        fault_right = k.fault_right;
-        roles_right = k.roles_right;
-        nests_right = k.nests_right;
-      }
+      (k.0, k.1, and_from _ _ (rises 0 objects d.objects) (chosen_below 0 c.objects objects d.objects (omega arith)), k.3, k.4, k.5)
   says_open (form.Roles roles) sound none = λ c b.
       let e = empty_is a.roles (not-false _ (or_parts (not (is_empty a.roles)) (not (all_differ roles)) (once d a (form.Roles roles) none)).0) in
       let few : length a.roles ≤ c.roles = rw e (omega arith) in
       let k = h c (record { of_objects = b.of_objects; of_actions = b.of_actions; of_roles = few; of_inner = b.of_inner; of_outer = b.of_outer }) in
-      record {
-        steps_right = k.steps_right;
-        opening_right = k.opening_right;
-        uses_rise = k.uses_rise;
-        uses_right = k.uses_right;
-        fault_right = k.fault_right;
-        roles_right = all_mapped (role_in_range c.objects c.internal c.interface) (idle_role names) roles (λ name. refl);
-        nests_right = k.nests_right;
-      }
+      (k.0, k.1, k.2, k.3, all_mapped (role_in_range c.objects c.internal c.interface) (idle_role names) roles (λ name. refl), k.5)
   says_open (form.Nest nest action roles) sound none = λ c b.
       let k = h c b in
       let among = neither (is_action d action) (list_all (is_among a.roles) roles) (known d a (form.Nest nest action roles) none) in
       let some = some_exception d.graphs (unwrap_or a.internal 0) now.filled now.begun.0 in
-      let one : nat_lt 0 c.internal ≡ true = lt-ltb 0 c.internal (omega (arith, b.of_inner)) in
-      record {
-        steps_right = k.steps_right;
-        opening_right = k.opening_right;
-        uses_rise = k.uses_rise;
-        uses_right = k.uses_right;
-        fault_right = k.fault_right;
-        roles_right = k.roles_right;
-        nests_right = all_push (λ (nest : OpenNest). nest_in_range c.actions c.roles c.internal nest.row) a.nests _ k.nests_right
+      let one : nat_lt 0 c.internal ≡ true = lt-ltb 0 c.internal (omega (arith, b.of_inner)) in (
+        k.0,
+        k.1,
+        k.2,
+        k.3,
+        k.4,
+        all_push (λ (nest : OpenNest). nest_in_range c.actions c.roles c.internal nest.row) a.nests _ k.5
             (and_from _ _ (and_from _ _ (still_below (index_of action d.action_names) (length d.actions) c.actions among.0 b.of_actions) refl)
-            (and_from _ _ (numbers_below a.roles roles c.roles among.1 b.of_roles) (and_from _ _ (zeros_below _ c.internal one) (and_from _ _ one one))));
-      }
+            (and_from _ _ (numbers_below a.roles roles c.roles among.1 b.of_roles) (and_from _ _ (zeros_below _ c.internal one) (and_from _ _ one one)))),
+      )
   says_open (form.Map nest lower upper) sound none =
       let among = (neither (is_among (face d a nest) lower) (is_among (inner d a) upper) (or_parts (not (is_among a.nest_names nest)) _ (known d a (form.Map nest lower upper) none)).1).1 in
       nest_changes d a h nest _ (λ c b. mapped_right c (nest_of a nest).row (index_of lower (face d a nest)) (index_of upper (inner d a)) (still_below (index_of upper (inner d a)) (length (inner d a)) c.internal among b.of_inner))
@@ -418,8 +356,8 @@ module _ (names : List (List ℕ)) (d : Declared) where
       let c : Counts = record { objects = objects; actions = actions; roles = length a.role_rows; internal = count inside; interface = count outside } in
       let k = here c (record { of_objects = lo; of_actions = la; of_roles = omega (arith, all_roles); of_inner = lc inside; of_outer = lc outside }) in
       and_from _ _
-      (and_from _ _ (lt-ltb inside graphs (omega (arith, there.begun.0))) (and_from _ _ (lt-ltb outside graphs (omega (arith, there.begun.1))) k.fault_right))
-      (and_from _ _ (and_from _ _ k.uses_rise k.uses_right) (and_from _ _ k.roles_right (all_rows (nest_in_range actions (length a.role_rows) (count inside)) a.nests k.nests_right)))
+      (and_from _ _ (lt-ltb inside graphs (omega (arith, there.begun.0))) (and_from _ _ (lt-ltb outside graphs (omega (arith, there.begun.1))) k.3))
+      (and_from _ _ k.2 (and_from _ _ k.4 (all_rows (nest_in_range actions (length a.role_rows) (count inside)) a.nests k.5)))
 
   ends_ended : (b : Block) → GraphsThere d b → ActionsFit d b → RightIn d b → EndedRight d → EndedRight (ended names d b)
   ends_ended block.Top there fits here h = h
@@ -506,7 +444,7 @@ module _ (names : List (List ℕ)) (d : Declared) where
   begins_right (form.Action name) there = λ c b.
       let one = plain_one d.graphs there.plain in
       let m : length (exceptions_at d.graphs 0) ≤ c.internal = b.of_inner in
-      record { steps_right = refl; opening_right = refl; uses_rise = refl; uses_right = refl; fault_right = lt-ltb 0 c.internal (omega arith); roles_right = refl; nests_right = refl }
+      (refl, refl, refl, lt-ltb 0 c.internal (omega arith), refl, refl)
   begins_right f there = tt
 
 pub ranges_kept : (names : List (List ℕ)) → IsKept names AreInRange
