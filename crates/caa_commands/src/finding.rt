@@ -117,7 +117,9 @@ impl Finding {
         ensures wanting { IsErr result → needs_memory self ≡ true }
     {
         match self {
-            Finding::Usage => Ok(Text::Fixed(b"usage: check | sim SEED | run | audit | cell N | graph K | messages SEED\n")),
+            Finding::Usage => Ok(Text::Fixed(
+                b"usage: check | sim SEED | run | audit | cell N | graph K | messages SEED\n",
+            )),
             Finding::SourceFault => Ok(Text::Fixed(b"fault source\n")),
             Finding::PlantFault => Ok(Text::Fixed(b"fault plant\n")),
             Finding::OutOfMemory => Ok(Text::Fixed(b"")),

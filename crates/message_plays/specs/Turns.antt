@@ -23,12 +23,12 @@ order_of plan = internal_of plan 0
 abbrev pub participant : Plan → ℕ → ℕ
 participant plan member = slice_index (roles_of plan 0) member
 
--- the exception that steps raise first of all, if they do
+-- the exception that a first step raises, if there is one and it raises
 abbrev pub raised_first : Option Step → Option ℕ
 raised_first (Some (step.Raise exception)) = Some exception
 raised_first _ = None
 
--- what a member wishes to raise: what the body of its role raises first of all
+-- what a member wishes to raise: what the first step of its body raises
 abbrev pub wish : Plan → ℕ → Option ℕ
 wish plan member = raised_first (slice_get (body_of plan 0 (participant plan member)).steps 0)
 

@@ -5,7 +5,7 @@ use caa_base::written::entry::Exception;
 use place_plan::drafts::draft_rows::Step;
 use place_plan::plans::plan::Plan;
 
-/// What a member wishes to raise: what the body of its role raises first of all.
+/// What a member wishes to raise: what the first step of its body raises.
 pub fn wish(plan: &Plan, member: u32) -> Option<Exception>
     requires { member < members plan.now }
     ensures wish { result ≡ wish plan.now member }
