@@ -128,17 +128,16 @@ fn script_in(command: Command, bytes: &[u8]) -> &[u8]
 {
     match command {
         Command::Audit => &bytes[..find_journal(bytes).place],
-        Command::Check | Command::Sim(_) | Command::Run | Command::Graph(_) | Command::Messages(_) => bytes,
+        Command::Check
+        | Command::Sim(_)
+        | Command::Run
+        | Command::Graph(_)
+        | Command::Messages(_) => bytes,
     }
 }
 
 /// Serves a command that needs a plan over the bytes that were read.
-fn serve_script<P: Plant>(
-    alloc: Global,
-    command: Command,
-    bytes: &[u8],
-    plant: P,
-) -> Decision<P>
+fn serve_script<P: Plant>(alloc: Global, command: Command, bytes: &[u8], plant: P) -> Decision<P>
     requires range { IsWithinRange command }
     requires quiet { without_threads (Some command) ≡ Some command }
     requires other { NeedsPlan command }
@@ -173,7 +172,11 @@ fn most_bytes(command: Command) -> u64
 {
     match command {
         Command::Audit => MOST_AUDIT_BYTES,
-        Command::Check | Command::Sim(_) | Command::Run | Command::Graph(_) | Command::Messages(_) => MOST_SCRIPT_BYTES,
+        Command::Check
+        | Command::Sim(_)
+        | Command::Run
+        | Command::Graph(_)
+        | Command::Messages(_) => MOST_SCRIPT_BYTES,
     }
 }
 

@@ -1,5 +1,5 @@
 -- What is known of a script of primitives that isn't refused.
-use Rattle.std.proofs.Common.{◌≡◌, ◌≢◌, ℕ, ◌+◌, ◌⊎◌, inl, inr, nat_lt, Bool, true, false, if◌then◌else◌, List, [], ◌∷◌, ◌++◌, length, Option, Some, None, refl, sym, ap, ◌∙◌, subst}
+use Rattle.std.proofs.Common.{◌≡◌, ◌≢◌, ℕ, ◌+◌, ◌⊎◌, inl, inr, Bool, true, false, if◌then◌else◌, List, [], ◌∷◌, length, Option, Some, None, refl, subst}
 use Rattle.action_script.specs.declared.forms.form.Form.{Form}
 use Rattle.action_script.specs.declared.forms.form.Form.TheVariants as form
 use Rattle.action_script.specs.declared.forms.script.Line.{Line}
@@ -9,7 +9,7 @@ use Rattle.graph_maker.specs.declared.shape.Stage.TheVariants as stage
 use Rattle.graph_maker.specs.declared.made_error.MadeCause.{MadeCause}
 use Rattle.graph_maker.specs.declared.made_error.MadeCause.TheVariants as cause
 use Rattle.graph_maker.specs.declared.made_error.MadeError.{MadeError}
-use Rattle.graph_maker.specs.Refusals.{bad_from, bad_if, bad_line, cause_if, cause_of, exception_in, has_room, lacking_at, next_stage, primitive_count, refusal_by, refusal_of, refused_from, refused_if}
+use Rattle.graph_maker.specs.Refusals.{bad_from, bad_if, bad_line, cause_of, exception_in, has_room, lacking_at, next_stage, primitive_count, refusal_by, refusal_of, refused_from, refused_if}
 
 -- a line that is passed has no cause, and nor has a later one
 pub passed_on : (number : ℕ) (later : Option MadeError) (c : Option MadeCause) → refused_if number later c ≡ None → (c ≡ None) × (later ≡ None)

@@ -1,7 +1,7 @@
 -- The names of the exceptions of a made graph differ from each other and from `universal`.
-use Rattle.std.proofs.Common.{◌≡◌, ◌≢◌, ℕ, zero, suc, ◌+◌, ◌<◌, ◌≤◌, ◌==◌, nat_lt, Bool, true, false, not, ◌&&◌, ◌||◌, if◌then◌else◌, List, [], ◌∷◌, ◌++◌, length, map, take, get_or, slice_index, codes, bytes_eq, Option, Some, None, refl, sym, ap, ◌∙◌, subst, arith}
-use Rattle.std.specs.List.{list_all, list_any, flat_map, All, AllPairs}
-use Rattle.std.proofs.lemmas.Bool.{and_from, and_parts, both_ways, lt-ltb, ltb-true, cases_Bool, eq-eqb, or_cases, or_from, or_parts}
+use Rattle.std.proofs.Common.{◌≡◌, ◌≢◌, ℕ, ◌+◌, ◌<◌, ◌≤◌, ◌==◌, nat_lt, Bool, true, false, not, ◌&&◌, ◌||◌, if◌then◌else◌, List, [], ◌∷◌, ◌++◌, length, map, take, codes, bytes_eq, None, refl, sym, ap, ◌∙◌, subst, arith}
+use Rattle.std.specs.List.{list_all, list_any, All, AllPairs}
+use Rattle.std.proofs.lemmas.Bool.{and_from, and_parts, both_ways, lt-ltb, ltb-true, eq-eqb, or_from, or_parts}
 use Rattle.std.proofs.lemmas.List.{append-nil, append_assoc, get_or_at, get_or_append_left, length-append, length_push, map_push, take_at}
 use Rattle.std.proofs.lemmas.List.Elements.{All-head, All-tail}
 use Rattle.std.proofs.lemmas.List.Folds.{list_all-append}
@@ -11,13 +11,10 @@ use Rattle.action_script.specs.declared.forms.form.Form.{Form}
 use Rattle.action_script.specs.declared.forms.form.Form.TheVariants as form
 use Rattle.action_script.specs.declared.forms.script.Line.{Line}
 use Rattle.action_script.specs.Forms.ScriptValue.{Script}
-use Rattle.action_script.specs.Words.NumberedNames.{is_among, number_in, with_name, with_names}
+use Rattle.action_script.specs.Words.NumberedNames.{is_among, number_in, with_names}
 use Rattle.action_script.proofs.OnForms.Fits.{AreNumbered, named_within}
 use Rattle.action_script.proofs.OnForms.Numbered.{numbered-none, numbered-with_names}
-use Rattle.graph_maker.specs.declared.made_error.MadeCause.{MadeCause}
-use Rattle.graph_maker.specs.declared.made_error.MadeCause.TheVariants as cause
-use Rattle.graph_maker.specs.declared.made_error.MadeError.{MadeError}
-use Rattle.graph_maker.specs.Refusals.{cause_if, cause_of, exception_in, exceptions_in, is_taken, most_primitives, primitive_count, refused_from, refused_if}
+use Rattle.graph_maker.specs.Refusals.{cause_if, cause_of, exception_in, exceptions_in, is_taken, most_primitives, primitive_count, refused_from}
 use Rattle.set_graphs.specs.Sets.{size_of, IsSet}
 use Rattle.graph_maker.specs.SetNames.{is_made_name, member_list, set_name}
 use Rattle.graph_maker.proofs.Accepting.{passed_on}
@@ -135,11 +132,10 @@ module _ (script : Script) (most : ℕ) where
         let pushed : map name (before ++ n ∷ []) ≡ map name before ++ name n ∷ [] = map_push name before n in
         let next : length (before ++ n ∷ []) ≡ length before + 1 = length_push before n in
         let all : list_all (λ m. nat_lt m (length script.names)) (before ++ n ∷ []) ≡ true =
-        list_all-append (λ m. nat_lt m (length script.names)) before (n ∷ []) ∙ and_from (list_all (λ m. nat_lt m (length script.names)) before) (nat_lt n (length script.names) && true) within (and_from (nat_lt n (length script.names)) true p.0 refl) in
-        (
+        list_all-append (λ m. nat_lt m (length script.names)) before (n ∷ []) ∙ and_from (list_all (λ m. nat_lt m (length script.names)) before) (nat_lt n (length script.names) && true) within (and_from (nat_lt n (length script.names)) true p.0 refl) in (
           or_from (bytes_eq (name n) (codes "universal")) (is_among (map name before) (name n)) (not_universal n n_in r.0) (others_apart n before n_in within none),
           subst (λ (l : List (List ℕ)). NewWords (codes "universal" ∷ l) (map name todo)) pushed
-          (primitives_new (before ++ n ∷ []) todo (append_assoc before (n ∷ []) todo ∙ total) (subst (λ k. Free k todo) (sym next) free.1) all p.1),
+              (primitives_new (before ++ n ∷ []) todo (append_assoc before (n ∷ []) todo ∙ total) (subst (λ k. Free k todo) (sym next) free.1) all p.1),
         )
 
   -- and no primitive has a made name
@@ -199,9 +195,8 @@ module _ (n most : ℕ) (small : n < 128) where
       (get_or_append_left before (set ∷ todo) d k within ∙ same ∙ sym (get_or_at before set todo d (length before) refl)) in
       let moved : (words ++ map (set_name n) before) ++ set_name n set ∷ [] ≡ words ++ map (set_name n) (before ++ set ∷ []) =
       append_assoc words (map (set_name n) before) (set_name n set ∷ []) ∙ ap (λ (l : List (List ℕ)). words ++ l) (sym (map_push (set_name n) before set)) in
-      let shifted : (before ++ set ∷ []) ++ todo ≡ before ++ set ∷ todo = append_assoc before (set ∷ []) todo in
-      (
+      let shifted : (before ++ set ∷ []) ++ todo ≡ before ++ set ∷ todo = append_assoc before (set ∷ []) todo in (
         among_either words (map (set_name n) before) (set_name n set) (not_among (is_made_name n most) words (set_name n set) unmade (large_made set large)) (not_before before set front large differ),
         subst (λ (l : List (List ℕ)). NewWords l (map (set_name n) todo)) (sym moved)
-        (made_new words unmade (before ++ set ∷ []) todo (subst (All IsLarge) (sym shifted) are) (subst (AllPairs (λ a b. a ≢ b)) (sym shifted) apart)),
+            (made_new words unmade (before ++ set ∷ []) todo (subst (All IsLarge) (sym shifted) are) (subst (AllPairs (λ a b. a ≢ b)) (sym shifted) apart)),
       )

@@ -1,6 +1,6 @@
 -- The words of a made script.
-use Rattle.std.proofs.Common.{◌≡◌, ℕ, suc, ◌+◌, ◌-◌, ◌*◌, ◌^◌, ◌<◌, ◌≤◌, Bool, true, false, ◌&&◌, List, [], ◌∷◌, ◌++◌, length, map, drop, All, Option, Some, None, refl, sym, ap, ◌∙◌, subst, arith}
-use Rattle.std.specs.List.{list_all, flat_map}
+use Rattle.std.proofs.Common.{◌≡◌, ℕ, suc, ◌+◌, ◌*◌, ◌^◌, ◌<◌, ◌≤◌, true, List, [], ◌∷◌, ◌++◌, length, map, drop, None, refl, sym, ap, ◌∙◌, arith}
+use Rattle.std.specs.List.{list_all}
 use Rattle.std.proofs.Math.Nat.{mul-le-mul}
 use Rattle.std.proofs.lemmas.Bool.{and_from, and_parts, leb-true}
 use Rattle.std.proofs.lemmas.List.{length-append, length-drop, length-map}
@@ -11,10 +11,9 @@ use Rattle.action_script.specs.declared.forms.form.Form.TheVariants as form
 use Rattle.action_script.specs.declared.forms.script.Line.{Line}
 use Rattle.action_script.specs.Forms.Printing.{forms_of, is_sound, AreScript}
 use Rattle.action_script.specs.Forms.ScriptValue.{Script}
-use Rattle.set_graphs.specs.Sets.{exception_count, pairs_below, pairs_of, sets, table}
-use Rattle.graph_maker.specs.declared.shape.Stage.{Stage}
+use Rattle.set_graphs.specs.Sets.{exception_count, pairs_of, sets, table}
 use Rattle.graph_maker.specs.declared.shape.Stage.TheVariants as stage
-use Rattle.graph_maker.specs.Refusals.{bad_from, bad_if, bad_line, exception_in, exceptions_in, graph_in, graph_of, next_stage, primitive_count, refusal_of}
+use Rattle.graph_maker.specs.Refusals.{bad_from, bad_if, exception_in, exceptions_in, graph_in, graph_of, next_stage, primitive_count, refusal_of}
 use Rattle.graph_maker.specs.MadeScripts.{exception_names, larger_sets, primitive_names, words_of}
 use Rattle.graph_maker.specs.SetNames.{set_name}
 use Rattle.graph_maker.proofs.Accepting.{not_bad, room}

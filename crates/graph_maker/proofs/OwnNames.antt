@@ -1,15 +1,15 @@
 -- No exception of a made graph has the name of another, or `universal`.
-use Rattle.std.proofs.Common.{◌≡◌, ◌≢◌, ℕ, zero, suc, ◌+◌, ◌<◌, ◌≤◌, true, not, List, [], ◌∷◌, ◌++◌, length, map, drop, get_or, codes, All, AllPairs, None, refl, sym, ap, ◌∙◌, subst, arith}
+use Rattle.std.proofs.Common.{◌≡◌, ◌≢◌, ℕ, zero, suc, ◌+◌, ◌<◌, ◌≤◌, true, not, List, [], ◌∷◌, length, map, drop, get_or, codes, All, AllPairs, None, refl, sym, ap, ◌∙◌, subst, arith}
 use Rattle.std.specs.List.{list_all, flat_map}
 use Rattle.std.proofs.lemmas.List.{append-nil, drop-append-le, drop_all, get_or_default, get_or-drop, length-append, length-drop, length-map}
 use Rattle.std.proofs.lemmas.List.Elements.{All-append, All-nil}
 use Rattle.caa_base.specs.Written.Names.{name_at}
 use Rattle.action_script.specs.Forms.Printing.{form_names, forms_of, AreScript}
 use Rattle.action_script.specs.Forms.ScriptValue.{Script}
-use Rattle.action_script.specs.Words.NumberedNames.{number_in, with_names}
+use Rattle.action_script.specs.Words.NumberedNames.{number_in}
 use Rattle.action_script.proofs.OnForms.Fits.{AreNumbered}
 use Rattle.action_script.proofs.OnForms.Numbered.{numbered-none, numbered-with_names}
-use Rattle.set_graphs.specs.Sets.{choose, exception_count, sets, size_of}
+use Rattle.set_graphs.specs.Sets.{choose, sets, size_of}
 use Rattle.set_graphs.proofs.Numbers.{members_apart}
 use Rattle.set_graphs.proofs.Sizes.{chosen}
 use Rattle.graph_maker.specs.MadeScripts.{exception_names, primitive_names, HaveOwnNames}
@@ -29,7 +29,7 @@ two_at_least n zero =
     subst (All (λ (s : ℕ). 2 ≤ size_of n s)) (sym (drop_all n (sets n (suc zero)) few)) (All-nil (λ (s : ℕ). 2 ≤ size_of n s))
 two_at_least n (suc most) =
     let room = more_exceptions n (suc most) (omega arith) in
-    let last : All (λ (s : ℕ). 2 ≤ size_of n s) (choose n (suc (suc most))) = λ k d within. let size = (chosen n (suc (suc most)) k d within).size in omega (arith, size) in
+    let last : All (λ (s : ℕ). 2 ≤ size_of n s) (choose n (suc (suc most))) = λ k d within. let size = (chosen n (suc (suc most)) k d within).1 in omega (arith, size) in
     subst (All (λ (s : ℕ). 2 ≤ size_of n s)) (sym (drop-append-le n (sets n (suc most)) (choose n (suc (suc most))) (omega (arith, room))))
     (All-append (λ (s : ℕ). 2 ≤ size_of n s) (drop n (sets n (suc most))) (choose n (suc (suc most))) (two_at_least n most) last)
 

@@ -1,17 +1,15 @@
 -- The names and forms of a graph make a script.
-use Rattle.std.proofs.Common.{◌≡◌, ℕ, zero, suc, ◌+◌, ◌<◌, ◌≤◌, ◌^◌, nat_le, Bool, true, false, ◌&&◌, if◌then◌else◌, List, [], ◌∷◌, ◌++◌, length, map, get_or, slice_index, All, refl, sym, ap, ◌∙◌, subst, arith}
+use Rattle.std.proofs.Common.{◌≡◌, ℕ, zero, suc, ◌+◌, ◌<◌, ◌≤◌, ◌^◌, nat_le, Bool, true, ◌&&◌, if◌then◌else◌, List, [], ◌∷◌, ◌++◌, length, map, slice_index, All, refl, sym, ap, ◌∙◌, subst, arith}
 use Rattle.std.specs.List.{list_all, flat_map}
 use Rattle.std.proofs.lemmas.Bool.{and_from, and_parts, le-leb, leb-true}
 use Rattle.std.proofs.lemmas.List.{length-append, length-map}
-use Rattle.std.proofs.lemmas.List.Concat.{flat_map-append}
 use Rattle.std.proofs.lemmas.List.Elements.{All-head, All-tail}
-use Rattle.std.proofs.lemmas.List.Folds.{list_all-append}
 use Rattle.caa_base.specs.Written.Names.{is_name, is_name_byte, begins_with_letter, name_at}
 use Rattle.action_script.specs.declared.forms.form.Form.{Form}
 use Rattle.action_script.specs.declared.forms.form.Form.TheVariants as form
 use Rattle.action_script.specs.declared.lines.kind.Section.TheVariants as section
 use Rattle.action_script.specs.Forms.Printing.{form_line, form_names, is_short, is_sound, lead_to_top, AreScript}
-use Rattle.action_script.specs.Words.NumberedNames.{is_among, number_in, with_name, with_names}
+use Rattle.action_script.specs.Words.NumberedNames.{is_among, number_in, with_names}
 use Rattle.action_script.proofs.OnForms.Fits.{name-number}
 use Rattle.action_script.proofs.OnLines.Steadiness.{all_among-with_names, with_names-append}
 use Rattle.action_script.proofs.OnWords.NamesCounted.{length-with_names}

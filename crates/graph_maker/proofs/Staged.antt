@@ -1,5 +1,5 @@
 -- A script is read line by line against the shape of a script of primitives.
-use Rattle.std.proofs.Common.{◌≡◌, ◌≢◌, ℕ, ◌+◌, Bool, true, false, ◌&&◌, List, [], ◌∷◌, map, Option, Some, None, refl, sym, ap, ◌∙◌, subst}
+use Rattle.std.proofs.Common.{◌≡◌, ◌≢◌, ℕ, ◌+◌, true, List, [], ◌∷◌, Some, None, refl, sym, ap, ◌∙◌, subst}
 use Rattle.std.proofs.lemmas.Bool.{and_parts}
 use Rattle.action_script.specs.declared.forms.form.Form.{Form}
 use Rattle.action_script.specs.declared.forms.form.Form.TheVariants as form
@@ -11,7 +11,7 @@ use Rattle.action_script.specs.Forms.LineForms.{kind_of}
 use Rattle.action_script.specs.Forms.Printing.{forms_of, lead_to_top}
 use Rattle.graph_maker.specs.declared.shape.Stage.{Stage}
 use Rattle.graph_maker.specs.declared.shape.Stage.TheVariants as stage
-use Rattle.graph_maker.specs.Refusals.{bad_from, bad_if, lacking_at, next_stage}
+use Rattle.graph_maker.specs.Refusals.{bad_from, bad_if, next_stage}
 
 -- where the reader of a script is at a stage
 abbrev pub section_of : Stage → Section

@@ -1,9 +1,9 @@
-ghost use Rattle.std.specs.Prelude.{◌≡◌, ◌<◌, ◌≤◌, ◌+◌, ◌∷◌, ◌++◌, drop, length, map, None, IfOk};
+ghost use Rattle.std.specs.Prelude.{◌≡◌, ◌<◌, ◌≤◌, ◌+◌, ◌∷◌, ◌++◌, codes, drop, length, map, None, IfOk};
 ghost use Rattle.caa_base.specs.Written.Names.{name_at};
 ghost use Rattle.graph_maker.specs.SetNames.{set_name};
 ghost use Rattle.graph_maker.specs.declared.made_error.MadeCause.TheVariants as cause;
 ghost use Rattle.graph_maker.specs.Refusals.{exceptions_in, graph_of, refusal_of};
-ghost use Rattle.graph_maker.specs.MadeScripts.{script_of_sets};
+ghost use Rattle.graph_maker.specs.MadeScripts.{exception_names, primitive_names, script_of_sets, HaveOwnNames};
 ghost use Rattle.graph_maker.specs.Answers.{IsAnswer};
 
 use crate::forms::{graph_script, push_made, push_named};
@@ -64,7 +64,9 @@ fn script_of_sets(
     requires most_fits { most < 8 }
     requires declared { exceptions.now ≡ exceptions_in script.now.lines }
     requires accepted { refusal_of script.now most ≡ None }
-    ensures { IfOk result (λ made. made ≡ script_of_sets script.now most) }
+    ensures value { IfOk result (λ made. made ≡ script_of_sets script.now most) }
+    ensures own_names { IfOk result (λ made.
+        HaveOwnNames (codes "universal" ∷ exception_names (primitive_names script.now) most)) }
 {
     script.are_script();
     let primitives = exceptions.len() as u32;
@@ -92,6 +94,8 @@ pub fn make_script(alloc: Global, script: &Script, most: u32) -> Result<Script, 
     requires some_member { 0 < most }
     requires most_fits { most < 8 }
     ensures value { IsAnswer script.now most result }
+    ensures own_names { IfOk result (λ made.
+        HaveOwnNames (codes "universal" ∷ exception_names (primitive_names script.now) most)) }
 {
     let Ok(exceptions) = exceptions_in(alloc, script) else {
         return Err(wanting());

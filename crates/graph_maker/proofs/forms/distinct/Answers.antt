@@ -1,4 +1,4 @@
-use Rattle.std.proofs.Common.{◌≡◌, [], take, sym, ap, ◌∙◌, arith}
+use Rattle.std.proofs.Common.{[], take, ap, ◌∙◌, arith}
 use Rattle.action_script.specs.Words.NumberedNames.{with_name, with_names}
 use Rattle.graph_maker.proofs.Distinct.{few_more, names_more}
 use Rattle.graph_maker.proofs.forms.distinct.Goals as goal

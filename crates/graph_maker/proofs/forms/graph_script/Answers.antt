@@ -1,5 +1,4 @@
-use Rattle.std.proofs.Common.{◌≡◌, ◌≤◌, [], List, length, map, sym, subst, ap, ◌∙◌, arith}
-use Rattle.action_script.specs.declared.forms.form.Form.{Form}
+use Rattle.std.proofs.Common.{◌≡◌, [], length, map, sym, subst, ap, ◌∙◌, arith}
 use Rattle.action_script.specs.Forms.Printing.{AreScript}
 use Rattle.action_script.specs.Words.NumberedNames.{number_in, with_names}
 use Rattle.action_script.proofs.OnWords.NamesCounted.{length-with_names}

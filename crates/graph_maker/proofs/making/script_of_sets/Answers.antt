@@ -6,6 +6,7 @@ use Rattle.graph_maker.specs.Refusals.{graph_of, primitive_count}
 use Rattle.graph_maker.specs.MadeScripts.{exception_names, made_script, words_of}
 use Rattle.graph_maker.specs.SetNames.{set_name}
 use Rattle.graph_maker.proofs.MadeWords.{few_pairs, has_room, length-words, words_are, words_named}
+use Rattle.graph_maker.proofs.OwnNames.{own_names}
 use Rattle.graph_maker.proofs.making.script_of_sets.Goals as goal
 
 pub overflow_cast-primitives : goal.overflow_cast-primitives
@@ -135,8 +136,15 @@ graph_script-requires-clause-few_pairs c =
     let size : length c.deref-4.result.now ≡ length (pairs_of (primitive_count script) most) = ap length pairs in
     omega (arith, few, size)
 
-pub returns : goal.returns
-returns c =
+pub returns-clause-own_names : goal.returns-clause-own_names
+returns-clause-own_names c =
+    let fits = has_room c.args.script.now c.args.most c.requires.some_member c.requires.accepted in
+    let many = fits.exceptions in
+    let less = fits.primitives in
+    own_names c.args.script.now c.args.most c.are_script.ensures c.requires.accepted (omega (arith, many, less)) c.requires.some_member
+
+pub returns-clause-value : goal.returns-clause-value
+returns-clause-value c =
     let script = c.args.script.now in
     let most = c.args.most in
     let ns = c.args.exceptions.now in

@@ -1,4 +1,4 @@
-use Rattle.std.proofs.Common.{◌≡◌, ◌+◌, drop, length, sym, ap, ◌∙◌, arith}
+use Rattle.std.proofs.Common.{◌+◌, drop, sym, ap, ◌∙◌, arith}
 use Rattle.graph_maker.specs.Refusals.{refused_from}
 use Rattle.graph_maker.proofs.Refusing.{line_passed}
 use Rattle.graph_maker.proofs.refusals.first_refused.Goals as goal
