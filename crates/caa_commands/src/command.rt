@@ -1,5 +1,6 @@
-ghost use Rattle.std.specs.Prelude.{◌≡◌, ◌<◌, ◌^◌, map, string_bytes, IfSome};
+ghost use Rattle.std.specs.Prelude.{◌≡◌, ◌↔◌, ◌<◌, ◌^◌, IsTrue, Some, map, string_bytes, IfSome};
 ghost use Rattle.caa_commands.specs.Commands.{command_of, number_alone, alone, without_threads, IsWithinRange};
+ghost use Rattle.caa_commands.specs.declared.command.Command.TheVariants.{Run};
 
 use action_script::words::word::value_of;
 
@@ -71,6 +72,13 @@ pub fn command_of(words: &[String]) -> Option<Command>
     } else {
         None
     }
+}
+
+/// Whether these words ask for `run`, which may wait.
+pub fn asks_to_run(words: &[String]) -> bool
+    ensures { IsTrue result ↔ (command_of (map string_bytes words.now) ≡ Some Run) }
+{
+    matches!(command_of(words), Some(Command::Run))
 }
 
 /// The command of these words, where it is one that needs no threads.

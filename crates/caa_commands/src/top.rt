@@ -1,11 +1,13 @@
-ghost use Rattle.std.specs.Prelude.{◌≡◌, ◌≤◌, [], if◌then◌else◌, None, map, string_bytes};
+ghost use Rattle.std.specs.Prelude.{◌≡◌, ◌≤◌, [], if◌then◌else◌, None, Some, map, string_bytes};
 ghost use Rattle.caa_commands.specs.Commands.{command_of, without_threads};
+ghost use Rattle.caa_commands.specs.declared.command.Command.TheVariants.{Run};
 ghost use Rattle.caa_commands.specs.Findings.{is_played};
 ghost use Rattle.caa_commands.specs.OutsideUse.{sink_use, call_over};
 ghost use Rattle.caa_commands.specs.Calls.{Tells, Answers};
 ghost use Rattle.caa_commands.specs.Served.{MissesNothing};
 
-use crate::command::{Command, command_of, quiet_command_of};
+pub use crate::command::asks_to_run;
+use crate::command::quiet_command_of;
 use crate::playing::Decision;
 use crate::serving::{decide, decide_run};
 use crate::status::{Ended, Status};
@@ -109,11 +111,11 @@ pub fn top_quiet<S: Source, K: Sink, P: Plant>(
     tell(alloc, decision, sink)
 }
 
-/// Serves the command of the words, `run` among them, from a source to a sink, over a device.
+/// Serves `run`, from a source to a sink, over a device. It need not return, so all other words are for [`top_quiet`].
 ///
 /// `run` reads a script and plays it to its end, each participant in a thread of its own, which calls the gate before each piece
 /// of work, and writes the text of the journal with what was seen. Things are tried in the same order as for `sim`, and what is
-/// handed back is the same. For `run` the call need not return. All other words are answered as by [`top_quiet`], and the call returns.
+/// handed back is the same.
 pub fn top<S: Source, K: Sink, P: Plant + Send, G: Gate + Sync, R: Threads + Wait + Sync>(
     rt: &R,
     alloc: Global,
@@ -123,6 +125,7 @@ pub fn top<S: Source, K: Sink, P: Plant + Send, G: Gate + Sync, R: Threads + Wai
     plant: P,
     gate: &G,
 ) -> Ended<P>
+    requires run { command_of (map string_bytes words.now) ≡ Some Run }
     ensures answer { Answers
         (call_over ⟦<S as Source>⟧ ⟦<P as Plant>⟧ (command_of (map string_bytes words.now))
         source.old source.new plant result.plant result.journal.entries)
@@ -137,16 +140,10 @@ pub fn top<S: Source, K: Sink, P: Plant + Send, G: Gate + Sync, R: Threads + Wai
         (sink_use ⟦<K as Sink>⟧ sink.old sink.new)
         result.status }
 
-    ensures untouched { command_of (map string_bytes words.now) ≡ None → source.new ≡ source.old }
     ensures room { K.room sink.new ≡ K.room sink.old }
     ensures source_count { S.faults source.old ≤ S.faults source.new }
     ensures sink_count { K.faults sink.old ≤ K.faults sink.new }
 {
-    match command_of(words) {
-        Some(Command::Run) => {
-            let decision = decide_run(rt, alloc, source, plant, gate);
-            tell(alloc, decision, sink)
-        }
-        _ => top_quiet(alloc, words, source, sink, plant),
-    }
+    let decision = decide_run(rt, alloc, source, plant, gate);
+    tell(alloc, decision, sink)
 }

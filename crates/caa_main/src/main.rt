@@ -5,7 +5,7 @@ use caa_base::outside::gate::EmptyGate;
 use caa_base::outside::memory::MemPlant;
 use caa_base::outside::standard::{StdSink, StdSource};
 use caa_commands::status::Status;
-pub use caa_commands::top::{top, top_quiet};
+pub use caa_commands::top::{asks_to_run, top, top_quiet};
 use std::alloc::AllocError;
 use std::env;
 use std::io::ErrorKind;
@@ -30,14 +30,20 @@ fn main(rt: HostRuntime) -> ExitCode {
     };
     let mut source = StdSource::new(rt.stdin());
     let mut sink = StdSink::new(rt.stdout());
-    let ended = top(
-        &rt,
-        rt.alloc(),
-        words.as_slice(),
-        &mut source,
-        &mut sink,
-        MemPlant::new(false),
-        &EmptyGate,
-    );
+    let plant = MemPlant::new(false);
+    let words = words.as_slice();
+    let ended = if asks_to_run(words) {
+        top(
+            &rt,
+            rt.alloc(),
+            words,
+            &mut source,
+            &mut sink,
+            plant,
+            &EmptyGate,
+        )
+    } else {
+        top_quiet(rt.alloc(), words, &mut source, &mut sink, plant)
+    };
     ExitCode::from(ended.status as u8)
 }

@@ -1,7 +1,7 @@
 -- Lists whose elements are alike.
-use Rattle.std.proofs.Common.{◌≡◌, ℕ, List, [], ◌∷◌, ◌++◌, length, replicate, Option, Some, zero, suc, refl, sym, ap, ◌∙◌, arith}
+use Rattle.std.proofs.Common.{◌≡◌, ℕ, List, [], ◌∷◌, ◌++◌, length, map, replicate, Option, Some, zero, suc, refl, sym, ap, ◌∙◌, arith}
 use Rattle.std.specs.Option.{option_to_list}
-use Rattle.std.proofs.lemmas.List.{length-append}
+use Rattle.std.proofs.lemmas.List.{length-append, map-append}
 
 alike : {X : Type 0} (n : ℕ) (w : X) (xs : List X) (x : X) → xs ++ x ∷ [] ≡ replicate (suc n) w → (xs ≡ replicate n w) × (x ≡ w)
 alike zero w [] x is = (refl, cc)
@@ -12,6 +12,9 @@ alike (suc n) w (y ∷ ys) x is =
     let rest = alike n w ys x (cc is) in
     (cc (first, rest.0), rest.1)
 
--- where all are alike, the last is as they are, and so are those before it
-pub last_alike : {X : Type 0} (n : ℕ) (w : X) (xs ys : List X) (x : X) (r : Option X) → xs ≡ replicate (suc n) w → xs ≡ ys ++ option_to_list r → r ≡ Some x → (ys ≡ replicate n w) × (x ≡ w)
-last_alike n w xs ys x r all is some = alike n w ys x (ap (λ o. ys ++ option_to_list o) (sym some) ∙ sym is ∙ all)
+-- where f can tell none from the others, it can't tell the last, nor those before it
+pub last_alike : {X Y : Type 0} (f : X → Y) (n : ℕ) (w : Y) (xs ys : List X) (x : X) (r : Option X) → map f xs ≡ replicate (suc n) w
+    → xs ≡ ys ++ option_to_list r → r ≡ Some x → (map f ys ≡ replicate n w) × (f x ≡ w)
+last_alike f n w xs ys x r all is some =
+    let whole : xs ≡ ys ++ x ∷ [] = is ∙ ap (λ o. ys ++ option_to_list o) some in
+    alike n w (map f ys) (f x) (sym (map-append f ys (x ∷ [])) ∙ (ap (map f) (sym whole) ∙ all))

@@ -1,4 +1,5 @@
 ghost use Rattle.std.specs.Prelude.{◌≡◌, ◌<◌, [], All, length, map, replicate, vec_capacity};
+ghost use Rattle.shared_views.specs.Committing.{placeless};
 ghost use Rattle.role_driver.specs.inner.Watching.{task_of};
 ghost use Rattle.role_driver.specs.inner.WatchRooms.{task_with, observer_of};
 
@@ -15,7 +16,7 @@ pub fn watchers_for<M: Machine>(
     mut observers: Vec<Observer>,
     mut watchers: Vec<Watcher>,
 ) -> Vec<Watcher>
-    requires observers { observers.items ≡ replicate (length blanks.items) (observer_of _manager.now) }
+    requires observers { map placeless observers.items ≡ replicate (length blanks.items) (observer_of _manager.now) }
     requires objects { All (λ b. b.object < length (observer_of _manager.now).initials) blanks.items }
     requires room { (watchers.items ≡ []) × (vec_capacity watchers ≡ length blanks.items) }
     ensures { map task_of result.items ≡ map (λ b. task_with (observer_of _manager.now) b.object) blanks.items }

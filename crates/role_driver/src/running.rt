@@ -11,6 +11,7 @@ ghost use Rattle.action_manager.specs.Managers.{plan_in, handed_in, IsSeatIn};
 ghost use Rattle.action_manager.specs.Seats.{participant_of};
 ghost use Rattle.role_driver.specs.inner.CrewRooms.{IsRoomForAll};
 ghost use Rattle.role_driver.specs.inner.Watching.{task_of};
+ghost use Rattle.shared_views.specs.Committing.{placeless};
 ghost use Rattle.role_driver.specs.inner.WatchRooms.{IsRoomFor, observer_of};
 ghost use Rattle.role_driver.specs.inner.Gathering.{task_by};
 
@@ -135,7 +136,7 @@ fn play_opened<M: Machine + Send, G: Gate + Sync, R: Threads + Wait + Sync>(
     requires closed { IsClosed (plan_in opened.manager) }
     requires seats { All (λ s. IsSeatIn M.base_of opened.manager s) opened.seats.items }
     requires order { map participant_of opened.seats.items ≡ range_with_len 0 (length (plan_in opened.manager).participants) }
-    requires observers { opened.observers.items
+    requires observers { map placeless opened.observers.items
         ≡ replicate (length (plan_in opened.manager).watches) (observer_of opened.manager) }
     requires crew_room { IsRoomForAll (length (plan_in opened.manager).participants) crew_room }
     requires watch_room { IsRoomFor (plan_in opened.manager) watch_room }

@@ -1,5 +1,5 @@
 use Rattle.std.proofs.Common.{◌∙◌, ◌<◌, ap, arith, length, replicate}
-use Rattle.shared_views.specs.Committing.{Watching}
+use Rattle.shared_views.specs.Committing.{Watching, placeless}
 use Rattle.role_driver.specs.declared.watch_room.Blank.{Blank}
 use Rattle.role_driver.specs.inner.Watching.{task_of}
 use Rattle.role_driver.specs.inner.WatchRooms.{task_with, observer_of}
@@ -12,7 +12,7 @@ loop-blank-preserved g c =
     let inv = c.loop-blank.invariant in let observer = observer_of c.args._manager.now in
     let took = c.in-Some.ensures.steps.0 in let one = ap length took in
     let pushed = c.push_reserved.ensures in
-    let alike = last_alike (length c.next.new.self.rest.items) observer c.loop-blank.observers.items c.pop.new.self.items c.in-Some-pop.observer c.pop.result (inv.observers ∙ ap (λ l. replicate (length l) observer) took) c.pop.ensures.items c.in-Some-pop.is in
+    let alike = last_alike placeless (length c.next.new.self.rest.items) observer c.loop-blank.observers.items c.pop.new.self.items c.in-Some-pop.observer c.pop.result (inv.observers ∙ ap (λ l. replicate (length l) observer) took) c.pop.ensures.items c.in-Some-pop.is in
     record {
       room = omega (arith, inv.room, one, pushed.len, pushed.capacity);
       observers = alike.0;
