@@ -26,6 +26,8 @@ pub mod AcceptedDraft
 pub mod PlayLines
 pub mod Unbroken
 pub mod NamesKept
+pub mod PartsNamed
+pub mod OnePlan
 pub mod NumberTables
 pub mod ChosenNumbers
 pub mod DrillTables
