@@ -11,7 +11,7 @@ use Rattle.place_plan.specs.RulesOfJournals.Entries.{is_of}
 use Rattle.place_plan.specs.RulesOfJournals.Journals.{IsLegal, IsComplete, faults_in}
 use Rattle.journal_laws.specs.Laws.{KeepsLaws}
 use Rattle.journal_replay.specs.Device.{HasValues, HasDrills}
-use Rattle.caa_commands.specs.OutsideUse.{Left}
+use Rattle.caa_commands.specs.OutsideUse.{Left, TellsAsBefore}
 
 -- the entry ends a play as failed
 abbrev pub is_failed_play : Plan → Entry → Bool
@@ -33,3 +33,5 @@ pub record IsPlayed {P : Type 0} (plan : Plan) (left : Left P) : Type 0 where
   pub device : IfSome left.plant.state (HasValues plan left.journal)
   -- drill clause: where it tells its drills and tries, the refused puts are just those that were drilled
   pub drills : IfSome left.plant.drilling (HasDrills plan left.journal)
+  -- and it goes on telling what it told before the play
+  pub tells : TellsAsBefore left.plant

@@ -1,5 +1,5 @@
 -- How a call of the program used the source, the sink and the device that it was handed.
-use Rattle.std.specs.Prelude.{◌≡◌, ◌⊎◌, ℕ, List, [], Option}
+use Rattle.std.specs.Prelude.{◌≡◌, ◌⊎◌, ℕ, List, [], Option, is_some}
 use Rattle.caa_base.specs.Outside.PlantState.{PlantState, Drilling}
 use Rattle.caa_base.specs.declared.written.entry.Entry.{Entry}
 use Rattle.caa_base.specs.declared.outside.source.Source.{Ghosts as SourceGhosts}
@@ -39,12 +39,14 @@ sink_use ghosts before after = record {
   faults_after = ghosts.faults after;
 }
 
--- a device before and now; its values and puts, and its drills and tries, where it tells them now; how often it was asked, how
--- often it refused that, and how often it refused to be laid out, before and now
+-- a device before and now; its values and puts, and its drills and tries, where it tells them, before and now; how often it was
+-- asked, how often it refused that, and how often it refused to be laid out, before and now
 pub record PlantUse (P : Type 0) : Type 0 where
   pub before : P
   pub after : P
+  pub state_before : Option PlantState
   pub state : Option PlantState
+  pub drilling_before : Option Drilling
   pub drilling : Option Drilling
   pub calls_before : ℕ
   pub calls_after : ℕ
@@ -58,7 +60,9 @@ abbrev pub plant_use : {P : Type 0} → PlantGhosts P → P → P → PlantUse P
 plant_use ghosts before after = record {
   before = before;
   after = after;
+  state_before = ghosts.state before;
   state = ghosts.state after;
+  drilling_before = ghosts.drilling before;
   drilling = ghosts.drilling after;
   calls_before = ghosts.calls before;
   calls_after = ghosts.calls after;
@@ -67,6 +71,11 @@ plant_use ghosts before after = record {
   lay_faults_before = ghosts.lay_faults before;
   lay_faults_after = ghosts.lay_faults after;
 }
+
+-- the device tells its values now where it told them before, and so with its drills
+pub record TellsAsBefore {P : Type 0} (plant : PlantUse P) : Type 0 where
+  pub values : is_some plant.state ≡ is_some plant.state_before
+  pub drills : is_some plant.drilling ≡ is_some plant.drilling_before
 
 -- what a call leaves: the device as it used it, and the journal that it hands back
 pub record Left (P : Type 0) : Type 0 where
@@ -107,3 +116,4 @@ pub record IsUnplayed {P : Type 0} (left : Left P) : Type 0 where
   pub unplayed : left.journal ≡ []
   pub unasked : IsUnasked left.plant
   pub unrefused : left.plant.faults_after ≡ left.plant.faults_before
+  pub tells : TellsAsBefore left.plant

@@ -1,6 +1,6 @@
 //! Plays of a plan over a device, and what they come to.
 
-ghost use Rattle.std.specs.Prelude.{◌≡◌, ◌<◌, ◌^◌, [], true, IfOk, IfErr};
+ghost use Rattle.std.specs.Prelude.{◌≡◌, ◌<◌, ◌^◌, [], true, is_some, IfOk, IfErr};
 ghost use Rattle.place_plan.specs.RulesOfJournals.WellFormed.{AllWellFormed};
 ghost use Rattle.journal_text.specs.Watching.Looks.{AreOfPlan};
 ghost use Rattle.journal_text.specs.Texts.Naming.{is_well_named};
@@ -72,7 +72,9 @@ fn has_failed_play(plan: &Plan, journal: &Journal) -> bool
 fn open<P: Plant>(alloc: Global, plan: Plan, plant: P) -> Result<PlainHall<P>, Decision<P>>
     ensures plan { IfOk result (λ hall. plan_in hall ≡ plan) }
     ensures journal { IfOk result (λ hall. journal_in hall ≡ []) }
-    ensures base { IfOk result (λ hall. base_in hall ≡ P.faults plant) }
+    ensures base { IfOk result (λ hall. (base_in hall).faults ≡ P.faults plant) }
+    ensures tells_state { IfOk result (λ hall. (base_in hall).tells_values ≡ is_some (P.state plant)) }
+    ensures tells_drilling { IfOk result (λ hall. (base_in hall).tells_drills ≡ is_some (P.drilling plant)) }
     ensures count { IfOk result (λ hall. P.faults (plant_in hall) ≡ P.faults plant) }
     ensures lay_count { IfOk result (λ hall. P.lay_faults (plant_in hall) ≡ P.lay_faults plant) }
     ensures refused { IfErr result (λ decision.
@@ -144,6 +146,8 @@ fn unplayed<P: Plant>(hall: PlainHall<P>) -> Decision<P>
     ensures plant { result.plant ≡ plant_in hall }
     ensures journal { result.journal.entries ≡ journal_in hall }
     ensures calls { P.calls result.plant ≡ attempts_in (journal_in hall) }
+    ensures tells_state { is_some (P.state result.plant) ≡ (base_in hall).tells_values }
+    ensures tells_drilling { is_some (P.drilling result.plant) ≡ (base_in hall).tells_drills }
 {
     let (_, plant, journal) = hall.into_parts();
     Decision {

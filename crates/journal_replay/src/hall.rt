@@ -167,6 +167,8 @@ impl<P: Plant> PlainHall<P> {
         ensures room { IfOk result (λ hall. room_in hall ≡ bound plan) }
         ensures cause { IfErr result (λ error. CountsFault (is_plant_fault error.cause) (P.lay_faults plant) (P.lay_faults error.plant)) }
         ensures kept { IfErr result (λ error. P.faults error.plant ≡ P.faults plant) }
+        ensures kept_state { IfErr result (λ error. is_some (P.state error.plant) ≡ is_some (P.state plant)) }
+        ensures kept_drilling { IfErr result (λ error. is_some (P.drilling error.plant) ≡ is_some (P.drilling plant)) }
         ensures unasked { IfErr result (λ error. P.calls error.plant ≡ P.calls plant) }
     {
         let mut plant = plant;
@@ -208,6 +210,8 @@ impl<P: Plant> PlainHall<P> {
         ensures calls { P.calls result.1 ≡ attempts_in result.2.entries }
         ensures state { IfSome (P.state result.1) (HasValues result.0 result.2.entries) }
         ensures drilling { IfSome (P.drilling result.1) (HasDrills result.0 result.2.entries) }
+        ensures tells_state { is_some (P.state result.1) ≡ (base_in self).tells_values }
+        ensures tells_drilling { is_some (P.drilling result.1) ≡ (base_in self).tells_drills }
     {
         let PlainHall {
             plan,

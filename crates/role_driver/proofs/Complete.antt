@@ -11,6 +11,7 @@ use Rattle.action_manager.specs.declared.manager.Manager.{Manager}
 use Rattle.action_manager.specs.Managers.{plan_in, IsSeatIn}
 use Rattle.caa_base.specs.declared.written.entry.Entry.{Entry}
 use Rattle.caa_base.specs.declared.written.entry.Kind.TheVariants as kind
+use Rattle.place_plan.specs.declared.rules.machine.Base.{Base}
 use Rattle.place_plan.specs.Plans.PlanValue.{Plan}
 use Rattle.caa_base.specs.Written.Lists.{last_of}
 use Rattle.place_plan.specs.Plans.Places.{plays_of}
@@ -64,7 +65,7 @@ one_of true rest n t X is there first later = first (grind (arith, nat_tests, is
 one_of false rest n t X is there first later = later there
 
 -- where a seat of t is over and its account is right, t is over in the whole journal
-over_in : {M : Type 0} (base_of : M → ℕ) (manager : Manager M) (journal : List Entry) (t : ℕ) (seats : List (Seat M)) → All (IsDone base_of manager) seats → All (Accounts journal) seats
+over_in : {M : Type 0} (base_of : M → Base) (manager : Manager M) (journal : List Entry) (t : ℕ) (seats : List (Seat M)) → All (IsDone base_of manager) seats → All (Accounts journal) seats
     → has_seat t seats ≡ true → is_over (plan_in manager) (reverse journal) t ≡ true
 over_in base_of manager journal t [] done accounts there = absurd (true≢false (sym there))
 over_in base_of manager journal t (s ∷ seats) done accounts there =
@@ -75,7 +76,7 @@ over_in base_of manager journal t (s ∷ seats) done accounts there =
     (λ same. over_longer plan (seen_by s) journal t account.begins (subst (λ x. is_over plan (reverse (seen_by s)) x ≡ true) same mine.over))
     (λ later. over_in base_of manager journal t seats (λ k d low. done (suc k) d (omega (arith, low))) (λ k d low. accounts (suc k) d (omega (arith, low))) later)
 
-pub all_over : {M : Type 0} (base_of : M → ℕ) (manager : Manager M) (journal : List Entry) (seats : List (Seat M)) → All (IsDone base_of manager) seats → All (Accounts journal) seats
+pub all_over : {M : Type 0} (base_of : M → Base) (manager : Manager M) (journal : List Entry) (seats : List (Seat M)) → All (IsDone base_of manager) seats → All (Accounts journal) seats
     → HaveAll (length (plan_in manager).participants) seats → IsComplete (plan_in manager) journal
 all_over base_of manager journal seats done accounts all = λ t low. over_in base_of manager journal t seats done accounts (all t low)
 
@@ -94,7 +95,7 @@ pub who_is : {M H : Type 0} (f : H → ℕ) (t : ℕ) (P : H → Type 0) (Q : Se
 who_is f t P Q (Ok h) ok err = ok.1
 who_is f t P Q (Err s) ok err = err.1
 
-pub member_is : {M H : Type 0} (base_of : M → ℕ) (manager : Manager M) (seat_of : H → Seat M) (f : H → ℕ) (t : ℕ) (r : Result H (Seat M))
+pub member_is : {M H : Type 0} (base_of : M → Base) (manager : Manager M) (seat_of : H → Seat M) (f : H → ℕ) (t : ℕ) (r : Result H (Seat M))
     → IfOk r (λ h. IsSeatIn base_of manager (seat_of h) × (f h ≡ t)) → IfErr r (λ s. IsSeatIn base_of manager s × (participant_of s ≡ t)) → IsMember base_of manager seat_of r
 member_is base_of manager seat_of f t (Ok h) ok err = ok.0
 member_is base_of manager seat_of f t (Err s) ok err = err.0

@@ -1,13 +1,14 @@
-ghost use Rattle.std.specs.Prelude.{◌≡◌, [], length, map, All, IfOk, IfErr, vec_capacity};
+ghost use Rattle.std.specs.Prelude.{◌≡◌, [], length, map, reverse, true, All, IfOk, IfErr, IsTrue, vec_capacity};
+ghost use Rattle.place_plan.specs.RulesOfJournals.Roles.{is_over};
+ghost use Rattle.role_driver.specs.Working.{TellsOwnWork};
 ghost use Rattle.role_driver.specs.inner.Crew.{IsMember, who_of};
-ghost use Rattle.action_manager.specs.Managers.{IsSeatIn};
-ghost use Rattle.action_manager.specs.Seats.{participant_of, IsBeside};
+ghost use Rattle.action_manager.specs.Managers.{plan_in, IsSeatIn};
+ghost use Rattle.action_manager.specs.Seats.{participant_of, seen_by, IsBeside};
 
-use crate::driving::{drive, step_and_ask};
+use crate::driving::{drive, take_whole_turn};
 use action_manager::{Manager, Seat};
 use caa_base::outside::gate::Gate;
 use caa_base::written::entry::Participant;
-use caa_base::written::work::WorkDone;
 use place_plan::rules::machine::{Answer, Machine};
 use std::snapshot::Snapshot;
 use std::sync::Wait;
@@ -127,19 +128,12 @@ pub fn go_on<M: Machine, G: Gate, R: Wait>(
     requires opened { IsSeatIn M.base_of manager.now seat.old }
     ensures opened { IsSeatIn M.base_of manager.now seat.new }
     ensures same { participant_of seat.new ≡ participant_of seat.old }
+    ensures told { TellsOwnWork (G.was_told gate.now) (participant_of seat.old) (seen_by seat.old) (seen_by seat.new) }
+    ensures over { IsTrue result → is_over (plan_in manager.now) (reverse (seen_by seat.new)) (participant_of seat.old) ≡ true }
 {
-    match step_and_ask(rt, manager, seat, None) {
-        Answer::Did(_) | Answer::NotYet => false,
+    match take_whole_turn(rt, manager, seat, gate) {
         Answer::Over => true,
-        Answer::Work {
-            place,
-            rounds,
-            from,
-        } => {
-            gate.work(seat.participant(), place);
-            step_and_ask(rt, manager, seat, Some(WorkDone::make(from, rounds)));
-            false
-        }
+        _ => false,
     }
 }
 

@@ -8,7 +8,9 @@ ghost use Rattle.shared_views.specs.declared.bulletin.Announcement.TheVariants.{
 ghost use Rattle.action_manager.specs.Managers.{plan_in, cells_in, IsSeatIn};
 ghost use Rattle.action_manager.specs.Seats.{participant_of, seen_by, told_to};
 ghost use Rattle.action_manager.specs.Stepping.{Steps};
+ghost use Rattle.role_driver.specs.Working.{TakesWholeTurn, TellsOwnWork};
 
+use crate::mixing::mix;
 use action_manager::{Manager, Seat};
 use caa_base::outside::gate::Gate;
 use caa_base::written::entry::{Entry, Exception, Kind};
@@ -33,12 +35,13 @@ fn ask<M: Machine>(manager: &Manager<M>, seat: &mut Seat<M>, handle: Entry) -> O
     }
 }
 
-/// One turn of a seat, which asks the cell of the place after each Handle.
-pub(crate) fn step_and_ask<M: Machine, R: Wait>(
+/// A step of a seat, which asks the cell of the place after each Handle, and tells the gate which exception it gives.
+fn step_and_ask<M: Machine, G: Gate, R: Wait>(
     rt: &R,
     manager: &Manager<M>,
     seat: &mut Seat<M>,
     hint: Option<WorkDone>,
+    gate: &G,
 ) -> Answer
     requires opened { IsSeatIn M.base_of manager.now seat.old }
     ensures opened { IsSeatIn M.base_of manager.now seat.new }
@@ -48,13 +51,46 @@ pub(crate) fn step_and_ask<M: Machine, R: Wait>(
     let answer = manager.step(rt, seat, hint);
     if let Answer::Did(entry) = answer {
         if entry.kind == Kind::Handle {
-            ask(manager, seat, entry);
+            if let Some(exception) = ask(manager, seat, entry) {
+                gate.handle(entry.by, entry.place, exception);
+            }
         }
     }
     answer
 }
 
-/// Steps a seat until its participant is over, and mixes its work outside its turns.
+/// One turn of a seat with its mixing work, so it never answers that there is work.
+///
+/// Before the mixing it calls the gate.
+pub(crate) fn take_whole_turn<M: Machine, G: Gate, R: Wait>(
+    rt: &R,
+    manager: &Manager<M>,
+    seat: &mut Seat<M>,
+    gate: &G,
+) -> Answer
+    requires opened { IsSeatIn M.base_of manager.now seat.old }
+    ensures opened { IsSeatIn M.base_of manager.now seat.new }
+    ensures same { participant_of seat.new ≡ participant_of seat.old }
+    ensures turn { TakesWholeTurn (plan_in manager.now) (seen_by seat.old) (seen_by seat.new) (participant_of seat.old) result }
+    ensures told { TellsOwnWork (G.was_told gate.now) (participant_of seat.old) (seen_by seat.old) (seen_by seat.new) }
+{
+    match step_and_ask(rt, manager, seat, None, gate) {
+        Answer::Work {
+            place,
+            rounds,
+            from,
+        } => {
+            let done = mix(gate, seat.participant(), place, from, rounds);
+            match step_and_ask(rt, manager, seat, Some(done), gate) {
+                Answer::Work { .. } => unreachable!(),
+                answer => answer,
+            }
+        }
+        answer => answer,
+    }
+}
+
+/// Takes turns for a seat until its participant is over, and mixes its work outside these turns.
 ///
 /// Before each piece of mixing it calls the gate, and where its participant has no entry now it waits past what it has seen. It
 /// need not return.
@@ -70,21 +106,14 @@ pub fn drive<M: Machine, G: Gate, R: Wait>(
     ensures seen { IsPrefix (seen_by seat) (seen_by result) }
     ensures legal { IsLegal (plan_in manager.now) (seen_by result) }
     ensures over { is_over (plan_in manager.now) (reverse (seen_by result)) (participant_of seat) ≡ true }
+    ensures told { TellsOwnWork (G.was_told gate.now) (participant_of seat) (seen_by seat) (seen_by result) }
 {
-    let mut hint = None;
     for _ in rt.forever() {
-        match step_and_ask(rt, manager, &mut seat, hint.take()) {
+        match take_whole_turn(rt, manager, &mut seat, gate) {
             Answer::Did(_) => {}
-            Answer::Work {
-                place,
-                rounds,
-                from,
-            } => {
-                gate.work(seat.participant(), place);
-                hint = Some(WorkDone::make(from, rounds));
-            }
             Answer::NotYet => manager.wait_past(rt, &mut seat),
             Answer::Over => return seat,
+            Answer::Work { .. } => unreachable!(),
         }
     }
     unreachable!()

@@ -1,6 +1,7 @@
 ghost use Rattle.std.specs.Prelude.{◌≡◌, ◌≤◌};
 ghost use Rattle.place_plan.specs.RulesOfJournals.Journals.{IsLegal, IsComplete};
 ghost use Rattle.role_driver.specs.Schedule.{GrewBy, always_least};
+ghost use Rattle.role_driver.specs.Working.{TellsWork};
 
 use crate::turn::take_turn;
 use caa_base::outside::gate::Gate;
@@ -18,6 +19,7 @@ pub fn finish<M: Machine, G: Gate>(mut machine: M, gate: &G) -> M
     ensures legal { IsLegal (M.plan_of machine) (M.journal_of result) }
     ensures complete { IsComplete (M.plan_of machine) (M.journal_of result) }
     ensures least_first { GrewBy always_least (M.plan_of machine) (M.journal_of machine) (M.journal_of result) }
+    ensures told { TellsWork (G.was_told gate.now) (M.journal_of machine) (M.journal_of result) }
 {
     while !machine.complete() {
         take_turn(&mut machine, 0, gate);

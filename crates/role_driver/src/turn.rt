@@ -1,10 +1,11 @@
 ghost use Rattle.std.specs.Prelude.{◌≡◌, ◌<◌, ◌≤◌, ◌+◌, ◌%◌, length, MatchBool};
 ghost use Rattle.place_plan.specs.RulesOfJournals.Journals.{IsComplete};
 ghost use Rattle.role_driver.specs.Schedule.{Acts, IsKept, TakesTurn};
+ghost use Rattle.role_driver.specs.Working.{TellsWork};
 
+use crate::mixing::mix;
 use caa_base::outside::gate::Gate;
 use caa_base::written::entry::Participant;
-use caa_base::written::work::WorkDone;
 use journal_laws::{at_most_one, goes_on};
 use place_plan::rules::machine::{Answer, Machine};
 
@@ -17,6 +18,7 @@ fn act<M: Machine, G: Gate>(machine: &mut M, by: Participant, gate: &G) -> bool
     ensures acts { MatchBool result
         (Acts (M.plan_of machine.old) (M.journal_of machine.old) (M.journal_of machine.new) by)
         (IsKept (M.plan_of machine.old) (M.journal_of machine.old) (M.journal_of machine.new) by) }
+    ensures told { TellsWork (G.was_told gate.now) (M.journal_of machine.old) (M.journal_of machine.new) }
 {
     at_most_one(machine.plan());
     match machine.next(by, None) {
@@ -27,8 +29,7 @@ fn act<M: Machine, G: Gate>(machine: &mut M, by: Participant, gate: &G) -> bool
             rounds,
             from,
         } => {
-            gate.work(by, place);
-            let work = WorkDone::make(from, rounds);
+            let work = mix(gate, by, place, from, rounds);
             if let Answer::Did(_) = machine.next(by, Some(work)) {
                 true
             } else {
@@ -54,6 +55,7 @@ pub(crate) fn take_turn<M: Machine, G: Gate>(machine: &mut M, first: u32, gate: 
     ensures base { M.base_of machine.new ≡ M.base_of machine.old }
     ensures count { M.count_of machine.old ≤ M.count_of machine.new }
     ensures turn { TakesTurn (M.plan_of machine.old) (M.journal_of machine.old) (M.journal_of machine.new) first }
+    ensures told { TellsWork (G.was_told gate.now) (M.journal_of machine.old) (M.journal_of machine.new) }
 {
     let participants = machine.plan().participants();
     for others in 0..participants {

@@ -17,8 +17,10 @@ pub mod NamesKept
 pub mod NestTests
 pub mod NestsKept
 pub mod NumberTables
+pub mod OnePlan
 pub mod OrderKept
 pub mod PartsFit
+pub mod PartsNamed
 pub mod PlayLines
 pub mod PlaysKept
 pub mod RangesKept

@@ -33,7 +33,7 @@ use Rattle.script_checker.proofs.GraphRows.{found}
 
 -- ---- a number that is none of some others
 
-not_met : (x : ℕ) (xs : List ℕ) (i d : ℕ) → member x xs ≡ false → i < length xs → get_or xs i d ≢ x
+pub not_met : (x : ℕ) (xs : List ℕ) (i d : ℕ) → member x xs ≡ false → i < length xs → get_or xs i d ≢ x
 not_met x [] i d none l e = absurd (omega arith)
 not_met x (y ∷ xs) zero d none l e = false≢true (sym (or_parts (y == x) (member x xs) none).0 ∙ eq-eqb y x e)
 not_met x (y ∷ xs) (suc i) d none l e = not_met x xs i d (or_parts (y == x) (member x xs) none).1 (omega (arith, l)) e
@@ -54,25 +54,25 @@ not_among x (y ∷ xs) (suc i) d none l e = by (y == x) none (λ past. not_among
 -- ---- numbers of names
 
 -- the name of the number is one by the grammar, and leads back to it
-abbrev IsOwn : List (List ℕ) → (ℕ → List ℕ) → ℕ → Type 0
+abbrev pub IsOwn : List (List ℕ) → (ℕ → List ℕ) → ℕ → Type 0
 IsOwn names name_of n = (is_name (name_of n) ≡ true) × (number_in names (name_of n) ≡ n)
 
 -- such numbers, of which no two are the same
-record AreOwn (names : List (List ℕ)) (name_of : ℕ → List ℕ) (xs : List ℕ) : Type 0 where
+pub record AreOwn (names : List (List ℕ)) (name_of : ℕ → List ℕ) (xs : List ℕ) : Type 0 where
   pub each : All (IsOwn names name_of) xs
   pub differ : AllPairs (λ a b. a ≢ b) xs
 
 module _ (names : List (List ℕ)) (name_of : ℕ → List ℕ) where
-  own_none : AreOwn names name_of []
+  pub own_none : AreOwn names name_of []
   own_none = record { each = All-nil (IsOwn names name_of); differ = λ i j d l w. absurd (omega arith) }
 
-  own_push : (xs : List ℕ) (x : ℕ) → AreOwn names name_of xs → IsOwn names name_of x → is_among xs x ≡ false → AreOwn names name_of (xs ++ x ∷ [])
+  pub own_push : (xs : List ℕ) (x : ℕ) → AreOwn names name_of xs → IsOwn names name_of x → is_among xs x ≡ false → AreOwn names name_of (xs ++ x ∷ [])
   own_push xs x h own once = record {
     each = All-push (IsOwn names name_of) xs x h.each own;
     differ = all_pairs_push (λ a b. a ≢ b) xs x h.differ (λ i d l. not_among x xs i d (ltb-false (index_of x xs) (length xs) once) l);
   }
 
-  own_names : (xs : List ℕ) → AreOwn names name_of xs → AreOwnNames (map name_of xs)
+  pub own_names : (xs : List ℕ) → AreOwn names name_of xs → AreOwnNames (map name_of xs)
   own_names xs h = record {
     spelled = All-map (λ name. is_name name ≡ true) name_of xs (λ i d l. (h.each i d l).0);
     differ = λ i j d l w e.
@@ -85,7 +85,7 @@ module _ (names : List (List ℕ)) (name_of : ℕ → List ℕ) where
 -- ---- the names of a script
 
 module _ (names : List (List ℕ)) (numbered : AreNumbered names) where
-  named : (n : ℕ) → is_name (name_at names n) ≡ true → IsOwn names (name_at names) n
+  pub named : (n : ℕ) → is_name (name_at names n) ≡ true → IsOwn names (name_at names) n
   named n h = (h, numbered n (named_within names n h))
 
   excepted : (n : ℕ) → is_name (name_at names n) ≡ true → IsOwn names (exception_name names) n
@@ -102,7 +102,7 @@ universal_own names n e =
 -- ---- what each line keeps
 
 -- these are the names of such numbers
-record AreNamedBy (names : List (List ℕ)) (xs : List ℕ) (rows : List (List ℕ)) : Type 0 where
+pub record AreNamedBy (names : List (List ℕ)) (xs : List ℕ) (rows : List (List ℕ)) : Type 0 where
   pub own : AreOwn names (name_at names) xs
   pub same : rows ≡ map (name_at names) xs
 
@@ -144,7 +144,7 @@ watches_push xs watches x known once h = record {
 }
 
 module _ (names : List (List ℕ)) (numbered : AreNumbered names) where
-  named_push : (xs : List ℕ) (rows : List (List ℕ)) (n : ℕ) → is_name (name_at names n) ≡ true → is_among xs n ≡ false → AreNamedBy names xs rows → AreNamedBy names (xs ++ n ∷ []) (rows ++ name_at names n ∷ [])
+  pub named_push : (xs : List ℕ) (rows : List (List ℕ)) (n : ℕ) → is_name (name_at names n) ≡ true → is_among xs n ≡ false → AreNamedBy names xs rows → AreNamedBy names (xs ++ n ∷ []) (rows ++ name_at names n ∷ [])
   named_push xs rows n spelled once h = record {
     own = own_push names (name_at names) xs n h.own (named names numbered n spelled) once;
     same = ap (λ (rows : List (List ℕ)). rows ++ name_at names n ∷ []) h.same ∙ sym (map-append (name_at names) xs (n ∷ []));
@@ -159,7 +159,7 @@ module _ (names : List (List ℕ)) (numbered : AreNumbered names) where
   universal_alone universal first = own_push names (exception_name names) [] universal (own_none names (exception_name names)) (universal_own names universal first) refl
 
   -- the first word of a line that declares something is a name
-  first_spelled : (n : ℕ) (rest : Bool) → (is_name (name_at names n) && rest) ≡ true → is_name (name_at names n) ≡ true
+  pub first_spelled : (n : ℕ) (rest : Bool) → (is_name (name_at names n) && rest) ≡ true → is_name (name_at names n) ≡ true
   first_spelled n rest h = (and_parts (is_name (name_at names n)) rest h).0
 
   begins_stand : (d : Declared) (f : Form) → is_sound names f ≡ true → NoneAtTop d f → AreDeclaredNamed names d → AreDeclaredNamed names (declared_with names d f)
@@ -236,7 +236,7 @@ rows_named names (graph ∷ graphs) (row ∷ rows) h own = by (rows_named names 
     by rest zero d l = row_named names graph row h.0 (own 0 graph (omega arith))
     by rest (suc i) d l = rest i d (omega (arith, l))
 
-named_rows : (names : List (List ℕ)) (xs : List ℕ) (rows : List (List ℕ)) → AreNamedBy names xs rows → AreOwnNames rows
+pub named_rows : (names : List (List ℕ)) (xs : List ℕ) (rows : List (List ℕ)) → AreNamedBy names xs rows → AreOwnNames rows
 named_rows names xs rows h = subst (λ (rows : List (List ℕ)). AreOwnNames rows) (sym h.same) (own_names names (name_at names) xs h.own)
 
 -- an accepted script has a plan whose names tell its parts apart

@@ -10,6 +10,7 @@ mod ending;
 mod graph;
 mod lookups;
 mod number_list;
+pub mod one_plan;
 mod open_action;
 mod open_graph;
 pub mod own_names;

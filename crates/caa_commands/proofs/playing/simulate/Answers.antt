@@ -1,5 +1,6 @@
 use Rattle.std.proofs.Common.{◌≡◌, ◌+◌, [], reverse, sym, ap, ◌∙◌, subst, subst₂, inl, IfSome}
 use Rattle.place_plan.specs.RulesOfJournals.Journals.{IsLegal, IsComplete, faults_in}
+use Rattle.place_plan.specs.declared.rules.machine.Base.{Base}
 use Rattle.journal_replay.specs.Device.{HasValues, HasDrills}
 use Rattle.role_driver.specs.Schedule.{GrewBy, first_of_seed}
 use Rattle.caa_commands.specs.FailedPlays.{IsPlayed}
@@ -29,9 +30,13 @@ returns g c =
       legal = legal;
       complete = subst₂ IsComplete opened.plan (sym parts.journal) c.sim.ensures.complete;
       laws = c.keeps_laws.ensures (reverse journal) legal;
-      faults = λ l. parts.faults l ∙ ap (λ b. b + faults_in journal) (c.sim.ensures.base ∙ opened.base);
+      faults = λ l. parts.faults l ∙ ap (λ b. b + faults_in journal) (ap (λ (b : Base). b.faults) c.sim.ensures.base ∙ opened.base);
       device = subst (λ p. IfSome (g.P.Plant.state plant) (HasValues p journal)) same parts.state;
       drills = subst (λ p. IfSome (g.P.Plant.drilling plant) (HasDrills p journal)) same parts.drilling;
+      tells = record {
+        values = parts.tells_state ∙ ap (λ (b : Base). b.tells_values) c.sim.ensures.base ∙ opened.tells_state;
+        drills = parts.tells_drilling ∙ ap (λ (b : Base). b.tells_drills) c.sim.ensures.base ∙ opened.tells_drilling;
+      };
     } in
     let seen = subst₂ (λ p s. EndsAs p journal s finding) same c.empty.ensures.seens told.ends in
     inl (record {

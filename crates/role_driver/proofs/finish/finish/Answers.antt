@@ -1,6 +1,8 @@
 use Rattle.std.proofs.Common.{◌∙◌, arith, refl, subst}
 use Rattle.role_driver.specs.Schedule.{TakesTurn, always_least}
+use Rattle.role_driver.specs.Working.{IsTold}
 use Rattle.role_driver.proofs.Grown.{one_more}
+use Rattle.role_driver.proofs.Told.{goes_further}
 use Rattle.role_driver.proofs.finish.finish.Goals as goal
 
 pub loop-machine-preserved : goal.loop-machine-preserved
@@ -16,4 +18,5 @@ loop-machine-preserved g c =
       base = c.take_turn.ensures.base ∙ kept.base;
       count = omega (arith, kept.count, c.take_turn.ensures.count);
       grown = (one_more always_least plan first old new kept.grown 0 refl turn).0;
+      told = goes_further (IsTold (g.G.Gate.was_told c.args.gate.now)) first old new kept.told c.take_turn.ensures.told;
     }

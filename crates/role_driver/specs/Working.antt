@@ -1,0 +1,43 @@
+-- What a gate was told of the mixing work in a journal, and a turn that has its work done.
+use Rattle.std.specs.Prelude.{◌≡◌, ℕ, Bool, true, false, List, ◌++◌, Option}
+use Rattle.std.specs.List.{AllByRecursion}
+use Rattle.caa_base.specs.Written.Mixing.{Worked}
+use Rattle.caa_base.specs.declared.written.entry.Entry.{Entry}
+use Rattle.caa_base.specs.declared.written.entry.Kind.TheVariants as kind
+use Rattle.place_plan.specs.Plans.PlanValue.{Plan}
+use Rattle.place_plan.specs.declared.rules.machine.Answer.{Answer}
+use Rattle.place_plan.specs.declared.rules.machine.Answer.TheVariants as answer
+use Rattle.action_manager.specs.Stepping.{Steps}
+
+-- where the entry is one of work, the gate was told of its maker and its place
+abbrev pub IsTold : (ℕ → ℕ → Type 0) → Entry → Type 0
+IsTold was_told e = e.kind ≡ kind.Work → was_told e.by e.place
+
+-- the same of an entry of t; of others it says nothing
+abbrev pub IsToldOf : (ℕ → ℕ → Type 0) → ℕ → Entry → Type 0
+IsToldOf was_told t e = e.by ≡ t → IsTold was_told e
+
+-- the new journal goes on from the old one, with entries that are all so
+pub record GoesOnWith (Holds : Entry → Type 0) (old new : List Entry) : Type 0 where
+  pub more : List Entry
+  pub goes_on : old ++ more ≡ new
+  pub each : AllByRecursion Holds more
+
+-- the new journal goes on from the old one, and the gate was told of all work that it has more
+abbrev pub TellsWork : (ℕ → ℕ → Type 0) → List Entry → List Entry → Type 0
+TellsWork was_told old new = GoesOnWith (IsTold was_told) old new
+
+-- the new journal goes on from the old one, and the gate was told of all work of t that it has more
+abbrev pub TellsOwnWork : (ℕ → ℕ → Type 0) → ℕ → List Entry → List Entry → Type 0
+TellsOwnWork was_told t old new = GoesOnWith (IsToldOf was_told t) old new
+
+-- the answer says that there is work to be done first
+abbrev pub asks_for_work : Answer → Bool
+asks_for_work (answer.Work p rounds from) = true
+asks_for_work _ = false
+
+-- what a whole turn of t comes to: the answer of a step, and not that there is work, since that was done
+pub record TakesWholeTurn (plan : Plan) (old new : List Entry) (t : ℕ) (answer : Answer) : Type 0 where
+  pub hint : Option Worked
+  pub steps : Steps plan old new t hint answer
+  pub done : asks_for_work answer ≡ false
