@@ -80,7 +80,7 @@ as_program section.Action s e h = absurd (false≢true e)
 as_program section.Body s e h = h
 as_program section.Handler s e h = h
 
-as_top : (at : Section) (s : SoFar) → at_top at ≡ true → GraphsThere at s → GraphsThere section.Top s
+pub as_top : (at : Section) (s : SoFar) → at_top at ≡ true → GraphsThere at s → GraphsThere section.Top s
 as_top section.Top s e h = h
 as_top section.Graph s e h = absurd (false≢true e)
 as_top section.Action s e h = absurd (false≢true e)
