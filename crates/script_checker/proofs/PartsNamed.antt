@@ -2,7 +2,7 @@
 use Rattle.std.proofs.Common.{◌≡◌, ◌≢◌, ℕ, zero, suc, ◌<◌, ◌==◌, Bool, true, false, not, ◌&&◌, ◌||◌, List, [], ◌∷◌, ◌++◌, map, length, slice_index_or, slice_set, get_or, refl, sym, ap, ◌∙◌, subst, Option, Some, None, arith}
 use Rattle.std.specs.List.{All, AllPairs, list_all, flat_map}
 use Rattle.std.proofs.lemmas.Bool.{and_parts, or_parts, false≢true, not-false, not-true}
-use Rattle.std.proofs.lemmas.List.{get_or-append, length-append, map-append, append-nil}
+use Rattle.std.proofs.lemmas.List.{map-append, append-nil}
 use Rattle.std.proofs.lemmas.List.Elements.{All-nil, All-cons, All-push}
 use Rattle.std.proofs.lemmas.List.Kept.{AllPairs-cons}
 use Rattle.caa_base.specs.Written.Names.{is_name, name_at}
@@ -117,7 +117,7 @@ abbrev Stands : List (List ℕ) → Section → SoFar → Type 0
 Stands names at s = GraphsThere at s × PartsStand names s
 
 module _ (names : List (List ℕ)) (numbered : AreNumbered names) where
-  none_named : {A : Type 0} → AreNamedBy names [] []
+  none_named : AreNamedBy names [] []
   none_named = record { own = own_none names (name_at names); same = refl }
 
   -- other rows of the same names
@@ -158,15 +158,15 @@ module _ (names : List (List ℕ)) (numbered : AreNumbered names) where
     own = h.own;
     ended = subst (λ b. action_names s.actions ++ open_name names b s.action.name ≡ map (name_at names) s.action_names) e h.ended;
     parts = h.parts;
-    roles_named = none_named {A = ℕ};
-    nests_named = none_named {A = ℕ};
+    roles_named = none_named;
+    nests_named = none_named;
   }
   ended_parts s block.Graph e h = record {
     own = h.own;
     ended = subst (λ b. action_names s.actions ++ open_name names b s.action.name ≡ map (name_at names) s.action_names) e h.ended;
     parts = h.parts;
-    roles_named = none_named {A = ℕ};
-    nests_named = none_named {A = ℕ};
+    roles_named = none_named;
+    nests_named = none_named;
   }
   ended_parts s block.Action e h = record {
     own = h.own;
@@ -177,8 +177,8 @@ module _ (names : List (List ℕ)) (numbered : AreNumbered names) where
       roles = named_rows names s.action.roles (role_names s.action.role_rows) h.roles_named;
       nests = named_rows names s.action.nests (nest_names s.action.nest_rows) h.nests_named;
     });
-    roles_named = none_named {A = ℕ};
-    nests_named = none_named {A = ℕ};
+    roles_named = none_named;
+    nests_named = none_named;
   }
 
   says_parts : (at : Section) (s : SoFar) (f : Form) → stands_in (kind_of f) at ≡ true → is_sound names f ≡ true → HasNone s f → GraphsThere at s → PartsStand names s → PartsStand names (with_said names s f)
@@ -195,8 +195,8 @@ module _ (names : List (List ℕ)) (numbered : AreNumbered names) where
         ap (λ rows. rows ++ name_at names name ∷ []) (all_ended s.block s (as_top at s e there).linked h.ended)
         ∙ sym (map-append (name_at names) s.action_names (name ∷ []));
     parts = h.parts;
-    roles_named = none_named {A = ℕ};
-    nests_named = none_named {A = ℕ};
+    roles_named = none_named;
+    nests_named = none_named;
   }
   says_parts at s form.End e sound none there h = ended_parts s s.block refl h
   says_parts at s (form.Roles roles) e sound none there h =
@@ -248,8 +248,8 @@ module _ (names : List (List ℕ)) (numbered : AreNumbered names) where
     own = own_none names (name_at names);
     ended = refl;
     parts = All-nil NamesParts;
-    roles_named = none_named {A = ℕ};
-    nests_named = none_named {A = ℕ};
+    roles_named = none_named;
+    nests_named = none_named;
   }
 
 graphs_at_first : (names : List (List ℕ)) → GraphsThere section.Top (nothing_yet names)
