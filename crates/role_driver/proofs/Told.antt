@@ -81,9 +81,9 @@ module _ (was_told : ℕ → ℕ → Type 0) where
   work_told plan old mid new t p k from hint a first told second =
       let asked = subst (λ xs. MayFollow plan (reverse xs) (work_entry p t k from)) (sym first.answers.kept) first.answers.may in
       let both = goes_further (IsToldOf was_told t) mid second.before new (others_go_on mid second.before t second.grown)
-          (hinted plan second.before new t hint a second.answers (λ e did is.
-              subst (λ q. was_told e.by q) (sym (work_place plan mid second.before t p k from e asked second.grown did.may is did.own))
-              (subst (λ b. was_told b p) (sym did.own) told))) in
+      (hinted plan second.before new t hint a second.answers (λ e did is.
+      subst (λ q. was_told e.by q) (sym (work_place plan mid second.before t p k from e asked second.grown did.may is did.own))
+      (subst (λ b. was_told b p) (sym did.own) told))) in
       goes_further (IsToldOf was_told t) old mid new (step_told plan old mid t (answer.Work p k from) first) both
 
 -- two steps, of which the first made no entry, are one
