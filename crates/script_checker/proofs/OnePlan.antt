@@ -6,7 +6,7 @@ use Rattle.place_plan.specs.Plans.PlanValue.{Plan}
 use Rattle.place_plan.specs.Plans.Unfolding.{plan_of}
 use Rattle.action_script.specs.Forms.ScriptValue.{Script}
 use Rattle.exception_graph.proofs.GraphCauses.{order-same}
-use Rattle.script_checker.specs.declared.parts.DeclaredGraph.{DeclaredGraph}
+use Rattle.script_checker.specs.declared.open_graph.DeclaredGraph.{DeclaredGraph}
 use Rattle.script_checker.specs.DeclaredSoFar.{nothing_yet}
 use Rattle.script_checker.specs.Compiled.{declared_after, IsRowOf, AreRowsOf, IsDraftOf, IsPlanOf}
 
@@ -30,12 +30,12 @@ module _ (names : List (List ℕ)) where
 
 pub plan-same : (script : Script) (plan other : Plan) → IsPlanOf script plan → IsPlanOf script other → plan ≡ other
 plan-same script plan other h k =
-    let s = declared_after script.names (nothing_yet script.names) script.lines in
+    let d = (declared_after script.names (nothing_yet script.names) script.lines).declared in
     let a = h.declared in
     let b = k.declared in
     let participants = a.participants ∙ sym b.participants in
     let objects = a.objects ∙ sym b.objects in
-    let graphs = rows-same script.names s.graphs h.draft.graphs k.draft.graphs a.graphs b.graphs in
+    let graphs = rows-same script.names d.graphs h.draft.graphs k.draft.graphs a.graphs b.graphs in
     let actions = a.actions ∙ sym b.actions in
     let plays = a.plays ∙ sym b.plays in
     let drills = a.drills ∙ sym b.drills in
