@@ -20,6 +20,7 @@ pub mod NumberTables
 pub mod OnePlan
 pub mod OrderKept
 pub mod PartsFit
+pub mod PartsNamed
 pub mod PlayLines
 pub mod PlaysKept
 pub mod RangesKept

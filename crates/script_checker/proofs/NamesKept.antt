@@ -54,7 +54,7 @@ not_among x (y ∷ xs) (suc i) d none l e = by (y == x) none (λ past. not_among
 -- ---- numbers of names
 
 -- the name of the number is one by the grammar, and leads back to it
-abbrev pub IsOwn : List (List ℕ) → (ℕ → List ℕ) → ℕ → Type 0
+abbrev IsOwn : List (List ℕ) → (ℕ → List ℕ) → ℕ → Type 0
 IsOwn names name_of n = (is_name (name_of n) ≡ true) × (number_in names (name_of n) ≡ n)
 
 -- such numbers, of which no two are the same
@@ -66,13 +66,13 @@ module _ (names : List (List ℕ)) (name_of : ℕ → List ℕ) where
   pub own_none : AreOwn names name_of []
   own_none = record { each = All-nil (IsOwn names name_of); differ = λ i j d l w. absurd (omega arith) }
 
-  pub own_push : (xs : List ℕ) (x : ℕ) → AreOwn names name_of xs → IsOwn names name_of x → is_among xs x ≡ false → AreOwn names name_of (xs ++ x ∷ [])
+  own_push : (xs : List ℕ) (x : ℕ) → AreOwn names name_of xs → IsOwn names name_of x → is_among xs x ≡ false → AreOwn names name_of (xs ++ x ∷ [])
   own_push xs x h own once = record {
     each = All-push (IsOwn names name_of) xs x h.each own;
     differ = all_pairs_push (λ a b. a ≢ b) xs x h.differ (λ i d l. not_among x xs i d (ltb-false (index_of x xs) (length xs) once) l);
   }
 
-  pub own_names : (xs : List ℕ) → AreOwn names name_of xs → AreOwnNames (map name_of xs)
+  own_names : (xs : List ℕ) → AreOwn names name_of xs → AreOwnNames (map name_of xs)
   own_names xs h = record {
     spelled = All-map (λ name. is_name name ≡ true) name_of xs (λ i d l. (h.each i d l).0);
     differ = λ i j d l w e.

@@ -1,6 +1,5 @@
 -- A script has one plan: what its lines declare leaves no part of a draft open.
 use Rattle.std.proofs.Common.{◌≡◌, ℕ, List, [], ◌∷◌, refl, sym, ap, ◌∙◌}
-use Rattle.place_plan.specs.declared.drafts.draft.Draft.{Draft}
 use Rattle.place_plan.specs.declared.drafts.draft_rows.GraphRow.{GraphRow}
 use Rattle.place_plan.specs.Plans.PlanValue.{Plan}
 use Rattle.place_plan.specs.Plans.Unfolding.{plan_of}
@@ -8,7 +7,7 @@ use Rattle.action_script.specs.Forms.ScriptValue.{Script}
 use Rattle.exception_graph.proofs.GraphCauses.{order-same}
 use Rattle.script_checker.specs.declared.open_graph.DeclaredGraph.{DeclaredGraph}
 use Rattle.script_checker.specs.DeclaredSoFar.{nothing_yet}
-use Rattle.script_checker.specs.Compiled.{declared_after, IsRowOf, AreRowsOf, IsDraftOf, IsPlanOf}
+use Rattle.script_checker.specs.Compiled.{declared_after, IsRowOf, AreRowsOf, IsPlanOf}
 
 module _ (names : List (List ℕ)) where
   row-same : (graph : DeclaredGraph) (row other : GraphRow) → IsRowOf names graph row → IsRowOf names graph other → row ≡ other
