@@ -2,18 +2,16 @@
 use Rattle.std.proofs.Common.{◌≡◌, ℕ, ℤ, ◌==◌, cond, Bool, true, false, List, [], ◌∷◌, ◌++◌, filter, reverse, Option, Some, None, refl, sym, ap, ◌∙◌, subst, append_assoc, append-nil}
 use Rattle.std.specs.List.{AllByRecursion}
 use Rattle.std.proofs.lemmas.Bool.{eq-eqb, false≢true}
-use mathlib.Core.List.{IsPrefix}
 use Rattle.caa_base.specs.Written.Mixing.{Worked}
 use Rattle.caa_base.specs.declared.written.entry.Entry.{Entry}
-use Rattle.caa_base.specs.declared.written.entry.Kind.TheVariants as kind
 use Rattle.place_plan.specs.Plans.PlanValue.{Plan}
 use Rattle.place_plan.specs.RulesOfJournals.Rules.{MayFollow}
 use Rattle.place_plan.specs.RulesOfJournals.Machine.{Answers, Did, work_entry}
 use Rattle.place_plan.specs.declared.rules.machine.Answer.{Answer}
 use Rattle.place_plan.specs.declared.rules.machine.Answer.TheVariants as answer
 use Rattle.action_manager.specs.OwnEntries.{Journal, entries_by}
-use Rattle.action_manager.specs.Stepping.{GrowsWithout, Steps, Looks}
-use Rattle.role_driver.specs.Working.{asks_for_work, IsTold, IsToldOf, GoesOnWith, TellsWork, TellsOwnWork, TakesWholeTurn}
+use Rattle.action_manager.specs.Stepping.{GrowsWithout, Steps}
+use Rattle.role_driver.specs.Working.{asks_for_work, IsTold, IsToldOf, GoesOnWith, TellsWork, TellsOwnWork}
 use Rattle.shared_views.proofs.Beginnings.{begins_further}
 use Rattle.role_driver.proofs.SameWork.{none_added, work_place, work_stays}
 
