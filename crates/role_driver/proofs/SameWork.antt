@@ -1,5 +1,5 @@
 -- The work of a participant stays what it is while only others make entries.
-use Rattle.std.proofs.Common.{◌≡◌, ◌≢◌, ℕ, ℤ, pos, ◌==◌, suc, cond, Bool, true, false, ◌&&◌, List, [], ◌∷◌, ◌++◌, reverse, filter, slice_get, Option, Some, None, refl, sym, ap, ◌∙◌, subst, append_assoc, append-nil}
+use Rattle.std.proofs.Common.{◌≡◌, ℕ, ℤ, pos, ◌==◌, suc, cond, Bool, true, false, ◌&&◌, List, [], ◌∷◌, ◌++◌, reverse, filter, slice_get, Option, Some, None, refl, sym, ap, ◌∙◌, subst, append_assoc, append-nil}
 use Rattle.std.proofs.lemmas.List.{append_cancel_left, reverse-append}
 use Rattle.std.proofs.lemmas.List.Elements.{filter-append}
 use Rattle.caa_base.specs.Written.Mixing.{Worked}

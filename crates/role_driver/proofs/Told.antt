@@ -2,18 +2,16 @@
 use Rattle.std.proofs.Common.{◌≡◌, ℕ, ℤ, ◌==◌, cond, Bool, true, false, List, [], ◌∷◌, ◌++◌, filter, reverse, Option, Some, None, refl, sym, ap, ◌∙◌, subst, append_assoc, append-nil}
 use Rattle.std.specs.List.{AllByRecursion}
 use Rattle.std.proofs.lemmas.Bool.{eq-eqb, false≢true}
-use mathlib.Core.List.{IsPrefix}
 use Rattle.caa_base.specs.Written.Mixing.{Worked}
 use Rattle.caa_base.specs.declared.written.entry.Entry.{Entry}
-use Rattle.caa_base.specs.declared.written.entry.Kind.TheVariants as kind
 use Rattle.place_plan.specs.Plans.PlanValue.{Plan}
 use Rattle.place_plan.specs.RulesOfJournals.Rules.{MayFollow}
 use Rattle.place_plan.specs.RulesOfJournals.Machine.{Answers, Did, work_entry}
 use Rattle.place_plan.specs.declared.rules.machine.Answer.{Answer}
 use Rattle.place_plan.specs.declared.rules.machine.Answer.TheVariants as answer
 use Rattle.action_manager.specs.OwnEntries.{Journal, entries_by}
-use Rattle.action_manager.specs.Stepping.{GrowsWithout, Steps, Looks}
-use Rattle.role_driver.specs.Working.{asks_for_work, IsTold, IsToldOf, GoesOnWith, TellsWork, TellsOwnWork, TakesWholeTurn}
+use Rattle.action_manager.specs.Stepping.{GrowsWithout, Steps}
+use Rattle.role_driver.specs.Working.{asks_for_work, IsTold, IsToldOf, GoesOnWith, TellsWork, TellsOwnWork}
 use Rattle.shared_views.proofs.Beginnings.{begins_further}
 use Rattle.role_driver.proofs.SameWork.{none_added, work_place, work_stays}
 
@@ -37,6 +35,18 @@ goes_nowhere P old new e = record { more = []; goes_on = append-nil old ∙ sym 
 pub goes_one : (P : Entry → Type 0) (old new : List Entry) (e : Entry) → new ≡ old ++ e ∷ [] → P e → GoesOnWith P old new
 goes_one P old new e added h = record { more = e ∷ []; goes_on = sym added; each = (h, tt) }
 
+-- what an answer adds, if anything
+answered : (P : Entry → Type 0) (plan : Plan) (old new : Journal) (t : ℕ) (hint : Option Worked) (a : Answer) → Answers plan old new t hint a
+    → ((e : Entry) → Did plan old new t hint e → P e) → GoesOnWith P old new
+answered P plan old new t hint (answer.Did e) h each = goes_one P old new e h.added (each e h)
+answered P plan old new t hint (answer.Work p rounds from) h each = goes_nowhere P old new h.kept
+answered P plan old new t hint answer.NotYet h each = goes_nowhere P old new h.0.kept
+answered P plan old new t hint answer.Over h each = goes_nowhere P old new h.0.kept
+
+-- a journal that stays has no more of anybody
+stays : (old : Journal) (t : ℕ) → GrowsWithout old old t
+stays old t = record { begins = ([], append-nil old); alone = refl }
+
 module _ (was_told : ℕ → ℕ → Type 0) where
   -- entries of others alone
   others_each : (t : ℕ) (more : List Entry) → filter (λ (e : Entry). e.by == t) more ≡ [] → AllByRecursion (IsToldOf was_told t) more
@@ -55,35 +65,41 @@ module _ (was_told : ℕ → ℕ → Type 0) where
     each = others_each t h.begins.0 (none_added t old h.begins.0 (ap (entries_by t) h.begins.1 ∙ h.alone));
   }
 
-  -- an entry of t that is no work without a hint
-  pub unhinted : (plan : Plan) (old new : Journal) (t : ℕ) (a : Answer) → Answers plan old new t None a → TellsOwnWork was_told t old new
-  unhinted plan old new t (answer.Did e) h = goes_one (IsToldOf was_told t) old new e h.added (λ own is. absurd (h.hinted is))
-  unhinted plan old new t (answer.Work p rounds from) h = goes_nowhere (IsToldOf was_told t) old new h.kept
-  unhinted plan old new t answer.NotYet h = goes_nowhere (IsToldOf was_told t) old new h.0.kept
-  unhinted plan old new t answer.Over h = goes_nowhere (IsToldOf was_told t) old new h.0.kept
+  -- an entry that is made without a hint is no work
+  no_work : (plan : Plan) (old new : Journal) (t : ℕ) (e : Entry) → Did plan old new t None e → IsTold was_told e
+  no_work plan old new t e did is = absurd (did.hinted is)
 
   -- a step without a hint
   pub step_told : (plan : Plan) (old new : Journal) (t : ℕ) (a : Answer) → Steps plan old new t None a → TellsOwnWork was_told t old new
   step_told plan old new t a h =
-      goes_further (IsToldOf was_told t) old h.before new (others_go_on old h.before t h.grown) (unhinted plan h.before new t a h.answers)
+      goes_further (IsToldOf was_told t) old h.before new (others_go_on old h.before t h.grown)
+      (answered (IsToldOf was_told t) plan h.before new t None a h.answers (λ e did own. no_work plan h.before new t e did))
 
-  -- an entry of t whose work, if it is one, is in a place of which the gate was told
-  hinted : (plan : Plan) (before new : Journal) (t : ℕ) (hint : Option Worked) (a : Answer) → Answers plan before new t hint a
-      → ((e : Entry) → Did plan before new t hint e → e.kind ≡ kind.Work → was_told e.by e.place) → TellsOwnWork was_told t before new
-  hinted plan before new t hint (answer.Did e) h told = goes_one (IsToldOf was_told t) before new e h.added (λ own is. told e h is)
-  hinted plan before new t hint (answer.Work p rounds from) h told = goes_nowhere (IsToldOf was_told t) before new h.kept
-  hinted plan before new t hint answer.NotYet h told = goes_nowhere (IsToldOf was_told t) before new h.0.kept
-  hinted plan before new t hint answer.Over h told = goes_nowhere (IsToldOf was_told t) before new h.0.kept
+  -- where work was asked for, and the gate was told of its place, it was told of the work
+  work_is_told : (plan : Plan) (old before new : Journal) (t p k : ℕ) (from : ℤ) (hint : Option Worked)
+      → MayFollow plan (reverse old) (work_entry p t k from) → was_told t p → GrowsWithout old before t
+      → (e : Entry) → Did plan before new t hint e → IsTold was_told e
+  work_is_told plan old before new t p k from hint asked told alone e did is =
+      subst (λ q. was_told e.by q) (sym (work_place plan old before t p k from e asked alone did.may is did.own))
+      (subst (λ b. was_told b p) (sym did.own) told)
+
+  -- an answer that asks for work, and then one with a hint
+  pub hinted : (plan : Plan) (old mid new : Journal) (t p k : ℕ) (from : ℤ) (hint : Option Worked) (a : Answer)
+      → Answers plan old mid t None (answer.Work p k from) → was_told t p → Answers plan mid new t hint a → TellsWork was_told old new
+  hinted plan old mid new t p k from hint a first told second =
+      let asked = subst (λ xs. MayFollow plan (reverse xs) (work_entry p t k from)) (sym first.kept) first.may in
+      goes_further (IsTold was_told) old mid new (goes_nowhere (IsTold was_told) old mid first.kept)
+      (answered (IsTold was_told) plan mid new t hint a second (work_is_told plan mid mid new t p k from hint asked told (stays mid t)))
 
   -- a step after which work was asked for, and then one with a hint
   pub work_told : (plan : Plan) (old mid new : Journal) (t p k : ℕ) (from : ℤ) (hint : Option Worked) (a : Answer)
       → Steps plan old mid t None (answer.Work p k from) → was_told t p → Steps plan mid new t hint a → TellsOwnWork was_told t old new
   work_told plan old mid new t p k from hint a first told second =
       let asked = subst (λ xs. MayFollow plan (reverse xs) (work_entry p t k from)) (sym first.answers.kept) first.answers.may in
-      let both = goes_further (IsToldOf was_told t) mid second.before new (others_go_on mid second.before t second.grown)
-      (hinted plan second.before new t hint a second.answers (λ e did is.
-      subst (λ q. was_told e.by q) (sym (work_place plan mid second.before t p k from e asked second.grown did.may is did.own))
-      (subst (λ b. was_told b p) (sym did.own) told))) in
+      let mine = work_is_told plan mid second.before new t p k from hint asked told second.grown in
+      let both =
+      goes_further (IsToldOf was_told t) mid second.before new (others_go_on mid second.before t second.grown)
+      (answered (IsToldOf was_told t) plan second.before new t hint a second.answers (λ e did own. mine e did)) in
       goes_further (IsToldOf was_told t) old mid new (step_told plan old mid t (answer.Work p k from) first) both
 
 -- two steps, of which the first made no entry, are one

@@ -1,4 +1,4 @@
-use Rattle.std.proofs.Common.{◌≡◌, ◌∙◌, None, Some, arith, of_z, subst, sym, to_z, w64}
+use Rattle.std.proofs.Common.{◌≡◌, ◌∙◌, None, Some, arith, of_z, subst, to_z, w64}
 use Rattle.std.proofs.lemmas.Int.{ints}
 use Rattle.action_manager.specs.Managers.{plan_in}
 use Rattle.action_manager.specs.Seats.{participant_of, seen_by}
