@@ -4,8 +4,11 @@ pub mod Ascending
 pub mod Distinct
 pub mod MadeWords
 pub mod Naming
+pub mod NumbersApart
+pub mod OneGraph
 pub mod OwnNames
 pub mod Refusing
 pub mod Rooms
 pub mod Scripted
+pub mod SetsDeclared
 pub mod Staged

@@ -1,4 +1,5 @@
 pub mod SetNames
 pub mod Refusals
 pub mod MadeScripts
+pub mod MadeGraphs
 pub mod Answers

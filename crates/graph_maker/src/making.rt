@@ -4,6 +4,7 @@ ghost use Rattle.graph_maker.specs.SetNames.{set_name};
 ghost use Rattle.graph_maker.specs.declared.made_error.MadeCause.TheVariants as cause;
 ghost use Rattle.graph_maker.specs.Refusals.{exceptions_in, graph_of, refusal_of};
 ghost use Rattle.graph_maker.specs.MadeScripts.{exception_names, primitive_names, script_of_sets, HaveOwnNames};
+ghost use Rattle.graph_maker.specs.MadeGraphs.{DeclaresSets};
 ghost use Rattle.graph_maker.specs.Answers.{IsAnswer};
 
 use crate::forms::{graph_script, push_made, push_named};
@@ -67,6 +68,7 @@ fn script_of_sets(
     ensures value { IfOk result (λ made. made ≡ script_of_sets script.now most) }
     ensures own_names { IfOk result (λ made.
         HaveOwnNames (codes "universal" ∷ exception_names (primitive_names script.now) most)) }
+    ensures declares { IfOk result (λ made. DeclaresSets script.now most (script_of_sets script.now most)) }
 {
     script.are_script();
     let primitives = exceptions.len() as u32;
@@ -85,7 +87,8 @@ fn script_of_sets(
 /// The script of the graph of all sets of at most `most` of the exceptions that a script declares.
 ///
 /// The script has one `graph` line, at least one `exception` line, `end`, and nothing more. Each of its exceptions keeps its name in
-/// the made script, and a larger set has a made name: `s`, and behind a dash the number of each member.
+/// the made script, and a larger set has a made name: `s`, and behind a dash the number of each member. The checks accept the made
+/// script, and its plan has the graph of sets.
 ///
 /// A line that isn't of this shape is refused before all others, as `BadLine`. Else the first line is refused that has a cause: an
 /// exception whose name is declared already, is `universal` or is made for a set, as `Twice`; and as `Limit` an exception past the
@@ -96,6 +99,7 @@ pub fn make_script(alloc: Global, script: &Script, most: u32) -> Result<Script, 
     ensures value { IsAnswer script.now most result }
     ensures own_names { IfOk result (λ made.
         HaveOwnNames (codes "universal" ∷ exception_names (primitive_names script.now) most)) }
+    ensures declares { IfOk result (λ made. DeclaresSets script.now most made) }
 {
     let Ok(exceptions) = exceptions_in(alloc, script) else {
         return Err(wanting());

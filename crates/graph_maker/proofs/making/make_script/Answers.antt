@@ -1,5 +1,6 @@
-use Rattle.std.proofs.Common.{sym, ◌∙◌}
+use Rattle.std.proofs.Common.{sym, subst, ◌∙◌}
 use Rattle.graph_maker.specs.Answers.IsAnswer.{made, refused, wanting}
+use Rattle.graph_maker.specs.MadeGraphs.{DeclaresSets}
 use Rattle.graph_maker.proofs.making.make_script.Goals as goal
 
 pub returns-in_default-clause-value : goal.returns-in_default-clause-value
@@ -10,6 +11,10 @@ returns-in-Some-clause-value c = refused (sym c.refusal_of.ensures ∙ c.in-Some
 
 pub returns-in-Ok-script_of_sets-clause-value : goal.returns-in-Ok-script_of_sets-clause-value
 returns-in-Ok-script_of_sets-clause-value c = made (sym c.refusal_of.ensures ∙ c.in_default-refusal_of.is) c.in-Ok-script_of_sets.ensures.value
+
+pub returns-in-Ok-script_of_sets-clause-declares : goal.returns-in-Ok-script_of_sets-clause-declares
+returns-in-Ok-script_of_sets-clause-declares c =
+    subst (DeclaresSets c.args.script.now c.args.most) (sym c.in-Ok-script_of_sets.ensures.value) c.in-Ok-script_of_sets.ensures.declares
 
 pub returns-clause-value : goal.returns-clause-value
 returns-clause-value c = wanting c.wanting-in-Err.ensures

@@ -7,6 +7,7 @@ use Rattle.graph_maker.specs.MadeScripts.{exception_names, made_script, words_of
 use Rattle.graph_maker.specs.SetNames.{set_name}
 use Rattle.graph_maker.proofs.MadeWords.{few_pairs, has_room, length-words, words_are, words_named}
 use Rattle.graph_maker.proofs.OwnNames.{own_names}
+use Rattle.graph_maker.proofs.SetsDeclared.{declares_sets}
 use Rattle.graph_maker.proofs.making.script_of_sets.Goals as goal
 
 pub overflow_cast-primitives : goal.overflow_cast-primitives
@@ -142,6 +143,14 @@ returns-clause-own_names c =
     let many = fits.exceptions in
     let less = fits.primitives in
     own_names c.args.script.now c.args.most c.are_script.ensures c.requires.accepted (omega (arith, many, less)) c.requires.some_member
+
+pub returns-clause-declares : goal.returns-clause-declares
+returns-clause-declares c =
+    let fits = has_room c.args.script.now c.args.most c.requires.some_member c.requires.accepted in
+    let many = fits.exceptions in
+    let less = fits.primitives in
+    declares_sets c.args.script.now c.args.most fits
+    (own_names c.args.script.now c.args.most c.are_script.ensures c.requires.accepted (omega (arith, many, less)) c.requires.some_member)
 
 pub returns-clause-value : goal.returns-clause-value
 returns-clause-value c =
