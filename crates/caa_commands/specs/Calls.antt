@@ -97,12 +97,6 @@ AuditComesTo plan bytes (finding.Refused refusal) left = HasTooManyEntries plan 
 AuditComesTo plan bytes finding.OutOfMemory left = IsIdle left
 AuditComesTo plan bytes _ left = ⊥
 
--- a command that is served over a plan; `check` only tells how large it is, and `graph` needs none
-abbrev pub NeedsPlan : Command → Type 0
-NeedsPlan command.Check = ⊥
-NeedsPlan (command.Graph most) = ⊥
-NeedsPlan _ = Unit {0}
-
 -- what each command comes to over a plan
 abbrev pub PlanComesTo : {P : Type 0} → Command → Plan → List ℕ → Finding → Left P → Type 0
 PlanComesTo command.Check plan bytes found left = CheckComesTo plan found left
@@ -132,9 +126,9 @@ IsNotServed command bytes finding.OutOfMemory left = IsIdle left
 IsNotServed command bytes _ left = ⊥
 
 -- `graph` makes a script of sets and prints it
-pub record MakesGraph {P : Type 0} (command : Command) (bytes : List ℕ) (found : Finding) (left : Left P) : Type 0 where
+pub record MakesGraph {P : Type 0} (given : Command) (bytes : List ℕ) (found : Finding) (left : Left P) : Type 0 where
   pub most : ℕ
-  pub asked : command ≡ command.Graph most
+  pub asked : given ≡ command.Graph most
   pub prints : Prints (IsGraphText most bytes) found left
 
 -- the script is served, or it isn't, or a graph is made of it
