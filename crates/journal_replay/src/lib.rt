@@ -5,5 +5,6 @@ pub mod answer;
 pub mod audit;
 mod duty;
 pub mod hall;
-mod look_back;
+pub mod look_back;
+pub mod records;
 pub mod rule;
