@@ -1,0 +1,2 @@
+mod seens;
+mod texts;
