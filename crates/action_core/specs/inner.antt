@@ -1,0 +1,4 @@
+-- Inner definitions, of what the tables keep: who reads the claims of the program need not believe them.
+pub mod KeptStages
+pub mod KeptPeople
+pub mod Asked

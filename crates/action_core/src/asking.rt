@@ -1,0 +1,6 @@
+//! What the rules ask of a past, answered by the tables.
+
+pub mod objects;
+pub mod recovering;
+pub mod steps;
+pub mod whereabouts;
