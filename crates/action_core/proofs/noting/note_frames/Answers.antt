@@ -1,5 +1,4 @@
-use Rattle.std.proofs.Common.{◌≡◌, ◌∙◌, ◌⊎◌, ◌∷◌, ◌<◌, ℤ, to_z, of_z, w64, arith, Bool, true, false, cond, List, Option, Some, None, reverse, length, is_none, refl, sym, ap, subst, inl, inr}
-use Rattle.caa_base.specs.declared.written.entry.Entry.{Entry}
+use Rattle.std.proofs.Common.{◌≡◌, ◌∙◌, ◌⊎◌, to_z, of_z, w64, arith, true, cond, Some, None, reverse, refl, sym, ap, subst, inl, inr}
 use Rattle.caa_base.specs.declared.written.entry.Kind.{Kind}
 use Rattle.caa_base.specs.declared.written.entry.Kind.TheVariants as kind
 use Rattle.std.proofs.lemmas.Int.{ints}

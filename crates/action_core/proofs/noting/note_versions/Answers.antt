@@ -1,6 +1,5 @@
-use Rattle.std.proofs.Common.{◌≡◌, ◌∙◌, ◌⊎◌, ◌∷◌, ◌<◌, ◌==◌, ◌&&◌, ◌||◌, Bool, true, false, not, to_z, of_z, w64, arith, List, reverse, length, refl, sym, ap, subst, inl, inr}
+use Rattle.std.proofs.Common.{◌≡◌, ◌⊎◌, ◌<◌, true, false, to_z, of_z, w64, arith, reverse, refl, sym, ap, subst, inl, inr}
 use Rattle.std.proofs.lemmas.Bool.{eq-eqb, ne_eqb}
-use Rattle.caa_base.specs.declared.written.entry.Entry.{Entry}
 use Rattle.caa_base.specs.declared.written.entry.Kind.{Kind}
 use Rattle.caa_base.specs.declared.written.entry.Kind.TheVariants as kind
 use Rattle.place_plan.specs.RulesOfJournals.Entries.{is_of}

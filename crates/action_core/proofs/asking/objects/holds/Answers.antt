@@ -1,4 +1,4 @@
-use Rattle.std.proofs.Common.{◌≡◌, ◌∙◌, refl, sym, ap}
+use Rattle.std.proofs.Common.{◌∙◌, ap}
 use Rattle.std.proofs.Common.{Some}
 use Rattle.caa_base.specs.Written.Lists.{same_option}
 use Rattle.action_core.proofs.asking.objects.holds.Goals as goal

@@ -1,4 +1,4 @@
-use Rattle.std.proofs.Common.{◌≡◌, ◌∙◌, refl, sym, ap}
+use Rattle.std.proofs.Common.{◌∙◌, ap}
 use Rattle.journal_laws.proofs.PlayablePlan.{is_playable}
 use Rattle.std.specs.List.{list_all}
 use Rattle.caa_base.specs.Written.Lists.{same_option}

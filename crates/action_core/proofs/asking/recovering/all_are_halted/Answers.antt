@@ -1,4 +1,4 @@
-use Rattle.std.proofs.Common.{◌≡◌, ◌∙◌, refl, sym, ap}
+use Rattle.std.proofs.Common.{◌∙◌}
 use Rattle.action_core.proofs.Answering.{all_halted_right}
 use Rattle.action_core.proofs.asking.recovering.all_are_halted.Goals as goal
 

@@ -1,4 +1,4 @@
-use Rattle.std.proofs.Common.{◌≡◌, ◌∙◌, refl, sym, ap}
+use Rattle.std.proofs.Common.{ap}
 use Rattle.action_core.specs.inner.Asked.{or_none}
 use Rattle.action_core.proofs.asking.steps.frame_kept.Goals as goal
 

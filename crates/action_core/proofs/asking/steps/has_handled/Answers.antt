@@ -1,4 +1,4 @@
-use Rattle.std.proofs.Common.{◌≡◌, ◌∙◌, refl, sym, ap}
+use Rattle.std.proofs.Common.{◌∙◌, ap}
 use Rattle.journal_laws.proofs.PlayablePlan.{is_playable}
 use Rattle.role_states.specs.declared.frame.Frame.{Frame}
 use Rattle.action_core.proofs.Answering.{handled_right}

@@ -1,8 +1,8 @@
-use Rattle.std.proofs.Common.{◌≡◌, ◌∙◌, refl, sym, ap}
+use Rattle.std.proofs.Common.{◌∙◌, ap}
 use Rattle.journal_laws.proofs.PlayablePlan.{is_playable}
 use Rattle.role_states.specs.declared.frame.Frame.{Frame}
 use Rattle.place_plan.specs.RulesOfJournals.Roles.{program_in}
-use Rattle.action_core.specs.inner.Asked.{frame_kept, handled_kept}
+use Rattle.action_core.specs.inner.Asked.{handled_kept}
 use Rattle.action_core.proofs.Answering.{exception_right}
 use Rattle.action_core.proofs.asking.steps.program_of.Goals as goal
 

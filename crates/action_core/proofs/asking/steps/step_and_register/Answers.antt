@@ -4,7 +4,7 @@ use Rattle.journal_laws.proofs.PlayablePlan.{is_playable}
 use Rattle.role_states.specs.declared.frame.Frame.{Frame}
 use Rattle.std.proofs.Common.{slice_get, ap₂}
 use Rattle.place_plan.specs.RulesOfJournals.Roles.{program_in}
-use Rattle.action_core.specs.inner.Asked.{frame_kept, handled_kept}
+use Rattle.action_core.specs.inner.Asked.{handled_kept}
 use Rattle.action_core.proofs.Answering.{next_right, register_right}
 use Rattle.action_core.proofs.asking.steps.step_and_register.Goals as goal
 

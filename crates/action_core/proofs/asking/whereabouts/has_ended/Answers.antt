@@ -1,4 +1,4 @@
-use Rattle.std.proofs.Common.{◌≡◌, ◌∙◌, refl, sym, ap}
+use Rattle.std.proofs.Common.{◌∙◌}
 use Rattle.action_core.proofs.Answering.{ended_right}
 use Rattle.action_core.proofs.asking.whereabouts.has_ended.Goals as goal
 

@@ -1,4 +1,4 @@
-use Rattle.std.proofs.Common.{◌≡◌, ◌∙◌, refl, sym, ap}
+use Rattle.std.proofs.Common.{◌∙◌}
 use Rattle.journal_laws.proofs.PlayablePlan.{is_playable}
 use Rattle.action_core.proofs.Answering.{inside_right}
 use Rattle.action_core.proofs.asking.whereabouts.inside.Goals as goal

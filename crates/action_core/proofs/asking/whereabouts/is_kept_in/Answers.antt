@@ -1,4 +1,4 @@
-use Rattle.std.proofs.Common.{◌≡◌, ◌∙◌, refl, sym, ap}
+use Rattle.std.proofs.Common.{ap}
 use Rattle.caa_base.specs.Written.Lists.{is_at}
 use Rattle.action_core.proofs.asking.whereabouts.is_kept_in.Goals as goal
 

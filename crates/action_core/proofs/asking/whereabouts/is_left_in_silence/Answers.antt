@@ -1,4 +1,4 @@
-use Rattle.std.proofs.Common.{◌≡◌, ◌∙◌}
+use Rattle.std.proofs.Common.{◌∙◌}
 use Rattle.action_core.proofs.Answering.{silence_right}
 use Rattle.action_core.proofs.asking.whereabouts.is_left_in_silence.Goals as goal
 

@@ -1,4 +1,4 @@
-use Rattle.std.proofs.Common.{◌≡◌, ◌∙◌, ◌&&◌, is_none, ap₂}
+use Rattle.std.proofs.Common.{◌∙◌, ◌&&◌, is_none, ap₂}
 use Rattle.journal_laws.proofs.PlayablePlan.{is_playable}
 use Rattle.action_core.proofs.Answering.{over_right}
 use Rattle.action_core.proofs.asking.whereabouts.is_over.Goals as goal

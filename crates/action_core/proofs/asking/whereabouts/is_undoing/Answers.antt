@@ -1,4 +1,4 @@
-use Rattle.std.proofs.Common.{◌≡◌, ◌∙◌, refl, sym, ap}
+use Rattle.std.proofs.Common.{◌∙◌, ap}
 use Rattle.action_core.specs.declared.stage.Stage.{Stage}
 use Rattle.action_core.proofs.asking.whereabouts.is_undoing.Goals as goal
 

@@ -1,4 +1,4 @@
-use Rattle.std.proofs.Common.{◌≡◌, ◌∙◌, ◌<◌, ◌≤◌, length, sym, arith}
+use Rattle.std.proofs.Common.{◌∙◌, ◌<◌, ◌≤◌, length, sym, arith}
 use Rattle.journal_laws.proofs.PlayablePlan.{is_playable}
 use Rattle.action_core.specs.inner.KeptPeople.{at}
 use Rattle.action_core.proofs.Answering.{no_next}

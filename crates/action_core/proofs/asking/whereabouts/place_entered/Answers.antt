@@ -1,4 +1,4 @@
-use Rattle.std.proofs.Common.{◌≡◌, ◌∙◌, refl, sym, ap}
+use Rattle.std.proofs.Common.{◌∙◌}
 use Rattle.journal_laws.proofs.PlayablePlan.{is_playable}
 use Rattle.action_core.proofs.Answering.{entered_right}
 use Rattle.action_core.proofs.asking.whereabouts.place_entered.Goals as goal

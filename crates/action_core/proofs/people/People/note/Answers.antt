@@ -1,4 +1,4 @@
-use Rattle.std.proofs.Common.{◌≡◌, ◌∙◌, ◌∷◌, ◌<◌, ℕ, suc, Bool, true, false, List, length, reverse, sym, ap, subst}
+use Rattle.std.proofs.Common.{◌≡◌, ◌∙◌, ◌∷◌, ◌<◌, ℕ, suc, Bool, true, false, List, length, reverse, sym, ap, subst, ◌+◌, arith}
 use Rattle.place_plan.specs.RulesOfJournals.Rules.{MayFollow}
 use Rattle.journal_laws.proofs.PlayablePlan.{is_playable}
 use Rattle.action_core.specs.declared.person.Person.{Person}
@@ -6,6 +6,9 @@ use Rattle.action_core.specs.inner.KeptPeople.{at, opens_play, refused_after, Is
 use Rattle.action_core.proofs.Makers.{maker_known}
 use Rattle.action_core.proofs.Turning.{opened_next, person_keeps}
 use Rattle.action_core.proofs.people.People.note.Goals as goal
+
+one_more : (n : ℕ) → n + 1 ≡ suc n
+one_more n = omega arith
 
 pub turn_after-turn-requires : goal.turn_after-turn-requires
 turn_after-turn-requires c = λ opens.
@@ -35,6 +38,6 @@ returns c =
     let new : Person = record { turn = c.turn_after-turn.result; refused = c.refused_after-refused.result } in
     subst (PersonOfEach plan (e ∷ past)) (sym c.set.ensures)
     (person_keeps plan playable past e c.args.self.now new c.requires.legal c.requires.may listed
-    (λ opens. subst (λ (p : Person). IsNext plan e.by (suc p.turn) new.turn) c.person-person.ensures (c.turn_after-turn.ensures.goes_on opens))
+    (λ opens. subst (λ (p : Person). IsNext plan e.by (suc p.turn) new.turn) c.person-person.ensures (subst (λ n. IsNext plan e.by n new.turn) (one_more c.person-person.result.turn) (c.turn_after-turn.ensures.goes_on opens)))
     (λ shut. c.turn_after-turn.ensures.stays shut ∙ ap (λ (p : Person). p.turn) c.person-person.ensures)
     (c.refused_after-refused.ensures ∙ ap (λ (p : Person). refused_after e p.refused) c.person-person.ensures) c.requires.stands)

@@ -1,4 +1,4 @@
-use Rattle.std.proofs.Common.{rules, ◌≡◌, ◌∙◌, ◌+◌, ◌++◌, ◌∷◌, [], false, length, sym, ap, subst, arith}
+use Rattle.std.proofs.Common.{rules, ◌≡◌, ◌∙◌, ◌+◌, ◌++◌, ◌∷◌, [], false, length, sym, ap, subst}
 use Rattle.std.proofs.lemmas.List.{length-append}
 use Rattle.action_core.specs.declared.person.Person.{Person}
 use Rattle.action_core.specs.inner.KeptPeople.{at, IsPersonOf}

@@ -1,10 +1,9 @@
-use Rattle.std.proofs.Common.{◌≡◌, ◌∙◌, ◌∷◌, ◌||◌, Bool, cond, Option, Some, sym, ap, subst}
+use Rattle.std.proofs.Common.{◌∙◌, ◌∷◌, ◌||◌, cond, Some, sym, ap, subst}
 use Rattle.caa_base.specs.declared.written.entry.Kind.TheVariants as kind
-use Rattle.caa_base.specs.declared.written.entry.Outcome.{Outcome}
 use Rattle.place_plan.specs.RulesOfJournals.Entries.{is_of}
 use Rattle.place_plan.specs.RulesOfJournals.Whereabouts.{outcome_at}
 use Rattle.action_core.specs.declared.stage.Stage.{Stage}
-use Rattle.action_core.specs.inner.KeptStages.{at, StageOfEach}
+use Rattle.action_core.specs.inner.KeptStages.{StageOfEach}
 use Rattle.action_core.proofs.Staging.{stage_keeps}
 use Rattle.action_core.proofs.stages.Stages.note.Goals as goal
 
