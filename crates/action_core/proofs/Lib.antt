@@ -8,3 +8,6 @@ pub mod Giving
 pub mod Valuing
 pub mod Entering
 pub mod Answering
+pub mod Spoken
+pub mod Carrying
+pub mod OneWay

@@ -2,3 +2,6 @@
 pub mod KeptStages
 pub mod KeptPeople
 pub mod Asked
+pub mod Raisings
+pub mod KeptPast
+pub mod Carried

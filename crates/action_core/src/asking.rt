@@ -1,5 +1,6 @@
 //! What the rules ask of a past, answered by the tables.
 
+pub mod leaving;
 pub mod objects;
 pub mod recovering;
 pub mod steps;

@@ -5,10 +5,13 @@ pub mod asking;
 pub mod noting;
 mod people;
 mod person;
+pub mod saying;
 mod stage;
 mod stages;
+mod tables;
 
 pub use people::People;
 pub use person::Person;
 pub use stage::Stage;
 pub use stages::Stages;
+pub use tables::Tables;
