@@ -1,8 +1,6 @@
 -- What each kind of entry raises, halts and resolves, and that it may.
-use Rattle.std.proofs.Common.{◌≡◌, ◌∙◌, ◌⊎◌, IfSome, ℕ, ◌==◌, ◌<◌, ◌≤◌, Bool, true, false, not, cond, ◌&&◌, ◌||◌, List, [], ◌∷◌, Option, Some, None, is_none, length, refl, sym, ap, subst, arith, inl, inr}
-use Rattle.std.specs.List.{All, list_all}
-use Rattle.std.proofs.lemmas.List.Elements.{All-head}
-use Rattle.std.proofs.lemmas.Bool.{cases_Bool, eqb-true, eq-eqb, both_ways, false_from_ne_true, false≢true, or_cases, and_parts}
+use Rattle.std.proofs.Common.{◌≡◌, ◌∙◌, ◌⊎◌, IfSome, ℕ, ◌==◌, ◌<◌, ◌≤◌, Bool, true, false, not, cond, ◌&&◌, List, [], ◌∷◌, Option, Some, None, is_none, length, refl, sym, ap, subst, arith, inl, inr}
+use Rattle.std.proofs.lemmas.Bool.{cases_Bool, eqb-true, eq-eqb, both_ways, false_from_ne_true, false≢true}
 use Rattle.caa_base.specs.declared.written.entry.Entry.{Entry}
 use Rattle.caa_base.specs.declared.written.entry.Kind.{Kind}
 use Rattle.caa_base.specs.declared.written.entry.Kind.TheVariants as kind
@@ -10,10 +8,8 @@ use Rattle.caa_base.specs.Written.Lists.{member, is_at}
 use Rattle.caa_base.proofs.ListLemmas.{all_at}
 use Rattle.place_plan.specs.Plans.PlanValue.{Plan}
 use Rattle.place_plan.specs.Plans.Places.{parent, roles_of, internal_of, fault_of}
-use Rattle.place_plan.specs.RulesOfJournals.Entries.{is_in}
 use Rattle.place_plan.specs.RulesOfJournals.Whereabouts.{inside}
-use Rattle.place_plan.specs.RulesOfJournals.Raising.{has_handled, raises_in, exceptions_raised, halts_in, is_halted, all_are_halted, is_raised, exception_resolved}
-use Rattle.place_plan.specs.RulesOfJournals.Rules.{Row, MayFollow}
+use Rattle.place_plan.specs.RulesOfJournals.Raising.{has_handled, raises_in, exceptions_raised, halts_in, is_halted, is_raised, exception_resolved}
 use Rattle.place_plan.specs.RulesOfJournals.Journals.{LegalPast}
 use Rattle.place_plan.proofs.OnJournals.EntryKinds.{of_kind}
 use Rattle.journal_laws.proofs.Playable.{IsPlayable}
@@ -23,7 +19,7 @@ use Rattle.journal_laws.proofs.Raised.{parent_round}
 use Rattle.journal_laws.proofs.Ranges.{place_known, carried_in_range}
 use Rattle.caa_base.specs.Written.Lists.{is_empty}
 use Rattle.place_plan.specs.RulesOfJournals.Rules.{MayPut, MayLeave, Names, exception_carried}
-use Rattle.cover_table.specs.Cover.{has_bit, CoverOrder, IsLeastCover, IsSound}
+use Rattle.cover_table.specs.Cover.{CoverOrder, IsLeastCover, IsSound}
 use Rattle.resolution_core.specs.declared.recovery.Recovery.{Recovery}
 use Rattle.core_words.specs.Joining.{IsCoverOf}
 use Rattle.resolution_core.specs.Recoveries.{at, IsRunning}

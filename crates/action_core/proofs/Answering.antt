@@ -1,7 +1,7 @@
 -- What the tables answer is what the definitions say.
-use Rattle.std.proofs.Common.{◌≡◌, ◌∙◌, ◌⊎◌, ℕ, ℤ, ◌==◌, ◌<◌, ◌≤◌, Bool, true, false, not, cond, ◌&&◌, ◌||◌, List, [], ◌∷◌, Option, Some, None, is_none, is_some, length, slice_get, slice_index_or, refl, sym, ap, ap₂, subst, arith, inl, inr}
+use Rattle.std.proofs.Common.{◌≡◌, ◌∙◌, ℕ, ◌==◌, ◌<◌, ◌≤◌, Bool, true, false, not, cond, ◌&&◌, ◌||◌, List, [], ◌∷◌, Option, Some, None, is_none, is_some, length, slice_get, refl, sym, ap, ap₂, arith, inl, inr}
 use Rattle.std.specs.List.{list_any, list_all}
-use Rattle.std.proofs.lemmas.Bool.{cases_Bool, cases_lt, eqb-true, eq-eqb, both_ways, false_from_ne_true, false≢true, or_left, or_right, ne_eqb}
+use Rattle.std.proofs.lemmas.Bool.{cases_lt, eqb-true, eq-eqb, false≢true, or_left, or_right}
 use Rattle.cover_table.specs.Cover.{has_bit}
 use Rattle.caa_base.specs.declared.written.entry.Entry.{Entry}
 use Rattle.caa_base.specs.declared.written.entry.Kind.TheVariants as kind
@@ -13,10 +13,10 @@ use Rattle.place_plan.specs.declared.drafts.draft_rows.Step.TheVariants as step
 use Rattle.place_plan.specs.Plans.PlanValue.{Plan}
 use Rattle.place_plan.specs.Plans.Places.{parent, roles_of, objects_of, uses, alternates_of, next_alternate, plays_of}
 use Rattle.place_plan.specs.RulesOfJournals.Entries.{has_by, is_by, is_in, newest}
-use Rattle.place_plan.specs.RulesOfJournals.Whereabouts.{inside, is_inside, all_are_inside, has_started, has_ended, is_undoing, is_undone, is_left_in_silence, is_live, outcome_at}
-use Rattle.place_plan.specs.RulesOfJournals.Raising.{has_handled, is_halted, all_are_halted, is_calm, exception_resolved, exception_handled}
-use Rattle.place_plan.specs.RulesOfJournals.Objects.{holder_of, value_of, objects_are_ready, is_tried, next_restore}
-use Rattle.place_plan.specs.RulesOfJournals.Roles.{position, register, next_step, next_play, is_over, program_in, program_of}
+use Rattle.place_plan.specs.RulesOfJournals.Whereabouts.{inside, is_inside, all_are_inside, has_ended, is_undoing, is_undone, is_left_in_silence, is_live}
+use Rattle.place_plan.specs.RulesOfJournals.Raising.{has_handled, is_halted, all_are_halted, is_calm, exception_handled}
+use Rattle.place_plan.specs.RulesOfJournals.Objects.{holder_of, objects_are_ready, is_tried, next_restore}
+use Rattle.place_plan.specs.RulesOfJournals.Roles.{position, register, next_step, next_play, is_over, program_in}
 use Rattle.place_plan.specs.RulesOfJournals.Journals.{LegalPast}
 use Rattle.place_plan.proofs.OnPlans.Passing.{past_end}
 use Rattle.place_plan.proofs.OnPlans.PlaysRise.{plays_in}
@@ -38,10 +38,7 @@ use Rattle.object_versions.specs.inner.KeptVersions.{at as version_at, Stands as
 use Rattle.action_core.specs.declared.stage.Stage.{Stage}
 use Rattle.action_core.specs.inner.Asked.{place_of, place_kept, is_kept_in, or_none, frame_kept, handled_kept}
 use Rattle.action_core.specs.inner.KeptStages.{at as stage_at, outcome_told, has_ended_by, is_undone_kept, StageOfEach}
-use Rattle.action_core.specs.declared.person.Person.{Person}
-use Rattle.action_core.specs.inner.KeptPeople.{at as person_at, PersonOfEach}
 use Rattle.action_core.proofs.Entering.{same_first, entered_first}
-use Rattle.action_core.proofs.Turning.{turn_next}
 
 -- ---- tests over lists
 

@@ -1,12 +1,12 @@
 -- Which alternate is entered: the first that hasn't ended.
-use Rattle.std.proofs.Common.{◌≡◌, ◌∙◌, ℕ, ◌==◌, Bool, true, false, List, [], ◌∷◌, Option, Some, None, refl, sym, ap}
+use Rattle.std.proofs.Common.{◌≡◌, ◌∙◌, ℕ, ◌==◌, Bool, true, false, List, [], ◌∷◌, Some, refl, sym, ap}
 use Rattle.std.proofs.lemmas.Bool.{eq-eqb, or_left, or_right}
 use Rattle.caa_base.specs.declared.written.entry.Entry.{Entry}
 use Rattle.caa_base.specs.declared.written.entry.Kind.TheVariants as kind
 use Rattle.caa_base.specs.Written.Lists.{member, first_not, first_of}
 use Rattle.place_plan.specs.declared.drafts.draft_rows.Step.TheVariants as step
 use Rattle.place_plan.specs.Plans.PlanValue.{Plan}
-use Rattle.place_plan.specs.Plans.Places.{around, parent, alternates_of}
+use Rattle.place_plan.specs.Plans.Places.{parent, alternates_of}
 use Rattle.place_plan.specs.RulesOfJournals.Entries.{has_by}
 use Rattle.place_plan.specs.RulesOfJournals.Whereabouts.{inside, has_ended}
 use Rattle.place_plan.specs.RulesOfJournals.Raising.{is_calm, exception_handled}

@@ -1,32 +1,28 @@
 -- What arrivals, steps, handlers and leaves find of the frames of their maker, by the rules.
-use Rattle.std.proofs.Common.{◌≡◌, ◌∙◌, ◌⊎◌, ℕ, ℤ, pos, suc, zero, ◌+◌, ◌-◌, ◌^◌, ◌==◌, ◌<◌, ◌≤◌, Bool, true, false, not, cond, ◌&&◌, ◌||◌, List, [], ◌∷◌, Option, Some, None, IfSome, length, map, is_none, slice_get, refl, sym, ap, subst, arith, inl, inr}
-use Rattle.std.proofs.lemmas.Bool.{cases_Bool, eqb-true, both_ways, false_from_ne_true, false≢true, and_parts, or_right}
+use Rattle.std.proofs.Common.{◌≡◌, ◌∙◌, ℕ, ℤ, suc, zero, ◌-◌, ◌^◌, ◌<◌, ◌≤◌, Bool, true, false, List, [], ◌∷◌, Option, Some, None, IfSome, length, map, is_none, slice_get, refl, sym, ap, subst, arith, inl, inr}
+use Rattle.std.proofs.lemmas.Bool.{eqb-true, both_ways, false_from_ne_true, false≢true}
 use Rattle.caa_base.specs.declared.written.entry.Entry.{Entry}
 use Rattle.caa_base.specs.declared.written.entry.Kind.{Kind}
 use Rattle.caa_base.specs.declared.written.entry.Kind.TheVariants as kind
 use Rattle.caa_base.specs.Written.Limits.{most_depth, most_steps}
-use Rattle.caa_base.specs.Written.Lists.{member, is_at, first_of}
-use Rattle.caa_base.proofs.ListLemmas.{at_same}
+use Rattle.caa_base.specs.Written.Lists.{first_of}
 use Rattle.place_plan.specs.declared.drafts.draft_rows.Step.{Step}
 use Rattle.place_plan.specs.declared.drafts.draft_rows.Step.TheVariants as step
 use Rattle.place_plan.specs.Plans.PlanValue.{Plan}
-use Rattle.place_plan.specs.Plans.Places.{around, parent, is_within, nest_number}
+use Rattle.place_plan.specs.Plans.Places.{around, parent, nest_number}
 use Rattle.place_plan.specs.Plans.Closed.{IsClosed}
-use Rattle.place_plan.specs.RulesOfJournals.Entries.{has_by, is_by}
-use Rattle.place_plan.specs.RulesOfJournals.Whereabouts.{inside, is_left_in_silence}
+use Rattle.place_plan.specs.RulesOfJournals.Whereabouts.{inside}
 use Rattle.place_plan.specs.RulesOfJournals.Raising.{has_handled, exception_handled}
-use Rattle.place_plan.specs.RulesOfJournals.Roles.{position, register, advances, gives_value, next_step, program_of}
-use Rattle.place_plan.specs.RulesOfJournals.Rules.{Row, MayArrive, MayLeave, MayFollow, put_of, is_check}
+use Rattle.place_plan.specs.RulesOfJournals.Roles.{position, register, next_step, program_of}
+use Rattle.place_plan.specs.RulesOfJournals.Rules.{Row, MayArrive, MayFollow, put_of, is_check}
 use Rattle.place_plan.specs.RulesOfJournals.Journals.{LegalPast}
-use Rattle.place_plan.proofs.OnJournals.EntryKinds.{of_kind, both_same}
+use Rattle.place_plan.proofs.OnJournals.EntryKinds.{of_kind}
 use Rattle.place_plan.proofs.OnPlans.SmallParts.{deep, programs_short}
 use Rattle.journal_laws.proofs.Playable.{IsTree, IsPlayable}
-use Rattle.journal_laws.proofs.Core.{PassedEnter}
 use Rattle.journal_laws.proofs.PlayablePlan.{is_playable}
-use Rattle.journal_laws.proofs.Tree.{arrives_in, in_within}
+use Rattle.journal_laws.proofs.Tree.{arrives_in}
 use Rattle.journal_laws.proofs.Raised.{parent_round, raises}
-use Rattle.journal_laws.proofs.Innermost.{stays_within}
-use Rattle.journal_laws.proofs.Arrivals.{fresh, begins_play, next_has, inside_arrived, inside_not_left, stays_arrived}
+use Rattle.journal_laws.proofs.Arrivals.{fresh, begins_play, next_has, inside_arrived, inside_not_left}
 use Rattle.journal_laws.proofs.Visited.{visits}
 use Rattle.action_core.proofs.Blank.{blank}
 use Rattle.role_states.specs.declared.frame.Frame.{Frame}

@@ -1,23 +1,20 @@
 -- Which verdicts count, after one entry more: all are dropped as something is raised in the place for the first time.
-use Rattle.std.proofs.Common.{◌≡◌, ◌∙◌, ◌⊎◌, ℕ, ◌==◌, Bool, true, false, not, cond, ◌&&◌, ◌||◌, List, [], ◌∷◌, ◌++◌, Option, Some, None, MatchOption, refl, sym, ap, subst, inl, inr}
-use Rattle.std.proofs.lemmas.Bool.{cases_Bool, eqb-true, both_ways, false_from_ne_true, false≢true}
+use Rattle.std.proofs.Common.{◌≡◌, ◌∙◌, ℕ, ◌==◌, Bool, true, false, not, cond, ◌&&◌, ◌||◌, List, [], ◌∷◌, ◌++◌, Option, Some, None, MatchOption, refl, sym, subst, inl, inr}
+use Rattle.std.proofs.lemmas.Bool.{cases_Bool, eqb-true, both_ways, false_from_ne_true}
 use Rattle.caa_base.specs.declared.written.entry.Entry.{Entry}
 use Rattle.caa_base.specs.declared.written.entry.Kind.{Kind}
 use Rattle.caa_base.specs.declared.written.entry.Kind.TheVariants as kind
-use Rattle.caa_base.specs.declared.written.entry.Verdict.{Verdict}
-use Rattle.caa_base.specs.declared.written.entry.Verdict.TheVariants as verdict
 use Rattle.caa_base.specs.Written.Lists.{is_empty}
 use Rattle.place_plan.specs.Plans.PlanValue.{Plan}
 use Rattle.place_plan.specs.RulesOfJournals.Entries.{has, has_by, is_by, is_in}
-use Rattle.place_plan.specs.RulesOfJournals.Raising.{raises_in, exceptions_raised, is_raised, is_calm, is_hot, has_handled, exception_resolved}
+use Rattle.place_plan.specs.RulesOfJournals.Raising.{raises_in, exceptions_raised, is_raised, is_hot, has_handled, exception_resolved}
 use Rattle.place_plan.specs.RulesOfJournals.Roles.{has_given, has_given_after, is_handling}
-use Rattle.place_plan.specs.RulesOfJournals.Rules.{Row, MayVerdict, SaysVerdict, verdict_due, handler_verdict, unhandled_verdict, final_verdict}
+use Rattle.place_plan.specs.RulesOfJournals.Rules.{Row, SaysVerdict, verdict_due, handler_verdict, unhandled_verdict}
 use Rattle.place_plan.specs.RulesOfJournals.Journals.{LegalPast}
 use Rattle.place_plan.proofs.OnJournals.EntryKinds.{of_kind, both_same}
 use Rattle.journal_laws.proofs.Playable.{IsTree}
-use Rattle.journal_laws.proofs.Core.{Raises}
 use Rattle.journal_laws.proofs.Raised.{raises}
-use Rattle.journal_laws.proofs.Newest.{newest_stands, stands_newest, given_resolved, handling_handled}
+use Rattle.journal_laws.proofs.Newest.{newest_stands, stands_newest, given_resolved}
 use Rattle.journal_laws.proofs.Phases.{not_calm}
 
 -- the entry raises something in p, and nothing was raised there

@@ -1,5 +1,5 @@
 -- The tables stand for a past in one way at most.
-use Rattle.std.proofs.Common.{◌≡◌, ◌<◌, ◌≤◌, ℕ, ℤ, Bool, true, false, List, [], ◌∷◌, Option, Some, None, refl}
+use Rattle.std.proofs.Common.{◌≡◌, ◌<◌, ◌≤◌, ℕ, ℤ, Bool, List, [], ◌∷◌, Option, Some, None, refl}
 use Rattle.std.specs.Coded.{Coded, Coded-set, coded_ℕ, coded_ℤ, coded_bool, coded_option, coded_list, coded×, code_by, ×_prop, Unit-prop}
 use Rattle.std.proofs.Math.Bridge.{le_prop}
 use Rattle.cover_table.specs.Cover.{CoverOrder}

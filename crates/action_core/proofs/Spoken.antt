@@ -1,23 +1,19 @@
 -- What each kind of entry does to what the roles of a place have said, and that it may.
-use Rattle.std.proofs.Common.{◌≡◌, ◌∙◌, ◌⊎◌, ℕ, zero, suc, ◌==◌, ◌<◌, ◌≤◌, ◌-◌, Bool, true, false, not, cond, ◌&&◌, ◌||◌, List, [], ◌∷◌, ◌++◌, Option, Some, None, IfSome, MatchOption, length, slice_get, refl, sym, ap, subst, arith, inl, inr}
-use Rattle.std.proofs.lemmas.Bool.{cases_Bool, eqb-true, eq-eqb, both_ways, false_from_ne_true, false≢true, and_parts, not-true}
-use Rattle.cover_table.specs.Cover.{has_bit}
+use Rattle.std.proofs.Common.{◌≡◌, ◌∙◌, ℕ, zero, suc, ◌==◌, ◌<◌, Bool, true, false, not, cond, ◌&&◌, ◌||◌, List, [], ◌∷◌, ◌++◌, Option, Some, None, IfSome, MatchOption, length, slice_get, refl, sym, ap, subst, arith, inl, inr}
+use Rattle.std.proofs.lemmas.Bool.{cases_Bool, eqb-true, eq-eqb, false≢true}
 use Rattle.caa_base.specs.declared.written.entry.Entry.{Entry}
 use Rattle.caa_base.specs.declared.written.entry.Kind.{Kind}
 use Rattle.caa_base.specs.declared.written.entry.Kind.TheVariants as kind
-use Rattle.caa_base.specs.declared.written.entry.Verdict.{Verdict}
 use Rattle.caa_base.specs.declared.written.entry.Verdict.TheVariants as verdict
-use Rattle.caa_base.specs.Written.Lists.{member, is_empty, is_at}
+use Rattle.caa_base.specs.Written.Lists.{is_empty, is_at}
 use Rattle.caa_base.specs.Written.Marks.{verdict_of_mark}
 use Rattle.place_plan.specs.Plans.PlanValue.{Plan}
-use Rattle.place_plan.specs.Plans.Places.{parent, roles_of, objects_of, interface_of, fault_of}
+use Rattle.place_plan.specs.Plans.Places.{parent, objects_of, interface_of, fault_of}
 use Rattle.place_plan.specs.Plans.Closed.{IsClosed}
-use Rattle.place_plan.specs.RulesOfJournals.Entries.{is_of, is_by}
-use Rattle.place_plan.specs.RulesOfJournals.WellFormed.{MayShowException}
+use Rattle.place_plan.specs.RulesOfJournals.Entries.{is_by}
 use Rattle.place_plan.specs.RulesOfJournals.Raising.{raises_in, exceptions_raised, is_raised, is_calm, is_hot, has_handled, exception_resolved}
-use Rattle.place_plan.specs.RulesOfJournals.Objects.{next_restore}
-use Rattle.place_plan.specs.RulesOfJournals.Roles.{has_given, is_handling, verdict_at}
-use Rattle.place_plan.specs.RulesOfJournals.Rules.{Row, SaysVerdict, MayVerdict, MayAbort, MayRestore, MayFollow, Names, verdict_due, handler_verdict, unhandled_verdict, final_verdict}
+use Rattle.place_plan.specs.RulesOfJournals.Roles.{has_given, is_handling}
+use Rattle.place_plan.specs.RulesOfJournals.Rules.{Row, SaysVerdict, MayVerdict, MayRestore, MayFollow, handler_verdict, unhandled_verdict, final_verdict}
 use Rattle.place_plan.specs.RulesOfJournals.Journals.{LegalPast}
 use Rattle.place_plan.proofs.OnJournals.EntryKinds.{of_kind}
 use Rattle.journal_laws.proofs.Playable.{IsPlayable}
@@ -30,7 +26,7 @@ use Rattle.journal_laws.proofs.Recovering.{handling_given}
 use Rattle.resolution_core.specs.Standing.{Acts}
 use Rattle.action_endings.specs.declared.ending.Ending.{Ending}
 use Rattle.action_endings.specs.inner.KeptEndings.{at, tried_kept, SignalsBelow, exception_named, Stands}
-use Rattle.action_endings.specs.inner.ChangedEndings.{MaySay, is_apart, RaisesFirst, NoneCounts, Says, Restores, LeavesEndings}
+use Rattle.action_endings.specs.inner.ChangedEndings.{MaySay, is_apart, RaisesFirst, NoneCounts, Says, LeavesEndings}
 use Rattle.action_endings.proofs.RightAnswers.{next_right}
 use Rattle.action_core.proofs.Giving.{raises_first, given_next}
 use Rattle.action_endings.proofs.EndingsKept.{others_keep}

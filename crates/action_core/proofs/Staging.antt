@@ -1,5 +1,5 @@
 -- One entry more: how the stages go on standing for the journal.
-use Rattle.std.proofs.Common.{◌≡◌, ◌∙◌, ℕ, ◌==◌, ◌<◌, Bool, true, false, cond, ◌&&◌, ◌||◌, List, ◌∷◌, Option, Some, None, length, slice_set, get_or-set_same, get_or-set_other, length-set, refl, sym, ap, subst, inl, inr}
+use Rattle.std.proofs.Common.{◌≡◌, ◌∙◌, ◌==◌, ◌<◌, Bool, true, false, cond, ◌&&◌, ◌||◌, List, ◌∷◌, Option, Some, length, slice_set, get_or-set_same, get_or-set_other, length-set, refl, sym, ap, subst, inl, inr}
 use Rattle.std.proofs.lemmas.Bool.{cases_Bool, eqb-true, eq-eqb, both_ways}
 use Rattle.caa_base.specs.declared.written.entry.Entry.{Entry}
 use Rattle.caa_base.specs.declared.written.entry.Kind.TheVariants as kind

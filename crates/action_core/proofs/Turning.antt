@@ -1,5 +1,5 @@
 -- One entry more: how what is kept of the participants goes on standing for the journal.
-use Rattle.std.proofs.Common.{◌≡◌, ◌∙◌, ◌⊎◌, ℕ, suc, zero, ◌+◌, ◌==◌, ◌<◌, ◌≤◌, Bool, true, false, cond, ◌&&◌, ◌||◌, List, [], ◌∷◌, ◌++◌, Option, Some, None, is_none, length, slice_get, slice_set, slice_index_or, get_or-set_same, get_or-set_other, length-set, refl, sym, ap, subst, arith, inl, inr}
+use Rattle.std.proofs.Common.{◌≡◌, ◌∙◌, ℕ, suc, zero, ◌+◌, ◌==◌, ◌<◌, Bool, true, false, cond, ◌&&◌, ◌||◌, List, [], ◌∷◌, ◌++◌, Option, Some, None, is_none, length, slice_get, slice_set, slice_index_or, get_or-set_same, get_or-set_other, length-set, refl, sym, ap, subst, arith, inl, inr}
 use Rattle.std.proofs.lemmas.Bool.{cases_Bool, cases_lt, eqb-true, eq-eqb, both_ways, false_from_ne_true, false≢true, and_parts, and_from, or_left, or_right}
 use Rattle.std.proofs.Math.ListN.{get_or-append}
 use Rattle.std.proofs.Math.Seq.{get_or-append_seam}
@@ -15,7 +15,7 @@ use Rattle.place_plan.specs.RulesOfJournals.Entries.{is_of, is_in, is_by, has_by
 use Rattle.place_plan.specs.RulesOfJournals.Whereabouts.{inside, inside_after}
 use Rattle.place_plan.specs.RulesOfJournals.Raising.{has_handled}
 use Rattle.place_plan.specs.RulesOfJournals.Roles.{next_play, was_refused_in_handler}
-use Rattle.place_plan.specs.RulesOfJournals.Rules.{Row, MayArrive, MayFollow}
+use Rattle.place_plan.specs.RulesOfJournals.Rules.{Row, MayFollow}
 use Rattle.place_plan.specs.RulesOfJournals.Journals.{LegalPast}
 use Rattle.place_plan.proofs.OnJournals.EntryKinds.{of_kind}
 use Rattle.place_plan.proofs.OnPlans.Casts.{member_at}

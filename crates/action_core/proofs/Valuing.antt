@@ -1,5 +1,5 @@
 -- What starts, ends and puts find of the objects, by the rules.
-use Rattle.std.proofs.Common.{◌≡◌, ◌∙◌, ℕ, ℤ, suc, ◌==◌, ◌<◌, Bool, true, false, cond, ◌&&◌, ◌||◌, List, [], ◌∷◌, Option, Some, None, length, refl, sym, ap, subst, arith, inl, inr}
+use Rattle.std.proofs.Common.{◌≡◌, ◌∙◌, ℕ, ℤ, ◌==◌, ◌<◌, Bool, true, false, cond, ◌&&◌, List, [], ◌∷◌, Option, length, refl, sym, ap, arith, inl, inr}
 use Rattle.std.proofs.lemmas.Bool.{eq-eqb, eqb-true, false≢true, or_cases, and_from}
 use Rattle.caa_base.specs.declared.written.entry.Entry.{Entry}
 use Rattle.caa_base.specs.declared.written.entry.Kind.{Kind}
@@ -12,7 +12,6 @@ use Rattle.place_plan.specs.RulesOfJournals.Whereabouts.{is_live}
 use Rattle.place_plan.specs.RulesOfJournals.Objects.{value_of, holder_of}
 use Rattle.place_plan.specs.RulesOfJournals.Rules.{MayStart, MayEnd}
 use Rattle.place_plan.specs.RulesOfJournals.Journals.{LegalPast, is_put}
-use Rattle.journal_laws.specs.Laws.{last_put}
 use Rattle.journal_laws.proofs.Playable.{IsTree, IsPlayable}
 use Rattle.journal_laws.proofs.Tree.{in_within}
 use Rattle.journal_laws.proofs.Busy.{not_ending}
@@ -22,7 +21,7 @@ use Rattle.journal_laws.proofs.Versions.{device}
 use Rattle.place_plan.proofs.OnJournals.EntryKinds.{of_kind}
 use Rattle.object_versions.specs.declared.version.Version.{Version}
 use Rattle.object_versions.proofs.VersionsKept.{others_keep}
-use Rattle.object_versions.specs.inner.KeptVersions.{depth, Stands}
+use Rattle.object_versions.specs.inner.KeptVersions.{Stands}
 use Rattle.object_versions.specs.inner.ChangedVersions.{HasFree, HoldsItsOwn, Takes, Puts}
 
 first_of_two : (b c : Bool) (x y : ℤ) → b ≡ true → c ≡ true → cond (b && c) x y ≡ x

@@ -1,5 +1,5 @@
 -- What is asked of the tables, in their own words.
-use Rattle.std.specs.Prelude.{ℕ, ℤ, pos, Bool, false, if◌then◌else◌, List, Option, Some, None}
+use Rattle.std.specs.Prelude.{ℕ, pos, Bool, false, if◌then◌else◌, List, Option, Some, None}
 use Rattle.caa_base.specs.Written.Lists.{is_at}
 use Rattle.role_states.specs.declared.frame.Frame.{Frame}
 use Rattle.role_states.specs.Stacks.{at, top}

@@ -1,16 +1,13 @@
-use Rattle.std.proofs.Common.{◌≡◌, ◌∙◌, ◌⊎◌, ◌∷◌, ◌<◌, ◌==◌, ◌&&◌, ℕ, Bool, true, false, not, List, Option, Some, None, IfSome, reverse, length, refl, sym, ap, subst, inl, inr, cond}
-use Rattle.std.proofs.lemmas.Bool.{ne_eqb, eqb-true}
-use Rattle.cover_table.specs.Cover.{has_bit}
-use Rattle.caa_base.specs.declared.written.entry.Entry.{Entry}
+use Rattle.std.proofs.Common.{◌≡◌, ◌∙◌, ◌⊎◌, ◌<◌, ◌==◌, ◌&&◌, ℕ, Bool, true, false, Option, None, IfSome, reverse, refl, sym, ap, subst, inl, inr}
+use Rattle.std.proofs.lemmas.Bool.{ne_eqb}
 use Rattle.caa_base.specs.declared.written.entry.Kind.{Kind}
 use Rattle.caa_base.specs.declared.written.entry.Kind.TheVariants as kind
-use Rattle.caa_base.specs.declared.written.entry.Verdict.{Verdict}
 use Rattle.place_plan.specs.Plans.Places.{parent, interface_of}
 use Rattle.journal_laws.proofs.PlayablePlan.{is_playable}
 use Rattle.caa_base.specs.Written.Lists.{is_at}
-use Rattle.action_endings.specs.inner.KeptEndings.{Stands, SignalsBelow, exception_named}
+use Rattle.action_endings.specs.inner.KeptEndings.{SignalsBelow}
 use Rattle.action_endings.specs.inner.ChangedEndings.{Says}
-use Rattle.action_core.proofs.Makers.{at_kind, row_of, place_there, fields_fit}
+use Rattle.action_core.proofs.Makers.{row_of, place_there}
 use Rattle.action_core.proofs.Spoken.{raise_raises, fault_raises, carry_raises, unsaying, endings_stay, may_say, unsaid, verdict_below, says, next_kept, some_untried, restored_well, abort_below_names, carried_there, fault_stay, leave_stay}
 use Rattle.action_core.proofs.saying.note_endings.Goals as goal
 

@@ -1,5 +1,4 @@
-use Rattle.std.proofs.Common.{◌≡◌, ◌∙◌, ◌∷◌, ◌<◌, true, false, not, List, reverse, length, length-set, sym, ap, subst}
-use Rattle.std.proofs.lemmas.Bool.{not-true, not_from_false}
+use Rattle.std.proofs.Common.{◌≡◌, ◌∙◌, ◌∷◌, ◌<◌, true, false, reverse, length, length-set, sym, ap, subst}
 use Rattle.place_plan.specs.RulesOfJournals.Raising.{is_raised}
 use Rattle.journal_laws.proofs.PlayablePlan.{is_playable}
 use Rattle.action_endings.proofs.EndingsKept.{others_keep}

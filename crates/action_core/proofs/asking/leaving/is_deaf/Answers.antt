@@ -1,4 +1,4 @@
-use Rattle.std.proofs.Common.{◌≡◌, ◌∙◌, sym, ap}
+use Rattle.std.proofs.Common.{◌∙◌, sym, ap}
 use Rattle.place_plan.specs.RulesOfJournals.Rules.{is_deaf}
 use Rattle.action_core.proofs.asking.leaving.is_deaf.Goals as goal
 

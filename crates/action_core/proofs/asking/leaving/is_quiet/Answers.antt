@@ -1,4 +1,4 @@
-use Rattle.std.proofs.Common.{◌≡◌, ◌∙◌, ◌||◌, ap, ap₂}
+use Rattle.std.proofs.Common.{◌∙◌, ◌||◌, ap, ap₂}
 use Rattle.place_plan.specs.RulesOfJournals.Rules.{is_deaf}
 use Rattle.action_core.proofs.asking.leaving.is_quiet.Goals as goal
 

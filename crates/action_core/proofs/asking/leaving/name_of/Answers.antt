@@ -1,4 +1,4 @@
-use Rattle.std.proofs.Common.{◌≡◌, ◌∙◌, None, true, false, sym, ap}
+use Rattle.std.proofs.Common.{◌∙◌, sym, ap}
 use Rattle.caa_base.specs.declared.written.entry.Kind.TheVariants as kind
 use Rattle.place_plan.specs.RulesOfJournals.Entries.{is_by}
 use Rattle.journal_laws.proofs.Silence.{none_newest}

@@ -1,8 +1,7 @@
-use Rattle.std.proofs.Common.{◌≡◌, ◌∙◌, ◌∷◌, ◌<◌, ℕ, suc, Bool, true, false, List, length, reverse, sym, ap, subst, ◌+◌, arith}
-use Rattle.place_plan.specs.RulesOfJournals.Rules.{MayFollow}
+use Rattle.std.proofs.Common.{◌≡◌, ◌∙◌, ◌∷◌, ◌<◌, ℕ, suc, length, reverse, sym, ap, subst, ◌+◌, arith}
 use Rattle.journal_laws.proofs.PlayablePlan.{is_playable}
 use Rattle.action_core.specs.declared.person.Person.{Person}
-use Rattle.action_core.specs.inner.KeptPeople.{at, opens_play, refused_after, IsNext, IsTurn, PersonOfEach}
+use Rattle.action_core.specs.inner.KeptPeople.{at, refused_after, IsNext, PersonOfEach}
 use Rattle.action_core.proofs.Makers.{maker_known}
 use Rattle.action_core.proofs.Turning.{opened_next, person_keeps}
 use Rattle.action_core.proofs.people.People.note.Goals as goal

@@ -1,4 +1,4 @@
-use Rattle.std.proofs.Common.{◌≡◌, ◌∷◌, ◌<◌, reverse, length, sym, subst}
+use Rattle.std.proofs.Common.{◌<◌, reverse, sym, subst}
 use Rattle.caa_base.specs.declared.written.entry.Kind.TheVariants as kind
 use Rattle.journal_laws.proofs.PlayablePlan.{is_playable}
 use Rattle.action_core.specs.inner.KeptPast.{IsKeptOf}
