@@ -47,21 +47,23 @@ none_published plan past none = no_elements (publications_of plan past) (as_many
 
 -- a writer that has published all
 all_entered : (plan : Plan) (past : List Entry) (w : Committed) → w.initials ≡ initials_of plan
-    → w.publications.list ≡ publications_of plan past → w.entered ≡ w.publications → Publishes plan past w
-all_entered plan past w initials same whole = record {
+    → w.publications.list ≡ publications_of plan past → w.entered ≡ w.publications → w.is_stale ≡ false → Publishes plan past w
+all_entered plan past w initials same whole fresh = record {
   initials = initials;
   first = subst (IsPrefix w.publications.list) same (begins_itself w.publications.list);
-  all = λ fresh. same;
+  all = λ _. same;
+  left_out = λ late. absurd (true≢false (sym late ∙ fresh));
   entered = subst (IsPrefix w.entered.list) (ap (λ (k : Known). k.list) whole ∙ same) (begins_itself w.entered.list);
-  whole = λ fresh. whole;
+  whole = λ _. whole;
 }
 
 -- a new writer, before any play has ended
 pub publishes_none : (plan : Plan) (past : List Entry) (w : Committed) → plays_ended plan past ≡ []
-    → w.initials ≡ initials_of plan → w.publications.list ≡ [] → w.entered ≡ w.publications → Publishes plan past w
-publishes_none plan past w none initials list whole =
+    → w.initials ≡ initials_of plan → w.publications.list ≡ [] → w.entered ≡ w.publications → w.is_stale ≡ false
+    → Publishes plan past w
+publishes_none plan past w none initials list whole fresh =
     let same : w.publications.list ≡ publications_of plan past = list ∙ sym (none_published plan past none) in
-    all_entered plan past w initials same whole
+    all_entered plan past w initials same whole fresh
 
 was_fresh : {X : Type 0} (b : Bool) → (b ≡ true → X) → (X → ⊥) → b ≡ false
 was_fresh true told never = absurd (never (told refl))
@@ -102,15 +104,20 @@ an_end plan past e w w' changes (Ok a) late is same initials list entered marked
     let all : w'.publications.list ≡ publications_of plan (e ∷ past) =
     list ∙ (ap (λ l. l ++ changes ∷ []) (k.all was)
     ∙ (ap (λ c. publications_of plan past ++ c ∷ []) same ∙ sym (one_more plan past e is))) in
-    all_entered plan (e ∷ past) w' (initials ∙ k.initials) all entered
+    all_entered plan (e ∷ past) w' (initials ∙ k.initials) all entered marked
 an_end plan past e w w' changes (Err x) late is same initials list entered marked stale stays k =
     let further =
     begins_further w.publications.list (publications_of plan past) (publications_of plan (e ∷ past)) k.first
     (values_of plan (e ∷ past) e.place ∷ [], sym (one_more plan past e is)) in
+    let one : length (publications_of plan (e ∷ past)) ≡ length (publications_of plan past) + 1 =
+    ap length (one_more plan past e is) ∙ length-append (publications_of plan past) (values_of plan (e ∷ past) e.place ∷ []) in
+    let front : length w.publications.list + length k.first.0 ≡ length (publications_of plan past) =
+    sym (length-append w.publications.list k.first.0) ∙ ap length k.first.1 in
     record {
       initials = initials ∙ k.initials;
       first = subst (λ (l : Known). IsPrefix l.list (publications_of plan (e ∷ past))) (sym list) further;
       all = λ fresh. absurd (true≢false (sym marked ∙ fresh));
+      left_out = λ _. omega (arith, one, front, ap (λ (l : Known). length l.list) list);
       entered = more_entered plan past e w w' changes is same entered stays k;
       whole = λ fresh. absurd (true≢false (sym marked ∙ fresh));
     }

@@ -1,5 +1,5 @@
 -- What is published as plays end.
-use Rattle.std.specs.Prelude.{◌≡◌, ◌≤◌, ◌<◌, ℕ, false, List, [], ◌∷◌, ◌++◌, length, map, if◌then◌else◌}
+use Rattle.std.specs.Prelude.{◌≡◌, ◌≤◌, ◌<◌, ℕ, true, false, List, [], ◌∷◌, ◌++◌, length, map, if◌then◌else◌}
 use mathlib.Core.List.{IsPrefix}
 use Rattle.logbook.specs.Pages.{Book}
 use Rattle.caa_base.specs.declared.written.entry.Entry.{Entry}
@@ -21,12 +21,13 @@ publications_of plan [] = []
 publications_of plan (e ∷ past) =
     if ends_play plan e then publications_of plan past ++ values_of plan (e ∷ past) e.place ∷ [] else publications_of plan past
 
--- the writer has published for each play that ended in this past, in order, up to some play; up to the last one unless it found
--- no memory once. And it has entered nothing else in its list
+-- the writer has published for each play that ended in this past, in order, up to some play: just where it found no memory once,
+-- not up to the last one. And it has entered nothing else in its list
 pub record Publishes (plan : Plan) (past : List Entry) (w : Committed) : Type 0 where
   pub initials : w.initials ≡ initials_of plan
   pub first : IsPrefix w.publications.list (publications_of plan past)
   pub all : w.is_stale ≡ false → w.publications.list ≡ publications_of plan past
+  pub left_out : w.is_stale ≡ true → length w.publications.list < length (publications_of plan past)
   pub entered : IsPrefix w.entered.list (publications_of plan past)
   pub whole : w.is_stale ≡ false → w.entered ≡ w.publications
 

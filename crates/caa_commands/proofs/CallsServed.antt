@@ -24,7 +24,7 @@ use Rattle.caa_commands.specs.declared.status.Status.{Status}
 use Rattle.caa_commands.specs.declared.status.Status.TheVariants as status
 use Rattle.caa_commands.specs.Findings.{status_of, finding_text}
 use Rattle.caa_commands.specs.Inputs.{most_bytes, script_in}
-use Rattle.caa_commands.specs.Scripts.{HasPlan, IsRefusedScript}
+use Rattle.caa_commands.specs.Scripts.{HasPlan, IsThePlan, IsRefusedScript}
 use Rattle.caa_commands.specs.OutsideUse.{SinkUse, Left, Call}
 use Rattle.caa_commands.specs.Graphs.{IsGraphText, IsRefusedGraph}
 use Rattle.caa_commands.specs.Calls.{CheckComesTo, IsRefusedFor, MakesGraph, Prints, EndsAs, DoesNotBegin, AuditComesTo, PlanComesTo, InputComesTo, IsNotServed, IsUnread, IsRead, HasStopped, unread_finding, CameTo, with_journal, Tells, Answers}
@@ -239,10 +239,12 @@ audited plan bytes (finding.Checked counts) left h = elim h [ ]
 audited plan bytes (finding.Played failed text) left h = elim h [ ]
 audited plan bytes (finding.Printed text) left h = elim h [ ]
 
--- over a plan of the script nothing else is found than what is to be found by each
-as_to_find : {P : Type 0} (call : Call P) (sink : SinkUse) (found other : Finding) (left : Left P) (h : IsAuditable call sink found) (plan : Plan) → HasPlan (script_in command.Audit h.bytes) plan
+-- by the plan of the script nothing else is found than what is to be found
+as_to_find : {P : Type 0} (call : Call P) (sink : SinkUse) (found other : Finding) (left : Left P) (h : IsAuditable call sink found) (plan : Plan) → IsThePlan (script_in command.Audit h.bytes) plan
     → (IsToFind plan h.bytes other) ⊎ (other ≡ finding.OutOfMemory) → (other ≡ found) ⊎ (other ≡ finding.OutOfMemory)
-as_to_find call sink found other left h plan script (inl one) = inl (found_alone plan (plan_tells (script_in command.Audit h.bytes) plan script) h.bytes other found one (h.finds plan script))
+as_to_find call sink found other left h plan script (inl one) =
+    let own : IsToFind plan h.bytes found = subst (λ p. IsToFind p h.bytes found) (script.only h.plan h.script) h.finds in
+    inl (found_alone plan (plan_tells (script_in command.Audit h.bytes) plan script.has) h.bytes other found one own)
 as_to_find call sink found other left h plan script (inr lost) = inr lost
 
 found_audited : {P : Type 0} (call : Call P) (sink : SinkUse) (found other : Finding) (h : IsAuditable call sink found) (journal : List Entry) → CameTo (with_journal call journal) other → (other ≡ found) ⊎ (other ≡ finding.OutOfMemory)
@@ -326,7 +328,7 @@ module _ {P : Type 0} (call : Call P) (sink : SinkUse) (c : Command) (bytes : Li
 
   script_refused : HoldsRefused c bytes → CameTo call found → IsRefusal found
   script_refused h came = elim (input_comes call sink c bytes given found h.fits came) [
-    | inl (inl served) ↦ absurd (not_both c bytes served.plan h.refusal found call.left served.script served.comes h.script)
+    | inl (inl served) ↦ absurd (not_both c bytes served.plan h.refusal found call.left served.script.has served.comes h.script)
     | inl (inr (inl away)) ↦ refused_away c bytes found call.left away
     | inl (inr (inr graph)) ↦ graph_refused c bytes h.refusal found call.left graph h.script
     | inr lost ↦ inr lost

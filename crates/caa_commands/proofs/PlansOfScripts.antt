@@ -1,5 +1,5 @@
 -- A script is no longer than it may be, and its plan tells a journal from its text.
-use Rattle.std.proofs.Common.{◌≡◌, ℕ, ◌+◌, ◌≤◌, ◌==◌, nat_lt, nat_le, if◌then◌else◌, Bool, true, false, cond, List, [], ◌∷◌, ◌++◌, length, length-append, Option, Some, None, Result, Ok, Err, refl, sym, subst, arith}
+use Rattle.std.proofs.Common.{◌≡◌, ℕ, ◌+◌, ◌≤◌, ◌==◌, nat_lt, nat_le, if◌then◌else◌, Bool, true, false, cond, List, [], ◌∷◌, ◌++◌, length, length-append, Option, Some, None, Result, Ok, Err, refl, sym, ◌∙◌, subst, arith}
 use Rattle.std.specs.List.{flat_map, slice_split}
 use Rattle.std.proofs.lemmas.Bool.{ltb-false, leb-true, and_parts}
 use Rattle.std.proofs.lemmas.List.{length-map}
@@ -19,7 +19,7 @@ use Rattle.action_script.specs.Words.CutLines.{lines_of, without_empty_last}
 use Rattle.action_script.specs.Lines.Kinds.{goes_to, at_top}
 use Rattle.action_script.specs.Forms.Printing.{AreScript, forms_of}
 use Rattle.action_script.specs.Forms.ScriptValue.{Script}
-use Rattle.action_script.specs.Lines.Spelling.{Numbered, before, with_line, said_from, line_of, names_of, script_names, line_by, script_by, script_of}
+use Rattle.action_script.specs.Lines.Spelling.{reading_of, Numbered, before, with_line, said_from, line_of, names_of, script_names, line_by, script_by, script_of}
 use Rattle.action_script.proofs.OnWords.NamesCounted.{length-with_names, length-names_of}
 use Rattle.action_script.proofs.OnWords.Pieces.{weight, weight-split}
 use Rattle.action_script.proofs.OnLines.Speaking.{speaks, speaks-short}
@@ -27,7 +27,8 @@ use Rattle.action_script.proofs.OnForms.WellRead.{well_read}
 use Rattle.script_checker.proofs.AcceptedDraft.{breaks_none}
 use Rattle.script_checker.proofs.NamesKept.{own_names_of}
 use Rattle.journal_text.proofs.OnTexts.ReadingLemmas.{Tells}
-use Rattle.caa_commands.specs.Scripts.{HasPlan}
+use Rattle.script_checker.specs.Compiled.{IsPlanOf}
+use Rattle.caa_commands.specs.Scripts.{HasPlan, IsThePlan}
 use Rattle.journal_text.proofs.OnTexts.WellNamed.{well_named}
 
 -- ---- the lines of a text are no longer than the text
@@ -112,3 +113,17 @@ module _ (bytes : List ℕ) (plan : Plan) (h : HasPlan bytes plan) where
   -- it tells a journal from its text
   pub plan_tells : Tells plan
   plan_tells = record { named = well_named plan (own_names_of h.script plan are_script h.compiled); small = omega (arith, few_places) }
+
+-- ---- the plan of a script
+
+-- where the script has one plan at most, this is its plan
+pub the_plan : (bytes : List ℕ) (script : Script) (plan : Plan)
+    → ((one other : Plan) → IsPlanOf script one → IsPlanOf script other → one ≡ other)
+    → reading_of bytes ≡ Ok script → IsPlanOf script plan → IsThePlan bytes plan
+the_plan bytes script plan one spelled compiled = record {
+  has = record { script = script; spelled = spelled; compiled = compiled };
+  only = λ other h.
+      let both : Ok h.script ≡ Ok script = sym h.spelled ∙ spelled in
+      let same : h.script ≡ script = cc in
+      one other plan (subst (λ (s : Script). IsPlanOf s other) same h.compiled) compiled;
+}

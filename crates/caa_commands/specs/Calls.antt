@@ -27,7 +27,7 @@ use Rattle.caa_commands.specs.Findings.{status_of, finding_text, is_played, need
 use Rattle.caa_commands.specs.Inputs.{most_bytes, script_in, journal_part}
 use Rattle.caa_commands.specs.Judging.{IsLawful, IsIllegal, HasTooManyEntries}
 use Rattle.caa_commands.specs.FailedPlays.{IsPlayed, has_failed_play}
-use Rattle.caa_commands.specs.Scripts.{HasPlan, IsRefusedScript}
+use Rattle.caa_commands.specs.Scripts.{IsThePlan, IsRefusedScript}
 use Rattle.caa_commands.specs.OutsideUse.{SourceUse, SinkUse, Left, Call, IsIdle, IsUnplayed}
 
 -- ---- a command that is served over a plan; `check` only tells how large it is, and `graph` needs none
@@ -108,10 +108,10 @@ PlanComesTo (command.Messages seed) plan bytes found left = Prints (IsPlayedByMe
 
 -- ---- what each command comes to over the bytes that were read
 
--- input clause: the script among them has this plan
+-- input clause: this is the plan of the script among them, which has no other
 pub record IsServed {P : Type 0} (command : Command) (bytes : List ℕ) (found : Finding) (left : Left P) : Type 0 where
   pub plan : Plan
-  pub script : HasPlan (script_in command bytes) plan
+  pub script : IsThePlan (script_in command bytes) plan
   pub comes : PlanComesTo command plan bytes found left
 
 -- why the bytes are refused for a command: for `graph` there are rules of its own

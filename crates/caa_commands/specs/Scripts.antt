@@ -29,10 +29,15 @@ pub record HasPlan (bytes : List ℕ) (plan : Plan) : Type 0 where
   pub spelled : reading_of bytes ≡ Ok script
   pub compiled : IsPlanOf script plan
 
+-- this is the plan of what they spell: they have it, and no other
+pub record IsThePlan (bytes : List ℕ) (plan : Plan) : Type 0 where
+  pub has : HasPlan bytes plan
+  pub only : (other : Plan) → HasPlan bytes other → other ≡ plan
+
 -- what they spell is accepted, and its plan is so large
 pub record IsCounted (bytes : List ℕ) (counts : PlanCounts) : Type 0 where
   pub plan : Plan
-  pub script : HasPlan bytes plan
+  pub script : IsThePlan bytes plan
   pub counted : counts ≡ counts_of plan
 
 -- ---- the names of exceptions

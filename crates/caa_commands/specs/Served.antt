@@ -83,14 +83,14 @@ pub data IsToFind (plan : Plan) (bytes : List ℕ) : Finding → Type 0 where
   illegal_line : {line : ℕ} → IsIllegal plan bytes line → IsToFind plan bytes (finding.Illegal line)
   too_many_entries : {refusal : Refusal} → HasTooManyEntries plan bytes refusal → IsToFind plan bytes (finding.Refused refusal)
 
--- the bytes aren't too many, the script among them has a plan, and by whatever plan it has this is to be found
+-- the bytes aren't too many, the script among them has a plan, and by that plan this is to be found
 pub record IsAuditable {P : Type 0} (call : Call P) (sink : SinkUse) (found : Finding) : Type 0 where
   pub bytes : List ℕ
   pub given : IsGiven call sink command.Audit bytes
   pub fits : length bytes ≤ most_bytes command.Audit
   pub plan : Plan
   pub script : HasPlan (script_in command.Audit bytes) plan
-  pub finds : (own : Plan) → HasPlan (script_in command.Audit bytes) own → IsToFind own bytes found
+  pub finds : IsToFind plan bytes found
 
 -- ---- what is refused
 

@@ -1,6 +1,6 @@
 //! Plays of a plan over a device, and what they come to.
 
-ghost use Rattle.std.specs.Prelude.{◌≡◌, ◌<◌, ◌^◌, [], true, is_some, IfOk, IfErr};
+ghost use Rattle.std.specs.Prelude.{◌≡◌, ◌<◌, ◌^◌, [], true, is_some, IfSome, IfNone, IfOk, IfErr};
 ghost use Rattle.place_plan.specs.RulesOfJournals.WellFormed.{AllWellFormed};
 ghost use Rattle.journal_text.specs.Watching.Looks.{AreOfPlan};
 ghost use Rattle.journal_text.specs.Texts.Naming.{is_well_named};
@@ -157,6 +157,32 @@ fn unplayed<P: Plant>(hall: PlainHall<P>) -> Decision<P>
     }
 }
 
+/// What a play in threads comes to that has ended with this journal and these looks: where a publication was refused there are none,
+/// and it comes to want of memory.
+fn ended_in_threads<P: Plant>(
+    alloc: Global,
+    plan: &Plan,
+    plant: P,
+    journal: Journal,
+    seens: Option<Seens>,
+) -> Decision<P>
+    requires entries { AllWellFormed plan.now journal.entries }
+    requires watches { IfSome seens (λ s. AreOfPlan plan.now s.seens) }
+    ensures ends { IfSome seens (λ s. EndsAs plan.now journal.entries s.seens result.finding) }
+    ensures refused { IfNone seens (result.finding ≡ Finding.OutOfMemory) }
+    ensures plant { result.plant ≡ plant }
+    ensures journal { result.journal.entries ≡ journal.entries }
+{
+    match seens {
+        Some(seens) => ended(alloc, plan, plant, journal, &seens),
+        None => Decision {
+            finding: Finding::OutOfMemory,
+            plant,
+            journal,
+        },
+    }
+}
+
 /// Plays a plan to its end, each participant in a thread of its own, and writes the text of its journal with what the watchers
 /// saw. It need not return.
 pub fn run_plan<P: Plant + Send, G: Gate + Sync, R: Threads + Wait + Sync>(
@@ -176,17 +202,14 @@ pub fn run_plan<P: Plant + Send, G: Gate + Sync, R: Threads + Wait + Sync>(
         Ok(opened) => opened,
         Err(unopened) => return unopened,
     };
-    let (played, seens) = match run(rt, alloc, opened, gate) {
-        Ok(Finished { machine, seens }) => (machine, seens),
+    let Finished {
+        machine,
+        seens,
+        refused: _,
+    } = match run(rt, alloc, opened, gate) {
+        Ok(finished) => finished,
         Err(RunError { machine }) => return unplayed(machine),
     };
-    let (plan, plant, journal) = played.into_parts();
-    match seens {
-        Some(seens) => ended(alloc, &plan, plant, journal, &seens),
-        None => Decision {
-            finding: Finding::OutOfMemory,
-            plant,
-            journal,
-        },
-    }
+    let (plan, plant, journal) = machine.into_parts();
+    ended_in_threads(alloc, &plan, plant, journal, seens)
 }

@@ -3,7 +3,7 @@
 ghost use Rattle.std.specs.Prelude.{◌≡◌, true, [], Ok, IfOk, IfErr, OnOk};
 ghost use Rattle.action_script.specs.Lines.Spelling.{reading_of};
 ghost use Rattle.journal_text.specs.Texts.Naming.{is_well_named};
-ghost use Rattle.caa_commands.specs.Scripts.{HasPlan, IsCounted, HasNoPlan, HasNoScript, IsSpelling, IsCause, declared_after, declared_at, exception_at};
+ghost use Rattle.caa_commands.specs.Scripts.{IsThePlan, IsCounted, HasNoPlan, HasNoScript, IsSpelling, IsCause, declared_after, declared_at, exception_at};
 
 use crate::fault::{Fault, Refusal};
 use action_script::forms::form::Form;
@@ -15,6 +15,7 @@ use caa_base::written::name::{Name, name_at};
 use place_plan::plans::plan::Plan;
 use script_checker::check_error::{CheckCause, CheckError};
 use script_checker::compile::{compile, count};
+use script_checker::one_plan::has_one_plan;
 use script_checker::own_names::has_own_names;
 use script_checker::plan_counts::PlanCounts;
 use std::alloc::{AllocError, Global};
@@ -149,17 +150,18 @@ fn refusal_of(alloc: Global, script: &Script, error: CheckError) -> Result<Refus
     })
 }
 
-/// The plan of the script that these bytes spell; its names tell its parts apart.
+/// The plan of the script that these bytes spell, which has no other; its names tell its parts apart.
 ///
 /// A refusal names the line and the fault, and for a graph the exceptions at fault.
 pub fn plan_of(alloc: Global, bytes: &[u8]) -> Result<Plan, NoPlan>
-    ensures plan { IfOk result (HasPlan bytes.now) }
+    ensures plan { IfOk result (IsThePlan bytes.now) }
     ensures named { IfOk result (λ plan. is_well_named plan ≡ true) }
     ensures refused { IfErr result (HasNoPlan bytes.now) }
 {
     let script = script_of(alloc, bytes)?;
     match compile(alloc, &script) {
         Ok(plan) => {
+            has_one_plan(&script);
             has_own_names(&script, &plan);
             Ok(plan)
         }
@@ -177,7 +179,10 @@ pub fn counts_of(alloc: Global, bytes: &[u8]) -> Result<PlanCounts, NoPlan>
 {
     let script = script_of(alloc, bytes)?;
     match count(alloc, &script) {
-        Ok(counts) => Ok(counts),
+        Ok(counts) => {
+            has_one_plan(&script);
+            Ok(counts)
+        }
         Err(error) => {
             let refusal = refusal_of(alloc, &script, error)?;
             Err(NoPlan::Refused(refusal))

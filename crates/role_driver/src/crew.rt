@@ -1,50 +1,56 @@
 ghost use Rattle.std.specs.Prelude.{◌≡◌, [], length, map, reverse, true, All, IfOk, IfErr, IsTrue, vec_capacity};
 ghost use Rattle.place_plan.specs.RulesOfJournals.Roles.{is_over};
 ghost use Rattle.role_driver.specs.Working.{TellsOwnWork};
-ghost use Rattle.role_driver.specs.inner.Crew.{IsMember, who_of};
+ghost use Rattle.role_driver.specs.inner.Crew.{IsBack, IsMember, who_of};
 ghost use Rattle.action_manager.specs.Managers.{plan_in, IsSeatIn};
 ghost use Rattle.action_manager.specs.Seats.{participant_of, seen_by, IsBeside};
 
 use crate::driving::{drive, take_whole_turn};
+use crate::flag::Flag;
 use action_manager::{Manager, Seat};
 use caa_base::outside::gate::Gate;
 use caa_base::written::entry::Participant;
 use place_plan::rules::machine::{Answer, Machine};
 use std::snapshot::Snapshot;
 use std::sync::Wait;
-use std::sync::atomic::{AtomicBool, Ordering};
+use std::sync::atomic::AtomicBool;
 use std::thread;
 use std::thread::{Promise, PromisedHandle, Scope, Threads};
 
-/// A seat of this participant comes back, of the manager of the seat that went.
+/// A seat of this participant comes back, of the manager of the seat that went: driven to its end, or untouched, where the flag
+/// was seen raised.
 #[derive(Drop)]
-pub struct Belongs<M> {
+pub struct Belongs<M, F> {
     pub seat: Snapshot<Seat<M>>,
     pub participant: Participant,
+    pub handed_back: Snapshot<F>,
 }
 
-impl<M> Promise<Seat<M>> for Belongs<M> {
+impl<M, F: Flag> Promise<Seat<M>> for Belongs<M, F> {
     ghost use Rattle.std.specs.Prelude.{◌≡◌};
     ghost use Rattle.action_manager.specs.Seats.{IsBeside, participant_of};
+    ghost use Rattle.role_driver.specs.inner.Crew.{IsBack};
 
-    ghost kept_by = { λ p r. IsBeside p.seat.value r × (participant_of r ≡ p.participant) };
+    ghost kept_by = { λ p r. IsBeside p.seat.value r × (participant_of r ≡ p.participant)
+        × IsBack (F.was_raised p.handed_back.value) p.seat.value r };
 }
 
 /// Drives a seat, unless it is handed back.
 #[tactic(auto, using(action_manager::proofs::Beside::both_beside))]
-fn drive_unless<M: Machine, G: Gate, R: Wait>(
+fn drive_unless<M: Machine, G: Gate, R: Wait, F: Flag>(
     rt: &R,
     manager: &Manager<M>,
     seat: Seat<M>,
-    handed_back: &AtomicBool,
+    handed_back: &F,
     gate: &G,
 ) -> Seat<M>
     requires opened { IsSeatIn M.base_of manager.now seat }
     ensures opened { IsSeatIn M.base_of manager.now result }
     ensures beside { IsBeside seat result }
     ensures same { participant_of result ≡ participant_of seat }
+    ensures back { IsBack (F.was_raised handed_back.now) seat result }
 {
-    if handed_back.load(Ordering::SeqCst) {
+    if handed_back.is_raised() {
         seat
     } else {
         drive(rt, manager, seat, gate)
@@ -53,14 +59,14 @@ fn drive_unless<M: Machine, G: Gate, R: Wait>(
 
 /// A thread for a seat, or the seat where none can be started.
 #[tactic(auto, using(action_manager::proofs::Beside::beside_opened))]
-pub fn start<'s, E, M: Machine + Send, G: Gate + Sync, R: Threads + Wait + Sync>(
+pub fn start<'s, E, M: Machine + Send, G: Gate + Sync, R: Threads + Wait + Sync, F: Flag + Sync>(
     scope: &'s Scope<'s, E>,
     rt: &'s R,
     manager: &'s Manager<M>,
     seat: Seat<M>,
-    handed_back: &'s AtomicBool,
+    handed_back: &'s F,
     gate: &'s G,
-) -> Result<PromisedHandle<Seat<M>, Belongs<M>>, Seat<M>>
+) -> Result<PromisedHandle<Seat<M>, Belongs<M, F>>, Seat<M>>
     requires opened { IsSeatIn M.base_of manager.now seat }
     ensures ok { IfOk result (λ h.
         IsSeatIn M.base_of manager.now h.promise.seat.value × (h.promise.participant ≡ participant_of seat)) }
@@ -69,24 +75,26 @@ pub fn start<'s, E, M: Machine + Send, G: Gate + Sync, R: Threads + Wait + Sync>
     let promise = Belongs {
         seat: Snapshot::of(&seat),
         participant: seat.participant(),
+        handed_back: Snapshot::of(handed_back),
     };
     match scope.spawn_with(
         promise,
         move || -> Seat<M>
             requires { IsSeatIn M.base_of manager.now seat }
-            ensures { IsBeside seat result × (participant_of result ≡ participant_of seat) }
+            ensures { IsBeside seat result × (participant_of result ≡ participant_of seat)
+                × IsBack (F.was_raised handed_back.entry.now) seat result }
         { drive_unless(rt, manager, seat, handed_back, gate) },
     ) {
         Ok(child) => Ok(child),
         Err(refused) => {
-            handed_back.store(true, Ordering::SeqCst);
+            handed_back.raise();
             Err((refused.value)())
         }
     }
 }
 
 /// A thread that drives a seat, or the seat where none could be started.
-pub type Member<M> = Result<PromisedHandle<Seat<M>, Belongs<M>>, Seat<M>>;
+pub type Member<M> = Result<PromisedHandle<Seat<M>, Belongs<M, AtomicBool>>, Seat<M>>;
 
 /// Seats, with room for the members that drive them, and for the seats when they come back.
 pub struct Crew<M> {

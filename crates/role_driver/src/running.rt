@@ -1,4 +1,4 @@
-ghost use Rattle.std.specs.Prelude.{◌≡◌, ◌*◌, [], length, map, replicate, reverse, suc, All, None, IfSome, IfOk, IfErr, vec_capacity};
+ghost use Rattle.std.specs.Prelude.{◌≡◌, ◌*◌, [], length, map, replicate, reverse, suc, All, None, is_some, is_none, IfSome, IfOk, IfErr, vec_capacity};
 ghost use Rattle.std.specs.List.{range_with_len};
 ghost use mathlib.Core.List.{IsPrefix};
 ghost use Rattle.place_plan.specs.Plans.Closed.{IsClosed};
@@ -27,7 +27,7 @@ use action_manager::{Closed, Manager, ManagerError, Opened, Seat};
 use caa_base::outside::gate::Gate;
 use journal_text::looks::seens::Seens;
 use place_plan::rules::machine::Machine;
-use shared_views::CommittedWriter;
+use shared_views::{CommittedWriter, PublicationRefused};
 use std::alloc::Global;
 use std::sync::Wait;
 use std::sync::atomic::AtomicBool;
@@ -37,8 +37,10 @@ use std::thread::Threads;
 /// A machine that was played to its end, and what was seen of the watched objects meanwhile.
 pub struct Finished<M> {
     pub machine: M,
-    /// None where no memory was found for a publication.
+    /// None just where a publication was refused.
     pub seens: Option<Seens>,
+    /// The refusal of a publication, where one was refused.
+    pub refused: Option<PublicationRefused>,
 }
 
 /// No memory was found. The machine comes back unchanged.
@@ -116,6 +118,7 @@ fn seens_of<M: Machine>(
     requires tasks { map task_of watchers.old.items ≡ map (task_by writer.old) (M.plan_of machine.now).watches }
     requires seens { (seens.seens ≡ [])
         × (seens.room ≡ length (M.plan_of machine.now).watches * suc (length (M.plan_of machine.now).plays)) }
+    ensures stale { is_none result ≡ stale }
     ensures of_plan { IfSome result (λ s. AreOfPlan (M.plan_of machine.now) s.seens) }
     ensures right { IfSome result (λ s. first_wrong (M.plan_of machine.now) (M.journal_of machine.now) s.seens ≡ None) }
 {
@@ -145,6 +148,7 @@ fn play_opened<M: Machine + Send, G: Gate + Sync, R: Threads + Wait + Sync>(
     ensures begins { IsPrefix (M.journal_of (handed_in opened.manager)) (M.journal_of result.machine) }
     ensures legal { IsLegal (plan_in opened.manager) (M.journal_of result.machine) }
     ensures complete { IsComplete (plan_in opened.manager) (M.journal_of result.machine) }
+    ensures stale { is_none result.seens ≡ is_some result.refused }
     ensures of_plan { IfSome result.seens (λ s. AreOfPlan (plan_in opened.manager) s.seens) }
     ensures right { IfSome result.seens (λ s.
         first_wrong (plan_in opened.manager) (M.journal_of result.machine) s.seens ≡ None) }
@@ -179,6 +183,7 @@ fn play_opened<M: Machine + Send, G: Gate + Sync, R: Threads + Wait + Sync>(
         mut writer,
         stale,
     } = close_done(manager, seats);
+    let refused = writer.refusal();
     let seens = seens_of(
         &machine,
         &mut writer,
@@ -187,7 +192,11 @@ fn play_opened<M: Machine + Send, G: Gate + Sync, R: Threads + Wait + Sync>(
         watch_room.seens,
     );
     writer.end(rt);
-    Finished { machine, seens }
+    Finished {
+        machine,
+        seens,
+        refused,
+    }
 }
 
 /// Plays a machine to its end, each participant in a thread of its own, and lets a watcher look at each watched object in
@@ -195,9 +204,9 @@ fn play_opened<M: Machine + Send, G: Gate + Sync, R: Threads + Wait + Sync>(
 ///
 /// In its journal nothing may be resolved yet, and no play may have ended. The machine that comes back has a legal and complete
 /// journal, which goes on from the old one; its plan and base are as they were. With it comes what was seen, right looks of that
-/// journal, unless no memory was found for a publication. The caller itself takes the turns of participants for whom no thread
-/// can be started, round by round; a watcher without a thread looks once, at the end. At `Err` no memory was found before the
-/// first entry, and the machine is as it was. It need not return.
+/// journal, or the refusal of a publication for which no memory was found. The caller itself takes the turns of participants for
+/// whom no thread can be started, round by round; a watcher without a thread looks once, at the end. At `Err` no memory was found
+/// before the first entry, and the machine is as it was. It need not return.
 pub fn run<M: Machine + Send, G: Gate + Sync, R: Threads + Wait + Sync>(
     rt: &R,
     alloc: Global,
@@ -211,6 +220,7 @@ pub fn run<M: Machine + Send, G: Gate + Sync, R: Threads + Wait + Sync>(
     ensures begins { IfOk result (λ f. IsPrefix (M.journal_of machine) (M.journal_of f.machine)) }
     ensures legal { IfOk result (λ f. IsLegal (M.plan_of machine) (M.journal_of f.machine)) }
     ensures complete { IfOk result (λ f. IsComplete (M.plan_of machine) (M.journal_of f.machine)) }
+    ensures stale { IfOk result (λ f. is_none f.seens ≡ is_some f.refused) }
     ensures of_plan { IfOk result (λ f. IfSome f.seens (λ s. AreOfPlan (M.plan_of machine) s.seens)) }
     ensures right { IfOk result (λ f.
         IfSome f.seens (λ s. first_wrong (M.plan_of machine) (M.journal_of f.machine) s.seens ≡ None)) }

@@ -8,6 +8,7 @@ ghost use Rattle.place_plan.specs.Plans.Places.{initials_of};
 use crate::board::{Board, Looks};
 use crate::observed::Reading;
 use crate::observer::{BoardWriter, Observer};
+use crate::publication_refused::PublicationRefused;
 use crate::publications::{Head, Publications};
 use crate::send_sync::may_cross;
 use caa_base::written::entry::{Object, OutOfMemory};
@@ -38,7 +39,7 @@ pub struct CommittedWriter {
     writer: BoardWriter,
     head: Head,
     initials: Vec<i64>,
-    stale: bool,
+    refused: Option<PublicationRefused>,
 }
 
 impl Model for CommittedWriter {
@@ -103,7 +104,7 @@ fn show<R: Wait>(writer: BoardWriter, rt: &R) -> (BoardWriter, ())
 }
 
 impl CommittedWriter {
-    ghost use Rattle.std.specs.Prelude.{◌↔◌, IsTrue, is_err, Err};
+    ghost use Rattle.std.specs.Prelude.{◌↔◌, IsTrue, is_err, is_some, Err};
     ghost use Rattle.shared_views.specs.declared.committed_writer.PublishError.TheVariants.{Stale};
 
     /// A writer that has published nothing, and so many observers.
@@ -130,7 +131,7 @@ impl CommittedWriter {
             writer,
             head,
             initials,
-            stale: false,
+            refused: None,
         };
         Ok((committed, seats))
     }
@@ -158,13 +159,13 @@ impl CommittedWriter {
         ensures stale { (result ≡ Err Stale) ↔ IsTrue self.old.is_stale }
         ensures late { IsTrue self.old.is_stale → self.new ≡ self.old }
     {
-        if self.stale {
+        if self.is_stale() {
             return Err(PublishError::Stale);
         }
         match self.add(rt, alloc, changes) {
             Ok(()) => Ok(()),
             Err(OutOfMemory) => {
-                self.stale = true;
+                self.refused = Some(PublicationRefused::new());
                 Err(PublishError::OutOfMemory)
             }
         }
@@ -198,7 +199,7 @@ impl CommittedWriter {
                 Ok(())
             }
             Err(_refused) => {
-                self.stale = true;
+                self.refused = Some(PublicationRefused::new());
                 Err(OutOfMemory)
             }
         }
@@ -235,7 +236,14 @@ impl CommittedWriter {
     pub fn is_stale(&self) -> bool
         ensures { result ≡ self.now.is_stale }
     {
-        self.stale
+        self.refused.is_some()
+    }
+
+    /// The refusal of a publication, which is there just where the view is stale.
+    pub fn refusal(&self) -> Option<PublicationRefused>
+        ensures { is_some result ≡ self.now.is_stale }
+    {
+        self.refused
     }
 
     /// Ends the writer. It waits for readings that are under way. Afterwards its observers may be refused.
@@ -244,7 +252,7 @@ impl CommittedWriter {
             writer,
             head: _head,
             initials: _initials,
-            stale: _,
+            refused: _,
         } = self;
         drop(writer.take(rt));
     }

@@ -9,6 +9,7 @@ mod committed_writer;
 mod notes;
 mod observed;
 mod observer;
+mod publication_refused;
 mod publications;
 mod send_sync;
 
@@ -18,5 +19,6 @@ pub use committed_writer::{CommittedWriter, PublishError};
 pub use notes::{NoteRefused, PlaceNote};
 pub use observed::{ReadRefused, Reading, reading_stands};
 pub use observer::Observer;
+pub use publication_refused::PublicationRefused;
 pub use publications::Publications;
 pub use send_sync::{may_cross, may_share};

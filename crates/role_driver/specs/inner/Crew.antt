@@ -1,9 +1,10 @@
 -- Seats that are driven to their end, and the threads that drive them.
-use Rattle.std.specs.Prelude.{◌≡◌, ℕ, true, reverse, Result, Ok, Err}
+use Rattle.std.specs.Prelude.{◌≡◌, ◌⊎◌, ℕ, true, reverse, Result, Ok, Err}
+use Rattle.place_plan.specs.Plans.PlanValue.{Plan}
 use Rattle.place_plan.specs.declared.rules.machine.Base.{Base}
 use Rattle.place_plan.specs.RulesOfJournals.Roles.{is_over}
 use Rattle.action_manager.specs.Managers.{plan_in, IsSeatIn}
-use Rattle.action_manager.specs.Seats.{participant_of, seen_by}
+use Rattle.action_manager.specs.Seats.{participant_of, seen_by, token_of}
 use Rattle.action_manager.specs.declared.manager.Manager.{Manager}
 use Rattle.action_manager.specs.declared.seat.Seat.{Seat}
 
@@ -11,6 +12,15 @@ use Rattle.action_manager.specs.declared.seat.Seat.{Seat}
 pub record IsDone {M : Type 0} (base_of : M → Base) (manager : Manager M) (seat : Seat M) : Type 0 where
   pub opened : IsSeatIn base_of manager seat
   pub over : is_over (plan_in manager) (reverse (seen_by seat)) (participant_of seat) ≡ true
+
+-- the plan of the machine at which the seat takes turns
+abbrev pub plan_at : {M : Type 0} → Seat M → Plan
+plan_at seat = (token_of seat).me.0.terms.plan
+
+-- how a seat comes back from its thread: its participant is over in what it has seen; or it is untouched, and this was seen
+abbrev pub IsBack : {M : Type 0} → Type 0 → Seat M → Seat M → Type 0
+IsBack was_seen before after =
+    (is_over (plan_at before) (reverse (seen_by after)) (participant_of before) ≡ true) ⊎ ((after ≡ before) × was_seen)
 
 -- a member of the crew: a thread that drives a seat of this manager, or such a seat that was handed back
 abbrev pub IsMember : {M H : Type 0} → (M → Base) → Manager M → (H → Seat M) → Result H (Seat M) → Type 0

@@ -14,7 +14,7 @@ committed w =
     record {
       initials = w.initials.items;
       publications = w.writer.desk.shown.value.publications;
-      is_stale = w.stale;
+      is_stale = is_some w.refused;
       entered = w.head;
     }
 
@@ -24,8 +24,8 @@ pub record IsInOrder (w : WriterInside) : Type 0 where
   pub right : IsRight w.writer.desk.shown.value
   pub wide : length w.writer.desk.shown.value.given.items ≡ length w.initials.items
   pub book : w.head.book ≡ w.writer.desk.shown.value.publications.book
-  pub idle : w.stale ≡ false → drop w.writer.behind w.writer.log.items ≡ []
-  pub whole : w.stale ≡ false → w.head ≡ w.writer.desk.shown.value.publications
+  pub idle : is_some w.refused ≡ false → drop w.writer.behind w.writer.log.items ≡ []
+  pub whole : is_some w.refused ≡ false → w.head ≡ w.writer.desk.shown.value.publications
 
 -- what contracts see of an observer
 abbrev pub watching_view : ObserverInside → Watching

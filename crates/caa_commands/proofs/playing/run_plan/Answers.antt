@@ -1,34 +1,47 @@
-use Rattle.std.proofs.Common.{◌≡◌, ◌+◌, [], reverse, sym, ap, ◌∙◌, subst, subst₂, inl, Option, Some, None, IfSome}
+use Rattle.std.proofs.Common.{◌≡◌, ◌+◌, true, false, [], reverse, sym, ap, ◌∙◌, subst, subst₂, inl, Option, Some, None, IfSome, IfNone}
 use Rattle.place_plan.specs.RulesOfJournals.Journals.{IsLegal, IsComplete, faults_in}
 use Rattle.place_plan.specs.declared.rules.machine.Base.{Base}
+use Rattle.place_plan.specs.Plans.PlanValue.{Plan}
+use Rattle.journal_text.specs.Watching.Looks.{Looks}
 use Rattle.journal_text.specs.Watching.Right.{first_wrong}
 use Rattle.journal_replay.specs.Device.{HasValues, HasDrills}
+use Rattle.caa_commands.specs.declared.finding.Finding.{Finding}
+use Rattle.caa_commands.specs.declared.finding.Finding.TheVariants as finding
+use Rattle.caa_commands.specs.Findings.{is_played}
 use Rattle.caa_commands.specs.FailedPlays.{IsPlayed}
-use Rattle.caa_commands.specs.OutsideUse.{plant_use, left_of}
-use Rattle.caa_commands.specs.Calls.{EndsAs}
+use Rattle.caa_commands.specs.OutsideUse.{Left, plant_use, left_of}
+use Rattle.caa_commands.specs.Calls.{EndsAs, RunComesTo}
 use Rattle.caa_commands.proofs.Reversed.{all_well_formed}
 use Rattle.caa_commands.proofs.playing.run_plan.Goals as goal
 
-pub ended-requires-clause-entries : goal.ended-requires-clause-entries
-ended-requires-clause-entries g c =
+pub ended_in_threads-requires-clause-entries : goal.ended_in_threads-requires-clause-entries
+ended_in_threads-requires-clause-entries g c =
     let parts = c.into_parts-plan.ensures in
     all_well_formed c.args.plan _ c.into_parts-plan.result.2.entries (parts.plan ∙ c.in-Ok-run.ensures.plan ∙ c.in-Ok.ensures.plan) parts.legal c.is_well_formed.ensures
 
--- what is known of what is there
-of_some : {X : Type 0} (holds : X → Type 0) (o : Option X) (x : X) → o ≡ Some x → IfSome o holds → holds x
-of_some holds o x there known = subst (λ o. IfSome o holds) there known
+-- with looks a play is told; without them no memory was found
+comes : {P : Type 0} (plan : Plan) (left : Left P) (found : Finding) (seens : Option Looks) → IsPlayed plan left → IfSome seens (λ s. first_wrong plan left.journal s.seens ≡ None)
+    → IfSome seens (λ s. EndsAs plan left.journal s.seens found) → IfNone seens (found ≡ finding.OutOfMemory) → RunComesTo plan found left
+comes plan left found (Some s) played right ends lost = inl (record { played = played; seens = s.seens; right = λ _. right; ends = ends })
+comes plan left found None played right ends lost =
+    inl (record {
+      played = played;
+      seens = [];
+      right = λ is. let both : false ≡ true = sym (ap is_played lost) ∙ is in absurd cc;
+      ends = subst (EndsAs plan left.journal []) (sym lost) tt;
+    })
 
-pub returns-in-Some : goal.returns-in-Some
-returns-in-Some g c =
+pub returns : goal.returns
+returns g c =
     let parts = c.into_parts-plan.ensures in
     let opened = c.in-Ok.ensures in
     let ran = c.in-Ok-run.ensures in
-    let told = c.ended.ensures in
+    let told = c.ended_in_threads.ensures in
     let plan = c.args.plan in
     let plant = c.into_parts-plan.result.1 in
     let journal = c.into_parts-plan.result.2.entries in
-    let finding = c.ended.result.finding in
-    let seens = c.in-Some.seens.seens in
+    let finding = c.ended_in_threads.result.finding in
+    let seens = c.in-Ok-run.finished.seens in
     let same : c.into_parts-plan.result.0 ≡ plan = parts.plan ∙ ran.plan ∙ opened.plan in
     let legal = subst (λ p. IsLegal p journal) same parts.legal in
     let played : IsPlayed plan (left_of (plant_use g.P.Plant c.args.plant plant) journal) = record {
@@ -43,11 +56,7 @@ returns-in-Some g c =
         drills = parts.tells_drilling ∙ ap (λ (b : Base). b.tells_drills) ran.base ∙ opened.tells_drilling;
       };
     } in
-    let right : first_wrong plan journal seens ≡ None =
-    subst₂ (λ p j. first_wrong p j seens ≡ None) opened.plan (sym parts.journal) (of_some _ _ _ c.in-Some.is ran.right) in
-    inl (record {
-      played = subst₂ (λ q j. IsPlayed plan (left_of (plant_use g.P.Plant c.args.plant q) j)) (sym told.plant) (sym told.journal) played;
-      seens = seens;
-      right = λ h. subst (λ j. first_wrong plan j seens ≡ None) (sym told.journal) right;
-      ends = subst₂ (λ p j. EndsAs p j seens finding) same (sym told.journal) told.ends;
-    })
+    let right = subst₂ (λ p j. IfSome seens (λ s. first_wrong p j s.seens ≡ None)) opened.plan (sym parts.journal) ran.right in
+    let ends = subst (λ p. IfSome seens (λ s. EndsAs p journal s.seens finding)) same told.ends in
+    subst₂ (λ q j. RunComesTo plan finding (left_of (plant_use g.P.Plant c.args.plant q) j)) (sym told.plant) (sym told.journal)
+    (comes plan (left_of (plant_use g.P.Plant c.args.plant plant) journal) finding seens played right ends told.refused)

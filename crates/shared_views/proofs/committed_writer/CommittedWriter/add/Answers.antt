@@ -1,4 +1,4 @@
-use Rattle.std.proofs.Common.{rules, ◌≡◌, ◌∙◌, ◌<◌, ◌++◌, ◌∷◌, [], false, ℕ, All, length, drop, ap, sym, subst}
+use Rattle.std.proofs.Common.{rules, ◌≡◌, ◌∙◌, ◌<◌, ◌++◌, ◌∷◌, [], false, ℕ, All, length, drop, is_some, ap, sym, subst}
 use Rattle.shared_views.specs.Publications.{Changes}
 use Rattle.shared_views.specs.inner.Boards.{IsRight, Follows}
 use Rattle.shared_views.specs.declared.board.Board.{Board}
@@ -12,7 +12,7 @@ replace_with-requires g c =
     let is = c.in_ok-publication.ensures in
     let seen = c.self.view_is in
     let same : x ≡ y = ap (λ d. d.shown.value) (sym c.append.ensures.desk) in
-    let fresh : c.self.inside.stale ≡ false = ap (λ k. k.is_stale) seen ∙ c.requires.fresh in
+    let fresh : is_some c.self.inside.refused ≡ false = ap (λ k. k.is_stale) seen ∙ c.requires.fresh in
     let idle : drop w.behind w.log.items ≡ [] = c.self.invariant.idle fresh in
     let whole = c.self.invariant.whole fresh in
     let wide : length c.args.self.now.initials ≡ length x.given.items = sym (c.self.invariant.wide ∙ ap (λ k. length k.initials) seen) in
