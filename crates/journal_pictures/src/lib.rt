@@ -2,4 +2,11 @@
 #![tactic(auto)]
 
 pub mod chart;
+pub(crate) mod frame;
+pub mod marks;
+pub(crate) mod render;
+pub mod shapes;
+pub(crate) mod spans;
 pub mod story;
+pub(crate) mod tellings;
+pub(crate) mod words;
