@@ -32,26 +32,26 @@ escaped bytes = flat_map escaped_byte bytes
 abbrev pub length_text : List ℕ → ℕ → List ℕ
 length_text name n = 32 ∷ name ++ codes "=\"" ++ decimal n ++ 34 ∷ []
 
--- the front of an element, with its class
-abbrev pub front_text : List ℕ → List ℕ → List ℕ
-front_text element class = 60 ∷ element ++ codes " class=\"" ++ class ++ 34 ∷ []
+-- how an element begins, with its class
+abbrev pub element_text : List ℕ → List ℕ → List ℕ
+element_text element class = 60 ∷ element ++ codes " class=\"" ++ class ++ 34 ∷ []
 
 -- a rectangle
 abbrev pub area_text : List ℕ → ℕ → ℕ → ℕ → ℕ → List ℕ
 area_text class left top width height =
-    front_text (codes "rect") class ++ length_text (codes "x") left ++ length_text (codes "y") top
+    element_text (codes "rect") class ++ length_text (codes "x") left ++ length_text (codes "y") top
     ++ length_text (codes "width") width ++ length_text (codes "height") height ++ codes "/>\n"
 
 -- a line
 abbrev pub line_text : List ℕ → ℕ → ℕ → ℕ → ℕ → List ℕ
 line_text class left top right bottom =
-    front_text (codes "line") class ++ length_text (codes "x1") left ++ length_text (codes "y1") top
+    element_text (codes "line") class ++ length_text (codes "x1") left ++ length_text (codes "y1") top
     ++ length_text (codes "x2") right ++ length_text (codes "y2") bottom ++ codes "/>\n"
 
 -- words, which can be selected
 abbrev pub words_text : List ℕ → ℕ → ℕ → List ℕ → List ℕ
 words_text class left base words =
-    front_text (codes "text") class ++ length_text (codes "x") left ++ length_text (codes "y") base
+    element_text (codes "text") class ++ length_text (codes "x") left ++ length_text (codes "y") base
     ++ 62 ∷ escaped words ++ codes "</text>\n"
 
 -- a part of the picture that is no mark
@@ -60,30 +60,31 @@ shape_text (shape.Area class left top width height) = area_text class.now left t
 shape_text (shape.Line class left top right bottom) = line_text class.now left top right bottom
 shape_text (shape.Words class left base words) = words_text class.now left base words.items
 
--- a mark: the sign of its kind where its lane and its row cross, and under it the line that its entry has in the text of the journal
-abbrev pub mark_text : Plan → Mark → List ℕ
-mark_text plan m =
+-- the sign of a mark: that of its kind, where its lane and its row cross
+abbrev pub sign_text : Mark → List ℕ
+sign_text m =
     codes "<use href=\"#" ++ kind_word m.entry.kind ++ 34 ∷ length_text (codes "x") (axis m.lane)
-    ++ length_text (codes "y") (middle m.row)
-    ++ codes "><title>" ++ escaped (entry_line plan m.entry) ++ codes "</title></use>\n"
+    ++ length_text (codes "y") (middle m.row) ++ 62 ∷ []
 
--- how a picture of this size begins
-abbrev pub head_text : ℕ → ℕ → List ℕ
-head_text width height =
-    codes "<svg xmlns=\"http://www.w3.org/2000/svg\"" ++ length_text (codes "width") width
-    ++ length_text (codes "height") height ++ codes ">\n"
+-- what stands under a sign
+abbrev pub title_text : List ℕ → List ℕ
+title_text line = codes "<title>" ++ escaped line ++ codes "</title></use>\n"
 
--- a text is the picture of these entries: a head, the looks of the signs, parts that are no marks, and the marks of the entries, each
--- once
+-- a mark: its sign, and under it the line that its entry has in the text of the journal
+unfoldable pub mark_text : Plan → Mark → List ℕ
+mark_text plan m = sign_text m ++ title_text (entry_line plan m.entry)
+
+-- how a picture ends
+abbrev pub end_text : List ℕ
+end_text = codes "</svg>\n"
+
+-- parts that are no marks, then these marks, and the end
+abbrev pub body_text : Plan → List Shape → List Mark → List ℕ
+body_text plan shapes marks = flat_map shape_text shapes ++ flat_map (mark_text plan) marks ++ end_text
+
+-- a text is a picture of these entries: a front, which says how signs look, then parts that are no marks, and then the marks of the
+-- entries, each once
 pub record IsPicture (plan : Plan) (entries : List Entry) (text : List ℕ) : Type 0 where
-  pub width : ℕ
-  pub height : ℕ
-  pub looks : List ℕ
+  pub front : List ℕ
   pub shapes : List Shape
-  pub same :
-      text
-      ≡ head_text width height
-      ++ looks
-      ++ flat_map shape_text shapes
-      ++ flat_map (mark_text plan) (marks_from 0 entries)
-      ++ codes "</svg>\n"
+  pub same : text ≡ front ++ body_text plan shapes (marks_from 0 entries)

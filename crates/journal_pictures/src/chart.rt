@@ -4,11 +4,11 @@ ghost use Rattle.std.specs.Prelude.{◌≡◌, ◌++◌, OnOk, IfOk};
 ghost use Rattle.std.specs.List.{All, flat_map};
 ghost use Rattle.place_plan.specs.RulesOfJournals.WellFormed.{IsWellFormed, AllWellFormed};
 ghost use Rattle.journal_pictures.specs.Marks.{drawn};
-ghost use Rattle.journal_pictures.specs.Pictures.{shape_text, mark_text, IsPicture};
+ghost use Rattle.journal_pictures.specs.Pictures.{shape_text, mark_text, body_text, IsPicture};
 
 use crate::frame::{View, frame, height, width};
 use crate::marks::{Mark, drawn, marks_of};
-use crate::render::{SIGNS, push_head, push_mark, push_shape};
+use crate::render::{push_front, push_mark, push_shape};
 use crate::shapes::Shape;
 use caa_base::written::entry::OutOfMemory;
 use caa_base::written::journal::Journal;
@@ -40,12 +40,26 @@ pub fn chart(
     let shapes = frame(alloc, &view)?;
     let marks = marks_of(alloc, part)?;
     let mut text = Vec::new(alloc);
-    push_head(&mut text, width(&view), height(&view))?;
-    text.extend_from_slice(SIGNS)?;
-    push_shapes(&mut text, &shapes)?;
-    push_marks(alloc, &mut text, plan, &marks)?;
-    text.extend_from_slice(b"</svg>\n")?;
+    push_front(&mut text, width(&view), height(&view))?;
+    push_body(alloc, &mut text, plan, &shapes, &marks)?;
     Ok(text)
+}
+
+/// Adds what is no mark, the marks, and the end.
+fn push_body(
+    alloc: Global,
+    text: &mut Vec<u8>,
+    plan: &Plan,
+    shapes: &[Shape],
+    marks: &[Mark],
+) -> Result<(), OutOfMemory>
+    requires { All (λ m. IsWellFormed plan.now m.entry) marks.now }
+    ensures { OnOk result (text.new.items ≡ text.old.items ++ body_text plan.now shapes.now marks.now) }
+{
+    push_shapes(text, shapes)?;
+    push_marks(alloc, text, plan, marks)?;
+    text.extend_from_slice(b"</svg>\n")?;
+    Ok(())
 }
 
 /// Adds what is no mark.

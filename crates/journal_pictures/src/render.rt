@@ -4,7 +4,7 @@ ghost use Rattle.std.specs.Prelude.{◌≡◌, ◌∷◌, ◌++◌, [], codes, d
 ghost use Rattle.std.specs.List.{flat_map};
 ghost use Rattle.place_plan.specs.RulesOfJournals.WellFormed.{IsWellFormed};
 ghost use Rattle.journal_text.specs.Texts.Text.{kind_word, entry_line};
-ghost use Rattle.journal_pictures.specs.Pictures.{axis, middle, escaped_byte, escaped, length_text, front_text, area_text, line_text, words_text, shape_text, mark_text, head_text};
+ghost use Rattle.journal_pictures.specs.Pictures.{axis, middle, escaped_byte, escaped, length_text, element_text, area_text, line_text, words_text, shape_text, sign_text, title_text, mark_text};
 
 use crate::marks::Mark;
 use crate::shapes::Shape;
@@ -88,9 +88,9 @@ fn push_decimal(text: &mut Vec<u8>, number: u64) -> Result<(), OutOfMemory>
     }
 }
 
-/// Adds the front of an element, with its class.
-fn push_front(text: &mut Vec<u8>, element: &[u8], class: &[u8]) -> Result<(), OutOfMemory>
-    ensures { OnOk result (text.new.items ≡ text.old.items ++ front_text element.now class.now) }
+/// Adds how an element begins, with its class.
+fn push_element(text: &mut Vec<u8>, element: &[u8], class: &[u8]) -> Result<(), OutOfMemory>
+    ensures { OnOk result (text.new.items ≡ text.old.items ++ element_text element.now class.now) }
 {
     text.push(b'<')?;
     text.extend_from_slice(element)?;
@@ -139,7 +139,7 @@ fn push_area(
 ) -> Result<(), OutOfMemory>
     ensures { OnOk result (text.new.items ≡ text.old.items ++ area_text class.now left top width height) }
 {
-    push_front(text, b"rect", class)?;
+    push_element(text, b"rect", class)?;
     push_length(text, b"x", left)?;
     push_length(text, b"y", top)?;
     push_length(text, b"width", width)?;
@@ -159,7 +159,7 @@ fn push_line(
 ) -> Result<(), OutOfMemory>
     ensures { OnOk result (text.new.items ≡ text.old.items ++ line_text class.now left top right bottom) }
 {
-    push_front(text, b"line", class)?;
+    push_element(text, b"line", class)?;
     push_length(text, b"x1", left)?;
     push_length(text, b"y1", top)?;
     push_length(text, b"x2", right)?;
@@ -178,7 +178,7 @@ fn push_words(
 ) -> Result<(), OutOfMemory>
     ensures { OnOk result (text.new.items ≡ text.old.items ++ words_text class.now left base words.now) }
 {
-    push_front(text, b"text", class)?;
+    push_element(text, b"text", class)?;
     push_length(text, b"x", left)?;
     push_length(text, b"y", base)?;
     text.push(b'>')?;
@@ -188,6 +188,7 @@ fn push_words(
 }
 
 /// Adds a mark: the sign of its kind, where its lane and its row cross, under which the line of the entry stands.
+#[tactic(auto, unfolding(crate::specs::Pictures::mark_text))]
 pub fn push_mark(
     alloc: Global,
     text: &mut Vec<u8>,
@@ -198,13 +199,29 @@ pub fn push_mark(
     ensures { OnOk result (text.new.items ≡ text.old.items ++ mark_text plan.now mark.now) }
 {
     let line = line_of(alloc, plan, &mark.entry)?;
+    push_sign(text, mark)?;
+    push_title(text, &line)
+}
+
+/// Adds the sign of a mark.
+fn push_sign(text: &mut Vec<u8>, mark: &Mark) -> Result<(), OutOfMemory>
+    ensures { OnOk result (text.new.items ≡ text.old.items ++ sign_text mark.now) }
+{
     text.extend_from_slice(b"<use href=\"#")?;
     text.extend_from_slice(sign_of(mark.entry.kind))?;
     text.push(b'"')?;
     push_length(text, b"x", axis(mark.lane))?;
     push_length(text, b"y", middle(mark.row))?;
-    text.extend_from_slice(b"><title>")?;
-    push_escaped(text, &line)?;
+    text.push(b'>')?;
+    Ok(())
+}
+
+/// Adds what stands under a sign.
+fn push_title(text: &mut Vec<u8>, line: &[u8]) -> Result<(), OutOfMemory>
+    ensures { OnOk result (text.new.items ≡ text.old.items ++ title_text line.now) }
+{
+    text.extend_from_slice(b"<title>")?;
+    push_escaped(text, line)?;
     text.extend_from_slice(b"</title></use>\n")?;
     Ok(())
 }
@@ -245,20 +262,19 @@ fn sign_of(kind: Kind) -> &'static [u8]
     }
 }
 
-/// Adds the head of a picture of this size.
-pub fn push_head(text: &mut Vec<u8>, width: u64, height: u64) -> Result<(), OutOfMemory>
-    ensures { OnOk result (text.new.items ≡ text.old.items ++ head_text width height) }
-{
+/// Adds the front of a picture of this size: how signs look, and what else its parts look like.
+pub fn push_front(text: &mut Vec<u8>, width: u64, height: u64) -> Result<(), OutOfMemory> {
     text.extend_from_slice(b"<svg xmlns=\"http://www.w3.org/2000/svg\"")?;
     push_length(text, b"width", width)?;
     push_length(text, b"height", height)?;
     text.extend_from_slice(b">\n")?;
+    text.extend_from_slice(SIGNS)?;
     Ok(())
 }
 
 /// How the parts of a picture look, and the signs of the kinds. Colours are those of Okabe and Ito, which people who see few colours
 /// can tell apart; each sign has a shape or a letter of its own besides.
-pub const SIGNS: &[u8] = b"<style>
+const SIGNS: &[u8] = b"<style>
 text{font:10px sans-serif}
 .says{paint-order:stroke;stroke:#f4f4f4;stroke-width:3px}
 .name{font-weight:bold;font-size:13px}
