@@ -5,6 +5,7 @@ use Rattle.caa_base.specs.declared.written.entry.Entry.{Entry}
 use Rattle.place_plan.specs.Plans.PlanValue.{Plan}
 use Rattle.journal_text.specs.Texts.Text.{kind_word, entry_line}
 use Rattle.journal_pictures.specs.declared.marks.Mark.{Mark}
+use Rattle.journal_pictures.specs.declared.render.TheConstants.{OPENING, SIGNS}
 use Rattle.journal_pictures.specs.declared.shapes.Shape.{Shape}
 use Rattle.journal_pictures.specs.declared.shapes.Shape.TheVariants as shape
 use Rattle.journal_pictures.specs.Marks.{marks_from}
@@ -82,9 +83,14 @@ end_text = codes "</svg>\n"
 abbrev pub body_text : Plan → List Shape → List Mark → List ℕ
 body_text plan shapes marks = flat_map shape_text shapes ++ flat_map (mark_text plan) marks ++ end_text
 
--- a text is a picture of these entries: a front, which says how signs look, then parts that are no marks, and then the marks of the
--- entries, each once
+-- how a picture of this size begins: with its size, and with how the signs look, which is always the same
+abbrev pub front_text : ℕ → ℕ → List ℕ
+front_text width height =
+    OPENING.now ++ length_text (codes "width") width ++ length_text (codes "height") height ++ codes ">\n" ++ SIGNS.now
+
+-- a text is a picture of these entries: a front, then parts that are no marks, and then the marks of the entries, each once
 pub record IsPicture (plan : Plan) (entries : List Entry) (text : List ℕ) : Type 0 where
-  pub front : List ℕ
+  pub width : ℕ
+  pub height : ℕ
   pub shapes : List Shape
-  pub same : text ≡ front ++ body_text plan shapes (marks_from 0 entries)
+  pub same : text ≡ front_text width height ++ body_text plan shapes (marks_from 0 entries)

@@ -4,7 +4,7 @@ ghost use Rattle.std.specs.Prelude.{◌≡◌, ◌∷◌, ◌++◌, [], codes, d
 ghost use Rattle.std.specs.List.{flat_map};
 ghost use Rattle.place_plan.specs.RulesOfJournals.WellFormed.{IsWellFormed};
 ghost use Rattle.journal_text.specs.Texts.Text.{kind_word, entry_line};
-ghost use Rattle.journal_pictures.specs.Pictures.{axis, middle, escaped_byte, escaped, length_text, element_text, area_text, line_text, words_text, shape_text, sign_text, title_text, mark_text};
+ghost use Rattle.journal_pictures.specs.Pictures.{axis, middle, escaped_byte, escaped, length_text, element_text, area_text, line_text, words_text, shape_text, sign_text, title_text, mark_text, front_text};
 
 use crate::marks::Mark;
 use crate::shapes::Shape;
@@ -262,15 +262,20 @@ fn sign_of(kind: Kind) -> &'static [u8]
     }
 }
 
-/// Adds the front of a picture of this size: how signs look, and what else its parts look like.
-pub fn push_front(text: &mut Vec<u8>, width: u64, height: u64) -> Result<(), OutOfMemory> {
-    text.extend_from_slice(b"<svg xmlns=\"http://www.w3.org/2000/svg\"")?;
+/// Adds the front of a picture of this size.
+pub fn push_front(text: &mut Vec<u8>, width: u64, height: u64) -> Result<(), OutOfMemory>
+    ensures { OnOk result (text.new.items ≡ text.old.items ++ front_text width height) }
+{
+    text.extend_from_slice(OPENING)?;
     push_length(text, b"width", width)?;
     push_length(text, b"height", height)?;
     text.extend_from_slice(b">\n")?;
     text.extend_from_slice(SIGNS)?;
     Ok(())
 }
+
+/// With what each picture begins.
+const OPENING: &[u8] = b"<svg xmlns=\"http://www.w3.org/2000/svg\"";
 
 /// How the parts of a picture look, and the signs of the kinds. Colours are those of Okabe and Ito, which people who see few colours
 /// can tell apart; each sign has a shape or a letter of its own besides.
