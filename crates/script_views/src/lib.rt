@@ -1,0 +1,19 @@
+//! What an engineer is told of a script: why it is refused, who handles what, and its graphs as pictures.
+#![tactic(auto)]
+
+mod covers;
+pub mod dot;
+pub mod explaining;
+mod graph_faults;
+mod looking;
+mod misread;
+pub mod page;
+mod phrases;
+mod said_twice;
+mod scene;
+mod shapes;
+mod sizes;
+pub mod source;
+pub mod table;
+mod unfilled;
+mod unknown;
