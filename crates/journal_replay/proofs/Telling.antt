@@ -1,5 +1,5 @@
 -- A device that tells its values or its drills goes on telling them.
-use Rattle.std.proofs.Common.{◌≡◌, ℕ, ℤ, Bool, Option, Some, None, is_some, refl, ap, ◌∙◌}
+use Rattle.std.proofs.Common.{◌≡◌, ℕ, ℤ, Bool, Option, Some, None, is_some, refl}
 use Rattle.caa_base.specs.Outside.PlantState.{PlantState, Drilling, after_put, after_try}
 use Rattle.place_plan.specs.declared.rules.machine.Base.{Base}
 

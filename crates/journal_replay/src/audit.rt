@@ -1,14 +1,15 @@
-ghost use Rattle.std.specs.Prelude.{◌≡◌, ◌↔◌, reverse, IsTrue};
+ghost use Rattle.std.specs.Prelude.{◌≡◌, ◌↔◌, [], reverse, IsTrue};
 ghost use Rattle.place_plan.specs.RulesOfJournals.Rules.{MayFollow};
 ghost use Rattle.place_plan.specs.RulesOfJournals.Journals.{LegalPast, AllOver};
 ghost use Rattle.journal_replay.specs.IsDue.{IsRefusalOf};
 ghost use Rattle.journal_replay.specs.Audited.{Audited};
 
-use crate::look_back::places::is_over;
+use crate::look_back::LookBack;
+use crate::records::Records;
 use crate::rule::{asks_device, entry_due, refused};
 use caa_base::written::entry::Entry;
 use caa_base::written::journal::Journal;
-use journal_laws::due_is_right;
+use journal_laws::{due_is_right, is_well_formed};
 use place_plan::plans::plan::Plan;
 use thiserror::Error;
 
@@ -36,28 +37,63 @@ fn is_refusal(entry: &Entry, due: &Entry) -> bool
 }
 
 /// Whether the entry is the one that is due from its maker, or that one where the device refuses it.
-fn may_follow(plan: &Plan, journal: &[Entry], entry: &Entry) -> bool
+fn may_follow<R: Records>(plan: &Plan, records: &R, journal: &[Entry], entry: &Entry) -> bool
+    requires stands { R.stand_for records.now plan.now (reverse journal.now) }
     requires legal { LegalPast plan.now (reverse journal.now) }
     ensures { IsTrue result ↔ MayFollow plan.now (reverse journal.now) entry.now }
 {
     due_is_right(plan);
-    match entry_due(plan, journal, entry.by) {
+    is_well_formed(plan);
+    if entry.by >= plan.participants() {
+        return false;
+    }
+    match entry_due(plan, records, journal, entry.by) {
         Some(due) => is_same(entry, &due) || is_refusal(entry, &due),
         None => false,
     }
 }
 
 /// Whether every participant is through with all its plays.
-pub(crate) fn all_are_over(plan: &Plan, journal: &[Entry]) -> bool
-    requires { LegalPast plan.now (reverse journal.now) }
+pub(crate) fn all_are_over<R: Records>(plan: &Plan, records: &R, journal: &[Entry]) -> bool
+    requires stands { R.stand_for records.now plan.now (reverse journal.now) }
+    requires legal { LegalPast plan.now (reverse journal.now) }
     ensures { IsTrue result ↔ AllOver plan.now (reverse journal.now) }
 {
     for by in 0..plan.participants() {
-        if !is_over(plan, journal, by) {
+        if !records.is_over(plan, journal, by) {
             return false;
         }
     }
     true
+}
+
+/// Whether a journal is legal for a plan, and complete, by records that were just opened. It takes no memory.
+///
+/// What it answers is what `audit` does.
+pub fn audit_with<R: Records>(
+    plan: &Plan,
+    records: &mut R,
+    journal: &Journal,
+) -> Result<(), Illegal>
+    requires { R.stand_for records.old plan.now [] }
+    ensures { Audited plan.now journal.now.entries result }
+{
+    let entries = journal.as_slice();
+    for (index, entry) in entries.iter().enumerate() {
+        if !may_follow(plan, &*records, &entries[..index], entry) {
+            return Err(Illegal {
+                index: index as u64,
+            });
+        }
+        records.note(plan, &entries[..index], entry);
+    }
+    if all_are_over(plan, &*records, entries) {
+        Ok(())
+    } else {
+        Err(Illegal {
+            index: entries.len() as u64,
+        })
+    }
 }
 
 /// Whether a journal is legal for a plan, and complete. It takes no memory.
@@ -67,19 +103,5 @@ pub(crate) fn all_are_over(plan: &Plan, journal: &[Entry]) -> bool
 pub fn audit(plan: &Plan, journal: &Journal) -> Result<(), Illegal>
     ensures { Audited plan.now journal.now.entries result }
 {
-    let entries = journal.as_slice();
-    for (index, entry) in entries.iter().enumerate() {
-        if !may_follow(plan, &entries[..index], entry) {
-            return Err(Illegal {
-                index: index as u64,
-            });
-        }
-    }
-    if all_are_over(plan, entries) {
-        Ok(())
-    } else {
-        Err(Illegal {
-            index: entries.len() as u64,
-        })
-    }
+    audit_with(plan, &mut LookBack, journal)
 }

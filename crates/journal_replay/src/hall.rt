@@ -18,6 +18,8 @@ ghost use Rattle.journal_replay.specs.inner.Duty.{MayWorkNow};
 use crate::answer::Due;
 use crate::audit::all_are_over;
 use crate::duty::{Turn, Work};
+use crate::look_back::LookBack;
+use crate::records::Records;
 use crate::rule::turn;
 use caa_base::outside::plant::{Plant, PlantError};
 use caa_base::written::entry::{Drill, Entry, Failed, Object, OutOfMemory, Participant};
@@ -26,7 +28,6 @@ use caa_base::written::work::WorkDone;
 use journal_laws::{is_bounded, is_well_formed, last_put_is_value};
 use place_plan::plans::plan::Plan;
 use place_plan::rules::machine::{Answer, Machine};
-use place_plan::rules::value::value_at;
 use std::alloc::Global;
 use thiserror::Error;
 
@@ -63,17 +64,19 @@ pub struct OpenError<P> {
     pub plant: P,
 }
 
-/// A machine that keeps nothing but its journal, and looks back over it at each question.
+/// A machine that plays by the records that it keeps of its journal.
 ///
 /// Its plant was asked just what the journal says: once for each write, for each restore and for each refused put, in order.
 #[derive(Drop)]
-pub struct PlainHall<P: Plant> {
+pub struct Played<P: Plant, R: Records> {
     plan: Plan,
     plant: P,
     journal: Journal,
+    records: R,
     base: u64,
     ghost legal: { LegalPast plan (reverse journal.entries) } by { LegalPast-prop plan (reverse journal.entries) },
     ghost room: { bound plan ≤ journal.room },
+    ghost stands: { R.stand_for records plan (reverse journal.entries) } by { R.one_way records plan (reverse journal.entries) },
     ghost device: { FitsJournal plan base journal.entries (record {
       faults = P.faults plant;
       calls = P.calls plant;
@@ -83,6 +86,9 @@ pub struct PlainHall<P: Plant> {
       drilling = P.drilling plant;
     }) },
 }
+
+/// A machine that keeps nothing but its journal, and looks back over it at each question.
+pub type PlainHall<P> = Played<P, LookBack>;
 
 /// The puts that the device is to refuse.
 fn drills_of(alloc: Global, plan: &Plan) -> Result<Vec<Drill>, OutOfMemory>
@@ -117,6 +123,17 @@ fn lay_out<P: Plant>(alloc: Global, plan: &Plan, plant: &mut P) -> Result<(), Pl
     plant.lay(alloc, values.as_slice(), drills.as_slice(), plan.bound())
 }
 
+/// An empty journal with room for a whole play, and the records of it.
+fn begin<R: Records>(alloc: Global, plan: &Plan) -> Result<(Journal, R), OutOfMemory>
+    ensures entries { IfOk result (λ begun. begun.0.entries ≡ []) }
+    ensures room { IfOk result (λ begun. begun.0.room ≡ bound plan.now) }
+    ensures stands { IfOk result (λ begun. R.stand_for begun.1 plan.now []) }
+{
+    let journal = Journal::with_room(alloc, plan.bound())?;
+    let records = R::open(alloc, plan)?;
+    Ok((journal, records))
+}
+
 /// Asks a plant for a put, once, and gives the entry for its answer.
 #[tactic(auto, using(crate::proofs::Telling::goes_on_telling))]
 fn answer_of<P: Plant>(plant: &mut P, well: Entry, fault: Entry) -> Entry
@@ -148,15 +165,15 @@ fn fits(hint: &WorkDone, work: &Work) -> bool
     hint.rounds() == work.rounds && hint.from() == work.from
 }
 
-impl<P: Plant> PlainHall<P> {
+impl<P: Plant, R: Records> Played<P, R> {
     ghost use Rattle.journal_replay.specs.Hall.{plan_in, plant_in, journal_in, base_in, room_in};
 
     /// A machine at the beginning of a plan, over a plant.
     ///
-    /// All its memory is taken here: the journal has room for as many entries as the plan allows, and the plant is laid out with
-    /// the initial values, the plan's drills and room for as many puts. `PlantFault` comes only where the plant refused to be
+    /// All its memory is taken here: the journal has room for as many entries as the plan allows, the records are opened, and the
+    /// plant is laid out with the initial values, the plan's drills and room for as many puts. `PlantFault` comes only where the plant refused to be
     /// laid out, and its count of that rose. Both errors hand the plant back, which was asked for no put.
-    pub fn open(alloc: Global, plan: Plan, plant: P) -> Result<PlainHall<P>, OpenError<P>>
+    pub fn open(alloc: Global, plan: Plan, plant: P) -> Result<Played<P, R>, OpenError<P>>
         ensures plan { IfOk result (λ hall. plan_in hall ≡ plan) }
         ensures journal { IfOk result (λ hall. journal_in hall ≡ []) }
         ensures base { IfOk result (λ hall. (base_in hall).faults ≡ P.faults plant) }
@@ -173,8 +190,8 @@ impl<P: Plant> PlainHall<P> {
     {
         let mut plant = plant;
         let base = plant.faults();
-        let journal = match Journal::with_room(alloc, plan.bound()) {
-            Ok(journal) => journal,
+        let (journal, records) = match begin(alloc, &plan) {
+            Ok(begun) => begun,
             Err(OutOfMemory) => {
                 return Err(OpenError {
                     cause: OpenCause::OutOfMemory,
@@ -183,10 +200,11 @@ impl<P: Plant> PlainHall<P> {
             }
         };
         match lay_out(alloc, &plan, &mut plant) {
-            Ok(()) => Ok(PlainHall {
+            Ok(()) => Ok(Played {
                 plan,
                 plant,
                 journal,
+                records,
                 base,
             }),
             Err(error) => Err(OpenError {
@@ -213,10 +231,11 @@ impl<P: Plant> PlainHall<P> {
         ensures tells_state { is_some (P.state result.1) ≡ (base_in self).tells_values }
         ensures tells_drilling { is_some (P.drilling result.1) ≡ (base_in self).tells_drills }
     {
-        let PlainHall {
+        let Played {
             plan,
             plant,
             journal,
+            records: _,
             base: _,
         } = self;
         (plan, plant, journal)
@@ -233,6 +252,8 @@ impl<P: Plant> PlainHall<P> {
     {
         is_bounded(&self.plan);
         last_put_is_value(&self.plan);
+        self.records
+            .note(&self.plan, self.journal.as_slice(), &entry);
         self.journal.push(entry);
     }
 
@@ -249,6 +270,8 @@ impl<P: Plant> PlainHall<P> {
         is_well_formed(&self.plan);
         last_put_is_value(&self.plan);
         let entry = answer_of(&mut self.plant, well, fault);
+        self.records
+            .note(&self.plan, self.journal.as_slice(), &entry);
         self.journal.push(entry);
         entry
     }
@@ -277,7 +300,7 @@ impl<P: Plant> PlainHall<P> {
     }
 }
 
-impl<P: Plant> Machine for PlainHall<P> {
+impl<P: Plant, R: Records> Machine for Played<P, R> {
     ghost use Rattle.journal_replay.specs.Hall.{plan_in, plant_in, journal_in, base_in};
 
     ghost plan_of = { plan_in };
@@ -306,7 +329,7 @@ impl<P: Plant> Machine for PlainHall<P> {
         ensures count { CountsFault (made_fault result) (P.faults (plant_in self.old)) (P.faults (plant_in self.new)) }
         ensures answer { Answers (plan_in self.old) (journal_in self.old) (journal_in self.new) by hint result }
     {
-        match turn(&self.plan, &self.journal, by) {
+        match turn(&self.plan, &self.records, &self.journal, by) {
             Turn::Mix(work) => self.take_work(by, work, hint),
             Turn::Act(due) => match due {
                 Due::NotYet => Answer::NotYet,
@@ -330,10 +353,11 @@ impl<P: Plant> Machine for PlainHall<P> {
     }
 
     fn complete(&self) -> bool {
-        all_are_over(&self.plan, self.journal.as_slice())
+        all_are_over(&self.plan, &self.records, self.journal.as_slice())
     }
 
     fn value(&self, object: Object) -> i64 {
-        value_at(&self.plan, self.journal.as_slice(), object)
+        self.records
+            .value_at(&self.plan, self.journal.as_slice(), object)
     }
 }

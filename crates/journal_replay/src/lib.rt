@@ -1,9 +1,11 @@
-//! The plain core, which keeps nothing but the journal and looks back over it at each question.
+//! The core: which entry is due, the machine that makes it, and the audit, by whatever is kept of a journal. The plain one keeps
+//! nothing, and looks back over the entries at each question.
 #![tactic(auto)]
 
 pub mod answer;
 pub mod audit;
 mod duty;
 pub mod hall;
-mod look_back;
+pub mod look_back;
+pub mod records;
 pub mod rule;

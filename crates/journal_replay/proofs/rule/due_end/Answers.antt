@@ -6,7 +6,7 @@ use Rattle.journal_replay.proofs.CoverSoFar.{end_of_cover}
 use Rattle.journal_replay.proofs.rule.due_end.Goals as goal
 
 pub returns-clause-entry : goal.returns-clause-entry
-returns-clause-entry c =
+returns-clause-entry g c =
     let plan = c.args.plan.now in
     ap Some c.naming.ensures.entry
     ∙ end_of_cover plan (is_playable plan c.is_closed.ensures) c.args.place c.args.by _

@@ -6,7 +6,7 @@ use Rattle.journal_replay.proofs.CoverSoFar.{resolve_of_cover, halted_due}
 use Rattle.journal_replay.proofs.rule.due_unresolved.Goals as goal
 
 pub returns-clause-entry : goal.returns-clause-entry
-returns-clause-entry c =
+returns-clause-entry g c =
     let plan = c.args.plan.now in
     let past = reverse c.args.journal.now in
     let p = c.args.place in

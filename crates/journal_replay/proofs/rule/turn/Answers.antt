@@ -10,7 +10,7 @@ use Rattle.journal_replay.proofs.DueEntries.{the_entry, device_decides}
 use Rattle.journal_replay.proofs.rule.turn.Goals as goal
 
 pub returns-in-Mix : goal.returns-in-Mix
-returns-in-Mix c =
+returns-in-Mix g c =
     let plan = c.args.plan.now in
     let past = reverse c.args.journal.now.entries in
     let work = c.in-Mix.work in
@@ -29,7 +29,7 @@ returns-in-Mix c =
     }
 
 pub returns-then-asks_device : goal.returns-then-asks_device
-returns-then-asks_device c =
+returns-then-asks_device g c =
     let plan = c.args.plan.now in
     let past = reverse c.args.journal.now.entries in
     let same = ap (λ (es : List Entry). due_of plan (reverse es) c.args.by) c.as_slice-entries.ensures in
@@ -43,7 +43,7 @@ returns-then-asks_device c =
     )
 
 pub returns-else-asks_device : goal.returns-else-asks_device
-returns-else-asks_device c =
+returns-else-asks_device g c =
     let plan = c.args.plan.now in
     let past = reverse c.args.journal.now.entries in
     let same = ap (λ (es : List Entry). due_of plan (reverse es) c.args.by) c.as_slice-entries.ensures in

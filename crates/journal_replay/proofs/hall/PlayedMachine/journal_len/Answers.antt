@@ -1,7 +1,7 @@
-use Rattle.std.proofs.Common.{length, reverse, subst, arith}
+use Rattle.std.proofs.Common.{reverse, subst, arith}
 use Rattle.std.proofs.lemmas.List.{length-reverse}
 use Rattle.journal_laws.specs.Laws.{Holds, IsBounded}
-use Rattle.journal_replay.proofs.hall.PlainHallMachine.journal_len.Goals as goal
+use Rattle.journal_replay.proofs.hall.PlayedMachine.journal_len.Goals as goal
 
 pub returns-clause-bound : goal.returns-clause-bound
 returns-clause-bound g c =
