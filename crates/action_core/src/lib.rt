@@ -2,6 +2,7 @@
 #![tactic(auto)]
 
 pub mod asking;
+mod hall;
 pub mod noting;
 mod people;
 mod person;
@@ -10,6 +11,7 @@ mod stage;
 mod stages;
 mod tables;
 
+pub use hall::{Hall, audit_fast};
 pub use people::People;
 pub use person::Person;
 pub use stage::Stage;
