@@ -24,22 +24,18 @@ impl Records for Tables {
     }
 
     fn inside(&self, plan: &Plan, journal: &[Entry], by: Participant) -> Option<Place> {
-        let _ = journal.len();
         whereabouts::inside(&self.frames, plan, by)
     }
 
     fn all_are_inside(&self, plan: &Plan, journal: &[Entry], place: Place) -> bool {
-        let _ = journal.len();
         whereabouts::all_are_inside(&self.frames, plan, place)
     }
 
     fn next_play(&self, plan: &Plan, journal: &[Entry], by: Participant) -> Option<Place> {
-        let _ = journal.len();
         whereabouts::next_play(&self.people, plan, by)
     }
 
     fn is_over(&self, plan: &Plan, journal: &[Entry], by: Participant) -> bool {
-        let _ = journal.len();
         whereabouts::is_over(&self.frames, &self.people, plan, by)
     }
 
@@ -51,12 +47,10 @@ impl Records for Tables {
         by: Participant,
         nest: u32,
     ) -> Option<Place> {
-        let _ = journal.len();
         whereabouts::place_entered(&self.stages, plan, place, by, nest)
     }
 
     fn course_of(&self, plan: &Plan, journal: &[Entry], place: Place) -> Course {
-        let _ = journal.len();
         Course {
             has_started: whereabouts::has_started(&self.stages, plan, place),
             has_ended: whereabouts::has_ended(&self.stages, plan, place),
@@ -66,47 +60,38 @@ impl Records for Tables {
     }
 
     fn objects_are_ready(&self, plan: &Plan, journal: &[Entry], place: Place) -> bool {
-        let _ = journal.len();
         objects::objects_are_ready(&self.versions, plan, place)
     }
 
     fn holds(&self, plan: &Plan, journal: &[Entry], place: Place, object: Object) -> bool {
-        let _ = journal.len();
         objects::holds(&self.versions, plan, place, object)
     }
 
     fn value_at(&self, plan: &Plan, journal: &[Entry], object: Object) -> i64 {
-        let _ = journal.len();
         objects::value_at(&self.versions, plan, object)
     }
 
     fn next_restore(&self, plan: &Plan, journal: &[Entry], place: Place) -> Option<Object> {
-        let _ = journal.len();
         self.endings.next_restore(plan, place)
     }
 
     fn value_at_start(&self, plan: &Plan, journal: &[Entry], place: Place, object: Object) -> i64 {
-        let _ = journal.len();
         objects::value_at_start(&self.versions, plan, place, object)
     }
 
     fn is_doomed(&self, plan: &Plan, journal: &[Entry], place: Place) -> bool {
-        let _ = journal.len();
         self.endings.is_doomed(plan, place)
     }
 
     fn is_halted(&self, plan: &Plan, journal: &[Entry], place: Place, by: Participant) -> bool {
-        let _ = journal.len();
         self.recoveries.is_halted(plan, place, by)
     }
 
     fn all_are_halted(&self, plan: &Plan, journal: &[Entry], place: Place) -> bool {
-        let _ = journal.len();
         recovering::all_are_halted(&self.recoveries, plan, place)
     }
 
     fn least_raised(&self, plan: &Plan, journal: &[Entry], place: Place) -> Option<Exception> {
-        let _ = (plan.places(), journal.len());
         self.recoveries.cover(place)
     }
 
@@ -116,12 +101,10 @@ impl Records for Tables {
         journal: &[Entry],
         place: Place,
     ) -> Option<Exception> {
-        let _ = (plan.places(), journal.len());
         self.recoveries.resolved(place)
     }
 
     fn register(&self, plan: &Plan, journal: &[Entry], place: Place, by: Participant) -> i64 {
-        let _ = journal.len();
         steps::register(&self.frames, plan, place, by)
     }
 
@@ -132,7 +115,6 @@ impl Records for Tables {
         place: Place,
         by: Participant,
     ) -> (Option<Step>, i64) {
-        let _ = journal.len();
         steps::step_and_register(&self.frames, &self.recoveries, plan, place, by)
     }
 
@@ -143,12 +125,10 @@ impl Records for Tables {
         place: Place,
         by: Participant,
     ) -> Option<&'a Program> {
-        let _ = journal.len();
         steps::program_of(&self.frames, &self.recoveries, plan, place, by)
     }
 
     fn has_handled(&self, plan: &Plan, journal: &[Entry], place: Place, by: Participant) -> bool {
-        let _ = journal.len();
         steps::has_handled(&self.frames, plan, place, by)
     }
 
@@ -159,12 +139,10 @@ impl Records for Tables {
         place: Place,
         by: Participant,
     ) -> bool {
-        let _ = journal.len();
         steps::was_refused_in_handler(&self.people, plan, place, by)
     }
 
     fn has_said(&self, plan: &Plan, journal: &[Entry], place: Place, by: Participant) -> bool {
-        let _ = (plan.places(), journal.len());
         self.endings.has_given(place, by)
     }
 
@@ -175,32 +153,26 @@ impl Records for Tables {
         place: Place,
         by: Participant,
     ) -> bool {
-        let _ = (plan.places(), journal.len());
         self.endings.has_given(place, by)
     }
 
     fn all_have_given(&self, plan: &Plan, journal: &[Entry], place: Place, raised: bool) -> bool {
-        let _ = (journal.len(), raised);
         self.endings.all_given(plan, place)
     }
 
     fn wants_undo(&self, plan: &Plan, journal: &[Entry], place: Place) -> bool {
-        let _ = (plan.places(), journal.len());
         self.endings.wants_undo(place)
     }
 
     fn has_aborted(&self, plan: &Plan, journal: &[Entry], place: Place, by: Participant) -> bool {
-        let _ = journal.len();
         self.endings.has_aborted(plan, place, by)
     }
 
     fn all_have_aborted(&self, plan: &Plan, journal: &[Entry], place: Place) -> bool {
-        let _ = journal.len();
         self.endings.all_aborted(plan, place)
     }
 
     fn has_aborts(&self, plan: &Plan, journal: &[Entry], place: Place) -> bool {
-        let _ = (plan.places(), journal.len());
         self.endings.has_aborts(place)
     }
 
@@ -212,17 +184,14 @@ impl Records for Tables {
         by: Participant,
     ) -> Option<Exception> {
         plan.is_closed();
-        let _ = journal.len();
         leaving::exception_carried(&self.stages, &self.endings, plan, place, by)
     }
 
     fn has_failed(&self, plan: &Plan, journal: &[Entry], place: Place) -> bool {
-        let _ = (plan.places(), journal.len());
         self.endings.has_failed(place)
     }
 
     fn least_signalled(&self, plan: &Plan, journal: &[Entry], place: Place) -> Option<Exception> {
-        let _ = journal.len();
         self.endings.least_signalled(plan, place)
     }
 }
