@@ -1,4 +1,4 @@
-//! What the fast core keeps of a past: tables that follow a journal entry by entry, and look back nowhere.
+//! The fast core: tables that follow a journal entry by entry and look back nowhere, and the machine and the audit by them.
 #![tactic(auto)]
 
 pub mod asking;
