@@ -10,4 +10,3 @@ pub mod Entering
 pub mod Answering
 pub mod Spoken
 pub mod Carrying
-pub mod OneWay

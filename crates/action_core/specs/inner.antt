@@ -5,3 +5,4 @@ pub mod Asked
 pub mod Raisings
 pub mod KeptPast
 pub mod Carried
+pub mod OneWay

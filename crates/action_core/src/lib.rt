@@ -1,7 +1,8 @@
-//! What the fast core keeps of a past: tables that follow a journal entry by entry, and look back nowhere.
+//! The fast core: tables that follow a journal entry by entry and look back nowhere, and the machine and the audit by them.
 #![tactic(auto)]
 
 pub mod asking;
+mod hall;
 pub mod noting;
 mod people;
 mod person;
@@ -10,6 +11,7 @@ mod stage;
 mod stages;
 mod tables;
 
+pub use hall::{Hall, audit_fast};
 pub use people::People;
 pub use person::Person;
 pub use stage::Stage;

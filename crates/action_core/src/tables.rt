@@ -18,6 +18,8 @@ use role_states::Frames;
 use std::alloc::Global;
 use std::marker::Model;
 
+mod kept_records;
+
 /// The records of a past that the fast core keeps: six tables, which look back nowhere.
 #[derive(Drop)]
 pub struct Tables {
