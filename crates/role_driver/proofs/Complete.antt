@@ -20,7 +20,8 @@ use Rattle.place_plan.specs.RulesOfJournals.Roles.{is_over, is_over_after}
 use Rattle.place_plan.specs.RulesOfJournals.Journals.{IsComplete}
 use Rattle.action_manager.specs.declared.seat.Seat.{Seat}
 use Rattle.action_manager.specs.Seats.{has_seat, HaveAll, Accounts, participant_of, seen_by}
-use Rattle.role_driver.specs.inner.Crew.{IsDone, IsMember, who_of}
+use Rattle.role_driver.specs.SeatsDriven.{IsDone}
+use Rattle.role_driver.specs.inner.Crew.{IsMember, who_of}
 
 -- what was said once stays said
 any_longer : (p : Entry → Bool) (old more : List Entry) → list_any p (reverse old) ≡ true → list_any p (reverse (old ++ more)) ≡ true
@@ -43,7 +44,7 @@ rest_of [] = []
 rest_of (x ∷ xs) = xs
 
 -- numbers that go on by one reach each number between
-reaches : {X : Type 0} (f : X → ℕ) (xs : List X) (a n t : ℕ) → map f xs ≡ range_with_len a n → a ≤ t → t < a + n → list_any (λ x. f x == t) xs ≡ true
+pub reaches : {X : Type 0} (f : X → ℕ) (xs : List X) (a n t : ℕ) → map f xs ≡ range_with_len a n → a ≤ t → t < a + n → list_any (λ x. f x == t) xs ≡ true
 reaches f [] a n t order low high = let none = ap length order ∙ length-range_with_len a n in absurd (omega (arith, none, low, high))
 reaches f (x ∷ xs) a zero t order low high = absurd (omega (arith, low, high))
 reaches f (x ∷ xs) a (suc n) t order low high =

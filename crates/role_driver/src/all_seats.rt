@@ -1,11 +1,10 @@
 ghost use Rattle.std.specs.Prelude.{◌≡◌, [], length, map, reverse, All, vec_capacity};
-ghost use Rattle.std.specs.List.{range_with_len};
 ghost use mathlib.Core.List.{IsPrefix};
 ghost use Rattle.place_plan.specs.RulesOfJournals.Journals.{IsLegal, IsComplete};
 ghost use Rattle.action_manager.specs.Publishing.{Publishes};
 ghost use Rattle.action_manager.specs.Managers.{plan_in, handed_in, book_in, IsSeatIn};
-ghost use Rattle.action_manager.specs.Seats.{participant_of};
-ghost use Rattle.role_driver.specs.inner.Crew.{IsDone};
+ghost use Rattle.action_manager.specs.Seats.{participant_of, HaveAll};
+ghost use Rattle.role_driver.specs.SeatsDriven.{IsDone};
 
 use crate::driving::drive;
 use action_manager::{Closed, Manager, Seat};
@@ -23,9 +22,8 @@ pub fn drive_each<M: Machine, G: Gate, R: Wait>(
 ) -> Vec<Seat<M>>
     requires room { (driven.items ≡ []) × (vec_capacity driven ≡ length seats.items) }
     requires opened { All (λ s. IsSeatIn M.base_of manager.now s) seats.items }
-    requires order { map participant_of seats.items ≡ range_with_len 0 (length (plan_in manager.now).participants) }
     ensures done { All (λ s. IsDone M.base_of manager.now s) result.items }
-    ensures order { map participant_of result.items ≡ range_with_len 0 (length (plan_in manager.now).participants) }
+    ensures same { map participant_of result.items ≡ map participant_of seats.items }
 {
     for seat in seats {
         driven.push_reserved(drive(rt, manager, seat, gate));
@@ -33,10 +31,10 @@ pub fn drive_each<M: Machine, G: Gate, R: Wait>(
     driven
 }
 
-/// Gives the machine and the writer back, once each seat is over; then the machine is complete.
+/// Gives the machine and the writer back, once each participant's seat is there and is over; then the machine is complete.
 pub fn close_done<M: Machine>(manager: Manager<M>, seats: Vec<Seat<M>>) -> Closed<M>
     requires done { All (λ s. IsDone M.base_of manager s) seats.items }
-    requires order { map participant_of seats.items ≡ range_with_len 0 (length (plan_in manager).participants) }
+    requires all { HaveAll (length (plan_in manager).participants) seats.items }
     ensures plan { M.plan_of result.machine ≡ plan_in manager }
     ensures base { M.base_of result.machine ≡ M.base_of (handed_in manager) }
     ensures begins { IsPrefix (M.journal_of (handed_in manager)) (M.journal_of result.machine) }

@@ -62,7 +62,7 @@ fn step_and_ask<M: Machine, G: Gate, R: Wait>(
 /// One turn of a seat with its mixing work, so it never answers that there is work.
 ///
 /// Before the mixing it calls the gate.
-pub(crate) fn take_whole_turn<M: Machine, G: Gate, R: Wait>(
+pub fn take_whole_turn<M: Machine, G: Gate, R: Wait>(
     rt: &R,
     manager: &Manager<M>,
     seat: &mut Seat<M>,

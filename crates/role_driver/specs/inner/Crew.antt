@@ -1,17 +1,12 @@
--- Seats that are driven to their end, and the threads that drive them.
+-- The threads that drive seats to their end.
 use Rattle.std.specs.Prelude.{◌≡◌, ◌⊎◌, ℕ, true, reverse, Result, Ok, Err}
 use Rattle.place_plan.specs.Plans.PlanValue.{Plan}
 use Rattle.place_plan.specs.declared.rules.machine.Base.{Base}
 use Rattle.place_plan.specs.RulesOfJournals.Roles.{is_over}
-use Rattle.action_manager.specs.Managers.{plan_in, IsSeatIn}
+use Rattle.action_manager.specs.Managers.{IsSeatIn}
 use Rattle.action_manager.specs.Seats.{participant_of, seen_by, token_of}
 use Rattle.action_manager.specs.declared.manager.Manager.{Manager}
 use Rattle.action_manager.specs.declared.seat.Seat.{Seat}
-
--- the seat is one of this manager's, and its participant is over in what it has seen
-pub record IsDone {M : Type 0} (base_of : M → Base) (manager : Manager M) (seat : Seat M) : Type 0 where
-  pub opened : IsSeatIn base_of manager seat
-  pub over : is_over (plan_in manager) (reverse (seen_by seat)) (participant_of seat) ≡ true
 
 -- the plan of the machine at which the seat takes turns
 abbrev pub plan_at : {M : Type 0} → Seat M → Plan

@@ -3,7 +3,7 @@ use Rattle.place_plan.specs.RulesOfJournals.Roles.{is_over}
 use Rattle.action_manager.specs.Managers.{plan_in, IsSeatIn}
 use Rattle.action_manager.specs.Seats.{participant_of, seen_by}
 use Rattle.action_manager.proofs.Gathered.{all_more}
-use Rattle.role_driver.specs.inner.Crew.{IsDone}
+use Rattle.role_driver.specs.SeatsDriven.{IsDone}
 use Rattle.role_driver.proofs.Complete.{moved_on, all_first}
 use Rattle.role_driver.proofs.all_seats.drive_each.Goals as goal
 

@@ -1,7 +1,7 @@
 use Rattle.std.proofs.Common.{◌≡◌, ◌++◌, ◌+◌, length, map, All, vec_capacity, vec_len}
 use Rattle.action_manager.specs.Managers.{IsSeatIn}
 use Rattle.action_manager.specs.Seats.{participant_of}
-use Rattle.role_driver.specs.inner.Crew.{IsDone}
+use Rattle.role_driver.specs.SeatsDriven.{IsDone}
 use Rattle.role_driver.proofs.all_seats.drive_each.Given as goal
 
 abbrev pub invariant-loop-seat : goal.invariant-loop-seat

@@ -3,7 +3,7 @@ use Rattle.std.proofs.lemmas.List.{length-map}
 use Rattle.place_plan.specs.Plans.PlanValue.{Plan}
 use Rattle.action_manager.specs.Managers.{plan_in}
 use Rattle.action_manager.specs.Seats.{participant_of}
-use Rattle.role_driver.proofs.Complete.{order_counts}
+use Rattle.role_driver.proofs.Complete.{order_counts, order_has_all}
 use Rattle.role_driver.proofs.WatchTasks.{blanks_known, same_length, tasks_are}
 use Rattle.role_driver.specs.declared.watch_room.Blank.{Blank}
 use Rattle.role_driver.specs.inner.Watching.{task_of}
@@ -51,3 +51,7 @@ seens_of-seens-requires-clause-tasks g c =
     let watches = c.requires.watch_room.blanks ∙ ap (λ (p : Plan). p.watches) (sym closed.plan) in
     c.drive_in_threads-seats.ensures.tasks ∙ c.watchers_for.ensures
     ∙ tasks_are writer (observer_of c.args.opened.manager) closed.published.initials closed.book c.args.watch_room.blanks.items (g.M.Machine.plan_of c.close_done-machine.result.machine).watches watches
+
+pub close_done-machine-requires-clause-all : goal.close_done-machine-requires-clause-all
+close_done-machine-requires-clause-all g c =
+    order_has_all (length (plan_in c.args.opened.manager).participants) c.drive_each-seats.result.items (c.drive_each-seats.ensures.same ∙ (c.drive_in_threads-seats.ensures.order ∙ c.requires.order))

@@ -1,0 +1,11 @@
+pub mod Weights
+pub mod Keeping
+pub mod Parts
+pub mod AllThere
+pub mod SeatsHeld
+pub mod Members
+pub mod RelayCrosses
+pub mod Filling
+pub mod Gathering
+pub mod Endings
+pub mod Pooled

@@ -1,0 +1,5 @@
+pub mod Lists
+pub mod Relays
+pub mod Hands
+pub mod Played
+pub mod inner

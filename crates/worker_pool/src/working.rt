@@ -1,0 +1,114 @@
+ghost use Rattle.std.specs.Prelude.{◌≡◌, All};
+ghost use Rattle.action_manager.specs.Managers.{IsSeatIn};
+ghost use Rattle.action_manager.specs.Seats.{participant_of};
+ghost use Rattle.worker_pool.specs.Hands.{number_of, opened_in};
+ghost use Rattle.worker_pool.specs.inner.Working.{IsAtWork};
+
+use crate::hands::Relay;
+use crate::worker::Worker;
+use action_manager::{Manager, Seat};
+use caa_base::outside::gate::Gate;
+use place_plan::rules::machine::{Answer, Machine};
+use role_driver::driving::take_whole_turn;
+use std::sync::Wait;
+
+/// What became of a seat for now.
+pub enum Rest {
+    /// Its participant has no entry until others have made theirs.
+    Waits,
+    /// Its participant is over.
+    Over,
+}
+
+/// Takes turns for a seat until its participant has no entry for now, or is over. Its work is mixed outside the turns.
+fn step_while_due<M: Machine, G: Gate, R: Wait>(
+    rt: &R,
+    manager: &Manager<M>,
+    seat: &mut Seat<M>,
+    gate: &G,
+) -> Rest
+    requires opened { IsSeatIn M.base_of manager.now seat.old }
+    ensures opened { IsSeatIn M.base_of manager.now seat.new }
+    ensures same { participant_of seat.new ≡ participant_of seat.old }
+{
+    for _ in rt.forever() {
+        match take_whole_turn(rt, manager, seat, gate) {
+            Answer::Did(_) | Answer::Work { .. } => {}
+            Answer::NotYet => return Rest::Waits,
+            Answer::Over => return Rest::Over,
+        }
+    }
+    unreachable!()
+}
+
+/// How many seats were found waiting, one after another, while the journal stayed as long as it is.
+#[derive(Drop)]
+struct Fruitless {
+    seats: usize,
+    seen: u64,
+}
+
+impl Fruitless {
+    /// None yet.
+    fn new() -> Fruitless {
+        Fruitless { seats: 0, seen: 0 }
+    }
+
+    /// One more waits, which has seen so many entries. Says how many it are now.
+    fn add(&mut self, seen: u64) -> usize {
+        if seen != self.seen {
+            self.seats = 0;
+            self.seen = seen;
+        }
+        self.seats = self.seats.saturating_add(1);
+        self.seats
+    }
+}
+
+/// Waits past what a seat has seen that waits, once as many seats were found waiting as there are, while no entry was made.
+fn wait_if_fruitless<M: Machine, R: Wait>(
+    rt: &R,
+    manager: &Manager<M>,
+    relay: &Relay<M>,
+    fruitless: &mut Fruitless,
+    seat: &mut Seat<M>,
+)
+    requires opened { IsSeatIn M.base_of manager.now seat.old }
+    ensures opened { IsSeatIn M.base_of manager.now seat.new }
+    ensures same { participant_of seat.new ≡ participant_of seat.old }
+{
+    if fruitless.add(seat.seen()) > relay.seats() {
+        manager.wait_past(rt, seat);
+    }
+}
+
+/// Takes seats and takes turns for them, until none is queued. A seat that waits goes back; one whose participant is over is kept.
+///
+/// A worker that has found as many seats waiting as there are, while no entry was made, sleeps until there is one. By then each seat
+/// that was queued has been taken since the last entry, by this worker or by one that doesn't sleep.
+pub fn work<M: Machine, G: Gate, R: Wait>(
+    rt: &R,
+    manager: &Manager<M>,
+    relay: &Relay<M>,
+    worker: &mut Worker<M>,
+    gate: &G,
+)
+    requires relay { All (λ s. IsSeatIn M.base_of manager.now s) (opened_in relay.now) }
+    requires worker { IsAtWork relay.now (number_of worker.old.hand) worker.old }
+    ensures worker { IsAtWork relay.now (number_of worker.old.hand) worker.new }
+{
+    let mut fruitless = Fruitless::new();
+    for _ in rt.forever() {
+        match relay.take(rt, &mut worker.hand) {
+            Some(mut seat) => match step_while_due(rt, manager, &mut seat, gate) {
+                Rest::Waits => {
+                    wait_if_fruitless(rt, manager, relay, &mut fruitless, &mut seat);
+                    relay.put(rt, &mut worker.hand, seat);
+                }
+                Rest::Over => worker.kept.push_reserved(seat),
+            },
+            None => return,
+        }
+    }
+    unreachable!()
+}
