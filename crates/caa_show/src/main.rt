@@ -1,0 +1,86 @@
+//! The program `caa_show`: it shows what a script says, and why one is refused.
+#![tactic(auto)]
+
+mod judging;
+mod showing;
+mod words;
+
+use crate::showing::{Shown, Status, show};
+use crate::words::{USAGE, View, asked};
+use caa_base::outside::reading::{ReadError, read_all, write_all};
+use caa_base::outside::standard::{StdSink, StdSource};
+use caa_base::written::limits::MOST_AUDIT_BYTES;
+use std::alloc::{AllocError, Global};
+use std::io::ErrorKind;
+use std::process::ExitCode;
+use std::rt::{Env, Files};
+use std::{env, fs};
+
+/// What the input is called where it is no file.
+const STANDARD_INPUT: &str = "<stdin>";
+
+/// The words that follow the program's name. Words that are no text are none of ours, and so none are given.
+fn words_of(rt: &(impl Env + AllocGlobal)) -> Result<Vec<String>, AllocError> {
+    match env::args(rt) {
+        Ok(words) => words.skip(1).collect(rt.alloc()),
+        Err(error) if error.kind() == ErrorKind::OutOfMemory => Err(AllocError),
+        Err(_) => Ok(Vec::new(rt.alloc())),
+    }
+}
+
+/// All bytes of a file.
+fn read_file(rt: &(impl Files + AllocGlobal), path: &str) -> Result<Vec<u8>, ReadError> {
+    match fs::open(rt, path) {
+        Ok(file) => read_all(rt.alloc(), &mut StdSource::new(file), MOST_AUDIT_BYTES),
+        Err(_) => Err(ReadError::Fault),
+    }
+}
+
+/// A status with a text that is always the same.
+fn told(alloc: Global, status: Status, text: &[u8]) -> Shown {
+    match Vec::from_slice(alloc, text) {
+        Ok(text) => Shown { status, text },
+        Err(_) => Shown {
+            status: Status::OutOfMemory,
+            text: Vec::new(alloc),
+        },
+    }
+}
+
+/// What a view shows of what was read.
+fn show_read(alloc: Global, view: View, file: &str, read: Result<Vec<u8>, ReadError>) -> Shown {
+    match read {
+        Ok(bytes) => match show(alloc, view, file.as_bytes(), &bytes) {
+            Ok(shown) => shown,
+            Err(_) => told(alloc, Status::OutOfMemory, b""),
+        },
+        Err(ReadError::Fault) => told(alloc, Status::SourceFault, b"the input can't be read\n"),
+        Err(ReadError::TooLong) => told(alloc, Status::Refused, b"the input is too long\n"),
+        Err(ReadError::OutOfMemory) => told(alloc, Status::OutOfMemory, b""),
+    }
+}
+
+/// What the words come to.
+fn serve(rt: &HostRuntime, words: &[String]) -> Shown {
+    let alloc = rt.alloc();
+    match asked(words) {
+        None => told(alloc, Status::Usage, USAGE),
+        Some((view, Some(file))) => show_read(alloc, view, file, read_file(rt, file)),
+        Some((view, None)) => {
+            let read = read_all(alloc, &mut StdSource::new(rt.stdin()), MOST_AUDIT_BYTES);
+            show_read(alloc, view, STANDARD_INPUT, read)
+        }
+    }
+}
+
+fn main(rt: HostRuntime) -> ExitCode {
+    let Ok(words) = words_of(&rt) else {
+        return ExitCode::from(Status::OutOfMemory as u8);
+    };
+    let shown = serve(&rt, words.as_slice());
+    let mut sink = StdSink::new(rt.stdout());
+    match write_all(&mut sink, &shown.text) {
+        Ok(()) => ExitCode::from(shown.status as u8),
+        Err(_) => ExitCode::from(Status::SinkFault as u8),
+    }
+}

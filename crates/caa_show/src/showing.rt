@@ -1,0 +1,199 @@
+//! What is shown of an input.
+
+ghost use Rattle.std.specs.Prelude.{◌≡◌, true};
+ghost use Rattle.place_plan.specs.RulesOfJournals.WellFormed.{AllWellFormed};
+ghost use Rattle.journal_text.specs.Texts.Naming.{is_well_named};
+ghost use Rattle.journal_text.specs.Watching.Looks.{AreOfPlan};
+
+use crate::judging::{Input, Judged, Reading, judge, read_journal};
+use crate::words::View;
+use caa_base::written::entry::OutOfMemory;
+use caa_base::written::journal::Journal;
+use journal_pictures::chart::chart;
+use journal_pictures::story::story;
+use journal_text::looks::seens::Seens;
+use place_plan::plans::plan::Plan;
+use script_checker::own_names::has_own_names;
+use script_views::dot::dot;
+use script_views::explaining::{Seen, look};
+use script_views::page::{Page, Piece};
+use script_views::source::{JournalStart, find_journal};
+use script_views::table::tables;
+use std::alloc::Global;
+
+/// How a call of the program ends.
+#[derive(Clone, Copy)]
+pub enum Status {
+    Done = 0,
+    /// The words are no command.
+    Usage = 2,
+    /// The input can't be read.
+    SourceFault = 3,
+    /// The script is refused.
+    Refused = 4,
+    /// The output can't be written.
+    SinkFault = 5,
+    /// The journal isn't legal and complete.
+    Illegal = 7,
+    /// No memory was found.
+    OutOfMemory = 8,
+}
+
+/// A status, and the text that goes with it.
+#[derive(Drop)]
+pub struct Shown {
+    pub status: Status,
+    pub text: Vec<u8>,
+}
+
+/// The line that tells how large a plan is.
+fn accepted(alloc: Global, plan: &Plan) -> Result<Vec<u8>, OutOfMemory> {
+    let mut page = Page::new(alloc, &[]);
+    page.say(&[
+        Piece::Text("accepted: participants "),
+        Piece::Number(u64::from(plan.participants())),
+        Piece::Text(", objects "),
+        Piece::Number(u64::from(plan.objects())),
+        Piece::Text(", places "),
+        Piece::Number(u64::from(plan.places())),
+        Piece::Text(", entries of a journal at most "),
+        Piece::Number(plan.bound()),
+        Piece::Text("\n"),
+    ])?;
+    Ok(page.into_text())
+}
+
+/// A text that goes with a status.
+fn with_status(status: Status, text: Vec<u8>) -> Shown {
+    Shown { status, text }
+}
+
+/// Explains a journal that was read.
+fn explain_journal(
+    alloc: Global,
+    plan: &Plan,
+    input: &Input,
+    journal: Journal,
+    seens: &Seens,
+) -> Result<Shown, OutOfMemory>
+    requires named { is_well_named plan.now ≡ true }
+    requires watches { AreOfPlan plan.now seens.now.seens }
+{
+    match judge(alloc, plan, input, journal, seens)? {
+        Judged::Legal(journal) => {
+            let mut page = Page::new(alloc, &[]);
+            page.say(&[
+                Piece::Text("legal: entries "),
+                Piece::Number(journal.len()),
+                Piece::Text("\n"),
+            ])?;
+            Ok(with_status(Status::Done, page.into_text()))
+        }
+        Judged::Illegal(why) => Ok(with_status(Status::Illegal, why)),
+    }
+}
+
+/// Shows a journal that was read.
+fn show_journal(
+    alloc: Global,
+    view: View,
+    plan: &Plan,
+    input: &Input,
+    journal: Journal,
+    seens: &Seens,
+) -> Result<Shown, OutOfMemory>
+    requires named { is_well_named plan.now ≡ true }
+    requires entries { AllWellFormed plan.now journal.entries }
+    requires watches { AreOfPlan plan.now seens.now.seens }
+{
+    match view {
+        View::Chart { first, count } => {
+            Ok(with_status(Status::Done, chart(alloc, plan, &journal, first, count)?))
+        }
+        View::Story => Ok(with_status(Status::Done, story(alloc, plan, &journal)?)),
+        _ => explain_journal(alloc, plan, input, journal, seens),
+    }
+}
+
+/// Tells that there is no journal behind a script.
+fn no_journal(alloc: Global, file: &[u8]) -> Result<Shown, OutOfMemory> {
+    let mut page = Page::new(alloc, &[]);
+    page.say(&[
+        Piece::Word(file),
+        Piece::Text(
+            ": no journal stands behind the script: put both behind one another, as for audit\n",
+        ),
+    ])?;
+    Ok(with_status(Status::Illegal, page.into_text()))
+}
+
+/// Shows what stands behind a script from its line `journal` on.
+fn show_behind(
+    alloc: Global,
+    view: View,
+    plan: &Plan,
+    file: &[u8],
+    bytes: &[u8],
+    start: JournalStart,
+) -> Result<Shown, OutOfMemory>
+    requires { is_well_named plan.now ≡ true }
+{
+    let input = Input {
+        file,
+        bytes,
+        script_lines: start.lines,
+    };
+    let text = bytes.get(start.bytes..).unwrap_or(&[]);
+    match read_journal(alloc, plan, &input, text)? {
+        Reading::Whole(journal, seens) => {
+            show_journal(alloc, view, plan, &input, journal, &seens)
+        }
+        Reading::Refused(why) => Ok(with_status(Status::Illegal, why)),
+    }
+}
+
+/// Shows what stands behind a script, or how large its plan is where that is asked and nothing stands there.
+fn show_plan(
+    alloc: Global,
+    view: View,
+    plan: &Plan,
+    file: &[u8],
+    bytes: &[u8],
+    start: Option<JournalStart>,
+) -> Result<Shown, OutOfMemory>
+    requires { is_well_named plan.now ≡ true }
+{
+    match start {
+        Some(start) => show_behind(alloc, view, plan, file, bytes, start),
+        None if matches!(view, View::Explain) => Ok(with_status(
+            Status::Done,
+            accepted(alloc, plan)?,
+        )),
+        None => no_journal(alloc, file),
+    }
+}
+
+/// The script of an input, without the journal that stands behind it.
+fn script_text(bytes: &[u8], start: Option<JournalStart>) -> &[u8] {
+    match start {
+        Some(start) => bytes.get(..start.bytes).unwrap_or(bytes),
+        None => bytes,
+    }
+}
+
+/// What a view shows of an input; `file` is what the input is called.
+pub fn show(alloc: Global, view: View, file: &[u8], bytes: &[u8]) -> Result<Shown, OutOfMemory> {
+    let start = find_journal(alloc, bytes)?;
+    let (script, plan) = match look(alloc, file, script_text(bytes, start))? {
+        Seen::Accepted(script, plan) => (script, plan),
+        Seen::Refused(refusal) => return Ok(with_status(Status::Refused, refusal.text)),
+    };
+    match view {
+        View::Table => Ok(with_status(Status::Done, tables(alloc, &script)?)),
+        View::Graph => Ok(with_status(Status::Done, dot(alloc, &script)?)),
+        View::Explain | View::Chart { first: _, count: _ } | View::Story => {
+            has_own_names(&script, &plan);
+            show_plan(alloc, view, &plan, file, bytes, start)
+        }
+    }
+}
