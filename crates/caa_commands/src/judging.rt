@@ -9,10 +9,10 @@ ghost use Rattle.journal_text.specs.Watching.Looks.{AreOfPlan};
 ghost use Rattle.journal_text.specs.Texts.Naming.{is_well_named};
 ghost use Rattle.caa_commands.specs.Judging.{wrong_look, Judges};
 
+use action_core::audit_fast;
 use caa_base::written::entry::OutOfMemory;
 use caa_base::written::journal::Journal;
 use caa_base::written::limits::MOST_AUDITED;
-use journal_replay::audit::audit;
 use journal_text::looks::right::first_wrong;
 use journal_text::looks::seens::Seens;
 use journal_text::texts::text_reader::{TextError, read};
@@ -82,11 +82,12 @@ fn judge_journal(alloc: Global, plan: &Plan, journal: Journal, seens: &Seens) ->
     requires short { length (text_of plan.now journal.entries seens.now.seens) < 2 ^ 63 }
     ensures { (text : List ℕ) → text ≡ text_of plan.now journal.entries seens.now.seens → Judges plan.now text result }
 {
-    match audit(plan, &journal) {
-        Ok(()) => judge_seens(alloc, plan, journal, seens),
-        Err(illegal) => Judgement::Illegal {
+    match audit_fast(alloc, plan, &journal) {
+        Ok(Ok(())) => judge_seens(alloc, plan, journal, seens),
+        Ok(Err(illegal)) => Judgement::Illegal {
             number: illegal.index + 2,
         },
+        Err(OutOfMemory) => Judgement::OutOfMemory,
     }
 }
 

@@ -1,6 +1,6 @@
 //! Plays of a plan over a device, and what they come to.
 
-ghost use Rattle.std.specs.Prelude.{◌≡◌, ◌<◌, ◌^◌, [], true, is_some, IfSome, IfNone, IfOk, IfErr};
+ghost use Rattle.std.specs.Prelude.{◌≡◌, ◌<◌, ◌≤◌, ◌^◌, [], true, is_some, IfSome, IfNone, IfOk, IfErr};
 ghost use Rattle.place_plan.specs.RulesOfJournals.WellFormed.{AllWellFormed};
 ghost use Rattle.journal_text.specs.Watching.Looks.{AreOfPlan};
 ghost use Rattle.journal_text.specs.Texts.Naming.{is_well_named};
@@ -9,15 +9,16 @@ ghost use Rattle.journal_replay.specs.Device.{attempts_in};
 ghost use Rattle.caa_commands.specs.declared.finding.Finding.{Finding};
 ghost use Rattle.caa_commands.specs.FailedPlays.{is_failed_play, has_failed_play};
 ghost use Rattle.caa_commands.specs.OutsideUse.{plant_use, left_of, IsIdle};
-ghost use Rattle.caa_commands.specs.Calls.{EndsAs, DoesNotBegin, SimComesTo, RunComesTo};
+ghost use Rattle.caa_commands.specs.Calls.{EndsAs, DoesNotBegin, SimComesTo, RunComesTo, PoolComesTo};
 
 use crate::finding::Finding;
+use action_core::Hall;
 use caa_base::outside::gate::Gate;
 use caa_base::outside::plant::Plant;
 use caa_base::written::entry::{Entry, Kind, Outcome};
 use caa_base::written::journal::Journal;
 use journal_laws::{is_well_formed, keeps_laws};
-use journal_replay::hall::{OpenCause, PlainHall};
+use journal_replay::hall::OpenCause;
 use journal_text::looks::seens::Seens;
 use journal_text::texts::text_writer::write;
 use place_plan::plans::plan::Plan;
@@ -26,6 +27,7 @@ use role_driver::sim::sim;
 use std::alloc::Global;
 use std::sync::Wait;
 use std::thread::Threads;
+use worker_pool::pool;
 
 /// What a call came to, with the device and the journal that it hands back.
 #[derive(Drop)]
@@ -69,7 +71,7 @@ fn has_failed_play(plan: &Plan, journal: &Journal) -> bool
 }
 
 /// A machine over a plan and a device, or what the call comes to without one.
-fn open<P: Plant>(alloc: Global, plan: Plan, plant: P) -> Result<PlainHall<P>, Decision<P>>
+fn open<P: Plant>(alloc: Global, plan: Plan, plant: P) -> Result<Hall<P>, Decision<P>>
     ensures plan { IfOk result (λ hall. plan_in hall ≡ plan) }
     ensures journal { IfOk result (λ hall. journal_in hall ≡ []) }
     ensures base { IfOk result (λ hall. (base_in hall).faults ≡ P.faults plant) }
@@ -80,7 +82,7 @@ fn open<P: Plant>(alloc: Global, plan: Plan, plant: P) -> Result<PlainHall<P>, D
     ensures refused { IfErr result (λ decision.
         DoesNotBegin decision.finding (left_of (plant_use ⟦<P as Plant>⟧ plant decision.plant) decision.journal.entries)) }
 {
-    match PlainHall::open(alloc, plan, plant) {
+    match Hall::open(alloc, plan, plant) {
         Ok(hall) => Ok(hall),
         Err(error) => {
             let finding = match error.cause {
@@ -141,7 +143,7 @@ pub fn simulate<P: Plant>(alloc: Global, plan: Plan, seed: u32, plant: P) -> Dec
 }
 
 /// No memory was found to play this machine.
-fn unplayed<P: Plant>(hall: PlainHall<P>) -> Decision<P>
+fn unplayed<P: Plant>(hall: Hall<P>) -> Decision<P>
     ensures finding { result.finding ≡ Finding.OutOfMemory }
     ensures plant { result.plant ≡ plant_in hall }
     ensures journal { result.journal.entries ≡ journal_in hall }
@@ -212,4 +214,38 @@ pub fn run_plan<P: Plant + Send, G: Gate + Sync, R: Threads + Wait + Sync>(
     };
     let (plan, plant, journal) = machine.into_parts();
     ended_in_threads(alloc, &plan, plant, journal, seens)
+}
+
+/// Plays a plan to its end by so many workers, and writes the text of its journal. It need not return.
+pub fn pool_plan<P: Plant + Send, G: Gate + Sync, R: Threads + Wait + Sync>(
+    rt: &R,
+    alloc: Global,
+    plan: Plan,
+    workers: u32,
+    plant: P,
+    gate: &G,
+) -> Decision<P>
+    requires one { 1 ≤ workers }
+    requires few { workers ≤ 16 }
+    ensures { PoolComesTo plan result.finding
+        (left_of (plant_use ⟦<P as Plant>⟧ plant result.plant) result.journal.entries) }
+{
+    keeps_laws(&plan);
+    is_well_formed(&plan);
+    let opened = match open(alloc, plan, plant) {
+        Ok(opened) => opened,
+        Err(unopened) => return unopened,
+    };
+    let played = match pool(rt, alloc, opened, workers, gate) {
+        Ok(
+            Finished {
+                machine,
+                seens: _,
+                refused: _,
+            },
+        ) => machine,
+        Err(RunError { machine }) => return unplayed(machine),
+    };
+    let (plan, plant, journal) = played.into_parts();
+    ended(alloc, &plan, plant, journal, &Seens::empty(alloc))
 }
