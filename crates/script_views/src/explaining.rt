@@ -60,7 +60,7 @@ fn tell_line(
         Piece::Text(phrase),
         Piece::Text("\n"),
     ])?;
-    if line.is_empty() {
+    if line.is_empty() || scene.number == 0 {
         return Ok(());
     }
     show_line(page, scene.text, scene.number)?;

@@ -3,10 +3,11 @@
 use crate::page::{Page, Piece};
 use action_script::words::cuts::{cut_line, is_blank, words_of};
 use caa_base::written::entry::OutOfMemory;
+use caa_base::written::limits::MOST_LINE_BYTES;
 use std::alloc::Global;
 
-/// How many bytes of a line are shown at most.
-const MOST_SHOWN: usize = 2048;
+/// How many bytes are shown of a line that is too long, and how many carets stand under a word at most.
+const MOST_SHOWN: usize = 60;
 
 /// What stands in a text after so many lines.
 fn after_lines(text: &[u8], count: u32) -> &[u8] {
@@ -91,7 +92,11 @@ pub fn show_line(page: &mut Page, text: &[u8], number: u32) -> Result<(), OutOfM
         Piece::Number(u64::from(number)),
         Piece::Text(" | "),
     ])?;
-    page.show(line.get(..MOST_SHOWN).unwrap_or(line))?;
+    if line.len() > MOST_LINE_BYTES {
+        page.show(line.get(..MOST_SHOWN).unwrap_or(line))?;
+        return page.say(&[Piece::Text(" ..\n")]);
+    }
+    page.show(line)?;
     page.say(&[Piece::Text("\n")])
 }
 
@@ -122,7 +127,7 @@ pub fn show_carets(
         let is_tab = line.get(index).copied() == Some(b'\t');
         page.fill(if is_tab { b'\t' } else { b' ' }, 1)?;
     }
-    page.fill(b'^', width.max(1))?;
+    page.fill(b'^', width.max(1).min(MOST_SHOWN))?;
     page.say(&[Piece::Text("\n")])
 }
 
