@@ -199,7 +199,7 @@ def limits():
 
 # ---- words and short scripts
 
-USAGE = "usage: check | sim SEED | run | audit | cell N | graph K | messages SEED\n"
+USAGE = "usage: check | sim SEED | run | audit | cell N | graph K | messages SEED | pool W\n"
 
 
 def wrong_words():

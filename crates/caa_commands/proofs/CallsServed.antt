@@ -101,6 +101,7 @@ most_of_script command.Check h = refl
 most_of_script (command.Sim seed) h = refl
 most_of_script command.Run h = refl
 most_of_script (command.Messages seed) h = refl
+most_of_script (command.Pool workers) h = refl
 most_of_script (command.Graph most) h = elim h [ ]
 most_of_script command.Audit h = elim h [ ]
 
@@ -109,6 +110,7 @@ script_of_script command.Check bytes h = refl
 script_of_script (command.Sim seed) bytes h = refl
 script_of_script command.Run bytes h = refl
 script_of_script (command.Messages seed) bytes h = refl
+script_of_script (command.Pool workers) bytes h = refl
 script_of_script (command.Graph most) bytes h = elim h [ ]
 script_of_script command.Audit bytes h = elim h [ ]
 
@@ -174,6 +176,8 @@ plan_served (command.Sim seed) plan bytes found left other laid (inl played) = e
 plan_served (command.Sim seed) plan bytes found left other laid (inr unopened) = begun_served found left laid unopened
 plan_served command.Run plan bytes found left other laid (inl played) = ended_served plan left.journal played.seens found played.ends
 plan_served command.Run plan bytes found left other laid (inr unopened) = begun_served found left laid unopened
+plan_served (command.Pool workers) plan bytes found left other laid (inl played) = ended_served plan left.journal [] found played.ends
+plan_served (command.Pool workers) plan bytes found left other laid (inr unopened) = begun_served found left laid unopened
 plan_served (command.Messages seed) plan bytes found left other laid h = printed_served (IsPlayedByMessages plan seed) found left h
 
 -- a command other than `graph` is refused for what its script is refused for
@@ -183,6 +187,7 @@ refused_script (command.Sim seed) bytes refusal other h = h
 refused_script command.Run bytes refusal other h = h
 refused_script command.Audit bytes refusal other h = h
 refused_script (command.Messages seed) bytes refusal other h = h
+refused_script (command.Pool workers) bytes refusal other h = h
 refused_script (command.Graph most) bytes refusal other h = absurd (other most refl)
 
 -- a command that serves plans makes no graph
@@ -284,6 +289,7 @@ not_both (command.Sim seed) bytes plan refusal found left script comes h = not_r
 not_both command.Run bytes plan refusal found left script comes h = not_refused bytes plan refusal script h
 not_both command.Audit bytes plan refusal found left script comes h = not_refused (script_in command.Audit bytes) plan refusal script h
 not_both (command.Messages seed) bytes plan refusal found left script comes h = not_refused bytes plan refusal script h
+not_both (command.Pool workers) bytes plan refusal found left script comes h = not_refused bytes plan refusal script h
 
 -- a script of which a text is made isn't refused
 no_text : (most : ℕ) (bytes text : List ℕ) (refusal : Refusal) → IsGraphText most bytes text → IsRefusedGraph most bytes refusal → ⊥

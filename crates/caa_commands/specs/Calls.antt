@@ -83,6 +83,15 @@ pub record IsRun {P : Type 0} (plan : Plan) (found : Finding) (left : Left P) : 
 abbrev pub RunComesTo : {P : Type 0} → Plan → Finding → Left P → Type 0
 RunComesTo plan found left = IsRun plan found left ⊎ DoesNotBegin found left
 
+-- `pool` plays the plan by workers, and nobody watches
+pub record IsPooled {P : Type 0} (plan : Plan) (found : Finding) (left : Left P) : Type 0 where
+  pub played : IsPlayed plan left
+  pub ends : EndsAs plan left.journal [] found
+
+-- `pool` plays, or no play begins
+abbrev pub PoolComesTo : {P : Type 0} → Plan → Finding → Left P → Type 0
+PoolComesTo plan found left = IsPooled plan found left ⊎ DoesNotBegin found left
+
 -- the journal that was read is legal and complete, has so many entries, and is handed back
 pub record IsLegalInput {P : Type 0} (plan : Plan) (bytes : List ℕ) (entries : ℕ) (left : Left P) : Type 0 where
   pub lawful : IsLawful plan (journal_part bytes) left.journal
@@ -105,6 +114,7 @@ PlanComesTo command.Run plan bytes found left = RunComesTo plan found left
 PlanComesTo command.Audit plan bytes found left = AuditComesTo plan bytes found left
 PlanComesTo (command.Graph most) plan bytes found left = ⊥
 PlanComesTo (command.Messages seed) plan bytes found left = Prints (IsPlayedByMessages plan seed) found left
+PlanComesTo (command.Pool workers) plan bytes found left = PoolComesTo plan found left
 
 -- ---- what each command comes to over the bytes that were read
 

@@ -65,7 +65,7 @@ numbered_text word number = line word (decimal number ∷ [])
 
 -- what is printed
 abbrev pub finding_text : Finding → List ℕ
-finding_text finding.Usage = codes "usage: check | sim SEED | run | audit | cell N | graph K | messages SEED\n"
+finding_text finding.Usage = codes "usage: check | sim SEED | run | audit | cell N | graph K | messages SEED | pool W\n"
 finding_text finding.SourceFault = codes "fault source\n"
 finding_text (finding.Refused refusal) = refusal_text refusal
 finding_text (finding.Checked counts) = checked_text counts

@@ -32,7 +32,7 @@ WasTold found sink answer =
     ((answer ≡ status_of found) × (sink.held_after ≡ append_known sink.held_before (finding_text found)))
     ⊎ (answer ≡ status.OutOfMemory)
 
--- ---- `check`, `sim SEED`, `run` and `messages SEED`
+-- ---- `check`, `sim SEED`, `run`, `messages SEED` and `pool W`
 
 -- a command that serves each script which has a plan
 abbrev pub ServesPlans : Command → Type 0

@@ -1,6 +1,5 @@
-ghost use Rattle.std.specs.Prelude.{◌≡◌, ◌↔◌, ◌<◌, ◌^◌, IsTrue, Some, map, string_bytes, IfSome};
-ghost use Rattle.caa_commands.specs.Commands.{command_of, number_alone, alone, without_threads, IsWithinRange};
-ghost use Rattle.caa_commands.specs.declared.command.Command.TheVariants.{Run};
+ghost use Rattle.std.specs.Prelude.{◌≡◌, map, string_bytes, IfSome};
+ghost use Rattle.caa_commands.specs.Commands.{command_of, number_alone, alone, asks_for_threads, without_threads, IsWithinRange};
 
 use action_script::words::word::value_of;
 
@@ -9,6 +8,9 @@ const MOST_SEED: u32 = 2_147_483_647;
 
 /// The most members that a set of exceptions may have.
 const MOST_MEMBERS: u32 = 7;
+
+/// The most workers of a pool.
+const MOST_WORKERS: u32 = 16;
 
 /// A command line that is served.
 #[derive(Clone, Copy, Debug, PartialEq, Eq)]
@@ -25,6 +27,8 @@ pub enum Command {
     Graph(u32),
     /// Lets the roles of a script's first play agree by messages. This seed, below 2^31, says what their network delivers.
     Messages(u32),
+    /// Plays a script by so many workers, from 1 to 16, each in a thread of its own, who take the seats of participants by turns.
+    Pool(u32),
 }
 
 /// Just a number from the least to the greatest, in decimal digits without a sign and without leading zeros.
@@ -69,16 +73,18 @@ pub fn command_of(words: &[String]) -> Option<Command>
         Some(Command::Graph(number_alone(1, MOST_MEMBERS, more)?))
     } else if word.as_str() == "messages" {
         Some(Command::Messages(number_alone(0, MOST_SEED, more)?))
+    } else if word.as_str() == "pool" {
+        Some(Command::Pool(number_alone(1, MOST_WORKERS, more)?))
     } else {
         None
     }
 }
 
-/// Whether these words ask for `run`, which may wait.
-pub fn asks_to_run(words: &[String]) -> bool
-    ensures { IsTrue result ↔ (command_of (map string_bytes words.now) ≡ Some Run) }
+/// Whether these words ask for `run` or `pool`, which are played in threads and may wait.
+pub fn asks_for_threads(words: &[String]) -> bool
+    ensures { result ≡ asks_for_threads (command_of (map string_bytes words.now)) }
 {
-    matches!(command_of(words), Some(Command::Run))
+    matches!(command_of(words), Some(Command::Run | Command::Pool(_)))
 }
 
 /// The command of these words, where it is one that needs no threads.
@@ -88,7 +94,7 @@ pub fn quiet_command_of(words: &[String]) -> Option<Command>
     ensures range { IfSome result IsWithinRange }
 {
     match command_of(words) {
-        Some(Command::Run) => None,
+        Some(Command::Run | Command::Pool(_)) => None,
         asked => asked,
     }
 }

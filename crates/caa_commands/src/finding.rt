@@ -118,7 +118,7 @@ impl Finding {
     {
         match self {
             Finding::Usage => Ok(Text::Fixed(
-                b"usage: check | sim SEED | run | audit | cell N | graph K | messages SEED\n",
+                b"usage: check | sim SEED | run | audit | cell N | graph K | messages SEED | pool W\n",
             )),
             Finding::SourceFault => Ok(Text::Fixed(b"fault source\n")),
             Finding::PlantFault => Ok(Text::Fixed(b"fault plant\n")),

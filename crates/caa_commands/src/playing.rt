@@ -1,6 +1,6 @@
 //! Plays of a plan over a device, and what they come to.
 
-ghost use Rattle.std.specs.Prelude.{◌≡◌, ◌<◌, ◌^◌, [], true, is_some, IfOk, IfErr};
+ghost use Rattle.std.specs.Prelude.{◌≡◌, ◌<◌, ◌≤◌, ◌^◌, [], true, is_some, IfOk, IfErr};
 ghost use Rattle.place_plan.specs.RulesOfJournals.WellFormed.{AllWellFormed};
 ghost use Rattle.journal_text.specs.Watching.Looks.{AreOfPlan};
 ghost use Rattle.journal_text.specs.Texts.Naming.{is_well_named};
@@ -9,7 +9,7 @@ ghost use Rattle.journal_replay.specs.Device.{attempts_in};
 ghost use Rattle.caa_commands.specs.declared.finding.Finding.{Finding};
 ghost use Rattle.caa_commands.specs.FailedPlays.{is_failed_play, has_failed_play};
 ghost use Rattle.caa_commands.specs.OutsideUse.{plant_use, left_of, IsIdle};
-ghost use Rattle.caa_commands.specs.Calls.{EndsAs, DoesNotBegin, SimComesTo, RunComesTo};
+ghost use Rattle.caa_commands.specs.Calls.{EndsAs, DoesNotBegin, SimComesTo, RunComesTo, PoolComesTo};
 
 use crate::finding::Finding;
 use caa_base::outside::gate::Gate;
@@ -26,6 +26,7 @@ use role_driver::sim::sim;
 use std::alloc::Global;
 use std::sync::Wait;
 use std::thread::Threads;
+use worker_pool::pool;
 
 /// What a call came to, with the device and the journal that it hands back.
 #[derive(Drop)]
@@ -189,4 +190,32 @@ pub fn run_plan<P: Plant + Send, G: Gate + Sync, R: Threads + Wait + Sync>(
             journal,
         },
     }
+}
+
+/// Plays a plan to its end by so many workers, and writes the text of its journal. It need not return.
+pub fn pool_plan<P: Plant + Send, G: Gate + Sync, R: Threads + Wait + Sync>(
+    rt: &R,
+    alloc: Global,
+    plan: Plan,
+    workers: u32,
+    plant: P,
+    gate: &G,
+) -> Decision<P>
+    requires one { 1 ≤ workers }
+    requires few { workers ≤ 16 }
+    ensures { PoolComesTo plan result.finding
+        (left_of (plant_use ⟦<P as Plant>⟧ plant result.plant) result.journal.entries) }
+{
+    keeps_laws(&plan);
+    is_well_formed(&plan);
+    let opened = match open(alloc, plan, plant) {
+        Ok(opened) => opened,
+        Err(unopened) => return unopened,
+    };
+    let played = match pool(rt, alloc, opened, workers, gate) {
+        Ok(Finished { machine, seens: _ }) => machine,
+        Err(RunError { machine }) => return unplayed(machine),
+    };
+    let (plan, plant, journal) = played.into_parts();
+    ended(alloc, &plan, plant, journal, &Seens::empty(alloc))
 }

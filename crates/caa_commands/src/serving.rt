@@ -5,7 +5,7 @@ ghost use Rattle.caa_base.specs.Written.Limits.{most_audit_bytes};
 ghost use Rattle.journal_text.specs.Texts.Naming.{is_well_named};
 ghost use Rattle.message_plays.specs.Texts.{IsPlayedByMessages};
 ghost use Rattle.caa_commands.specs.declared.command.Command.{Command};
-ghost use Rattle.caa_commands.specs.Commands.{without_threads, IsWithinRange};
+ghost use Rattle.caa_commands.specs.Commands.{is_threaded, without_threads, IsWithinRange};
 ghost use Rattle.caa_commands.specs.OutsideUse.{source_use, plant_use, left_of, call_of};
 ghost use Rattle.caa_commands.specs.Calls.{AuditComesTo, NeedsPlan, Prints, PlanComesTo, InputComesTo, unread_finding, CameTo};
 ghost use Rattle.caa_commands.specs.Inputs.{most_bytes, script_in};
@@ -16,7 +16,7 @@ use crate::finding::Finding;
 use crate::graphs::graph_text;
 use crate::inputs::find_journal;
 use crate::judging::{Judgement, judge};
-use crate::playing::{Decision, run_plan, simulate};
+use crate::playing::{Decision, pool_plan, run_plan, simulate};
 use crate::scripts::{NoPlan, counts_of, plan_of};
 use caa_base::outside::gate::Gate;
 use caa_base::outside::plant::Plant;
@@ -115,7 +115,7 @@ fn serve_plan<P: Plant>(
         (left_of (plant_use ⟦<P as Plant>⟧ plant result.plant) result.journal.entries) }
 {
     match command {
-        Command::Check | Command::Run | Command::Graph(_) => unreachable!(),
+        Command::Check | Command::Run | Command::Graph(_) | Command::Pool(_) => unreachable!(),
         Command::Sim(seed) => simulate(alloc, plan, seed, plant),
         Command::Audit => judge_after(alloc, &plan, bytes, plant),
         Command::Messages(seed) => agree(alloc, &plan, seed, plant),
@@ -132,7 +132,8 @@ fn script_in(command: Command, bytes: &[u8]) -> &[u8]
         | Command::Sim(_)
         | Command::Run
         | Command::Graph(_)
-        | Command::Messages(_) => bytes,
+        | Command::Messages(_)
+        | Command::Pool(_) => bytes,
     }
 }
 
@@ -176,7 +177,8 @@ fn most_bytes(command: Command) -> u64
         | Command::Sim(_)
         | Command::Run
         | Command::Graph(_)
-        | Command::Messages(_) => MOST_SCRIPT_BYTES,
+        | Command::Messages(_)
+        | Command::Pool(_) => MOST_SCRIPT_BYTES,
     }
 }
 
@@ -220,41 +222,74 @@ pub fn decide<S: Source, P: Plant>(
     }
 }
 
-/// Runs the script that was read in threads. It need not return.
-fn run_script<P: Plant + Send, G: Gate + Sync, R: Threads + Wait + Sync>(
+/// Serves a command that needs threads over a plan, and over all bytes that were read. It need not return.
+fn play_plan<P: Plant + Send, G: Gate + Sync, R: Threads + Wait + Sync>(
     rt: &R,
     alloc: Global,
+    command: Command,
+    plan: Plan,
     bytes: &[u8],
     plant: P,
     gate: &G,
 ) -> Decision<P>
-    ensures { InputComesTo Command.Run bytes.now result.finding
+    requires range { IsWithinRange command }
+    requires threaded { is_threaded command ≡ true }
+    requires named { is_well_named plan ≡ true }
+    ensures { PlanComesTo command plan bytes.now result.finding
         (left_of (plant_use ⟦<P as Plant>⟧ plant result.plant) result.journal.entries) }
 {
-    match plan_of(alloc, bytes) {
-        Ok(plan) => run_plan(rt, alloc, plan, plant, gate),
+    match command {
+        Command::Run => run_plan(rt, alloc, plan, plant, gate),
+        Command::Pool(workers) => pool_plan(rt, alloc, plan, workers, plant, gate),
+        Command::Check
+        | Command::Sim(_)
+        | Command::Audit
+        | Command::Graph(_)
+        | Command::Messages(_) => unreachable!(),
+    }
+}
+
+/// Plays the script that was read in threads. It need not return.
+fn play_in_threads<P: Plant + Send, G: Gate + Sync, R: Threads + Wait + Sync>(
+    rt: &R,
+    alloc: Global,
+    command: Command,
+    bytes: &[u8],
+    plant: P,
+    gate: &G,
+) -> Decision<P>
+    requires range { IsWithinRange command }
+    requires threaded { is_threaded command ≡ true }
+    ensures { InputComesTo command bytes.now result.finding
+        (left_of (plant_use ⟦<P as Plant>⟧ plant result.plant) result.journal.entries) }
+{
+    match plan_of(alloc, script_in(command, bytes)) {
+        Ok(plan) => play_plan(rt, alloc, command, plan, bytes, plant, gate),
         Err(NoPlan::Refused(refusal)) => Decision::idle(alloc, Finding::Refused(refusal), plant),
         Err(NoPlan::OutOfMemory) => Decision::idle(alloc, Finding::OutOfMemory, plant),
     }
 }
 
-/// What `run` comes to over a source and a device. It need not return.
-pub fn decide_run<S: Source, P: Plant + Send, G: Gate + Sync, R: Threads + Wait + Sync>(
+/// What a command that needs threads comes to over a source and a device. It need not return.
+pub fn decide_in_threads<S: Source, P: Plant + Send, G: Gate + Sync, R: Threads + Wait + Sync>(
     rt: &R,
     alloc: Global,
+    command: Command,
     source: &mut S,
     plant: P,
     gate: &G,
 ) -> Decision<P>
+    requires range { IsWithinRange command }
+    requires threaded { is_threaded command ≡ true }
     ensures came { CameTo
-        (call_of (Some Command.Run)
+        (call_of (Some command)
         (source_use ⟦<S as Source>⟧ source.old source.new)
         (left_of (plant_use ⟦<P as Plant>⟧ plant result.plant) result.journal.entries))
         result.finding }
     ensures count { S.faults source.old ≤ S.faults source.new }
 {
-    match read_all(alloc, source, most_bytes(Command::Run)) {
-        Ok(bytes) => run_script(rt, alloc, bytes.as_slice(), plant, gate),
+    match read_all(alloc, source, most_bytes(command)) {
+        Ok(bytes) => play_in_threads(rt, alloc, command, bytes.as_slice(), plant, gate),
         Err(error) => Decision::idle(alloc, unread(error), plant),
     }
 }

@@ -1,15 +1,14 @@
-ghost use Rattle.std.specs.Prelude.{◌≡◌, ◌≤◌, [], if◌then◌else◌, None, Some, map, string_bytes};
-ghost use Rattle.caa_commands.specs.Commands.{command_of, without_threads};
-ghost use Rattle.caa_commands.specs.declared.command.Command.TheVariants.{Run};
+ghost use Rattle.std.specs.Prelude.{◌≡◌, ◌≤◌, [], if◌then◌else◌, true, None, map, string_bytes};
+ghost use Rattle.caa_commands.specs.Commands.{command_of, asks_for_threads, without_threads};
 ghost use Rattle.caa_commands.specs.Findings.{is_played};
 ghost use Rattle.caa_commands.specs.OutsideUse.{sink_use, call_over};
 ghost use Rattle.caa_commands.specs.Calls.{Tells, Answers};
 ghost use Rattle.caa_commands.specs.Served.{MissesNothing};
 
-pub use crate::command::asks_to_run;
-use crate::command::quiet_command_of;
+pub use crate::command::asks_for_threads;
+use crate::command::{command_of, quiet_command_of};
 use crate::playing::Decision;
-use crate::serving::{decide, decide_run};
+use crate::serving::{decide, decide_in_threads};
 use crate::status::{Ended, Status};
 use caa_base::outside::gate::Gate;
 use caa_base::outside::plant::Plant;
@@ -111,11 +110,12 @@ pub fn top_quiet<S: Source, K: Sink, P: Plant>(
     tell(alloc, decision, sink)
 }
 
-/// Serves `run`, from a source to a sink, over a device. It need not return, so all other words are for [`top_quiet`].
+/// Serves `run` and `pool`, from a source to a sink, over a device. It need not return, so all other words are for [`top_quiet`].
 ///
 /// `run` reads a script and plays it to its end, each participant in a thread of its own, which calls the gate before each piece
-/// of work, and writes the text of the journal with what was seen. Things are tried in the same order as for `sim`, and what is
-/// handed back is the same.
+/// of work, and writes the text of the journal with what was seen. `pool W`, with 1 to 16 workers, plays it by so many workers, each
+/// in a thread of its own, who take the seats of participants by turns and call the gate in the same way; nobody watches. Things
+/// are tried in the same order as for `sim`, and what is handed back is the same.
 pub fn top<S: Source, K: Sink, P: Plant + Send, G: Gate + Sync, R: Threads + Wait + Sync>(
     rt: &R,
     alloc: Global,
@@ -125,7 +125,7 @@ pub fn top<S: Source, K: Sink, P: Plant + Send, G: Gate + Sync, R: Threads + Wai
     plant: P,
     gate: &G,
 ) -> Ended<P>
-    requires run { command_of (map string_bytes words.now) ≡ Some Run }
+    requires threads { asks_for_threads (command_of (map string_bytes words.now)) ≡ true }
     ensures answer { Answers
         (call_over ⟦<S as Source>⟧ ⟦<P as Plant>⟧ (command_of (map string_bytes words.now))
         source.old source.new plant result.plant result.journal.entries)
@@ -144,6 +144,9 @@ pub fn top<S: Source, K: Sink, P: Plant + Send, G: Gate + Sync, R: Threads + Wai
     ensures source_count { S.faults source.old ≤ S.faults source.new }
     ensures sink_count { K.faults sink.old ≤ K.faults sink.new }
 {
-    let decision = decide_run(rt, alloc, source, plant, gate);
+    let Some(command) = command_of(words) else {
+        unreachable!();
+    };
+    let decision = decide_in_threads(rt, alloc, command, source, plant, gate);
     tell(alloc, decision, sink)
 }

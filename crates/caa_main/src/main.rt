@@ -5,7 +5,7 @@ use caa_base::outside::gate::EmptyGate;
 use caa_base::outside::memory::MemPlant;
 use caa_base::outside::standard::{StdSink, StdSource};
 use caa_commands::status::Status;
-pub use caa_commands::top::{asks_to_run, top, top_quiet};
+pub use caa_commands::top::{asks_for_threads, top, top_quiet};
 use std::alloc::AllocError;
 use std::env;
 use std::io::ErrorKind;
@@ -32,7 +32,7 @@ fn main(rt: HostRuntime) -> ExitCode {
     let mut sink = StdSink::new(rt.stdout());
     let plant = MemPlant::new(false);
     let words = words.as_slice();
-    let ended = if asks_to_run(words) {
+    let ended = if asks_for_threads(words) {
         top(
             &rt,
             rt.alloc(),
