@@ -12,7 +12,7 @@ use caa_base::outside::standard::{StdSink, StdSource};
 use caa_base::written::entry::OutOfMemory;
 use caa_base::written::name::Name;
 use caa_commands::status::Status;
-use caa_commands::top::{asks_to_run, top, top_quiet};
+use caa_commands::top::{asks_for_threads, top, top_quiet};
 use line_plant::flushed::FlushedSink;
 use line_plant::names::object_names;
 use line_plant::plant::LinePlant;
@@ -108,7 +108,7 @@ fn main(rt: HostRuntime) -> ExitCode {
     };
     let mut sink = StdSink::new(journal);
     let words = call.command;
-    let ended = if asks_to_run(words) {
+    let ended = if asks_for_threads(words) {
         top(
             &rt,
             rt.alloc(),
