@@ -12,7 +12,8 @@ use Rattle.graph_maker.specs.declared.made_error.MadeError.{MadeError}
 use Rattle.graph_maker.specs.Refusals.{bad_from, bad_if, bad_line, cause_of, exception_in, has_room, lacking_at, next_stage, primitive_count, refusal_by, refusal_of, refused_from, refused_if}
 
 -- a line that is passed has no cause, and nor has a later one
-pub passed_on : (number : ℕ) (later : Option MadeError) (c : Option MadeCause) → refused_if number later c ≡ None → (c ≡ None) × (later ≡ None)
+pub passed_on : (number : ℕ) (later : Option MadeError) (c : Option MadeCause) → refused_if number later c ≡ None
+    → (c ≡ None) × (later ≡ None)
 passed_on number later None h = (refl, h)
 passed_on number later (Some c) h = cc
 
@@ -35,19 +36,23 @@ module _ (script : Script) (most : ℕ) where
   room_at true h = refl
   room_at false h = cc
 
-  room_from : (s : Stage) (passed number : ℕ) (lines : List Line) → s ≢ stage.Over → bad_from s number lines ≡ None → refused_from script most passed lines ≡ None → has_room (primitive_count script) most ≡ true
+  room_from : (s : Stage) (passed number : ℕ) (lines : List Line) → s ≢ stage.Over → bad_from s number lines ≡ None
+      → refused_from script most passed lines ≡ None → has_room (primitive_count script) most ≡ true
   room_from s passed number [] live bad free = absurd (live (none_lacking s number bad))
   room_from s passed number (line ∷ lines) live bad free =
       by (next_stage s line.form) refl bad (λ next. room_from next (passed + length (exception_in line.form)) (line.number + 1) lines)
     where
       parts : (cause_of script most passed line.form ≡ None) × (refused_from script most (passed + length (exception_in line.form)) lines ≡ None)
-      parts = passed_on line.number (refused_from script most (passed + length (exception_in line.form)) lines) (cause_of script most passed line.form) free
+      parts =
+          passed_on line.number (refused_from script most (passed + length (exception_in line.form)) lines)
+          (cause_of script most passed line.form) free
 
       ends : line.form ≡ form.End → has_room (primitive_count script) most ≡ true
       ends e = room_at (has_room (primitive_count script) most) (subst (λ (f : Form). cause_of script most passed f ≡ None) e parts.0)
 
       by : (n : Option Stage) → next_stage s line.form ≡ n → bad_if line.number (λ next. bad_from next (line.number + 1) lines) n ≡ None
-          → ((next : Stage) → next ≢ stage.Over → bad_from next (line.number + 1) lines ≡ None → refused_from script most (passed + length (exception_in line.form)) lines ≡ None → has_room (primitive_count script) most ≡ true)
+          →
+          ((next : Stage) → next ≢ stage.Over → bad_from next (line.number + 1) lines ≡ None → refused_from script most (passed + length (exception_in line.form)) lines ≡ None → has_room (primitive_count script) most ≡ true)
           → has_room (primitive_count script) most ≡ true
       by None e b rest = cc
       by (Some next) e b rest =
@@ -61,7 +66,8 @@ module _ (script : Script) (most : ℕ) where
   pub none_bad : refusal_of script most ≡ None → (bad_line script ≡ None) × (refused_from script most 0 script.lines ≡ None)
   none_bad h = by (bad_line script) refl h
     where
-      by : (o : Option ℕ) → bad_line script ≡ o → refusal_by (refused_from script most 0 script.lines) o ≡ None → (bad_line script ≡ None) × (refused_from script most 0 script.lines ≡ None)
+      by : (o : Option ℕ) → bad_line script ≡ o → refusal_by (refused_from script most 0 script.lines) o ≡ None
+          → (bad_line script ≡ None) × (refused_from script most 0 script.lines ≡ None)
       by None e g = (e, g)
       by (Some number) e g = cc
 

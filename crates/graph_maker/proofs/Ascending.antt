@@ -18,12 +18,15 @@ use Rattle.graph_maker.specs.SetNames.{are_numbers, ascend, goes_on}
 
 module _ {F : Type 0} {s s' : Split ℕ F} (t u : Split ℕ F) {g : Mut F (Bor ℕ × Unit {0}) Bool} {f : F} {r : Option (Bor (List ℕ))} (p : ℕ → Bool) (xs : List ℕ) (items : List (Bor (List ℕ))) (yields : Yields (slice.split_steps g) s items t) (step : slice.split_steps g t r u) (same : s ≡ s') (rest : slice.split_rest s' ≡ xs) (done : slice.split_done s' ≡ false) (closure : slice.split_callee s' ≡ f) (tests : (x : ℕ) (b : Bool) (q : F) → CalledAt g f x b q → (q ≡ f) × (b ≡ p x)) where
   -- the next piece
-  pub piece_next : (x : Bor (List ℕ)) → r ≡ Some x → (length items < length (slice_split p xs)) × (x.now ≡ get_or (slice_split p xs) (length items) x.now)
-  piece_next x is = YieldsList-turn (YieldsList-at same (YieldsList-from_slice_split g p xs rest done closure tests)) items t yields r u x is step
+  pub piece_next : (x : Bor (List ℕ)) → r ≡ Some x
+      → (length items < length (slice_split p xs)) × (x.now ≡ get_or (slice_split p xs) (length items) x.now)
+  piece_next x is =
+      YieldsList-turn (YieldsList-at same (YieldsList-from_slice_split g p xs rest done closure tests)) items t yields r u x is step
 
   -- no piece is left
   pub pieces_end : r ≡ None → length items ≡ length (slice_split p xs)
-  pieces_end is = (YieldsList-end (YieldsList-at same (YieldsList-from_slice_split g p xs rest done closure tests)) items t yields r u is step).1
+  pieces_end is =
+      (YieldsList-end (YieldsList-at same (YieldsList-from_slice_split g p xs rest done closure tests)) items t yields r u is step).1
 
 -- ---- what the pieces say
 
@@ -62,7 +65,8 @@ module _ (n most : ℕ) (words : List (List ℕ)) (read count last : ℕ) (a : I
         ∙ ap (λ b. b && ascend n number (drop (read + 1) words)) (le-ltb last number low))
 
     -- one that is
-    pub number_next : (number : ℕ) → at_most n (natural_of word) ≡ Some number → last < number → number ≤ n → IsAscending n words (read + 1) (count + 1) number
+    pub number_next : (number : ℕ) → at_most n (natural_of word) ≡ Some number → last < number → number ≤ n
+        → IsAscending n words (read + 1) (count + 1) number
     number_next number h more small =
         let counted = a.counted in
         let few = a.few in

@@ -9,7 +9,8 @@ pub absent : (names : List (List ℕ)) (word : List ℕ) → is_among names word
 absent [] word h = refl
 absent (name ∷ names) word h = by (bytes_eq word name) (absent names word) h
   where
-    by : (b : Bool) → (is_among names word ≡ false → number_in names word ≡ length names) → (b || is_among names word) ≡ false → (if b then 0 else 1 + number_in names word) ≡ length (name ∷ names)
+    by : (b : Bool) → (is_among names word ≡ false → number_in names word ≡ length names) → (b || is_among names word) ≡ false
+        → (if b then 0 else 1 + number_in names word) ≡ length (name ∷ names)
     by true rest g = cc
     by false rest g = omega (arith, rest g)
 
@@ -17,7 +18,8 @@ pub present : (names : List (List ℕ)) (word : List ℕ) → is_among names wor
 present [] word h = cc
 present (name ∷ names) word h = by (bytes_eq word name) (present names word) h
   where
-    by : (b : Bool) → (is_among names word ≡ true → number_in names word < length names) → (b || is_among names word) ≡ true → (if b then 0 else 1 + number_in names word) < length (name ∷ names)
+    by : (b : Bool) → (is_among names word ≡ true → number_in names word < length names) → (b || is_among names word) ≡ true
+        → (if b then 0 else 1 + number_in names word) < length (name ∷ names)
     by true rest g = omega arith
     by false rest g = omega (arith, rest g)
 
@@ -36,7 +38,8 @@ old_name names word h = by (is_among names word) refl
     by false e = absurd (h (absent names word e))
 
 -- one word more
-pub names_more : (words : List (List ℕ)) (i : ℕ) (word : List ℕ) → i < length words → word ≡ get_or words i word → with_name (with_names [] (take i words)) word ≡ with_names [] (take (i + 1) words)
+pub names_more : (words : List (List ℕ)) (i : ℕ) (word : List ℕ) → i < length words → word ≡ get_or words i word
+    → with_name (with_names [] (take i words)) word ≡ with_names [] (take (i + 1) words)
 names_more words i word within is =
     sym (ap (with_names []) (take_more words i word within ∙ ap (λ (w : List ℕ). take i words ++ w ∷ []) (sym is))
     ∙ with_names-append [] (take i words) (word ∷ []))
@@ -49,4 +52,7 @@ length-with_name names word = by (is_among names word)
     by false = simp length_push (omega arith)
 
 pub few_more : (names new : List (List ℕ)) (word : List ℕ) (i : ℕ) → new ≡ with_name names word → length names ≤ i → length new ≤ i + 1
-few_more names new word i is few = let more = length-with_name names word in let same = ap (λ (l : List (List ℕ)). length l) is in omega (arith, more, same, few)
+few_more names new word i is few =
+    let more = length-with_name names word in
+    let same = ap (λ (l : List (List ℕ)). length l) is in
+    omega (arith, more, same, few)

@@ -45,44 +45,58 @@ words_are names graph ns most =
     ap (λ k. map (set_name n) (drop k (table n most))) next ∙ ap (λ k. map (set_name k) (larger_sets k most)) (sym size) in
     ap (λ (l : List (List ℕ)). name_at names graph ∷ map (name_at names) ns ++ l) larger
 
-pub length-words : (script : Script) (most : ℕ) → primitive_count script < exception_count (primitive_count script) most → length (words_of script most) ≡ exception_count (primitive_count script) most
+pub length-words : (script : Script) (most : ℕ) → primitive_count script < exception_count (primitive_count script) most
+    → length (words_of script most) ≡ exception_count (primitive_count script) most
 length-words script most less =
     let ns = exceptions_in script.lines in
     let size : length (primitive_names script) ≡ length ns = length-map ns (name_at script.names) in
-    let both = length-append (primitive_names script) (map (set_name (length (primitive_names script))) (larger_sets (length (primitive_names script)) most)) in
+    let both =
+    length-append (primitive_names script)
+    (map (set_name (length (primitive_names script))) (larger_sets (length (primitive_names script)) most)) in
     let made = length-map (larger_sets (length (primitive_names script)) most) (set_name (length (primitive_names script))) in
     let left = length-drop (length (primitive_names script)) (sets (length (primitive_names script)) most) in
-    let same : length (sets (length (primitive_names script)) most) ≡ length (sets (length ns) most) = ap (λ k. length (sets k most)) size in
+    let same : length (sets (length (primitive_names script)) most) ≡ length (sets (length ns) most) =
+    ap (λ k. length (sets k most)) size in
     omega (arith, size, both, made, left, same, less)
 
 -- ---- the words are names
 
-graph_named : (names : List (List ℕ)) (lines : List Line) → bad_from stage.Graph 1 lines ≡ None → list_all (is_sound names) (forms_of lines) ≡ true → is_name (name_at names (graph_of lines)) ≡ true
+graph_named : (names : List (List ℕ)) (lines : List Line) → bad_from stage.Graph 1 lines ≡ None
+    → list_all (is_sound names) (forms_of lines) ≡ true → is_name (name_at names (graph_of lines)) ≡ true
 graph_named names [] fine sound = cc
-graph_named names (line ∷ lines) fine sound = by line.form fine (and_parts (is_sound names line.form) (list_all (is_sound names) (forms_of lines)) sound).0
+graph_named names (line ∷ lines) fine sound =
+    by line.form fine (and_parts (is_sound names line.form) (list_all (is_sound names) (forms_of lines)) sound).0
   where
-    by : (f : Form) → bad_if line.number (λ next. bad_from next (line.number + 1) lines) (next_stage stage.Graph f) ≡ None → is_sound names f ≡ true → is_name (name_at names (graph_in f)) ≡ true
+    by : (f : Form) → bad_if line.number (λ next. bad_from next (line.number + 1) lines) (next_stage stage.Graph f) ≡ None
+        → is_sound names f ≡ true → is_name (name_at names (graph_in f)) ≡ true
     by (form.Graph name) b s = (and_parts (is_name (name_at names name)) true s).0
     by _ b s = cc
 
-pub exceptions_named : (names : List (List ℕ)) (lines : List Line) → list_all (is_sound names) (forms_of lines) ≡ true → list_all is_name (map (name_at names) (exceptions_in lines)) ≡ true
+pub exceptions_named : (names : List (List ℕ)) (lines : List Line) → list_all (is_sound names) (forms_of lines) ≡ true
+    → list_all is_name (map (name_at names) (exceptions_in lines)) ≡ true
 exceptions_named names [] sound = refl
 exceptions_named names (line ∷ lines) sound =
     let p = and_parts (is_sound names line.form) (list_all (is_sound names) (forms_of lines)) sound in
     by line.form p.0 (exceptions_named names lines p.1)
   where
-    by : (f : Form) → is_sound names f ≡ true → list_all is_name (map (name_at names) (exceptions_in lines)) ≡ true → list_all is_name (map (name_at names) (exception_in f ++ exceptions_in lines)) ≡ true
-    by (form.Exception name) s rest = and_from (is_name (name_at names name)) (list_all is_name (map (name_at names) (exceptions_in lines))) (and_parts (is_name (name_at names name)) true s).0 rest
+    by : (f : Form) → is_sound names f ≡ true → list_all is_name (map (name_at names) (exceptions_in lines)) ≡ true
+        → list_all is_name (map (name_at names) (exception_in f ++ exceptions_in lines)) ≡ true
+    by (form.Exception name) s rest =
+        and_from (is_name (name_at names name)) (list_all is_name (map (name_at names) (exceptions_in lines)))
+        (and_parts (is_name (name_at names name)) true s).0 rest
     by _ s rest = rest
 
-pub words_named : (script : Script) (most : ℕ) → AreScript script.names (forms_of script.lines) → refusal_of script most ≡ None → primitive_count script < 128 → most < 8 → list_all is_name (words_of script most) ≡ true
+pub words_named : (script : Script) (most : ℕ) → AreScript script.names (forms_of script.lines) → refusal_of script most ≡ None
+    → primitive_count script < 128 → most < 8 → list_all is_name (words_of script most) ≡ true
 words_named script most whole accepted few low =
     let names = script.names in
     let n = length (primitive_names script) in
     let size : n ≡ primitive_count script = length-map (exceptions_in script.lines) (name_at names) in
     let own = exceptions_named names script.lines whole.sound in
     let made = sets_named n most (larger_sets n most) (omega (arith, size, few)) low (larger_are n most) in
-    let behind = list_all-append is_name (primitive_names script) (map (set_name n) (larger_sets n most)) ∙ and_from (list_all is_name (primitive_names script)) (list_all is_name (map (set_name n) (larger_sets n most))) own made in
+    let behind =
+    list_all-append is_name (primitive_names script) (map (set_name n) (larger_sets n most)) ∙ and_from
+    (list_all is_name (primitive_names script)) (list_all is_name (map (set_name n) (larger_sets n most))) own made in
     and_from (is_name (name_at names (graph_of script.lines))) (list_all is_name (exception_names (primitive_names script) most))
     (graph_named names script.lines (not_bad script most accepted) whole.sound)
     behind
@@ -94,5 +108,6 @@ few_pairs n most fits =
     let many = fits.exceptions in
     let less = fits.primitives in
     let pairs = length-pairs n (table n most) (exception_count n most) in
-    let most_of : exception_count n most * n ≤ 128 * 128 = mul-le-mul {n₁ = exception_count n most} {m₁ = n} {n₂ = 128} {m₂ = 128} many (omega (arith, many, less)) in
+    let most_of : exception_count n most * n ≤ 128 * 128 =
+    mul-le-mul {n₁ = exception_count n most} {m₁ = n} {n₂ = 128} {m₂ = 128} many (omega (arith, many, less)) in
     omega (arith, pairs, most_of)

@@ -45,7 +45,9 @@ members_ascend zero set = omega arith
 members_ascend (suc n) set = by (has_bit set n) (members_ascend n set)
   where
     by : (b : Bool) → Ascend 0 (member_list n set) n → Ascend 0 (if b then member_list n set ++ (n + 1) ∷ [] else member_list n set) (suc n)
-    by true up = let next : n + 1 ≡ suc n = omega arith in subst (λ k. Ascend 0 (member_list n set ++ (n + 1) ∷ []) k) next (one_more 0 n (member_list n set) up)
+    by true up =
+        let next : n + 1 ≡ suc n = omega arith in
+        subst (λ k. Ascend 0 (member_list n set ++ (n + 1) ∷ []) k) next (one_more 0 n (member_list n set) up)
     by false up = raise 0 n (suc n) (member_list n set) (omega arith) up
 
 -- ---- how many members there are
@@ -69,7 +71,8 @@ pub length-members : (n set : ℕ) → length (member_list n set) ≡ size_of n 
 length-members zero set = refl
 length-members (suc n) set = by (has_bit set n) refl (length-members n set) ∙ sym (size_last n set)
   where
-    by : (b : Bool) → has_bit set n ≡ b → length (member_list n set) ≡ size_of n set → length (if b then member_list n set ++ (n + 1) ∷ [] else member_list n set) ≡ size_of n set + bit_count (has_bit set n)
+    by : (b : Bool) → has_bit set n ≡ b → length (member_list n set) ≡ size_of n set
+        → length (if b then member_list n set ++ (n + 1) ∷ [] else member_list n set) ≡ size_of n set + bit_count (has_bit set n)
     by true had rest = let e = ap bit_count had in let l = length-append (member_list n set) ((n + 1) ∷ []) in omega (arith, rest, e, l)
     by false not rest = let e = ap bit_count not in omega (arith, rest, e)
 
@@ -91,7 +94,8 @@ set_of-members (suc n) set =
     let next : suc n ≡ 1 + n = omega arith in
     by (has_bit set n) refl (set_of-members n set) ∙ sym top ∙ ap (λ k. set % 2 ^ k) (sym next)
   where
-    by : (b : Bool) → has_bit set n ≡ b → set_of (member_list n set) ≡ set % 2 ^ n → set_of (if b then member_list n set ++ (n + 1) ∷ [] else member_list n set) ≡ (set / 2 ^ n % 2) * 2 ^ n + set % 2 ^ n
+    by : (b : Bool) → has_bit set n ≡ b → set_of (member_list n set) ≡ set % 2 ^ n
+        → set_of (if b then member_list n set ++ (n + 1) ∷ [] else member_list n set) ≡ (set / 2 ^ n % 2) * 2 ^ n + set % 2 ^ n
     by true had rest =
         let bit = eqb-true (set / 2 ^ n % 2) 1 had in
         let own : n + 1 - 1 ≡ n = omega arith in
@@ -151,7 +155,8 @@ set_named n most set small low is =
     let size = length-members n set in
     made_named n (member_list n set) (omega (arith, small)) (members_ascend n set) (omega (arith, few, size, low))
 
-pub sets_named : (n most : ℕ) (some : List ℕ) → n < 128 → most < 8 → All (IsSet n most) some → list_all is_name (map (set_name n) some) ≡ true
+pub sets_named : (n most : ℕ) (some : List ℕ) → n < 128 → most < 8 → All (IsSet n most) some
+    → list_all is_name (map (set_name n) some) ≡ true
 sets_named n most [] small low are = refl
 sets_named n most (set ∷ some) small low are =
     and_from (is_name (set_name n set)) (list_all is_name (map (set_name n) some))
@@ -174,9 +179,11 @@ no_dash (b ∷ word) digits =
     let p = and_parts (is_digit b) (list_all is_digit word) digits in
     All-cons (λ b. (b == 45) ≡ false) b word (digit_no_dash b p.0) (no_dash word p.1)
 
-cut_members : (m last top : ℕ) (ms : List ℕ) → m < 2 ^ 64 → top < 2 ^ 64 → Ascend last ms top → slice_split (λ b. b == 45) (decimal m ++ flat_map dashed ms) ≡ decimal m ∷ map decimal ms
+cut_members : (m last top : ℕ) (ms : List ℕ) → m < 2 ^ 64 → top < 2 ^ 64 → Ascend last ms top
+    → slice_split (λ b. b == 45) (decimal m ++ flat_map dashed ms) ≡ decimal m ∷ map decimal ms
 cut_members m last top [] small low up =
-    ap (slice_split (λ b. b == 45)) (append-nil (decimal m)) ∙ slice_split_none (λ b. b == 45) (decimal m) (no_dash (decimal m) (decimal_digits m small))
+    ap (slice_split (λ b. b == 45)) (append-nil (decimal m)) ∙ slice_split_none (λ b. b == 45) (decimal m)
+    (no_dash (decimal m) (decimal_digits m small))
 cut_members m last top (next ∷ ms) small low up =
     let fits = last_low next top ms up.1 in
     slice_split_at (λ b. b == 45) (decimal m) 45 (decimal next ++ flat_map dashed ms) (no_dash (decimal m) (decimal_digits m small)) refl
@@ -192,7 +199,8 @@ read_ascend n last (m ∷ ms) small up =
     ∙ and_from (nat_lt last m) (ascend n m (map decimal ms)) (lt-ltb last m up.0) (read_ascend n m ms small up.1)
 
 -- the name of a set of two members at least is a made one
-pub made_read : (n most : ℕ) (ms : List ℕ) → n < 2 ^ 64 → Ascend 0 ms n → 2 ≤ length ms → length ms ≤ most → is_made_name n most (made_name ms) ≡ true
+pub made_read : (n most : ℕ) (ms : List ℕ) → n < 2 ^ 64 → Ascend 0 ms n → 2 ≤ length ms → length ms ≤ most
+    → is_made_name n most (made_name ms) ≡ true
 made_read n most [] small up many few = absurd (omega (arith, many))
 made_read n most (m ∷ ms) small up many few =
     let low = last_low m n ms up.1 in
@@ -224,10 +232,12 @@ numbers_back : (top : ℕ) (ms : List ℕ) → 0 < length ms → top < 2 ^ 64 �
 numbers_back top [] some small up = absurd (omega (arith, some))
 numbers_back top (m ∷ ms) some small up =
     let low = last_low m top ms up.1 in
-    ap (map (λ w. unwrap_or (natural_of w) 0)) (cut_members m m top ms (omega (arith, low, small)) small up.1) ∙ words_back 0 top (m ∷ ms) small up
+    ap (map (λ w. unwrap_or (natural_of w) 0)) (cut_members m m top ms (omega (arith, low, small)) small up.1) ∙ words_back 0 top
+    (m ∷ ms) small up
 
 -- sets of one name are one
-pub names_apart : (n set other : ℕ) → n < 128 → set < 2 ^ n → other < 2 ^ n → 0 < size_of n set → 0 < size_of n other → set_name n set ≡ set_name n other → set ≡ other
+pub names_apart : (n set other : ℕ) → n < 128 → set < 2 ^ n → other < 2 ^ n → 0 < size_of n set → 0 < size_of n other
+    → set_name n set ≡ set_name n other → set ≡ other
 names_apart n set other small low less some more same =
     let mine = length-members n set in
     let yours = length-members n other in

@@ -54,7 +54,8 @@ one_more names s number f lines graphs fine rest = record { accepted = (fine, re
 
 -- ---- single lines
 
-exception_fine : (d : Declared) (g : DeclaredGraph) (x : ℕ) → is_among g.exceptions x ≡ false → length g.exceptions < 128 → IsAccepted (in_graph d g) (form.Exception x)
+exception_fine : (d : Declared) (g : DeclaredGraph) (x : ℕ) → is_among g.exceptions x ≡ false → length g.exceptions < 128
+    → IsAccepted (in_graph d g) (form.Exception x)
 exception_fine d g x new room cause.Unknown h = cc
 exception_fine d g x new room cause.Twice h = both_ways (is_among g.exceptions x) new h
 exception_fine d g x new room (cause.Cycle at) h = h
@@ -72,8 +73,11 @@ exception_fine d g x new room cause.OutOfMemory h = h
 neither : (a b : Bool) → a ≡ true → b ≡ true → (not a || not b) ≡ false
 neither a b one other = ap (λ c. not c || not b) one ∙ ap not other
 
-cover_fine : (d : Declared) (g : DeclaredGraph) (x y : ℕ) → is_among g.exceptions x ≡ true → is_among g.exceptions y ≡ true → IsAccepted (in_graph d g) (form.Cover x y)
-cover_fine d g x y here there cause.Unknown h = both_ways (not (is_among g.exceptions x) || not (is_among g.exceptions y)) (neither (is_among g.exceptions x) (is_among g.exceptions y) here there) h
+cover_fine : (d : Declared) (g : DeclaredGraph) (x y : ℕ) → is_among g.exceptions x ≡ true → is_among g.exceptions y ≡ true
+    → IsAccepted (in_graph d g) (form.Cover x y)
+cover_fine d g x y here there cause.Unknown h =
+    both_ways (not (is_among g.exceptions x) || not (is_among g.exceptions y))
+    (neither (is_among g.exceptions x) (is_among g.exceptions y) here there) h
 cover_fine d g x y here there cause.Twice h = cc
 cover_fine d g x y here there (cause.Cycle at) h = h
 cover_fine d g x y here there (cause.NoLeast a b) h = h
@@ -120,11 +124,15 @@ graph_fine names name cause.OutOfMemory h = h
 -- ---- the lines of a graph
 
 module _ (names : List (List ℕ)) (d : Declared) (numbers : List ℕ) where
-  among : (exceptions : List ℕ) (k : ℕ) → (index_of (slice_index numbers k) exceptions ≡ k) × (k < length exceptions) → is_among exceptions (slice_index numbers k) ≡ true
+  among : (exceptions : List ℕ) (k : ℕ) → (index_of (slice_index numbers k) exceptions ≡ k) × (k < length exceptions)
+      → is_among exceptions (slice_index numbers k) ≡ true
   among exceptions k placed = ap (λ i. nat_lt i (length exceptions)) placed.0 ∙ lt-ltb k (length exceptions) placed.1
 
-  covers : (number : ℕ) (exceptions : List ℕ) (done todo all : List (ℕ × ℕ)) → done ++ todo ≡ all → Placed numbers exceptions todo → IsFaultless (length exceptions) all
-      → GoesTo names (in_graph d (record { exceptions = exceptions; pairs = done })) (numbered_from number (map (cover_form numbers) todo ++ form.End ∷ [])) (d.graphs ++ record { exceptions = exceptions; pairs = all } ∷ [])
+  covers : (number : ℕ) (exceptions : List ℕ) (done todo all : List (ℕ × ℕ)) → done ++ todo ≡ all → Placed numbers exceptions todo
+      → IsFaultless (length exceptions) all
+      → GoesTo names (in_graph d (record { exceptions = exceptions; pairs = done }))
+      (numbered_from number (map (cover_form numbers) todo ++ form.End ∷ []))
+      (d.graphs ++ record { exceptions = exceptions; pairs = all } ∷ [])
   covers number exceptions done [] all total placed faultless =
       let whole : done ≡ all = sym (append-nil done) ∙ total in
       let g : DeclaredGraph = record { exceptions = exceptions; pairs = done } in
@@ -138,23 +146,32 @@ module _ (names : List (List ℕ)) (d : Declared) (numbers : List ℕ) where
       let y = slice_index numbers b in
       let added : ℕ × ℕ = (index_of x exceptions, index_of y exceptions) in
       let same : added ≡ (a, b) = (λ j. (placed.0.0 j, placed.1.0 j)) in
-      let more : (done ++ added ∷ []) ++ todo ≡ all = append_assoc done (added ∷ []) todo ∙ ap (λ (p : ℕ × ℕ). done ++ (p ∷ todo)) same ∙ total in
-      one_more names (in_graph d g) number (form.Cover x y) (numbered_from (number + 1) (map (cover_form numbers) todo ++ form.End ∷ [])) (d.graphs ++ record { exceptions = exceptions; pairs = all } ∷ [])
+      let more : (done ++ added ∷ []) ++ todo ≡ all =
+      append_assoc done (added ∷ []) todo ∙ ap (λ (p : ℕ × ℕ). done ++ (p ∷ todo)) same ∙ total in
+      one_more names (in_graph d g) number (form.Cover x y)
+      (numbered_from (number + 1) (map (cover_form numbers) todo ++ form.End ∷ []))
+      (d.graphs ++ record { exceptions = exceptions; pairs = all } ∷ [])
       (cover_fine d g x y (among exceptions a placed.0) (among exceptions b placed.1))
       (covers (number + 1) exceptions (done ++ added ∷ []) todo all more placed.2 faultless)
 
-  exceptions_then : (number : ℕ) (done todo : List ℕ) (pairs : List (ℕ × ℕ)) → Fresh done todo → Placed numbers (done ++ todo) pairs → IsFaultless (length (done ++ todo)) pairs
-      → GoesTo names (in_graph d (record { exceptions = done; pairs = [] })) (numbered_from number (map form.Exception todo ++ map (cover_form numbers) pairs ++ form.End ∷ [])) (d.graphs ++ record { exceptions = done ++ todo; pairs = pairs } ∷ [])
+  exceptions_then : (number : ℕ) (done todo : List ℕ) (pairs : List (ℕ × ℕ)) → Fresh done todo → Placed numbers (done ++ todo) pairs
+      → IsFaultless (length (done ++ todo)) pairs
+      → GoesTo names (in_graph d (record { exceptions = done; pairs = [] }))
+      (numbered_from number (map form.Exception todo ++ map (cover_form numbers) pairs ++ form.End ∷ []))
+      (d.graphs ++ record { exceptions = done ++ todo; pairs = pairs } ∷ [])
   exceptions_then number done [] pairs fresh placed faultless =
       let P : List ℕ → Type 0 = λ all. Placed numbers all pairs → IsFaultless (length all) pairs
-      → GoesTo names (in_graph d (record { exceptions = done; pairs = [] })) (numbered_from number (map (cover_form numbers) pairs ++ form.End ∷ [])) (d.graphs ++ record { exceptions = all; pairs = pairs } ∷ []) in
+      → GoesTo names (in_graph d (record { exceptions = done; pairs = [] }))
+      (numbered_from number (map (cover_form numbers) pairs ++ form.End ∷ []))
+      (d.graphs ++ record { exceptions = all; pairs = pairs } ∷ []) in
       subst P (sym (append-nil done)) (λ placed faultless. covers number done [] pairs pairs refl placed faultless) placed faultless
   exceptions_then number done (x ∷ todo) pairs fresh placed faultless =
       let g : DeclaredGraph = record { exceptions = done; pairs = [] } in
       let lines = numbered_from (number + 1) (map form.Exception todo ++ map (cover_form numbers) pairs ++ form.End ∷ []) in
       let moved : (done ++ x ∷ []) ++ todo ≡ done ++ x ∷ todo = append_assoc done (x ∷ []) todo in
       let P : List ℕ → Type 0 = λ all. Placed numbers all pairs → IsFaultless (length all) pairs
-      → GoesTo names (in_graph d g) (record { number = number; form = form.Exception x } ∷ lines) (d.graphs ++ record { exceptions = all; pairs = pairs } ∷ []) in
+      → GoesTo names (in_graph d g) (record { number = number; form = form.Exception x } ∷ lines)
+      (d.graphs ++ record { exceptions = all; pairs = pairs } ∷ []) in
       subst P moved
       (λ placed faultless. one_more names (in_graph d g) number (form.Exception x) lines (d.graphs ++ record { exceptions = (done ++ x ∷ []) ++ todo; pairs = pairs } ∷ [])
       (exception_fine d g x fresh.0 fresh.1) (exceptions_then (number + 1) (done ++ x ∷ []) todo pairs fresh.2 placed faultless))
@@ -165,11 +182,14 @@ pub one_graph : (names : List (List ℕ)) (graph : ℕ) (own numbers : List ℕ)
     → Fresh (number_in names (codes "universal") ∷ []) own
     → Placed numbers (number_in names (codes "universal") ∷ own) pairs
     → IsFaultless (length (number_in names (codes "universal") ∷ own)) pairs
-    → GoesTo names (nothing_yet names) (numbered_from 1 (form.Graph graph ∷ map form.Exception own ++ map (cover_form numbers) pairs ++ form.End ∷ []))
+    → GoesTo names (nothing_yet names)
+    (numbered_from 1 (form.Graph graph ∷ map form.Exception own ++ map (cover_form numbers) pairs ++ form.End ∷ []))
     (plain_graph (number_in names (codes "universal")) ∷ record { exceptions = number_in names (codes "universal") ∷ own; pairs = pairs } ∷ [])
 one_graph names graph own numbers pairs fresh placed faultless =
     let u = number_in names (codes "universal") in
     let s = after names (nothing_yet names) (form.Graph graph) in
-    one_more names (nothing_yet names) 1 (form.Graph graph) (numbered_from (1 + 1) (map form.Exception own ++ map (cover_form numbers) pairs ++ form.End ∷ [])) (plain_graph u ∷ record { exceptions = u ∷ own; pairs = pairs } ∷ [])
+    one_more names (nothing_yet names) 1 (form.Graph graph)
+    (numbered_from (1 + 1) (map form.Exception own ++ map (cover_form numbers) pairs ++ form.End ∷ []))
+    (plain_graph u ∷ record { exceptions = u ∷ own; pairs = pairs } ∷ [])
     (graph_fine names graph)
     (exceptions_then names s.declared numbers (1 + 1) (u ∷ []) own pairs fresh placed faultless)

@@ -43,13 +43,15 @@ sets_apart n most = λ i j d less within same.
     let i_in : n + i < length (sets n most) = omega (arith, less, within, long) in
     let j_in : n + j < length (sets n most) = omega (arith, within, long) in
     let equal : get_or (sets n most) (n + i) 0 ≡ get_or (sets n most) (n + j) 0 =
-    get_or_default (sets n most) (n + i) 0 d i_in ∙ sym (get_or-drop n (sets n most) i d) ∙ same ∙ get_or-drop n (sets n most) j d ∙ get_or_default (sets n most) (n + j) d 0 j_in in
+    get_or_default (sets n most) (n + i) 0 d i_in ∙ sym (get_or-drop n (sets n most) i d) ∙ same ∙ get_or-drop n (sets n most) j d ∙
+    get_or_default (sets n most) (n + j) d 0 j_in in
     let one = members_apart n most (suc (n + i)) (suc (n + j)) (omega (arith, i_in)) (omega (arith, j_in)) equal in
     omega (arith, one, less)
 
 module _ (script : Script) (most : ℕ) (whole : AreScript script.names (forms_of script.lines)) (accepted : refusal_of script most ≡ None) (small : primitive_count script < 128) (some : 0 < most) where
   numbered : AreNumbered script.names
-  numbered = subst AreNumbered whole.order (numbered-with_names [] (flat_map (form_names script.names) (forms_of script.lines)) numbered-none)
+  numbered =
+      subst AreNumbered whole.order (numbered-with_names [] (flat_map (form_names script.names) (forms_of script.lines)) numbered-none)
 
   all_new : NewWords (codes "universal" ∷ []) (exception_names (primitive_names script) most)
   all_new =
@@ -62,7 +64,9 @@ module _ (script : Script) (most : ℕ) (whole : AreScript script.names (forms_o
       let first = primitives_new script most numbered [] ns refl free refl range in
       let unmade : list_all (λ w. not (is_made_name (length prims) most w)) (codes "universal" ∷ prims) ≡ true =
       subst (λ k. list_all (λ w. not (is_made_name k most w)) prims ≡ true) (sym size) (primitives_unmade script most 0 ns free) in
-      let later = made_new (length prims) most less (codes "universal" ∷ prims) unmade [] (drop (length prims) (sets (length prims) most)) (large_sets (length prims) most less some) (sets_apart (length prims) most) in
+      let later =
+      made_new (length prims) most less (codes "universal" ∷ prims) unmade [] (drop (length prims) (sets (length prims) most))
+      (large_sets (length prims) most less some) (sets_apart (length prims) most) in
       new_more (codes "universal" ∷ []) prims (map (set_name (length prims)) (drop (length prims) (sets (length prims) most))) first
       (subst (λ (l : List (List ℕ)). NewWords l (map (set_name (length prims)) (drop (length prims) (sets (length prims) most)))) (append-nil (codes "universal" ∷ prims)) later)
 

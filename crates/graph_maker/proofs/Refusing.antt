@@ -6,7 +6,8 @@ use Rattle.action_script.specs.Forms.ScriptValue.{Script}
 use Rattle.graph_maker.specs.Refusals.{cause_of, exception_in, refused_from, refused_if}
 
 -- a line without a cause is passed
-pub line_passed : (script : Script) (most passed i : ℕ) (all : List Line) (line : Line) → i < length all → line ≡ get_or all i line → cause_of script most passed line.form ≡ None
+pub line_passed : (script : Script) (most passed i : ℕ) (all : List Line) (line : Line) → i < length all → line ≡ get_or all i line
+    → cause_of script most passed line.form ≡ None
     → refused_from script most (passed + length (exception_in line.form)) (drop (i + 1) all) ≡ refused_from script most passed (drop i all)
 line_passed script most passed i all line within is none =
     sym (at_drop_more (refused_from script most passed) all i line within

@@ -28,7 +28,8 @@ length-lowered : (n set : ℕ) → length (lowered n set) ≤ n
 length-lowered zero set = omega arith
 length-lowered (suc bit) set = by (has_bit set bit && nat_lt 0 (without_member set bit)) (length-lowered bit set)
   where
-    by : (b : Bool) → length (lowered bit set) ≤ bit → length (if b then without_member set bit ∷ lowered bit set else lowered bit set) ≤ suc bit
+    by : (b : Bool) → length (lowered bit set) ≤ bit
+        → length (if b then without_member set bit ∷ lowered bit set else lowered bit set) ≤ suc bit
     by true h = omega (arith, h)
     by false h = omega (arith, h)
 

@@ -97,11 +97,13 @@ module _ (names : List (List ℕ)) where
         (sound_cover (slice_index numbers a) (slice_index numbers b) (good_at a here.0) (good_at b here.1))
         (covers_sound pairs (All-tail (λ (p : ℕ × ℕ). (p.0 < length numbers) × (p.1 < length numbers)) (a, b) pairs within))
 
-    pub sounds : (own : List ℕ) (pairs : List (ℕ × ℕ)) → list_all is_good own ≡ true → AreIn pairs → list_all (is_sound names) (inside numbers own pairs) ≡ true
+    pub sounds : (own : List ℕ) (pairs : List (ℕ × ℕ)) → list_all is_good own ≡ true → AreIn pairs
+        → list_all (is_sound names) (inside numbers own pairs) ≡ true
     sounds [] pairs good within = covers_sound pairs within
     sounds (n ∷ own) pairs good within =
         let p = and_parts (is_good n) (list_all is_good own) good in
-        and_from (is_sound names (form.Exception n)) (list_all (is_sound names) (inside numbers own pairs)) (sound_one n p.0) (sounds own pairs p.1 within)
+        and_from (is_sound names (form.Exception n)) (list_all (is_sound names) (inside numbers own pairs)) (sound_one n p.0)
+        (sounds own pairs p.1 within)
 
     covers_short : (pairs : List (ℕ × ℕ)) → AreIn pairs → list_all (is_short names) (map (cover_form numbers) pairs ++ form.End ∷ []) ≡ true
     covers_short [] within = refl
@@ -111,14 +113,17 @@ module _ (names : List (List ℕ)) where
         (short_cover (slice_index numbers a) (slice_index numbers b) (good_at a here.0) (good_at b here.1))
         (covers_short pairs (All-tail (λ (p : ℕ × ℕ). (p.0 < length numbers) × (p.1 < length numbers)) (a, b) pairs within))
 
-    pub shorts : (own : List ℕ) (pairs : List (ℕ × ℕ)) → list_all is_good own ≡ true → AreIn pairs → list_all (is_short names) (inside numbers own pairs) ≡ true
+    pub shorts : (own : List ℕ) (pairs : List (ℕ × ℕ)) → list_all is_good own ≡ true → AreIn pairs
+        → list_all (is_short names) (inside numbers own pairs) ≡ true
     shorts [] pairs good within = covers_short pairs within
     shorts (n ∷ own) pairs good within =
         let p = and_parts (is_good n) (list_all is_good own) good in
-        and_from (is_short names (form.Exception n)) (list_all (is_short names) (inside numbers own pairs)) (short_exception n p.0) (shorts own pairs p.1 within)
+        and_from (is_short names (form.Exception n)) (list_all (is_short names) (inside numbers own pairs)) (short_exception n p.0)
+        (shorts own pairs p.1 within)
 
     -- the names that come up with covers are there already
-    covers_among : (pairs : List (ℕ × ℕ)) → AreIn pairs → list_all (is_among names) (flat_map (form_names names) (map (cover_form numbers) pairs ++ form.End ∷ [])) ≡ true
+    covers_among : (pairs : List (ℕ × ℕ)) → AreIn pairs
+        → list_all (is_among names) (flat_map (form_names names) (map (cover_form numbers) pairs ++ form.End ∷ [])) ≡ true
     covers_among [] within = refl
     covers_among ((a, b) ∷ pairs) within =
         let here = All-head (λ (p : ℕ × ℕ). (p.0 < length numbers) × (p.1 < length numbers)) (a, b) pairs within in
@@ -132,11 +137,13 @@ module _ (names : List (List ℕ)) where
 
     -- those of the exceptions are their words
     pub own_names : (words : List (List ℕ)) (pairs : List (ℕ × ℕ)) → list_all (is_among names) words ≡ true
-        → flat_map (form_names names) (inside numbers (map (number_in names) words) pairs) ≡ words ++ flat_map (form_names names) (map (cover_form numbers) pairs ++ form.End ∷ [])
+        → flat_map (form_names names) (inside numbers (map (number_in names) words) pairs) ≡ words ++ flat_map (form_names names)
+        (map (cover_form numbers) pairs ++ form.End ∷ [])
     own_names [] pairs among = refl
     own_names (word ∷ words) pairs among =
         let p = and_parts (is_among names word) (list_all (is_among names) words) among in
-        ap (λ (w : List ℕ). w ∷ flat_map (form_names names) (inside numbers (map (number_in names) words) pairs)) (name-number names word p.0)
+        ap (λ (w : List ℕ). w ∷ flat_map (form_names names) (inside numbers (map (number_in names) words) pairs))
+        (name-number names word p.0)
         ∙ ap (λ (l : List (List ℕ)). word ∷ l) (own_names words pairs p.1)
 
   -- words that are there add nothing
@@ -147,7 +154,8 @@ module _ (names : List (List ℕ)) where
       ap (λ (b : Bool). with_names (if b then names else names ++ word ∷ []) words) p.0 ∙ none_new words p.1
 
   -- the numbers of words that are names and are there are good
-  pub goods_of : (words : List (List ℕ)) → list_all is_name words ≡ true → list_all (is_among names) words ≡ true → list_all is_good (map (number_in names) words) ≡ true
+  pub goods_of : (words : List (List ℕ)) → list_all is_name words ≡ true → list_all (is_among names) words ≡ true
+      → list_all is_good (map (number_in names) words) ≡ true
   goods_of [] named among = refl
   goods_of (word ∷ words) named among =
       let p = and_parts (is_name word) (list_all is_name words) named in
@@ -174,7 +182,8 @@ are_script (graph ∷ words) pairs some few named within less =
     let g = and_parts (is_good names (number_in names graph)) (list_all (is_good names) own) goods in
     let a = and_parts (is_among names graph) (list_all (is_among names) words) among in
     let many = length-map all (number_in names) in
-    let in_range : All (λ (p : ℕ × ℕ). (p.0 < length numbers) × (p.1 < length numbers)) pairs = subst (λ k. All (λ (p : ℕ × ℕ). (p.0 < k) × (p.1 < k)) pairs) (sym many) within in
+    let in_range : All (λ (p : ℕ × ℕ). (p.0 < length numbers) × (p.1 < length numbers)) pairs =
+    subst (λ k. All (λ (p : ℕ × ℕ). (p.0 < k) × (p.1 < k)) pairs) (sym many) within in
     let count = length-with_names [] all in
     let later = flat_map (form_names names) (map (cover_form numbers) pairs ++ form.End ∷ []) in
     let said : flat_map (form_names names) (made_forms numbers pairs) ≡ all ++ later =
@@ -192,7 +201,12 @@ are_script (graph ∷ words) pairs some few named within less =
       few_names = omega (arith, count, few);
       few_forms = subst (λ k. k < 2 ^ 32) (sym long) (omega (arith, total, size, less));
       lead = leads names numbers goods own pairs;
-      sound = and_from (is_sound names (form.Graph (number_in names graph))) (list_all (is_sound names) (inside names numbers own pairs)) (sound_one names (number_in names graph) g.0) (sounds names numbers goods own pairs g.1 in_range);
-      short = and_from (is_short names (form.Graph (number_in names graph))) (list_all (is_short names) (inside names numbers own pairs)) (short_graph names (number_in names graph) g.0) (shorts names numbers goods own pairs g.1 in_range);
-      order = ap (with_names []) said ∙ with_names-append [] all later ∙ none_new names later (covers_among names numbers goods pairs in_range);
+      sound =
+          and_from (is_sound names (form.Graph (number_in names graph))) (list_all (is_sound names) (inside names numbers own pairs))
+          (sound_one names (number_in names graph) g.0) (sounds names numbers goods own pairs g.1 in_range);
+      short =
+          and_from (is_short names (form.Graph (number_in names graph))) (list_all (is_short names) (inside names numbers own pairs))
+          (short_graph names (number_in names graph) g.0) (shorts names numbers goods own pairs g.1 in_range);
+      order =
+          ap (with_names []) said ∙ with_names-append [] all later ∙ none_new names later (covers_among names numbers goods pairs in_range);
     }

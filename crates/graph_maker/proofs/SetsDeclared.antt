@@ -63,7 +63,8 @@ module _ (n most : ℕ) where
 -- ---- names, and rows
 
 -- the names of these words' numbers are the words
-named : (names words : List (List ℕ)) → list_all (is_among names) words ≡ true → map (exception_name names) (map (number_in names) words) ≡ words
+named : (names words : List (List ℕ)) → list_all (is_among names) words ≡ true
+    → map (exception_name names) (map (number_in names) words) ≡ words
 named names [] there = refl
 named names (word ∷ words) there =
     let p = and_parts (is_among names word) (list_all (is_among names) words) there in
@@ -79,7 +80,8 @@ record AreTwo (names : List (List ℕ)) (graph : DeclaredGraph) (rows : List Gra
   both : rows ≡ first ∷ second ∷ []
   is : IsRowOf names graph second
 
-two_rows : (names : List (List ℕ)) (first second : DeclaredGraph) (rows : List GraphRow) → AreRowsOf names (first ∷ second ∷ []) rows → AreTwo names second rows
+two_rows : (names : List (List ℕ)) (first second : DeclaredGraph) (rows : List GraphRow) → AreRowsOf names (first ∷ second ∷ []) rows
+    → AreTwo names second rows
 two_rows names first second [] h = absurd h
 two_rows names first second (a ∷ []) h = absurd h.1
 two_rows names first second (a ∷ b ∷ []) h = record { first = a; second = b; both = refl; is = h.1.0 }
@@ -107,7 +109,8 @@ module _ (script : Script) (most : ℕ) (room : HasRoom (primitive_count script)
   graph = record { exceptions = universal ∷ own; pairs = pairs_of n most }
 
   there : list_all (is_among names) words ≡ true
-  there = (and_parts (is_among names (name_at script.names (graph_of script.lines))) (list_all (is_among names) words) (all_among-with_names [] (words_of script most))).1
+  there =
+      (and_parts (is_among names (name_at script.names (graph_of script.lines))) (list_all (is_among names) words) (all_among-with_names [] (words_of script most))).1
 
   apart : AreApart (universal ∷ own)
   apart = numbers_apart names (codes "universal") words there own_names
@@ -128,7 +131,8 @@ module _ (script : Script) (most : ℕ) (room : HasRoom (primitive_count script)
 
   graph_of_sets : (row : GraphRow) → IsRowOf names graph row → IsGraphOfSets script most row
   graph_of_sets row is =
-      let order : IsOrderOf (exception_count n most) (pairs_of n most) row.graph = subst (λ k. IsOrderOf k (pairs_of n most) row.graph) count is.order in
+      let order : IsOrderOf (exception_count n most) (pairs_of n most) row.graph =
+      subst (λ k. IsOrderOf k (pairs_of n most) row.graph) count is.order in
       let both = named names words there in
       record {
         named = is.named ∙ (λ j. found names (codes "universal") j ∷ both j);
@@ -141,7 +145,8 @@ module _ (script : Script) (most : ℕ) (room : HasRoom (primitive_count script)
   declares_sets = record {
     accepted = goes_to.accepted;
     planned = λ plan is.
-        let rows : AreRowsOf names (plain_graph universal ∷ graph ∷ []) is.draft.graphs = subst (λ (graphs : List DeclaredGraph). AreRowsOf names graphs is.draft.graphs) goes_to.declares is.declared.graphs in
+        let rows : AreRowsOf names (plain_graph universal ∷ graph ∷ []) is.draft.graphs =
+        subst (λ (graphs : List DeclaredGraph). AreRowsOf names graphs is.draft.graphs) goes_to.declares is.declared.graphs in
         let two = two_rows names (plain_graph universal) graph is.draft.graphs rows in
         record {
           plain = two.first;

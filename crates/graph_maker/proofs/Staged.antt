@@ -40,13 +40,22 @@ record IsStep (s : Stage) (f : Form) (next : Stage) : Type 0 where
   goes : goes_to (kind_of f) (section_of s) ≡ section_of next
 
 a_step : (s : Stage) (f : Form) (next : Stage) → next_stage s f ≡ Some next → IsStep s f next
-a_step stage.Graph (form.Graph name) next h = let same : stage.First ≡ next = cc in subst (IsStep stage.Graph (form.Graph name)) same (record { numbered = λ number. refl; goes = refl })
-a_step stage.First (form.Exception name) next h = let same : stage.More ≡ next = cc in subst (IsStep stage.First (form.Exception name)) same (record { numbered = λ number. refl; goes = refl })
-a_step stage.More (form.Exception name) next h = let same : stage.More ≡ next = cc in subst (IsStep stage.More (form.Exception name)) same (record { numbered = λ number. refl; goes = refl })
-a_step stage.More form.End next h = let same : stage.Over ≡ next = cc in subst (IsStep stage.More form.End) same (record { numbered = λ number. refl; goes = refl })
+a_step stage.Graph (form.Graph name) next h =
+    let same : stage.First ≡ next = cc in
+    subst (IsStep stage.Graph (form.Graph name)) same (record { numbered = λ number. refl; goes = refl })
+a_step stage.First (form.Exception name) next h =
+    let same : stage.More ≡ next = cc in
+    subst (IsStep stage.First (form.Exception name)) same (record { numbered = λ number. refl; goes = refl })
+a_step stage.More (form.Exception name) next h =
+    let same : stage.More ≡ next = cc in
+    subst (IsStep stage.More (form.Exception name)) same (record { numbered = λ number. refl; goes = refl })
+a_step stage.More form.End next h =
+    let same : stage.Over ≡ next = cc in
+    subst (IsStep stage.More form.End) same (record { numbered = λ number. refl; goes = refl })
 a_step _ _ next h = cc
 
-pub read_more : (s : Stage) (line : Line) (rest all : List Line) (next : Stage) → Reads s (line ∷ rest) all → next_stage s line.form ≡ Some next → Reads next rest all
+pub read_more : (s : Stage) (line : Line) (rest all : List Line) (next : Stage) → Reads s (line ∷ rest) all
+    → next_stage s line.form ≡ Some next → Reads next rest all
 read_more s line rest all next reads h =
     let step = a_step s line.form next h in
     let parts = and_parts (stands_in (kind_of line.form) (section_of s)) _ reads.leads in
@@ -59,7 +68,8 @@ read_more s line rest all next reads h =
       leads = ap (λ t. lead_to_top t (forms_of rest)) (sym step.goes) ∙ parts.1;
     }
 
-pub read_bad : (s : Stage) (line : Line) (rest all : List Line) → Reads s (line ∷ rest) all → next_stage s line.form ≡ None → Some line.number ≡ bad_from stage.Graph 1 all
+pub read_bad : (s : Stage) (line : Line) (rest all : List Line) → Reads s (line ∷ rest) all → next_stage s line.form ≡ None
+    → Some line.number ≡ bad_from stage.Graph 1 all
 read_bad s line rest all reads h = sym (reads.same ∙ ap (bad_if line.number (λ t. bad_from t (line.number + 1) rest)) h)
 
 pub read_over : (all : List Line) → Reads stage.Over [] all → None ≡ bad_from stage.Graph 1 all

@@ -46,7 +46,8 @@ any_from p (y ∷ xs) x at holds =
       | inr later ↦ or_right (p y) (list_any p xs) (any_from p xs x later holds)
     ]
 
-pub flat_map_from : {A B : Type 0} (f : A → List B) (xs : List A) (x : A) (y : B) → Contains xs x → Contains (f x) y → Contains (flat_map f xs) y
+pub flat_map_from : {A B : Type 0} (f : A → List B) (xs : List A) (x : A) (y : B) → Contains xs x → Contains (f x) y
+    → Contains (flat_map f xs) y
 flat_map_from f [] x y at here = absurd (nothing_in x at)
 flat_map_from f (z ∷ xs) x y at here =
     elim (cases_in z xs x at) [
@@ -54,7 +55,8 @@ flat_map_from f (z ∷ xs) x y at here =
       | inr later ↦ Contains-append_right (f z) (flat_map f xs) y (flat_map_from f xs x y later here)
     ]
 
-pub flat_map_member : {A B : Type 0} (f : A → List B) (xs : List A) (y : B) → Contains (flat_map f xs) y → (x : A) × Contains xs x × Contains (f x) y
+pub flat_map_member : {A B : Type 0} (f : A → List B) (xs : List A) (y : B) → Contains (flat_map f xs) y
+    → (x : A) × Contains xs x × Contains (f x) y
 flat_map_member f [] y at = absurd (nothing_in y at)
 flat_map_member f (x ∷ xs) y at =
     elim (Contains-append_cases (f x) (flat_map f xs) y at) [

@@ -37,7 +37,8 @@ module _ (order : CoverOrder) (xs : List ℕ) where
       ordered.antisymmetric (least_cover order xs) x r_in x_in (h.least (least_cover order xs) r_in is.above) (is.least x x_in h.above)
 
 -- it depends on what the list contains alone
-pub least-same_set : (order : CoverOrder) (xs ys : List ℕ) (x : ℕ) → ((m : ℕ) → Contains xs m → Contains ys m) → ((m : ℕ) → Contains ys m → Contains xs m) → IsLeastCover order xs x → IsLeastCover order ys x
+pub least-same_set : (order : CoverOrder) (xs ys : List ℕ) (x : ℕ) → ((m : ℕ) → Contains xs m → Contains ys m)
+    → ((m : ℕ) → Contains ys m → Contains xs m) → IsLeastCover order xs x → IsLeastCover order ys x
 least-same_set order xs ys x into back h = record {
   in_range = h.in_range;
   above = list_all_from (covers order x) ys (λ m at. list_all_in (covers order x) xs m h.above (back m at));
@@ -45,6 +46,7 @@ least-same_set order xs ys x into back h = record {
 }
 
 -- and there is one at most
-pub least_one_only : (order : CoverOrder) (xs : List ℕ) (x y : ℕ) → IsOrder order → IsLeastCover order xs x → IsLeastCover order xs y → x ≡ y
+pub least_one_only : (order : CoverOrder) (xs : List ℕ) (x y : ℕ) → IsOrder order → IsLeastCover order xs x → IsLeastCover order xs y
+    → x ≡ y
 least_one_only order xs x y ordered h k =
     ordered.antisymmetric x y h.in_range k.in_range (k.least x h.in_range h.above) (h.least y k.in_range k.above)

@@ -19,7 +19,8 @@ in_range_all p a (suc n) all x low high =
     ]
 
 -- where some number passes, the first such is found
-pub first_passes : (p : ℕ → Bool) (a n x : ℕ) → a ≤ x → x < a + n → p x ≡ true → (p (first_such p (range_with_len a n)) ≡ true) × (first_such p (range_with_len a n) < a + n)
+pub first_passes : (p : ℕ → Bool) (a n x : ℕ) → a ≤ x → x < a + n → p x ≡ true
+    → (p (first_such p (range_with_len a n)) ≡ true) × (first_such p (range_with_len a n) < a + n)
 first_passes p a zero x low high holds = absurd (omega arith)
 first_passes p a (suc n) x low high holds =
     cond_both (p a) a (first_such p (range_with_len (a + 1) n)) (λ r. (p r ≡ true) × (r < a + suc n)) (λ here. (here, omega arith))
@@ -30,7 +31,9 @@ first_passes p a (suc n) x low high holds =
     (found.0, omega arith))
 
 -- a list that holds the answers of a test holds it throughout just where the test passes throughout
-pub all_of_answers : (p : ℕ → Bool) (answers : List Bool) (a : ℕ) → ((u : ℕ) → u < length answers → slice_index_or answers u false ≡ p (a + u)) → list_all (λ b. b) answers ≡ list_all p (range_with_len a (length answers))
+pub all_of_answers : (p : ℕ → Bool) (answers : List Bool) (a : ℕ)
+    → ((u : ℕ) → u < length answers → slice_index_or answers u false ≡ p (a + u))
+    → list_all (λ b. b) answers ≡ list_all p (range_with_len a (length answers))
 all_of_answers p [] a h = refl
 all_of_answers p (b ∷ answers) a h =
     let here : b ≡ p a = rw add-zero at (h 0 (omega arith)) in

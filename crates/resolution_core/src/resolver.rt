@@ -1,6 +1,7 @@
 ghost use Rattle.std.specs.Prelude.{◌≡◌, ◌<◌, ◌∷◌, [], ℕ, List, length, slice_set, true, false, not, ◌&&◌, is_none, Option, Some, None, IfOk, IfSome};
 ghost use Rattle.std.specs.List.{list_all};
 ghost use Rattle.cover_table.specs.Cover.{has_bit, IsLeastCover};
+ghost use Rattle.core_words.specs.Joining.{IsCoverOf};
 ghost use Rattle.caa_base.specs.declared.written.entry.Entry.{Entry as EntryValue};
 ghost use Rattle.place_plan.specs.Plans.PlanValue.{Plan as PlanValue};
 ghost use Rattle.place_plan.specs.Plans.Places.{internal_of, roles_of};
@@ -153,6 +154,16 @@ impl Resolver {
             → result ≡ exception_resolved past place }
     {
         self.row(place).resolved
+    }
+
+    /// The least cover of what was raised in a place, where something was.
+    #[inline(always)]
+    pub fn cover(&self, place: Place) -> Option<Exception>
+        ensures kept { result ≡ (at self.now place).cover }
+        ensures by_journal { (plan : PlanValue) (past : List EntryValue) → StandsFor plan past self.now
+            → IsCoverOf (internal_of plan place) (exceptions_raised plan past place) result }
+    {
+        self.row(place).cover
     }
 
     /// Whether each role of a place is halted, and it isn't resolved.

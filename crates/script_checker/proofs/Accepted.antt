@@ -97,9 +97,12 @@ closed_shut a v (Some p) e = refl
 -- each line without cause keeps it, in the block that it stands in: at the top, in a graph, in an action, and at the end of each;
 -- and so does the end of a body or a handler without verdict line
 pub record IsKept (names : List (List ℕ)) (Holds : Declared → Block → Type 0) : Type 0 where
-  pub at_top : (d : Declared) (f : Form) → is_sound names f ≡ true → NoneAtTop d f → Holds d block.Top → Holds (declared_with names d f) (block_begun d f)
-  pub in_graph : (d : Declared) (g : DeclaredGraph) (f : Form) → is_sound names f ≡ true → NoneInGraph d g f → Holds d (block.Graph g) → Holds d (block.Graph (graph_with g f))
-  pub in_action : (d : Declared) (a : OpenAction) (f : Form) → is_sound names f ≡ true → NoneInAction d a f → (goes_on f ≡ false → a.program ≡ None) → Holds d (block.Action a) → Holds d (block.Action (action_with names d a f))
+  pub at_top : (d : Declared) (f : Form) → is_sound names f ≡ true → NoneAtTop d f → Holds d block.Top
+      → Holds (declared_with names d f) (block_begun d f)
+  pub in_graph : (d : Declared) (g : DeclaredGraph) (f : Form) → is_sound names f ≡ true → NoneInGraph d g f → Holds d (block.Graph g)
+      → Holds d (block.Graph (graph_with g f))
+  pub in_action : (d : Declared) (a : OpenAction) (f : Form) → is_sound names f ≡ true → NoneInAction d a f
+      → (goes_on f ≡ false → a.program ≡ None) → Holds d (block.Action a) → Holds d (block.Action (action_with names d a f))
   pub closes : (d : Declared) (a : OpenAction) → Holds d (block.Action a) → Holds d (block.Action (closed a verdict.Done))
   pub ends : (d : Declared) (b : Block) → HasNone (record { declared = d; block = b }) form.End → Holds d b → Holds (ended names d b) block.Top
 
@@ -132,7 +135,8 @@ module _ (names : List (List ℕ)) (Holds : Declared → Block → Type 0) (kept
   shuts (block.Graph g) f true e = tt
   shuts (block.Graph g) f false e = tt
 
-  pub holds_after : (s : SoFar) (lines : List Line) → list_all (is_sound names) (forms_of lines) ≡ true → AreAccepted names s lines → HoldsOf s → HoldsOf (declared_after names s lines)
+  pub holds_after : (s : SoFar) (lines : List Line) → list_all (is_sound names) (forms_of lines) ≡ true → AreAccepted names s lines
+      → HoldsOf s → HoldsOf (declared_after names s lines)
   holds_after s [] sound accepted h = h
   holds_after s (line ∷ lines) sound accepted h =
       let p = and_parts (is_sound names line.form) (list_all (is_sound names) (forms_of lines)) sound in

@@ -48,7 +48,8 @@ module _ (names : List (List ℕ)) (lines : List Line) (sound : list_all (is_sou
   block_after = (declared_after names (nothing_yet names) lines).block
 
   -- what each line keeps, and what holds before the first
-  kept : (Holds : Declared → Block → Type 0) → IsKept names Holds → Holds (nothing_declared (number_in names (codes "universal"))) block.Top → Holds last block_after
+  kept : (Holds : Declared → Block → Type 0) → IsKept names Holds → Holds (nothing_declared (number_in names (codes "universal"))) block.Top
+      → Holds last block_after
   kept Holds each first = holds_after names Holds each (nothing_yet names) lines sound accepted first
 
   pub counts : AreCountsFew last block_after
@@ -60,9 +61,11 @@ module _ (names : List (List ℕ)) (lines : List Line) (sound : list_all (is_sou
   -- no more parts than the limits allow
   pub keeps_sizes : size_rule draft ≡ true
   keeps_sizes =
-      let participants : length draft.participants ≤ most_participants = rw drafted.participants (omega (arith, counts.participants.0, counts.participants.1)) in
+      let participants : length draft.participants ≤ most_participants =
+      rw drafted.participants (omega (arith, counts.participants.0, counts.participants.1)) in
       let objects : length draft.objects ≤ most_objects = rw drafted.objects (omega (arith, counts.objects.0, counts.objects.1)) in
-      let graphs : length draft.graphs ≤ suc most_graphs = rw (rows_many names last.graphs draft.graphs drafted.graphs) (omega (arith, counts.graphs.0, counts.graphs.1)) in
+      let graphs : length draft.graphs ≤ suc most_graphs =
+      rw (rows_many names last.graphs draft.graphs drafted.graphs) (omega (arith, counts.graphs.0, counts.graphs.1)) in
       let actions : length draft.actions ≤ most_actions = rw drafted.actions (omega (arith, counts.actions.0, counts.actions.1)) in
       let watches : length draft.watches ≤ most_watches = rw drafted.watches counts.watches in
       let drills : length draft.drills ≤ most_drills = rw drafted.drills counts.drills in
@@ -88,7 +91,8 @@ module _ (names : List (List ℕ)) (lines : List Line) (sound : list_all (is_sou
   nests_filled : list_all (λ (action : ActionRow). list_all (nest_fills draft) action.nests) draft.actions ≡ true
   nests_filled =
       let h = kept (Pass uses_filled filled_test) (pass_kept uses_filled filled_test names) (refl, tt) in
-      all_imply (λ (action : ActionRow). list_all (uses_filled draft.actions last.graphs) action.nests) (λ (action : ActionRow). list_all (nest_fills draft) action.nests) draft.actions
+      all_imply (λ (action : ActionRow). list_all (uses_filled draft.actions last.graphs) action.nests)
+      (λ (action : ActionRow). list_all (nest_fills draft) action.nests) draft.actions
       (λ action k. all_imply (uses_filled draft.actions last.graphs) (nest_fills draft) action.nests
       (λ nest m.
       let p = and_parts (all_below (length draft.actions) nest.actions) _ m in
@@ -109,7 +113,8 @@ module _ (names : List (List ℕ)) (lines : List Line) (sound : list_all (is_sou
   pub keeps_faces : face_rule draft ≡ true
   keeps_faces =
       let h = kept (Pass uses_faced faced_test) (pass_kept uses_faced faced_test names) (refl, tt) in
-      all_imply (λ (action : ActionRow). list_all (uses_faced draft.actions last.graphs) action.nests) (λ (action : ActionRow). list_all (has_one_face draft) action.nests) draft.actions
+      all_imply (λ (action : ActionRow). list_all (uses_faced draft.actions last.graphs) action.nests)
+      (λ (action : ActionRow). list_all (has_one_face draft) action.nests) draft.actions
       (λ action k. all_imply (uses_faced draft.actions last.graphs) (has_one_face draft) action.nests (λ nest m. (and_parts (all_below (length draft.actions) nest.actions) _ m).1) k)
       (subst (λ (actions : List ActionRow). list_all (λ (action : ActionRow). list_all (uses_faced actions last.graphs) action.nests) actions ≡ true) (sym drafted.actions) h.0)
 
@@ -130,7 +135,8 @@ module _ (names : List (List ℕ)) (lines : List Line) (sound : list_all (is_sou
       (record { there = (refl, tt); depths = record { many = refl; tell = λ a l. absurd (omega arith) }; shallow_in = tt })
 
   pub keeps_depths : depth_rule draft ≡ true
-  keeps_depths = rw drafted.actions (depths_within last.depths last.actions shallow.depths.tell shallow.there.0 0 last.actions (omega arith))
+  keeps_depths =
+      rw drafted.actions (depths_within last.depths last.actions shallow.depths.tell shallow.there.0 0 last.actions (omega arith))
 
   -- what the plays come to is counted
   pub weighed : AreWeighed last block_after
@@ -148,15 +154,22 @@ module _ (names : List (List ℕ)) (lines : List Line) (sound : list_all (is_sou
   sizes_counted keeps =
       let places = places_told last block_after shallow draft keeps drafted.actions weighed.places.0.tell in
       let entries = entries_told last block_after shallow draft keeps drafted.actions weighed.entries.0.tell in
-      let all_places : last.all_places ≡ counted (length (plan_of draft).places) = weighed.places.0.whole ∙ subst (λ (plays : List PlayRow). counted (played_weight (at last.places) plays) ≡ counted (length (plan_of draft).places)) drafted.plays places in
-      let whole : last.whole_bound ≡ counted (bound (plan_of draft)) = weighed.entries.0.whole ∙ subst (λ (plays : List PlayRow). counted (played_weight (at last.bounds) plays) ≡ counted (bound (plan_of draft))) drafted.plays entries in
+      let all_places : last.all_places ≡ counted (length (plan_of draft).places) =
+      weighed.places.0.whole ∙ subst
+      (λ (plays : List PlayRow). counted (played_weight (at last.places) plays) ≡ counted (length (plan_of draft).places))
+      drafted.plays places in
+      let whole : last.whole_bound ≡ counted (bound (plan_of draft)) =
+      weighed.entries.0.whole ∙ subst
+      (λ (plays : List PlayRow). counted (played_weight (at last.bounds) plays) ≡ counted (bound (plan_of draft))) drafted.plays
+      entries in
       (omega (arith, all_places, weighed.places.1), omega (arith, whole, weighed.entries.1))
 
   -- so they are within the limits
   pub keeps_bound : KeepsParts draft → bound_rule draft ≡ true
   keeps_bound keeps =
       let sizes = sizes_counted keeps in
-      and_from _ _ (le-leb (length (plan_of draft).places) most_places (omega (arith, sizes.0, weighed.places.1))) (le-leb (bound (plan_of draft)) most_entries (omega (arith, sizes.1, weighed.entries.1)))
+      and_from _ _ (le-leb (length (plan_of draft).places) most_places (omega (arith, sizes.0, weighed.places.1)))
+      (le-leb (bound (plan_of draft)) most_entries (omega (arith, sizes.1, weighed.entries.1)))
 
   -- no role handles an exception twice
   pub handlers_apart : list_all (λ (action : ActionRow). list_all handlers_differ action.roles) draft.actions ≡ true
@@ -179,7 +192,9 @@ module _ (names : List (List ℕ)) (lines : List Line) (sound : list_all (is_sou
   actions_right =
       let many_actions : length last.actions ≤ length draft.actions = rw drafted.actions (omega arith) in
       let many_graphs : length last.graphs ≤ length draft.graphs = omega (arith, rows_many names last.graphs draft.graphs drafted.graphs) in
-      subst (λ (actions : List ActionRow). list_all (action_right (length draft.objects) (length draft.actions) (length draft.graphs) (exceptions_of draft)) actions ≡ true) (sym drafted.actions)
+      subst
+      (λ (actions : List ActionRow). list_all (action_right (length draft.objects) (length draft.actions) (length draft.graphs) (exceptions_of draft)) actions ≡ true)
+      (sym drafted.actions)
       (mapped.ranges.ended_right (length draft.objects) (length draft.actions) (length draft.graphs) (exceptions_of draft) many_objects many_actions many_graphs (λ g. omega (arith, exceptions g)))
 
   -- all numbers are in range
@@ -187,8 +202,12 @@ module _ (names : List (List ℕ)) (lines : List Line) (sound : list_all (is_sou
   keeps_ranges =
       let outside = mapped.ranges.outside_right in
       let valued = subst (λ (rows : List ObjectRow). list_all is_valued rows ≡ true) (sym drafted.objects) outside.valued in
-      let drilled = subst (λ (drills : List Drill). list_all (drill_below (length draft.objects)) drills ≡ true) (sym drafted.drills) (outside.drilled (length draft.objects) many_objects) in
-      let watched = subst (λ (watches : List ℕ). all_below (length draft.objects) watches ≡ true) (sym drafted.watches) (outside.watched (length draft.objects) many_objects) in
+      let drilled =
+      subst (λ (drills : List Drill). list_all (drill_below (length draft.objects)) drills ≡ true) (sym drafted.drills)
+      (outside.drilled (length draft.objects) many_objects) in
+      let watched =
+      subst (λ (watches : List ℕ). all_below (length draft.objects) watches ≡ true) (sym drafted.watches)
+      (outside.watched (length draft.objects) many_objects) in
       and_from _ _ valued (and_from _ _ actions_right (and_from _ _ (plays_ranged draft plays_right) (and_from _ _ drilled watched)))
 
   -- each exception of a nested use is mapped
@@ -196,12 +215,15 @@ module _ (names : List (List ℕ)) (lines : List Line) (sound : list_all (is_sou
   nests_map_all =
       let face : ℕ → ℕ = λ a. (slice_index_or draft.actions a no_action).interface in
       let h = mapped.maps (exceptions_of draft) face (record { counts = λ g l. exceptions g; faces = λ a l. rw drafted.actions refl }) in
-      all_imply (λ (action : ActionRow). list_all (use_mapped (exceptions_of draft) face) action.nests) (λ (action : ActionRow). list_all (maps_all draft) action.nests) draft.actions
+      all_imply (λ (action : ActionRow). list_all (use_mapped (exceptions_of draft) face) action.nests)
+      (λ (action : ActionRow). list_all (maps_all draft) action.nests) draft.actions
       (λ action k. all_imply (use_mapped (exceptions_of draft) face) (maps_all draft) action.nests (λ nest m. (and_parts (not (is_empty nest.actions)) _ m).1) k)
       (subst (λ (actions : List ActionRow). list_all (λ (action : ActionRow). list_all (use_mapped (exceptions_of draft) face) action.nests) actions ≡ true) (sym drafted.actions) h.0)
 
   pub keeps_handlers : handler_rule draft ≡ true
-  keeps_handlers = all_both (λ (action : ActionRow). list_all handlers_differ action.roles) (λ (action : ActionRow). list_all (maps_all draft) action.nests) draft.actions handlers_apart nests_map_all
+  keeps_handlers =
+      all_both (λ (action : ActionRow). list_all handlers_differ action.roles)
+      (λ (action : ActionRow). list_all (maps_all draft) action.nests) draft.actions handlers_apart nests_map_all
 
   -- ---- all rules
 

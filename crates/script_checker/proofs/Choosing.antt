@@ -41,7 +41,8 @@ module _ (s : SoFar) (f : Form) where
   passes_twice e p cause.Twice l h = false≢true (sym e ∙ h)
   passes_twice e p other l h = p other (omega arith) h
 
-  pub passes_graph : ((at : ℕ) → ¬ (HasCause s f (cause.Cycle at))) → ((a b : ℕ) → ¬ (HasCause s f (cause.NoLeast a b))) → HasNoneBelow s f 12 → HasNoneBelow s f 14
+  pub passes_graph : ((at : ℕ) → ¬ (HasCause s f (cause.Cycle at))) → ((a b : ℕ) → ¬ (HasCause s f (cause.NoLeast a b)))
+      → HasNoneBelow s f 12 → HasNoneBelow s f 14
   passes_graph cycle least p (cause.Cycle at) l h = cycle at h
   passes_graph cycle least p (cause.NoLeast a b) l h = least a b h
   passes_graph cycle least p other l h = p other (omega arith) h
@@ -82,8 +83,10 @@ module _ (s : SoFar) (f : Form) where
   -- ---- the choice
 
   -- a cause that is here, or else a later one
-  chain : (b : Bool) (here c : CheckCause) (later : Option CheckCause) → HasNoneBelow s f (number_of here) → (b ≡ true → HasCause s f here) → (b ≡ false → later ≡ Some c → IsLeast s f c) → cause_if b here later ≡ Some c → IsLeast s f c
-  chain true here c later p has further e = subst (λ k. IsLeast s f k) (ap (λ o. unwrap_or o here) e) (record { has = has refl; lesser = p })
+  chain : (b : Bool) (here c : CheckCause) (later : Option CheckCause) → HasNoneBelow s f (number_of here) → (b ≡ true → HasCause s f here)
+      → (b ≡ false → later ≡ Some c → IsLeast s f c) → cause_if b here later ≡ Some c → IsLeast s f c
+  chain true here c later p has further e =
+      subst (λ k. IsLeast s f k) (ap (λ o. unwrap_or o here) e) (record { has = has refl; lesser = p })
   chain false here c later p has further e = further refl e
 
   none_here : (b : Bool) (here : CheckCause) (later : Option CheckCause) → cause_if b here later ≡ None → (b ≡ false) × (later ≡ None)
@@ -104,9 +107,17 @@ module _ (s : SoFar) (f : Form) where
 
   none_size : HasNoneBelow s f 18 → size_cause s.declared s.block f ≡ None → HasNone s f
   none_size p e =
-      let d = none_here (in_action (λ a. too_deep_in_action s.declared f) s.block) cause.TooDeep (cause_if (is_past_limit s.declared s.block f) cause.Limit (cause_if (is_past_bound s.declared s.block f) cause.JournalBound (cause_if (in_action (λ a. other_face_in_action s.declared a f) s.block) cause.AlternateFace None))) e in
-      let l = none_here (is_past_limit s.declared s.block f) cause.Limit (cause_if (is_past_bound s.declared s.block f) cause.JournalBound (cause_if (in_action (λ a. other_face_in_action s.declared a f) s.block) cause.AlternateFace None)) d.1 in
-      let b = none_here (is_past_bound s.declared s.block f) cause.JournalBound (cause_if (in_action (λ a. other_face_in_action s.declared a f) s.block) cause.AlternateFace None) l.1 in
+      let d =
+      none_here (in_action (λ a. too_deep_in_action s.declared f) s.block) cause.TooDeep
+      (cause_if (is_past_limit s.declared s.block f) cause.Limit (cause_if (is_past_bound s.declared s.block f) cause.JournalBound (cause_if (in_action (λ a. other_face_in_action s.declared a f) s.block) cause.AlternateFace None)))
+      e in
+      let l =
+      none_here (is_past_limit s.declared s.block f) cause.Limit
+      (cause_if (is_past_bound s.declared s.block f) cause.JournalBound (cause_if (in_action (λ a. other_face_in_action s.declared a f) s.block) cause.AlternateFace None))
+      d.1 in
+      let b =
+      none_here (is_past_bound s.declared s.block f) cause.JournalBound
+      (cause_if (in_action (λ a. other_face_in_action s.declared a f) s.block) cause.AlternateFace None) l.1 in
       let o = none_here (in_action (λ a. other_face_in_action s.declared a f) s.block) cause.AlternateFace None b.1 in
       passes_face o.0 (passes_bound b.0 (passes_limit l.0 (passes_deep d.0 p)))
 
@@ -121,10 +132,21 @@ module _ (s : SoFar) (f : Form) where
 
   none_part : HasNoneBelow s f 14 → part_cause s.declared s.block f ≡ None → HasNone s f
   none_part p e =
-      let u = none_here (is_unfilled s.declared s.block f) cause.RoleUnfilled (cause_if (fills_twice s.block f) cause.RoleTwice (cause_if (in_action (λ a. enters_otherwise_in_action a f) s.block) cause.NestOrder (cause_if (in_action (λ a. not_held_in_action s.declared a f) s.block) cause.ObjectNotHeld (size_cause s.declared s.block f)))) e in
-      let t = none_here (fills_twice s.block f) cause.RoleTwice (cause_if (in_action (λ a. enters_otherwise_in_action a f) s.block) cause.NestOrder (cause_if (in_action (λ a. not_held_in_action s.declared a f) s.block) cause.ObjectNotHeld (size_cause s.declared s.block f))) u.1 in
-      let n = none_here (in_action (λ a. enters_otherwise_in_action a f) s.block) cause.NestOrder (cause_if (in_action (λ a. not_held_in_action s.declared a f) s.block) cause.ObjectNotHeld (size_cause s.declared s.block f)) t.1 in
-      let o = none_here (in_action (λ a. not_held_in_action s.declared a f) s.block) cause.ObjectNotHeld (size_cause s.declared s.block f) n.1 in
+      let u =
+      none_here (is_unfilled s.declared s.block f) cause.RoleUnfilled
+      (cause_if (fills_twice s.block f) cause.RoleTwice (cause_if (in_action (λ a. enters_otherwise_in_action a f) s.block) cause.NestOrder (cause_if (in_action (λ a. not_held_in_action s.declared a f) s.block) cause.ObjectNotHeld (size_cause s.declared s.block f))))
+      e in
+      let t =
+      none_here (fills_twice s.block f) cause.RoleTwice
+      (cause_if (in_action (λ a. enters_otherwise_in_action a f) s.block) cause.NestOrder (cause_if (in_action (λ a. not_held_in_action s.declared a f) s.block) cause.ObjectNotHeld (size_cause s.declared s.block f)))
+      u.1 in
+      let n =
+      none_here (in_action (λ a. enters_otherwise_in_action a f) s.block) cause.NestOrder
+      (cause_if (in_action (λ a. not_held_in_action s.declared a f) s.block) cause.ObjectNotHeld (size_cause s.declared s.block f))
+      t.1 in
+      let o =
+      none_here (in_action (λ a. not_held_in_action s.declared a f) s.block) cause.ObjectNotHeld (size_cause s.declared s.block f)
+      n.1 in
       none_size (passes_held o.0 (passes_order n.0 (passes_filled t.0 (passes_unfilled u.0 p)))) o.1
 
   -- ---- lines that end no block
@@ -169,11 +191,13 @@ module _ (d : Declared) (g : DeclaredGraph) where
   below_cycle = passes_twice in_graph form.End refl (passes_unknown in_graph form.End refl (passes_start in_graph form.End))
 
   -- why the graph is refused is the least cause of the line
-  pub least_graph : (c : CheckCause) → (c ≡ cause.OutOfMemory → ⊥) → IsGraphRefusal (length g.exceptions) g.pairs c → IsLeast in_graph form.End c
+  pub least_graph : (c : CheckCause) → (c ≡ cause.OutOfMemory → ⊥) → IsGraphRefusal (length g.exceptions) g.pairs c
+      → IsLeast in_graph form.End c
   least_graph (cause.Cycle at) memory h = record { has = h; lesser = below_cycle }
   least_graph (cause.NoLeast a b) memory h = record { has = h; lesser = passes_cycle (λ at i. h.acyclic at i.in_range i.cycle) below_cycle }
     where
-      passes_cycle : ((at : ℕ) → ¬ (IsFirstInCycle (length g.exceptions) g.pairs at)) → HasNoneBelow in_graph form.End 12 → HasNoneBelow in_graph form.End 13
+      passes_cycle : ((at : ℕ) → ¬ (IsFirstInCycle (length g.exceptions) g.pairs at)) → HasNoneBelow in_graph form.End 12
+          → HasNoneBelow in_graph form.End 13
       passes_cycle free p (cause.Cycle at) l h = free at h
       passes_cycle free p other l h = p other (omega arith) h
   least_graph cause.OutOfMemory memory h = absurd (memory refl)
@@ -187,8 +211,12 @@ module _ (d : Declared) (g : DeclaredGraph) where
   none_graph h other k = false≢true k
 
 -- the same where the graph is known to be the block
-pub least_of_graph : (s : SoFar) (g : DeclaredGraph) → s.block ≡ block.Graph g → (c : CheckCause) → IsGraphRefusal (length g.exceptions) g.pairs c → (c ≡ cause.OutOfMemory → ⊥) → IsLeast s form.End c
-least_of_graph s g e c h memory = subst (λ (b : Block). IsLeast (record { declared = s.declared; block = b }) form.End c) (sym e) (least_graph s.declared g c memory h)
+pub least_of_graph : (s : SoFar) (g : DeclaredGraph) → s.block ≡ block.Graph g → (c : CheckCause)
+    → IsGraphRefusal (length g.exceptions) g.pairs c → (c ≡ cause.OutOfMemory → ⊥) → IsLeast s form.End c
+least_of_graph s g e c h memory =
+    subst (λ (b : Block). IsLeast (record { declared = s.declared; block = b }) form.End c) (sym e) (least_graph s.declared g c memory h)
 
-pub none_of_graph : (s : SoFar) (g : DeclaredGraph) → s.block ≡ block.Graph g → IsFaultless (length g.exceptions) g.pairs → HasNone s form.End
-none_of_graph s g e h = subst (λ (b : Block). HasNone (record { declared = s.declared; block = b }) form.End) (sym e) (none_graph s.declared g h)
+pub none_of_graph : (s : SoFar) (g : DeclaredGraph) → s.block ≡ block.Graph g → IsFaultless (length g.exceptions) g.pairs
+    → HasNone s form.End
+none_of_graph s g e h =
+    subst (λ (b : Block). HasNone (record { declared = s.declared; block = b }) form.End) (sym e) (none_graph s.declared g h)

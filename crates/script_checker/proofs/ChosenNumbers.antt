@@ -15,7 +15,8 @@ either P false x y h k = k
 pub rises_above : (low n : ℕ) (names xs : List ℕ) → low < n → is_rising_above low (chosen_from n names xs) ≡ true
 rises_above low n names [] l = refl
 rises_above low n names (x ∷ xs) l =
-    either (λ (ys : List ℕ). is_rising_above low ys ≡ true) (member x names) (n ∷ chosen_from (n + 1) names xs) (chosen_from (n + 1) names xs)
+    either (λ (ys : List ℕ). is_rising_above low ys ≡ true) (member x names) (n ∷ chosen_from (n + 1) names xs)
+    (chosen_from (n + 1) names xs)
     (and_from _ _ (lt-ltb low n l) (rises_above n (n + 1) names xs (omega arith)))
     (rises_above low (n + 1) names xs (omega arith))
 

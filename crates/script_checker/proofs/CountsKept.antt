@@ -22,7 +22,8 @@ few_more most xs x e =
     let n : length (xs ++ x ∷ []) ≡ length xs + 1 = length-append xs (x ∷ []) in
     omega arith
 
-same_more : {A B : Type 0} (xs : List A) (ys : List B) (x : A) (y : B) → length xs ≡ length ys → length (xs ++ x ∷ []) ≡ length (ys ++ y ∷ [])
+same_more : {A B : Type 0} (xs : List A) (ys : List B) (x : A) (y : B) → length xs ≡ length ys
+    → length (xs ++ x ∷ []) ≡ length (ys ++ y ∷ [])
 same_more xs ys x y e =
     let m : length (xs ++ x ∷ []) ≡ length xs + 1 = length-append xs (x ∷ []) in
     let n : length (ys ++ y ∷ []) ≡ length ys + 1 = length-append ys (y ∷ []) in
@@ -60,7 +61,8 @@ FewActions d begun = (length d.actions + begun ≤ length d.action_names) × (le
 
 module _ (names : List (List ℕ)) (d : Declared) where
   says_participants : (f : Form) → past_limit_at_top d f ≡ false → FewParticipants d → FewParticipants (declared_with names d f)
-  says_participants (form.Participant name) w h = (same_more d.participant_rows d.participants _ name h.0, few_more most_participants d.participants name w)
+  says_participants (form.Participant name) w h =
+      (same_more d.participant_rows d.participants _ name h.0, few_more most_participants d.participants name w)
   says_participants f w h = h
 
   says_objects : (f : Form) → past_limit_at_top d f ≡ false → FewObjects d → FewObjects (declared_with names d f)
@@ -77,13 +79,15 @@ module _ (names : List (List ℕ)) (d : Declared) where
 
   -- ---- graphs and actions
 
-  says_graphs : (f : Form) → past_limit_at_top d f ≡ false → FewGraphs d 0 → FewGraphs (declared_with names d f) (open_graphs (block_begun d f))
+  says_graphs : (f : Form) → past_limit_at_top d f ≡ false → FewGraphs d 0
+      → FewGraphs (declared_with names d f) (open_graphs (block_begun d f))
   says_graphs (form.Graph name) w h =
       let n : length (d.graph_names ++ name ∷ []) ≡ length d.graph_names + 1 = length-append d.graph_names _ in
       (omega (arith, h.0), few_more most_graphs d.graph_names name w)
   says_graphs f w h = h
 
-  says_actions : (f : Form) → past_limit_at_top d f ≡ false → FewActions d 0 → FewActions (declared_with names d f) (open_actions (block_begun d f))
+  says_actions : (f : Form) → past_limit_at_top d f ≡ false → FewActions d 0
+      → FewActions (declared_with names d f) (open_actions (block_begun d f))
   says_actions (form.Action name) w h =
       let n : length (d.action_names ++ name ∷ []) ≡ length d.action_names + 1 = length-append d.action_names _ in
       (omega (arith, h.0), few_more most_actions d.action_names name w)
@@ -132,4 +136,5 @@ counts_kept names = record {
 }
 
 pub few_at_first : (universal : ℕ) → AreFew (nothing_declared universal) 0 0
-few_at_first universal = record { participants = (refl, omega arith); objects = (refl, omega arith); drills = omega arith; watches = omega arith; graphs = (omega arith, omega arith); actions = (omega arith, omega arith) }
+few_at_first universal =
+    record { participants = (refl, omega arith); objects = (refl, omega arith); drills = omega arith; watches = omega arith; graphs = (omega arith, omega arith); actions = (omega arith, omega arith) }

@@ -15,7 +15,8 @@ one_more false false = refl
 
 -- a table stays one where both get a drill
 pub puts_of_more : {S : Type 0} (old new : HashSet (ℕ × ℕ) S) (drills : List Drill) (drill : Drill) → HasPutsOf old drills
-    → ((put : ℕ × ℕ) → contains same_put new put ≡ cond (same_put (drill.object, drill.nth) put) true (contains same_put old put)) → HasPutsOf new (drills ++ drill ∷ [])
+    → ((put : ℕ × ℕ) → contains same_put new put ≡ cond (same_put (drill.object, drill.nth) put) true (contains same_put old put)) →
+    HasPutsOf new (drills ++ drill ∷ [])
 puts_of_more old new drills drill has says object nth =
     says (object, nth)
     ∙ rw (has object nth) (one_more (is_drill object nth drill) (list_any (is_drill object nth) drills))

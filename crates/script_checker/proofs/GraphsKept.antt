@@ -52,27 +52,32 @@ first_kept names = record {
 -- ---- the rows
 
 -- the rows are as many, each with its count of exceptions and a name for each
-pub rows_named : (names : List (List ℕ)) (graphs : List DeclaredGraph) (rows : List GraphRow) → AreRowsOf names graphs rows → list_all is_named rows ≡ true
+pub rows_named : (names : List (List ℕ)) (graphs : List DeclaredGraph) (rows : List GraphRow) → AreRowsOf names graphs rows
+    → list_all is_named rows ≡ true
 rows_named names [] [] h = refl
 rows_named names [] (row ∷ rows) h = absurd h
 rows_named names (graph ∷ graphs) [] h = absurd h
 rows_named names (graph ∷ graphs) (row ∷ rows) h =
-    let m : length row.names ≡ length graph.exceptions = ap (λ (xs : List (List ℕ)). length xs) h.0.named ∙ length-map graph.exceptions (exception_name names) in
+    let m : length row.names ≡ length graph.exceptions =
+    ap (λ (xs : List (List ℕ)). length xs) h.0.named ∙ length-map graph.exceptions (exception_name names) in
     rw (eq-eqb (length row.names) row.graph.count (m ∙ sym h.0.order.counts), rows_named names graphs rows h.1) refl
 
-pub rows_first : (names : List (List ℕ)) (graphs : List DeclaredGraph) (rows : List GraphRow) → AreRowsOf names graphs rows → first_alone graphs ≡ true → first_is_plain rows ≡ true
+pub rows_first : (names : List (List ℕ)) (graphs : List DeclaredGraph) (rows : List GraphRow) → AreRowsOf names graphs rows
+    → first_alone graphs ≡ true → first_is_plain rows ≡ true
 rows_first names [] rows h e = absurd (false≢true e)
 rows_first names (graph ∷ graphs) [] h e = absurd h
 rows_first names (graph ∷ graphs) (row ∷ rows) h e = rw h.0.order.counts e
 
-pub rows_many : (names : List (List ℕ)) (graphs : List DeclaredGraph) (rows : List GraphRow) → AreRowsOf names graphs rows → length rows ≡ length graphs
+pub rows_many : (names : List (List ℕ)) (graphs : List DeclaredGraph) (rows : List GraphRow) → AreRowsOf names graphs rows
+    → length rows ≡ length graphs
 rows_many names [] [] h = refl
 rows_many names [] (row ∷ rows) h = absurd h
 rows_many names (graph ∷ graphs) [] h = absurd h
 rows_many names (graph ∷ graphs) (row ∷ rows) h = ap suc (rows_many names graphs rows h.1)
 
 -- each row counts the exceptions of its graph
-pub rows_count : (names : List (List ℕ)) (graphs : List DeclaredGraph) (rows : List GraphRow) (g : ℕ) → AreRowsOf names graphs rows → (slice_index_or rows g no_row).graph.count ≡ length (exceptions_at graphs g)
+pub rows_count : (names : List (List ℕ)) (graphs : List DeclaredGraph) (rows : List GraphRow) (g : ℕ) → AreRowsOf names graphs rows
+    → (slice_index_or rows g no_row).graph.count ≡ length (exceptions_at graphs g)
 rows_count names [] [] g h = refl
 rows_count names [] (row ∷ rows) g h = absurd h
 rows_count names (graph ∷ graphs) [] g h = absurd h

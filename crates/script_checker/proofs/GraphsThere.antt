@@ -42,14 +42,16 @@ pub record GraphsThere (d : Declared) (b : Block) : Type 0 where
   pub begun : OpenThere d b
 
 -- a graph that is there has an exception
-pub some_exception : (graphs : List DeclaredGraph) (g : ℕ) → list_all has_exception graphs ≡ true → g < length graphs → 0 < length (exceptions_at graphs g)
+pub some_exception : (graphs : List DeclaredGraph) (g : ℕ) → list_all has_exception graphs ≡ true → g < length graphs
+    → 0 < length (exceptions_at graphs g)
 some_exception graphs g h l = ltb-true 0 _ (at_row has_exception graphs g no_graph h l)
 
 first_there : (graphs : List DeclaredGraph) → first_alone graphs ≡ true → 0 < length graphs
 first_there [] h = absurd (false≢true h)
 first_there (graph ∷ graphs) h = omega arith
 
-closed_there : (d : Declared) (a : OpenAction) (v : Verdict) (o : Option OpenProgram) → OpenThere d (block.Action a) → OpenThere d (block.Action (closed_if a o v))
+closed_there : (d : Declared) (a : OpenAction) (v : Verdict) (o : Option OpenProgram) → OpenThere d (block.Action a)
+    → OpenThere d (block.Action (closed_if a o v))
 closed_there d a v None h = h
 closed_there d a v (Some p) h = h
 
@@ -71,12 +73,14 @@ module _ (names : List (List ℕ)) (d : Declared) where
   begins_there f h = record { many = h.many; plain = h.plain; filled = h.filled; begun = tt }
 
   -- a graph that is named in an action is there
-  pub named_there : (a : OpenAction) (graph : ℕ) → is_among d.graph_names graph ≡ true → GraphsThere d (block.Action a) → index_of graph d.graph_names + 1 < length d.graphs
+  pub named_there : (a : OpenAction) (graph : ℕ) → is_among d.graph_names graph ≡ true → GraphsThere d (block.Action a)
+      → index_of graph d.graph_names + 1 < length d.graphs
   named_there a graph among h =
       let low = ltb-true (index_of graph d.graph_names) (length d.graph_names) among in
       omega (arith, h.many)
 
-  acts_there : (a : OpenAction) (f : Form) → NoneInAction d a f → GraphsThere d (block.Action a) → OpenThere d (block.Action (action_with names d a f))
+  acts_there : (a : OpenAction) (f : Form) → NoneInAction d a f → GraphsThere d (block.Action a)
+      → OpenThere d (block.Action (action_with names d a f))
   acts_there a (form.Internal graph) none h = (named_there a graph (not-false _ (known d a (form.Internal graph) none)) h, h.begun.1)
   acts_there a (form.Interface graph) none h = (h.begun.0, named_there a graph (not-false _ (known d a (form.Interface graph) none)) h)
   acts_there a form.DoneLine none h = closed_there d a _ a.program h.begun
@@ -95,7 +99,8 @@ pub there_kept : (names : List (List ℕ)) → IsKept names GraphsThere
 there_kept names = record {
   at_top = λ d f sound none h. begins_there names d f h;
   in_graph = λ d g f sound none h. record { many = h.many; plain = h.plain; filled = h.filled; begun = more_there g f h.begun };
-  in_action = λ d a f sound none shut h. record { many = h.many; plain = h.plain; filled = h.filled; begun = acts_there names d a f none h };
+  in_action =
+      λ d a f sound none shut h. record { many = h.many; plain = h.plain; filled = h.filled; begun = acts_there names d a f none h };
   closes = λ d a h. record { many = h.many; plain = h.plain; filled = h.filled; begun = closed_there d a verdict.Done a.program h.begun };
   ends = λ d b none h. ends_there names d b h;
 }

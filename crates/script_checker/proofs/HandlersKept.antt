@@ -67,7 +67,8 @@ fresh_for rows (Some p) = fresh_in (slice_index_or rows p.role no_role) p.except
 abbrev OpenDiffer : OpenAction → Type 0
 OpenDiffer a = (list_all handlers_differ a.role_rows ≡ true) × (fresh_for a.role_rows a.program ≡ true)
 
-program_differs : (exception : Option ℕ) (program : Program) (row : RoleRow) → fresh_in row exception ≡ true → handlers_differ row ≡ true → handlers_differ (with_program row exception program) ≡ true
+program_differs : (exception : Option ℕ) (program : Program) (row : RoleRow) → fresh_in row exception ≡ true → handlers_differ row ≡ true
+    → handlers_differ (with_program row exception program) ≡ true
 program_differs None program row f h = h
 program_differs (Some x) program row f h = differ_push x program row.handlers h (not-true _ f)
 
@@ -77,7 +78,8 @@ closed_differ a v (Some p) e h =
     let fresh : fresh_for a.role_rows (Some p) ≡ true = subst (λ (o : Option OpenProgram). fresh_for a.role_rows o ≡ true) e h.1 in
     (all_set handlers_differ a.role_rows p.role no_role _ (program_differs p.exception (record { steps = p.steps; verdict = v }) (slice_index_or a.role_rows p.role no_role) fresh) h.0, refl)
 
-fresh_still : (rows : List RoleRow) (o : Option OpenProgram) (x : Option Step) → fresh_for rows o ≡ true → fresh_for rows (with_step o x) ≡ true
+fresh_still : (rows : List RoleRow) (o : Option OpenProgram) (x : Option Step) → fresh_for rows o ≡ true
+    → fresh_for rows (with_step o x) ≡ true
 fresh_still rows o None h = h
 fresh_still rows None (Some x) h = h
 fresh_still rows (Some p) (Some x) h = h
@@ -87,7 +89,8 @@ module _ (names : List (List ℕ)) (d : Declared) (a : OpenAction) where
   abort_differs role row shut h =
       (all_change handlers_differ (λ (r : RoleRow). record r { abort = row }) a.role_rows (index_of role a.roles) no_role (λ r k. k) h.0, rw shut refl)
 
-  says_differ : (f : Form) → NoneInAction d a f → (goes_on f ≡ false → a.program ≡ None) → OpenDiffer a → OpenDiffer (action_with names d a f)
+  says_differ : (f : Form) → NoneInAction d a f → (goes_on f ≡ false → a.program ≡ None) → OpenDiffer a
+      → OpenDiffer (action_with names d a f)
   says_differ (form.Roles roles) none shut h = (all_mapped handlers_differ (idle_role names) roles (λ name. refl), rw (shut refl) refl)
   says_differ (form.Abort role x) none shut h = abort_differs role _ (shut refl) h
   says_differ (form.AbortTest role t v x) none shut h = abort_differs role _ (shut refl) h
@@ -108,7 +111,8 @@ DifferIn b = Unit {0}
 abbrev pub HandlersDiffer : Declared → Block → Type 0
 HandlersDiffer d b = (list_all roles_differ d.actions ≡ true) × DifferIn b
 
-begins_differ : (names : List (List ℕ)) (d : Declared) (f : Form) → HandlersDiffer d block.Top → HandlersDiffer (declared_with names d f) (block_begun d f)
+begins_differ : (names : List (List ℕ)) (d : Declared) (f : Form) → HandlersDiffer d block.Top
+    → HandlersDiffer (declared_with names d f) (block_begun d f)
 begins_differ names d (form.Action name) h = (h.0, (refl, refl))
 begins_differ names d f h = h
 

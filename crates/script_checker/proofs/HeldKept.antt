@@ -38,7 +38,8 @@ all_members objects action = list_all (λ o. member o objects) action.objects
 
 -- the actions of a use are there, and the action owns their objects
 abbrev pub uses_held : List ActionRow → List ℕ → NestRow → Bool
-uses_held actions objects nest = all_below (length actions) nest.actions && list_all (λ a. all_members objects (slice_index_or actions a no_action)) nest.actions
+uses_held actions objects nest =
+    all_below (length actions) nest.actions && list_all (λ a. all_members objects (slice_index_or actions a no_action)) nest.actions
 
 -- what is being declared touches these objects alone
 pub record TouchesOnly (actions : List ActionRow) (objects : List ℕ) (steps : List Step) (roles : List RoleRow) (nests : List OpenNest) : Type 0 where
@@ -65,19 +66,23 @@ any_step objects (step.Enter n) h = refl
 
 any_role : (objects : List ℕ) (role : RoleRow) → holds_role [] role ≡ true → holds_role objects role ≡ true
 any_role objects role h =
-    let p = and_parts (list_all (holds_step []) role.body.steps) (list_all (λ (h : HandlerRow). list_all (holds_step []) h.program.steps) role.handlers) h in
+    let p =
+    and_parts (list_all (holds_step []) role.body.steps)
+    (list_all (λ (h : HandlerRow). list_all (holds_step []) h.program.steps) role.handlers) h in
     and_from _ _ (all_imply (holds_step []) (holds_step objects) role.body.steps (any_step objects) p.0)
     (all_imply (λ (h : HandlerRow). list_all (holds_step []) h.program.steps) (λ (h : HandlerRow). list_all (holds_step objects) h.program.steps) role.handlers
     (λ h k. all_imply (holds_step []) (holds_step objects) h.program.steps (any_step objects) k) p.1)
 
-any_use : (actions : List ActionRow) (objects : List ℕ) (nest : NestRow) → uses_held actions [] nest ≡ true → uses_held actions objects nest ≡ true
+any_use : (actions : List ActionRow) (objects : List ℕ) (nest : NestRow) → uses_held actions [] nest ≡ true
+    → uses_held actions objects nest ≡ true
 any_use actions objects nest h =
     let p = and_parts (all_below (length actions) nest.actions) _ h in
     and_from _ _ p.0
     (all_imply (λ a. all_members [] (slice_index_or actions a no_action)) (λ a. all_members objects (slice_index_or actions a no_action)) nest.actions
     (λ a k. all_imply (λ o. member o []) (λ o. member o objects) (slice_index_or actions a no_action).objects (λ o m. absurd (false≢true m)) k) p.1)
 
-any_objects : (actions : List ActionRow) (old objects : List ℕ) (steps : List Step) (roles : List RoleRow) (nests : List OpenNest) → old ≡ [] → TouchesOnly actions old steps roles nests → TouchesOnly actions objects steps roles nests
+any_objects : (actions : List ActionRow) (old objects : List ℕ) (steps : List Step) (roles : List RoleRow) (nests : List OpenNest)
+    → old ≡ [] → TouchesOnly actions old steps roles nests → TouchesOnly actions objects steps roles nests
 any_objects actions old objects steps roles nests e h =
     let k = subst (λ (old : List ℕ). TouchesOnly actions old steps roles nests) e h in
     record {
@@ -90,25 +95,36 @@ any_objects actions old objects steps roles nests e h =
 
 -- ---- programs
 
-holds_program : (objects : List ℕ) (exception : Option ℕ) (program : Program) → list_all (holds_step objects) program.steps ≡ true → (row : RoleRow) → holds_role objects row ≡ true → holds_role objects (with_program row exception program) ≡ true
-holds_program objects None program p row h = and_from _ _ p (and_parts (list_all (holds_step objects) row.body.steps) (list_all (λ (h : HandlerRow). list_all (holds_step objects) h.program.steps) row.handlers) h).1
+holds_program : (objects : List ℕ) (exception : Option ℕ) (program : Program) → list_all (holds_step objects) program.steps ≡ true
+    → (row : RoleRow) → holds_role objects row ≡ true → holds_role objects (with_program row exception program) ≡ true
+holds_program objects None program p row h =
+    and_from _ _ p
+    (and_parts (list_all (holds_step objects) row.body.steps) (list_all (λ (h : HandlerRow). list_all (holds_step objects) h.program.steps) row.handlers) h).1
 holds_program objects (Some x) program p row h =
-    let parts = and_parts (list_all (holds_step objects) row.body.steps) (list_all (λ (h : HandlerRow). list_all (holds_step objects) h.program.steps) row.handlers) h in
-    and_from _ _ parts.0 (all_push (λ (h : HandlerRow). list_all (holds_step objects) h.program.steps) row.handlers (record { exception = x; program = program }) parts.1 p)
+    let parts =
+    and_parts (list_all (holds_step objects) row.body.steps)
+    (list_all (λ (h : HandlerRow). list_all (holds_step objects) h.program.steps) row.handlers) h in
+    and_from _ _ parts.0
+    (all_push (λ (h : HandlerRow). list_all (holds_step objects) h.program.steps) row.handlers (record { exception = x; program = program }) parts.1 p)
 
-closed_held : (actions : List ActionRow) (a : OpenAction) (v : Verdict) (o : Option OpenProgram) → a.program ≡ o → OpenHeld actions a → OpenHeld actions (closed_if a o v)
+closed_held : (actions : List ActionRow) (a : OpenAction) (v : Verdict) (o : Option OpenProgram) → a.program ≡ o → OpenHeld actions a
+    → OpenHeld actions (closed_if a o v)
 closed_held actions a v None e h = h
 closed_held actions a v (Some p) e h =
     let program : Program = record { steps = p.steps; verdict = v } in
-    let steps : list_all (holds_step a.uses) p.steps ≡ true = subst (λ (o : Option OpenProgram). list_all (holds_step a.uses) (steps_of o) ≡ true) e h.steps_held in
+    let steps : list_all (holds_step a.uses) p.steps ≡ true =
+    subst (λ (o : Option OpenProgram). list_all (holds_step a.uses) (steps_of o) ≡ true) e h.steps_held in
     record {
       steps_held = refl;
-      holds_roles = all_change (holds_role a.uses) (λ (row : RoleRow). with_program row p.exception program) a.role_rows p.role no_role (holds_program a.uses p.exception program steps) h.holds_roles;
+      holds_roles =
+          all_change (holds_role a.uses) (λ (row : RoleRow). with_program row p.exception program) a.role_rows p.role no_role
+          (holds_program a.uses p.exception program steps) h.holds_roles;
       holds_nests = h.holds_nests;
     }
 
 -- one step more
-step_held : (objects : List ℕ) (o : Option OpenProgram) (x : Step) → holds_step objects x ≡ true → list_all (holds_step objects) (steps_of o) ≡ true → list_all (holds_step objects) (steps_of (with_step o (Some x))) ≡ true
+step_held : (objects : List ℕ) (o : Option OpenProgram) (x : Step) → holds_step objects x ≡ true
+    → list_all (holds_step objects) (steps_of o) ≡ true → list_all (holds_step objects) (steps_of (with_step o (Some x))) ≡ true
 step_held objects None x m h = h
 step_held objects (Some p) x m h = all_push (holds_step objects) p.steps x h m
 
@@ -116,20 +132,27 @@ step_held objects (Some p) x m h = all_push (holds_step objects) p.steps x h m
 
 module _ (names : List (List ℕ)) (d : Declared) (a : OpenAction) (h : OpenHeld d.actions a) where
   one_step : (x : Step) → holds_step a.uses x ≡ true → OpenHeld d.actions (record a { program = with_step a.program (Some x) })
-  one_step x m = record { steps_held = step_held a.uses a.program x m h.steps_held; holds_roles = h.holds_roles; holds_nests = h.holds_nests }
+  one_step x m =
+      record { steps_held = step_held a.uses a.program x m h.steps_held; holds_roles = h.holds_roles; holds_nests = h.holds_nests }
 
   other_abort : (role : ℕ) (row : AbortRow) → OpenHeld d.actions (with_abort a role row)
   other_abort role row = record {
     steps_held = h.steps_held;
-    holds_roles = all_change (holds_role a.uses) (λ (r : RoleRow). record r { abort = row }) a.role_rows (index_of role a.roles) no_role (λ r k. k) h.holds_roles;
+    holds_roles =
+        all_change (holds_role a.uses) (λ (r : RoleRow). record r { abort = row }) a.role_rows (index_of role a.roles) no_role
+        (λ r k. k) h.holds_roles;
     holds_nests = h.holds_nests;
   }
 
-  other_nest : (name : ℕ) (nest : OpenNest) → (uses_held d.actions a.uses (nest_of a name).row ≡ true → uses_held d.actions a.uses nest.row ≡ true) → OpenHeld d.actions (with_nest a name nest)
+  other_nest : (name : ℕ) (nest : OpenNest)
+      → (uses_held d.actions a.uses (nest_of a name).row ≡ true → uses_held d.actions a.uses nest.row ≡ true)
+      → OpenHeld d.actions (with_nest a name nest)
   other_nest name nest keeps = record {
     steps_held = h.steps_held;
     holds_roles = h.holds_roles;
-    holds_nests = all_set (λ (nest : OpenNest). uses_held d.actions a.uses nest.row) a.nests (index_of name a.nest_names) (begun_nest no_nest) nest keeps h.holds_nests;
+    holds_nests =
+        all_set (λ (nest : OpenNest). uses_held d.actions a.uses nest.row) a.nests (index_of name a.nest_names) (begun_nest no_nest)
+        nest keeps h.holds_nests;
   }
 
   no_steps : (p : OpenProgram) (bodies : List ℕ) → p.steps ≡ [] → OpenHeld d.actions (record a { bodies = bodies; program = Some p })
@@ -137,8 +160,11 @@ module _ (names : List (List ℕ)) (d : Declared) (a : OpenAction) (h : OpenHeld
 
   says_held : (f : Form) → NoneInAction d a f → OpenHeld d.actions (action_with names d a f)
   says_held (form.Uses objects) none =
-      any_objects d.actions a.uses _ (steps_of a.program) a.role_rows a.nests (empty_is a.uses (not-false _ (or_parts (not (is_empty a.uses)) (not (all_differ objects)) (once d a (form.Uses objects) none)).0)) h
-  says_held (form.Roles roles) none = record { steps_held = h.steps_held; holds_roles = all_mapped (holds_role a.uses) (idle_role names) roles (λ name. refl); holds_nests = h.holds_nests }
+      any_objects d.actions a.uses _ (steps_of a.program) a.role_rows a.nests
+      (empty_is a.uses (not-false _ (or_parts (not (is_empty a.uses)) (not (all_differ objects)) (once d a (form.Uses objects) none)).0))
+      h
+  says_held (form.Roles roles) none =
+      record { steps_held = h.steps_held; holds_roles = all_mapped (holds_role a.uses) (idle_role names) roles (λ name. refl); holds_nests = h.holds_nests }
   says_held (form.Nest nest action roles) none =
       let there = neither (is_action d action) (list_all (is_among a.roles) roles) (known d a (form.Nest nest action roles) none) in
       let m = not-false _ (held d a (form.Nest nest action roles) none) in
@@ -179,7 +205,8 @@ HeldIn d b = Unit {0}
 abbrev pub AreHeld : Declared → Block → Type 0
 AreHeld d b = (list_all (held_in d.actions) d.actions ≡ true) × HeldIn d b
 
-held_longer : (actions : List ActionRow) (more : ActionRow) (action : ActionRow) → held_in actions action ≡ true → held_in (actions ++ more ∷ []) action ≡ true
+held_longer : (actions : List ActionRow) (more : ActionRow) (action : ActionRow) → held_in actions action ≡ true
+    → held_in (actions ++ more ∷ []) action ≡ true
 held_longer actions more action h =
     let p = and_parts (list_all (holds_role action.objects) action.roles) _ h in
     and_from _ _ p.0

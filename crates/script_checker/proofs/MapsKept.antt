@@ -48,21 +48,26 @@ MappedIn count face b = Unit {0}
 
 -- those of the actions that have ended are mapped, and those that are being declared
 abbrev pub MapsRight : Declared → Block → Type 0
-MapsRight d b = (count face : ℕ → ℕ) → AreCounted d.graphs d.actions count face → (list_all (all_mapped count face) d.actions ≡ true) × MappedIn count face b
+MapsRight d b =
+    (count face : ℕ → ℕ) → AreCounted d.graphs d.actions count face → (list_all (all_mapped count face) d.actions ≡ true) × MappedIn
+    count face b
 
 -- ---- one graph or action more
 
-same_graph : (graphs : List DeclaredGraph) (more : DeclaredGraph) (g : ℕ) → g < length graphs → length (exceptions_at (graphs ++ more ∷ []) g) ≡ length (exceptions_at graphs g)
+same_graph : (graphs : List DeclaredGraph) (more : DeclaredGraph) (g : ℕ) → g < length graphs
+    → length (exceptions_at (graphs ++ more ∷ []) g) ≡ length (exceptions_at graphs g)
 same_graph [] more g l = absurd (omega arith)
 same_graph (graph ∷ graphs) more zero l = refl
 same_graph (graph ∷ graphs) more (suc g) l = same_graph graphs more g (omega arith)
 
-fewer_graphs : (graphs : List DeclaredGraph) (more : DeclaredGraph) (actions : List ActionRow) (count face : ℕ → ℕ) → AreCounted (graphs ++ more ∷ []) actions count face → AreCounted graphs actions count face
+fewer_graphs : (graphs : List DeclaredGraph) (more : DeclaredGraph) (actions : List ActionRow) (count face : ℕ → ℕ)
+    → AreCounted (graphs ++ more ∷ []) actions count face → AreCounted graphs actions count face
 fewer_graphs graphs more actions count face h =
     let n : length (graphs ++ more ∷ []) ≡ length graphs + 1 = length-append graphs (more ∷ []) in
     record { counts = λ g l. h.counts g (omega arith) ∙ same_graph graphs more g l; faces = h.faces }
 
-fewer_actions : (graphs : List DeclaredGraph) (actions : List ActionRow) (more : ActionRow) (count face : ℕ → ℕ) → AreCounted graphs (actions ++ more ∷ []) count face → AreCounted graphs actions count face
+fewer_actions : (graphs : List DeclaredGraph) (actions : List ActionRow) (more : ActionRow) (count face : ℕ → ℕ)
+    → AreCounted graphs (actions ++ more ∷ []) count face → AreCounted graphs actions count face
 fewer_actions graphs actions more count face h =
     let n : length (actions ++ more ∷ []) ≡ length actions + 1 = length-append actions (more ∷ []) in
     record { counts = h.counts; faces = λ a l. h.faces a (omega arith) ∙ ap (λ (action : ActionRow). action.interface) (same_action actions more a l) }
@@ -87,17 +92,23 @@ alternate_still count face row a h =
 
 -- ---- lines
 
-closed_maps : (count face : ℕ → ℕ) (a : OpenAction) (v : Verdict) (o : Option OpenProgram) → MappedIn count face (block.Action a) → MappedIn count face (block.Action (closed_if a o v))
+closed_maps : (count face : ℕ → ℕ) (a : OpenAction) (v : Verdict) (o : Option OpenProgram) → MappedIn count face (block.Action a)
+    → MappedIn count face (block.Action (closed_if a o v))
 closed_maps count face a v None h = h
 closed_maps count face a v (Some p) h = h
 
 -- the graph of what an action tells outside is there
-face_there : (d : Declared) (b : Block) (a : ℕ) → AreInRange d b → a < length d.actions → (slice_index_or d.actions a no_action).interface < length d.graphs
+face_there : (d : Declared) (b : Block) (a : ℕ) → AreInRange d b → a < length d.actions
+    → (slice_index_or d.actions a no_action).interface < length d.graphs
 face_there d b a h l =
     let count : ℕ → ℕ = λ g. length (exceptions_at d.graphs g) in
-    let k = at_row (action_right (length d.objects) (length d.actions) (length d.graphs) count) d.actions a no_action (h.ended_right (length d.objects) (length d.actions) (length d.graphs) count (omega arith) (omega arith) (omega arith) (λ g. omega arith)) l in
+    let k =
+    at_row (action_right (length d.objects) (length d.actions) (length d.graphs) count) d.actions a no_action
+    (h.ended_right (length d.objects) (length d.actions) (length d.graphs) count (omega arith) (omega arith) (omega arith) (λ g. omega arith))
+    l in
     let action = slice_index_or d.actions a no_action in
-    ltb-true action.interface (length d.graphs) (and_parts (nat_lt action.interface (length d.graphs)) _ (and_parts (nat_lt action.internal (length d.graphs)) _ (and_parts _ _ k).0).1).0
+    ltb-true action.interface (length d.graphs)
+    (and_parts (nat_lt action.interface (length d.graphs)) _ (and_parts (nat_lt action.internal (length d.graphs)) _ (and_parts _ _ k).0).1).0
 
 module _ (names : List (List ℕ)) (d : Declared) where
   begins_maps : (f : Form) → MapsRight d block.Top → MapsRight (declared_with names d f) (block_begun d f)
@@ -111,20 +122,31 @@ module _ (names : List (List ℕ)) (d : Declared) where
       let k = h count face (fewer_actions d.graphs d.actions (row_of names a) count face b) in
       (all_push (all_mapped count face) d.actions (row_of names a) k.0 (all_rows (use_mapped count face) a.nests k.1), tt)
 
-  nest_maps : (count face : ℕ → ℕ) (a : OpenAction) (name : ℕ) (nest : OpenNest) → (use_mapped count face (nest_of a name).row ≡ true → use_mapped count face nest.row ≡ true) → MappedIn count face (block.Action a) → MappedIn count face (block.Action (with_nest a name nest))
-  nest_maps count face a name nest keeps h = all_set (λ (nest : OpenNest). use_mapped count face nest.row) a.nests (index_of name a.nest_names) (begun_nest no_nest) nest keeps h
+  nest_maps : (count face : ℕ → ℕ) (a : OpenAction) (name : ℕ) (nest : OpenNest)
+      → (use_mapped count face (nest_of a name).row ≡ true → use_mapped count face nest.row ≡ true) → MappedIn count face (block.Action a)
+      → MappedIn count face (block.Action (with_nest a name nest))
+  nest_maps count face a name nest keeps h =
+      all_set (λ (nest : OpenNest). use_mapped count face nest.row) a.nests (index_of name a.nest_names) (begun_nest no_nest) nest keeps h
 
-  acts_maps : (a : OpenAction) (f : Form) → NoneInAction d a f → AreInRange d (block.Action a) → (count face : ℕ → ℕ) → AreCounted d.graphs d.actions count face → MappedIn count face (block.Action a) → MappedIn count face (block.Action (action_with names d a f))
+  acts_maps : (a : OpenAction) (f : Form) → NoneInAction d a f → AreInRange d (block.Action a) → (count face : ℕ → ℕ)
+      → AreCounted d.graphs d.actions count face → MappedIn count face (block.Action a)
+      → MappedIn count face (block.Action (action_with names d a f))
   acts_maps a (form.Nest nest action roles) none ranges count face b h =
-      let there = ltb-true _ _ (neither (is_action d action) (list_all (is_among a.roles) roles) (known d a (form.Nest nest action roles) none)).0 in
+      let there =
+      ltb-true _ _
+      (neither (is_action d action) (list_all (is_among a.roles) roles) (known d a (form.Nest nest action roles) none)).0 in
       let outside = (action_of d action).interface in
       let n : length (replicate (length (exceptions_at d.graphs outside)) 0) ≡ count (face (index_of action d.action_names)) =
-      length-replicate (length (exceptions_at d.graphs outside)) 0 ∙ sym (b.counts outside (face_there d (block.Action a) (index_of action d.action_names) ranges there)) ∙ ap count (sym (b.faces (index_of action d.action_names) there)) in
+      length-replicate (length (exceptions_at d.graphs outside)) 0 ∙ sym
+      (b.counts outside (face_there d (block.Action a) (index_of action d.action_names) ranges there)) ∙ ap count
+      (sym (b.faces (index_of action d.action_names) there)) in
       all_push (λ (nest : OpenNest). use_mapped count face nest.row) a.nests _ h (eq-eqb _ _ n)
-  acts_maps a (form.Map nest lower upper) none ranges count face b h = nest_maps count face a nest _ (mapped_still count face (nest_of a nest).row _ _) h
+  acts_maps a (form.Map nest lower upper) none ranges count face b h =
+      nest_maps count face a nest _ (mapped_still count face (nest_of a nest).row _ _) h
   acts_maps a (form.MapUndo nest x) none ranges count face b h = nest_maps count face a nest _ (λ k. k) h
   acts_maps a (form.MapFailure nest x) none ranges count face b h = nest_maps count face a nest _ (λ k. k) h
-  acts_maps a (form.Alternate nest action) none ranges count face b h = nest_maps count face a nest _ (alternate_still count face (nest_of a nest).row _) h
+  acts_maps a (form.Alternate nest action) none ranges count face b h =
+      nest_maps count face a nest _ (alternate_still count face (nest_of a nest).row _) h
   acts_maps a form.DoneLine none ranges count face b h = closed_maps count face a _ a.program h
   acts_maps a (form.SignalLine x) none ranges count face b h = closed_maps count face a _ a.program h
   acts_maps a form.UndoLine none ranges count face b h = closed_maps count face a _ a.program h

@@ -66,7 +66,8 @@ module _ (names : List (List ℕ)) (name_of : ℕ → List ℕ) where
   pub own_none : AreOwn names name_of []
   own_none = record { each = All-nil (IsOwn names name_of); differ = λ i j d l w. absurd (omega arith) }
 
-  own_push : (xs : List ℕ) (x : ℕ) → AreOwn names name_of xs → IsOwn names name_of x → is_among xs x ≡ false → AreOwn names name_of (xs ++ x ∷ [])
+  own_push : (xs : List ℕ) (x : ℕ) → AreOwn names name_of xs → IsOwn names name_of x → is_among xs x ≡ false
+      → AreOwn names name_of (xs ++ x ∷ [])
   own_push xs x h own once = record {
     each = All-push (IsOwn names name_of) xs x h.each own;
     differ = all_pairs_push (λ a b. a ≢ b) xs x h.differ (λ i d l. not_among x xs i d (ltb-false (index_of x xs) (length xs) once) l);
@@ -78,7 +79,8 @@ module _ (names : List (List ℕ)) (name_of : ℕ → List ℕ) where
     differ = λ i j d l w e.
         let w : j < length xs = omega (arith, w, length-map xs name_of) in
         let back = λ (k : ℕ) (v : k < length xs). (h.each k 0 v).1 in
-        let same : name_of (get_or xs i 0) ≡ name_of (get_or xs j 0) = sym (get_or-map name_of xs i 0 d (omega (arith, l, w))) ∙ e ∙ get_or-map name_of xs j 0 d w in
+        let same : name_of (get_or xs i 0) ≡ name_of (get_or xs j 0) =
+        sym (get_or-map name_of xs i 0 d (omega (arith, l, w))) ∙ e ∙ get_or-map name_of xs j 0 d w in
         h.differ i j 0 l w (sym (back i (omega (arith, l, w))) ∙ ap (number_in names) same ∙ back j w);
   }
 
@@ -135,39 +137,48 @@ abbrev NamesStand : List (List ℕ) → Declared → Block → Type 0
 NamesStand names d b = AreDeclaredNamed names d × OpenNamed names b
 
 watches_stand : (xs : List ℕ) (x : ℕ) (watches : List ℕ) → AreWatches (length xs) watches → AreWatches (length (xs ++ x ∷ [])) watches
-watches_stand xs x watches h = record { within = λ i d l. let w = h.within i d l in omega (arith, w, length-append xs (x ∷ [])); once = h.once }
+watches_stand xs x watches h =
+    record { within = λ i d l. let w = h.within i d l in omega (arith, w, length-append xs (x ∷ [])); once = h.once }
 
-watches_push : (xs watches : List ℕ) (x : ℕ) → is_among xs x ≡ true → member (index_of x xs) watches ≡ false → AreWatches (length xs) watches → AreWatches (length xs) (watches ++ index_of x xs ∷ [])
+watches_push : (xs watches : List ℕ) (x : ℕ) → is_among xs x ≡ true → member (index_of x xs) watches ≡ false
+    → AreWatches (length xs) watches → AreWatches (length xs) (watches ++ index_of x xs ∷ [])
 watches_push xs watches x known once h = record {
   within = All-push (λ object. object < length xs) watches (index_of x xs) h.within (ltb-true (index_of x xs) (length xs) known);
   once = all_pairs_push (λ a b. a ≢ b) watches (index_of x xs) h.once (λ i d l. not_met (index_of x xs) watches i d once l);
 }
 
 module _ (names : List (List ℕ)) (numbered : AreNumbered names) where
-  pub named_push : (xs : List ℕ) (rows : List (List ℕ)) (n : ℕ) → is_name (name_at names n) ≡ true → is_among xs n ≡ false → AreNamedBy names xs rows → AreNamedBy names (xs ++ n ∷ []) (rows ++ name_at names n ∷ [])
+  pub named_push : (xs : List ℕ) (rows : List (List ℕ)) (n : ℕ) → is_name (name_at names n) ≡ true → is_among xs n ≡ false
+      → AreNamedBy names xs rows → AreNamedBy names (xs ++ n ∷ []) (rows ++ name_at names n ∷ [])
   named_push xs rows n spelled once h = record {
     own = own_push names (name_at names) xs n h.own (named names numbered n spelled) once;
     same = ap (λ (rows : List (List ℕ)). rows ++ name_at names n ∷ []) h.same ∙ sym (map-append (name_at names) xs (n ∷ []));
   }
 
-  objects_push : (xs : List ℕ) (rows : List ObjectRow) (row : ObjectRow) (n : ℕ) → row.name ≡ name_at names n → is_name (name_at names n) ≡ true → is_among xs n ≡ false → AreNamedBy names xs (object_names rows) → AreNamedBy names (xs ++ n ∷ []) (object_names (rows ++ row ∷ []))
+  objects_push : (xs : List ℕ) (rows : List ObjectRow) (row : ObjectRow) (n : ℕ) → row.name ≡ name_at names n
+      → is_name (name_at names n) ≡ true → is_among xs n ≡ false → AreNamedBy names xs (object_names rows)
+      → AreNamedBy names (xs ++ n ∷ []) (object_names (rows ++ row ∷ []))
   objects_push xs rows row n same spelled once h =
-      let e : object_names (rows ++ row ∷ []) ≡ object_names rows ++ name_at names n ∷ [] = map-append (λ (row : ObjectRow). row.name) rows (row ∷ []) ∙ ap (λ (name : List ℕ). object_names rows ++ name ∷ []) same in
+      let e : object_names (rows ++ row ∷ []) ≡ object_names rows ++ name_at names n ∷ [] =
+      map-append (λ (row : ObjectRow). row.name) rows (row ∷ []) ∙ ap (λ (name : List ℕ). object_names rows ++ name ∷ []) same in
       subst (λ (rows : List (List ℕ)). AreNamedBy names (xs ++ n ∷ []) rows) (sym e) (named_push xs (object_names rows) n spelled once h)
 
   universal_alone : (universal : ℕ) → universal ≡ number_in names (codes "universal") → AreOwn names (exception_name names) (universal ∷ [])
-  universal_alone universal first = own_push names (exception_name names) [] universal (own_none names (exception_name names)) (universal_own names universal first) refl
+  universal_alone universal first =
+      own_push names (exception_name names) [] universal (own_none names (exception_name names)) (universal_own names universal first) refl
 
   -- the first word of a line that declares something is a name
   pub first_spelled : (n : ℕ) (rest : Bool) → (is_name (name_at names n) && rest) ≡ true → is_name (name_at names n) ≡ true
   first_spelled n rest h = (and_parts (is_name (name_at names n)) rest h).0
 
-  begins_stand : (d : Declared) (f : Form) → is_sound names f ≡ true → NoneAtTop d f → AreDeclaredNamed names d → AreDeclaredNamed names (declared_with names d f)
+  begins_stand : (d : Declared) (f : Form) → is_sound names f ≡ true → NoneAtTop d f → AreDeclaredNamed names d
+      → AreDeclaredNamed names (declared_with names d f)
   begins_stand d (form.Participant n) sound none h =
       (named_push d.participants d.participant_rows n (first_spelled n _ sound) (once_at_top d (form.Participant n) none) h.0, h.1, h.2, h.3)
   begins_stand d (form.Object n v) sound none h = (
     h.0,
-    objects_push d.objects d.object_rows (record { name = name_at names n; initial = v }) n refl (first_spelled n _ sound) (once_at_top d (form.Object n v) none) h.1,
+    objects_push d.objects d.object_rows (record { name = name_at names n; initial = v }) n refl (first_spelled n _ sound)
+        (once_at_top d (form.Object n v) none) h.1,
     h.2,
     watches_stand d.objects n d.watches h.3,
   )
@@ -179,8 +190,11 @@ module _ (names : List (List ℕ)) (numbered : AreNumbered names) where
   begins_named d (form.Graph n) h = universal_alone d.universal h.2.first
   begins_named d f h = tt
 
-  graph_stands : (d : Declared) (g : DeclaredGraph) (f : Form) → is_sound names f ≡ true → NoneInGraph d g f → OpenNamed names (block.Graph g) → OpenNamed names (block.Graph (graph_with g f))
-  graph_stands d g (form.Exception n) sound none h = own_push names (exception_name names) g.exceptions n h (excepted names numbered n (first_spelled n _ sound)) (once_in_graph d g (form.Exception n) none)
+  graph_stands : (d : Declared) (g : DeclaredGraph) (f : Form) → is_sound names f ≡ true → NoneInGraph d g f
+      → OpenNamed names (block.Graph g) → OpenNamed names (block.Graph (graph_with g f))
+  graph_stands d g (form.Exception n) sound none h =
+      own_push names (exception_name names) g.exceptions n h (excepted names numbered n (first_spelled n _ sound))
+      (once_in_graph d g (form.Exception n) none)
   graph_stands d g f sound none h = h
 
   ends_stand : (d : Declared) (b : Block) → NamesStand names d b → AreDeclaredNamed names (ended names d b)
@@ -210,7 +224,8 @@ module _ (names : List (List ℕ)) (numbered : AreNumbered names) where
       record {
         first = refl;
         own =
-            All-push (λ (graph : DeclaredGraph). AreOwn names (exception_name names) graph.exceptions) [] (plain_graph (number_in names (codes "universal")))
+            All-push (λ (graph : DeclaredGraph). AreOwn names (exception_name names) graph.exceptions) []
+            (plain_graph (number_in names (codes "universal")))
             (All-nil (λ (graph : DeclaredGraph). AreOwn names (exception_name names) graph.exceptions)) (universal_alone _ refl);
       },
       record { within = All-nil (λ object. object < 0); once = λ i j d l w. absurd (omega arith) },
@@ -220,13 +235,15 @@ module _ (names : List (List ℕ)) (numbered : AreNumbered names) where
 
 -- ---- the plan
 
-row_named : (names : List (List ℕ)) (graph : DeclaredGraph) (row : GraphRow) → IsRowOf names graph row → AreOwn names (exception_name names) graph.exceptions → NamesExceptions row
+row_named : (names : List (List ℕ)) (graph : DeclaredGraph) (row : GraphRow) → IsRowOf names graph row
+    → AreOwn names (exception_name names) graph.exceptions → NamesExceptions row
 row_named names graph row h own = record {
   own = subst (λ (rows : List (List ℕ)). AreOwnNames rows) (sym h.named) (own_names names (exception_name names) graph.exceptions own);
   each = ap (λ (rows : List (List ℕ)). length rows) h.named ∙ length-map graph.exceptions (exception_name names) ∙ sym h.order.counts;
 }
 
-rows_named : (names : List (List ℕ)) (graphs : List DeclaredGraph) (rows : List GraphRow) → AreRowsOf names graphs rows → All (λ (graph : DeclaredGraph). AreOwn names (exception_name names) graph.exceptions) graphs → All NamesExceptions rows
+rows_named : (names : List (List ℕ)) (graphs : List DeclaredGraph) (rows : List GraphRow) → AreRowsOf names graphs rows
+    → All (λ (graph : DeclaredGraph). AreOwn names (exception_name names) graph.exceptions) graphs → All NamesExceptions rows
 rows_named names [] [] h own = All-nil NamesExceptions
 rows_named names [] (row ∷ rows) h own = absurd h
 rows_named names (graph ∷ graphs) [] h own = absurd h
@@ -240,19 +257,30 @@ pub named_rows : (names : List (List ℕ)) (xs : List ℕ) (rows : List (List �
 named_rows names xs rows h = subst (λ (rows : List (List ℕ)). AreOwnNames rows) (sym h.same) (own_names names (name_at names) xs h.own)
 
 -- an accepted script has a plan whose names tell its parts apart
-pub own_names_of : (script : Script) (plan : Plan) → AreScript script.names (forms_of script.lines) → IsPlanOf script plan → HasOwnNames plan
+pub own_names_of : (script : Script) (plan : Plan) → AreScript script.names (forms_of script.lines) → IsPlanOf script plan
+    → HasOwnNames plan
 own_names_of script plan whole h =
     let names = script.names in
-    let numbered : AreNumbered names = subst (λ (names : List (List ℕ)). AreNumbered names) whole.order (numbered-with_names [] (flat_map (form_names names) (forms_of script.lines)) numbered-none) in
+    let numbered : AreNumbered names =
+    subst (λ (names : List (List ℕ)). AreNumbered names) whole.order
+    (numbered-with_names [] (flat_map (form_names names) (forms_of script.lines)) numbered-none) in
     let d = (declared_after names (nothing_yet names) script.lines).declared in
-    let stand = (holds_after names (NamesStand names) (names_kept names numbered) (nothing_yet names) script.lines whole.sound h.accepted (nothing_stands names numbered)).0 in
+    let stand =
+    (holds_after names (NamesStand names) (names_kept names numbered) (nothing_yet names) script.lines whole.sound h.accepted (nothing_stands names numbered)).0 in
     let draft = h.draft in
     let count : length draft.objects ≡ length d.objects =
-    ap (λ (rows : List ObjectRow). length rows) h.declared.objects ∙ sym (length-map d.object_rows (λ (row : ObjectRow). row.name)) ∙ ap (λ (rows : List (List ℕ)). length rows) stand.1.same ∙ length-map d.objects (name_at names) in
+    ap (λ (rows : List ObjectRow). length rows) h.declared.objects ∙ sym (length-map d.object_rows (λ (row : ObjectRow). row.name)) ∙ ap
+    (λ (rows : List (List ℕ)). length rows) stand.1.same ∙ length-map d.objects (name_at names) in
     subst (λ (plan : Plan). HasOwnNames plan) (sym h.unfolded) (record {
-      participants = subst (λ (rows : List (List ℕ)). AreOwnNames rows) (sym h.declared.participants) (named_rows names d.participants d.participant_rows stand.0);
-      objects = subst (λ (rows : List ObjectRow). AreOwnNames (object_names rows)) (sym h.declared.objects) (named_rows names d.objects (object_names d.object_rows) stand.1);
+      participants =
+          subst (λ (rows : List (List ℕ)). AreOwnNames rows) (sym h.declared.participants)
+          (named_rows names d.participants d.participant_rows stand.0);
+      objects =
+          subst (λ (rows : List ObjectRow). AreOwnNames (object_names rows)) (sym h.declared.objects)
+          (named_rows names d.objects (object_names d.object_rows) stand.1);
       graphs = rows_named names d.graphs draft.graphs h.declared.graphs stand.2.own;
-      watched = subst (λ (watches : List ℕ). All (λ object. object < length draft.objects) watches) (sym h.declared.watches) (subst (λ (n : ℕ). All (λ object. object < n) d.watches) (sym count) stand.3.within);
+      watched =
+          subst (λ (watches : List ℕ). All (λ object. object < length draft.objects) watches) (sym h.declared.watches)
+          (subst (λ (n : ℕ). All (λ object. object < n) d.watches) (sym count) stand.3.within);
       once = subst (λ (watches : List ℕ). AllPairs (λ a b. a ≢ b) watches) (sym h.declared.watches) stand.3.once;
     })

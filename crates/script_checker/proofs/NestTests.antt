@@ -32,13 +32,15 @@ index_one : (ns : List ℕ) (x y : ℕ) → index_of x ns < length ns → index_
 index_one [] x y l e = absurd (omega arith)
 index_one (n ∷ ns) x y l e = by_tests (n == x) (n == y) refl refl (index_one ns x y) l e
   where
-    by_tests : (b c : Bool) → (n == x) ≡ b → (n == y) ≡ c → (index_of x ns < length ns → index_of y ns ≡ index_of x ns → y ≡ x) → cond b 0 (suc (index_of x ns)) < suc (length ns) → cond c 0 (suc (index_of y ns)) ≡ cond b 0 (suc (index_of x ns)) → y ≡ x
+    by_tests : (b c : Bool) → (n == x) ≡ b → (n == y) ≡ c → (index_of x ns < length ns → index_of y ns ≡ index_of x ns → y ≡ x)
+        → cond b 0 (suc (index_of x ns)) < suc (length ns) → cond c 0 (suc (index_of y ns)) ≡ cond b 0 (suc (index_of x ns)) → y ≡ x
     by_tests true true b c more l e = sym (eqb-true n y c) ∙ eqb-true n x b
     by_tests true false b c more l e = absurd (omega arith)
     by_tests false true b c more l e = absurd (omega arith)
     by_tests false false b c more l e = more (omega arith) (omega arith)
 
-absent_mapped : (ns : List ℕ) (x : ℕ) (xs : List ℕ) → is_among ns x ≡ true → member x xs ≡ false → member (index_of x ns) (map (λ r. index_of r ns) xs) ≡ false
+absent_mapped : (ns : List ℕ) (x : ℕ) (xs : List ℕ) → is_among ns x ≡ true → member x xs ≡ false
+    → member (index_of x ns) (map (λ r. index_of r ns) xs) ≡ false
 absent_mapped ns x [] a h = refl
 absent_mapped ns x (y ∷ ys) a h =
     let p = or_parts (y == x) (member x ys) h in
@@ -49,7 +51,8 @@ absent_mapped ns x (y ∷ ys) a h =
     by_test true e f = absurd (false≢true (sym f ∙ eq-eqb y x (index_one ns x y (ltb-true _ _ a) (eqb-true _ _ e))))
 
 -- different names have different numbers
-pub differ_mapped : (ns xs : List ℕ) → all_differ xs ≡ true → list_all (is_among ns) xs ≡ true → all_differ (map (λ r. index_of r ns) xs) ≡ true
+pub differ_mapped : (ns xs : List ℕ) → all_differ xs ≡ true → list_all (is_among ns) xs ≡ true
+    → all_differ (map (λ r. index_of r ns) xs) ≡ true
 differ_mapped ns [] h a = refl
 differ_mapped ns (x ∷ xs) h a =
     let p = and_parts (not (member x xs)) (all_differ xs) h in
@@ -62,7 +65,8 @@ still_below n few many h l =
     let low = ltb-true n few h in
     lt-ltb n many (omega arith)
 
-pub numbers_below : (names xs : List ℕ) (many : ℕ) → list_all (is_among names) xs ≡ true → length names ≤ many → all_below many (map (λ r. index_of r names) xs) ≡ true
+pub numbers_below : (names xs : List ℕ) (many : ℕ) → list_all (is_among names) xs ≡ true → length names ≤ many
+    → all_below many (map (λ r. index_of r names) xs) ≡ true
 numbers_below names [] many h l = refl
 numbers_below names (x ∷ xs) many h l =
     let p = and_parts (is_among names x) (list_all (is_among names) xs) h in
@@ -70,7 +74,8 @@ numbers_below names (x ∷ xs) many h l =
 
 -- ---- one action more
 
-pub same_action : (actions : List ActionRow) (more : ActionRow) (a : ℕ) → a < length actions → slice_index_or (actions ++ more ∷ []) a no_action ≡ slice_index_or actions a no_action
+pub same_action : (actions : List ActionRow) (more : ActionRow) (a : ℕ) → a < length actions
+    → slice_index_or (actions ++ more ∷ []) a no_action ≡ slice_index_or actions a no_action
 same_action [] more a l = absurd (omega arith)
 same_action (x ∷ xs) more zero l = refl
 same_action (x ∷ xs) more (suc a) l = same_action xs more a (omega arith)
@@ -79,7 +84,9 @@ pub below_more : (m n : ℕ) (acts : List ℕ) → m < n → all_below m acts �
 below_more m n acts l h = all_imply (λ a. nat_lt a m) (λ a. nat_lt a n) acts (λ a k. still_below a m n k (omega arith)) h
 
 -- what holds of the actions of a use holds with one action more
-pub acts_same : (p : ActionRow → Bool) (actions : List ActionRow) (more : ActionRow) (acts : List ℕ) → all_below (length actions) acts ≡ true → list_all (λ a. p (slice_index_or actions a no_action)) acts ≡ true → list_all (λ a. p (slice_index_or (actions ++ more ∷ []) a no_action)) acts ≡ true
+pub acts_same : (p : ActionRow → Bool) (actions : List ActionRow) (more : ActionRow) (acts : List ℕ)
+    → all_below (length actions) acts ≡ true → list_all (λ a. p (slice_index_or actions a no_action)) acts ≡ true
+    → list_all (λ a. p (slice_index_or (actions ++ more ∷ []) a no_action)) acts ≡ true
 acts_same p actions more [] b h = refl
 acts_same p actions more (a ∷ acts) b h =
     let k = and_parts (nat_lt a (length actions)) (all_below (length actions) acts) b in
@@ -115,7 +122,9 @@ abbrev fits_roles : NestRow → ActionRow → Bool
 fits_roles row action = length row.roles == length action.roles
 
 abbrev pub uses_filled : List ActionRow → List DeclaredGraph → NestRow → Bool
-uses_filled actions graphs row = all_below (length actions) row.actions && (all_differ row.roles && list_all (λ a. fits_roles row (slice_index_or actions a no_action)) row.actions)
+uses_filled actions graphs row =
+    all_below (length actions) row.actions &&
+    (all_differ row.roles && list_all (λ a. fits_roles row (slice_index_or actions a no_action)) row.actions)
 
 pub eqb_turn : (a b : ℕ) → (a == b) ≡ true → (b == a) ≡ true
 eqb_turn a b h = eq-eqb b a (sym (eqb-true a b h))
@@ -124,7 +133,8 @@ pub filled_test : IsNestTest uses_filled
 filled_test = record {
   nested = λ names d a nest action roles none.
       let k = neither (is_action d action) (list_all (is_among a.roles) roles) (known d a (form.Nest nest action roles) none) in
-      let apart : all_differ (map (λ r. index_of r a.roles) roles) ≡ true = differ_mapped a.roles roles (not-false _ (differing d a (form.Nest nest action roles) none)) k.1 in
+      let apart : all_differ (map (λ r. index_of r a.roles) roles) ≡ true =
+      differ_mapped a.roles roles (not-false _ (differing d a (form.Nest nest action roles) none)) k.1 in
       let f : (length (map (λ r. index_of r a.roles) roles) == length (action_of d action).roles) ≡ true =
       rw length-map (eqb_turn (length (action_of d action).roles) (length roles) (not-false _ (filled d a (form.Nest nest action roles) none))) in
       rw (k.0, apart, f) refl;
@@ -136,7 +146,8 @@ filled_test = record {
       let k = neither (is_among a.nest_names nest) (is_action d action) (known d a (form.Alternate nest action) none) in
       let p = and_parts (all_below (length d.actions) row.actions) _ h in
       let q = and_parts (all_differ row.roles) _ p.1 in
-      let f = eqb_turn (length (action_of d action).roles) (length row.roles) (not-false _ (filled d a (form.Alternate nest action) none)) in
+      let f =
+      eqb_turn (length (action_of d action).roles) (length row.roles) (not-false _ (filled d a (form.Alternate nest action) none)) in
       rw (
         all_push (λ a. nat_lt a (length d.actions)) row.actions (index_of action d.action_names) p.0 k.1,
         q.0,
@@ -158,12 +169,15 @@ abbrev tells : ℕ → ActionRow → Bool
 tells face action = action.interface == face
 
 abbrev pub one_face : List ActionRow → List ℕ → Bool
-one_face actions acts = all_below (length actions) acts && list_all (λ a. tells (face_in actions acts) (slice_index_or actions a no_action)) acts
+one_face actions acts =
+    all_below (length actions) acts && list_all (λ a. tells (face_in actions acts) (slice_index_or actions a no_action)) acts
 
 abbrev pub uses_faced : List ActionRow → List DeclaredGraph → NestRow → Bool
 uses_faced actions graphs row = one_face actions row.actions
 
-one_face_more : (actions : List ActionRow) (acts : List ℕ) (a : ℕ) → nat_lt a (length actions) ≡ true → tells (face_in actions acts) (slice_index_or actions a no_action) ≡ true → one_face actions acts ≡ true → one_face actions (acts ++ a ∷ []) ≡ true
+one_face_more : (actions : List ActionRow) (acts : List ℕ) (a : ℕ) → nat_lt a (length actions) ≡ true
+    → tells (face_in actions acts) (slice_index_or actions a no_action) ≡ true → one_face actions acts ≡ true
+    → one_face actions (acts ++ a ∷ []) ≡ true
 one_face_more actions [] a l f h =
     let face = (slice_index_or actions a no_action).interface in
     rw (l, eq-eqb face face refl) refl
@@ -174,12 +188,14 @@ one_face_more actions (b ∷ acts) a l f h =
       all_push (λ a. tells (face_in actions (b ∷ acts)) (slice_index_or actions a no_action)) (b ∷ acts) a p.1 f,
     ) refl
 
-one_face_longer : (actions : List ActionRow) (action : ActionRow) (acts : List ℕ) → one_face actions acts ≡ true → one_face (actions ++ action ∷ []) acts ≡ true
+one_face_longer : (actions : List ActionRow) (action : ActionRow) (acts : List ℕ) → one_face actions acts ≡ true
+    → one_face (actions ++ action ∷ []) acts ≡ true
 one_face_longer actions action [] h = refl
 one_face_longer actions action (b ∷ acts) h =
     let p = and_parts (all_below (length actions) (b ∷ acts)) _ h in
     let k = and_parts (nat_lt b (length actions)) (all_below (length actions) acts) p.0 in
-    let e : face_in (actions ++ action ∷ []) (b ∷ acts) ≡ face_in actions (b ∷ acts) = ap (λ (a : ActionRow). a.interface) (same_action actions action b (ltb-true _ _ k.0)) in
+    let e : face_in (actions ++ action ∷ []) (b ∷ acts) ≡ face_in actions (b ∷ acts) =
+    ap (λ (a : ActionRow). a.interface) (same_action actions action b (ltb-true _ _ k.0)) in
     and_from _ _ (below_more (length actions) _ (b ∷ acts) (one_longer actions action) p.0)
     (subst (λ (face : ℕ). list_all (λ a. tells face (slice_index_or (actions ++ action ∷ []) a no_action)) (b ∷ acts) ≡ true) (sym e) (acts_same (tells (face_in actions (b ∷ acts))) actions action (b ∷ acts) p.0 p.1))
 
@@ -193,7 +209,8 @@ faced_test = record {
   failed = λ actions graphs row x h. h;
   alternated = λ d a nest action none h.
       let k = neither (is_among a.nest_names nest) (is_action d action) (known d a (form.Alternate nest action) none) in
-      one_face_more d.actions (nest_of a nest).row.actions (index_of action d.action_names) k.1 (not-false _ (faced d a (form.Alternate nest action) none)) h;
+      one_face_more d.actions (nest_of a nest).row.actions (index_of action d.action_names) k.1
+      (not-false _ (faced d a (form.Alternate nest action) none)) h;
   one_action = λ actions graphs action row h. one_face_longer actions action row.actions h;
   one_graph = λ actions graphs graph row h. h;
 }

@@ -26,13 +26,16 @@ use Rattle.script_checker.proofs.ListsChange.{all_push, all_set, all_rows}
 
 -- a test of nested uses that each line of one keeps, and that more actions and graphs keep
 pub record IsNestTest (test : List ActionRow → List DeclaredGraph → NestRow → Bool) : Type 0 where
-  pub nested : (names : List (List ℕ)) (d : Declared) (a : OpenAction) (nest action : ℕ) (roles : List ℕ) → NoneInAction d a (form.Nest nest action roles) → test d.actions d.graphs (nest_said names d a nest action roles) ≡ true
+  pub nested : (names : List (List ℕ)) (d : Declared) (a : OpenAction) (nest action : ℕ) (roles : List ℕ)
+      → NoneInAction d a (form.Nest nest action roles) → test d.actions d.graphs (nest_said names d a nest action roles) ≡ true
   pub mapped : (actions : List ActionRow) (graphs : List DeclaredGraph) (row : NestRow) (i x : ℕ) → test actions graphs row ≡ true → test actions graphs (record row { maps = slice_set row.maps i x }) ≡ true
   pub undone : (actions : List ActionRow) (graphs : List DeclaredGraph) (row : NestRow) (x : ℕ) → test actions graphs row ≡ true → test actions graphs (record row { undo = x }) ≡ true
   pub failed : (actions : List ActionRow) (graphs : List DeclaredGraph) (row : NestRow) (x : ℕ) → test actions graphs row ≡ true → test actions graphs (record row { failure = x }) ≡ true
   pub alternated : (d : Declared) (a : OpenAction) (nest action : ℕ) → NoneInAction d a (form.Alternate nest action) → test d.actions d.graphs (nest_of a nest).row ≡ true → test d.actions d.graphs (record (nest_of a nest).row { actions = (nest_of a nest).row.actions ++ index_of action d.action_names ∷ [] }) ≡ true
-  pub one_action : (actions : List ActionRow) (graphs : List DeclaredGraph) (action : ActionRow) (row : NestRow) → test actions graphs row ≡ true → test (actions ++ action ∷ []) graphs row ≡ true
-  pub one_graph : (actions : List ActionRow) (graphs : List DeclaredGraph) (graph : DeclaredGraph) (row : NestRow) → test actions graphs row ≡ true → test actions (graphs ++ graph ∷ []) row ≡ true
+  pub one_action : (actions : List ActionRow) (graphs : List DeclaredGraph) (action : ActionRow) (row : NestRow)
+      → test actions graphs row ≡ true → test (actions ++ action ∷ []) graphs row ≡ true
+  pub one_graph : (actions : List ActionRow) (graphs : List DeclaredGraph) (graph : DeclaredGraph) (row : NestRow)
+      → test actions graphs row ≡ true → test actions (graphs ++ graph ∷ []) row ≡ true
 
 module _ (test : List ActionRow → List DeclaredGraph → NestRow → Bool) (is_test : IsNestTest test) where
   -- all uses of an action pass
@@ -48,7 +51,8 @@ module _ (test : List ActionRow → List DeclaredGraph → NestRow → Bool) (is
   abbrev pub Pass : Declared → Block → Type 0
   Pass d b = (list_all (ends_well d.actions d.graphs) d.actions ≡ true) × OpenPass d b
 
-  closed_pass : (d : Declared) (a : OpenAction) (v : Verdict) (o : Option OpenProgram) → OpenPass d (block.Action a) → OpenPass d (block.Action (closed_if a o v))
+  closed_pass : (d : Declared) (a : OpenAction) (v : Verdict) (o : Option OpenProgram) → OpenPass d (block.Action a)
+      → OpenPass d (block.Action (closed_if a o v))
   closed_pass d a v None h = h
   closed_pass d a v (Some p) h = h
 
@@ -57,10 +61,15 @@ module _ (test : List ActionRow → List DeclaredGraph → NestRow → Bool) (is
     says_pass (form.Action name) h = (h.0, refl)
     says_pass f h = h
 
-    nest_changes : (a : OpenAction) (name : ℕ) (nest : OpenNest) → OpenPass d (block.Action a) → (test d.actions d.graphs (nest_of a name).row ≡ true → test d.actions d.graphs nest.row ≡ true) → OpenPass d (block.Action (with_nest a name nest))
-    nest_changes a name nest h keeps = all_set (λ (nest : OpenNest). test d.actions d.graphs nest.row) a.nests (index_of name a.nest_names) (begun_nest no_nest) nest keeps h
+    nest_changes : (a : OpenAction) (name : ℕ) (nest : OpenNest) → OpenPass d (block.Action a)
+        → (test d.actions d.graphs (nest_of a name).row ≡ true → test d.actions d.graphs nest.row ≡ true)
+        → OpenPass d (block.Action (with_nest a name nest))
+    nest_changes a name nest h keeps =
+        all_set (λ (nest : OpenNest). test d.actions d.graphs nest.row) a.nests (index_of name a.nest_names) (begun_nest no_nest) nest
+        keeps h
 
-    acts_pass : (a : OpenAction) (f : Form) → NoneInAction d a f → OpenPass d (block.Action a) → OpenPass d (block.Action (action_with names d a f))
+    acts_pass : (a : OpenAction) (f : Form) → NoneInAction d a f → OpenPass d (block.Action a)
+        → OpenPass d (block.Action (action_with names d a f))
     acts_pass a (form.Nest nest action roles) none h =
         all_push (λ (nest : OpenNest). test d.actions d.graphs nest.row) a.nests _ h (is_test.nested names d a nest action roles none)
     acts_pass a (form.Map nest lower upper) none h = nest_changes a nest _ h (is_test.mapped d.actions d.graphs (nest_of a nest).row _ _)
@@ -76,7 +85,8 @@ module _ (test : List ActionRow → List DeclaredGraph → NestRow → Bool) (is
     ends_pass block.Top h = h
     ends_pass (block.Graph g) h = (
       all_imply (ends_well d.actions d.graphs) (ends_well d.actions (d.graphs ++ g ∷ [])) d.actions
-          (λ action k. all_imply (test d.actions d.graphs) (test d.actions (d.graphs ++ g ∷ [])) action.nests (is_test.one_graph d.actions d.graphs g) k) h.0,
+          (λ action k. all_imply (test d.actions d.graphs) (test d.actions (d.graphs ++ g ∷ [])) action.nests (is_test.one_graph d.actions d.graphs g) k)
+          h.0,
       tt,
     )
     ends_pass (block.Action a) h =

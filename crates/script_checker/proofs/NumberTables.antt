@@ -23,7 +23,8 @@ pub among_is_member : (name : ℕ) (names : List ℕ) → is_among names name �
 among_is_member name [] = refl
 among_is_member name (x ∷ xs) = by (x == name) (among_is_member name xs)
   where
-    by : (b : Bool) → is_among xs name ≡ member name xs → nat_lt (cond b 0 (suc (index_of name xs))) (suc (length xs)) ≡ (b || member name xs)
+    by : (b : Bool) → is_among xs name ≡ member name xs
+        → nat_lt (cond b 0 (suc (index_of name xs))) (suc (length xs)) ≡ (b || member name xs)
     by true h = lt-ltb 0 (suc (length xs)) (omega arith)
     by false h = one_more_each (index_of name xs) (length xs) ∙ h
 
@@ -38,12 +39,15 @@ no_key name names h = other_way names ∙ sym (among_is_member name names) ∙ h
     other_way (x ∷ xs) = rw (same_both_ways name x, other_way xs) refl
 
 -- so it goes to the end
-pub key_added : (name : ℕ) (names : List ℕ) → is_among names name ≡ false → cond (list_any (nat_eq name) names) names (names ++ name ∷ []) ≡ names ++ name ∷ []
+pub key_added : (name : ℕ) (names : List ℕ) → is_among names name ≡ false
+    → cond (list_any (nat_eq name) names) names (names ++ name ∷ []) ≡ names ++ name ∷ []
 key_added name names h = rw (no_key name names h) refl
 
 index_is_position : (name : ℕ) (names : List ℕ) → index_of name names ≡ position_or_len (nat_eq name) names
 index_is_position name names =
-    is_position_or_len (index_of name) (nat_eq name) refl (λ n l. ap (λ b. cond b 0 (suc (index_of name l))) (same_both_ways n name) ∙ ap (λ k. cond (nat_eq name n) 0 k) (omega arith)) names
+    is_position_or_len (index_of name) (nat_eq name) refl
+    (λ n l. ap (λ b. cond b 0 (suc (index_of name l))) (same_both_ways n name) ∙ ap (λ k. cond (nat_eq name n) 0 k) (omega arith))
+    names
 
 -- the place of a key is that of the name
 pub key_found : (name : ℕ) (names : List ℕ) (place : ℕ) → position (nat_eq name) names ≡ Some place → place ≡ index_of name names
@@ -97,7 +101,8 @@ module _ (xs : List ℕ) (i d : ℕ) (within : i < length xs) where
   pub fresh_next : all_differ xs ≡ true → is_among (take i xs) (get_or xs i d) ≡ false
   fresh_next h =
       let all = sym (differ_with_one (take i xs) (get_or xs i d)) ∙ ap all_differ (sym one_more) ∙ differ_take (i + 1) xs h in
-      among_is_member (get_or xs i d) (take i xs) ∙ not-true _ (and_parts (all_differ (take i xs)) (not (member (get_or xs i d) (take i xs))) all).1
+      among_is_member (get_or xs i d) (take i xs) ∙ not-true _
+      (and_parts (all_differ (take i xs)) (not (member (get_or xs i d) (take i xs))) all).1
 
   -- where it is among them, not all differ
   pub next_again : is_among (take i xs) (get_or xs i d) ≡ true → all_differ xs ≡ false
@@ -105,7 +110,9 @@ module _ (xs : List ℕ) (i d : ℕ) (within : i < length xs) where
 
   -- and where it isn't, one more differs
   pub next_differs : is_among (take i xs) (get_or xs i d) ≡ false → all_differ (take i xs) ≡ true → all_differ (take (i + 1) xs) ≡ true
-  next_differs h all = ap all_differ one_more ∙ differ_with_one (take i xs) (get_or xs i d) ∙ and_from _ _ all (ap not (sym (among_is_member (get_or xs i d) (take i xs)) ∙ h))
+  next_differs h all =
+      ap all_differ one_more ∙ differ_with_one (take i xs) (get_or xs i d) ∙ and_from _ _ all
+      (ap not (sym (among_is_member (get_or xs i d) (take i xs)) ∙ h))
 
 -- all of some that have been gone over differ
 pub all_gone_over : (xs : List ℕ) (n : ℕ) → length xs ≤ n → all_differ (take n xs) ≡ true → all_differ xs ≡ true

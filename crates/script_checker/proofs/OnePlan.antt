@@ -16,7 +16,8 @@ module _ (names : List (List ℕ)) where
       let named = h.named ∙ sym k.named in
       (λ j. record { graph = order j; names = named j })
 
-  rows-same : (graphs : List DeclaredGraph) (rows others : List GraphRow) → AreRowsOf names graphs rows → AreRowsOf names graphs others → rows ≡ others
+  rows-same : (graphs : List DeclaredGraph) (rows others : List GraphRow) → AreRowsOf names graphs rows → AreRowsOf names graphs others
+      → rows ≡ others
   rows-same [] [] [] h k = refl
   rows-same [] [] (other ∷ others) h k = absurd k
   rows-same [] (row ∷ rows) others h k = absurd h

@@ -21,7 +21,8 @@ use Rattle.script_checker.proofs.NestTests.{uses_there, there_test}
 abbrev pub IsInOrder : Declared → Block → Type 0
 IsInOrder d b = Pass uses_there there_test d b × (nests_below 0 d.actions ≡ true)
 
-below_push : (n m : ℕ) (actions : List ActionRow) (action : ActionRow) → n + length actions ≡ m → nests_below n actions ≡ true → list_all (λ (nest : NestRow). all_below m nest.actions) action.nests ≡ true → nests_below n (actions ++ action ∷ []) ≡ true
+below_push : (n m : ℕ) (actions : List ActionRow) (action : ActionRow) → n + length actions ≡ m → nests_below n actions ≡ true
+    → list_all (λ (nest : NestRow). all_below m nest.actions) action.nests ≡ true → nests_below n (actions ++ action ∷ []) ≡ true
 below_push n m [] action e h k =
     let same : n ≡ m = omega arith in
     rw (subst (λ (m : ℕ). list_all (λ (nest : NestRow). all_below m nest.actions) action.nests ≡ true) (sym same) k) refl

@@ -45,13 +45,15 @@ abbrev pub ActionFits : OpenAction → Type 0
 ActionFits a = AreFit a.program a.role_rows a.roles a.nests
 
 -- a role with one more program that fits
-program_added : (exception : Option ℕ) (program : Program) → program_fits program ≡ true → (row : RoleRow) → role_fits row ≡ true → role_fits (with_program row exception program) ≡ true
+program_added : (exception : Option ℕ) (program : Program) → program_fits program ≡ true → (row : RoleRow) → role_fits row ≡ true
+    → role_fits (with_program row exception program) ≡ true
 program_added None program p row h =
     let parts = and_parts (program_fits row.body) (list_all (λ (h : HandlerRow). program_fits h.program) row.handlers) h in
     and_from _ _ p parts.1
 program_added (Some x) program p row h =
     let parts = and_parts (program_fits row.body) (list_all (λ (h : HandlerRow). program_fits h.program) row.handlers) h in
-    and_from _ _ parts.0 (all_push (λ (h : HandlerRow). program_fits h.program) row.handlers (record { exception = x; program = program }) parts.1 p)
+    and_from _ _ parts.0
+    (all_push (λ (h : HandlerRow). program_fits h.program) row.handlers (record { exception = x; program = program }) parts.1 p)
 
 closed_fits : (a : OpenAction) (v : Verdict) (o : Option OpenProgram) → a.program ≡ o → ActionFits a → ActionFits (closed_if a o v)
 closed_fits a v None e h = h
@@ -60,7 +62,9 @@ closed_fits a v (Some p) e h =
     let few : length p.steps ≤ most_steps = subst (λ (o : Option OpenProgram). length (steps_of o) ≤ most_steps) e h.steps in
     record {
       steps = omega arith;
-      roles = all_change role_fits (λ (row : RoleRow). with_program row p.exception program) a.role_rows p.role no_role (program_added p.exception program (le-leb _ _ few)) h.roles;
+      roles =
+          all_change role_fits (λ (row : RoleRow). with_program row p.exception program) a.role_rows p.role no_role
+          (program_added p.exception program (le-leb _ _ few)) h.roles;
       few_roles = rw length-set h.few_roles;
       all_roles = rw length-set h.all_roles;
       nests = h.nests;
@@ -68,21 +72,25 @@ closed_fits a v (Some p) e h =
     }
 
 -- one action more
-more_alternates : (actions : List ℕ) (a : ℕ) → nat_le most_alternates (length actions) ≡ false → (not (is_empty (actions ++ a ∷ [])) && nat_le (length (actions ++ a ∷ [])) most_alternates) ≡ true
+more_alternates : (actions : List ℕ) (a : ℕ) → nat_le most_alternates (length actions) ≡ false
+    → (not (is_empty (actions ++ a ∷ [])) && nat_le (length (actions ++ a ∷ [])) most_alternates) ≡ true
 more_alternates [] a w = refl
 more_alternates (b ∷ actions) a w = le-leb _ _ (few_more most_alternates (b ∷ actions) a w)
 
 -- one step more
-more_steps : (o : Option OpenProgram) (x : Step) → nat_le most_steps (length (steps_of o)) ≡ false → length (steps_of (with_step o (Some x))) ≤ most_steps
+more_steps : (o : Option OpenProgram) (x : Step) → nat_le most_steps (length (steps_of o)) ≡ false
+    → length (steps_of (with_step o (Some x))) ≤ most_steps
 more_steps None x w = omega arith
 more_steps (Some p) x w = few_more most_steps p.steps x w
 
 module _ (names : List (List ℕ)) (d : Declared) (a : OpenAction) (h : ActionFits a) where
   begun : (p : OpenProgram) → p.steps ≡ [] → AreFit (Some p) a.role_rows a.roles a.nests
-  begun p e = record { steps = rw e (omega arith); roles = h.roles; few_roles = h.few_roles; all_roles = h.all_roles; nests = h.nests; few_nests = h.few_nests }
+  begun p e =
+      record { steps = rw e (omega arith); roles = h.roles; few_roles = h.few_roles; all_roles = h.all_roles; nests = h.nests; few_nests = h.few_nests }
 
   stepped : (x : Step) → nat_le most_steps (length (steps_of a.program)) ≡ false → ActionFits (record a { program = with_step a.program (Some x) })
-  stepped x w = record { steps = more_steps a.program x w; roles = h.roles; few_roles = h.few_roles; all_roles = h.all_roles; nests = h.nests; few_nests = h.few_nests }
+  stepped x w =
+      record { steps = more_steps a.program x w; roles = h.roles; few_roles = h.few_roles; all_roles = h.all_roles; nests = h.nests; few_nests = h.few_nests }
 
   aborted : (role : ℕ) (row : AbortRow) → ActionFits (with_abort a role row)
   aborted role row = record {
@@ -95,7 +103,8 @@ module _ (names : List (List ℕ)) (d : Declared) (a : OpenAction) (h : ActionFi
   }
 
   -- a use that changes and still fits
-  nest_changed : (name : ℕ) (nest : OpenNest) → (nest_fits (nest_of a name).row ≡ true → nest_fits nest.row ≡ true) → ActionFits (with_nest a name nest)
+  nest_changed : (name : ℕ) (nest : OpenNest) → (nest_fits (nest_of a name).row ≡ true → nest_fits nest.row ≡ true)
+      → ActionFits (with_nest a name nest)
   nest_changed name nest keeps = record {
     steps = h.steps;
     roles = h.roles;
@@ -125,7 +134,8 @@ module _ (names : List (List ℕ)) (d : Declared) (a : OpenAction) (h : ActionFi
   says_fits (form.Map nest lower upper) w = nest_changed nest _ (λ k. k)
   says_fits (form.MapUndo nest x) w = nest_changed nest _ (λ k. k)
   says_fits (form.MapFailure nest x) w = nest_changed nest _ (λ k. k)
-  says_fits (form.Alternate nest action) w = nest_changed nest _ (λ k. more_alternates (nest_of a nest).row.actions (index_of action d.action_names) w)
+  says_fits (form.Alternate nest action) w =
+      nest_changed nest _ (λ k. more_alternates (nest_of a nest).row.actions (index_of action d.action_names) w)
   says_fits (form.Abort role x) w = aborted role _
   says_fits (form.AbortTest role t v x) w = aborted role _
   says_fits (form.Body role) w = begun (begun_program (index_of role a.roles) None) refl
@@ -162,7 +172,8 @@ module _ (names : List (List ℕ)) (d : Declared) where
       rw (some, le-leb (length a.role_rows) most_roles h.few_roles, le-leb (length (nest_rows a.nests)) most_nests few, h.roles, all_rows nest_fits a.nests h.nests) refl
 
   begins_fit : (f : Form) → ActionsFit d block.Top → ActionsFit (declared_with names d f) (block_begun d f)
-  begins_fit (form.Action name) h = (h.0, record { steps = omega arith; roles = refl; few_roles = omega arith; all_roles = refl; nests = refl; few_nests = omega arith })
+  begins_fit (form.Action name) h =
+      (h.0, record { steps = omega arith; roles = refl; few_roles = omega arith; all_roles = refl; nests = refl; few_nests = omega arith })
   begins_fit f h = h
 
   ends_fit : (b : Block) → HasNone (record { declared = d; block = b }) form.End → ActionsFit d b → ActionsFit (ended names d b) block.Top

@@ -53,7 +53,8 @@ abbrev action_names : List ActionRow → List (List ℕ)
 action_names rows = map (λ (row : ActionRow). row.name) rows
 
 -- a row that changes, but for what it is seen as
-set_same : {A B : Type 0} (f : A → B) (xs : List A) (i : ℕ) (d y : A) → f y ≡ f (slice_index_or xs i d) → map f (slice_set xs i y) ≡ map f xs
+set_same : {A B : Type 0} (f : A → B) (xs : List A) (i : ℕ) (d y : A) → f y ≡ f (slice_index_or xs i d)
+    → map f (slice_set xs i y) ≡ map f xs
 set_same f [] i d y e = refl
 set_same f (x ∷ xs) zero d y e = ap (λ z. z ∷ map f xs) e
 set_same f (x ∷ xs) (suc i) d y e = ap (λ zs. f x ∷ zs) (set_same f xs i d y e)
@@ -135,10 +136,14 @@ module _ (names : List (List ℕ)) (numbered : AreNumbered names) where
   none_named : AreNamedBy names [] []
   none_named = record { own = own_none names (name_at names); same = refl }
 
-  begins_actions : (d : Declared) (f : Form) → is_sound names f ≡ true → NoneAtTop d f → AreActionsNamed names d.action_names d.actions (action_names d.actions)
-      → AreActionsNamed names (declared_with names d f).action_names (declared_with names d f).actions (begun_names names (declared_with names d f).actions (block_begun d f))
+  begins_actions : (d : Declared) (f : Form) → is_sound names f ≡ true → NoneAtTop d f
+      → AreActionsNamed names d.action_names d.actions (action_names d.actions)
+      → AreActionsNamed names (declared_with names d f).action_names (declared_with names d f).actions
+      (begun_names names (declared_with names d f).actions (block_begun d f))
   begins_actions d (form.Action n) sound none h = record {
-    own = named_push names numbered d.action_names (action_names d.actions) n (first_spelled names numbered n _ (parts_sound names (form.Action n) sound)) (once_at_top d (form.Action n) none) h.own;
+    own =
+        named_push names numbered d.action_names (action_names d.actions) n
+        (first_spelled names numbered n _ (parts_sound names (form.Action n) sound)) (once_at_top d (form.Action n) none) h.own;
     parts = h.parts;
   }
   begins_actions d f sound none h = h
@@ -151,18 +156,21 @@ module _ (names : List (List ℕ)) (numbered : AreNumbered names) where
   roles_as : (a : OpenAction) (rows : List RoleRow) → role_names rows ≡ role_names a.role_rows → ActionNamed names a → ActionNamed names (record a { role_rows = rows })
   roles_as a rows e h = record { of_roles = subst (AreNamedBy names a.roles) (sym e) h.of_roles; of_nests = h.of_nests }
 
-  nest_as : (a : OpenAction) (name : ℕ) (nest : OpenNest) → nest.row.name ≡ (nest_of a name).row.name → ActionNamed names a → ActionNamed names (with_nest a name nest)
+  nest_as : (a : OpenAction) (name : ℕ) (nest : OpenNest) → nest.row.name ≡ (nest_of a name).row.name → ActionNamed names a
+      → ActionNamed names (with_nest a name nest)
   nest_as a name nest e h =
       let same = set_same (λ (nest : OpenNest). nest.row.name) a.nests (index_of name a.nest_names) (begun_nest no_nest) nest e in
       record { of_roles = h.of_roles; of_nests = subst (AreNamedBy names a.nest_names) (sym same) h.of_nests }
 
   -- a body or a handler that ends changes no name
-  closed_stand : (d : Declared) (a : OpenAction) (v : Verdict) (o : Option OpenProgram) → PartsStand names d (block.Action a) → PartsStand names d (block.Action (closed_if a o v))
+  closed_stand : (d : Declared) (a : OpenAction) (v : Verdict) (o : Option OpenProgram) → PartsStand names d (block.Action a)
+      → PartsStand names d (block.Action (closed_if a o v))
   closed_stand d a v None h = h
   closed_stand d a v (Some p) h =
       (h.0, roles_as a _ (set_same (λ (row : RoleRow). row.name) a.role_rows p.role no_role _ (program_named _ p.exception _)) h.1)
 
-  roles_said : (a : OpenAction) (roles : List ℕ) → is_sound names (form.Roles roles) ≡ true → all_differ roles ≡ true → AreNamedBy names roles (role_names (map (idle_role names) roles))
+  roles_said : (a : OpenAction) (roles : List ℕ) → is_sound names (form.Roles roles) ≡ true → all_differ roles ≡ true
+      → AreNamedBy names roles (role_names (map (idle_role names) roles))
   roles_said a roles sound differ =
       let spelled = all_spelled names roles (parts_sound names (form.Roles roles) sound) in
       record {
@@ -170,7 +178,8 @@ module _ (names : List (List ℕ)) (numbered : AreNumbered names) where
         same = idle_named names roles;
       }
 
-  acts_stand : (d : Declared) (a : OpenAction) (f : Form) → is_sound names f ≡ true → NoneInAction d a f → PartsStand names d (block.Action a) → PartsStand names d (block.Action (action_with names d a f))
+  acts_stand : (d : Declared) (a : OpenAction) (f : Form) → is_sound names f ≡ true → NoneInAction d a f
+      → PartsStand names d (block.Action a) → PartsStand names d (block.Action (action_with names d a f))
   acts_stand d a (form.Roles roles) sound none h =
       let differ = (or_parts (not (is_empty a.roles)) (not (all_differ roles)) (once d a (form.Roles roles) none)).1 in
       (h.0, record { of_roles = roles_said a roles sound (not-false (all_differ roles) differ); of_nests = h.1.of_nests })
@@ -180,7 +189,9 @@ module _ (names : List (List ℕ)) (numbered : AreNumbered names) where
         h.0,
         record {
           of_roles = h.1.of_roles;
-          of_nests = subst (AreNamedBy names (a.nest_names ++ nest ∷ [])) (sym (map-append (λ (nest : OpenNest). nest.row.name) a.nests (_ ∷ []))) pushed;
+          of_nests =
+              subst (AreNamedBy names (a.nest_names ++ nest ∷ []))
+              (sym (map-append (λ (nest : OpenNest). nest.row.name) a.nests (_ ∷ []))) pushed;
         },
       )
   acts_stand d a (form.Map nest lower upper) sound none h = (h.0, nest_as a nest _ refl h.1)
@@ -201,7 +212,9 @@ module _ (names : List (List ℕ)) (numbered : AreNumbered names) where
   ends_stand d (block.Graph g) h = (h.0, tt)
   ends_stand d (block.Action a) h = (
     record {
-      own = subst (AreNamedBy names d.action_names) (sym (map-append (λ (row : ActionRow). row.name) d.actions (row_of names a ∷ []))) h.0.own;
+      own =
+          subst (AreNamedBy names d.action_names) (sym (map-append (λ (row : ActionRow). row.name) d.actions (row_of names a ∷ [])))
+          h.0.own;
       parts = All-push NamesParts d.actions (row_of names a) h.0.parts (record {
         roles = named_rows names a.roles (role_names a.role_rows) h.1.of_roles;
         nests = subst AreOwnNames (sym (rows_named a.nests)) (named_rows names a.nest_names (use_names a.nests) h.1.of_nests);
@@ -225,19 +238,24 @@ module _ (names : List (List ℕ)) (numbered : AreNumbered names) where
 -- ---- the plan
 
 -- where the actions that have begun have names of their own, so have those that have ended
-ended_own : (names : List (List ℕ)) (rows : List ActionRow) (b : Block) → AreOwnNames (begun_names names rows b) → AreOwnNames (action_names rows)
+ended_own : (names : List (List ℕ)) (rows : List ActionRow) (b : Block) → AreOwnNames (begun_names names rows b)
+    → AreOwnNames (action_names rows)
 ended_own names rows block.Top h = h
 ended_own names rows (block.Graph g) h = h
 ended_own names rows (block.Action a) h = first_own (action_names rows) (name_at names a.name ∷ []) h
 
 -- an accepted script has a plan whose names tell its actions, and the roles and nested uses of each, apart
-pub own_parts_of : (script : Script) (plan : Plan) → AreScript script.names (forms_of script.lines) → IsPlanOf script plan → HasOwnParts plan
+pub own_parts_of : (script : Script) (plan : Plan) → AreScript script.names (forms_of script.lines) → IsPlanOf script plan
+    → HasOwnParts plan
 own_parts_of script plan whole h =
     let names = script.names in
-    let numbered : AreNumbered names = subst (λ (names : List (List ℕ)). AreNumbered names) whole.order (numbered-with_names [] (flat_map (form_names names) (forms_of script.lines)) numbered-none) in
+    let numbered : AreNumbered names =
+    subst (λ (names : List (List ℕ)). AreNumbered names) whole.order
+    (numbered-with_names [] (flat_map (form_names names) (forms_of script.lines)) numbered-none) in
     let s = declared_after names (nothing_yet names) script.lines in
     let d = s.declared in
-    let stand = (holds_after names (PartsStand names) (parts_kept names numbered) (nothing_yet names) script.lines whole.sound h.accepted (nothing_stands names numbered)).0 in
+    let stand =
+    (holds_after names (PartsStand names) (parts_kept names numbered) (nothing_yet names) script.lines whole.sound h.accepted (nothing_stands names numbered)).0 in
     let own = ended_own names d.actions s.block (named_rows names d.action_names (begun_names names d.actions s.block) stand.own) in
     subst HasOwnParts (sym h.unfolded) (record {
       actions = subst (λ (rows : List ActionRow). AreOwnNames (action_names rows)) (sym h.declared.actions) own;

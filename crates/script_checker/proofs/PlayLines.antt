@@ -39,7 +39,8 @@ use Rattle.script_checker.proofs.Stands.{ends_at_top}
 
 -- ---- the lines before a play
 
-leads_before : (at : Section) (before : List Line) (line : Line) (rest : List Line) (action : ℕ) (who : List ℕ) → line.form ≡ form.Play action who → lead_to_top at (forms_of (before ++ line ∷ rest)) ≡ true → lead_to_top at (forms_of before) ≡ true
+leads_before : (at : Section) (before : List Line) (line : Line) (rest : List Line) (action : ℕ) (who : List ℕ)
+    → line.form ≡ form.Play action who → lead_to_top at (forms_of (before ++ line ∷ rest)) ≡ true → lead_to_top at (forms_of before) ≡ true
 leads_before at [] line rest action who e h =
     let k = and_parts (stands_in (kind_of line.form) at) (lead_to_top (goes_to (kind_of line.form) at) (forms_of rest)) h in
     subst (λ (f : Form). stands_in (kind_of f) at ≡ true) e k.0
@@ -47,7 +48,8 @@ leads_before at (l ∷ before) line rest action who e h =
     let k = and_parts (stands_in (kind_of l.form) at) (lead_to_top (goes_to (kind_of l.form) at) (forms_of (before ++ line ∷ rest))) h in
     and_from _ _ k.0 (leads_before (goes_to (kind_of l.form) at) before line rest action who e k.1)
 
-sound_before : (names : List (List ℕ)) (before : List Line) (line : Line) (rest : List Line) → list_all (is_sound names) (forms_of (before ++ line ∷ rest)) ≡ true → list_all (is_sound names) (forms_of before) ≡ true
+sound_before : (names : List (List ℕ)) (before : List Line) (line : Line) (rest : List Line)
+    → list_all (is_sound names) (forms_of (before ++ line ∷ rest)) ≡ true → list_all (is_sound names) (forms_of before) ≡ true
 sound_before names [] line rest h = refl
 sound_before names (l ∷ before) line rest h =
     let k = and_parts (is_sound names l.form) (list_all (is_sound names) (forms_of (before ++ line ∷ rest))) h in
@@ -82,7 +84,8 @@ module _ (names : List (List ℕ)) (d : Declared) (action : ℕ) (who : List ℕ
         let valued = and_parts _ _ before.ranges in
         let acted = and_parts (list_all (action_in_range draft) draft.actions) _ valued.1 in
         let others = and_parts (list_all (play_in_range (without_play d draft)) d.plays) _ acted.1 in
-        let nested = and_parts (list_all (λ (action : ActionRow). list_all (nest_fills draft) action.nests) draft.actions) _ before.fillings in
+        let nested =
+        and_parts (list_all (λ (action : ActionRow). list_all (nest_fills draft) action.nests) draft.actions) _ before.fillings in
         record {
           sizes = before.sizes;
           graphs = before.graphs;
@@ -100,10 +103,12 @@ module _ (names : List (List ℕ)) (d : Declared) (action : ℕ) (who : List ℕ
       parts = keeps;
       places =
           (weighs_play one_place d.places d.actions d.plays d.all_places weights.places.0 (play_row d action who)).whole
-          ∙ subst (λ (plays : List PlayRow). counted (played_weight (at d.places) plays) ≡ counted (length (plan_of draft).places)) drafted.plays (places_told d b deep draft keeps drafted.actions weights.places.0.tell);
+          ∙ subst (λ (plays : List PlayRow). counted (played_weight (at d.places) plays) ≡ counted (length (plan_of draft).places))
+          drafted.plays (places_told d b deep draft keeps drafted.actions weights.places.0.tell);
       bound =
           (weighs_play own_entries d.bounds d.actions d.plays d.whole_bound weights.entries.0 (play_row d action who)).whole
-          ∙ subst (λ (plays : List PlayRow). counted (played_weight (at d.bounds) plays) ≡ counted (bound (plan_of draft))) drafted.plays (entries_told d b deep draft keeps drafted.actions weights.entries.0.tell);
+          ∙ subst (λ (plays : List PlayRow). counted (played_weight (at d.bounds) plays) ≡ counted (bound (plan_of draft)))
+          drafted.plays (entries_told d b deep draft keeps drafted.actions weights.entries.0.tell);
     }
 
 -- ---- the law
@@ -117,20 +122,25 @@ module _ (names : List (List ℕ)) (lines : List Line) (lead : lead_to_top secti
 
   -- what is declared when the play line comes, which stands at the top
   comes_at_top : settled (declared_after names (nothing_yet names) lines) (form.Play action who) ≡ at_last
-  comes_at_top = ap (λ (b : Block). record { declared = last; block = settled_block false b }) (ends_at_top names section.Top (nothing_yet names) lines lead tt)
+  comes_at_top =
+      ap (λ (b : Block). record { declared = last; block = settled_block false b })
+      (ends_at_top names section.Top (nothing_yet names) lines lead tt)
 
-  sized_last : IsDraftOf names (declared_with names last (form.Play action who)) draft → HasNoneBelow at_last (form.Play action who) 19 → AreSizesOf last action draft
+  sized_last : IsDraftOf names (declared_with names last (form.Play action who)) draft → HasNoneBelow at_last (form.Play action who) 19
+      → AreSizesOf last action draft
   sized_last drafted none =
       let play = form.Play action who in
       let without = drafted_without names last action who draft drafted in
       let some = without_play last draft in
       sized names last action who draft drafted (declared_after names (nothing_yet names) lines).block
-      (counts names lines sound accepted some without) (shallow names lines sound accepted some without) (weighed names lines sound accepted some without) (keeps_parts names lines sound accepted some without)
+      (counts names lines sound accepted some without) (shallow names lines sound accepted some without)
+      (weighed names lines sound accepted some without) (keeps_parts names lines sound accepted some without)
       (false_from_ne_true (unknown_at_top last play) (λ h. none cause.Unknown (omega arith) h))
       (false_from_ne_true (unfilled_at_top last play) (λ h. none cause.RoleUnfilled (omega arith) h))
       (false_from_ne_true (filled_twice_at_top play) (λ h. none cause.RoleTwice (omega arith) h))
 
-  sized_at : (s : SoFar) → s ≡ at_last → HasNoneBelow s (form.Play action who) 19 → IsDraftOf names (with_said names s (form.Play action who)).declared draft → AreSizesOf s.declared action draft
+  sized_at : (s : SoFar) → s ≡ at_last → HasNoneBelow s (form.Play action who) 19
+      → IsDraftOf names (with_said names s (form.Play action who)).declared draft → AreSizesOf s.declared action draft
   sized_at s e lesser drafted =
       subst (λ (t : SoFar). AreSizesOf t.declared action draft) (sym e)
       (sized_last (subst (λ (t : SoFar). IsDraftOf names (with_said names t (form.Play action who)).declared draft) e drafted)
@@ -138,7 +148,11 @@ module _ (names : List (List ℕ)) (lines : List Line) (lead : lead_to_top secti
 
 pub counts_unfolding : (script : Script) → AreScript script.names (forms_of script.lines) → CountsUnfolding script
 counts_unfolding script is s action who comes draft drafted =
-    let lead = leads_before section.Top comes.before comes.line comes.rest action who comes.play (subst (λ (lines : List Line). lead_to_top section.Top (forms_of lines) ≡ true) comes.place is.lead) in
-    let sound = sound_before script.names comes.before comes.line comes.rest (subst (λ (lines : List Line). list_all (is_sound script.names) (forms_of lines) ≡ true) comes.place is.sound) in
+    let lead =
+    leads_before section.Top comes.before comes.line comes.rest action who comes.play
+    (subst (λ (lines : List Line). lead_to_top section.Top (forms_of lines) ≡ true) comes.place is.lead) in
+    let sound =
+    sound_before script.names comes.before comes.line comes.rest
+    (subst (λ (lines : List Line). list_all (is_sound script.names) (forms_of lines) ≡ true) comes.place is.sound) in
     sized_at script.names comes.before lead sound comes.accepted action who draft s
     (comes.declared ∙ comes_at_top script.names comes.before lead sound comes.accepted action who draft) comes.lesser drafted

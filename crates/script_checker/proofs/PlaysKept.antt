@@ -27,19 +27,22 @@ use Rattle.script_checker.proofs.NestTests.{neither, eqb_turn, differ_mapped, be
 -- by so many participants, and these actions
 abbrev pub play_right : ℕ → List ActionRow → PlayRow → Bool
 play_right participants actions play =
-    nat_lt play.action (length actions) && (all_below participants play.who && ((length play.who == length (slice_index_or actions play.action no_action).roles) && all_differ play.who))
+    nat_lt play.action (length actions) &&
+    (all_below participants play.who && ((length play.who == length (slice_index_or actions play.action no_action).roles) && all_differ play.who))
 
 abbrev pub PlaysRight : Declared → Block → Type 0
 PlaysRight d b = list_all (play_right (length d.participants) d.actions) d.plays ≡ true
 
 -- one participant more, or one action more
-more_participants : (m n : ℕ) (actions : List ActionRow) → m < n → (play : PlayRow) → play_right m actions play ≡ true → play_right n actions play ≡ true
+more_participants : (m n : ℕ) (actions : List ActionRow) → m < n → (play : PlayRow) → play_right m actions play ≡ true
+    → play_right n actions play ≡ true
 more_participants m n actions l play h =
     let p = and_parts (nat_lt play.action (length actions)) _ h in
     let q = and_parts (all_below m play.who) _ p.1 in
     and_from _ _ p.0 (and_from _ _ (below_more m n play.who l q.0) q.1)
 
-more_actions : (n : ℕ) (actions : List ActionRow) (action : ActionRow) (play : PlayRow) → play_right n actions play ≡ true → play_right n (actions ++ action ∷ []) play ≡ true
+more_actions : (n : ℕ) (actions : List ActionRow) (action : ActionRow) (play : PlayRow) → play_right n actions play ≡ true
+    → play_right n (actions ++ action ∷ []) play ≡ true
 more_actions n actions action play h =
     let p = and_parts (nat_lt play.action (length actions)) _ h in
     let q = and_parts (all_below n play.who) _ p.1 in
@@ -49,19 +52,24 @@ more_actions n actions action play h =
 
 module _ (names : List (List ℕ)) (d : Declared) where
   -- one play more, whatever its sizes are
-  pub said_play : (action : ℕ) (who : List ℕ) → unknown_at_top d (form.Play action who) ≡ false → unfilled_at_top d (form.Play action who) ≡ false → filled_twice_at_top (form.Play action who) ≡ false → play_right (length d.participants) d.actions (play_row d action who) ≡ true
+  pub said_play : (action : ℕ) (who : List ℕ) → unknown_at_top d (form.Play action who) ≡ false
+      → unfilled_at_top d (form.Play action who) ≡ false → filled_twice_at_top (form.Play action who) ≡ false
+      → play_right (length d.participants) d.actions (play_row d action who) ≡ true
   said_play action who here full apart =
       let k = neither (is_action d action) (list_all (is_among d.participants) who) here in
-      let different : all_differ (map (λ p. index_of p d.participants) who) ≡ true = differ_mapped d.participants who (not-false _ apart) k.1 in
+      let different : all_differ (map (λ p. index_of p d.participants) who) ≡ true =
+      differ_mapped d.participants who (not-false _ apart) k.1 in
       let f : (length (map (λ p. index_of p d.participants) who) == length (action_of d action).roles) ≡ true =
       rw length-map (eqb_turn (length (action_of d action).roles) (length who) (not-false _ full)) in
-      let b : all_below (length d.participants) (map (λ p. index_of p d.participants) who) ≡ true = numbers_below d.participants who (length d.participants) k.1 (omega arith) in
+      let b : all_below (length d.participants) (map (λ p. index_of p d.participants) who) ≡ true =
+      numbers_below d.participants who (length d.participants) k.1 (omega arith) in
       and_from _ _ k.0 (and_from _ _ b (and_from _ _ f different))
 
   says_plays : (f : Form) → NoneAtTop d f → PlaysRight d block.Top → PlaysRight (declared_with names d f) block.Top
   says_plays (form.Participant name) none h =
       let n : length (d.participants ++ name ∷ []) ≡ length d.participants + 1 = length-append d.participants (name ∷ []) in
-      all_imply (play_right (length d.participants) d.actions) (play_right (length (d.participants ++ name ∷ [])) d.actions) d.plays (more_participants (length d.participants) _ d.actions (omega arith)) h
+      all_imply (play_right (length d.participants) d.actions) (play_right (length (d.participants ++ name ∷ [])) d.actions) d.plays
+      (more_participants (length d.participants) _ d.actions (omega arith)) h
   says_plays (form.Play action who) none h =
       all_push (play_right (length d.participants) d.actions) d.plays _ h
       (said_play action who (known_at_top d (form.Play action who) none) (filled_at_top d (form.Play action who) none) (differing_at_top d (form.Play action who) none))
@@ -69,7 +77,8 @@ module _ (names : List (List ℕ)) (d : Declared) where
 
   ends_plays : (b : Block) → PlaysRight d b → PlaysRight (ended names d b) block.Top
   ends_plays (block.Action a) h =
-      all_imply (play_right (length d.participants) d.actions) (play_right (length d.participants) (d.actions ++ row_of names a ∷ [])) d.plays (more_actions (length d.participants) d.actions (row_of names a)) h
+      all_imply (play_right (length d.participants) d.actions) (play_right (length d.participants) (d.actions ++ row_of names a ∷ []))
+      d.plays (more_actions (length d.participants) d.actions (row_of names a)) h
   ends_plays block.Top h = h
   ends_plays (block.Graph g) h = h
 

@@ -104,27 +104,38 @@ OpenRight d a = (c : Counts) → Enough c d a → PartsRight c a
 
 -- ---- programs
 
-program_right : (c : Counts) (exception : Option ℕ) (program : Program) → handled_in_range c.internal exception ≡ true → program_in_range c.objects c.internal c.interface program ≡ true → (row : RoleRow) → role_in_range c.objects c.internal c.interface row ≡ true → role_in_range c.objects c.internal c.interface (with_program row exception program) ≡ true
+program_right : (c : Counts) (exception : Option ℕ) (program : Program) → handled_in_range c.internal exception ≡ true
+    → program_in_range c.objects c.internal c.interface program ≡ true → (row : RoleRow)
+    → role_in_range c.objects c.internal c.interface row ≡ true
+    → role_in_range c.objects c.internal c.interface (with_program row exception program) ≡ true
 program_right c None program e p row h = and_from _ _ p (and_parts (program_in_range c.objects c.internal c.interface row.body) _ h).1
 program_right c (Some x) program e p row h =
     let parts = and_parts (program_in_range c.objects c.internal c.interface row.body) _ h in
-    let more = and_parts (list_all (handler_in_range c.objects c.internal c.interface) row.handlers) (abort_in_range c.interface row.abort) parts.1 in
-    and_from _ _ parts.0 (and_from _ _ (all_push (handler_in_range c.objects c.internal c.interface) row.handlers (record { exception = x; program = program }) more.0 (and_from _ _ e p)) more.1)
+    let more =
+    and_parts (list_all (handler_in_range c.objects c.internal c.interface) row.handlers) (abort_in_range c.interface row.abort)
+    parts.1 in
+    and_from _ _ parts.0
+    (and_from _ _ (all_push (handler_in_range c.objects c.internal c.interface) row.handlers (record { exception = x; program = program }) more.0 (and_from _ _ e p)) more.1)
 
-closed_parts : (c : Counts) (a : OpenAction) (v : Verdict) (o : Option OpenProgram) → a.program ≡ o → verdict_in_range c.interface v ≡ true → PartsRight c a → PartsRight c (closed_if a o v)
+closed_parts : (c : Counts) (a : OpenAction) (v : Verdict) (o : Option OpenProgram) → a.program ≡ o → verdict_in_range c.interface v ≡ true
+    → PartsRight c a → PartsRight c (closed_if a o v)
 closed_parts c a v None e w k = k
 closed_parts c a v (Some p) e w k =
     let program : Program = record { steps = p.steps; verdict = v } in
-    let handled : handled_in_range c.internal p.exception ≡ true = subst (λ (o : Option OpenProgram). opening_in_range c.internal o ≡ true) e k.1 in
-    let steps : list_all (step_in_range c.objects c.internal) p.steps ≡ true = subst (λ (o : Option OpenProgram). list_all (step_in_range c.objects c.internal) (steps_of o) ≡ true) e k.0 in
+    let handled : handled_in_range c.internal p.exception ≡ true =
+    subst (λ (o : Option OpenProgram). opening_in_range c.internal o ≡ true) e k.1 in
+    let steps : list_all (step_in_range c.objects c.internal) p.steps ≡ true =
+    subst (λ (o : Option OpenProgram). list_all (step_in_range c.objects c.internal) (steps_of o) ≡ true) e k.0 in
     (refl, refl, k.2, k.3, all_change (role_in_range c.objects c.internal c.interface) (λ (row : RoleRow). with_program row p.exception program) a.role_rows p.role no_role (program_right c p.exception program handled (and_from _ _ steps w)) k.4, k.5)
 
 -- where it is closed, there is as much as before
-closed_enough : (c : Counts) (d : Declared) (a : OpenAction) (v : Verdict) (o : Option OpenProgram) → Enough c d (closed_if a o v) → Enough c d a
+closed_enough : (c : Counts) (d : Declared) (a : OpenAction) (v : Verdict) (o : Option OpenProgram) → Enough c d (closed_if a o v)
+    → Enough c d a
 closed_enough c d a v None b = b
 closed_enough c d a v (Some p) b = b
 
-closed_right : (d : Declared) (a : OpenAction) (v : Verdict) → ((c : Counts) → Enough c d a → verdict_in_range c.interface v ≡ true) → OpenRight d a → OpenRight d (closed_if a a.program v)
+closed_right : (d : Declared) (a : OpenAction) (v : Verdict) → ((c : Counts) → Enough c d a → verdict_in_range c.interface v ≡ true)
+    → OpenRight d a → OpenRight d (closed_if a a.program v)
 closed_right d a v w h = λ c b.
     let k = closed_enough c d a v a.program b in
     closed_parts c a v a.program refl (w c k) (h c k)
@@ -150,36 +161,44 @@ nest_parts c row h =
     record { actions_right = p.0; roles_right = q.0; maps_right = m.0; undo_right = l.0; failure_right = l.1 }
 
 nest_from : (c : Counts) (row : NestRow) → NestParts c row → NestRight c row
-nest_from c row p = and_from _ _ p.actions_right (and_from _ _ p.roles_right (and_from _ _ p.maps_right (and_from _ _ p.undo_right p.failure_right)))
+nest_from c row p =
+    and_from _ _ p.actions_right (and_from _ _ p.roles_right (and_from _ _ p.maps_right (and_from _ _ p.undo_right p.failure_right)))
 
 mapped_right : (c : Counts) (row : NestRow) (i x : ℕ) → nat_lt x c.internal ≡ true → NestRight c row → NestRight c (record row { maps = slice_set row.maps i x })
 mapped_right c row i x l h =
     let p = nest_parts c row h in
-    nest_from c (record row { maps = slice_set row.maps i x }) (record { actions_right = p.actions_right; roles_right = p.roles_right; maps_right = all_set (λ n. nat_lt n c.internal) row.maps i 0 x (λ k. l) p.maps_right; undo_right = p.undo_right; failure_right = p.failure_right })
+    nest_from c (record row { maps = slice_set row.maps i x })
+    (record { actions_right = p.actions_right; roles_right = p.roles_right; maps_right = all_set (λ n. nat_lt n c.internal) row.maps i 0 x (λ k. l) p.maps_right; undo_right = p.undo_right; failure_right = p.failure_right })
 
 undone_right : (c : Counts) (row : NestRow) (x : ℕ) → nat_lt x c.internal ≡ true → NestRight c row → NestRight c (record row { undo = x })
 undone_right c row x l h =
     let p = nest_parts c row h in
-    nest_from c (record row { undo = x }) (record { actions_right = p.actions_right; roles_right = p.roles_right; maps_right = p.maps_right; undo_right = l; failure_right = p.failure_right })
+    nest_from c (record row { undo = x })
+    (record { actions_right = p.actions_right; roles_right = p.roles_right; maps_right = p.maps_right; undo_right = l; failure_right = p.failure_right })
 
 failed_right : (c : Counts) (row : NestRow) (x : ℕ) → nat_lt x c.internal ≡ true → NestRight c row → NestRight c (record row { failure = x })
 failed_right c row x l h =
     let p = nest_parts c row h in
-    nest_from c (record row { failure = x }) (record { actions_right = p.actions_right; roles_right = p.roles_right; maps_right = p.maps_right; undo_right = p.undo_right; failure_right = l })
+    nest_from c (record row { failure = x })
+    (record { actions_right = p.actions_right; roles_right = p.roles_right; maps_right = p.maps_right; undo_right = p.undo_right; failure_right = l })
 
 alternated_right : (c : Counts) (row : NestRow) (a : ℕ) → nat_lt a c.actions ≡ true → NestRight c row → NestRight c (record row { actions = row.actions ++ a ∷ [] })
 alternated_right c row a l h =
     let p = nest_parts c row h in
-    nest_from c (record row { actions = row.actions ++ a ∷ [] }) (record { actions_right = all_push (λ n. nat_lt n c.actions) row.actions a p.actions_right l; roles_right = p.roles_right; maps_right = p.maps_right; undo_right = p.undo_right; failure_right = p.failure_right })
+    nest_from c (record row { actions = row.actions ++ a ∷ [] })
+    (record { actions_right = all_push (λ n. nat_lt n c.actions) row.actions a p.actions_right l; roles_right = p.roles_right; maps_right = p.maps_right; undo_right = p.undo_right; failure_right = p.failure_right })
 
 -- ---- lines that change a part
 
 -- one step more
-steps_more : (c : Counts) (o : Option OpenProgram) (x : Step) → step_in_range c.objects c.internal x ≡ true → list_all (step_in_range c.objects c.internal) (steps_of o) ≡ true → list_all (step_in_range c.objects c.internal) (steps_of (with_step o (Some x))) ≡ true
+steps_more : (c : Counts) (o : Option OpenProgram) (x : Step) → step_in_range c.objects c.internal x ≡ true
+    → list_all (step_in_range c.objects c.internal) (steps_of o) ≡ true
+    → list_all (step_in_range c.objects c.internal) (steps_of (with_step o (Some x))) ≡ true
 steps_more c None x m h = h
 steps_more c (Some p) x m h = all_push (step_in_range c.objects c.internal) p.steps x h m
 
-same_opening : (internal : ℕ) (o : Option OpenProgram) (x : Step) → opening_in_range internal o ≡ true → opening_in_range internal (with_step o (Some x)) ≡ true
+same_opening : (internal : ℕ) (o : Option OpenProgram) (x : Step) → opening_in_range internal o ≡ true
+    → opening_in_range internal (with_step o (Some x)) ≡ true
 same_opening internal None x h = h
 same_opening internal (Some p) x h = h
 
@@ -196,24 +215,29 @@ module _ (d : Declared) (a : OpenAction) (h : OpenRight d a) where
       (rw e refl, right c b, k.2, k.3, k.4, k.5)
 
   -- the exceptions that a role tells outside when it is aborted
-  abort_said : (role : ℕ) (row : AbortRow) → ((c : Counts) → Enough c d a → abort_in_range c.interface row ≡ true) → OpenRight d (with_abort a role row)
+  abort_said : (role : ℕ) (row : AbortRow) → ((c : Counts) → Enough c d a → abort_in_range c.interface row ≡ true)
+      → OpenRight d (with_abort a role row)
   abort_said role row right = λ c b.
       let k = h c b in (
         k.0,
         k.1,
         k.2,
         k.3,
-        all_change (role_in_range c.objects c.internal c.interface) (λ (r : RoleRow). record r { abort = row }) a.role_rows (index_of role a.roles) no_role
+        all_change (role_in_range c.objects c.internal c.interface) (λ (r : RoleRow). record r { abort = row }) a.role_rows
+            (index_of role a.roles) no_role
             (λ r m.
             let p = and_parts (program_in_range c.objects c.internal c.interface r.body) _ m in
-            let q = and_parts (list_all (handler_in_range c.objects c.internal c.interface) r.handlers) (abort_in_range c.interface r.abort) p.1 in
+            let q =
+            and_parts (list_all (handler_in_range c.objects c.internal c.interface) r.handlers) (abort_in_range c.interface r.abort)
+            p.1 in
             and_from _ _ p.0 (and_from _ _ q.0 (right c b)))
             k.4,
         k.5,
       )
 
   -- a nested use changes
-  nest_changes : (name : ℕ) (nest : OpenNest) → ((c : Counts) → Enough c d a → NestRight c (nest_of a name).row → NestRight c nest.row) → OpenRight d (with_nest a name nest)
+  nest_changes : (name : ℕ) (nest : OpenNest) → ((c : Counts) → Enough c d a → NestRight c (nest_of a name).row → NestRight c nest.row)
+      → OpenRight d (with_nest a name nest)
   nest_changes name nest keeps = λ c b.
       let k = h c b in
       (k.0, k.1, k.2, k.3, k.4, all_set (λ (nest : OpenNest). nest_in_range c.actions c.roles c.internal nest.row) a.nests (index_of name a.nest_names) (begun_nest no_nest) nest (keeps c b) k.5)
@@ -221,7 +245,8 @@ module _ (d : Declared) (a : OpenAction) (h : OpenRight d a) where
 -- ---- exceptions of graphs
 
 -- one more graph takes no exception from a graph
-grown : (graphs : List DeclaredGraph) (more : DeclaredGraph) (g : ℕ) → length (exceptions_at graphs g) ≤ length (exceptions_at (graphs ++ more ∷ []) g)
+grown : (graphs : List DeclaredGraph) (more : DeclaredGraph) (g : ℕ)
+    → length (exceptions_at graphs g) ≤ length (exceptions_at (graphs ++ more ∷ []) g)
 grown [] more g = omega arith
 grown (graph ∷ graphs) more zero = omega arith
 grown (graph ∷ graphs) more (suc g) = grown graphs more g
@@ -235,7 +260,8 @@ not_some None e = refl
 not_some (Some x) e = absurd (false≢true (sym e))
 
 -- a graph that is said in place of the plain one has no fewer exceptions
-said_graph : (graphs : List DeclaredGraph) (old : Option ℕ) (g : ℕ) → first_alone graphs ≡ true → list_all has_exception graphs ≡ true → is_some old ≡ false → g < length graphs → length (exceptions_at graphs (unwrap_or old 0)) ≤ length (exceptions_at graphs g)
+said_graph : (graphs : List DeclaredGraph) (old : Option ℕ) (g : ℕ) → first_alone graphs ≡ true → list_all has_exception graphs ≡ true
+    → is_some old ≡ false → g < length graphs → length (exceptions_at graphs (unwrap_or old 0)) ≤ length (exceptions_at graphs g)
 said_graph graphs old g plain filled e l =
     let one = plain_one graphs plain in
     let some = some_exception graphs g filled l in
@@ -247,13 +273,19 @@ said_graph graphs old g plain filled e l =
 module _ (names : List (List ℕ)) (d : Declared) (a : OpenAction) (now : GraphsThere d (block.Action a)) (h : OpenRight d a) where
   says_open : (f : Form) → is_sound names f ≡ true → NoneInAction d a f → OpenRight d (action_with names d a f)
   says_open (form.Internal graph) sound none = λ c b.
-      let few = said_graph d.graphs a.internal (graph_number d graph) now.plain now.filled (once d a (form.Internal graph) none) (named_there names d a graph (not-false _ (known d a (form.Internal graph) none)) now) in
+      let few =
+      said_graph d.graphs a.internal (graph_number d graph) now.plain now.filled (once d a (form.Internal graph) none)
+      (named_there names d a graph (not-false _ (known d a (form.Internal graph) none)) now) in
       let m : length (exceptions_at d.graphs (graph_number d graph)) ≤ c.internal = b.of_inner in
-      h c (record { of_objects = b.of_objects; of_actions = b.of_actions; of_roles = b.of_roles; of_inner = omega arith; of_outer = b.of_outer })
+      h c
+      (record { of_objects = b.of_objects; of_actions = b.of_actions; of_roles = b.of_roles; of_inner = omega arith; of_outer = b.of_outer })
   says_open (form.Interface graph) sound none = λ c b.
-      let few = said_graph d.graphs a.interface (graph_number d graph) now.plain now.filled (once d a (form.Interface graph) none) (named_there names d a graph (not-false _ (known d a (form.Interface graph) none)) now) in
+      let few =
+      said_graph d.graphs a.interface (graph_number d graph) now.plain now.filled (once d a (form.Interface graph) none)
+      (named_there names d a graph (not-false _ (known d a (form.Interface graph) none)) now) in
       let m : length (exceptions_at d.graphs (graph_number d graph)) ≤ c.interface = b.of_outer in
-      h c (record { of_objects = b.of_objects; of_actions = b.of_actions; of_roles = b.of_roles; of_inner = b.of_inner; of_outer = omega arith })
+      h c
+      (record { of_objects = b.of_objects; of_actions = b.of_actions; of_roles = b.of_roles; of_inner = b.of_inner; of_outer = omega arith })
   says_open (form.Fault x) sound none = λ c b.
       let k = h c b in
       (k.0, k.1, k.2, still_below (index_of x (inner d a)) (length (inner d a)) c.internal (not-false _ (known d a (form.Fault x) none)) b.of_inner, k.4, k.5)
@@ -262,9 +294,13 @@ module _ (names : List (List ℕ)) (d : Declared) (a : OpenAction) (now : Graphs
       let m : length d.objects ≤ c.objects = b.of_objects in
       (k.0, k.1, and_from _ _ (rises 0 objects d.objects) (chosen_below 0 c.objects objects d.objects (omega arith)), k.3, k.4, k.5)
   says_open (form.Roles roles) sound none = λ c b.
-      let e = empty_is a.roles (not-false _ (or_parts (not (is_empty a.roles)) (not (all_differ roles)) (once d a (form.Roles roles) none)).0) in
+      let e =
+      empty_is a.roles
+      (not-false _ (or_parts (not (is_empty a.roles)) (not (all_differ roles)) (once d a (form.Roles roles) none)).0) in
       let few : length a.roles ≤ c.roles = rw e (omega arith) in
-      let k = h c (record { of_objects = b.of_objects; of_actions = b.of_actions; of_roles = few; of_inner = b.of_inner; of_outer = b.of_outer }) in
+      let k =
+      h c
+      (record { of_objects = b.of_objects; of_actions = b.of_actions; of_roles = few; of_inner = b.of_inner; of_outer = b.of_outer }) in
       (k.0, k.1, k.2, k.3, all_mapped (role_in_range c.objects c.internal c.interface) (idle_role names) roles (λ name. refl), k.5)
   says_open (form.Nest nest action roles) sound none = λ c b.
       let k = h c b in
@@ -281,53 +317,68 @@ module _ (names : List (List ℕ)) (d : Declared) (a : OpenAction) (now : Graphs
             (and_from _ _ (numbers_below a.roles roles c.roles among.1 b.of_roles) (and_from _ _ (zeros_below _ c.internal one) (and_from _ _ one one)))),
       )
   says_open (form.Map nest lower upper) sound none =
-      let among = (neither (is_among (face d a nest) lower) (is_among (inner d a) upper) (or_parts (not (is_among a.nest_names nest)) _ (known d a (form.Map nest lower upper) none)).1).1 in
-      nest_changes d a h nest _ (λ c b. mapped_right c (nest_of a nest).row (index_of lower (face d a nest)) (index_of upper (inner d a)) (still_below (index_of upper (inner d a)) (length (inner d a)) c.internal among b.of_inner))
+      let among =
+      (neither (is_among (face d a nest) lower) (is_among (inner d a) upper) (or_parts (not (is_among a.nest_names nest)) _ (known d a (form.Map nest lower upper) none)).1).1 in
+      nest_changes d a h nest _
+      (λ c b. mapped_right c (nest_of a nest).row (index_of lower (face d a nest)) (index_of upper (inner d a)) (still_below (index_of upper (inner d a)) (length (inner d a)) c.internal among b.of_inner))
   says_open (form.MapUndo nest x) sound none =
       let among = (neither (is_among a.nest_names nest) (is_among (inner d a) x) (known d a (form.MapUndo nest x) none)).1 in
-      nest_changes d a h nest _ (λ c b. undone_right c (nest_of a nest).row (index_of x (inner d a)) (still_below (index_of x (inner d a)) (length (inner d a)) c.internal among b.of_inner))
+      nest_changes d a h nest _
+      (λ c b. undone_right c (nest_of a nest).row (index_of x (inner d a)) (still_below (index_of x (inner d a)) (length (inner d a)) c.internal among b.of_inner))
   says_open (form.MapFailure nest x) sound none =
       let among = (neither (is_among a.nest_names nest) (is_among (inner d a) x) (known d a (form.MapFailure nest x) none)).1 in
-      nest_changes d a h nest _ (λ c b. failed_right c (nest_of a nest).row (index_of x (inner d a)) (still_below (index_of x (inner d a)) (length (inner d a)) c.internal among b.of_inner))
+      nest_changes d a h nest _
+      (λ c b. failed_right c (nest_of a nest).row (index_of x (inner d a)) (still_below (index_of x (inner d a)) (length (inner d a)) c.internal among b.of_inner))
   says_open (form.Alternate nest action) sound none =
       let among = (neither (is_among a.nest_names nest) (is_action d action) (known d a (form.Alternate nest action) none)).1 in
-      nest_changes d a h nest _ (λ c b. alternated_right c (nest_of a nest).row (index_of action d.action_names) (still_below (index_of action d.action_names) (length d.actions) c.actions among b.of_actions))
+      nest_changes d a h nest _
+      (λ c b. alternated_right c (nest_of a nest).row (index_of action d.action_names) (still_below (index_of action d.action_names) (length d.actions) c.actions among b.of_actions))
   says_open (form.Abort role x) sound none =
       let among = (neither (is_among a.roles role) (is_among (outer d a) x) (known d a (form.Abort role x) none)).1 in
-      abort_said d a h role (abort.Always (index_of x (outer d a))) (λ c b. still_below (index_of x (outer d a)) (length (outer d a)) c.interface among b.of_outer)
+      abort_said d a h role (abort.Always (index_of x (outer d a)))
+      (λ c b. still_below (index_of x (outer d a)) (length (outer d a)) c.interface among b.of_outer)
   says_open (form.AbortTest role t v x) sound none =
       let among = (neither (is_among a.roles role) (is_among (outer d a) x) (known d a (form.AbortTest role t v x) none)).1 in
       let w = value_second _ v _ (parts_sound names (form.AbortTest role t v x) sound) in
-      abort_said d a h role (abort.Where t v (index_of x (outer d a))) (λ c b. and_from _ _ w (still_below (index_of x (outer d a)) (length (outer d a)) c.interface among b.of_outer))
-  says_open (form.Body role) sound none = opened d a h (begun_program (index_of role a.roles) None) (a.bodies ++ index_of role a.roles ∷ []) refl (λ c b. refl)
+      abort_said d a h role (abort.Where t v (index_of x (outer d a)))
+      (λ c b. and_from _ _ w (still_below (index_of x (outer d a)) (length (outer d a)) c.interface among b.of_outer))
+  says_open (form.Body role) sound none =
+      opened d a h (begun_program (index_of role a.roles) None) (a.bodies ++ index_of role a.roles ∷ []) refl (λ c b. refl)
   says_open (form.Handler role x) sound none =
       let among = (neither (is_among a.roles role) (is_among (inner d a) x) (known d a (form.Handler role x) none)).1 in
-      opened d a h (begun_program (index_of role a.roles) (Some (index_of x (inner d a)))) a.bodies refl (λ c b. still_below (index_of x (inner d a)) (length (inner d a)) c.internal among b.of_inner)
+      opened d a h (begun_program (index_of role a.roles) (Some (index_of x (inner d a)))) a.bodies refl
+      (λ c b. still_below (index_of x (inner d a)) (length (inner d a)) c.internal among b.of_inner)
   says_open (form.ReadStep object) sound none =
       let among = not-false _ (known d a (form.ReadStep object) none) in
-      step_more d a h (step.Read (index_of object d.objects)) (λ c b. still_below (index_of object d.objects) (length d.objects) c.objects among b.of_objects)
+      step_more d a h (step.Read (index_of object d.objects))
+      (λ c b. still_below (index_of object d.objects) (length d.objects) c.objects among b.of_objects)
   says_open (form.PutStep object v) sound none =
       let among = not-false _ (known d a (form.PutStep object v) none) in
       let w = value_second _ v _ (parts_sound names (form.PutStep object v) sound) in
-      step_more d a h (step.Put (index_of object d.objects) v) (λ c b. and_from _ _ (still_below (index_of object d.objects) (length d.objects) c.objects among b.of_objects) w)
+      step_more d a h (step.Put (index_of object d.objects) v)
+      (λ c b. and_from _ _ (still_below (index_of object d.objects) (length d.objects) c.objects among b.of_objects) w)
   says_open (form.AddStep object v) sound none =
       let among = not-false _ (known d a (form.AddStep object v) none) in
       let w = value_second _ v _ (parts_sound names (form.AddStep object v) sound) in
-      step_more d a h (step.Add (index_of object d.objects) v) (λ c b. and_from _ _ (still_below (index_of object d.objects) (length d.objects) c.objects among b.of_objects) w)
+      step_more d a h (step.Add (index_of object d.objects) v)
+      (λ c b. and_from _ _ (still_below (index_of object d.objects) (length d.objects) c.objects among b.of_objects) w)
   says_open (form.WorkStep k) sound none =
       step_more d a h (step.Work k) (λ c b. rounds_alone k (parts_sound names (form.WorkStep k) sound))
   says_open (form.CheckStep t v x) sound none =
       let among = not-false _ (known d a (form.CheckStep t v x) none) in
       let w = value_first v _ (parts_sound names (form.CheckStep t v x) sound) in
-      step_more d a h (step.Check t v (index_of x (inner d a))) (λ c b. and_from _ _ w (still_below (index_of x (inner d a)) (length (inner d a)) c.internal among b.of_inner))
+      step_more d a h (step.Check t v (index_of x (inner d a)))
+      (λ c b. and_from _ _ w (still_below (index_of x (inner d a)) (length (inner d a)) c.internal among b.of_inner))
   says_open (form.RaiseStep x) sound none =
       let among = not-false _ (known d a (form.RaiseStep x) none) in
-      step_more d a h (step.Raise (index_of x (inner d a))) (λ c b. still_below (index_of x (inner d a)) (length (inner d a)) c.internal among b.of_inner)
+      step_more d a h (step.Raise (index_of x (inner d a)))
+      (λ c b. still_below (index_of x (inner d a)) (length (inner d a)) c.internal among b.of_inner)
   says_open (form.EnterStep nest) sound none = step_more d a h (step.Enter (index_of nest a.nest_names)) (λ c b. refl)
   says_open form.DoneLine sound none = closed_right d a verdict.Done (λ c b. refl) h
   says_open (form.SignalLine x) sound none =
       let among = not-false _ (known d a (form.SignalLine x) none) in
-      closed_right d a (verdict.Signal (index_of x (outer d a))) (λ c b. still_below (index_of x (outer d a)) (length (outer d a)) c.interface among b.of_outer) h
+      closed_right d a (verdict.Signal (index_of x (outer d a)))
+      (λ c b. still_below (index_of x (outer d a)) (length (outer d a)) c.interface among b.of_outer) h
   says_open form.UndoLine sound none = closed_right d a verdict.Undo (λ c b. refl) h
   says_open f sound none = h
 
@@ -342,19 +393,26 @@ action_right objects actions graphs count action =
 
 -- their numbers are in range, however much is declared later
 abbrev pub EndedRight : Declared → Type 0
-EndedRight d = (objects actions graphs : ℕ) (count : ℕ → ℕ) → length d.objects ≤ objects → length d.actions ≤ actions → length d.graphs ≤ graphs → ((g : ℕ) → length (exceptions_at d.graphs g) ≤ count g) → list_all (action_right objects actions graphs count) d.actions ≡ true
+EndedRight d =
+    (objects actions graphs : ℕ) (count : ℕ → ℕ) → length d.objects ≤ objects → length d.actions ≤ actions → length d.graphs ≤ graphs →
+    ((g : ℕ) → length (exceptions_at d.graphs g) ≤ count g) → list_all (action_right objects actions graphs count) d.actions ≡ true
 
 abbrev RightIn : Declared → Block → Type 0
 RightIn d (block.Action a) = OpenRight d a
 RightIn d b = Unit {0}
 
 module _ (names : List (List ℕ)) (d : Declared) where
-  ended_row : (a : OpenAction) → GraphsThere d (block.Action a) → length a.role_rows ≡ length a.roles → OpenRight d a → (objects actions graphs : ℕ) (count : ℕ → ℕ) → length d.objects ≤ objects → length d.actions ≤ actions → length d.graphs ≤ graphs → ((g : ℕ) → length (exceptions_at d.graphs g) ≤ count g) → action_right objects actions graphs count (row_of names a) ≡ true
+  ended_row : (a : OpenAction) → GraphsThere d (block.Action a) → length a.role_rows ≡ length a.roles → OpenRight d a
+      → (objects actions graphs : ℕ) (count : ℕ → ℕ) → length d.objects ≤ objects → length d.actions ≤ actions → length d.graphs ≤ graphs
+      → ((g : ℕ) → length (exceptions_at d.graphs g) ≤ count g) → action_right objects actions graphs count (row_of names a) ≡ true
   ended_row a there all_roles here objects actions graphs count lo la lg lc =
       let inside = unwrap_or a.internal 0 in
       let outside = unwrap_or a.interface 0 in
-      let c : Counts = record { objects = objects; actions = actions; roles = length a.role_rows; internal = count inside; interface = count outside } in
-      let k = here c (record { of_objects = lo; of_actions = la; of_roles = omega (arith, all_roles); of_inner = lc inside; of_outer = lc outside }) in
+      let c : Counts =
+      record { objects = objects; actions = actions; roles = length a.role_rows; internal = count inside; interface = count outside } in
+      let k =
+      here c
+      (record { of_objects = lo; of_actions = la; of_roles = omega (arith, all_roles); of_inner = lc inside; of_outer = lc outside }) in
       and_from _ _
       (and_from _ _ (lt-ltb inside graphs (omega (arith, there.begun.0))) (and_from _ _ (lt-ltb outside graphs (omega (arith, there.begun.1))) k.3))
       (and_from _ _ k.2 (and_from _ _ k.4 (all_rows (nest_in_range actions (length a.role_rows) (count inside)) a.nests k.5)))
@@ -413,7 +471,8 @@ module _ (names : List (List ℕ)) (d : Declared) where
       let a = not-false _ (known_at_top d (form.Drill object nth) none) in
       record {
         valued = h.valued;
-        drilled = λ many l. all_push (drill_below many) d.drills _ (h.drilled many l) (still_below (index_of object d.objects) (length d.objects) many a l);
+        drilled =
+            λ many l. all_push (drill_below many) d.drills _ (h.drilled many l) (still_below (index_of object d.objects) (length d.objects) many a l);
         watched = h.watched;
       }
   says_outside (form.Watch object) sound none h =
@@ -421,7 +480,8 @@ module _ (names : List (List ℕ)) (d : Declared) where
       record {
         valued = h.valued;
         drilled = h.drilled;
-        watched = λ many l. all_push (λ n. nat_lt n many) d.watches _ (h.watched many l) (still_below (index_of object d.objects) (length d.objects) many a l);
+        watched =
+            λ many l. all_push (λ n. nat_lt n many) d.watches _ (h.watched many l) (still_below (index_of object d.objects) (length d.objects) many a l);
       }
   says_outside f sound none h = h
 
@@ -459,7 +519,8 @@ ranges_kept names =
         ended_right = begins_ended names d f h.ended_right;
         outside_right = says_outside names d f sound none h.outside_right;
       };
-      in_graph = λ d g f sound none h. record { there = there.in_graph d g f sound none h.there; fits = h.fits; open_right = tt; ended_right = h.ended_right; outside_right = h.outside_right };
+      in_graph =
+          λ d g f sound none h. record { there = there.in_graph d g f sound none h.there; fits = h.fits; open_right = tt; ended_right = h.ended_right; outside_right = h.outside_right };
       in_action = λ d a f sound none shut h. record {
         there = there.in_action d a f sound none shut h.there;
         fits = fits.in_action d a f sound none shut h.fits;

@@ -29,7 +29,8 @@ IsAt section.Handler (block.Action a) = Unit {0}
 IsAt at b = ⊥
 
 module _ (names : List (List ℕ)) (d : Declared) where
-  top_at : (f : Form) → stands_in (kind_of f) section.Top ≡ true → IsAt (goes_to (kind_of f) section.Top) (said_in names d block.Top f).block
+  top_at : (f : Form) → stands_in (kind_of f) section.Top ≡ true
+      → IsAt (goes_to (kind_of f) section.Top) (said_in names d block.Top f).block
   top_at (form.Participant name) e = tt
   top_at (form.Object name v) e = tt
   top_at (form.Drill object nth) e = tt
@@ -39,25 +40,30 @@ module _ (names : List (List ℕ)) (d : Declared) where
   top_at (form.Play action who) e = tt
   top_at f e = absurd (false≢true e)
 
-  graph_at : (g : DeclaredGraph) (f : Form) → stands_in (kind_of f) section.Graph ≡ true → IsAt (goes_to (kind_of f) section.Graph) (said_in names d (block.Graph g) f).block
+  graph_at : (g : DeclaredGraph) (f : Form) → stands_in (kind_of f) section.Graph ≡ true
+      → IsAt (goes_to (kind_of f) section.Graph) (said_in names d (block.Graph g) f).block
   graph_at g (form.Exception name) e = tt
   graph_at g (form.Cover upper lower) e = tt
   graph_at g form.End e = tt
   graph_at g f e = absurd (false≢true e)
 
-  action_at : (a : OpenAction) (f : Form) → stands_in (kind_of f) section.Action ≡ true → IsAt (goes_to (kind_of f) section.Action) (said_in names d (block.Action a) f).block
+  action_at : (a : OpenAction) (f : Form) → stands_in (kind_of f) section.Action ≡ true
+      → IsAt (goes_to (kind_of f) section.Action) (said_in names d (block.Action a) f).block
   action_at a (form.Graph name) e = absurd (false≢true e)
   action_at a f e = tt
 
-  body_at : (a : OpenAction) (f : Form) → stands_in (kind_of f) section.Body ≡ true → IsAt (goes_to (kind_of f) section.Body) (said_in names d (block.Action a) f).block
+  body_at : (a : OpenAction) (f : Form) → stands_in (kind_of f) section.Body ≡ true
+      → IsAt (goes_to (kind_of f) section.Body) (said_in names d (block.Action a) f).block
   body_at a (form.Graph name) e = absurd (false≢true e)
   body_at a f e = tt
 
-  handler_at : (a : OpenAction) (f : Form) → stands_in (kind_of f) section.Handler ≡ true → IsAt (goes_to (kind_of f) section.Handler) (said_in names d (block.Action a) f).block
+  handler_at : (a : OpenAction) (f : Form) → stands_in (kind_of f) section.Handler ≡ true
+      → IsAt (goes_to (kind_of f) section.Handler) (said_in names d (block.Action a) f).block
   handler_at a (form.Graph name) e = absurd (false≢true e)
   handler_at a f e = tt
 
-  says_at : (at : Section) (b : Block) (f : Form) → stands_in (kind_of f) at ≡ true → IsAt at b → IsAt (goes_to (kind_of f) at) (said_in names d b f).block
+  says_at : (at : Section) (b : Block) (f : Form) → stands_in (kind_of f) at ≡ true → IsAt at b
+      → IsAt (goes_to (kind_of f) at) (said_in names d b f).block
   says_at section.Top block.Top f e h = top_at f e
   says_at section.Graph (block.Graph g) f e h = graph_at g f e
   says_at section.Action (block.Action a) f e h = action_at a f e
@@ -84,7 +90,8 @@ at_the_top section.Action b e h = absurd (false≢true e)
 at_the_top section.Body b e h = absurd (false≢true e)
 at_the_top section.Handler b e h = absurd (false≢true e)
 
-pub ends_at_top : (names : List (List ℕ)) (at : Section) (s : SoFar) (lines : List Line) → lead_to_top at (forms_of lines) ≡ true → IsAt at s.block → (declared_after names s lines).block ≡ block.Top
+pub ends_at_top : (names : List (List ℕ)) (at : Section) (s : SoFar) (lines : List Line) → lead_to_top at (forms_of lines) ≡ true
+    → IsAt at s.block → (declared_after names s lines).block ≡ block.Top
 ends_at_top names at s [] lead h = at_the_top at s.block lead h
 ends_at_top names at s (line ∷ lines) lead h =
     let l = and_parts (stands_in (kind_of line.form) at) (lead_to_top (goes_to (kind_of line.form) at) (forms_of lines)) lead in

@@ -24,27 +24,38 @@ pub record Taken (names : List (List ℕ)) (lines : List Line) (n : ℕ) (s : So
   pub declared : s ≡ declared_after names (nothing_yet names) (take n lines)
   pub rows : AreRowsOf names s.declared.graphs made
 
-accepted_push : (names : List (List ℕ)) (s : SoFar) (lines : List Line) (line : Line) → AreAccepted names s lines → IsAccepted (declared_after names s lines) line.form → AreAccepted names s (lines ++ line ∷ [])
+accepted_push : (names : List (List ℕ)) (s : SoFar) (lines : List Line) (line : Line) → AreAccepted names s lines
+    → IsAccepted (declared_after names s lines) line.form → AreAccepted names s (lines ++ line ∷ [])
 accepted_push names s [] line h a = (a, tt)
 accepted_push names s (l ∷ lines) line h a = (h.0, accepted_push names (after names s l.form) lines line h.1 a)
 
-declared_push : (names : List (List ℕ)) (s : SoFar) (lines : List Line) (line : Line) → declared_after names s (lines ++ line ∷ []) ≡ after names (declared_after names s lines) line.form
+declared_push : (names : List (List ℕ)) (s : SoFar) (lines : List Line) (line : Line)
+    → declared_after names s (lines ++ line ∷ []) ≡ after names (declared_after names s lines) line.form
 declared_push names s [] line = refl
 declared_push names s (l ∷ lines) line = declared_push names (after names s l.form) lines line
 
 -- one line more
-pub taken_more : (names : List (List ℕ)) (lines : List Line) (n : ℕ) (s t : SoFar) (rows more : List GraphRow) (line : Line) → n < length lines → line ≡ get_or lines n line → Taken names lines n s rows → IsAccepted s line.form → t ≡ after names s line.form → AreRowsOf names t.declared.graphs more → Taken names lines (n + 1) t more
+pub taken_more : (names : List (List ℕ)) (lines : List Line) (n : ℕ) (s t : SoFar) (rows more : List GraphRow) (line : Line)
+    → n < length lines → line ≡ get_or lines n line → Taken names lines n s rows → IsAccepted s line.form → t ≡ after names s line.form
+    → AreRowsOf names t.declared.graphs more → Taken names lines (n + 1) t more
 taken_more names lines n s t rows more line l is h a e r =
-    let whole : take (n + 1) lines ≡ take n lines ++ line ∷ [] = rw add-one (take-suc lines n line l ∙ ap (λ (x : Line). take n lines ++ x ∷ []) (sym is)) in
+    let whole : take (n + 1) lines ≡ take n lines ++ line ∷ [] =
+    rw add-one (take-suc lines n line l ∙ ap (λ (x : Line). take n lines ++ x ∷ []) (sym is)) in
     record {
-      accepted = subst (λ (some : List Line). AreAccepted names (nothing_yet names) some) (sym whole) (accepted_push names (nothing_yet names) (take n lines) line h.accepted (subst (λ (s : SoFar). IsAccepted s line.form) h.declared a));
-      declared = e ∙ ap (λ (s : SoFar). after names s line.form) h.declared ∙ sym (declared_push names (nothing_yet names) (take n lines) line) ∙ ap (λ (some : List Line). declared_after names (nothing_yet names) some) (sym whole);
+      accepted =
+          subst (λ (some : List Line). AreAccepted names (nothing_yet names) some) (sym whole)
+          (accepted_push names (nothing_yet names) (take n lines) line h.accepted (subst (λ (s : SoFar). IsAccepted s line.form) h.declared a));
+      declared =
+          e ∙ ap (λ (s : SoFar). after names s line.form) h.declared ∙ sym (declared_push names (nothing_yet names) (take n lines) line)
+          ∙ ap (λ (some : List Line). declared_after names (nothing_yet names) some) (sym whole);
       rows = r;
     }
 
-cut : (lines : List Line) (n : ℕ) (line : Line) → n < length lines → line ≡ get_or lines n line → lines ≡ take n lines ++ line ∷ drop (n + 1) lines
+cut : (lines : List Line) (n : ℕ) (line : Line) → n < length lines → line ≡ get_or lines n line
+    → lines ≡ take n lines ++ line ∷ drop (n + 1) lines
 cut lines n line l is =
-    sym (take-append-drop n lines) ∙ ap (λ (some : List Line). take n lines ++ some) (drop-cons lines n line l ∙ ap (λ (x : Line). x ∷ drop (suc n) lines) (sym is) ∙ sym (ap (λ (k : ℕ). line ∷ drop k lines) (add-one n)))
+    sym (take-append-drop n lines) ∙ ap (λ (some : List Line). take n lines ++ some)
+    (drop-cons lines n line l ∙ ap (λ (x : Line). x ∷ drop (suc n) lines) (sym is) ∙ sym (ap (λ (k : ℕ). line ∷ drop k lines) (add-one n)))
 
 -- the line after these is refused
 pub line_refused : (script : Script) (names : List (List ℕ)) (lines : List Line) (n : ℕ) (s : SoFar) (rows : List GraphRow) (line : Line) (c : CheckCause) → names ≡ script.names → lines ≡ script.lines → n < length lines → line ≡ get_or lines n line → Taken names lines n s rows → IsLeastCause s line.form c → IsFirstRefused script (record { line = line.number; cause = c })
@@ -55,11 +66,14 @@ line_refused script names lines n s rows line c en el l is h least = record {
   place = sym el ∙ cut lines n line l is;
   accepted = subst (λ (names : List (List ℕ)). AreAccepted names (nothing_yet names) (take n lines)) en h.accepted;
   number = refl;
-  least = subst (λ (s : SoFar). IsLeastCause s line.form c) (h.declared ∙ ap (λ (names : List (List ℕ)). declared_after names (nothing_yet names) (take n lines)) en) least;
+  least =
+      subst (λ (s : SoFar). IsLeastCause s line.form c)
+      (h.declared ∙ ap (λ (names : List (List ℕ)). declared_after names (nothing_yet names) (take n lines)) en) least;
 }
 
 -- which is the answer, unless no memory was found
-pub answer_refused : (script : Script) (error : CheckError) → (error.cause ≢ cause.OutOfMemory → IsFirstRefused script error) → IsAnswer script (Err error)
+pub answer_refused : (script : Script) (error : CheckError) → (error.cause ≢ cause.OutOfMemory → IsFirstRefused script error)
+    → IsAnswer script (Err error)
 answer_refused script error first = by error.cause refl
   where
     by : (c : CheckCause) → error.cause ≡ c → IsAnswer script (Err error)
@@ -67,11 +81,14 @@ answer_refused script error first = by error.cause refl
     by c e = refused (first (λ none. let n : number_of c ≡ 21 = ap number_of (sym e ∙ none) in omega arith))
 
 -- all lines were taken
-pub all_declared : (script : Script) (names : List (List ℕ)) (lines : List Line) (n : ℕ) (s : SoFar) (rows : List GraphRow) → names ≡ script.names → lines ≡ script.lines → length lines ≤ n → Taken names lines n s rows → IsDeclared script s.declared rows
+pub all_declared : (script : Script) (names : List (List ℕ)) (lines : List Line) (n : ℕ) (s : SoFar) (rows : List GraphRow)
+    → names ≡ script.names → lines ≡ script.lines → length lines ≤ n → Taken names lines n s rows → IsDeclared script s.declared rows
 all_declared script names lines n s rows en el l h =
     let whole : take n lines ≡ script.lines = take_all n lines l ∙ el in
     record {
-      accepted = subst (λ (lines : List Line). AreAccepted script.names (nothing_yet script.names) lines) whole (subst (λ (names : List (List ℕ)). AreAccepted names (nothing_yet names) (take n lines)) en h.accepted);
+      accepted =
+          subst (λ (lines : List Line). AreAccepted script.names (nothing_yet script.names) lines) whole
+          (subst (λ (names : List (List ℕ)). AreAccepted names (nothing_yet names) (take n lines)) en h.accepted);
       declared =
           ap (λ (s : SoFar). s.declared)
           (h.declared ∙ ap (λ (names : List (List ℕ)). declared_after names (nothing_yet names) (take n lines)) en ∙ ap (λ (lines : List Line). declared_after script.names (nothing_yet script.names) lines) whole);

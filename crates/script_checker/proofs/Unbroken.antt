@@ -25,7 +25,8 @@ module _ (script : Script) (d : Declared) (rows : List GraphRow) (h : IsDeclared
       let parts = keeps_parts script.names script.lines is.sound h.accepted draft of_draft in
       let sizes = sizes_counted script.names script.lines is.sound h.accepted draft of_draft parts in
       let few = counts script.names script.lines is.sound h.accepted draft of_draft in
-      let participants = subst (λ (t : Declared). length t.participants ≡ length t.participant_rows) (sym h.declared) (sym few.participants.0) in
+      let participants =
+      subst (λ (t : Declared). length t.participants ≡ length t.participant_rows) (sym h.declared) (sym few.participants.0) in
       let objects = subst (λ (t : Declared). length t.objects ≡ length t.object_rows) (sym h.declared) (sym few.objects.0) in
       let places = ap (λ (t : Declared). t.all_places) h.declared ∙ sizes.0 in
       let whole = ap (λ (t : Declared). t.whole_bound) h.declared ∙ sizes.1 in

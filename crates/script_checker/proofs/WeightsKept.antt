@@ -28,26 +28,34 @@ use Rattle.caa_base.specs.Written.Limits.{most_places, most_entries}
 
 -- ---- one action more
 
-acts_longer : (table : List ℕ) (v : ℕ) (acts : List ℕ) → all_below (length table) acts ≡ true → sum_by (at (table ++ v ∷ [])) acts ≡ sum_by (at table) acts
+acts_longer : (table : List ℕ) (v : ℕ) (acts : List ℕ) → all_below (length table) acts ≡ true
+    → sum_by (at (table ++ v ∷ [])) acts ≡ sum_by (at table) acts
 acts_longer table v [] h = refl
 acts_longer table v (a ∷ acts) h =
     let p = and_parts (nat_lt a (length table)) (all_below (length table) acts) h in
-    omega (arith, sum_by-cons (at (table ++ v ∷ [])) a acts, sum_by-cons (at table) a acts, at_longer table v a (ltb-true _ _ p.0), acts_longer table v acts p.1)
+    omega
+    (arith, sum_by-cons (at (table ++ v ∷ [])) a acts, sum_by-cons (at table) a acts, at_longer table v a (ltb-true _ _ p.0), acts_longer table v acts p.1)
 
-nests_longer : (table : List ℕ) (v : ℕ) (nests : List NestRow) → list_all (λ (nest : NestRow). all_below (length table) nest.actions) nests ≡ true → nested_weight (at (table ++ v ∷ [])) nests ≡ nested_weight (at table) nests
+nests_longer : (table : List ℕ) (v : ℕ) (nests : List NestRow)
+    → list_all (λ (nest : NestRow). all_below (length table) nest.actions) nests ≡ true
+    → nested_weight (at (table ++ v ∷ [])) nests ≡ nested_weight (at table) nests
 nests_longer table v [] h = refl
 nests_longer table v (nest ∷ nests) h =
-    let p = and_parts (all_below (length table) nest.actions) (list_all (λ (nest : NestRow). all_below (length table) nest.actions) nests) h in
-    omega (arith, sum_by-cons (λ (other : NestRow). sum_by (at (table ++ v ∷ [])) other.actions) nest nests, sum_by-cons (λ (other : NestRow). sum_by (at table) other.actions) nest nests, acts_longer table v nest.actions p.0, nests_longer table v nests p.1)
+    let p =
+    and_parts (all_below (length table) nest.actions) (list_all (λ (nest : NestRow). all_below (length table) nest.actions) nests) h in
+    omega
+    (arith, sum_by-cons (λ (other : NestRow). sum_by (at (table ++ v ∷ [])) other.actions) nest nests, sum_by-cons (λ (other : NestRow). sum_by (at table) other.actions) nest nests, acts_longer table v nest.actions p.0, nests_longer table v nests p.1)
 
-plays_longer : (participants : ℕ) (actions : List ActionRow) (table : List ℕ) (v : ℕ) (plays : List PlayRow) → length table ≡ length actions → list_all (play_right participants actions) plays ≡ true → played_weight (at (table ++ v ∷ [])) plays ≡ played_weight (at table) plays
+plays_longer : (participants : ℕ) (actions : List ActionRow) (table : List ℕ) (v : ℕ) (plays : List PlayRow) → length table ≡ length actions
+    → list_all (play_right participants actions) plays ≡ true → played_weight (at (table ++ v ∷ [])) plays ≡ played_weight (at table) plays
 plays_longer participants actions table v [] e h = refl
 plays_longer participants actions table v (play ∷ plays) e h =
     let p = and_parts (play_right participants actions play) (list_all (play_right participants actions) plays) h in
     let q = and_parts (nat_lt play.action (length actions)) _ p.0 in
     let low = ltb-true play.action (length actions) q.0 in
     let within : play.action < length table = omega arith in
-    omega (arith, sum_by-cons (λ (other : PlayRow). at (table ++ v ∷ []) other.action) play plays, sum_by-cons (λ (other : PlayRow). at table other.action) play plays, at_longer table v play.action within, plays_longer participants actions table v plays e p.1)
+    omega
+    (arith, sum_by-cons (λ (other : PlayRow). at (table ++ v ∷ []) other.action) play plays, sum_by-cons (λ (other : PlayRow). at table other.action) play plays, at_longer table v play.action within, plays_longer participants actions table v plays e p.1)
 
 -- ---- a table of weights, and what the plays come to by it
 
@@ -58,7 +66,12 @@ pub record Weighs (own : ActionRow → ℕ) (table : List ℕ) (actions : List A
 
 module _ (own : ActionRow → ℕ) (table : List ℕ) (actions : List ActionRow) (plays : List PlayRow) (total : ℕ) (h : Weighs own table actions plays total) where
   -- one action more
-  weighs_longer : (participants : ℕ) (action : ActionRow) → list_all (λ (nest : NestRow). all_below (length actions) nest.actions) action.nests ≡ true → list_all (λ (action : ActionRow). list_all (λ (nest : NestRow). all_below (length actions) nest.actions) action.nests) actions ≡ true → list_all (play_right participants actions) plays ≡ true → Weighs own (table ++ counted (own action + nested_weight (at table) action.nests) ∷ []) (actions ++ action ∷ []) plays total
+  weighs_longer : (participants : ℕ) (action : ActionRow)
+      → list_all (λ (nest : NestRow). all_below (length actions) nest.actions) action.nests ≡ true
+      → list_all (λ (action : ActionRow). list_all (λ (nest : NestRow). all_below (length actions) nest.actions) action.nests) actions ≡
+      true
+      → list_all (play_right participants actions) plays ≡ true
+      → Weighs own (table ++ counted (own action + nested_weight (at table) action.nests) ∷ []) (actions ++ action ∷ []) plays total
   weighs_longer participants action here there right =
       let v = counted (own action + nested_weight (at table) action.nests) in
       let m : length (table ++ v ∷ []) ≡ length table + 1 = length-append table (v ∷ []) in
@@ -79,7 +92,9 @@ module _ (own : ActionRow → ℕ) (table : List ℕ) (actions : List ActionRow)
   weighs_play play = record {
     many = h.many;
     tell = h.tell;
-    whole = omega (arith, h.whole, sum_by-append (λ (other : PlayRow). at table other.action) plays (play ∷ []), sum_by-cons (λ (other : PlayRow). at table other.action) play []);
+    whole =
+        omega
+        (arith, h.whole, sum_by-append (λ (other : PlayRow). at table other.action) plays (play ∷ []), sum_by-cons (λ (other : PlayRow). at table other.action) play []);
   }
 
 -- ---- lines
@@ -101,11 +116,13 @@ pub record AreWeighed (d : Declared) (b : Block) : Type 0 where
 
 module _ (names : List (List ℕ)) (d : Declared) where
   says_places : (f : Form) → NoneAtTop d f → PlacesWeigh d → PlacesWeigh (declared_with names d f)
-  says_places (form.Play action who) none h = (weighs_play one_place d.places d.actions d.plays d.all_places h.0 _, ltb-false most_places (places_with d action) (within_at_top d (form.Play action who) none))
+  says_places (form.Play action who) none h =
+      (weighs_play one_place d.places d.actions d.plays d.all_places h.0 _, ltb-false most_places (places_with d action) (within_at_top d (form.Play action who) none))
   says_places f none h = h
 
   says_entries : (f : Form) → NoneAtTop d f → EntriesWeigh d → EntriesWeigh (declared_with names d f)
-  says_entries (form.Play action who) none h = (weighs_play own_entries d.bounds d.actions d.plays d.whole_bound h.0 _, ltb-false most_entries (bound_with d action) (bounded_at_top d (form.Play action who) none))
+  says_entries (form.Play action who) none h =
+      (weighs_play own_entries d.bounds d.actions d.plays d.whole_bound h.0 _, ltb-false most_entries (bound_with d action) (bounded_at_top d (form.Play action who) none))
   says_entries f none h = h
 
   ends_places : (b : Block) → AreWeighed d b → PlacesWeigh (ended names d b)
@@ -132,7 +149,9 @@ weights_kept names =
         entries = says_entries names d f none h.entries;
       };
       in_graph = λ d g f sound none h. record { there = h.there; right = h.right; places = h.places; entries = h.entries };
-      in_action = λ d a f sound none shut h. record { there = there.in_action d a f sound none shut h.there; right = h.right; places = h.places; entries = h.entries };
+      in_action =
+          λ d a f sound none shut h. record { there = there.in_action d a f sound none shut h.there; right = h.right; places = h.places; entries = h.entries };
       closes = λ d a h. record { there = there.closes d a h.there; right = h.right; places = h.places; entries = h.entries };
-      ends = λ d b none h. record { there = there.ends d b none h.there; right = right.ends d b none h.right; places = ends_places names d b h; entries = ends_entries names d b h };
+      ends =
+          λ d b none h. record { there = there.ends d b none h.there; right = right.ends d b none h.right; places = ends_places names d b h; entries = ends_entries names d b h };
     }

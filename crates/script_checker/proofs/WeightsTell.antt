@@ -15,35 +15,44 @@ use Rattle.script_checker.proofs.DepthsKept.{IsDepth}
 abbrev pub own_weights : (ActionRow → ℕ) → List ActionRow → List ℕ
 own_weights own actions = map own actions
 
-pub own_at : (own : ActionRow → ℕ) (actions : List ActionRow) (a : ℕ) → a < length actions → at (own_weights own actions) a ≡ own (slice_index_or actions a no_action)
+pub own_at : (own : ActionRow → ℕ) (actions : List ActionRow) (a : ℕ) → a < length actions
+    → at (own_weights own actions) a ≡ own (slice_index_or actions a no_action)
 own_at own [] a l = absurd (omega arith)
 own_at own (x ∷ xs) zero l = refl
 own_at own (x ∷ xs) (suc a) l = own_at own xs a (omega arith)
 
 -- the table tells what the action and all that is nested in it weigh, as far as it is counted
 abbrev pub IsWeight : (ActionRow → ℕ) → List ℕ → List ActionRow → ℕ → Type 0
-IsWeight own table actions a = at table a ≡ counted (own (slice_index_or actions a no_action) + nested_weight (at table) (slice_index_or actions a no_action).nests)
+IsWeight own table actions a =
+    at table a ≡ counted (own (slice_index_or actions a no_action) + nested_weight (at table) (slice_index_or actions a no_action).nests)
 
 module _ (own : ActionRow → ℕ) (depths table : List ℕ) (actions : List ActionRow) (deep : (a : ℕ) → a < length actions → IsDepth depths actions a) (tell : (a : ℕ) → a < length actions → IsWeight own table actions a) (there : list_all (λ (action : ActionRow). list_all (λ (nest : NestRow). all_below (length actions) nest.actions) action.nests) actions ≡ true) where
   -- this tells what the table does of all actions that are no deeper
   abbrev Agrees : ℕ → (ℕ → ℕ) → Type 0
   Agrees most f = (a : ℕ) → a < length actions → at depths a ≤ most → at table a ≡ counted (f a)
 
-  acts_agree : (most : ℕ) (f : ℕ → ℕ) (acts : List ℕ) → Agrees most f → all_below (length actions) acts ≡ true → deepest_of (at depths) acts ≤ most → counted (sum_by (at table) acts) ≡ counted (sum_by f acts)
+  acts_agree : (most : ℕ) (f : ℕ → ℕ) (acts : List ℕ) → Agrees most f → all_below (length actions) acts ≡ true
+      → deepest_of (at depths) acts ≤ most → counted (sum_by (at table) acts) ≡ counted (sum_by f acts)
   acts_agree most f [] ih h d = refl
   acts_agree most f (a ∷ acts) ih h d =
       let p = and_parts (nat_lt a (length actions)) (all_below (length actions) acts) h in
       let shallow : at depths a ≤ most = omega arith in
       let rest : deepest_of (at depths) acts ≤ most = omega arith in
-      omega (arith, sum_by-cons (at table) a acts, sum_by-cons f a acts, ih a (ltb-true _ _ p.0) shallow, acts_agree most f acts ih p.1 rest)
+      omega
+      (arith, sum_by-cons (at table) a acts, sum_by-cons f a acts, ih a (ltb-true _ _ p.0) shallow, acts_agree most f acts ih p.1 rest)
 
-  nests_agree : (most : ℕ) (f : ℕ → ℕ) (nests : List NestRow) → Agrees most f → list_all (λ (nest : NestRow). all_below (length actions) nest.actions) nests ≡ true → deepest (at depths) nests ≤ most → counted (nested_weight (at table) nests) ≡ counted (nested_weight f nests)
+  nests_agree : (most : ℕ) (f : ℕ → ℕ) (nests : List NestRow) → Agrees most f
+      → list_all (λ (nest : NestRow). all_below (length actions) nest.actions) nests ≡ true → deepest (at depths) nests ≤ most
+      → counted (nested_weight (at table) nests) ≡ counted (nested_weight f nests)
   nests_agree most f [] ih h d = refl
   nests_agree most f (nest ∷ nests) ih h d =
-      let p = and_parts (all_below (length actions) nest.actions) (list_all (λ (nest : NestRow). all_below (length actions) nest.actions) nests) h in
+      let p =
+      and_parts (all_below (length actions) nest.actions)
+      (list_all (λ (nest : NestRow). all_below (length actions) nest.actions) nests) h in
       let first : deepest_of (at depths) nest.actions ≤ most = omega arith in
       let rest : deepest (at depths) nests ≤ most = omega arith in
-      omega (arith, sum_by-cons (λ (other : NestRow). sum_by (at table) other.actions) nest nests, sum_by-cons (λ (other : NestRow). sum_by f other.actions) nest nests, acts_agree most f nest.actions ih p.0 first, nests_agree most f nests ih p.1 rest)
+      omega
+      (arith, sum_by-cons (λ (other : NestRow). sum_by (at table) other.actions) nest nests, sum_by-cons (λ (other : NestRow). sum_by f other.actions) nest nests, acts_agree most f nest.actions ih p.0 first, nests_agree most f nests ih p.1 rest)
 
   pub weighs : (most : ℕ) → Agrees most (weight (own_weights own actions) most actions)
   unfolding weight
@@ -52,5 +61,8 @@ module _ (own : ActionRow → ℕ) (depths table : List ℕ) (actions : List Act
       let nests = (slice_index_or actions a no_action).nests in
       let k = (deep a l).0 in
       let shallow : deepest (at depths) nests ≤ most = omega arith in
-      let below = at_row (λ (action : ActionRow). list_all (λ (nest : NestRow). all_below (length actions) nest.actions) action.nests) actions a no_action there l in
-      omega (arith, tell a l, own_at own actions a l, nests_agree most (weight (own_weights own actions) most actions) nests (weighs most) below shallow)
+      let below =
+      at_row (λ (action : ActionRow). list_all (λ (nest : NestRow). all_below (length actions) nest.actions) action.nests) actions a
+      no_action there l in
+      omega
+      (arith, tell a l, own_at own actions a l, nests_agree most (weight (own_weights own actions) most actions) nests (weighs most) below shallow)

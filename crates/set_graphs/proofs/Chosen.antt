@@ -8,7 +8,8 @@ use Rattle.set_graphs.specs.Sets.{choose, table, with_first, without_first}
 use Rattle.set_graphs.specs.inner.Moved.{moved_after}
 
 -- the step of `choose`
-pub choose_step : (left size : ℕ) → 0 < left → 0 < size → choose left size ≡ map with_first (choose (left - 1) (size - 1)) ++ map without_first (choose (left - 1) size)
+pub choose_step : (left size : ℕ) → 0 < left → 0 < size
+    → choose left size ≡ map with_first (choose (left - 1) (size - 1)) ++ map without_first (choose (left - 1) size)
 choose_step zero size some full = absurd (omega (arith, some))
 choose_step (suc left) zero some full = absurd (omega (arith, full))
 choose_step (suc left) (suc size) some full =
@@ -29,15 +30,18 @@ moved_twice : (p before set : ℕ) → before + (p + p) * set ≡ before + p * (
 moved_twice p before set = grind arith
 
 -- the primitive at `next` before each set
-pub moved_with : (before next : ℕ) (lists : List ℕ) → map (moved_after (before + 2 ^ next) (next + 1)) lists ≡ map (moved_after before next) (map with_first lists)
+pub moved_with : (before next : ℕ) (lists : List ℕ)
+    → map (moved_after (before + 2 ^ next) (next + 1)) lists ≡ map (moved_after before next) (map with_first lists)
 moved_with before next [] = refl
 moved_with before next (set ∷ lists) =
     let e : moved_after (before + 2 ^ next) (next + 1) set ≡ moved_after before next (with_first set) =
-    subst (λ p. before + 2 ^ next + p * set ≡ before + 2 ^ next * (1 + 2 * set)) (sym (two_pow_more next)) (twice_moved (2 ^ next) before set) in
+    subst (λ p. before + 2 ^ next + p * set ≡ before + 2 ^ next * (1 + 2 * set)) (sym (two_pow_more next))
+    (twice_moved (2 ^ next) before set) in
     λ i. e i ∷ moved_with before next lists i
 
 -- and without it
-pub moved_without : (before next : ℕ) (lists : List ℕ) → map (moved_after before (next + 1)) lists ≡ map (moved_after before next) (map without_first lists)
+pub moved_without : (before next : ℕ) (lists : List ℕ)
+    → map (moved_after before (next + 1)) lists ≡ map (moved_after before next) (map without_first lists)
 moved_without before next [] = refl
 moved_without before next (set ∷ lists) =
     let e : moved_after before (next + 1) set ≡ moved_after before next (without_first set) =
@@ -78,7 +82,8 @@ fits before next last low =
     omega (arith, u, d, l, low)
 
 -- one size more
-pub table_more : (n size : ℕ) (old new : List ℕ) → old ≡ table n size → new ≡ old ++ map (moved_after 0 0) (choose n (size + 1)) → new ≡ table n (size + 1)
+pub table_more : (n size : ℕ) (old new : List ℕ) → old ≡ table n size → new ≡ old ++ map (moved_after 0 0) (choose n (size + 1))
+    → new ≡ table n (size + 1)
 table_more n size old new before step =
     let one : size + 1 ≡ suc size = omega arith in
     rw one (step ∙ (ap (λ m. old ++ m) (moved_none (choose n (size + 1))) ∙ rw one (ap (λ m. m ++ choose n (suc size)) before)))

@@ -19,7 +19,8 @@ pascal n size =
     let right = length-map (choose n (suc size)) without_first in
     omega (arith, both, left, right)
 
-counts_at : (n : ℕ) (old new : List ℕ) → CountSets n old → length new ≡ length old → AreNextCounts old new → (size : ℕ) → size < length new → slice_index new size ≡ length (choose (suc n) size)
+counts_at : (n : ℕ) (old new : List ℕ) → CountSets n old → length new ≡ length old → AreNextCounts old new → (size : ℕ) → size < length new
+    → slice_index new size ≡ length (choose (suc n) size)
 counts_at n old new counts many next zero below =
     let e = next zero (omega (arith, below, many)) in
     let f = counts zero (omega (arith, below, many)) in
@@ -50,9 +51,11 @@ few_chosen (suc n) (suc size) =
     let more = pow-suc (suc n) size in
     let all = pow-suc (suc (suc n)) size in
     let times = mul-le (suc n ^ size) (suc (suc n)) (suc (suc n) ^ size) (suc (suc n)) grows (omega arith) in
-    fewer (length (choose (suc n) (suc size))) (length (choose n (suc size))) (length (choose n size)) (suc n ^ size) (suc n) (suc n ^ suc size) (suc (suc n) ^ suc size) (suc (suc n) ^ size * suc (suc n)) parts left right more all times
+    fewer (length (choose (suc n) (suc size))) (length (choose n (suc size))) (length (choose n size)) (suc n ^ size) (suc n)
+    (suc n ^ suc size) (suc (suc n) ^ suc size) (suc (suc n) ^ size * suc (suc n)) parts left right more all times
   where
-    fewer : (whole with_size less p m q r s : ℕ) → whole ≡ with_size + less → less ≤ p → with_size ≤ q → q ≡ p * m → r ≡ s → p * suc m ≤ s → whole ≤ r
+    fewer : (whole with_size less p m q r s : ℕ) → whole ≡ with_size + less → less ≤ p → with_size ≤ q → q ≡ p * m → r ≡ s → p * suc m ≤ s
+        → whole ≤ r
     fewer whole with_size less p m q r s parts left right more all times = grind (arith, parts, left, right, more, all, times)
 
 -- a count of sets fits
@@ -65,7 +68,8 @@ chosen_fit n size n_fits size_fits =
     let power : 128 ^ size ≤ 128 ^ 7 = pow-le-pow_right some seven in
     omega (arith, few, base, power)
 
-pub counts_fit : (n : ℕ) (counts : List ℕ) → n < 128 → length counts ≤ 8 → CountSets n counts → (size : ℕ) → slice_index counts size ≤ 2 ^ 49
+pub counts_fit : (n : ℕ) (counts : List ℕ) → n < 128 → length counts ≤ 8 → CountSets n counts → (size : ℕ)
+    → slice_index counts size ≤ 2 ^ 49
 counts_fit n counts n_fits many count size =
     elim (cases_lt size (length counts)) [
       | inl inside ↦

@@ -110,7 +110,8 @@ pub record IsMissing (n set other : ℕ) : Type 0 where
   pub had : has_bit set bit ≡ true
   pub lacked : has_bit other bit ≡ false
 
-after : (set other : ℕ) → IsWithin (set / 2) (other / 2) → (has_bit set 0 ≡ true → has_bit other 0 ≡ true) → (bit : ℕ) → has_bit set bit ≡ true → has_bit other bit ≡ true
+after : (set other : ℕ) → IsWithin (set / 2) (other / 2) → (has_bit set 0 ≡ true → has_bit other 0 ≡ true) → (bit : ℕ)
+    → has_bit set bit ≡ true → has_bit other bit ≡ true
 after set other within first zero had = first had
 after set other within first (suc bit) had = bit_next other bit ∙ within bit (sym (bit_next set bit) ∙ had)
 

@@ -61,8 +61,11 @@ lowered_has (suc n) set bit low below is =
       | inl here ↦
           let had = subst (λ (b : ℕ). has_bit set b ≡ true) here is.had in
           let e : without_member set n ≡ low = subst (λ (b : ℕ). without_member set b ≡ low) here is.lacks in
-          let counted = and_from (has_bit set n) (nat_lt 0 (without_member set n)) had (lt-ltb 0 (without_member set n) (subst (λ (s : ℕ). 0 < s) (sym e) is.some)) in
-          subst (λ (l : List ℕ). Contains l low) (sym (lowered_with n set counted)) (subst (Contains (without_member set n ∷ lowered n set)) e (Contains-cons (without_member set n) (lowered n set)))
+          let counted =
+          and_from (has_bit set n) (nat_lt 0 (without_member set n)) had
+          (lt-ltb 0 (without_member set n) (subst (λ (s : ℕ). 0 < s) (sym e) is.some)) in
+          subst (λ (l : List ℕ). Contains l low) (sym (lowered_with n set counted))
+          (subst (Contains (without_member set n ∷ lowered n set)) e (Contains-cons (without_member set n) (lowered n set)))
       | inr before ↦
           let found = lowered_has n set bit low (omega (arith, below, before)) is in
           elim (cases_Bool (is_counted set n)) [
@@ -106,12 +109,14 @@ pair_has n all (suc bound) a b below is =
       | inl here ↦
           let made = Contains-map (λ (set : ℕ). (a, number_in all set)) (lowered n (slice_index all a)) is.low is.among in
           let named = subst (λ (k : ℕ). Contains (pairs_at n all a) (a, k)) is.number made in
-          Contains-append_right (pairs_below n all bound) (pairs_at n all bound) (a, b) (subst (λ (k : ℕ). Contains (pairs_at n all k) (a, b)) here named)
+          Contains-append_right (pairs_below n all bound) (pairs_at n all bound) (a, b)
+          (subst (λ (k : ℕ). Contains (pairs_at n all k) (a, b)) here named)
       | inr before ↦ Contains-append_left (pairs_below n all bound) (pairs_at n all bound) (a, b) (pair_has n all bound a b (omega (arith, below, before)) is)
     ]
 
 -- pairs are of exceptions of the table
-pub pairs_in_range : (n : ℕ) (all : List ℕ) (bound : ℕ) → bound ≤ length all → All (λ (p : ℕ × ℕ). (p.0 < length all) × (p.1 < length all)) (pairs_below n all bound)
+pub pairs_in_range : (n : ℕ) (all : List ℕ) (bound : ℕ) → bound ≤ length all
+    → All (λ (p : ℕ × ℕ). (p.0 < length all) × (p.1 < length all)) (pairs_below n all bound)
 pairs_in_range n all zero few = All-nil (λ (p : ℕ × ℕ). (p.0 < length all) × (p.1 < length all))
 pairs_in_range n all (suc bound) few =
     let P : ℕ × ℕ → Type 0 = λ (p : ℕ × ℕ). (p.0 < length all) × (p.1 < length all) in
@@ -125,15 +130,19 @@ pair_over all exception set = (exception, number_in all set)
 
 -- a member left out, and one pair more
 pub pair_added : (all : List ℕ) (exception bit set lower : ℕ) (old new rest : List (ℕ × ℕ)) (number : ℕ) → 0 < bit
-    → old ++ map (pair_over all exception) (lowered bit set) ≡ rest → has_bit set (bit - 1) ≡ true → 0 < lower → lower ≡ without_member set (bit - 1)
+    → old ++ map (pair_over all exception) (lowered bit set) ≡ rest → has_bit set (bit - 1) ≡ true → 0 < lower → lower ≡ without_member
+    set (bit - 1)
     → number ≡ number_in all lower → new ≡ old ++ (exception, number) ∷ []
     → new ++ map (pair_over all exception) (lowered (bit - 1) set) ≡ rest
 pair_added all exception zero set lower old new rest number some before had full is numbered step = absurd (omega (arith, some))
 pair_added all exception (suc bit) set lower old new rest number some before had full is numbered step =
     let at : suc bit - 1 ≡ bit = omega arith in
     let here : lower ≡ without_member set bit = is ∙ ap (without_member set) at in
-    let counted = and_from (has_bit set bit) (nat_lt 0 (without_member set bit)) (subst (λ (b : ℕ). has_bit set b ≡ true) at had) (lt-ltb 0 (without_member set bit) (subst (λ (s : ℕ). 0 < s) here full)) in
-    let pair : new ≡ old ++ pair_over all exception (without_member set bit) ∷ [] = step ∙ ap (λ (k : ℕ). old ++ (exception, k) ∷ []) (numbered ∙ ap (number_in all) here) in
+    let counted =
+    and_from (has_bit set bit) (nat_lt 0 (without_member set bit)) (subst (λ (b : ℕ). has_bit set b ≡ true) at had)
+    (lt-ltb 0 (without_member set bit) (subst (λ (s : ℕ). 0 < s) here full)) in
+    let pair : new ≡ old ++ pair_over all exception (without_member set bit) ∷ [] =
+    step ∙ ap (λ (k : ℕ). old ++ (exception, k) ∷ []) (numbered ∙ ap (number_in all) here) in
     let left = map (pair_over all exception) (lowered bit set) in
     ap (λ (b : ℕ). new ++ map (pair_over all exception) (lowered b set)) at
     ∙ (ap (λ (l : List (ℕ × ℕ)). l ++ left) pair

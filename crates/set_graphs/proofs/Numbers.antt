@@ -38,7 +38,8 @@ never_same : (n set other : ℕ) → ComesFirst n set other → set ≡ other �
 never_same n set other first same = never_first n set (subst (ComesFirst n set) (sym same) first)
 
 -- exceptions that stand for one set are one
-pub members_apart : (n most a b : ℕ) → a < exception_count n most → b < exception_count n most → members_of n most a ≡ members_of n most b → a ≡ b
+pub members_apart : (n most a b : ℕ) → a < exception_count n most → b < exception_count n most → members_of n most a ≡ members_of n most b
+    → a ≡ b
 members_apart n most a b a_in b_in same =
     elim (cases_order a b) [
       | inl one ↦ one
@@ -79,7 +80,8 @@ number_whole n most set is =
     subst (IsNumberOf n most set) (sym e) (record { some = found.1; in_range = found.2; members = found.3 })
 
 -- a place in a table is one of its places, or 0
-pub number_cases : (all : List ℕ) (set : ℕ) → (number_in all set ≡ 0) ⊎ ((number_in all set < length all) × (get_or all (number_in all set) 0 ≡ set))
+pub number_cases : (all : List ℕ) (set : ℕ)
+    → (number_in all set ≡ 0) ⊎ ((number_in all set < length all) × (get_or all (number_in all set) 0 ≡ set))
 number_cases all set =
     let at = position_or_len (λ other. other == set) all in
     let value = λ (b : Bool). unwrap_or (cond b (Some at) None) 0 in

@@ -19,7 +19,8 @@ without_within set bit had other there =
     ]
 
 -- what is within a set and lacks a member is within what is left without it
-within_without : (set bit low : ℕ) → has_bit set bit ≡ true → IsWithin low set → has_bit low bit ≡ false → IsWithin low (without_member set bit)
+within_without : (set bit low : ℕ) → has_bit set bit ≡ true → IsWithin low set → has_bit low bit ≡ false
+    → IsWithin low (without_member set bit)
 within_without set bit low had within lacked other there =
     let left = taken_out (suc bit) set bit (omega arith) had in
     elim (cases_eq other bit) [
@@ -32,7 +33,9 @@ pub some_within : (low set : ℕ) → 0 < low → IsWithin low set → 0 < set
 some_within low set some into =
     elim (cases_eq set 0) [
       | inl empty ↦
-          let same : low ≡ set = same_within low set into (λ bit had. absurd (both_ways (has_bit set bit) (ap (λ s. has_bit s bit) empty ∙ had_in_zero bit) had)) in
+          let same : low ≡ set =
+          same_within low set into
+          (λ bit had. absurd (both_ways (has_bit set bit) (ap (λ s. has_bit s bit) empty ∙ had_in_zero bit) had)) in
           absurd (omega (arith, some, empty, same))
       | inr some_there ↦ omega (arith, some_there)
     ]
@@ -131,7 +134,8 @@ module _ (n most : ℕ) where
       }
 
   -- from a set to each that is within it there is a chain, by one member less at each step
-  down_to : (size a b : ℕ) → size_of n (members_of n most a) ≤ size → 0 < a → a < exception_count n most → 0 < b → b < exception_count n most
+  down_to : (size a b : ℕ) → size_of n (members_of n most a) ≤ size → 0 < a → a < exception_count n most → 0 < b
+      → b < exception_count n most
       → IsWithin (members_of n most b) (members_of n most a) → Chain (exception_count n most) (pairs_of n most) a b
   down_to zero a b sized a_some a_in b_some b_in into =
       elim (missing n (members_of n most a) (members_of n most b) ((numbered n most).stands a a_some a_in).primitives) [
@@ -147,12 +151,15 @@ module _ (n most : ℕ) where
         | inl found ↦
             let down = one_down a b a_some a_in b_some b_in into found in
             let fewer = down.fewer in
-            more (pair down.declared) (down_to size down.lower b (omega (arith, sized, fewer)) down.some down.in_range b_some b_in down.into)
+            more (pair down.declared)
+            (down_to size down.lower b (omega (arith, sized, fewer)) down.some down.in_range b_some b_in down.into)
       ]
 
-  pub chain_from : (a b : ℕ) → a < exception_count n most → b < exception_count n most → IsOver a b → Chain (exception_count n most) (pairs_of n most) a b
+  pub chain_from : (a b : ℕ) → a < exception_count n most → b < exception_count n most → IsOver a b
+      → Chain (exception_count n most) (pairs_of n most) a b
   chain_from a b a_in b_in top = more (universal b_in) none
-  chain_from a b a_in b_in (within a_some b_some into) = down_to (size_of n (members_of n most a)) a b (omega arith) a_some a_in b_some b_in into
+  chain_from a b a_in b_in (within a_some b_some into) =
+      down_to (size_of n (members_of n most a)) a b (omega arith) a_some a_in b_some b_in into
 
   -- two exceptions over each other are one
   pub over_apart : (a b : ℕ) → a < exception_count n most → b < exception_count n most → IsOver a b → IsOver b a → a ≡ b

@@ -18,7 +18,8 @@ Contains-map f xs x (k, lt, e) =
     (k, omega (arith, lt, many), get_or-map f xs k x (f x) lt ∙ ap f e)
 
 -- a relation of each element to each later one, over two lists
-pub AllPairs-append : (R : ℕ → ℕ → Type 0) (xs ys : List ℕ) → AllPairs R xs → AllPairs R ys → ((x y : ℕ) → Contains xs x → Contains ys y → R x y) → AllPairs R (xs ++ ys)
+pub AllPairs-append : (R : ℕ → ℕ → Type 0) (xs ys : List ℕ) → AllPairs R xs → AllPairs R ys
+    → ((x y : ℕ) → Contains xs x → Contains ys y → R x y) → AllPairs R (xs ++ ys)
 AllPairs-append R xs ys left right across i j d less below =
     let many = length-append xs ys in
     elim (cases_lt j (length xs)) [
@@ -88,12 +89,14 @@ chosen_all (suc n) (suc size) set low sized =
       | inl one ↦
           let e = with_half set one in
           let found = chosen_all n size (set / 2) (half_below n set low) (omega (arith, sized, one)) in
-          subst (Contains (choose (suc n) (suc size))) (sym e) (Contains-append_left (map with_first (choose n size)) (map without_first (choose n (suc size))) (with_first (set / 2)) (Contains-map with_first (choose n size) (set / 2) found))
+          subst (Contains (choose (suc n) (suc size))) (sym e)
+          (Contains-append_left (map with_first (choose n size)) (map without_first (choose n (suc size))) (with_first (set / 2)) (Contains-map with_first (choose n size) (set / 2) found))
       | inr other ↦
           let none : set % 2 ≡ 0 = omega (arith, other) in
           let e = without_half set none in
           let found = chosen_all n (suc size) (set / 2) (half_below n set low) (omega (arith, sized, none)) in
-          subst (Contains (choose (suc n) (suc size))) (sym e) (Contains-append_right (map with_first (choose n size)) (map without_first (choose n (suc size))) (without_first (set / 2)) (Contains-map without_first (choose n (suc size)) (set / 2) found))
+          subst (Contains (choose (suc n) (suc size))) (sym e)
+          (Contains-append_right (map with_first (choose n size)) (map without_first (choose n (suc size))) (without_first (set / 2)) (Contains-map without_first (choose n (suc size)) (set / 2) found))
     ]
 
 -- what differs first still does behind a first primitive that both have, or both lack
@@ -105,7 +108,8 @@ with_apart set other apart = record {
   least = least set other apart;
 }
   where
-    least : (set other : ℕ) (apart : HasLeastApart set other) (lower : ℕ) → lower < suc apart.bit → has_bit (with_first set) lower ≡ has_bit (with_first other) lower
+    least : (set other : ℕ) (apart : HasLeastApart set other) (lower : ℕ) → lower < suc apart.bit
+        → has_bit (with_first set) lower ≡ has_bit (with_first other) lower
     least set other apart zero below = first_had set ∙ sym (first_had other)
     least set other apart (suc lower) below = with_next set lower ∙ (apart.least lower (omega (arith, below)) ∙ sym (with_next other lower))
 
@@ -117,9 +121,11 @@ without_apart set other apart = record {
   least = least set other apart;
 }
   where
-    least : (set other : ℕ) (apart : HasLeastApart set other) (lower : ℕ) → lower < suc apart.bit → has_bit (without_first set) lower ≡ has_bit (without_first other) lower
+    least : (set other : ℕ) (apart : HasLeastApart set other) (lower : ℕ) → lower < suc apart.bit
+        → has_bit (without_first set) lower ≡ has_bit (without_first other) lower
     least set other apart zero below = first_lacked set ∙ sym (first_lacked other)
-    least set other apart (suc lower) below = without_next set lower ∙ (apart.least lower (omega (arith, below)) ∙ sym (without_next other lower))
+    least set other apart (suc lower) below =
+        without_next set lower ∙ (apart.least lower (omega (arith, below)) ∙ sym (without_next other lower))
 
 -- the sets of one size are in order
 pub chosen_ordered : (n size : ℕ) → AllPairs HasLeastApart (choose n size)
@@ -134,8 +140,12 @@ chosen_ordered (suc n) (suc size) =
     (AllPairs-map HasLeastApart without_first right (λ i j d less below. without_apart _ _ (chosen_ordered n (suc size) i j d less below)))
     (λ x y in_left in_right. record {
       bit = 0;
-      here = All-contains (λ (set : ℕ). has_bit set 0 ≡ true) (map with_first left) x (All-map (λ (set : ℕ). has_bit set 0 ≡ true) with_first left (λ k d lt. first_had _)) in_left;
-      not_there = All-contains (λ (set : ℕ). has_bit set 0 ≡ false) (map without_first right) y (All-map (λ (set : ℕ). has_bit set 0 ≡ false) without_first right (λ k d lt. first_lacked _)) in_right;
+      here =
+          All-contains (λ (set : ℕ). has_bit set 0 ≡ true) (map with_first left) x
+          (All-map (λ (set : ℕ). has_bit set 0 ≡ true) with_first left (λ k d lt. first_had _)) in_left;
+      not_there =
+          All-contains (λ (set : ℕ). has_bit set 0 ≡ false) (map without_first right) y
+          (All-map (λ (set : ℕ). has_bit set 0 ≡ false) without_first right (λ k d lt. first_lacked _)) in_right;
       least = λ lower below. absurd (omega (arith, below));
     })
 

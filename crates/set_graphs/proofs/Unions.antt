@@ -66,14 +66,19 @@ module _ (n most : ℕ) where
   union_below : (xs : List ℕ) → All (λ (x : ℕ). x < exception_count n most) xs → All (λ (x : ℕ). 0 < x) xs → union_of n most xs < 2 ^ n
   union_below [] in_range some = pow_pos n
   union_below (x ∷ xs) in_range some =
-      let low = ((numbered n most).stands x (All-head (λ (x : ℕ). 0 < x) x xs some) (All-head (λ (x : ℕ). x < exception_count n most) x xs in_range)).primitives in
-      or_lt n (members_of n most x) (union_of n most xs) low (union_below xs (All-tail (λ (x : ℕ). x < exception_count n most) x xs in_range) (All-tail (λ (x : ℕ). 0 < x) x xs some))
+      let low =
+      ((numbered n most).stands x (All-head (λ (x : ℕ). 0 < x) x xs some) (All-head (λ (x : ℕ). x < exception_count n most) x xs in_range)).primitives in
+      or_lt n (members_of n most x) (union_of n most xs) low
+      (union_below xs (All-tail (λ (x : ℕ). x < exception_count n most) x xs in_range) (All-tail (λ (x : ℕ). 0 < x) x xs some))
 
-  union_some : (xs : List ℕ) → 0 < length xs → All (λ (x : ℕ). x < exception_count n most) xs → All (λ (x : ℕ). 0 < x) xs → 0 < union_of n most xs
+  union_some : (xs : List ℕ) → 0 < length xs → All (λ (x : ℕ). x < exception_count n most) xs → All (λ (x : ℕ). 0 < x) xs
+      → 0 < union_of n most xs
   union_some [] full in_range some = absurd (omega (arith, full))
   union_some (x ∷ xs) full in_range some =
-      let has = ((numbered n most).stands x (All-head (λ (x : ℕ). 0 < x) x xs some) (All-head (λ (x : ℕ). x < exception_count n most) x xs in_range)).some in
-      some_within (members_of n most x) (union_of n most (x ∷ xs)) has (λ bit had. had_from_left (members_of n most x) (union_of n most xs) bit had)
+      let has =
+      ((numbered n most).stands x (All-head (λ (x : ℕ). 0 < x) x xs some) (All-head (λ (x : ℕ). x < exception_count n most) x xs in_range)).some in
+      some_within (members_of n most x) (union_of n most (x ∷ xs)) has
+      (λ bit had. had_from_left (members_of n most x) (union_of n most xs) bit had)
 
   -- ---- an order of these pairs
   module _ (order : CoverOrder) (is : IsOrderOf (exception_count n most) (pairs_of n most) order) where
@@ -90,13 +95,17 @@ module _ (n most : ℕ) where
     )
 
     -- what covers each of some exceptions, by their sets
-    each_over : (y : ℕ) (xs : List ℕ) → 0 < y → y < exception_count n most → All (λ (x : ℕ). x < exception_count n most) xs → covers_each order y xs ≡ true → IsWithin (union_of n most xs) (members_of n most y)
+    each_over : (y : ℕ) (xs : List ℕ) → 0 < y → y < exception_count n most → All (λ (x : ℕ). x < exception_count n most) xs
+        → covers_each order y xs ≡ true → IsWithin (union_of n most xs) (members_of n most y)
     each_over y xs some y_in in_range each =
-        union_within (members_of n most y) xs (λ k d lt. within_from n most y _ some (over_covered y _ y_in (in_range k d lt) (all_passed (covers order y) xs each k d lt)))
+        union_within (members_of n most y) xs
+        (λ k d lt. within_from n most y _ some (over_covered y _ y_in (in_range k d lt) (all_passed (covers order y) xs each k d lt)))
 
-    over_each : (y : ℕ) (xs : List ℕ) → 0 < y → y < exception_count n most → All (λ (x : ℕ). x < exception_count n most) xs → All (λ (x : ℕ). 0 < x) xs → IsWithin (union_of n most xs) (members_of n most y) → covers_each order y xs ≡ true
+    over_each : (y : ℕ) (xs : List ℕ) → 0 < y → y < exception_count n most → All (λ (x : ℕ). x < exception_count n most) xs
+        → All (λ (x : ℕ). 0 < x) xs → IsWithin (union_of n most xs) (members_of n most y) → covers_each order y xs ≡ true
     over_each y xs y_some y_in in_range some into =
-        all_pass (covers order y) xs (λ k d lt. covered_over y _ y_in (in_range k d lt) (within y_some (some k d lt) (each_within (members_of n most y) xs into k d lt)))
+        all_pass (covers order y) xs
+        (λ k d lt. covered_over y _ y_in (in_range k d lt) (within y_some (some k d lt) (each_within (members_of n most y) xs into k d lt)))
 
     universal_each : (xs : List ℕ) → All (λ (x : ℕ). x < exception_count n most) xs → covers_each order 0 xs ≡ true
     universal_each xs in_range = all_pass (covers order 0) xs (λ k d lt. covered_over 0 _ (omega arith) (in_range k d lt) top)
@@ -115,7 +124,8 @@ module _ (n most : ℕ) where
         }
 
     -- the union's exception, where it has one
-    least_union : (xs : List ℕ) → 0 < length xs → All (λ (x : ℕ). x < exception_count n most) xs → All (λ (x : ℕ). 0 < x) xs → IsLeastCover order xs (number_of n most (union_of n most xs))
+    least_union : (xs : List ℕ) → 0 < length xs → All (λ (x : ℕ). x < exception_count n most) xs → All (λ (x : ℕ). 0 < x) xs
+        → IsLeastCover order xs (number_of n most (union_of n most xs))
     least_union xs full in_range some =
         let union = union_of n most xs in
         let many = is.counts in
@@ -130,24 +140,30 @@ module _ (n most : ℕ) where
                     absurd (omega (arith, large, few, fewer))
               ]))
           | inr small ↦
-              let number = number_whole n most union (record { some = union_some xs full in_range some; primitives = union_below xs in_range some; few = small }) in
+              let number =
+              number_whole n most union
+              (record { some = union_some xs full in_range some; primitives = union_below xs in_range some; few = small }) in
               let at = number_of n most union in
               let inside = number.in_range in
               record {
                 in_range = omega (arith, many, inside);
-                above = over_each at xs number.some number.in_range in_range some (subst (IsWithin union) (sym number.members) (λ bit had. had));
+                above =
+                    over_each at xs number.some number.in_range in_range some
+                    (subst (IsWithin union) (sym number.members) (λ bit had. had));
                 least = λ y y_in each.
                     let y_below : y < exception_count n most = omega (arith, y_in, many) in
                     covered_over y at y_below number.in_range (elim (cases_eq y 0) [
                       | inl none ↦ subst (λ (x : ℕ). IsOver n most x at) (sym none) top
                       | inr other ↦
                           let y_some : 0 < y = omega (arith, other) in
-                          within y_some number.some (subst (λ (s : ℕ). IsWithin s (members_of n most y)) (sym number.members) (each_over y xs y_some y_below in_range each))
+                          within y_some number.some
+                          (subst (λ (s : ℕ). IsWithin s (members_of n most y)) (sym number.members) (each_over y xs y_some y_below in_range each))
                     ]);
               }
         ]
 
-    pub least_is : (xs : List ℕ) → 0 < length xs → All (λ (x : ℕ). x < exception_count n most) xs → IsLeastCover order xs (least_of n most xs)
+    pub least_is : (xs : List ℕ) → 0 < length xs → All (λ (x : ℕ). x < exception_count n most) xs
+        → IsLeastCover order xs (least_of n most xs)
     least_is xs full in_range =
         let any = list_any (λ x. x == 0) xs in
         let union = number_of n most (union_of n most xs) in
@@ -165,7 +181,8 @@ module _ (n most : ℕ) where
         let y_order = k.in_range in
         let x_in : x < exception_count n most = omega (arith, x_order, many) in
         let y_in : y < exception_count n most = omega (arith, y_order, many) in
-        over_apart n most x y x_in y_in (over_covered x y x_in y_in (k.least x h.in_range h.above)) (over_covered y x y_in x_in (h.least y k.in_range k.above))
+        over_apart n most x y x_in y_in (over_covered x y x_in y_in (k.least x h.in_range h.above))
+        (over_covered y x y_in x_in (h.least y k.in_range k.above))
 
     pub joins_unions : JoinsUnions n most order
     joins_unions xs x full in_range = (
@@ -196,8 +213,11 @@ module _ (n most : ℕ) where
       → ((a b : ℕ) → IsErrOf result (NoLeast a b) ↔ ((count ≤ most_exceptions) × IsFirstUnjoined count pairs a b))
       → refusal ≡ OutOfMemory
   only_memory count pairs result (Cycle at) counts declares few is many cycle unjoined =
-      absurd (no_cycle at (subst (λ (k : ℕ). IsFirstInCycle k (pairs_of n most) at) counts (subst (λ (l : List (ℕ × ℕ)). IsFirstInCycle count l at) declares ((cycle at).0 is).1)))
+      absurd
+      (no_cycle at (subst (λ (k : ℕ). IsFirstInCycle k (pairs_of n most) at) counts (subst (λ (l : List (ℕ × ℕ)). IsFirstInCycle count l at) declares ((cycle at).0 is).1)))
   only_memory count pairs result (NoLeast a b) counts declares few is many cycle unjoined =
-      absurd (all_joined a b (subst (λ (k : ℕ). IsFirstUnjoined k (pairs_of n most) a b) counts (subst (λ (l : List (ℕ × ℕ)). IsFirstUnjoined count l a b) declares ((unjoined a b).0 is).1)))
-  only_memory count pairs result (TooMany number) counts declares few is many cycle unjoined = absurd (let past = ((many number).0 is).0 in omega (arith, past, few))
+      absurd
+      (all_joined a b (subst (λ (k : ℕ). IsFirstUnjoined k (pairs_of n most) a b) counts (subst (λ (l : List (ℕ × ℕ)). IsFirstUnjoined count l a b) declares ((unjoined a b).0 is).1)))
+  only_memory count pairs result (TooMany number) counts declares few is many cycle unjoined =
+      absurd (let past = ((many number).0 is).0 in omega (arith, past, few))
   only_memory count pairs result OutOfMemory counts declares few is many cycle unjoined = refl

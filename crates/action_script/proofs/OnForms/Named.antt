@@ -15,17 +15,23 @@ use Rattle.action_script.specs.Forms.ScriptValue.{Script}
 use Rattle.action_script.specs.Forms.Printing.{fits_part, all_fit, is_sound, forms_of, AreBelow, AreScript}
 use Rattle.action_script.proofs.OnForms.Fits.{named_within}
 
-field_below : (names : List (List ℕ)) (p : Part) (f : Field) (fields : List Field) → fits_part names p f ≡ true → AreBelow (length names) (numbers_in fields) → AreBelow (length names) (numbers_in (f ∷ fields))
+field_below : (names : List (List ℕ)) (p : Part) (f : Field) (fields : List Field) → fits_part names p f ≡ true
+    → AreBelow (length names) (numbers_in fields) → AreBelow (length names) (numbers_in (f ∷ fields))
 field_below names part.Name (field.Name n) fields h rest = (named_within names n h, rest)
 field_below names _ (field.Name n) fields h rest = cc
 field_below names p (field.Value v) fields h rest = rest
 field_below names p (field.Count k) fields h rest = rest
 field_below names p (field.Test t) fields h rest = rest
 
-fields_below : (names : List (List ℕ)) (parts : List Part) (fields : List Field) → all_fit names parts fields ≡ true → AreBelow (length names) (numbers_in fields)
+fields_below : (names : List (List ℕ)) (parts : List Part) (fields : List Field) → all_fit names parts fields ≡ true
+    → AreBelow (length names) (numbers_in fields)
 fields_below names parts [] h = tt
-fields_below names [] (f ∷ fields) h = let p = and_parts (fits_part names part.Name f) _ h in field_below names part.Name f fields p.0 (fields_below names [] fields p.1)
-fields_below names (r ∷ parts) (f ∷ fields) h = let p = and_parts (fits_part names r f) _ h in field_below names r f fields p.0 (fields_below names parts fields p.1)
+fields_below names [] (f ∷ fields) h =
+    let p = and_parts (fits_part names part.Name f) _ h in
+    field_below names part.Name f fields p.0 (fields_below names [] fields p.1)
+fields_below names (r ∷ parts) (f ∷ fields) h =
+    let p = and_parts (fits_part names r f) _ h in
+    field_below names r f fields p.0 (fields_below names parts fields p.1)
 
 numbers_in-list : (list : List ℕ) → numbers_in (map field.Name list) ≡ list
 numbers_in-list [] = refl
@@ -44,10 +50,15 @@ form_below names f h =
     subst (AreBelow (length names)) (sym (numbers_of-fields f)) (fields_below names (parts_of (kind_of f)) (fields_of f) p.1)
 
 -- what holds of all forms holds of the one at a place
-line_at : (test : Form → Bool) (lines : List Line) (i : ℕ) (d line : Line) → i < length lines → line ≡ get_or lines i d → list_all test (forms_of lines) ≡ true → test line.form ≡ true
+line_at : (test : Form → Bool) (lines : List Line) (i : ℕ) (d line : Line) → i < length lines → line ≡ get_or lines i d
+    → list_all test (forms_of lines) ≡ true → test line.form ≡ true
 line_at test [] i d line within at all = absurd (omega arith)
-line_at test (first ∷ lines) zero d line within at all = let p = and_parts (test first.form) _ all in subst (λ l. test l.form ≡ true) (sym at) p.0
-line_at test (first ∷ lines) (suc i) d line within at all = let p = and_parts (test first.form) _ all in line_at test lines i d line (omega arith) at p.1
+line_at test (first ∷ lines) zero d line within at all =
+    let p = and_parts (test first.form) _ all in
+    subst (λ l. test l.form ≡ true) (sym at) p.0
+line_at test (first ∷ lines) (suc i) d line within at all =
+    let p = and_parts (test first.form) _ all in
+    line_at test lines i d line (omega arith) at p.1
 
 pub form_sound : (lines : List Line) (names : List (List ℕ)) (script : Script) (i : ℕ) (line : Line) → record { lines = lines; names = names } ≡ script → AreScript names (forms_of lines) → i < length script.lines → line ≡ get_or lines i line → is_sound script.names line.form ≡ true
 form_sound lines names script i line same whole within at =

@@ -18,11 +18,13 @@ name_among (name ∷ names) (suc n) h = by (bytes_eq (get_or names n []) name) (
     by false g = g
 
 -- a name that wasn't there gets the count of names as its number
-number_in-push_new : (names : List (List ℕ)) (word : List ℕ) → is_among names word ≡ false → number_in (names ++ word ∷ []) word ≡ length names
+number_in-push_new : (names : List (List ℕ)) (word : List ℕ) → is_among names word ≡ false
+    → number_in (names ++ word ∷ []) word ≡ length names
 number_in-push_new [] word h = ap (λ b. if b then 0 else 1) (bytes_eq-same word)
 number_in-push_new (name ∷ names) word h = by (bytes_eq word name) (number_in-push_new names word) h
   where
-    by : (b : Bool) → (is_among names word ≡ false → number_in (names ++ word ∷ []) word ≡ length names) → (b || is_among names word) ≡ false → (if b then 0 else 1 + number_in (names ++ word ∷ []) word) ≡ length (name ∷ names)
+    by : (b : Bool) → (is_among names word ≡ false → number_in (names ++ word ∷ []) word ≡ length names)
+        → (b || is_among names word) ≡ false → (if b then 0 else 1 + number_in (names ++ word ∷ []) word) ≡ length (name ∷ names)
     by true rest g = cc
     by false rest g = omega (arith, rest g)
 
@@ -38,7 +40,8 @@ numbered-push names word none h n l = by (nat_lt n (length names)) refl
         let past = ltb-false n (length names) e in
         let last : n ≡ length names = omega (arith, length-append names (word ∷ [])) in
         let same : get_or (names ++ word ∷ []) (length names) [] ≡ word = get_or-append_seam names word [] [] in
-        subst (λ k. number_in (names ++ word ∷ []) (get_or (names ++ word ∷ []) k []) ≡ k) (sym last) (ap (number_in (names ++ word ∷ [])) same ∙ number_in-push_new names word none)
+        subst (λ k. number_in (names ++ word ∷ []) (get_or (names ++ word ∷ []) k []) ≡ k) (sym last)
+        (ap (number_in (names ++ word ∷ [])) same ∙ number_in-push_new names word none)
 
 numbered-with_name : (names : List (List ℕ)) (word : List ℕ) → AreNumbered names → AreNumbered (with_name names word)
 numbered-with_name names word h = by (is_among names word) refl

@@ -38,7 +38,8 @@ say_one names p parts f fields numbered h rest =
     let right = field_word-part names p f h in
     ((λ j. one j ∷ rest.said j), rw (right, rest.right) refl, (right_word p (field_word names f) right, rest.words))
 
-pub say_fields : (names : List (List ℕ)) (parts : List Part) (fields : List Field) → AreNumbered names → all_fit names parts fields ≡ true → SayFields names parts fields
+pub say_fields : (names : List (List ℕ)) (parts : List Part) (fields : List Field) → AreNumbered names → all_fit names parts fields ≡ true
+    → SayFields names parts fields
 say_fields names parts [] numbered h = record { said = refl; right = refl; words = tt }
 say_fields names [] (f ∷ fields) numbered h =
     let p = and_parts (fits_part names part.Name f) _ h in
@@ -64,10 +65,14 @@ right_tests (a ∷ asked) h =
 
 none_wrong : (asked : List Asked) → list_all is_right asked ≡ true → find (λ a. not (is_right a)) asked ≡ None
 none_wrong [] h = refl
-none_wrong (a ∷ asked) h = let p = and_parts (is_right a) _ h in ap (λ b. cond (not b) (Some a) (find (λ a. not (is_right a)) asked)) p.0 ∙ none_wrong asked p.1
+none_wrong (a ∷ asked) h =
+    let p = and_parts (is_right a) _ h in
+    ap (λ b. cond (not b) (Some a) (find (λ a. not (is_right a)) asked)) p.0 ∙ none_wrong asked p.1
 
 pub trial_of-right : (asked : List Asked) → list_all is_right asked ≡ true → trial_of asked ≡ Ok tt
-trial_of-right asked h = ap (λ b. if b then by_first_wrong (find (λ a. not (is_right a)) asked) else Err cause.BadLine) (right_tests asked h) ∙ ap by_first_wrong (none_wrong asked h)
+trial_of-right asked h =
+    ap (λ b. if b then by_first_wrong (find (λ a. not (is_right a)) asked) else Err cause.BadLine) (right_tests asked h) ∙ ap
+    by_first_wrong (none_wrong asked h)
 
 -- ---- the kind of the line
 
@@ -79,8 +84,11 @@ found k rest false b p q = cc
 four : (n : ℕ) → (4 == n) ≡ true → n ≡ 4
 four n h = grind (arith, nat_tests)
 
-abort_test : (s : Section) (n : ℕ) → n ≡ 4 → stands_in kind.AbortTest s ≡ true → kind_here s (word_of kind.AbortTest) n ≡ Some kind.AbortTest
-abort_test s n four h = subst (λ m. kind_here s (word_of kind.AbortTest) m ≡ Some kind.AbortTest) (sym four) (found kind.AbortTest _ true (stands_in kind.AbortTest s) refl h)
+abort_test : (s : Section) (n : ℕ) → n ≡ 4 → stands_in kind.AbortTest s ≡ true
+    → kind_here s (word_of kind.AbortTest) n ≡ Some kind.AbortTest
+abort_test s n four h =
+    subst (λ m. kind_here s (word_of kind.AbortTest) m ≡ Some kind.AbortTest) (sym four)
+    (found kind.AbortTest _ true (stands_in kind.AbortTest s) refl h)
 
 pub kind_here-own : (k : LineKind) (s : Section) (n : ℕ) → takes k n ≡ true → stands_in k s ≡ true → kind_here s (word_of k) n ≡ Some k
 kind_here-own kind.AbortTest s n t h = abort_test s n (four n t) h
@@ -88,7 +96,8 @@ kind_here-own _ s n t h = found _ _ _ _ t h
 
 -- ---- the line
 
-pub line_of-form : (s : Section) (names : List (List ℕ)) (form : Form) → AreNumbered names → is_sound names form ≡ true → is_short names form ≡ true → stands_in (kind_of form) s ≡ true → line_of s (form_line names form) ≡ Ok (Some (said_by names form))
+pub line_of-form : (s : Section) (names : List (List ℕ)) (form : Form) → AreNumbered names → is_sound names form ≡ true
+    → is_short names form ≡ true → stands_in (kind_of form) s ≡ true → line_of s (form_line names form) ≡ Ok (Some (said_by names form))
 line_of-form s names form numbered sound short stands =
     let k = kind_of form in
     let fields = fields_of form in
@@ -100,18 +109,24 @@ line_of-form s names form numbered sound short stands =
     let count : takes k (length words) ≡ true = subst (λ n. takes k n ≡ true) (sym (length-map fields (field_word names))) p.0 in
     let cut : words_of (form_line names form) ≡ word_of k ∷ words = words_of-joined (word_of k) words first says.words in
     let plain : list_all is_plain (form_line names form) ≡ true = joined_plain (word_of k) words first says.words in
-    let within : nat_lt most_line_bytes (length (form_line names form)) ≡ false = le-ltb most_line_bytes (length (form_line names form)) (leb-true (length (form_line names form)) most_line_bytes short) in
+    let within : nat_lt most_line_bytes (length (form_line names form)) ≡ false =
+    le-ltb most_line_bytes (length (form_line names form)) (leb-true (length (form_line names form)) most_line_bytes short) in
     let here : kind_here s (word_of k) (length words) ≡ Some k = kind_here-own k s (length words) count stands in
     let tried : trial_of said.asked ≡ Ok tt = trial_of-right said.asked says.right in
-    ap (λ b. if b then Err cause.TooLong else line_by_words s (list_all is_plain (form_line names form)) (words_of (form_line names form))) within
+    ap
+    (λ b. if b then Err cause.TooLong else line_by_words s (list_all is_plain (form_line names form)) (words_of (form_line names form)))
+    within
     ∙ ap (λ ws. line_by_words s (list_all is_plain (form_line names form)) ws) cut
-    ∙ ap (λ b. if b then Ok None else (if list_all is_plain (form_line names form) then by_kind words (kind_here s (word_of k) (length words)) else Err cause.BadLine)) (first_speaks k)
+    ∙ ap
+    (λ b. if b then Ok None else (if list_all is_plain (form_line names form) then by_kind words (kind_here s (word_of k) (length words)) else Err cause.BadLine))
+    (first_speaks k)
     ∙ ap (λ b. if b then by_kind words (kind_here s (word_of k) (length words)) else Err cause.BadLine) plain
     ∙ ap (by_kind words) here
     ∙ ap (by_check said) tried
 
 -- and its words say the fields of the form
-pub form_by-said : (names : List (List ℕ)) (form : Form) → AreNumbered names → is_sound names form ≡ true → form_by (kind_of form) (map (field_of names) (said_by names form).asked) ≡ form
+pub form_by-said : (names : List (List ℕ)) (form : Form) → AreNumbered names → is_sound names form ≡ true
+    → form_by (kind_of form) (map (field_of names) (said_by names form).asked) ≡ form
 form_by-said names form numbered sound =
     let p = and_parts (takes (kind_of form) (length (fields_of form))) _ sound in
     ap (form_by (kind_of form)) (say_fields names (parts_of (kind_of form)) (fields_of form) numbered p.1).said ∙ form_by-own form

@@ -23,12 +23,15 @@ use Rattle.action_script.proofs.OnForms.PrintedLines.{say_fields, line_of-form, 
 
 -- ---- the lines of the text
 
-form_one_line : (names : List (List ℕ)) (form : Form) → AreNumbered names → is_sound names form ≡ true → is_one_line (form_line names form) ≡ true
+form_one_line : (names : List (List ℕ)) (form : Form) → AreNumbered names → is_sound names form ≡ true
+    → is_one_line (form_line names form) ≡ true
 form_one_line names form numbered sound =
     let p = and_parts (takes (kind_of form) (length (fields_of form))) _ sound in
-    joined_one_line (word_of (kind_of form)) (words_after names form) (first_word (kind_of form)) (say_fields names (parts_of (kind_of form)) (fields_of form) numbered p.1).words
+    joined_one_line (word_of (kind_of form)) (words_after names form) (first_word (kind_of form))
+    (say_fields names (parts_of (kind_of form)) (fields_of form) numbered p.1).words
 
-lines_of-text : (names : List (List ℕ)) (lines : List Line) → AreNumbered names → list_all (is_sound names) (forms_of lines) ≡ true → lines_of (flat_map (line_text names) lines) ≡ map (form_line names) (forms_of lines)
+lines_of-text : (names : List (List ℕ)) (lines : List Line) → AreNumbered names → list_all (is_sound names) (forms_of lines) ≡ true
+    → lines_of (flat_map (line_text names) lines) ≡ map (form_line names) (forms_of lines)
 lines_of-text names [] numbered sound = refl
 lines_of-text names (line ∷ lines) numbered sound =
     let p = and_parts (is_sound names line.form) _ sound in
@@ -43,8 +46,11 @@ abbrev saids_from : ℕ → List (List ℕ) → List Form → List Numbered
 saids_from number names [] = []
 saids_from number names (form ∷ forms) = record { number = number; said = said_by names form } ∷ saids_from (number + 1) names forms
 
-said_from-forms : (number : ℕ) (s : Section) (names : List (List ℕ)) (forms : List Form) → AreNumbered names → lead_to_top s forms ≡ true → list_all (is_sound names) forms ≡ true → list_all (is_short names) forms ≡ true → said_from number s (map (form_line names) forms) ≡ Ok (saids_from number names forms)
-said_from-forms number s names [] numbered lead sound short = ap (λ b. if b then Ok [] else Err (record { line = number; cause = cause.BadLine })) lead
+said_from-forms : (number : ℕ) (s : Section) (names : List (List ℕ)) (forms : List Form) → AreNumbered names → lead_to_top s forms ≡ true
+    → list_all (is_sound names) forms ≡ true → list_all (is_short names) forms ≡ true
+    → said_from number s (map (form_line names) forms) ≡ Ok (saids_from number names forms)
+said_from-forms number s names [] numbered lead sound short =
+    ap (λ b. if b then Ok [] else Err (record { line = number; cause = cause.BadLine })) lead
 said_from-forms number s names (form ∷ forms) numbered lead sound short =
     let a = and_parts (stands_in (kind_of form) s) _ lead in
     let b = and_parts (is_sound names form) _ sound in
@@ -53,11 +59,13 @@ said_from-forms number s names (form ∷ forms) numbered lead sound short =
     ap (with_line number s (λ t. said_from (number + 1) t (map (form_line names) forms))) (line_of-form s names form numbered b.0 c.0 a.0)
     ∙ ap (before (record { number = number; said = said_by names form })) rest
 
-names-saids : (number : ℕ) (names : List (List ℕ)) (forms : List Form) → flat_map (λ l. names_of l.said.asked) (saids_from number names forms) ≡ flat_map (form_names names) forms
+names-saids : (number : ℕ) (names : List (List ℕ)) (forms : List Form)
+    → flat_map (λ l. names_of l.said.asked) (saids_from number names forms) ≡ flat_map (form_names names) forms
 names-saids number names [] = refl
 names-saids number names (form ∷ forms) = ap (λ words. form_names names form ++ words) (names-saids (number + 1) names forms)
 
-lines-saids : (number : ℕ) (names : List (List ℕ)) (forms : List Form) → AreNumbered names → list_all (is_sound names) forms ≡ true → map (line_by names) (saids_from number names forms) ≡ numbered_from number forms
+lines-saids : (number : ℕ) (names : List (List ℕ)) (forms : List Form) → AreNumbered names → list_all (is_sound names) forms ≡ true
+    → map (line_by names) (saids_from number names forms) ≡ numbered_from number forms
 lines-saids number names [] numbered sound = refl
 lines-saids number names (form ∷ forms) numbered sound =
     let p = and_parts (is_sound names form) _ sound in
@@ -78,14 +86,17 @@ lines_spell script h =
     let numbered = numbered-script names forms h in
     let saids = saids_from 1 names forms in
     let own_names : script_names saids ≡ names = ap (with_names []) (names-saids 1 names forms) ∙ h.order in
-    let own_lines : map (line_by (script_names saids)) saids ≡ numbered_from 1 forms = ap (λ n. map (line_by n) saids) own_names ∙ lines-saids 1 names forms numbered h.sound in
+    let own_lines : map (line_by (script_names saids)) saids ≡ numbered_from 1 forms =
+    ap (λ n. map (line_by n) saids) own_names ∙ lines-saids 1 names forms numbered h.sound in
     let same : script_by saids ≡ reread_of script = (λ j. record { lines = own_lines j; names = own_names j }) in
     ap (λ lines. script_of (said_from 1 section.Top lines)) (lines_of-text names script.lines numbered h.sound)
     ∙ ap script_of (said_from-forms 1 section.Top names forms numbered h.lead h.sound h.short)
     ∙ ap Ok same
 
 -- and where it isn't too long, the text spells it
-pub reads_back : (script : Script) → AreScript script.names (forms_of script.lines) → length (text_of script) ≤ most_script_bytes → reading_of (text_of script) ≡ Ok (reread_of script)
+pub reads_back : (script : Script) → AreScript script.names (forms_of script.lines) → length (text_of script) ≤ most_script_bytes
+    → reading_of (text_of script) ≡ Ok (reread_of script)
 reads_back script h small =
-    ap (λ b. if b then Err (record { line = 0; cause = cause.TooLong }) else lines_read (text_of script)) (le-ltb most_script_bytes (length (text_of script)) small)
+    ap (λ b. if b then Err (record { line = 0; cause = cause.TooLong }) else lines_read (text_of script))
+    (le-ltb most_script_bytes (length (text_of script)) small)
     ∙ lines_spell script h

@@ -60,7 +60,8 @@ one_longer [] f = refl
 one_longer (first ∷ done) f = omega (arith, one_longer done f)
 
 -- are these fields
-all_made-own : (names : List (List ℕ)) (done : List Field) (parts : List Part) (fields : List Field) → length parts ≡ length fields → all_fit names parts fields ≡ true → all_made (length done) parts (done ++ fields) ≡ fields
+all_made-own : (names : List (List ℕ)) (done : List Field) (parts : List Part) (fields : List Field) → length parts ≡ length fields
+    → all_fit names parts fields ≡ true → all_made (length done) parts (done ++ fields) ≡ fields
 all_made-own names done [] [] e h = refl
 all_made-own names done [] (f ∷ fields) e h = absurd (omega arith)
 all_made-own names done (p ∷ parts) [] e h = absurd (omega arith)
@@ -72,12 +73,16 @@ all_made-own names done (p ∷ parts) (f ∷ fields) e h =
     ap₂ (λ x l. x ∷ l) first (same ∙ all_made-own names (done ++ f ∷ []) parts fields (omega arith) both.1)
 
 -- names that go on
-all_names : (names : List (List ℕ)) (fields : List Field) → all_fit names [] fields ≡ true → map field.Name (map (λ f. name_in (Some f)) fields) ≡ fields
+all_names : (names : List (List ℕ)) (fields : List Field) → all_fit names [] fields ≡ true
+    → map field.Name (map (λ f. name_in (Some f)) fields) ≡ fields
 all_names names [] h = refl
-all_names names (field.Name n ∷ fields) h = let p = and_parts (fits_part names part.Name (field.Name n)) _ h in ap (λ l. field.Name n ∷ l) (all_names names fields p.1)
+all_names names (field.Name n ∷ fields) h =
+    let p = and_parts (fits_part names part.Name (field.Name n)) _ h in
+    ap (λ l. field.Name n ∷ l) (all_names names fields p.1)
 all_names names (_ ∷ fields) h = cc
 
-some_names : (names : List (List ℕ)) (fields : List Field) → all_fit names (part.Name ∷ []) fields ≡ true → map field.Name (map (λ f. name_in (Some f)) fields) ≡ fields
+some_names : (names : List (List ℕ)) (fields : List Field) → all_fit names (part.Name ∷ []) fields ≡ true
+    → map field.Name (map (λ f. name_in (Some f)) fields) ≡ fields
 some_names names [] h = refl
 some_names names (f ∷ fields) h = all_names names (f ∷ fields) h
 
@@ -97,7 +102,8 @@ fields_made kind.Roles fields h = cc
 fields_made kind.Nest fields h = cc
 fields_made _ fields h = refl
 
-fields_with_more : (names : List (List ℕ)) (k : LineKind) (fields : List Field) → may_go_on k ≡ true → all_fit names (parts_of k) fields ≡ true → nat_le (length (parts_of k)) (length fields) ≡ true → fields_of (form_by k fields) ≡ fields
+fields_with_more : (names : List (List ℕ)) (k : LineKind) (fields : List Field) → may_go_on k ≡ true
+    → all_fit names (parts_of k) fields ≡ true → nat_le (length (parts_of k)) (length fields) ≡ true → fields_of (form_by k fields) ≡ fields
 fields_with_more names kind.Play (f ∷ fields) go h l =
     let p = and_parts (fits_part names part.Name f) _ h in
     ap₂ (λ x l. x ∷ l) (made_own names part.Name f p.0) (some_names names fields p.1)
@@ -113,9 +119,13 @@ equal_length : (n m : ℕ) → (n == m) ≡ true → n ≡ m
 equal_length n m h = grind (arith, nat_tests)
 
 -- the fields that a kind asks for make a form of that kind with these fields
-pub makes_form : (names : List (List ℕ)) (k : LineKind) (fields : List Field) → takes k (length fields) ≡ true → all_fit names (parts_of k) fields ≡ true → MakesForm k fields
+pub makes_form : (names : List (List ℕ)) (k : LineKind) (fields : List Field) → takes k (length fields) ≡ true
+    → all_fit names (parts_of k) fields ≡ true → MakesForm k fields
 makes_form names k fields t h = record { same_kind = kind_again k fields; same_fields = by (may_go_on k) refl t }
   where
-    by : (b : Bool) → may_go_on k ≡ b → (if b then nat_le (length (parts_of k)) (length fields) else length (parts_of k) == length fields) ≡ true → fields_of (form_by k fields) ≡ fields
+    by : (b : Bool) → may_go_on k ≡ b
+        → (if b then nat_le (length (parts_of k)) (length fields) else length (parts_of k) == length fields) ≡ true
+        → fields_of (form_by k fields) ≡ fields
     by true go l = fields_with_more names k fields go h l
-    by false go e = fields_made k fields go ∙ all_made-own names [] (parts_of k) fields (equal_length (length (parts_of k)) (length fields) e) h
+    by false go e =
+        fields_made k fields go ∙ all_made-own names [] (parts_of k) fields (equal_length (length (parts_of k)) (length fields) e) h

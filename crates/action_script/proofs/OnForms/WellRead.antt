@@ -35,7 +35,8 @@ weight-filled : (pieces : List (List ℕ)) → weight (filled_of pieces) ≤ wei
 weight-filled [] = omega arith
 weight-filled (piece ∷ pieces) = by (is_empty piece) (weight-filled pieces)
   where
-    by : (b : Bool) → weight (filled_of pieces) ≤ weight pieces → weight (cond (not b) (piece ∷ filled_of pieces) (filled_of pieces)) ≤ length piece + 1 + weight pieces
+    by : (b : Bool) → weight (filled_of pieces) ≤ weight pieces
+        → weight (cond (not b) (piece ∷ filled_of pieces) (filled_of pieces)) ≤ length piece + 1 + weight pieces
     by true h = omega arith
     by false h = omega arith
 
@@ -44,7 +45,9 @@ weight-spaced [] = refl
 weight-spaced (word ∷ words) = omega (arith, length-append word (spaced words), weight-spaced words)
 
 joined_short : (line first : List ℕ) (words : List (List ℕ)) → words_of line ≡ first ∷ words → length (first ++ spaced words) ≤ length line
-joined_short line first words cut = omega (arith, length-append first (spaced words), weight-spaced words, ap weight cut, weight-filled (slice_split is_blank line), weight-split is_blank line)
+joined_short line first words cut =
+    omega
+    (arith, length-append first (spaced words), weight-spaced words, ap weight cut, weight-filled (slice_split is_blank line), weight-split is_blank line)
 
 -- ---- words that were tried
 
@@ -52,7 +55,8 @@ pub right_all : (asked : List Asked) → find (λ a. not (is_right a)) asked ≡
 right_all [] h = refl
 right_all (a ∷ asked) h = by (is_right a) refl h (right_all asked)
   where
-    by : (b : Bool) → is_right a ≡ b → cond (not b) (Some a) (find (λ a. not (is_right a)) asked) ≡ None → (find (λ a. not (is_right a)) asked ≡ None → list_all is_right asked ≡ true) → list_all is_right (a ∷ asked) ≡ true
+    by : (b : Bool) → is_right a ≡ b → cond (not b) (Some a) (find (λ a. not (is_right a)) asked) ≡ None
+        → (find (λ a. not (is_right a)) asked ≡ None → list_all is_right asked ≡ true) → list_all is_right (a ∷ asked) ≡ true
     by true e g rest = rw (e, rest g) refl
     by false e g rest = cc
 
@@ -63,7 +67,8 @@ right_checked asked h = by_tests (list_all (λ a. not (is_wrong_test a)) asked) 
     by_found None e g = right_all asked e
     by_found (Some a) e g = cc
 
-    by_tests : (b : Bool) → (if b then by_first_wrong (find (λ a. not (is_right a)) asked) else Err cause.BadLine) ≡ Ok tt → list_all is_right asked ≡ true
+    by_tests : (b : Bool) → (if b then by_first_wrong (find (λ a. not (is_right a)) asked) else Err cause.BadLine) ≡ Ok tt
+        → list_all is_right asked ≡ true
     by_tests true g = by_found (find (λ a. not (is_right a)) asked) refl g
     by_tests false g = cc
 
@@ -80,7 +85,8 @@ record AreFields (names : List (List ℕ)) (parts : List Part) (words : List (Li
   fits : all_fit names parts (map (field_of names) (asked_of parts words)) ≡ true
   written : map (field_word names) (map (field_of names) (asked_of parts words)) ≡ words
 
-are_fields : (names : List (List ℕ)) (parts : List Part) (words : List (List ℕ)) → list_all is_right (asked_of parts words) ≡ true → list_all (is_among names) (names_of (asked_of parts words)) ≡ true → AreFields names parts words
+are_fields : (names : List (List ℕ)) (parts : List Part) (words : List (List ℕ)) → list_all is_right (asked_of parts words) ≡ true
+    → list_all (is_among names) (names_of (asked_of parts words)) ≡ true → AreFields names parts words
 are_fields names parts [] right among = record { fits = refl; written = refl }
 are_fields names [] (word ∷ words) right among =
     let p = and_parts (is_part part.Name word) _ right in
@@ -105,7 +111,8 @@ record IsWellSaid (names : List (List ℕ)) (s : Section) (said : Said) (form : 
   short : is_short names form ≡ true
   words : form_names names form ≡ names_of said.asked
 
-well_said : (names : List (List ℕ)) (s : Section) (line : List ℕ) (said : Said) → Speaks s line said → list_all (is_among names) (names_of said.asked) ≡ true → IsWellSaid names s said (form_by said.kind (map (field_of names) said.asked))
+well_said : (names : List (List ℕ)) (s : Section) (line : List ℕ) (said : Said) → Speaks s line said
+    → list_all (is_among names) (names_of said.asked) ≡ true → IsWellSaid names s said (form_by said.kind (map (field_of names) said.asked))
 well_said names s line said h among =
     let k = said.kind in
     let fields = map (field_of names) said.asked in
@@ -113,20 +120,29 @@ well_said names s line said h among =
     let here = and_parts (bytes_eq h.first (word_of k)) _ h.here in
     let first : h.first ≡ word_of k = (bytes_eq-Decides h.first (word_of k)).0 here.0 in
     let stands = (and_parts (takes k (length h.words)) _ here.1).1 in
-    let right : list_all is_right (asked_of (parts_of k) h.words) ≡ true = subst (λ a. list_all is_right a ≡ true) h.asked (right_checked said.asked h.right) in
-    let own : list_all (is_among names) (names_of (asked_of (parts_of k) h.words)) ≡ true = subst (λ a. list_all (is_among names) (names_of a) ≡ true) h.asked among in
+    let right : list_all is_right (asked_of (parts_of k) h.words) ≡ true =
+    subst (λ a. list_all is_right a ≡ true) h.asked (right_checked said.asked h.right) in
+    let own : list_all (is_among names) (names_of (asked_of (parts_of k) h.words)) ≡ true =
+    subst (λ a. list_all (is_among names) (names_of a) ≡ true) h.asked among in
     let are = are_fields names (parts_of k) h.words right own in
-    let fits : all_fit names (parts_of k) fields ≡ true = subst (λ a. all_fit names (parts_of k) (map (field_of names) a) ≡ true) (sym h.asked) are.fits in
-    let written : map (field_word names) fields ≡ h.words = ap (λ a. map (field_word names) (map (field_of names) a)) h.asked ∙ are.written in
-    let count : takes k (length fields) ≡ true = subst (λ n. takes k n ≡ true) (sym (length-map said.asked (field_of names))) (speaks-takes s line said h) in
+    let fits : all_fit names (parts_of k) fields ≡ true =
+    subst (λ a. all_fit names (parts_of k) (map (field_of names) a) ≡ true) (sym h.asked) are.fits in
+    let written : map (field_word names) fields ≡ h.words =
+    ap (λ a. map (field_word names) (map (field_of names) a)) h.asked ∙ are.written in
+    let count : takes k (length fields) ≡ true =
+    subst (λ n. takes k n ≡ true) (sym (length-map said.asked (field_of names))) (speaks-takes s line said h) in
     let made = makes_form names k fields count fits in
     let after : words_after names form ≡ h.words = ap (map (field_word names)) made.same_fields ∙ written in
-    let text : form_line names form ≡ h.first ++ spaced h.words = (λ j. word_of (made.same_kind j) ++ spaced (after j)) ∙ ap (λ w. w ++ spaced h.words) (sym first) in
-    let small : length (form_line names form) ≤ most_line_bytes = omega (arith, ap length text, joined_short line h.first h.words h.cut, h.short) in
+    let text : form_line names form ≡ h.first ++ spaced h.words =
+    (λ j. word_of (made.same_kind j) ++ spaced (after j)) ∙ ap (λ w. w ++ spaced h.words) (sym first) in
+    let small : length (form_line names form) ≤ most_line_bytes =
+    omega (arith, ap length text, joined_short line h.first h.words h.cut, h.short) in
     record {
       kind = made.same_kind;
       stands = subst (λ x. stands_in x s ≡ true) (sym made.same_kind) stands;
-      sound = (λ j. takes (made.same_kind j) (length (made.same_fields j)) && all_fit names (parts_of (made.same_kind j)) (made.same_fields j)) ∙ rw (count, fits) refl;
+      sound =
+          (λ j. takes (made.same_kind j) (length (made.same_fields j)) && all_fit names (parts_of (made.same_kind j)) (made.same_fields j))
+          ∙ rw (count, fits) refl;
       short = le-leb (length (form_line names form)) most_line_bytes small;
       words = (λ j. names_of (asked_of (parts_of (made.same_kind j)) (after j))) ∙ ap names_of (sym h.asked);
     }
@@ -144,18 +160,24 @@ spoken_after number s said text (Ok rest) lines says later h =
     let same : record { number = number; said = said } ∷ rest ≡ lines = cc in
     subst (Spoken s) same ((text, says), later rest refl)
 
-spoken_line : (number : ℕ) (s : Section) (text : List ℕ) (more : Section → Result (List Numbered) ScriptError) (r : Result (Option Said) ScriptCause) (lines : List Numbered) → line_of s text ≡ r → ((t : Section) (rest : List Numbered) → more t ≡ Ok rest → Spoken t rest) → with_line number s more r ≡ Ok lines → Spoken s lines
+spoken_line : (number : ℕ) (s : Section) (text : List ℕ) (more : Section → Result (List Numbered) ScriptError) (r : Result (Option Said) ScriptCause) (lines : List Numbered)
+    → line_of s text ≡ r → ((t : Section) (rest : List Numbered) → more t ≡ Ok rest → Spoken t rest) → with_line number s more r ≡ Ok lines
+    → Spoken s lines
 spoken_line number s text more (Err c) lines e later h = cc
 spoken_line number s text more (Ok None) lines e later h = later s lines h
-spoken_line number s text more (Ok (Some said)) lines e later h = spoken_after number s said text (more (goes_to said.kind s)) lines (speaks s text said e) (later (goes_to said.kind s)) h
+spoken_line number s text more (Ok (Some said)) lines e later h =
+    spoken_after number s said text (more (goes_to said.kind s)) lines (speaks s text said e) (later (goes_to said.kind s)) h
 
-spoken_end : (b : Bool) (fault : ScriptError) (s : Section) (lines : List Numbered) → at_top s ≡ b → (if b then Ok [] else Err fault) ≡ Ok lines → Spoken s lines
+spoken_end : (b : Bool) (fault : ScriptError) (s : Section) (lines : List Numbered) → at_top s ≡ b
+    → (if b then Ok [] else Err fault) ≡ Ok lines → Spoken s lines
 spoken_end true fault s lines e h = let same : [] ≡ lines = cc in subst (Spoken s) same e
 spoken_end false fault s lines e h = cc
 
 spoken : (number : ℕ) (s : Section) (texts : List (List ℕ)) (lines : List Numbered) → said_from number s texts ≡ Ok lines → Spoken s lines
 spoken number s [] lines h = spoken_end (at_top s) (record { line = number; cause = cause.BadLine }) s lines refl h
-spoken number s (text ∷ texts) lines h = spoken_line number s text (λ t. said_from (number + 1) t texts) (line_of s text) lines refl (λ t rest g. spoken (number + 1) t texts rest g) h
+spoken number s (text ∷ texts) lines h =
+    spoken_line number s text (λ t. said_from (number + 1) t texts) (line_of s text) lines refl
+    (λ t rest g. spoken (number + 1) t texts rest g) h
 
 record AreWellSaid (names : List (List ℕ)) (s : Section) (lines : List Numbered) : Type 0 where
   lead : lead_to_top s (forms_of (map (line_by names) lines)) ≡ true
@@ -163,13 +185,15 @@ record AreWellSaid (names : List (List ℕ)) (s : Section) (lines : List Numbere
   short : list_all (is_short names) (forms_of (map (line_by names) lines)) ≡ true
   words : flat_map (form_names names) (forms_of (map (line_by names) lines)) ≡ flat_map (λ l. names_of l.said.asked) lines
 
-are_well_said : (names : List (List ℕ)) (s : Section) (lines : List Numbered) → Spoken s lines → are_named names lines ≡ true → AreWellSaid names s lines
+are_well_said : (names : List (List ℕ)) (s : Section) (lines : List Numbered) → Spoken s lines → are_named names lines ≡ true
+    → AreWellSaid names s lines
 are_well_said names s [] h named = record { lead = h; sound = refl; short = refl; words = refl }
 are_well_said names s (line ∷ lines) h named =
     let p = and_parts (list_all (is_among names) (names_of line.said.asked)) _ named in
     let one = well_said names s h.0.0 line.said h.0.1 p.0 in
     let rest = are_well_said names (goes_to line.said.kind s) lines h.1 p.1 in
-    let lead : lead_to_top (goes_to (kind_of (line_by names line).form) s) (forms_of (map (line_by names) lines)) ≡ true = subst (λ k. lead_to_top (goes_to k s) (forms_of (map (line_by names) lines)) ≡ true) (sym one.kind) rest.lead in
+    let lead : lead_to_top (goes_to (kind_of (line_by names line).form) s) (forms_of (map (line_by names) lines)) ≡ true =
+    subst (λ k. lead_to_top (goes_to k s) (forms_of (map (line_by names) lines)) ≡ true) (sym one.kind) rest.lead in
     record {
       lead = rw (one.stands, lead) refl;
       sound = rw (one.sound, rest.sound) refl;
@@ -179,7 +203,8 @@ are_well_said names s (line ∷ lines) h named =
 
 -- ---- the script
 
-by_said : (bytes : List ℕ) (r : Result (List Numbered) ScriptError) (script : Script) → said_from 1 section.Top (lines_of bytes) ≡ r → script_of r ≡ Ok script → length script.names < 2 ^ 32 → length script.lines < 2 ^ 32 → AreScript script.names (forms_of script.lines)
+by_said : (bytes : List ℕ) (r : Result (List Numbered) ScriptError) (script : Script) → said_from 1 section.Top (lines_of bytes) ≡ r
+    → script_of r ≡ Ok script → length script.names < 2 ^ 32 → length script.lines < 2 ^ 32 → AreScript script.names (forms_of script.lines)
 by_said bytes (Err e) script said h few_names few_lines = cc
 by_said bytes (Ok lines) script said h few_names few_lines =
     let same : script_by lines ≡ script = cc in
@@ -197,7 +222,8 @@ by_said bytes (Ok lines) script said h few_names few_lines =
       order = ap (with_names []) well.words;
     })
 
-pub well_read : (bytes : List ℕ) (script : Script) → reading_of bytes ≡ Ok script → length script.names < 2 ^ 32 → length script.lines < 2 ^ 32 → AreScript script.names (forms_of script.lines)
+pub well_read : (bytes : List ℕ) (script : Script) → reading_of bytes ≡ Ok script → length script.names < 2 ^ 32
+    → length script.lines < 2 ^ 32 → AreScript script.names (forms_of script.lines)
 well_read bytes script h few_names few_lines = by (nat_lt most_script_bytes (length bytes)) h
   where
     by : (b : Bool) → (if b then Err (record { line = 0; cause = cause.TooLong }) else script_of (said_from 1 section.Top (lines_of bytes))) ≡ Ok script → AreScript script.names (forms_of script.lines)

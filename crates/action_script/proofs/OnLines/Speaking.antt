@@ -33,7 +33,8 @@ find-passes test (y ∷ xs) x h = by (test y) refl h (find-passes test xs x)
     by true e g rest = let same : y ≡ x = cc in subst (λ z. test z ≡ true) same e
     by false e g rest = rest g
 
-by_words : (s : Section) (line : List ℕ) (said : Said) → length line ≤ most_line_bytes → (plain : Bool) (words : List (List ℕ)) → words_of line ≡ words → line_by_words s plain words ≡ Ok (Some said) → Speaks s line said
+by_words : (s : Section) (line : List ℕ) (said : Said) → length line ≤ most_line_bytes → (plain : Bool) (words : List (List ℕ))
+    → words_of line ≡ words → line_by_words s plain words ≡ Ok (Some said) → Speaks s line said
 by_words s line said short plain [] cut h = cc
 by_words s line said short plain (first ∷ words) cut h = by_comment (begins_comment first) refl h
   where
@@ -52,22 +53,27 @@ by_words s line said short plain (first ∷ words) cut h = by_comment (begins_co
           right = e;
         })
 
-    by_kinds : begins_comment first ≡ false → (k : Option LineKind) → kind_here s first (length words) ≡ k → by_kind words k ≡ Ok (Some said) → Speaks s line said
+    by_kinds : begins_comment first ≡ false → (k : Option LineKind) → kind_here s first (length words) ≡ k
+        → by_kind words k ≡ Ok (Some said) → Speaks s line said
     by_kinds spoken None e g = cc
     by_kinds spoken (Some kind) e g = by_found spoken kind e (trial_of (asked_of (parts_of kind) words)) refl g
 
-    by_plain : begins_comment first ≡ false → (b : Bool) → (if b then by_kind words (kind_here s first (length words)) else Err cause.BadLine) ≡ Ok (Some said) → Speaks s line said
+    by_plain : begins_comment first ≡ false → (b : Bool)
+        → (if b then by_kind words (kind_here s first (length words)) else Err cause.BadLine) ≡ Ok (Some said) → Speaks s line said
     by_plain spoken true g = by_kinds spoken (kind_here s first (length words)) refl g
     by_plain spoken false g = cc
 
-    by_comment : (b : Bool) → begins_comment first ≡ b → (if b then Ok None else (if plain then by_kind words (kind_here s first (length words)) else Err cause.BadLine)) ≡ Ok (Some said) → Speaks s line said
+    by_comment : (b : Bool) → begins_comment first ≡ b
+        → (if b then Ok None else (if plain then by_kind words (kind_here s first (length words)) else Err cause.BadLine)) ≡ Ok (Some said)
+        → Speaks s line said
     by_comment true e g = cc
     by_comment false e g = by_plain e plain g
 
 pub speaks : (s : Section) (line : List ℕ) (said : Said) → line_of s line ≡ Ok (Some said) → Speaks s line said
 speaks s line said h = by (nat_lt most_line_bytes (length line)) refl h
   where
-    by : (b : Bool) → nat_lt most_line_bytes (length line) ≡ b → (if b then Err cause.TooLong else line_by_words s (list_all is_plain line) (words_of line)) ≡ Ok (Some said) → Speaks s line said
+    by : (b : Bool) → nat_lt most_line_bytes (length line) ≡ b
+        → (if b then Err cause.TooLong else line_by_words s (list_all is_plain line) (words_of line)) ≡ Ok (Some said) → Speaks s line said
     by true e g = cc
     by false e g = by_words s line said (ltb-false most_line_bytes (length line) e) (list_all is_plain line) (words_of line) refl g
 
@@ -86,4 +92,5 @@ speaks-takes s line said h =
 
 -- it has no more words than bytes
 pub speaks-short : (s : Section) (line : List ℕ) (said : Said) → Speaks s line said → length said.asked ≤ length line
-speaks-short s line said h = omega (arith, ap length h.asked, length-asked_of (parts_of said.kind) h.words, ap length h.cut, length-words_of line)
+speaks-short s line said h =
+    omega (arith, ap length h.asked, length-asked_of (parts_of said.kind) h.words, ap length h.cut, length-words_of line)

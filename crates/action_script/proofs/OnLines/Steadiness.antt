@@ -30,7 +30,8 @@ is_among-push : (names : List (List ℕ)) (new word : List ℕ) → is_among nam
 is_among-push [] new word h = cc
 is_among-push (name ∷ names) new word h = by (bytes_eq word name) (is_among-push names new word) h
   where
-    by : (b : Bool) → (is_among names word ≡ true → is_among (names ++ new ∷ []) word ≡ true) → (b || is_among names word) ≡ true → (b || is_among (names ++ new ∷ []) word) ≡ true
+    by : (b : Bool) → (is_among names word ≡ true → is_among (names ++ new ∷ []) word ≡ true) → (b || is_among names word) ≡ true
+        → (b || is_among (names ++ new ∷ []) word) ≡ true
     by true rest g = refl
     by false rest g = rest g
 
@@ -42,11 +43,14 @@ is_among-new (name ∷ names) word = by (bytes_eq word name) (is_among-new names
     by true h = refl
     by false h = h
 
-pub number_in-push : (names : List (List ℕ)) (new word : List ℕ) → is_among names word ≡ true → number_in (names ++ new ∷ []) word ≡ number_in names word
+pub number_in-push : (names : List (List ℕ)) (new word : List ℕ) → is_among names word ≡ true
+    → number_in (names ++ new ∷ []) word ≡ number_in names word
 number_in-push [] new word h = cc
 number_in-push (name ∷ names) new word h = by (bytes_eq word name) (number_in-push names new word) h
   where
-    by : (b : Bool) → (is_among names word ≡ true → number_in (names ++ new ∷ []) word ≡ number_in names word) → (b || is_among names word) ≡ true → (if b then 0 else 1 + number_in (names ++ new ∷ []) word) ≡ (if b then 0 else 1 + number_in names word)
+    by : (b : Bool) → (is_among names word ≡ true → number_in (names ++ new ∷ []) word ≡ number_in names word)
+        → (b || is_among names word) ≡ true
+        → (if b then 0 else 1 + number_in (names ++ new ∷ []) word) ≡ (if b then 0 else 1 + number_in names word)
     by true rest g = refl
     by false rest g = ap (λ n. 1 + n) (rest g)
 
@@ -66,20 +70,24 @@ is_among-with_own_name names word = by (is_among names word) refl
     by true h = h
     by false h = is_among-new names word
 
-number_in-with_name : (names : List (List ℕ)) (new word : List ℕ) → is_among names word ≡ true → number_in (with_name names new) word ≡ number_in names word
+number_in-with_name : (names : List (List ℕ)) (new word : List ℕ) → is_among names word ≡ true
+    → number_in (with_name names new) word ≡ number_in names word
 number_in-with_name names new word h = by (is_among names new)
   where
     by : (b : Bool) → number_in (if b then names else names ++ new ∷ []) word ≡ number_in names word
     by true = refl
     by false = number_in-push names new word h
 
-pub is_among-with_names : (names words : List (List ℕ)) (word : List ℕ) → is_among names word ≡ true → is_among (with_names names words) word ≡ true
+pub is_among-with_names : (names words : List (List ℕ)) (word : List ℕ) → is_among names word ≡ true
+    → is_among (with_names names words) word ≡ true
 is_among-with_names names [] word h = h
 is_among-with_names names (new ∷ words) word h = is_among-with_names (with_name names new) words word (is_among-with_name names new word h)
 
-pub number_in-with_names : (names words : List (List ℕ)) (word : List ℕ) → is_among names word ≡ true → number_in (with_names names words) word ≡ number_in names word
+pub number_in-with_names : (names words : List (List ℕ)) (word : List ℕ) → is_among names word ≡ true
+    → number_in (with_names names words) word ≡ number_in names word
 number_in-with_names names [] word h = refl
-number_in-with_names names (new ∷ words) word h = number_in-with_names (with_name names new) words word (is_among-with_name names new word h) ∙ number_in-with_name names new word h
+number_in-with_names names (new ∷ words) word h =
+    number_in-with_names (with_name names new) words word (is_among-with_name names new word h) ∙ number_in-with_name names new word h
 
 -- each of some words is among the names with them
 pub all_among-with_names : (names words : List (List ℕ)) → list_all (is_among (with_names names words)) words ≡ true
@@ -99,7 +107,8 @@ with_names-append names (word ∷ words) more = with_names-append (with_name nam
 abbrev pub are_named : List (List ℕ) → List Numbered → Bool
 are_named names lines = list_all (λ l. list_all (is_among names) (names_of l.said.asked)) lines
 
-all_in_parts : (test : List ℕ → Bool) (lines : List Numbered) → list_all test (flat_map (λ l. names_of l.said.asked) lines) ≡ true → list_all (λ l. list_all test (names_of l.said.asked)) lines ≡ true
+all_in_parts : (test : List ℕ → Bool) (lines : List Numbered) → list_all test (flat_map (λ l. names_of l.said.asked) lines) ≡ true
+    → list_all (λ l. list_all test (names_of l.said.asked)) lines ≡ true
 all_in_parts test [] h = refl
 all_in_parts test (line ∷ lines) h =
     let own = names_of line.said.asked in
@@ -107,10 +116,12 @@ all_in_parts test (line ∷ lines) h =
     and (list_all test own) _ p.0 (all_in_parts test lines p.1)
 
 pub are_named-script_names : (lines : List Numbered) → are_named (script_names lines) lines ≡ true
-are_named-script_names lines = all_in_parts (is_among (script_names lines)) lines (all_among-with_names [] (flat_map (λ l. names_of l.said.asked) lines))
+are_named-script_names lines =
+    all_in_parts (is_among (script_names lines)) lines (all_among-with_names [] (flat_map (λ l. names_of l.said.asked) lines))
 
 -- what a word says stays, where its name is among the names
-field_by-with_names : (names words : List (List ℕ)) (p : Part) (word : List ℕ) → (is_name_part p ≡ true → is_among names word ≡ true) → field_by (with_names names words) p word ≡ field_by names p word
+field_by-with_names : (names words : List (List ℕ)) (p : Part) (word : List ℕ) → (is_name_part p ≡ true → is_among names word ≡ true)
+    → field_by (with_names names words) p word ≡ field_by names p word
 field_by-with_names names words part.Name word h = ap field.Name (number_in-with_names names words word (h refl))
 field_by-with_names names words part.Value word h = refl
 field_by-with_names names words part.Count word h = refl
@@ -137,13 +148,15 @@ pub asked_from : (parts : List Part) (words : List (Bor (List ℕ))) (i : ℕ) (
 asked_from parts [] i none within = absurd (omega (arith, within))
 asked_from [] words i none within =
     let word : Asked = record { part = part.Name; word = (get_or words i none).now } in
-    ap (λ p. asked_of p (map (λ w. w.now) (drop i words))) (drop-nil i) ∙ names_from words i none within ∙ ap (λ p. word ∷ asked_of p (map (λ w. w.now) (drop (suc i) words))) (sym (drop-nil (suc i)))
+    ap (λ p. asked_of p (map (λ w. w.now) (drop i words))) (drop-nil i) ∙ names_from words i none within ∙ ap
+    (λ p. word ∷ asked_of p (map (λ w. w.now) (drop (suc i) words))) (sym (drop-nil (suc i)))
 asked_from (one ∷ parts) (first ∷ words) zero none within = refl
 asked_from (one ∷ parts) (first ∷ words) (suc i) none within = asked_from parts words i none (omega (arith, within))
 
 module _ (asked : List Asked) (i : ℕ) (word : Asked) (within : i < length asked) (is : word ≡ get_or asked i word) where
   rest : drop i asked ≡ word ∷ drop (i + 1) asked
-  rest = drop-cons asked i word within ∙ ap (λ (x : Asked). x ∷ drop (suc i) asked) (sym is) ∙ sym (ap (λ k. word ∷ drop k asked) (add-one i))
+  rest =
+      drop-cons asked i word within ∙ ap (λ (x : Asked). x ∷ drop (suc i) asked) (sym is) ∙ sym (ap (λ k. word ∷ drop k asked) (add-one i))
 
   -- the words from it on are right where it and those behind it are
   pub right_in_turn : list_all is_right (drop i asked) ≡ (is_right word && list_all is_right (drop (i + 1) asked))
@@ -153,28 +166,41 @@ module _ (asked : List Asked) (i : ℕ) (word : Asked) (within : i < length aske
   done = rw add-one (take-suc asked i word within ∙ ap (λ (x : Asked). take i asked ++ x ∷ []) (sym is))
 
   -- the name of a word is added in its turn
-  pub name_taken : (names : List (List ℕ)) → with_names (if is_name_part word.part then with_name names word.word else names) (names_of (drop (i + 1) asked)) ≡ with_names names (names_of (drop i asked))
+  pub name_taken : (names : List (List ℕ))
+      → with_names (if is_name_part word.part then with_name names word.word else names) (names_of (drop (i + 1) asked)) ≡ with_names
+      names (names_of (drop i asked))
   name_taken names = by (is_name_part word.part) ∙ ap (λ l. with_names names (names_of l)) (sym rest)
     where
       by : (b : Bool) → with_names (if b then with_name names word.word else names) (names_of (drop (i + 1) asked))
-          ≡ with_names names (map (λ a. a.word) (cond b (word ∷ filter (λ a. is_name_part a.part) (drop (i + 1) asked)) (filter (λ a. is_name_part a.part) (drop (i + 1) asked))))
+          ≡ with_names names
+          (map (λ a. a.word) (cond b (word ∷ filter (λ a. is_name_part a.part) (drop (i + 1) asked)) (filter (λ a. is_name_part a.part) (drop (i + 1) asked))))
       by true = refl
       by false = refl
 
   -- what it says is what it says by all names
-  pub field_taken : (names more : List (List ℕ)) → field_by (if is_name_part word.part then with_name names word.word else names) word.part word.word ≡ field_of (with_names (if is_name_part word.part then with_name names word.word else names) more) word
-  field_taken names more = sym (field_by-with_names (if is_name_part word.part then with_name names word.word else names) more word.part word.word (λ yes. rw yes (is_among-with_own_name names word.word)))
+  pub field_taken : (names more : List (List ℕ))
+      → field_by (if is_name_part word.part then with_name names word.word else names) word.part word.word ≡ field_of
+      (with_names (if is_name_part word.part then with_name names word.word else names) more) word
+  field_taken names more =
+      sym
+      (field_by-with_names (if is_name_part word.part then with_name names word.word else names) more word.part word.word (λ yes. rw yes (is_among-with_own_name names word.word)))
 
-  pub fields_taken : (f : Asked → Field) (fields : List Field) (field : Field) → fields ≡ map f (take i asked) → field ≡ f word → fields ++ field ∷ [] ≡ map f (take (i + 1) asked)
+  pub fields_taken : (f : Asked → Field) (fields : List Field) (field : Field) → fields ≡ map f (take i asked) → field ≡ f word
+      → fields ++ field ∷ [] ≡ map f (take (i + 1) asked)
   fields_taken f fields field before own = rw (before, own) (sym (ap (map f) done ∙ map-append f (take i asked) (word ∷ [])))
 
 -- ---- lines by more names
 
-pub fields-with_names : (names words : List (List ℕ)) (asked : List Asked) → list_all (is_among names) (names_of asked) ≡ true → map (field_of (with_names names words)) asked ≡ map (field_of names) asked
+pub fields-with_names : (names words : List (List ℕ)) (asked : List Asked) → list_all (is_among names) (names_of asked) ≡ true
+    → map (field_of (with_names names words)) asked ≡ map (field_of names) asked
 fields-with_names names words [] h = refl
 fields-with_names names words (a ∷ asked) h = by (fields-with_names names words asked) (is_name_part a.part) refl h
   where
-    by : (list_all (is_among names) (names_of asked) ≡ true → map (field_of (with_names names words)) asked ≡ map (field_of names) asked) → (b : Bool) → is_name_part a.part ≡ b → list_all (is_among names) (map (λ a. a.word) (cond b (a ∷ filter (λ a. is_name_part a.part) asked) (filter (λ a. is_name_part a.part) asked))) ≡ true → map (field_of (with_names names words)) (a ∷ asked) ≡ map (field_of names) (a ∷ asked)
+    by : (list_all (is_among names) (names_of asked) ≡ true → map (field_of (with_names names words)) asked ≡ map (field_of names) asked)
+        → (b : Bool) → is_name_part a.part ≡ b
+        → list_all (is_among names)
+        (map (λ a. a.word) (cond b (a ∷ filter (λ a. is_name_part a.part) asked) (filter (λ a. is_name_part a.part) asked))) ≡ true
+        → map (field_of (with_names names words)) (a ∷ asked) ≡ map (field_of names) (a ∷ asked)
     by later true e g =
         let p = and_parts (is_among names a.word) _ g in
         let one = field_by-with_names names words a.part a.word (λ _. p.0) in
@@ -185,7 +211,8 @@ fields-with_names names words (a ∷ asked) h = by (fields-with_names names word
         let rest = later g in
         cc
 
-pub lines-with_names : (names words : List (List ℕ)) (lines : List Numbered) → are_named names lines ≡ true → map (line_by (with_names names words)) lines ≡ map (line_by names) lines
+pub lines-with_names : (names words : List (List ℕ)) (lines : List Numbered) → are_named names lines ≡ true
+    → map (line_by (with_names names words)) lines ≡ map (line_by names) lines
 lines-with_names names words [] h = refl
 lines-with_names names words (line ∷ lines) h =
     let p = and_parts (list_all (is_among names) (names_of line.said.asked)) _ h in

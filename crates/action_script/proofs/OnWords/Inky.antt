@@ -30,7 +30,8 @@ pub record IsWord (word : List ℕ) : Type 0 where
 pub inky_byte : (b : ℕ) → 33 ≤ b → b ≤ 126 → is_inky b ≡ true
 inky_byte b low high = rw (le-leb 33 b low, le-leb b 126 high) refl
 
-all_inky : (test : ℕ → Bool) → ((b : ℕ) → test b ≡ true → is_inky b ≡ true) → (word : List ℕ) → list_all test word ≡ true → list_all is_inky word ≡ true
+all_inky : (test : ℕ → Bool) → ((b : ℕ) → test b ≡ true → is_inky b ≡ true) → (word : List ℕ) → list_all test word ≡ true
+    → list_all is_inky word ≡ true
 all_inky test one [] h = refl
 all_inky test one (b ∷ rest) h = let p = and_parts (test b) _ h in rw (one b p.0, all_inky test one rest p.1) refl
 
@@ -82,12 +83,20 @@ value_word : (word : List ℕ) → is_some (value_of word) ≡ true → IsWord w
 value_word [] h = cc
 value_word (b ∷ rest) h = by (b == 45) refl h
   where
-    by : (c : Bool) → (b == 45) ≡ c → is_some (if c then negative_of (at_most 1000000000000 (natural_of rest)) else option_map pos (at_most 1000000000000 (natural_of (b ∷ rest)))) ≡ true → IsWord (b ∷ rest)
+    by : (c : Bool) → (b == 45) ≡ c
+        → is_some
+        (if c then negative_of (at_most 1000000000000 (natural_of rest)) else option_map pos (at_most 1000000000000 (natural_of (b ∷ rest))))
+        ≡ true
+        → IsWord (b ∷ rest)
     by true e g =
         let same : 45 ≡ b = grind (arith, nat_tests) in
-        let p = within_word rest 1000000000000 (at_most 1000000000000 (natural_of rest)) refl (some_negative (at_most 1000000000000 (natural_of rest)) g) in
+        let p =
+        within_word rest 1000000000000 (at_most 1000000000000 (natural_of rest)) refl
+        (some_negative (at_most 1000000000000 (natural_of rest)) g) in
         subst (λ x. IsWord (x ∷ rest)) same (record { filled = refl; inky = p.inky })
-    by false e g = within_word (b ∷ rest) 1000000000000 (at_most 1000000000000 (natural_of (b ∷ rest))) refl (some_positive (at_most 1000000000000 (natural_of (b ∷ rest))) g)
+    by false e g =
+        within_word (b ∷ rest) 1000000000000 (at_most 1000000000000 (natural_of (b ∷ rest))) refl
+        (some_positive (at_most 1000000000000 (natural_of (b ∷ rest))) g)
 
 same_word : (word other : List ℕ) → bytes_eq word other ≡ true → other ≡ word
 same_word word other h = sym ((bytes_eq-Decides word other).0 h)
@@ -99,11 +108,16 @@ test_of-some word t h = by_below (bytes_eq word (codes "below")) refl h
     by_equal true e g = let same : test.Equal ≡ t = cc in subst (λ x. test_word x ≡ word) same (same_word word (codes "equal") e)
     by_equal false e g = cc
 
-    by_above : (c : Bool) → bytes_eq word (codes "above") ≡ c → (if c then Some test.Above else (if bytes_eq word (codes "equal") then Some test.Equal else None)) ≡ Some t → test_word t ≡ word
+    by_above : (c : Bool) → bytes_eq word (codes "above") ≡ c
+        → (if c then Some test.Above else (if bytes_eq word (codes "equal") then Some test.Equal else None)) ≡ Some t → test_word t ≡ word
     by_above true e g = let same : test.Above ≡ t = cc in subst (λ x. test_word x ≡ word) same (same_word word (codes "above") e)
     by_above false e g = by_equal (bytes_eq word (codes "equal")) refl g
 
-    by_below : (c : Bool) → bytes_eq word (codes "below") ≡ c → (if c then Some test.Below else (if bytes_eq word (codes "above") then Some test.Above else (if bytes_eq word (codes "equal") then Some test.Equal else None))) ≡ Some t → test_word t ≡ word
+    by_below : (c : Bool) → bytes_eq word (codes "below") ≡ c
+        →
+        (if c then Some test.Below else (if bytes_eq word (codes "above") then Some test.Above else (if bytes_eq word (codes "equal") then Some test.Equal else None)))
+        ≡ Some t
+        → test_word t ≡ word
     by_below true e g = let same : test.Below ≡ t = cc in subst (λ x. test_word x ≡ word) same (same_word word (codes "below") e)
     by_below false e g = by_above (bytes_eq word (codes "above")) refl g
 

@@ -32,9 +32,12 @@ inky_line_feed b h = let p = inky_range b h in grind (arith, nat_tests)
 pub inky_plain : (b : ℕ) → is_inky b ≡ true → is_plain b ≡ true
 inky_plain b h = rw (inky_blank b h, h) refl
 
-none_pass : (test : ℕ → Bool) → ((b : ℕ) → is_inky b ≡ true → test b ≡ false) → (word : List ℕ) → list_all is_inky word ≡ true → All (λ b. test b ≡ false) word
+none_pass : (test : ℕ → Bool) → ((b : ℕ) → is_inky b ≡ true → test b ≡ false) → (word : List ℕ) → list_all is_inky word ≡ true
+    → All (λ b. test b ≡ false) word
 none_pass test one [] h = λ k d l. absurd (omega arith)
-none_pass test one (b ∷ word) h = let p = and_parts (is_inky b) _ h in All-cons (λ b. test b ≡ false) b word (one b p.0) (none_pass test one word p.1)
+none_pass test one (b ∷ word) h =
+    let p = and_parts (is_inky b) _ h in
+    All-cons (λ b. test b ≡ false) b word (one b p.0) (none_pass test one word p.1)
 
 -- ---- words
 
@@ -50,23 +53,31 @@ words_of-spaced word rest h =
     ap filled_of (slice_split_at is_blank word 32 rest none refl) ∙ ap (λ b. cond (not b) (word ∷ words_of rest) (words_of rest)) h.filled
 
 -- words parted by spaces are these words
-pub words_of-joined : (first : List ℕ) (words : List (List ℕ)) → IsWord first → AreWords words → words_of (first ++ spaced words) ≡ first ∷ words
+pub words_of-joined : (first : List ℕ) (words : List (List ℕ)) → IsWord first → AreWords words
+    → words_of (first ++ spaced words) ≡ first ∷ words
 words_of-joined first [] h hs = ap words_of (append-nil first) ∙ words_of-word first h
-words_of-joined first (word ∷ words) h hs = words_of-spaced first (word ++ spaced words) h ∙ ap (λ l. first ∷ l) (words_of-joined word words hs.0 hs.1)
+words_of-joined first (word ∷ words) h hs =
+    words_of-spaced first (word ++ spaced words) h ∙ ap (λ l. first ∷ l) (words_of-joined word words hs.0 hs.1)
 
 -- and their bytes are plain, with no line feed among them
-pub each_byte : (test : ℕ → Bool) → ((b : ℕ) → is_inky b ≡ true → test b ≡ true) → (word : List ℕ) → list_all is_inky word ≡ true → list_all test word ≡ true
+pub each_byte : (test : ℕ → Bool) → ((b : ℕ) → is_inky b ≡ true → test b ≡ true) → (word : List ℕ) → list_all is_inky word ≡ true
+    → list_all test word ≡ true
 each_byte test one [] h = refl
 each_byte test one (b ∷ word) h = let p = and_parts (is_inky b) _ h in rw (one b p.0, each_byte test one word p.1) refl
 
-spaced_bytes : (test : ℕ → Bool) → ((b : ℕ) → is_inky b ≡ true → test b ≡ true) → test 32 ≡ true → (words : List (List ℕ)) → AreWords words → list_all test (spaced words) ≡ true
+spaced_bytes : (test : ℕ → Bool) → ((b : ℕ) → is_inky b ≡ true → test b ≡ true) → test 32 ≡ true → (words : List (List ℕ)) → AreWords words
+    → list_all test (spaced words) ≡ true
 spaced_bytes test one space [] h = refl
-spaced_bytes test one space (word ∷ words) h = rw (list_all-append test word (spaced words), space, each_byte test one word h.0.inky, spaced_bytes test one space words h.1) refl
+spaced_bytes test one space (word ∷ words) h =
+    rw (list_all-append test word (spaced words), space, each_byte test one word h.0.inky, spaced_bytes test one space words h.1) refl
 
-joined_bytes : (test : ℕ → Bool) → ((b : ℕ) → is_inky b ≡ true → test b ≡ true) → test 32 ≡ true → (first : List ℕ) (words : List (List ℕ)) → IsWord first → AreWords words → list_all test (first ++ spaced words) ≡ true
-joined_bytes test one space first words h hs = rw (list_all-append test first (spaced words), each_byte test one first h.inky, spaced_bytes test one space words hs) refl
+joined_bytes : (test : ℕ → Bool) → ((b : ℕ) → is_inky b ≡ true → test b ≡ true) → test 32 ≡ true → (first : List ℕ) (words : List (List ℕ))
+    → IsWord first → AreWords words → list_all test (first ++ spaced words) ≡ true
+joined_bytes test one space first words h hs =
+    rw (list_all-append test first (spaced words), each_byte test one first h.inky, spaced_bytes test one space words hs) refl
 
-pub joined_plain : (first : List ℕ) (words : List (List ℕ)) → IsWord first → AreWords words → list_all is_plain (first ++ spaced words) ≡ true
+pub joined_plain : (first : List ℕ) (words : List (List ℕ)) → IsWord first → AreWords words
+    → list_all is_plain (first ++ spaced words) ≡ true
 joined_plain first words h hs = joined_bytes is_plain inky_plain refl first words h hs
 
 -- a line without a line feed
@@ -80,7 +91,9 @@ joined_one_line first words h hs = joined_bytes (λ b. not (b == 10)) (λ b h. a
 
 not_line_feed : (line : List ℕ) → is_one_line line ≡ true → All (λ b. (b == 10) ≡ false) line
 not_line_feed [] h = λ k d l. absurd (omega arith)
-not_line_feed (b ∷ line) h = let p = and_parts (not (b == 10)) _ h in All-cons (λ b. (b == 10) ≡ false) b line (not-true (b == 10) p.0) (not_line_feed line p.1)
+not_line_feed (b ∷ line) h =
+    let p = and_parts (not (b == 10)) _ h in
+    All-cons (λ b. (b == 10) ≡ false) b line (not-true (b == 10) p.0) (not_line_feed line p.1)
 
 -- one line with its line feed, and what follows
 pub lines_of-line : (line rest : List ℕ) → is_one_line line ≡ true → lines_of (line ++ 10 ∷ rest) ≡ line ∷ lines_of rest

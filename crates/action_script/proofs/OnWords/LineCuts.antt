@@ -13,15 +13,18 @@ end_of text = position_or_len (λ b. b == 10) text
 abbrev pub pieces_of : List ℕ → List (List ℕ)
 pieces_of text = slice_split (λ b. b == 10) text
 
-pub without_empty_last-cons : (piece : List ℕ) (pieces : List (List ℕ)) → pieces ≢ [] → without_empty_last (piece ∷ pieces) ≡ piece ∷ without_empty_last pieces
+pub without_empty_last-cons : (piece : List ℕ) (pieces : List (List ℕ)) → pieces ≢ []
+    → without_empty_last (piece ∷ pieces) ≡ piece ∷ without_empty_last pieces
 without_empty_last-cons piece [] h = absurd (h refl)
 without_empty_last-cons piece (next ∷ more) h = refl
 
 -- the first line up to the first line feed, and the others
-pub lines_of-cut : (text : List ℕ) → end_of text < length text → lines_of text ≡ take (end_of text) text ∷ lines_of (drop (end_of text + 1) text)
+pub lines_of-cut : (text : List ℕ) → end_of text < length text
+    → lines_of text ≡ take (end_of text) text ∷ lines_of (drop (end_of text + 1) text)
 lines_of-cut text h =
     ap without_empty_last (slice_split_first (λ b. b == 10) text 0 h)
-    ∙ without_empty_last-cons (take (end_of text) text) (pieces_of (drop (end_of text + 1) text)) (some_piece (λ b. b == 10) (drop (end_of text + 1) text))
+    ∙ without_empty_last-cons (take (end_of text) text) (pieces_of (drop (end_of text + 1) text))
+    (some_piece (λ b. b == 10) (drop (end_of text + 1) text))
 
 filled_whole : (text : List ℕ) → 0 < length text → without_empty_last (text ∷ []) ≡ text ∷ []
 filled_whole [] h = absurd (omega arith)

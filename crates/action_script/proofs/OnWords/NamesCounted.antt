@@ -15,7 +15,8 @@ length-with_name names word = by (is_among names word)
     by false = omega (arith, length-append names (word ∷ []))
 
 -- a word that is a name or not adds no more than one
-pub length-taken : (b : Bool) (names : List (List ℕ)) (word : List ℕ) → length (if b then with_name names word else names) ≤ length names + 1
+pub length-taken : (b : Bool) (names : List (List ℕ)) (word : List ℕ)
+    → length (if b then with_name names word else names) ≤ length names + 1
 length-taken true names word = length-with_name names word
 length-taken false names word = omega arith
 
@@ -27,7 +28,9 @@ pub length-names_of : (asked : List Asked) → length (names_of asked) ≤ lengt
 length-names_of [] = omega arith
 length-names_of (a ∷ asked) = by (is_name_part a.part) (length-names_of asked)
   where
-    by : (b : Bool) → length (names_of asked) ≤ length asked → length (map (λ a. a.word) (cond b (a ∷ filter (λ a. is_name_part a.part) asked) (filter (λ a. is_name_part a.part) asked))) ≤ length (a ∷ asked)
+    by : (b : Bool) → length (names_of asked) ≤ length asked
+        → length (map (λ a. a.word) (cond b (a ∷ filter (λ a. is_name_part a.part) asked) (filter (λ a. is_name_part a.part) asked))) ≤
+        length (a ∷ asked)
     by true h = omega arith
     by false h = omega arith
 
@@ -42,6 +45,8 @@ pub length-words_of : (line : List ℕ) → length (words_of line) ≤ length li
 length-words_of [] = omega arith
 length-words_of (b ∷ line) = by (is_blank b) (length-words_of line) (filled-onto_first b (slice_split is_blank line))
   where
-    by : (blank : Bool) → length (words_of line) ≤ length line → length (filled_of (onto_first b (slice_split is_blank line))) ≤ length (filled_of (slice_split is_blank line)) + 1 → length (filled_of (cond blank ([] ∷ slice_split is_blank line) (onto_first b (slice_split is_blank line)))) ≤ length (b ∷ line)
+    by : (blank : Bool) → length (words_of line) ≤ length line
+        → length (filled_of (onto_first b (slice_split is_blank line))) ≤ length (filled_of (slice_split is_blank line)) + 1
+        → length (filled_of (cond blank ([] ∷ slice_split is_blank line) (onto_first b (slice_split is_blank line)))) ≤ length (b ∷ line)
     by true h g = omega arith
     by false h g = omega arith

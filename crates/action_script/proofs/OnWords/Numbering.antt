@@ -21,19 +21,24 @@ bytes_of-push : (keys : List (Bor (List ℕ))) (k : Bor (List ℕ)) → bytes_of
 bytes_of-push [] k = refl
 bytes_of-push (x ∷ keys) k = ap (λ l. x.now ∷ l) (bytes_of-push keys k)
 
-with_name-keys : (keys : List (Bor (List ℕ))) (k : Bor (List ℕ)) (b : Bool) → bytes_of (if b then keys else keys ++ k ∷ []) ≡ (if b then bytes_of keys else bytes_of keys ++ k.now ∷ [])
+with_name-keys : (keys : List (Bor (List ℕ))) (k : Bor (List ℕ)) (b : Bool)
+    → bytes_of (if b then keys else keys ++ k ∷ []) ≡ (if b then bytes_of keys else bytes_of keys ++ k.now ∷ [])
 with_name-keys keys k true = refl
 with_name-keys keys k false = bytes_of-push keys k
 
 -- a key is added to the names as a name is
-pub bytes_of-added : (keys : List (Bor (List ℕ))) (k : Bor (List ℕ)) → bytes_of (if list_any (λ x. bytes_eq k.now x.now) keys then keys else keys ++ k ∷ []) ≡ with_name (bytes_of keys) k.now
-bytes_of-added keys k = with_name-keys keys k _ ∙ ap (λ b. if b then bytes_of keys else bytes_of keys ++ k.now ∷ []) (is_among-keys k.now keys)
+pub bytes_of-added : (keys : List (Bor (List ℕ))) (k : Bor (List ℕ))
+    → bytes_of (if list_any (λ x. bytes_eq k.now x.now) keys then keys else keys ++ k ∷ []) ≡ with_name (bytes_of keys) k.now
+bytes_of-added keys k =
+    with_name-keys keys k _ ∙ ap (λ b. if b then bytes_of keys else bytes_of keys ++ k.now ∷ []) (is_among-keys k.now keys)
 
 -- the number of a name is the first place of its key
-number_in-keys : (word : List ℕ) (keys : List (Bor (List ℕ))) → number_in (bytes_of keys) word ≡ position_or_len (λ k. bytes_eq word k.now) keys
+number_in-keys : (word : List ℕ) (keys : List (Bor (List ℕ)))
+    → number_in (bytes_of keys) word ≡ position_or_len (λ k. bytes_eq word k.now) keys
 number_in-keys word keys = is_position_or_len (λ l. number_in (bytes_of l) word) (λ k. bytes_eq word k.now) refl (λ k l. refl) keys
 
-pub number_in-found : (word : List ℕ) (keys : List (Bor (List ℕ))) (n : ℕ) → position (λ k. bytes_eq word k.now) keys ≡ Some n → n ≡ number_in (bytes_of keys) word
+pub number_in-found : (word : List ℕ) (keys : List (Bor (List ℕ))) (n : ℕ) → position (λ k. bytes_eq word k.now) keys ≡ Some n
+    → n ≡ number_in (bytes_of keys) word
 number_in-found word keys n h =
     let i = position_or_len (λ k. bytes_eq word k.now) keys in
     let found = cond_some (nat_lt i (length keys)) i n h in
@@ -51,7 +56,8 @@ number_in-own names word = by (is_among names word)
     by false = number_in-last names word
 
 -- a name that is added has the first place of its key
-pub number_in-added : (word : List ℕ) (keys : List (Bor (List ℕ))) → position_or_len (λ k. bytes_eq word k.now) keys ≡ number_in (with_name (bytes_of keys) word) word
+pub number_in-added : (word : List ℕ) (keys : List (Bor (List ℕ)))
+    → position_or_len (λ k. bytes_eq word k.now) keys ≡ number_in (with_name (bytes_of keys) word) word
 number_in-added word keys = sym (number_in-own (bytes_of keys) word ∙ number_in-keys word keys)
 
 -- a name that isn't there has the number of names
@@ -71,7 +77,8 @@ length-bytes_of : (keys : List (Bor (List ℕ))) → length (bytes_of keys) ≡ 
 length-bytes_of [] = refl
 length-bytes_of (k ∷ keys) = grind (arith, length-bytes_of keys)
 
-pub number_in-absent : (word : List ℕ) (keys : List (Bor (List ℕ))) → None ≡ position (λ k. bytes_eq word k.now) keys → length keys ≡ number_in (bytes_of keys) word
+pub number_in-absent : (word : List ℕ) (keys : List (Bor (List ℕ))) → None ≡ position (λ k. bytes_eq word k.now) keys
+    → length keys ≡ number_in (bytes_of keys) word
 number_in-absent word keys h =
     let i = position_or_len (λ k. bytes_eq word k.now) keys in
     let past = ltb-false i (length keys) (none_is_past (nat_lt i (length keys)) i (sym h)) in

@@ -45,14 +45,16 @@ pub record IsNatural (word : List ℕ) (n : ℕ) : Type 0 where
 pub natural_of-some : (word : List ℕ) (n : ℕ) → natural_of word ≡ Some n → IsNatural word n
 natural_of-some word n h = by (leads_well word) (list_all is_digit word) refl refl h
   where
-    by : (a b : Bool) → leads_well word ≡ a → list_all is_digit word ≡ b → (if a && b then Some (digits_after 0 word) else None) ≡ Some n → IsNatural word n
+    by : (a b : Bool) → leads_well word ≡ a → list_all is_digit word ≡ b → (if a && b then Some (digits_after 0 word) else None) ≡ Some n
+        → IsNatural word n
     by true true e f g = record { leads = e; digits = f; value = cc }
     by true false e f g = cc
     by false b e f g = cc
 
 pub decimal-natural : (word : List ℕ) (n : ℕ) → IsNatural word n → n < 2 ^ 64 → decimal n ≡ word
 decimal-natural word n h small =
-    subst (λ m. decimal m ≡ word) h.value (decimal-digits_value own word h.digits (leads_well-filled word h.leads) (leads_well-zero word h.leads) (subst (λ m. m < 2 ^ 64) (sym h.value) small))
+    subst (λ m. decimal m ≡ word) h.value
+    (decimal-digits_value own word h.digits (leads_well-filled word h.leads) (leads_well-zero word h.leads) (subst (λ m. m < 2 ^ 64) (sym h.value) small))
 
 pub at_most-some : (most : ℕ) (o : Option ℕ) (n : ℕ) → at_most most o ≡ Some n → (o ≡ Some n) × (n ≤ most)
 at_most-some most None n h = cc
@@ -88,11 +90,19 @@ count_of-some word k h = at_least_one-some (rounds_of word) k h
 -- ---- values
 
 first_digit : (b : ℕ) (rest : List ℕ) → list_all is_digit (b ∷ rest) ≡ true → (b == 45) ≡ false
-first_digit b rest h = let p = and_parts (is_digit b) _ h in let q = and_parts (nat_le 48 b) _ p.0 in let r = leb-true 48 b q.0 in grind (arith, nat_tests)
+first_digit b rest h =
+    let p = and_parts (is_digit b) _ h in
+    let q = and_parts (nat_le 48 b) _ p.0 in
+    let r = leb-true 48 b q.0 in
+    grind (arith, nat_tests)
 
-value_of-digits : (word : List ℕ) → 0 < length word → list_all is_digit word ≡ true → value_of word ≡ option_map pos (at_most 1000000000000 (natural_of word))
+value_of-digits : (word : List ℕ) → 0 < length word → list_all is_digit word ≡ true
+    → value_of word ≡ option_map pos (at_most 1000000000000 (natural_of word))
 value_of-digits [] filled h = absurd (omega arith)
-value_of-digits (b ∷ rest) filled h = ap (λ c. if c then negative_of (at_most 1000000000000 (natural_of rest)) else option_map pos (at_most 1000000000000 (natural_of (b ∷ rest)))) (first_digit b rest h)
+value_of-digits (b ∷ rest) filled h =
+    ap
+    (λ c. if c then negative_of (at_most 1000000000000 (natural_of rest)) else option_map pos (at_most 1000000000000 (natural_of (b ∷ rest))))
+    (first_digit b rest h)
 
 pub value_of-decimal : (v : ℤ) → is_value v ≡ true → value_of (signed_decimal v) ≡ Some v
 value_of-decimal (pos n) h =
@@ -110,25 +120,35 @@ pub record IsValueWord (word : List ℕ) (v : ℤ) : Type 0 where
   pub written : signed_decimal v ≡ word
   pub within : is_value v ≡ true
 
-positive : (word : List ℕ) (o : Option ℕ) (v : ℤ) → at_most 1000000000000 (natural_of word) ≡ o → option_map pos o ≡ Some v → IsValueWord word v
+positive : (word : List ℕ) (o : Option ℕ) (v : ℤ) → at_most 1000000000000 (natural_of word) ≡ o → option_map pos o ≡ Some v
+    → IsValueWord word v
 positive word None v e h = cc
 positive word (Some n) v e h =
     let same : pos n ≡ v = cc in
     let p = at_most-some 1000000000000 (natural_of word) n e in
-    subst (IsValueWord word) same (record { written = decimal-natural word n (natural_of-some word n p.0) (omega (arith, p.1)); within = le-leb n 1000000000000 p.1 })
+    subst (IsValueWord word) same
+    (record { written = decimal-natural word n (natural_of-some word n p.0) (omega (arith, p.1)); within = le-leb n 1000000000000 p.1 })
 
-negative : (rest : List ℕ) (o : Option ℕ) (v : ℤ) → at_most 1000000000000 (natural_of rest) ≡ o → negative_of o ≡ Some v → IsValueWord (45 ∷ rest) v
+negative : (rest : List ℕ) (o : Option ℕ) (v : ℤ) → at_most 1000000000000 (natural_of rest) ≡ o → negative_of o ≡ Some v
+    → IsValueWord (45 ∷ rest) v
 negative rest None v e h = cc
 negative rest (Some zero) v e h = cc
 negative rest (Some (suc n)) v e h =
     let same : negsuc n ≡ v = cc in
     let p = at_most-some 1000000000000 (natural_of rest) (suc n) e in
-    subst (IsValueWord (45 ∷ rest)) same (record { written = ap (λ w. 45 ∷ w) (decimal-natural rest (suc n) (natural_of-some rest (suc n) p.0) (omega (arith, p.1))); within = le-leb (n + 1) 1000000000000 (omega (arith, p.1)) })
+    subst (IsValueWord (45 ∷ rest)) same
+    (record { written = ap (λ w. 45 ∷ w) (decimal-natural rest (suc n) (natural_of-some rest (suc n) p.0) (omega (arith, p.1))); within = le-leb (n + 1) 1000000000000 (omega (arith, p.1)) })
 
 pub value_of-some : (word : List ℕ) (v : ℤ) → value_of word ≡ Some v → IsValueWord word v
 value_of-some [] v h = cc
 value_of-some (b ∷ rest) v h = by (b == 45) refl h
   where
-    by : (c : Bool) → (b == 45) ≡ c → (if c then negative_of (at_most 1000000000000 (natural_of rest)) else option_map pos (at_most 1000000000000 (natural_of (b ∷ rest)))) ≡ Some v → IsValueWord (b ∷ rest) v
-    by true e g = let same : 45 ≡ b = grind (arith, nat_tests) in subst (λ x. IsValueWord (x ∷ rest) v) same (negative rest (at_most 1000000000000 (natural_of rest)) v refl g)
+    by : (c : Bool) → (b == 45) ≡ c
+        →
+        (if c then negative_of (at_most 1000000000000 (natural_of rest)) else option_map pos (at_most 1000000000000 (natural_of (b ∷ rest))))
+        ≡ Some v
+        → IsValueWord (b ∷ rest) v
+    by true e g =
+        let same : 45 ≡ b = grind (arith, nat_tests) in
+        subst (λ x. IsValueWord (x ∷ rest) v) same (negative rest (at_most 1000000000000 (natural_of rest)) v refl g)
     by false e g = positive (b ∷ rest) (at_most 1000000000000 (natural_of (b ∷ rest))) v refl g

@@ -24,9 +24,14 @@ filled_cons [] pieces = refl
 filled_cons (b ∷ piece) pieces = refl
 
 -- up to the first blank, and what follows it
-pub first_piece : (line : List ℕ) → end_of line < length line → words_of line ≡ filled_of (take (end_of line) line ∷ []) ++ words_of (drop (end_of line + 1) line)
-first_piece line h = ap filled_of (slice_split_first is_blank line 0 h) ∙ filled_cons (before_first is_blank line) (slice_split is_blank (after_first is_blank line))
+pub first_piece : (line : List ℕ) → end_of line < length line
+    → words_of line ≡ filled_of (take (end_of line) line ∷ []) ++ words_of (drop (end_of line + 1) line)
+first_piece line h =
+    ap filled_of (slice_split_first is_blank line 0 h) ∙ filled_cons (before_first is_blank line)
+    (slice_split is_blank (after_first is_blank line))
 
 -- or the whole line, where there is none
 pub only_piece : (line : List ℕ) → length line ≤ end_of line → words_of line ≡ filled_of (line ∷ []) ++ []
-only_piece line h = ap filled_of (slice_split_none is_blank line (λ k d l. fails_before_first is_blank line k d (omega (arith, h)))) ∙ sym (append-nil (filled_of (line ∷ [])))
+only_piece line h =
+    ap filled_of (slice_split_none is_blank line (λ k d l. fails_before_first is_blank line k d (omega (arith, h)))) ∙ sym
+    (append-nil (filled_of (line ∷ [])))

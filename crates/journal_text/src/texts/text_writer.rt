@@ -105,9 +105,11 @@ fn push_seens(text: &mut Vec<u8>, plan: &Plan, seens: &[Seen]) -> Result<(), Out
     Ok(())
 }
 
-/// Adds a line for each object, with its value after the entries.
+/// Adds a line for each object, with its value after the entries, as it stands in the text of a journal.
+///
+/// Where memory is wanting, what the text had is still there, and some of the lines may stand behind it.
 #[tactic(auto, using(crate::proofs::OnTexts::TextLemmas::lines_more))]
-fn push_objects(
+pub fn push_objects(
     alloc: Global,
     text: &mut Vec<u8>,
     plan: &Plan,

@@ -17,7 +17,8 @@ use Rattle.message_resolution.proofs.Coming.Settled.{words, unspoken, unsent}
 use Rattle.message_plays.specs.Turns.{with_turn, after_turns, with_last_wish}
 
 -- one turn more
-pub after_more : (plan : Plan) (seed turns : ℕ) → after_turns plan seed (turns + 1) ≡ with_turn plan (after_turns plan seed turns) (next_state (state_after seed turns) / 65536)
+pub after_more : (plan : Plan) (seed turns : ℕ)
+    → after_turns plan seed (turns + 1) ≡ with_turn plan (after_turns plan seed turns) (next_state (state_after seed turns) / 65536)
 unfolding after_turns state_after
 after_more plan seed turns = rw add-one refl
 
@@ -40,7 +41,8 @@ last_wish-raised plan past (e ∷ es) some = refl
 
 -- an event that is legal happens
 pub happens : (old new : WorldView) (e : Event) (answer : Result (Unit {0}) NotLegal) → OnOk answer (new ≡ record old { past = e ∷ old.past })
-    → (IsErr answer ↔ (is_legal_event (course_of old.order old.count old.past) e ≡ false)) → is_legal_event (course_of old.order old.count old.past) e ≡ true → new.past ≡ e ∷ old.past
+    → (IsErr answer ↔ (is_legal_event (course_of old.order old.count old.past) e ≡ false)) → is_legal_event
+    (course_of old.order old.count old.past) e ≡ true → new.past ≡ e ∷ old.past
 happens old new e (Ok done) ok refused legal = ap (λ (w : WorldView). w.past) ok
 happens old new e (Err refusal) ok refused legal = absurd (false≢true (sym (refused.0 refl) ∙ legal))
 

@@ -12,10 +12,12 @@ use Rattle.journal_laws.proofs.PlayablePlan.{is_playable}
 use Rattle.message_plays.specs.Turns.{members, order_of, participant, raised_first, wish, wished_or, first_wish}
 
 -- each member is a participant
-pub member_known : (plan : Plan) → IsClosed plan → (roles : List ℕ) (m : ℕ) → roles ≡ roles_of plan 0 → m < members plan → slice_index_or roles m 0 < length plan.participants
+pub member_known : (plan : Plan) → IsClosed plan → (roles : List ℕ) (m : ℕ) → roles ≡ roles_of plan 0 → m < members plan
+    → slice_index_or roles m 0 < length plan.participants
 member_known plan closed roles m same m_in =
     let playable = is_playable plan closed in
-    subst (λ rs. slice_index_or rs m 0 < length plan.participants) (sym same) (playable.known 0 (slice_index_or (roles_of plan 0) m 0) (member_at (roles_of plan 0) m 0 m_in))
+    subst (λ rs. slice_index_or rs m 0 < length plan.participants) (sym same)
+    (playable.known 0 (slice_index_or (roles_of plan 0) m 0) (member_at (roles_of plan 0) m 0 m_in))
 
 -- the exceptions of the first place have least covers
 pub sound_order : (plan : Plan) → IsClosed plan → IsSound (order_of plan)
@@ -39,7 +41,8 @@ wish_in plan closed m e is =
     ltb-true e (order_of plan).count (playable.steps 0 (participant plan m) None 0 (step.Raise e) found)
 
 -- a member that wishes nothing is passed over
-pub first_wish-none : (plan : Plan) (m all : ℕ) → m < all → wish plan m ≡ None → first_wish plan m (all - m) ≡ first_wish plan (m + 1) (all - (m + 1))
+pub first_wish-none : (plan : Plan) (m all : ℕ) → m < all → wish plan m ≡ None
+    → first_wish plan m (all - m) ≡ first_wish plan (m + 1) (all - (m + 1))
 unfolding first_wish
 first_wish-none plan m all less none =
     let left : all - m ≡ suc (all - (m + 1)) = omega arith in

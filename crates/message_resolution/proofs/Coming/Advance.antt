@@ -30,21 +30,24 @@ module _ (order : CoverOrder) (count : ℕ) (course : Course) (t : ℕ) (x : Loc
   local_other u other = cond-false _ _ _ (ne_eqb u t other)
 
   -- a fact of each member's past holds after the event where it holds for t with the event, and for the others as they were
-  pub at_each : (P : ℕ → List LocalEvent → Type 0) (u : ℕ) → P t (x ∷ course.local t) → (u ≢ t → P u (course.local u)) → P u (advanced.local u)
+  pub at_each : (P : ℕ → List LocalEvent → Type 0) (u : ℕ) → P t (x ∷ course.local t) → (u ≢ t → P u (course.local u))
+      → P u (advanced.local u)
   at_each P u here others = elim (cases_eq u t) [
     | inl same ↦ subst (λ v. P v (advanced.local v)) (sym same) (subst (P t) (sym local_same) here)
     | inr other ↦ subst (P u) (sym (local_other u other)) (others other)
   ]
 
   -- and where it lasts through the event
-  pub lasting : (P : ℕ → List LocalEvent → Type 0) (u : ℕ) → (P t (course.local t) → P t (x ∷ course.local t)) → P u (course.local u) → P u (advanced.local u)
+  pub lasting : (P : ℕ → List LocalEvent → Type 0) (u : ℕ) → (P t (course.local t) → P t (x ∷ course.local t)) → P u (course.local u)
+      → P u (advanced.local u)
   lasting P u step before = elim (cases_eq u t) [
     | inl same ↦ subst (λ v. P v (advanced.local v)) (sym same) (subst (P t) (sym local_same) (step (subst (λ v. P v (course.local v)) same before)))
     | inr other ↦ subst (P u) (sym (local_other u other)) before
   ]
 
 -- who receives raises nothing more; who raises had raised nothing
-own_cases : (order : CoverOrder) (course : Course) (t : ℕ) (x : LocalEvent) → MeetsNow order course t x → (raised_at x ≡ []) ⊎ ((e : ℕ) × (x ≡ raises e) × (own (course.local t) ≡ []) × (has_spoken (course.local t) ≡ false))
+own_cases : (order : CoverOrder) (course : Course) (t : ℕ) (x : LocalEvent) → MeetsNow order course t x
+    → (raised_at x ≡ []) ⊎ ((e : ℕ) × (x ≡ raises e) × (own (course.local t) ≡ []) × (has_spoken (course.local t) ≡ false))
 own_cases order course t (raises e) may = inr (e, refl, silent_own (course.local t) may.0, may.0)
 own_cases order course t (receives m) may = inl refl
 
@@ -52,22 +55,32 @@ raised_only : (x : LocalEvent) (e : ℕ) → Contains (raised_at x) e → x ≡ 
 raised_only (raises f) e at = ap (λ y. raises y) (one_in f e at)
 raised_only (receives m) e at = absurd (nothing_in e at)
 
-received_now : (order : CoverOrder) (course : Course) (t : ℕ) (x : LocalEvent) (m : Message) → MeetsNow order course t x → x ≡ receives m → Contains course.messages m
-received_now order course t x m may is = let may_m : MeetsNow order course t (receives m) = subst (MeetsNow order course t) is may in may_m.0
+received_now : (order : CoverOrder) (course : Course) (t : ℕ) (x : LocalEvent) (m : Message) → MeetsNow order course t x → x ≡ receives m
+    → Contains course.messages m
+received_now order course t x m may is =
+    let may_m : MeetsNow order course t (receives m) = subst (MeetsNow order course t) is may in
+    may_m.0
 
-meets_met : (order : CoverOrder) (count : ℕ) (course : Course) (t : ℕ) (x : LocalEvent) → All (IsMessage order count) course.messages → MeetsNow order course t x → MayMeet order count t x
+meets_met : (order : CoverOrder) (count : ℕ) (course : Course) (t : ℕ) (x : LocalEvent) → All (IsMessage order count) course.messages
+    → MeetsNow order course t x → MayMeet order count t x
 meets_met order count course t (raises e) known may = may.1
 meets_met order count course t (receives m) known may = (All-contains (IsMessage order count) course.messages m known may.0, may.1)
 
 -- who has spoken at last said so at once
-said_now : (order : CoverOrder) (count : ℕ) (course : Course) (t : ℕ) (x : LocalEvent) → has_spoken (course.local t) ≡ false → has_spoken (x ∷ course.local t) ≡ true → HasSaid (word t (course.local t) x) t
+said_now : (order : CoverOrder) (count : ℕ) (course : Course) (t : ℕ) (x : LocalEvent) → has_spoken (course.local t) ≡ false
+    → has_spoken (x ∷ course.local t) ≡ true → HasSaid (word t (course.local t) x) t
 said_now order count course t (raises e) silent spoken = inr (e, first_in (message.Raised t e) [])
-said_now order count course t (receives (message.Raised v e)) silent spoken = inl (subst (λ ms. Contains ms (message.Suspended t)) (sym (cond-false _ _ _ silent)) (first_in (message.Suspended t) []))
-said_now order count course t (receives (message.Suspended v)) silent spoken = absurd (both_ways (has_spoken (course.local t)) silent spoken)
-said_now order count course t (receives (message.Resolved v e)) silent spoken = absurd (both_ways (has_spoken (course.local t)) silent spoken)
+said_now order count course t (receives (message.Raised v e)) silent spoken =
+    inl (subst (λ ms. Contains ms (message.Suspended t)) (sym (cond-false _ _ _ silent)) (first_in (message.Suspended t) []))
+said_now order count course t (receives (message.Suspended v)) silent spoken =
+    absurd (both_ways (has_spoken (course.local t)) silent spoken)
+said_now order count course t (receives (message.Resolved v e)) silent spoken =
+    absurd (both_ways (has_spoken (course.local t)) silent spoken)
 
-word_known : (order : CoverOrder) (count t : ℕ) (past : List LocalEvent) (x : LocalEvent) → t < count → MayMeet order count t x → All (IsMessage order count) (word t past x)
-word_known order count t past (raises e) t_in may = All-cons (IsMessage order count) (message.Raised t e) [] (t_in, may) (All-nil (IsMessage order count))
+word_known : (order : CoverOrder) (count t : ℕ) (past : List LocalEvent) (x : LocalEvent) → t < count → MayMeet order count t x
+    → All (IsMessage order count) (word t past x)
+word_known order count t past (raises e) t_in may =
+    All-cons (IsMessage order count) (message.Raised t e) [] (t_in, may) (All-nil (IsMessage order count))
 word_known order count t past (receives (message.Raised v e)) t_in may = elim (cases_Bool (has_spoken past)) [
   | inl spoken ↦ subst (All (IsMessage order count)) (sym (cond-true _ _ _ spoken)) (All-nil (IsMessage order count))
   | inr silent ↦ subst (All (IsMessage order count)) (sym (cond-false _ _ _ silent)) (All-cons (IsMessage order count) (message.Suspended t) [] t_in (All-nil (IsMessage order count)))
@@ -95,18 +108,22 @@ module _ (order : CoverOrder) (sound : IsSound order) (count : ℕ) (course : Co
   next = advanced order count course t x
 
   own_grows : (u e : ℕ) → Contains (own (course.local u)) e → Contains (own (next.local u)) e
-  own_grows u e at = lasting order count course t x (λ v past. Contains (own past) e) u (λ before. Contains-append_right (raised_at x) _ e before) at
+  own_grows u e at =
+      lasting order count course t x (λ v past. Contains (own past) e) u (λ before. Contains-append_right (raised_at x) _ e before) at
 
   step_raised_sent : (u e : ℕ) → Contains next.messages (message.Raised u e) → Contains (own (next.local u)) e
   step_raised_sent u e at = elim (Contains-append_cases course.messages sent _ at) [
     | inl before ↦ own_grows u e (kept.raised_sent u e before)
     | inr now ↦
         let by = sends_raised order count t (course.local t) x u e now in
-        subst (λ v. Contains (own (next.local v)) e) (sym by.0) (subst (λ past. Contains (own past) e) (sym (local_same order count course t x)) (subst (λ y. Contains (own (y ∷ course.local t)) e) (sym by.1) (first_in e (own (course.local t)))))
+        subst (λ v. Contains (own (next.local v)) e) (sym by.0)
+        (subst (λ past. Contains (own past) e) (sym (local_same order count course t x)) (subst (λ y. Contains (own (y ∷ course.local t)) e) (sym by.1) (first_in e (own (course.local t)))))
   ]
 
   sent_first : (e : ℕ) → x ≡ raises e → Contains sent (message.Raised t e)
-  sent_first e is = word_sent order count t (course.local t) x (message.Raised t e) (subst (λ y. Contains (word t (course.local t) y) (message.Raised t e)) (sym is) (first_in (message.Raised t e) []))
+  sent_first e is =
+      word_sent order count t (course.local t) x (message.Raised t e)
+      (subst (λ y. Contains (word t (course.local t) y) (message.Raised t e)) (sym is) (first_in (message.Raised t e) []))
 
   step_sent_raised : (u e : ℕ) → Contains (own (next.local u)) e → Contains next.messages (message.Raised u e)
   step_sent_raised u e = at_each order count course t x (λ v past. Contains (own past) e → Contains next.messages (message.Raised v e)) u
@@ -130,7 +147,8 @@ module _ (order : CoverOrder) (sound : IsSound order) (count : ℕ) (course : Co
     | inl before ↦ lasting order count course t x (λ v past. Suspends past) u stays_suspended (kept.suspended u before)
     | inr now ↦
         let by = sends_suspended order count t (course.local t) x u now in
-        subst (λ v. Suspends (next.local v)) (sym by.0) (subst Suspends (sym (local_same order count course t x)) (by.3, by.2 ∙ silent_own (course.local t) by.1))
+        subst (λ v. Suspends (next.local v)) (sym by.0)
+        (subst Suspends (sym (local_same order count course t x)) (by.3, by.2 ∙ silent_own (course.local t) by.1))
   ]
 
   step_said : (u : ℕ) → has_spoken (next.local u) ≡ true → HasSaid next.messages u
@@ -154,26 +172,33 @@ module _ (order : CoverOrder) (sound : IsSound order) (count : ℕ) (course : Co
       (elim (own_cases order course t x may) [
         | inl none ↦ λ at_e at_f. kept.once t e f (subst (λ es. Contains (es ++ own (course.local t)) e) none at_e) (subst (λ es. Contains (es ++ own (course.local t)) f) none at_f)
         | inr raises_now ↦
-            let only : own (x ∷ course.local t) ≡ raises_now.0 ∷ [] = ap (λ y. raised_at y ++ own (course.local t)) raises_now.1 ∙ ap (λ es. raises_now.0 ∷ es) raises_now.2 in
+            let only : own (x ∷ course.local t) ≡ raises_now.0 ∷ [] =
+            ap (λ y. raised_at y ++ own (course.local t)) raises_now.1 ∙ ap (λ es. raises_now.0 ∷ es) raises_now.2 in
             λ at_e at_f. sym (one_in raises_now.0 e (subst (λ es. Contains es e) only at_e)) ∙ one_in raises_now.0 f (subst (λ es. Contains es f) only at_f)
       ])
       (λ other at_e at_f. kept.once u e f at_e at_f)
 
   step_members : (u e : ℕ) → Contains (own (next.local u)) e → u < count
-  step_members u e = at_each order count course t x (λ v past. Contains (own past) e → v < count) u (λ at. t_in) (λ other at. kept.members u e at)
+  step_members u e =
+      at_each order count course t x (λ v past. Contains (own past) e → v < count) u (λ at. t_in) (λ other at. kept.members u e at)
 
   now_met : MayMeet order count t x
   now_met = meets_met order count course t x kept.known may
 
   step_met : (u : ℕ) → All (MayMeet order count u) (next.local u)
-  step_met u = at_each order count course t x (λ v past. All (MayMeet order count v) past) u (All-cons (MayMeet order count t) x (course.local t) now_met (kept.met t)) (λ other. kept.met u)
+  step_met u =
+      at_each order count course t x (λ v past. All (MayMeet order count v) past) u
+      (All-cons (MayMeet order count t) x (course.local t) now_met (kept.met t)) (λ other. kept.met u)
 
   told_range : All (λ e. e < order.count) (told (x ∷ course.local t))
   told_range = told_in order count t (x ∷ course.local t) (All-cons (MayMeet order count t) x (course.local t) now_met (kept.met t))
 
-  resolution_known : (es : List ℕ) → ((e : ℕ) → Contains es e → e < order.count) → All (IsMessage order count) (map (λ e. message.Resolved t e) es)
+  resolution_known : (es : List ℕ) → ((e : ℕ) → Contains es e → e < order.count)
+      → All (IsMessage order count) (map (λ e. message.Resolved t e) es)
   resolution_known [] in_range = All-nil (IsMessage order count)
-  resolution_known (e ∷ es) in_range = All-cons (IsMessage order count) (message.Resolved t e) _ (t_in, in_range e (first_in e es)) (resolution_known es (λ f at. in_range f (later_in e es f at)))
+  resolution_known (e ∷ es) in_range =
+      All-cons (IsMessage order count) (message.Resolved t e) _ (t_in, in_range e (first_in e es))
+      (resolution_known es (λ f at. in_range f (later_in e es f at)))
 
   step_known : All (IsMessage order count) next.messages
   step_known =

@@ -25,7 +25,8 @@ resolved_only (receives (message.Suspended v)) e at = absurd (nothing_in e at)
 resolved_only (receives (message.Resolved v f)) e at = (v, ap (λ y. receives (message.Resolved v y)) (one_in f e at))
 
 -- once all have spoken, an event raises nothing
-pub raises_no_more : (order : CoverOrder) (count : ℕ) (course : Course) (t : ℕ) (x : LocalEvent) → t < count → AllSpoken count course → MeetsNow order course t x → raised_at x ≡ []
+pub raises_no_more : (order : CoverOrder) (count : ℕ) (course : Course) (t : ℕ) (x : LocalEvent) → t < count → AllSpoken count course
+    → MeetsNow order course t x → raised_at x ≡ []
 raises_no_more order count course t (raises e) t_in spoken may = absurd (both_ways (has_spoken (course.local t)) may.0 (spoken t t_in))
 raises_no_more order count course t (receives m) t_in spoken may = refl
 
@@ -44,7 +45,9 @@ module _ (order : CoverOrder) (sound : IsSound order) (count : ℕ) (course : Co
     | inl before ↦ lasting order count course t x (Decides e) u (λ had. Contains-append_right (resolution order count t (course.local t) x ++ resolved_at x) _ e had) (kept.resolved_decided u e before)
     | inr now ↦
         let by = sends_resolved order count t (course.local t) x u e now in
-        let here : Decides e t (x ∷ course.local t) = Contains-append_left (resolution order count t (course.local t) x ++ resolved_at x) _ e (Contains-append_left (resolution order count t (course.local t) x) (resolved_at x) e (subst (λ es. Contains es e) (sym by.1) (first_in e []))) in
+        let here : Decides e t (x ∷ course.local t) =
+        Contains-append_left (resolution order count t (course.local t) x ++ resolved_at x) _ e
+        (Contains-append_left (resolution order count t (course.local t) x) (resolved_at x) e (subst (λ es. Contains es e) (sym by.1) (first_in e []))) in
         subst (λ v. Decides e v (next.local v)) (sym by.0) (subst (Decides e t) (sym (local_same order count course t x)) here)
   ]
 
@@ -81,7 +84,8 @@ module _ (order : CoverOrder) (sound : IsSound order) (count : ℕ) (course : Co
   agreed_now : (e : ℕ) → resolution order count t (course.local t) x ≡ e ∷ [] → Agreed e
   agreed_now e is =
       let right = resolves_rightly order count t (course.local t) x e [] is in
-      let may_next : may_resolve count t (next.local t) ≡ true = subst (λ past. may_resolve count t past ≡ true) (sym (local_same order count course t x)) right.0 in
+      let may_next : may_resolve count t (next.local t) ≡ true =
+      subst (λ past. may_resolve count t past ≡ true) (sym (local_same order count course t x)) right.0 in
       let met = subst (λ past. All (MayMeet order count t) past) (local_same order count course t x) (next_words.met t) in
       let least = resolution_least order count t (course.local t) x e sound (told_in order count t (x ∷ course.local t) met) is in
       let least_next = subst (λ past. IsLeastCover order (told past) e) (sym (local_same order count course t x)) least in

@@ -20,7 +20,8 @@ HasSaid messages u = Contains messages (message.Suspended u) ⊎ ((e : ℕ) × C
 pub record KeepsWords (order : CoverOrder) (count : ℕ) (course : Course) (raised : List ℕ) : Type 0 where
   pub raised_sent : (u e : ℕ) → Contains course.messages (message.Raised u e) → Contains (own (course.local u)) e
   pub sent_raised : (u e : ℕ) → Contains (own (course.local u)) e → Contains course.messages (message.Raised u e)
-  pub suspended : (u : ℕ) → Contains course.messages (message.Suspended u) → (has_spoken (course.local u) ≡ true) × (own (course.local u) ≡ [])
+  pub suspended : (u : ℕ) → Contains course.messages (message.Suspended u)
+      → (has_spoken (course.local u) ≡ true) × (own (course.local u) ≡ [])
   pub said : (u : ℕ) → has_spoken (course.local u) ≡ true → HasSaid course.messages u
   pub received : (t : ℕ) (m : Message) → Contains (course.local t) (receives m) → Contains course.messages m
   pub once : (u e f : ℕ) → Contains (own (course.local u)) e → Contains (own (course.local u)) f → e ≡ f
@@ -41,13 +42,15 @@ pub record KeepsDecisions (order : CoverOrder) (count : ℕ) (course : Course) (
   pub decided : (t e : ℕ) → Contains (decisions order count t (course.local t)) e → AllSpoken count course × IsLeastCover order raised e
 
 -- whom a member has heard has sent it a word
-heard_from : (u : ℕ) (x : LocalEvent) → is_word_of u x ≡ true → (x ≡ receives (message.Suspended u)) ⊎ ((e : ℕ) × (x ≡ receives (message.Raised u e)))
+heard_from : (u : ℕ) (x : LocalEvent) → is_word_of u x ≡ true
+    → (x ≡ receives (message.Suspended u)) ⊎ ((e : ℕ) × (x ≡ receives (message.Raised u e)))
 heard_from u (raises e) is = absurd cc
 heard_from u (receives (message.Raised v e)) is = inr (e, ap (λ w. receives (message.Raised w e)) (eqb-true v u is))
 heard_from u (receives (message.Suspended v)) is = inl (ap (λ w. receives (message.Suspended w)) (eqb-true v u is))
 heard_from u (receives (message.Resolved v e)) is = absurd cc
 
-pub heard_said : (past : List LocalEvent) (u : ℕ) → has_heard past u ≡ true → Contains past (receives (message.Suspended u)) ⊎ ((e : ℕ) × Contains past (receives (message.Raised u e)))
+pub heard_said : (past : List LocalEvent) (u : ℕ) → has_heard past u ≡ true
+    → Contains past (receives (message.Suspended u)) ⊎ ((e : ℕ) × Contains past (receives (message.Raised u e)))
 heard_said past u heard =
     let found = any_member (is_word_of u) past heard in
     elim (heard_from u found.0 found.2) [
@@ -82,7 +85,8 @@ silent_own past silent = own_none (own past) refl
   where
     own_none : (xs : List ℕ) → own past ≡ xs → own past ≡ []
     own_none [] is = is
-    own_none (e ∷ xs) is = absurd (both_ways (has_spoken past) silent (has_own_spoken past e (subst (λ ys. Contains ys e) (sym is) (first_in e xs))))
+    own_none (e ∷ xs) is =
+        absurd (both_ways (has_spoken past) silent (has_own_spoken past e (subst (λ ys. Contains ys e) (sym is) (first_in e xs))))
 
 module _ (order : CoverOrder) (count : ℕ) (course : Course) (raised : List ℕ) (kept : KeepsWords order count course raised) (t : ℕ) where
   pub told_raised : (e : ℕ) → Contains (told (course.local t)) e → Contains raised e
@@ -126,7 +130,10 @@ module _ (order : CoverOrder) (count : ℕ) (course : Course) (raised : List ℕ
         | inr other ↦ elim (heard_said (course.local t) u (heard_each may u (kept.members u e who.1) other)) [
           | inl suspended ↦ absurd (nothing_in e (subst (λ es. Contains es e) (kept.suspended u (kept.received t (message.Suspended u) suspended)).1 who.1))
           | inr raised_one ↦
-              let same : raised_one.0 ≡ e = kept.once u raised_one.0 e (kept.raised_sent u raised_one.0 (kept.received t (message.Raised u raised_one.0) raised_one.1)) who.1 in
-              flat_map_from told_at (course.local t) (receives (message.Raised u raised_one.0)) e raised_one.1 (subst (λ f. Contains (raised_one.0 ∷ []) f) same (first_in raised_one.0 []))
+              let same : raised_one.0 ≡ e =
+              kept.once u raised_one.0 e
+              (kept.raised_sent u raised_one.0 (kept.received t (message.Raised u raised_one.0) raised_one.1)) who.1 in
+              flat_map_from told_at (course.local t) (receives (message.Raised u raised_one.0)) e raised_one.1
+              (subst (λ f. Contains (raised_one.0 ∷ []) f) same (first_in raised_one.0 []))
         ]
       ]

@@ -30,7 +30,8 @@ pub record StepOf (order : CoverOrder) (count : ℕ) (course : Course) (e : Even
 pub contains_got : {A : Type 0} (xs : List A) (k : ℕ) (x : A) → slice_get xs k ≡ Some x → Contains xs x
 contains_got xs k x is = (k, slice_get_within xs k x is, get_or_from_slice_get xs k x x is)
 
-delivered_step : (order : CoverOrder) (count : ℕ) (course : Course) (to number : ℕ) (found : Option Message) → slice_get course.messages number ≡ found → to < count → is_from_other to found ≡ true → StepOf order count course (Deliver to number)
+delivered_step : (order : CoverOrder) (count : ℕ) (course : Course) (to number : ℕ) (found : Option Message)
+    → slice_get course.messages number ≡ found → to < count → is_from_other to found ≡ true → StepOf order count course (Deliver to number)
 delivered_step order count course to number None is to_in other = absurd cc
 delivered_step order count course to number (Some m) is to_in other = record {
   x = receives m;
@@ -50,9 +51,11 @@ module _ (order : CoverOrder) (count : ℕ) where
     raised = refl;
   }
   step_of past (Deliver to number) may =
-      delivered_step order count (course_of order count past) to number (slice_get (course_of order count past).messages number) refl may.in_range may.legal
+      delivered_step order count (course_of order count past) to number (slice_get (course_of order count past).messages number) refl
+      may.in_range may.legal
 
-  pub course_step : (past : List Event) (e : Event) (step : StepOf order count (course_of order count past) e) → course_of order count (e ∷ past) ≡ advanced order count (course_of order count past) (member_of e) step.x
+  pub course_step : (past : List Event) (e : Event) (step : StepOf order count (course_of order count past) e)
+      → course_of order count (e ∷ past) ≡ advanced order count (course_of order count past) (member_of e) step.x
   course_step past e step = ap (course_with order count (course_of order count past) (member_of e)) step.met
 
   abbrev pub Keeps : Course → List ℕ → Type 0
@@ -84,28 +87,36 @@ module _ (order : CoverOrder) (count : ℕ) where
       let before = keeps past sound legal.0 in
       let step = step_of past e legal.1 in
       let words = keeps_words order sound count course (all_raised past) before.0 (member_of e) step.member step.x step.may in
-      let decisions_kept = keeps_decisions order sound count course (all_raised past) before.0 before.1 (member_of e) step.member step.x step.may in
-      subst (λ (c : Course). Keeps c (raised_by e ++ all_raised past)) (sym (course_step past e step)) (subst (λ (es : List ℕ). Keeps (advanced order count course (member_of e) step.x) (es ++ all_raised past)) step.raised (words, decisions_kept))
+      let decisions_kept =
+      keeps_decisions order sound count course (all_raised past) before.0 before.1 (member_of e) step.member step.x step.may in
+      subst (λ (c : Course). Keeps c (raised_by e ++ all_raised past)) (sym (course_step past e step))
+      (subst (λ (es : List ℕ). Keeps (advanced order count course (member_of e) step.x) (es ++ all_raised past)) step.raised (words, decisions_kept))
 
   -- what was decided stays decided
-  pub decided_stays : (later past : List Event) (t e : ℕ) → LegalPast order count (later ++ past) → HasDecided order count past t e → HasDecided order count (later ++ past) t e
+  pub decided_stays : (later past : List Event) (t e : ℕ) → LegalPast order count (later ++ past) → HasDecided order count past t e
+      → HasDecided order count (later ++ past) t e
   decided_stays [] past t e legal has = has
   decided_stays (l ∷ later) past t e legal has =
       let rest = later ++ past in
       let course = course_of order count rest in
       let step = step_of rest l legal.1 in
       let before = decided_stays later past t e legal.0 has in
-      let after = lasting order count course (member_of l) step.x (λ v met. Contains (decisions order count v met) e) t (λ had. Contains-append_right (resolution order count (member_of l) (course.local (member_of l)) step.x ++ resolved_at step.x) _ e had) before in
+      let after =
+      lasting order count course (member_of l) step.x (λ v met. Contains (decisions order count v met) e) t
+      (λ had. Contains-append_right (resolution order count (member_of l) (course.local (member_of l)) step.x ++ resolved_at step.x) _ e had)
+      before in
       subst (λ (c : Course). Contains (decisions order count t (c.local t)) e) (sym (course_step rest l step)) after
 
   -- and nothing more is raised
-  pub raised_stays : (later past : List Event) (t e : ℕ) → IsSound order → LegalPast order count (later ++ past) → HasDecided order count past t e → all_raised (later ++ past) ≡ all_raised past
+  pub raised_stays : (later past : List Event) (t e : ℕ) → IsSound order → LegalPast order count (later ++ past)
+      → HasDecided order count past t e → all_raised (later ++ past) ≡ all_raised past
   raised_stays [] past t e sound legal has = refl
   raised_stays (l ∷ later) past t e sound legal has =
       let rest = later ++ past in
       let step = step_of rest l legal.1 in
       let spoken = ((keeps rest sound legal.0).1.decided t e (decided_stays later past t e legal.0 has)).0 in
-      let none : raised_by l ≡ [] = sym step.raised ∙ raises_no_more order count (course_of order count rest) (member_of l) step.x step.member spoken step.may in
+      let none : raised_by l ≡ [] =
+      sym step.raised ∙ raises_no_more order count (course_of order count rest) (member_of l) step.x step.member spoken step.may in
       ap (λ es. es ++ all_raised rest) none ∙ raised_stays later past t e sound legal.0 has
 
   -- all that decide agree on the least cover of all that was raised, for good
@@ -117,6 +128,7 @@ module _ (order : CoverOrder) (count : ℕ) where
         raised = raised_stays later past t e sound legal has;
         agreed = record {
           least = least;
-          only = λ u other decides. least_one_only order (all_raised (later ++ past)) other e sound.is_order (kept.decided u other decides).1 least;
+          only =
+              λ u other decides. least_one_only order (all_raised (later ++ past)) other e sound.is_order (kept.decided u other decides).1 least;
         };
       }

@@ -23,7 +23,8 @@ use Rattle.message_resolution.proofs.Coming.Advance.{advanced, local_same, lasti
 use Rattle.message_resolution.proofs.Coming.LegalPasts.{step_of, course_step, keeps, contains_got}
 
 -- a message keeps its number as more is sent
-pub got_more : (messages more : List Message) (number : ℕ) (m : Message) → slice_get messages number ≡ Some m → slice_get (messages ++ more) number ≡ Some m
+pub got_more : (messages more : List Message) (number : ℕ) (m : Message) → slice_get messages number ≡ Some m
+    → slice_get (messages ++ more) number ≡ Some m
 got_more [] more number m is = absurd cc
 got_more (n ∷ messages) more zero m is = is
 got_more (n ∷ messages) more (suc number) m is = got_more messages more number m is
@@ -110,7 +111,8 @@ may_has_resolved : (count g : ℕ) (past : List LocalEvent) → may_resolve coun
 may_has_resolved count g [] may = absurd cc
 may_has_resolved count g (x ∷ past) may = or_left (may_resolve count g (x ∷ past)) (has_resolved count g past) may
 
-heard_decides : (order : CoverOrder) (count t : ℕ) (past : List LocalEvent) (v e : ℕ) → Contains past (receives (message.Resolved v e)) → Contains (decisions order count t past) e
+heard_decides : (order : CoverOrder) (count t : ℕ) (past : List LocalEvent) (v e : ℕ) → Contains past (receives (message.Resolved v e))
+    → Contains (decisions order count t past) e
 heard_decides order count t [] v e at = absurd (nothing_in _ at)
 heard_decides order count t (x ∷ past) v e at = elim (cases_in x past _ at) [
   | inl same ↦ Contains-append_left (resolution order count t past x ++ resolved_at x) _ e (Contains-append_right (resolution order count t past x) (resolved_at x) e (subst (λ y. Contains (resolved_at y) e) (sym same) (first_in e [])))
@@ -119,23 +121,31 @@ heard_decides order count t (x ∷ past) v e at = elim (cases_in x past _ at) [
 
 module _ (order : CoverOrder) (count : ℕ) where
   -- a course's messages keep their numbers
-  pub got_later : (past : List Event) (e : Event) → LegalPast order count (e ∷ past) → (number : ℕ) (m : Message) → slice_get (course_of order count past).messages number ≡ Some m → slice_get (course_of order count (e ∷ past)).messages number ≡ Some m
+  pub got_later : (past : List Event) (e : Event) → LegalPast order count (e ∷ past) → (number : ℕ) (m : Message)
+      → slice_get (course_of order count past).messages number ≡ Some m
+      → slice_get (course_of order count (e ∷ past)).messages number ≡ Some m
   got_later past e legal number m is =
       let step = step_of order count past e legal.1 in
-      subst (λ (c : Course). slice_get c.messages number ≡ Some m) (sym (course_step order count past e step)) (got_more (course_of order count past).messages _ number m is)
+      subst (λ (c : Course). slice_get c.messages number ≡ Some m) (sym (course_step order count past e step))
+      (got_more (course_of order count past).messages _ number m is)
 
   -- the message that was delivered was met
   abbrev Met : List Event → ℕ → ℕ → Type 0
-  Met past t number = (m : Message) × (slice_get (course_of order count past).messages number ≡ Some m) × Contains ((course_of order count past).local t) (receives m)
+  Met past t number =
+      (m : Message) × (slice_get (course_of order count past).messages number ≡ Some m) × Contains
+      ((course_of order count past).local t) (receives m)
 
-  delivered_now : (past : List Event) (e : Event) (t number : ℕ) → LegalPast order count (e ∷ past) → e ≡ Deliver t number → Met (e ∷ past) t number
+  delivered_now : (past : List Event) (e : Event) (t number : ℕ) → LegalPast order count (e ∷ past) → e ≡ Deliver t number
+      → Met (e ∷ past) t number
   delivered_now past e t number legal is =
       let course = course_of order count past in
       let step = step_of order count past e legal.1 in
       let met = subst (λ (d : Event). met_at course.messages d ≡ Some step.x) is step.met in
       let found = mapped (slice_get course.messages number) step.x met in
       let member : member_of e ≡ t = ap member_of is in
-      let here : Contains ((advanced order count course (member_of e) step.x).local (member_of e)) (receives found.0) = subst (λ met. Contains met (receives found.0)) (sym (local_same order count course (member_of e) step.x)) (subst (λ y. Contains (step.x ∷ course.local (member_of e)) y) found.2 (first_in step.x (course.local (member_of e)))) in
+      let here : Contains ((advanced order count course (member_of e) step.x).local (member_of e)) (receives found.0) =
+      subst (λ met. Contains met (receives found.0)) (sym (local_same order count course (member_of e) step.x))
+      (subst (λ y. Contains (step.x ∷ course.local (member_of e)) y) found.2 (first_in step.x (course.local (member_of e)))) in
       (found.0, got_later past e legal number found.0 found.1, subst (λ (c : Course). Contains (c.local t) (receives found.0)) (sym (course_step order count past e step)) (subst (λ u. Contains ((advanced order count course (member_of e) step.x).local u) (receives found.0)) member here))
 
   pub delivered_met : (past : List Event) (t number : ℕ) → LegalPast order count past → Contains past (Deliver t number) → Met past t number
@@ -160,7 +170,8 @@ module _ (order : CoverOrder) (count : ℕ) where
     kept = (keeps order count past sound legal).1
 
     -- where nothing is due, each message reached each other member
-    reached : IsSettled order count past → (t : ℕ) (m : Message) → t < count → sender_of m ≢ t → Contains course.messages m → Contains (course.local t) (receives m)
+    reached : IsSettled order count past → (t : ℕ) (m : Message) → t < count → sender_of m ≢ t → Contains course.messages m
+        → Contains (course.local t) (receives m)
     reached calm t m t_in other at =
         let number = got_contained course.messages m at in
         elim (delivered_or_not past t number.0) [
@@ -181,7 +192,8 @@ module _ (order : CoverOrder) (count : ℕ) where
       | inr other ↦ any_from is_call (course.local t) (receives (message.Raised u e)) (reached calm t (message.Raised u e) t_in other at) refl
     ]
 
-    hears : IsSettled order count past → AllSpoken count course → (g u : ℕ) → g < count → u < count → u ≢ g → has_heard (course.local g) u ≡ true
+    hears : IsSettled order count past → AllSpoken count course → (g u : ℕ) → g < count → u < count → u ≢ g
+        → has_heard (course.local g) u ≡ true
     hears calm spoken g u g_in u_in other = elim (words.said u (spoken u u_in)) [
       | inl suspended ↦ any_from (is_word_of u) (course.local g) (receives (message.Suspended u)) (reached calm g (message.Suspended u) g_in other suspended) (eq-eqb u u refl)
       | inr raised_one ↦ any_from (is_word_of u) (course.local g) (receives (message.Raised u raised_one.0)) (reached calm g (message.Raised u raised_one.0) g_in other raised_one.1) (eq-eqb u u refl)
@@ -191,10 +203,13 @@ module _ (order : CoverOrder) (count : ℕ) where
     no_greater g last = false_from_ne_true (has_greater g (course.local g)) (λ is.
         let found = any_member (is_greater g) (course.local g) is in
         let from = greater_from g found.0 found.2 in
-        let raises_too = words.raised_sent from.0 from.1 (words.received g (message.Raised from.0 from.1) (subst (Contains (course.local g)) from.3 found.1)) in
+        let raises_too =
+        words.raised_sent from.0 from.1
+        (words.received g (message.Raised from.0 from.1) (subst (Contains (course.local g)) from.3 found.1)) in
         both_ways (has_raised (course.local from.0)) (last from.0 from.2 (words.members from.0 from.1 raises_too)) (own_has_raised (course.local from.0) from.1 raises_too))
 
-    resolver : IsSettled order count past → (u e : ℕ) → Contains (own (course.local u)) e → (g : ℕ) × (f : ℕ) × Contains course.messages (message.Resolved g f)
+    resolver : IsSettled order count past → (u e : ℕ) → Contains (own (course.local u)) e
+        → (g : ℕ) × (f : ℕ) × Contains course.messages (message.Resolved g f)
     resolver calm u e at =
         let u_in = words.members u e at in
         let spoken = reached_call calm u e (words.sent_raised u e at) in
@@ -205,7 +220,9 @@ module _ (order : CoverOrder) (count : ℕ) where
           | inl same ↦ or_left (v == g) (has_heard (course.local g) v) (eq-eqb v g same)
           | inr other ↦ or_right (v == g) (has_heard (course.local g) v) (hears calm spoken g v g_in (omega arith) other)
         ]) in
-        let may : may_resolve count g (course.local g) ≡ true = and_from (has_raised (course.local g)) _ last.2 (and_from (has_heard_all count g (course.local g)) _ heard (not_from_false _ (no_greater g last.3))) in
+        let may : may_resolve count g (course.local g) ≡ true =
+        and_from (has_raised (course.local g)) _ last.2
+        (and_from (has_heard_all count g (course.local g)) _ heard (not_from_false _ (no_greater g last.3))) in
         let sent_one = kept.resolved_sent g (may_has_resolved count g (course.local g) may) in
         (g, sent_one.0, sent_one.1)
 
@@ -253,7 +270,8 @@ module _ (order : CoverOrder) (count : ℕ) where
   -- settling is legal, settles, and raises nothing
   pub settles_legal : {past new : List Event} → Settles order count past new → LegalPast order count past → LegalPast order count new
   settles_legal (settled calm) legal = legal
-  settles_legal (delivers {number = number} {t = t} first later) legal = settles_legal later (legal, record { in_range = first.due.member; legal = first.due.other })
+  settles_legal (delivers {number = number} {t = t} first later) legal =
+      settles_legal later (legal, record { in_range = first.due.member; legal = first.due.other })
 
   pub settles_settled : {past new : List Event} → Settles order count past new → IsSettled order count new
   settles_settled (settled calm) = calm
@@ -268,9 +286,11 @@ module _ (order : CoverOrder) (count : ℕ) where
   settles_same (delivers {number = number} {t = t} first later) is = absurd (is number t first.due)
 
   -- so after settling all have decided, where anything was raised, and else nothing has changed
-  pub settles_decide : {past new : List Event} → IsSound order → LegalPast order count past → Settles order count past new → (all_raised past ≡ [] → ⊥) → AllHaveDecided order count new
+  pub settles_decide : {past new : List Event} → IsSound order → LegalPast order count past → Settles order count past new
+      → (all_raised past ≡ [] → ⊥) → AllHaveDecided order count new
   settles_decide {new = new} sound legal settling some =
       all_decide sound new (settles_legal settling legal) (settles_settled settling) (λ none. some (sym (settles_raised settling) ∙ none))
 
-  pub settles_none : {past new : List Event} → IsSound order → LegalPast order count past → Settles order count past new → all_raised past ≡ [] → new ≡ past
+  pub settles_none : {past new : List Event} → IsSound order → LegalPast order count past → Settles order count past new
+      → all_raised past ≡ [] → new ≡ past
   settles_none {past = past} sound legal settling none = settles_same settling (calm_unraised sound past legal none)

@@ -54,7 +54,9 @@ module _ (past : List LocalEvent) where
   raised e is = with_raised (own past) (has_spoken past) e is
 
 -- one more member was heard
-pub heard_more : (heard : List Bool) (from me u : ℕ) (before : Bool) → from < length heard → slice_index_or heard u false ≡ (u == me || before) → slice_index_or (slice_set heard from true) u false ≡ (u == me || (from == u || before))
+pub heard_more : (heard : List Bool) (from me u : ℕ) (before : Bool) → from < length heard
+    → slice_index_or heard u false ≡ (u == me || before)
+    → slice_index_or (slice_set heard from true) u false ≡ (u == me || (from == u || before))
 heard_more heard from me u before fits was = elim (cases_eq from u) [
   | inl same ↦ rw (sym same) (get_or-set_same heard from true false fits ∙ sym (or_right (from == me) (from == from || before) (rw (eq-eqb from from refl))))
   | inr other ↦ get_or-set_other heard from u true false (λ same. other (sym same)) ∙ was ∙ ap (λ b. u == me || (b || before)) (sym (ne_eqb from u other))
@@ -79,11 +81,15 @@ raised_told (receives (message.Resolved u e) ∷ past) holds none = raised_told 
 -- all that a member is told is in range
 told_at_in : (order : CoverOrder) (count me : ℕ) (x : LocalEvent) → MayMeet order count me x → All (λ e. e < order.count) (told_at x)
 told_at_in order count me (raises e) may = All-cons (λ n. n < order.count) e [] may (All-nil (λ n. n < order.count))
-told_at_in order count me (receives (message.Raised u e)) may = All-cons (λ n. n < order.count) e [] may.0.1 (All-nil (λ n. n < order.count))
+told_at_in order count me (receives (message.Raised u e)) may =
+    All-cons (λ n. n < order.count) e [] may.0.1 (All-nil (λ n. n < order.count))
 told_at_in order count me (receives (message.Suspended u)) may = All-nil (λ n. n < order.count)
 told_at_in order count me (receives (message.Resolved u e)) may = All-nil (λ n. n < order.count)
 
-pub told_in : (order : CoverOrder) (count me : ℕ) (past : List LocalEvent) → All (MayMeet order count me) past → All (λ e. e < order.count) (told past)
+pub told_in : (order : CoverOrder) (count me : ℕ) (past : List LocalEvent) → All (MayMeet order count me) past
+    → All (λ e. e < order.count) (told past)
 told_in order count me [] met = All-nil (λ n. n < order.count)
 told_in order count me (x ∷ past) met =
-    All-append (λ n. n < order.count) (told_at x) (told past) (told_at_in order count me x (All-head (MayMeet order count me) x past met)) (told_in order count me past (All-tail (MayMeet order count me) x past met))
+    All-append (λ n. n < order.count) (told_at x) (told past)
+    (told_at_in order count me x (All-head (MayMeet order count me) x past met))
+    (told_in order count me past (All-tail (MayMeet order count me) x past met))

@@ -78,9 +78,12 @@ module _ (order : CoverOrder) (base : Known) where
   module _ (from e joined : ℕ) (from_in : from < base.count) (e_in : e < order.count) (other : from ≢ base.me) (joins : Joins order base.cover e joined) where
     -- the node once it has noted who raised and what
     abbrev noted : State → Known
-    noted state = record base { state = state; heard = slice_set base.heard from true; cover = Some joined; has_greater = nat_lt base.me from || base.has_greater }
+    noted state =
+        record base { state = state; heard = slice_set base.heard from true; cover = Some joined; has_greater = nat_lt base.me from || base.has_greater }
 
-    taken_raised : (state : State) (past : List LocalEvent) → StandsFor order past base → state ≡ state_of (receives (message.Raised from e) ∷ past) → HasTakenIn order past (receives (message.Raised from e)) (noted state)
+    taken_raised : (state : State) (past : List LocalEvent) → StandsFor order past base
+        → state ≡ state_of (receives (message.Raised from e) ∷ past)
+        → HasTakenIn order past (receives (message.Raised from e)) (noted state)
     taken_raised state past stands is =
         let many = stands.members in
         record {
@@ -96,11 +99,13 @@ module _ (order : CoverOrder) (base : Known) where
         }
 
     -- and once it has answered
-    answered : (state : State) → base.state ≡ state → (new : Known) (said : Option Message) → SuspendsFrom (noted state) state new said → TakesIn order (receives (message.Raised from e)) base new said
+    answered : (state : State) → base.state ≡ state → (new : Known) (said : Option Message) → SuspendsFrom (noted state) state new said
+        → TakesIn order (receives (message.Raised from e)) base new said
     answered Normal is new said does = subst (λ (n : Known). TakesIn order (receives (message.Raised from e)) base n said) (sym does.0) (record {
       me = refl;
       count = refl;
-      taken = λ past stands. taken_raised Suspended past stands (ap (λ xs. state_with xs true) (sym (normal past (sym stands.state ∙ is)).0));
+      taken =
+          λ past stands. taken_raised Suspended past stands (ap (λ xs. state_with xs true) (sym (normal past (sym stands.state ∙ is)).0));
       says = λ past stands.
           let silent : has_spoken past ≡ false = (normal past (sym stands.state ∙ is)).1 in
           ap listed does.1 ∙ ap (λ b. if b then [] else message.Suspended base.me ∷ []) (sym silent);
@@ -119,11 +124,13 @@ module _ (order : CoverOrder) (base : Known) where
     answered Suspended is new said does = subst (λ (n : Known). TakesIn order (receives (message.Raised from e)) base n said) (sym does.0) (record {
       me = refl;
       count = refl;
-      taken = λ past stands. taken_raised Suspended past stands (ap (λ xs. state_with xs true) (sym (suspended past (sym stands.state ∙ is)).0));
+      taken =
+          λ past stands. taken_raised Suspended past stands (ap (λ xs. state_with xs true) (sym (suspended past (sym stands.state ∙ is)).0));
       says = λ past stands.
           let spoken : has_spoken past ≡ true = (suspended past (sym stands.state ∙ is)).1 in
           ap listed does.1 ∙ ap (λ b. if b then [] else message.Suspended base.me ∷ []) (sym spoken);
     })
 
-    pub takes_raised : (new : Known) (said : Option Message) → Suspends (noted base.state) new said → TakesIn order (receives (message.Raised from e)) base new said
+    pub takes_raised : (new : Known) (said : Option Message) → Suspends (noted base.state) new said
+        → TakesIn order (receives (message.Raised from e)) base new said
     takes_raised new said does = answered base.state refl new said does

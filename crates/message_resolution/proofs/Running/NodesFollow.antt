@@ -26,7 +26,8 @@ use Rattle.message_resolution.proofs.Coming.FewMessages.{few_messages}
 use Rattle.message_resolution.proofs.Running.Places.{got_push, got_set}
 
 -- one more node that has met nothing
-pub fresh_more : (count : ℕ) (nodes : List Known) (node : Known) → AreFreshNodes count nodes → node.me ≡ length nodes → node.count ≡ count → ((order : CoverOrder) → StandsFor order [] node) → AreFreshNodes count (nodes ++ node ∷ [])
+pub fresh_more : (count : ℕ) (nodes : List Known) (node : Known) → AreFreshNodes count nodes → node.me ≡ length nodes → node.count ≡ count
+    → ((order : CoverOrder) → StandsFor order [] node) → AreFreshNodes count (nodes ++ node ∷ [])
 fresh_more count nodes node fresh me members stands order t found is = elim (got_push nodes node found t is) [
   | inl before ↦ fresh order t found before
   | inr last ↦ subst (IsNodeAt order count [] t) last.1 (record { me = me ∙ sym last.0; members = members; stands = stands order })
@@ -59,16 +60,22 @@ other_got t None other = absurd cc
 other_got t (Some m) other = (m, refl, eqb-false (sender_of m) t (not-true _ other))
 
 module _ (order : CoverOrder) (sound : IsSound order) (count : ℕ) (past : List Event) (messages : List Message) (nodes : List Known) (room : ℕ) (holds : HoldsRun order count past messages nodes room) where
-  may_meet : (e : Event) → MayCome order count past e → (node : Known) → IsNodeAt order count past (member_of e) node → MayMeetNode order messages node e
+  may_meet : (e : Event) → MayCome order count past e → (node : Known) → IsNodeAt order count past (member_of e) node
+      → MayMeetNode order messages node e
   may_meet (Raise by f) may node at = (silent_normal order count past by node at (not-true _ may.legal), may.in_range.1)
   may_meet (Deliver to number) may node at =
       let course = course_of order count past in
       let found = other_got to (slice_get course.messages number) may.legal in
-      let known = All-contains (IsMessage order count) course.messages found.0 (keeps order count past sound holds.legal).0.known (contains_got course.messages number found.0 found.1) in
+      let known =
+      All-contains (IsMessage order count) course.messages found.0 (keeps order count past sound holds.legal).0.known
+      (contains_got course.messages number found.0 found.1) in
       (found.0, ap (λ ms. slice_get ms number) holds.sent ∙ found.1, λ same. found.2 (same ∙ at.me), subst (λ n. IsMessage order n found.0) (sym at.members) known)
 
-  pub may_meet_at : (e : Event) → MayCome order count past e → (node : Known) → slice_get nodes (member_of e) ≡ Some node → IsNodeOf order node × MayMeetNode order messages node e
-  may_meet_at e may node is = let at = holds.each (member_of e) node is in (((course_of order count past).local (member_of e), at.stands), may_meet e may node at)
+  pub may_meet_at : (e : Event) → MayCome order count past e → (node : Known) → slice_get nodes (member_of e) ≡ Some node
+      → IsNodeOf order node × MayMeetNode order messages node e
+  may_meet_at e may node is =
+      let at = holds.each (member_of e) node is in
+      (((course_of order count past).local (member_of e), at.stands), may_meet e may node at)
 
   module _ (e : Event) (may : MayCome order count past e) (new : List Known) (sent : Sent) (nodes_meet : NodesMeet order messages nodes new e sent) where
     abbrev course : Course
@@ -108,14 +115,17 @@ module _ (order : CoverOrder) (sound : IsSound order) (count : ℕ) (past : List
               let stands : StandsFor order ((course_of order count (e ∷ past)).local t) one.next =
               subst (λ (c : Course). StandsFor order (c.local t) one.next) (sym same_course)
               (subst (λ local. StandsFor order local one.next) (sym (local_same order count course t step.x)) (meets.stands (course.local t) at.stands)) in
-              let at_t : IsNodeAt order count (e ∷ past) t one.next = record { me = meets.me ∙ at.me; members = meets.count ∙ at.members; stands = stands } in
+              let at_t : IsNodeAt order count (e ∷ past) t one.next =
+              record { me = meets.me ∙ at.me; members = meets.count ∙ at.members; stands = stands } in
               subst (IsNodeAt order count (e ∷ past) u) here.1 (subst (λ v. IsNodeAt order count (e ∷ past) v one.next) (sym here.0) at_t)
           | inr other ↦
               let at = holds.each u node other.1 in
               record {
                 me = at.me;
                 members = at.members;
-                stands = subst (λ (c : Course). StandsFor order (c.local u) node) (sym same_course) (subst (λ local. StandsFor order local node) (sym (local_other order count course t step.x u other.0)) at.stands);
+                stands =
+                    subst (λ (c : Course). StandsFor order (c.local u) node) (sym same_course)
+                    (subst (λ local. StandsFor order local node) (sym (local_other order count course t step.x u other.0)) at.stands);
               }
         ]
 
@@ -144,11 +154,17 @@ module _ (order : CoverOrder) (sound : IsSound order) (count : ℕ) (past : List
     }
 
 -- the node at a place is its member's
-pub node_at : (order : CoverOrder) (count : ℕ) (past : List Event) (messages : List Message) (nodes : List Known) (room : ℕ) → HoldsRun order count past messages nodes room → (t : ℕ) (node : Known) → t < count → node ≡ slice_index_or nodes t node → IsNodeAt order count past t node
-node_at order count past messages nodes room holds t node t_in is = let many = holds.many in holds.each t node (slice_get_read nodes count t node (sym many) t_in is)
+pub node_at : (order : CoverOrder) (count : ℕ) (past : List Event) (messages : List Message) (nodes : List Known) (room : ℕ)
+    → HoldsRun order count past messages nodes room → (t : ℕ) (node : Known) → t < count → node ≡ slice_index_or nodes t node
+    → IsNodeAt order count past t node
+node_at order count past messages nodes room holds t node t_in is =
+    let many = holds.many in
+    holds.each t node (slice_get_read nodes count t node (sym many) t_in is)
 
 -- a run starts with nodes that have met nothing
-pub starts : (order : CoverOrder) (count : ℕ) (events : List Event) (messages : List Message) (nodes : List Known) (room : ℕ) → count ≤ most_members → events ≡ [] → messages ≡ [] → length nodes ≡ count → AreFreshNodes count nodes → 2 * count ≤ room → HoldsRun order count (reverse events) messages nodes room
+pub starts : (order : CoverOrder) (count : ℕ) (events : List Event) (messages : List Message) (nodes : List Known) (room : ℕ)
+    → count ≤ most_members → events ≡ [] → messages ≡ [] → length nodes ≡ count → AreFreshNodes count nodes → 2 * count ≤ room
+    → HoldsRun order count (reverse events) messages nodes room
 starts order count events messages nodes room few none_events none_messages many fresh fits =
     subst (λ es. HoldsRun order count (reverse es) messages nodes room) (sym none_events) (record {
       few = few;

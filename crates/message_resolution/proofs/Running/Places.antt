@@ -11,7 +11,8 @@ use Rattle.std.proofs.lemmas.List.{reverse-append, reverse-reverse}
 use Rattle.message_resolution.proofs.Containing.{nothing_in, first_in, cases_in, any_member, any_from}
 
 -- at a place of a longer list
-pub got_push : {A : Type 0} (xs : List A) (y x : A) (k : ℕ) → slice_get (xs ++ y ∷ []) k ≡ Some x → (slice_get xs k ≡ Some x) ⊎ ((k ≡ length xs) × (y ≡ x))
+pub got_push : {A : Type 0} (xs : List A) (y x : A) (k : ℕ) → slice_get (xs ++ y ∷ []) k ≡ Some x
+    → (slice_get xs k ≡ Some x) ⊎ ((k ≡ length xs) × (y ≡ x))
 got_push [] y x zero is = inr (refl, cc)
 got_push [] y x (suc k) is = absurd cc
 got_push (z ∷ xs) y x zero is = inl is
@@ -21,7 +22,8 @@ got_push (z ∷ xs) y x (suc k) is = elim (got_push xs y x k is) [
 ]
 
 -- at a place of a list that was changed at one
-pub got_set : {A : Type 0} (xs : List A) (i : ℕ) (y x : A) (k : ℕ) → slice_get (slice_set xs i y) k ≡ Some x → ((k ≡ i) × (y ≡ x)) ⊎ ((k ≢ i) × (slice_get xs k ≡ Some x))
+pub got_set : {A : Type 0} (xs : List A) (i : ℕ) (y x : A) (k : ℕ) → slice_get (slice_set xs i y) k ≡ Some x
+    → ((k ≡ i) × (y ≡ x)) ⊎ ((k ≢ i) × (slice_get xs k ≡ Some x))
 got_set [] i y x k is = absurd cc
 got_set (z ∷ xs) zero y x zero is = inl (refl, cc)
 got_set (z ∷ xs) zero y x (suc k) is = inr (λ same. omega arith, is)
@@ -44,7 +46,8 @@ pub Contains-from_reverse : {A : Type 0} (xs : List A) (x : A) → Contains (rev
 Contains-from_reverse xs x at = subst (λ ys. Contains ys x) (reverse-reverse xs) (Contains-reverse (reverse xs) x at)
 
 -- a delivery is found among the events just where the past has it
-pub delivery_found : (events : List Event) (t number : ℕ) (found : Bool) → found ≡ list_any (is_delivery t number) events → IsTrue found ↔ Contains (reverse events) (Deliver t number)
+pub delivery_found : (events : List Event) (t number : ℕ) (found : Bool) → found ≡ list_any (is_delivery t number) events
+    → IsTrue found ↔ Contains (reverse events) (Deliver t number)
 delivery_found events t number found is = (
   λ holds.
       let some = any_member (is_delivery t number) events (sym is ∙ holds) in

@@ -17,7 +17,8 @@ use Rattle.message_resolution.proofs.Coming.LegalPasts.{step_of, course_step}
 use Rattle.message_resolution.proofs.Coming.FewMessages.{few_messages}
 use Rattle.message_resolution.proofs.Coming.Settled.{other_some}
 
-got_before : (messages more : List Message) (number : ℕ) → number < length messages → slice_get (messages ++ more) number ≡ slice_get messages number
+got_before : (messages more : List Message) (number : ℕ) → number < length messages
+    → slice_get (messages ++ more) number ≡ slice_get messages number
 got_before [] more number below = absurd (omega arith)
 got_before (m ∷ messages) more zero below = refl
 got_before (m ∷ messages) more (suc number) below = got_before messages more number (omega arith)
@@ -32,12 +33,14 @@ module _ (order : CoverOrder) (count : ℕ) where
   due_may_come past number t due = record { in_range = due.member; legal = due.other }
 
   -- what is due after a delivery of a later message was due before it
-  due_before : (past : List Event) (number t n u : ℕ) → LegalPast order count past → IsDue order count past number t → n ≤ number → IsDue order count (Deliver t number ∷ past) n u → IsDue order count past n u
+  due_before : (past : List Event) (number t n u : ℕ) → LegalPast order count past → IsDue order count past number t → n ≤ number
+      → IsDue order count (Deliver t number ∷ past) n u → IsDue order count past n u
   due_before past number t n u legal due low now =
       let below = due_sent past number t due in
       let step = step_of order count past (Deliver t number) (due_may_come past number t due) in
       let same : slice_get (course_of order count (Deliver t number ∷ past)).messages n ≡ slice_get (course_of order count past).messages n =
-      ap (λ (c : Course). slice_get c.messages n) (course_step order count past (Deliver t number) step) ∙ got_before (course_of order count past).messages _ n (omega arith) in
+      ap (λ (c : Course). slice_get c.messages n) (course_step order count past (Deliver t number) step) ∙ got_before
+      (course_of order count past).messages _ n (omega arith) in
       record {
         member = now.member;
         other = sym (ap (is_from_other u) same) ∙ now.other;
@@ -58,7 +61,8 @@ module _ (order : CoverOrder) (count : ℕ) where
     at_most n u before = elim before [ inl less ↦ omega arith | inr same ↦ let is = same.0 in omega arith ]
 
     -- one that is due is delivered
-    pub up_to_due : LegalPast order count past → SettlesUpTo order count start past number t → IsDue order count past number t → SettlesUpTo order count start (Deliver t number ∷ past) number (t + 1)
+    pub up_to_due : LegalPast order count past → SettlesUpTo order count start past number t → IsDue order count past number t
+        → SettlesUpTo order count start (Deliver t number ∷ past) number (t + 1)
     up_to_due legal upto due = record {
       rest = λ final later. upto.rest final (delivers (record { due = due; first = upto.calm }) later);
       calm = λ n u before now. elim (before_next n u before) [
@@ -68,7 +72,8 @@ module _ (order : CoverOrder) (count : ℕ) where
     }
 
     -- one that isn't is passed over
-    pub up_to_calm : SettlesUpTo order count start past number t → (IsDue order count past number t → ⊥) → SettlesUpTo order count start past number (t + 1)
+    pub up_to_calm : SettlesUpTo order count start past number t → (IsDue order count past number t → ⊥)
+        → SettlesUpTo order count start past number (t + 1)
     up_to_calm upto calm = record {
       rest = upto.rest;
       calm = λ n u before now. elim (before_next n u before) [
@@ -78,7 +83,8 @@ module _ (order : CoverOrder) (count : ℕ) where
     }
 
   -- the next message begins where this one is done
-  pub up_to_next : (start past : List Event) (number : ℕ) → SettlesUpTo order count start past number count → SettlesUpTo order count start past (number + 1) 0
+  pub up_to_next : (start past : List Event) (number : ℕ) → SettlesUpTo order count start past number count
+      → SettlesUpTo order count start past (number + 1) 0
   up_to_next start past number upto = record {
     rest = upto.rest;
     calm = λ n u before now. elim before [
@@ -97,7 +103,8 @@ module _ (order : CoverOrder) (count : ℕ) where
   }
 
   -- past the last message nothing is due
-  pub up_to_all : (start past : List Event) → LegalPast order count past → SettlesUpTo order count start past (2 * count) 0 → Settles order count start past
+  pub up_to_all : (start past : List Event) → LegalPast order count past → SettlesUpTo order count start past (2 * count) 0
+      → Settles order count start past
   up_to_all start past legal upto = upto.rest past (settled (λ n u due.
       let below = due_sent past n u due in
       let few = few_messages order count past legal in
@@ -119,7 +126,8 @@ module _ (first cur next : RunView) (number t : ℕ) (row : DeliversRow first cu
         | inr none ↦ let same = ap length none.1 in omega arith
       ]
 
-  row_settles : (start : List Event) → SettlesUpTo first.order first.count start first.past number 0 → SettlesUpTo first.order first.count start next.past number (t + 1)
+  row_settles : (start : List Event) → SettlesUpTo first.order first.count start first.past number 0
+      → SettlesUpTo first.order first.count start next.past number (t + 1)
   row_settles start begins =
       let upto = row.settles start begins in
       elim due.past [

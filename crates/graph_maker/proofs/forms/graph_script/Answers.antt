@@ -22,5 +22,6 @@ of_forms-requires c =
     c.in_ok-forms.ensures
     ∙ ap (λ l. made_forms l c.args.pairs.now) (c.deref-2.ensures.value ∙ c.in_ok-numbers.ensures)
     ∙ ap (λ l. made_forms (map (number_in l) words) c.args.pairs.now) (c.deref.ensures.value ∙ c.in_ok-names.ensures) in
-    let whole = are_script words c.args.pairs.now c.requires.some c.requires.few c.requires.names c.requires.in_range c.requires.few_pairs in
+    let whole =
+    are_script words c.args.pairs.now c.requires.some c.requires.few c.requires.names c.requires.in_range c.requires.few_pairs in
     subst (λ l. AreScript l c.in_ok-forms.forms.items) (sym c.in_ok-names.ensures) (subst (AreScript names) (sym forms) whole)

@@ -10,7 +10,8 @@ pub returns-in-Some-clause-value : goal.returns-in-Some-clause-value
 returns-in-Some-clause-value c = refused (sym c.refusal_of.ensures ∙ c.in-Some.is)
 
 pub returns-in-Ok-script_of_sets-clause-value : goal.returns-in-Ok-script_of_sets-clause-value
-returns-in-Ok-script_of_sets-clause-value c = made (sym c.refusal_of.ensures ∙ c.in_default-refusal_of.is) c.in-Ok-script_of_sets.ensures.value
+returns-in-Ok-script_of_sets-clause-value c =
+    made (sym c.refusal_of.ensures ∙ c.in_default-refusal_of.is) c.in-Ok-script_of_sets.ensures.value
 
 pub returns-in-Ok-script_of_sets-clause-declares : goal.returns-in-Ok-script_of_sets-clause-declares
 returns-in-Ok-script_of_sets-clause-declares c =

@@ -31,7 +31,8 @@ make_pairs-requires-clause-few c =
     let fits = has_room c.args.script.now c.args.most c.requires.some_member c.requires.accepted in
     let count : length c.args.exceptions.now ≡ primitive_count c.args.script.now = ap length c.requires.declared in
     let many = fits.exceptions in
-    let long : length c.deref.result.now ≡ exception_count (primitive_count c.args.script.now) c.args.most = ap length (c.deref.ensures.value ∙ c.in_ok-table.ensures ∙ ap (λ k. table k c.args.most) count) in
+    let long : length c.deref.result.now ≡ exception_count (primitive_count c.args.script.now) c.args.most =
+    ap length (c.deref.ensures.value ∙ c.in_ok-table.ensures ∙ ap (λ k. table k c.args.most) count) in
     omega (arith, many, long)
 
 pub make_pairs-requires-clause-primitives_fit : goal.make_pairs-requires-clause-primitives_fit
@@ -47,7 +48,8 @@ larger_in-requires-clause-some c =
     let fits = has_room c.args.script.now c.args.most c.requires.some_member c.requires.accepted in
     let count : length c.args.exceptions.now ≡ primitive_count c.args.script.now = ap length c.requires.declared in
     let less = fits.primitives in
-    let long : length c.deref-2.result.now ≡ exception_count (primitive_count c.args.script.now) c.args.most = ap length (c.deref-2.ensures.value ∙ c.in_ok-table.ensures ∙ ap (λ k. table k c.args.most) count) in
+    let long : length c.deref-2.result.now ≡ exception_count (primitive_count c.args.script.now) c.args.most =
+    ap length (c.deref-2.ensures.value ∙ c.in_ok-table.ensures ∙ ap (λ k. table k c.args.most) count) in
     omega (arith, count, less, long)
 
 pub larger_in-requires-clause-few : goal.larger_in-requires-clause-few
@@ -55,7 +57,8 @@ larger_in-requires-clause-few c =
     let fits = has_room c.args.script.now c.args.most c.requires.some_member c.requires.accepted in
     let count : length c.args.exceptions.now ≡ primitive_count c.args.script.now = ap length c.requires.declared in
     let many = fits.exceptions in
-    let long : length c.deref-2.result.now ≡ exception_count (primitive_count c.args.script.now) c.args.most = ap length (c.deref-2.ensures.value ∙ c.in_ok-table.ensures ∙ ap (λ k. table k c.args.most) count) in
+    let long : length c.deref-2.result.now ≡ exception_count (primitive_count c.args.script.now) c.args.most =
+    ap length (c.deref-2.ensures.value ∙ c.in_ok-table.ensures ∙ ap (λ k. table k c.args.most) count) in
     omega (arith, many, long)
 
 pub words_of-requires : goal.words_of-requires
@@ -76,7 +79,8 @@ graph_script-requires-clause-few c =
     let fits = has_room script most c.requires.some_member c.requires.accepted in
     let words : c.deref-3.result.now ≡ words_of script most =
     c.deref-3.ensures.value ∙ c.in_ok-words.ensures
-    ∙ ap (λ (l : List ℕ). name_at names graph ∷ map (name_at names) ns ++ map (set_name (length ns)) l) (c.larger_in.ensures ∙ ap (drop (length ns + 1)) (c.deref-2.ensures.value ∙ c.in_ok-table.ensures))
+    ∙ ap (λ (l : List ℕ). name_at names graph ∷ map (name_at names) ns ++ map (set_name (length ns)) l)
+    (c.larger_in.ensures ∙ ap (drop (length ns + 1)) (c.deref-2.ensures.value ∙ c.in_ok-table.ensures))
     ∙ words_are names graph ns most
     ∙ ap (λ (l : List ℕ). name_at names graph ∷ exception_names (map (name_at names) l) most) c.requires.declared in
     let many = fits.exceptions in
@@ -94,12 +98,14 @@ graph_script-requires-clause-names c =
     let fits = has_room script most c.requires.some_member c.requires.accepted in
     let words : c.deref-3.result.now ≡ words_of script most =
     c.deref-3.ensures.value ∙ c.in_ok-words.ensures
-    ∙ ap (λ (l : List ℕ). name_at names graph ∷ map (name_at names) ns ++ map (set_name (length ns)) l) (c.larger_in.ensures ∙ ap (drop (length ns + 1)) (c.deref-2.ensures.value ∙ c.in_ok-table.ensures))
+    ∙ ap (λ (l : List ℕ). name_at names graph ∷ map (name_at names) ns ++ map (set_name (length ns)) l)
+    (c.larger_in.ensures ∙ ap (drop (length ns + 1)) (c.deref-2.ensures.value ∙ c.in_ok-table.ensures))
     ∙ words_are names graph ns most
     ∙ ap (λ (l : List ℕ). name_at names graph ∷ exception_names (map (name_at names) l) most) c.requires.declared in
     let many = fits.exceptions in
     let less = fits.primitives in
-    ap (list_all is_name) words ∙ words_named script most c.are_script.ensures c.requires.accepted (omega (arith, many, less)) c.requires.most_fits
+    ap (list_all is_name) words ∙ words_named script most c.are_script.ensures c.requires.accepted (omega (arith, many, less))
+    c.requires.most_fits
 
 pub graph_script-requires-clause-in_range : goal.graph_script-requires-clause-in_range
 graph_script-requires-clause-in_range c =
@@ -112,14 +118,17 @@ graph_script-requires-clause-in_range c =
     let count : length ns ≡ primitive_count script = ap length c.requires.declared in
     let words : c.deref-3.result.now ≡ words_of script most =
     c.deref-3.ensures.value ∙ c.in_ok-words.ensures
-    ∙ ap (λ (l : List ℕ). name_at names graph ∷ map (name_at names) ns ++ map (set_name (length ns)) l) (c.larger_in.ensures ∙ ap (drop (length ns + 1)) (c.deref-2.ensures.value ∙ c.in_ok-table.ensures))
+    ∙ ap (λ (l : List ℕ). name_at names graph ∷ map (name_at names) ns ++ map (set_name (length ns)) l)
+    (c.larger_in.ensures ∙ ap (drop (length ns + 1)) (c.deref-2.ensures.value ∙ c.in_ok-table.ensures))
     ∙ words_are names graph ns most
     ∙ ap (λ (l : List ℕ). name_at names graph ∷ exception_names (map (name_at names) l) most) c.requires.declared in
     let long = length-words script most fits.primitives in
     let size : length c.deref-3.result.now ≡ length (words_of script most) = ap length words in
-    let all : length c.deref.result.now ≡ exception_count (primitive_count script) most = ap length (c.deref.ensures.value ∙ c.in_ok-table.ensures ∙ ap (λ k. table k most) count) in
+    let all : length c.deref.result.now ≡ exception_count (primitive_count script) most =
+    ap length (c.deref.ensures.value ∙ c.in_ok-table.ensures ∙ ap (λ k. table k most) count) in
     let same : length c.deref.result.now ≡ length c.deref-3.result.now = omega (arith, long, size, all) in
-    subst (λ (xs : List (ℕ × ℕ)). All (λ (p : ℕ × ℕ). (p.0 < length c.deref-3.result.now) × (p.1 < length c.deref-3.result.now)) xs) (sym c.deref-4.ensures.value)
+    subst (λ (xs : List (ℕ × ℕ)). All (λ (p : ℕ × ℕ). (p.0 < length c.deref-3.result.now) × (p.1 < length c.deref-3.result.now)) xs)
+    (sym c.deref-4.ensures.value)
     (subst (λ k. All (λ (p : ℕ × ℕ). (p.0 < k) × (p.1 < k)) c.in_ok-pairs.pairs.items) same c.in_ok-pairs.ensures.in_range)
 
 pub graph_script-requires-clause-few_pairs : goal.graph_script-requires-clause-few_pairs
@@ -162,11 +171,13 @@ returns-clause-value c =
     let count : length ns ≡ primitive_count script = ap length c.requires.declared in
     let words : c.deref-3.result.now ≡ words_of script most =
     c.deref-3.ensures.value ∙ c.in_ok-words.ensures
-    ∙ ap (λ (l : List ℕ). name_at names graph ∷ map (name_at names) ns ++ map (set_name (length ns)) l) (c.larger_in.ensures ∙ ap (drop (length ns + 1)) (c.deref-2.ensures.value ∙ c.in_ok-table.ensures))
+    ∙ ap (λ (l : List ℕ). name_at names graph ∷ map (name_at names) ns ++ map (set_name (length ns)) l)
+    (c.larger_in.ensures ∙ ap (drop (length ns + 1)) (c.deref-2.ensures.value ∙ c.in_ok-table.ensures))
     ∙ words_are names graph ns most
     ∙ ap (λ (l : List ℕ). name_at names graph ∷ exception_names (map (name_at names) l) most) c.requires.declared in
     let pairs : c.deref-4.result.now ≡ pairs_of (primitive_count script) most =
     c.deref-4.ensures.value ∙ c.in_ok-pairs.ensures.pairs
     ∙ ap (λ (l : List ℕ). pairs_below (length ns) l (length l)) (c.deref.ensures.value ∙ c.in_ok-table.ensures)
     ∙ ap (λ k. pairs_of k most) count in
-    c.in_ok-made.ensures ∙ ap (λ (w : List (List ℕ)). made_script w c.deref-4.result.now) words ∙ ap (made_script (words_of script most)) pairs
+    c.in_ok-made.ensures ∙ ap (λ (w : List (List ℕ)). made_script w c.deref-4.result.now) words ∙ ap
+    (made_script (words_of script most)) pairs

@@ -14,6 +14,7 @@ loop-line-preserved c =
     let before = c.loop-line.invariant.0 in (
       omega (arith, few, before),
       ap (λ k. refused_from script c.args.most (passed + k) (drop (i + 1) all)) c.declared_by-passed.ensures.value
-          ∙ line_passed script c.args.most passed i all line (omega (arith, c.loop-line-test.true)) c.line-item.is (sym c.cause_of.ensures ∙ c.in_default.is)
+          ∙ line_passed script c.args.most passed i all line (omega (arith, c.loop-line-test.true)) c.line-item.is
+          (sym c.cause_of.ensures ∙ c.in_default.is)
           ∙ c.loop-line.invariant.1,
     )

@@ -9,7 +9,9 @@ pub overflow_cast-count : goal.overflow_cast-count
 overflow_cast-count c = omega (arith, few_roles c.args.plan.now c.is_closed.ensures 0, ap length c.roles_of.ensures)
 
 pub returns-then-count-eq0 : goal.returns-then-count-eq0
-returns-then-count-eq0 c = played_by_nobody c.args.plan.now c.args.seed c.in_ok-text.text.items (sym (ap length c.roles_of.ensures) ∙ c.if-count-eq0.true) c.in_ok-text.ensures.items
+returns-then-count-eq0 c =
+    played_by_nobody c.args.plan.now c.args.seed c.in_ok-text.text.items (sym (ap length c.roles_of.ensures) ∙ c.if-count-eq0.true)
+    c.in_ok-text.ensures.items
 
 pub overflow_mul-count : goal.overflow_mul-count
 overflow_mul-count c = omega (arith, few_roles c.args.plan.now c.is_closed.ensures 0, ap length c.roles_of.ensures)
@@ -37,5 +39,6 @@ returns c =
       unchanged = c.settle.ensures.unchanged;
       legal = c.is_legal.ensures;
     } in
-    let told = c.in_ok-write_events.ensures ∙ ap (λ text. text ++ flat_map (event_line plan) (reverse new.past)) c.in_ok-text.ensures.items in
+    let told =
+    c.in_ok-write_events.ensures ∙ ap (λ text. text ++ flat_map (event_line plan) (reverse new.past)) c.in_ok-text.ensures.items in
     played plan c.args.seed old new done c.write_events.new.text.items c.write_decisions.new.text.items told c.in_ok-write_decisions.ensures

@@ -8,4 +8,6 @@ loop-member-preserved c =
     let world = c.args.world.now in
     let m : ℕ = c.loop-member.member in
     let found = c.decided.result in
-    decisions_more plan world.past c.args.text.now.items c.loop-member.text.items c.write_decision.new.text.items m found c.loop-member.invariant (own_of_plan plan world c.requires m found c.decided.ensures.decided) (agreed_of_plan plan world c.requires found c.decided.ensures.agreed) c.in_ok-write_decision.ensures
+    decisions_more plan world.past c.args.text.now.items c.loop-member.text.items c.write_decision.new.text.items m found
+    c.loop-member.invariant (own_of_plan plan world c.requires m found c.decided.ensures.decided)
+    (agreed_of_plan plan world c.requires found c.decided.ensures.agreed) c.in_ok-write_decision.ensures

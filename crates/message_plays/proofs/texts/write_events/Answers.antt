@@ -11,4 +11,5 @@ write_event-requires c =
 
 pub loop-index-preserved : goal.loop-index-preserved
 loop-index-preserved c =
-    lines_more (event_line c.args.plan.now) (reverse c.args.world.now.past) c.loop-index.index c.event.result c.args.text.now.items c.loop-index.text.items c.write_event.new.text.items c.event.ensures c.loop-index.invariant c.in_ok-write_event.ensures
+    lines_more (event_line c.args.plan.now) (reverse c.args.world.now.past) c.loop-index.index c.event.result c.args.text.now.items
+    c.loop-index.text.items c.write_event.new.text.items c.event.ensures c.loop-index.invariant c.in_ok-write_event.ensures

@@ -28,7 +28,8 @@ loop-turn-preserved c =
     let turn = c.loop-turn._turn in
     let before = c.loop-turn.invariant in
     let taken = c.take_turn.ensures in
-    let next : c.next_state-state.result ≡ next_state (state_after seed turn) = c.next_state-state.ensures.value ∙ ap next_state before.state in
+    let next : c.next_state-state.result ≡ next_state (state_after seed turn) =
+    c.next_state-state.ensures.value ∙ ap next_state before.state in
     let earlier = before.long in
     let longer = taken.world.long in
     record {

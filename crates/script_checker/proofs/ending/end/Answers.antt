@@ -9,7 +9,8 @@ use Rattle.script_checker.proofs.ending.end.Goals as goal
 
 pub returns-in-Graph-clause-accepted : goal.returns-in-Graph-clause-accepted
 returns-in-Graph-clause-accepted c =
-    on_ok_weaker c.end_graph.result (none_of_graph c.args.so_far.now c.in-Graph.graph (sym c.replace.ensures.value ∙ c.in-Graph.is)) c.end_graph.ensures.faultless
+    on_ok_weaker c.end_graph.result (none_of_graph c.args.so_far.now c.in-Graph.graph (sym c.replace.ensures.value ∙ c.in-Graph.is))
+    c.end_graph.ensures.faultless
 
 pub returns-in-Graph-clause-refused : goal.returns-in-Graph-clause-refused
 returns-in-Graph-clause-refused c =

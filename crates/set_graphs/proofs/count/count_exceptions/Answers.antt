@@ -8,13 +8,17 @@ add_primitive-requires c size =
     let fits = c.requires.primitives_fit in
     let less = c.loop-primitive-test.true in
     let many = c.loop-primitive.invariant.many in
-    let few = counts_fit c.loop-primitive._primitive c.loop-primitive.counts (omega (arith, fits, less)) (omega (arith, many)) c.loop-primitive.invariant.counted size in
+    let few =
+    counts_fit c.loop-primitive._primitive c.loop-primitive.counts (omega (arith, fits, less)) (omega (arith, many))
+    c.loop-primitive.invariant.counted size in
     omega (arith, few)
 
 pub loop-primitive-preserved : goal.loop-primitive-preserved
 loop-primitive-preserved c = record {
   many = c.add_primitive.auto.counts ∙ c.loop-primitive.invariant.many;
-  counted = counts_more c.loop-primitive._primitive c.loop-primitive.counts c.add_primitive.new.counts c.loop-primitive.invariant.counted c.add_primitive.auto.counts c.add_primitive.ensures;
+  counted =
+      counts_more c.loop-primitive._primitive c.loop-primitive.counts c.add_primitive.new.counts c.loop-primitive.invariant.counted
+      c.add_primitive.auto.counts c.add_primitive.ensures;
 }
 
 pub overflow_add-count-in-loop-size : goal.overflow_add-count-in-loop-size
@@ -25,7 +29,9 @@ overflow_add-count-in-loop-size c =
     let past = c.loop-primitive-test.false in
     let most = c.loop-primitive.auto._primitive-end in
     let many = c.loop-primitive.invariant.many in
-    let few = counts_fit c.loop-primitive._primitive c.loop-primitive.counts (omega (arith, fits, most)) (omega (arith, many)) c.loop-primitive.invariant.counted (c.loop-size.size + 1) in
+    let few =
+    counts_fit c.loop-primitive._primitive c.loop-primitive.counts (omega (arith, fits, most)) (omega (arith, many))
+    c.loop-primitive.invariant.counted (c.loop-size.size + 1) in
     let before = exceptions_fit c.args.primitives c.loop-size.size fits (omega (arith, less, small)) in
     let count = c.loop-size.invariant in
     omega (arith, few, before, count, small, less)
@@ -41,4 +47,5 @@ loop-size-preserved c =
     let counted = c.loop-primitive.invariant.counted (c.loop-size.size + 1) (omega (arith, many, less, small)) in
     let here = ap (λ (n : ℕ). length (choose n (c.loop-size.size + 1))) all in
     ap (λ (k : ℕ). k + slice_index c.loop-primitive.counts (c.loop-size.size + 1)) c.loop-size.invariant
-    ∙ (ap (λ (k : ℕ). exception_count c.args.primitives c.loop-size.size + k) (counted ∙ here) ∙ sym (exceptions_more c.args.primitives c.loop-size.size))
+    ∙
+    (ap (λ (k : ℕ). exception_count c.args.primitives c.loop-size.size + k) (counted ∙ here) ∙ sym (exceptions_more c.args.primitives c.loop-size.size))

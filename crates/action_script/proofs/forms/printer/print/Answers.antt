@@ -14,4 +14,5 @@ returns-clause-reads_back c =
 pub returns-clause-spells : goal.returns-clause-spells
 returns-clause-spells c =
     let printed : c.push_lines.new.text.items ≡ text_of c.args.script.now = search rules in
-    subst (λ (text : List ℕ). LinesSpell text (reread_of c.args.script.now)) (sym printed) (lines_spell c.args.script.now c.are_script.ensures)
+    subst (λ (text : List ℕ). LinesSpell text (reread_of c.args.script.now)) (sym printed)
+    (lines_spell c.args.script.now c.are_script.ensures)

@@ -5,14 +5,17 @@ use Rattle.action_script.proofs.lines.reader.read_lines.Goals as goal
 
 pub returns-in-Err-clause-refused : goal.returns-in-Err-clause-refused
 returns-in-Err-clause-refused c = λ known.
-    has_read-refused c.args.bytes.now c.loop-rest.rest.now c.cut_line.result.1.now c.cut_line.result.0.now (so_far c.loop-rest.reader) c.in-Err.error
+    has_read-refused c.args.bytes.now c.loop-rest.rest.now c.cut_line.result.1.now c.cut_line.result.0.now (so_far c.loop-rest.reader)
+    c.in-Err.error
     c.loop-rest.invariant.read c.cut_line.ensures.cut (c.in-Err.ensures.refused known) c.in-Err.ensures.place
 
 pub loop-rest-preserved : goal.loop-rest-preserved
 loop-rest-preserved c =
     let took = c.in-Ok.ensures.taken in
     record {
-      read = has_read-more c.args.bytes.now c.loop-rest.rest.now c.cut_line.result.1.now c.cut_line.result.0.now (so_far c.loop-rest.reader) (so_far c.take_line.new.self) c.loop-rest.invariant.read c.cut_line.ensures.cut took;
+      read =
+          has_read-more c.args.bytes.now c.loop-rest.rest.now c.cut_line.result.1.now c.cut_line.result.0.now
+          (so_far c.loop-rest.reader) (so_far c.take_line.new.self) c.loop-rest.invariant.read c.cut_line.ensures.cut took;
       few = omega (arith, took-line (so_far c.loop-rest.reader) c.cut_line.result.0.now (so_far c.take_line.new.self) took);
       lines = omega (arith, took-lines (so_far c.loop-rest.reader) c.cut_line.result.0.now (so_far c.take_line.new.self) took);
       room = omega (arith, took-names (so_far c.loop-rest.reader) c.cut_line.result.0.now (so_far c.take_line.new.self) took);

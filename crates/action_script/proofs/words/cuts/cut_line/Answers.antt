@@ -9,4 +9,5 @@ returns-then-end-text-clause-cut c =
     rw (c.end_of_line-end.ensures.end, take_rest text (end_of text + 1)) (lines_of-cut text (omega (arith, c.end_of_line-end.ensures.end, c.if-end-text.true)))
 
 pub returns-else-end-text-clause-cut : goal.returns-else-end-text-clause-cut
-returns-else-end-text-clause-cut c = lines_of-whole c.args.text.now c.requires (omega (arith, c.end_of_line-end.ensures.end, c.if-end-text.false))
+returns-else-end-text-clause-cut c =
+    lines_of-whole c.args.text.now c.requires (omega (arith, c.end_of_line-end.ensures.end, c.if-end-text.false))

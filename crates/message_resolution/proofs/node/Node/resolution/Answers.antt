@@ -24,5 +24,7 @@ returns-then-self c =
 pub returns : goal.returns
 returns c =
     let base : Known = the_view c.self.inside in
-    let all : list_all (λ b. b) base.heard ≡ true = ap (λ (k : Known). list_all (λ b. b) k.heard) c.self.view_is ∙ sym c.has_heard_all.ensures ∙ c.if-not-has_heard_all.false in
-    subst (λ (n : Known). IsResolutionOf n c.self.inside.cover) c.self.view_is (some_cover base c.in-Raised.field-0 c.in-Raised.is c.if-self.false c.if-self-2.false all)
+    let all : list_all (λ b. b) base.heard ≡ true =
+    ap (λ (k : Known). list_all (λ b. b) k.heard) c.self.view_is ∙ sym c.has_heard_all.ensures ∙ c.if-not-has_heard_all.false in
+    subst (λ (n : Known). IsResolutionOf n c.self.inside.cover) c.self.view_is
+    (some_cover base c.in-Raised.field-0 c.in-Raised.is c.if-self.false c.if-self-2.false all)

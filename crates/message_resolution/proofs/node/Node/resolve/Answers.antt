@@ -11,4 +11,5 @@ returns-in-Some c =
     let base : Known = the_view c.self.inside in
     let e = c.in-Some.exception in
     let found : IsResolutionOf base (Some e) = subst (λ (n : Known). IsResolutionOf n (Some e)) (sym c.self.view_is) c.in-Some.ensures in
-    subst (λ (old : Known). Resolves old (record base { has_resolved = true; decided = Some e }) (Some (message.Resolved base.me e))) c.self.view_is (resolves_some base e found)
+    subst (λ (old : Known). Resolves old (record base { has_resolved = true; decided = Some e }) (Some (message.Resolved base.me e)))
+    c.self.view_is (resolves_some base e found)

@@ -9,7 +9,8 @@ use Rattle.message_resolution.proofs.world.World.step.Goals as goal
 pub returns-then-not-is_legal-clause-agreed : goal.returns-then-not-is_legal-clause-agreed
 returns-then-not-is_legal-clause-agreed c =
     let run = c.self.inside.run in
-    subst (λ (v : WorldView). DecidersAgree v.order v.count v.past) c.self.view_is (deciders_agree run.order run.count run.past c.is_sound.ensures.sound)
+    subst (λ (v : WorldView). DecidersAgree v.order v.count v.past) c.self.view_is
+    (deciders_agree run.order run.count run.past c.is_sound.ensures.sound)
 
 pub returns-clause-agreed : goal.returns-clause-agreed
 returns-clause-agreed c =

@@ -18,6 +18,8 @@ returns-clause-back c =
     let many = keeps.order_of.counts in
     let inside : at < exception_count n most = omega (arith, below, many) in
     let long = ap (λ (l : List ℕ). length l) keeps.stands_for in
-    let read : set ≡ members_of n most at = c.index.ensures ∙ (get_or_default all at set 0 (omega (arith, inside, long)) ∙ ap (λ (l : List ℕ). slice_index l at) keeps.stands_for) in
+    let read : set ≡ members_of n most at =
+    c.index.ensures ∙
+    (get_or_default all at set 0 (omega (arith, inside, long)) ∙ ap (λ (l : List ℕ). slice_index l at) keeps.stands_for) in
     ap (number_of n most) read ∙ number-members n most at inside)
     c.requires.in_range

@@ -11,8 +11,11 @@ returns-clause-back c =
     let most = c.self.inside.most in
     let set = c.args.set in
     let at = c.number_in.result in
-    let is : at ≡ number_of n most set = c.number_in.ensures ∙ ap (λ (l : List ℕ). number_in l set) (c.deref.ensures.value ∙ keeps.stands_for) in
-    subst (λ (g : SetOrder). set < 2 ^ g.primitives → size_of g.primitives set ≤ g.most → (0 < at) × (at < g.order.count) × (members_of g.primitives g.most at ≡ set)) c.self.view_is
+    let is : at ≡ number_of n most set =
+    c.number_in.ensures ∙ ap (λ (l : List ℕ). number_in l set) (c.deref.ensures.value ∙ keeps.stands_for) in
+    subst
+    (λ (g : SetOrder). set < 2 ^ g.primitives → size_of g.primitives set ≤ g.most → (0 < at) × (at < g.order.count) × (members_of g.primitives g.most at ≡ set))
+    c.self.view_is
     (λ low few.
     let number = number_whole n most set (record { some = c.requires.some; primitives = low; few = few }) in
     let many = keeps.order_of.counts in
@@ -28,5 +31,6 @@ returns-clause-past c =
     let most = c.self.inside.most in
     let set = c.args.set in
     let at = c.number_in.result in
-    let is : at ≡ number_of n most set = c.number_in.ensures ∙ ap (λ (l : List ℕ). number_in l set) (c.deref.ensures.value ∙ keeps.stands_for) in
+    let is : at ≡ number_of n most set =
+    c.number_in.ensures ∙ ap (λ (l : List ℕ). number_in l set) (c.deref.ensures.value ∙ keeps.stands_for) in
     subst (λ (g : SetOrder). g.most < size_of g.primitives set → at ≡ 0) c.self.view_is (λ large. is ∙ number_past n most set large)

@@ -19,19 +19,23 @@ returns-then-not-branch-clause-refused c = λ known.
     let words = map (λ w. w.now) c.args.words.now in
     let tried : trial_of (asked_of (parts_of c.args.kind) words) ≡ Err c.in_ok-of_words.of_words =
     ap (λ (p : List Part). trial_of (asked_of p words)) (sym c.parts-then-not-branch.ensures) ∙ c.in_ok-of_words.ensures in
-    fault_told c.args.self.now.section c.args.line.now c.args.kind words c.requires.kind c.in_ok-of_words.of_words tried ∙ ap Err (sym c.fault_of.ensures)
+    fault_told c.args.self.now.section c.args.line.now c.args.kind words c.requires.kind c.in_ok-of_words.of_words tried ∙ ap Err
+    (sym c.fault_of.ensures)
 
 pub by-requires : goal.by-requires
 by-requires c =
     let words = map (λ w. w.now) c.args.words.now in
     let asked = asked_of c.parts.result.now words in
     let fields : length c.deref.result.now ≡ length words =
-    ap length (c.deref.ensures.value ∙ c.in_ok-take_fields.ensures.taken c.if-not-branch.false) ∙ length-map asked (field_of c.take_fields.new.names) ∙ length-asked_of c.parts.result.now words in
-    subst (λ n. IsTrue (takes c.args.kind n)) (sym fields) (kind_takes c.args.self.now.section c.args.line.now c.args.kind words c.requires.kind)
+    ap length (c.deref.ensures.value ∙ c.in_ok-take_fields.ensures.taken c.if-not-branch.false) ∙ length-map asked
+    (field_of c.take_fields.new.names) ∙ length-asked_of c.parts.result.now words in
+    subst (λ n. IsTrue (takes c.args.kind n)) (sym fields)
+    (kind_takes c.args.self.now.section c.args.line.now c.args.kind words c.requires.kind)
 
 pub returns-clause-says : goal.returns-clause-says
 returns-clause-says c =
     let words = map (λ w. w.now) c.args.words.now in
     let right : list_all is_right (asked_of (parts_of c.args.kind) words) ≡ true =
-    ap (λ (p : List Part). list_all is_right (asked_of p words)) (sym c.parts.ensures) ∙ sym c.in_ok-take_fields.ensures.right ∙ c.if-not-branch.false in
+    ap (λ (p : List Part). list_all is_right (asked_of p words)) (sym c.parts.ensures) ∙ sym c.in_ok-take_fields.ensures.right ∙
+    c.if-not-branch.false in
     said_right c.args.self.now.section c.args.line.now c.args.kind words c.requires.kind right

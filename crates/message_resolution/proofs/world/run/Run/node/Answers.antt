@@ -8,4 +8,5 @@ pub returns : goal.returns
 returns c =
     let run = c.self.inside in
     let by_in = subst (λ (v : RunView). c.args.by < v.count) (sym c.self.view_is) c.requires in
-    subst (λ (v : RunView). IsNodeAt v.order v.count v.past c.args.by c.index.result.now) c.self.view_is (node_at run.graph run.count _ run.messages.items run.nodes.items _ c.self.invariant c.args.by c.index.result.now by_in c.index.ensures)
+    subst (λ (v : RunView). IsNodeAt v.order v.count v.past c.args.by c.index.result.now) c.self.view_is
+    (node_at run.graph run.count _ run.messages.items run.nodes.items _ c.self.invariant c.args.by c.index.result.now by_in c.index.ensures)

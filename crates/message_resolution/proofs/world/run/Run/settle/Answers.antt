@@ -29,5 +29,8 @@ returns-clause-settles c =
     let most = c.loop-message.auto.message-end in
     let least = c.loop-message-test.false in
     let last : c.loop-message.message ≡ 2 * n = omega arith in
-    let legal : LegalPast start.order n now.past = subst (λ (o : CoverOrder). LegalPast o n now.past) before.order (subst (λ (k : ℕ). LegalPast now.order k now.past) before.count c.is_sound.ensures.legal) in
-    up_to_all start.order n start.past now.past legal (subst (λ (m : ℕ). SettlesUpTo start.order n start.past now.past m 0) last before.settles)
+    let legal : LegalPast start.order n now.past =
+    subst (λ (o : CoverOrder). LegalPast o n now.past) before.order
+    (subst (λ (k : ℕ). LegalPast now.order k now.past) before.count c.is_sound.ensures.legal) in
+    up_to_all start.order n start.past now.past legal
+    (subst (λ (m : ℕ). SettlesUpTo start.order n start.past now.past m 0) last before.settles)

@@ -1,0 +1,13 @@
+pub mod Makers
+pub mod Blank
+pub mod Staging
+pub mod Turning
+pub mod Acting
+pub mod Framing
+pub mod Giving
+pub mod Valuing
+pub mod Entering
+pub mod Answering
+pub mod Spoken
+pub mod Carrying
+pub mod OneWay

@@ -1,0 +1,79 @@
+ghost use Rattle.std.specs.Prelude.{◌≡◌, ◌∷◌, [], reverse, IfOk};
+ghost use Rattle.place_plan.specs.RulesOfJournals.Rules.{MayFollow};
+ghost use Rattle.place_plan.specs.RulesOfJournals.Journals.{LegalPast};
+ghost use Rattle.action_core.specs.inner.KeptPast.{IsKeptOf};
+
+use crate::asking::steps::has_handled;
+use crate::asking::whereabouts::is_left_in_silence;
+use crate::noting::{note_frames, note_recoveries, note_versions};
+use crate::people::People;
+use crate::saying::note_endings;
+use crate::stages::Stages;
+use action_endings::Endings;
+use caa_base::written::entry::{Entry, OutOfMemory};
+use object_versions::Versions;
+use place_plan::plans::plan::Plan;
+use resolution_core::Resolver;
+use role_states::Frames;
+use std::alloc::Global;
+use std::marker::Model;
+
+/// The records of a past that the fast core keeps: six tables, which look back nowhere.
+#[derive(Drop)]
+pub struct Tables {
+    frames: Frames,
+    versions: Versions,
+    recoveries: Resolver,
+    endings: Endings,
+    stages: Stages,
+    people: People,
+}
+
+impl Model for Tables {
+    ghost use Rattle.action_core.specs.inner.KeptPast.{Kept};
+
+    ghost Value = { Kept };
+
+    ghost view = { λ t. record {
+      frames = t.frames;
+      versions = t.versions;
+      recoveries = t.recoveries;
+      endings = t.endings;
+      stages = t.stages;
+      people = t.people;
+    } };
+}
+
+impl Tables {
+    /// The tables of no entries.
+    pub fn open(alloc: Global, plan: &Plan) -> Result<Tables, OutOfMemory>
+        ensures { IfOk result (λ tables. IsKeptOf plan.now [] tables) }
+    {
+        Ok(Tables {
+            frames: Frames::open(alloc, plan)?,
+            versions: Versions::open(alloc, plan)?,
+            recoveries: Resolver::open(alloc, plan)?,
+            endings: Endings::open(alloc, plan)?,
+            stages: Stages::open(alloc, plan)?,
+            people: People::open(alloc, plan)?,
+        })
+    }
+
+    /// Takes an entry in. It takes no memory.
+    pub fn note(&mut self, plan: &Plan, journal: &[Entry], entry: &Entry)
+        requires stands { IsKeptOf plan.now (reverse journal.now) self.old }
+        requires legal { LegalPast plan.now (reverse journal.now) }
+        requires may { MayFollow plan.now (reverse journal.now) entry.now }
+        ensures { IsKeptOf plan.now (entry.now ∷ reverse journal.now) self.new }
+    {
+        plan.is_closed();
+        let silent = is_left_in_silence(&self.stages, plan, entry.place);
+        let handled = has_handled(&self.frames, plan, entry.place, entry.by);
+        note_endings(&mut self.endings, plan, journal, entry, handled);
+        note_recoveries(&mut self.recoveries, plan, journal, entry, handled);
+        note_frames(&mut self.frames, plan, journal, entry, silent);
+        note_versions(&mut self.versions, plan, journal, entry);
+        self.stages.note(entry);
+        self.people.note(plan, journal, entry);
+    }
+}

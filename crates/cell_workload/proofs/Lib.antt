@@ -1,0 +1,2 @@
+mod OneMoreEnd
+mod Whole

@@ -1,0 +1,4 @@
+pub mod CellNames
+pub mod CellLines
+pub mod CellScript
+pub mod Summary

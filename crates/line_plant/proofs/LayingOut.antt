@@ -1,0 +1,47 @@
+-- Lemmas on the line that lays out a device.
+use Rattle.std.proofs.Common.{◌≡◌, ℕ, ◌+◌, ◌<◌, ℤ, take, get_or, ap₂, List, [], ◌∷◌, ◌++◌, length, refl, ap, sym, ◌∙◌, append_assoc, arith}
+use Rattle.std.proofs.lemmas.List.{take_more}
+use Rattle.std.proofs.lemmas.Grind.{common_steps}
+use Rattle.std.specs.Fmt.{signed_decimal}
+use Rattle.caa_base.specs.Written.Lines.{spaced}
+use Rattle.line_plant.specs.Lines.{names_and_values}
+
+-- words behind words
+pub spaced-append : (xs ys : List (List ℕ)) → spaced (xs ++ ys) ≡ spaced xs ++ spaced ys
+spaced-append [] ys = refl
+spaced-append (word ∷ xs) ys =
+    ap (λ t. 32 ∷ word ++ t) (spaced-append xs ys) ∙ sym (append_assoc (32 ∷ word) (spaced xs) (spaced ys))
+
+-- one more object
+pub one_more : (names : List (List ℕ)) (values : List ℤ) (name : List ℕ) (value : ℤ) → length names ≡ length values
+    → names_and_values (names ++ name ∷ []) (values ++ value ∷ []) ≡ names_and_values names values ++ name ∷ signed_decimal value ∷ []
+one_more [] [] name value same = refl
+one_more [] (v ∷ values) name value same = grind (arith, common_steps, same)
+one_more (n ∷ names) [] name value same = grind (arith, common_steps, same)
+one_more (n ∷ names) (v ∷ values) name value same =
+    ap (λ words. n ∷ signed_decimal v ∷ words) (one_more names values name value (grind (arith, common_steps, same)))
+
+-- the words of one more object behind those of the others
+pub spaced_more : (names : List (List ℕ)) (values : List ℤ) (name : List ℕ) (value : ℤ) → length names ≡ length values
+    → spaced (names_and_values (names ++ name ∷ []) (values ++ value ∷ []))
+    ≡ spaced (names_and_values names values) ++ spaced (name ∷ []) ++ spaced (signed_decimal value ∷ [])
+spaced_more names values name value same =
+    ap spaced (one_more names values name value same)
+    ∙ spaced-append (names_and_values names values) (name ∷ signed_decimal value ∷ [])
+    ∙ ap (λ t. spaced (names_and_values names values) ++ t) (spaced-append (name ∷ []) (signed_decimal value ∷ []))
+    ∙ sym (append_assoc (spaced (names_and_values names values)) (spaced (name ∷ [])) (spaced (signed_decimal value ∷ [])))
+
+-- the line as far as it was made, with one more object
+pub line_more : (front : List ℕ) (names : List (List ℕ)) (values : List ℤ) (i : ℕ) (name : List ℕ) (value : ℤ) → i < length names → i < length values
+    → name ≡ get_or names i name → value ≡ get_or values i value
+    → front ++ spaced (names_and_values (take i names) (take i values)) ++ spaced (name ∷ []) ++ spaced (signed_decimal value ∷ [])
+    ≡ front ++ spaced (names_and_values (take (i + 1) names) (take (i + 1) values))
+line_more front names values i name value low small is_name is_value =
+    let words = spaced (names_and_values (take i names) (take i values)) in
+    append_assoc (front ++ words) (spaced (name ∷ [])) (spaced (signed_decimal value ∷ []))
+    ∙ append_assoc front words (spaced (name ∷ []) ++ spaced (signed_decimal value ∷ []))
+    ∙ ap (λ t. front ++ t) (sym (append_assoc words (spaced (name ∷ [])) (spaced (signed_decimal value ∷ [])))
+    ∙ sym (spaced_more (take i names) (take i values) name value (grind (arith, common_steps, low, small)))
+    ∙ sym (ap₂ (λ ns vs. spaced (names_and_values ns vs))
+    (take_more names i name low ∙ ap (λ n. take i names ++ n ∷ []) (sym is_name))
+    (take_more values i value small ∙ ap (λ v. take i values ++ v ∷ []) (sym is_value))))

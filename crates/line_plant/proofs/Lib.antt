@@ -1,0 +1,2 @@
+pub mod ComingNext
+pub mod LayingOut

@@ -1,0 +1,49 @@
+-- A line that is sent, and the answer to it.
+use Rattle.std.specs.Prelude.{◌≡◌, ◌⊎◌, ℕ, Bool, true, false, List}
+use Rattle.std.specs.Io.KnownBytes.{append_known}
+use Rattle.caa_base.specs.Outside.Counts.{counted_up}
+use Rattle.caa_base.specs.Outside.Writing.{WrotePart}
+use Rattle.caa_base.specs.declared.outside.source.Source.{Ghosts as SourceGhosts}
+use Rattle.caa_base.specs.declared.outside.sink.Sink.{Ghosts as SinkGhosts}
+use Rattle.line_plant.specs.declared.hearing.Answer.{Answer}
+use Rattle.line_plant.specs.declared.hearing.Answer.TheVariants.{Well, Failed, Lost}
+use Rattle.line_plant.specs.declared.wire.Wire.{Wire}
+use Rattle.line_plant.specs.Answers.{Heard}
+
+-- the answer is lost
+abbrev pub is_lost : Answer → Bool
+is_lost Well = false
+is_lost Failed = false
+is_lost Lost = true
+
+-- the whole line was sent, and this was heard; nothing is sent any longer where the answer is lost
+pub record WasAnswered {S K : Type 0} (sources : SourceGhosts S) (sinks : SinkGhosts K) (before after : Wire S K)
+    (text : List ℕ) (answer : Answer) : Type 0 where
+  pub able : before.is_broken ≡ false
+  pub sent : sinks.held after.commands ≡ append_known (sinks.held before.commands) text
+  pub unfailed : sinks.faults after.commands ≡ sinks.faults before.commands
+  pub heard : Heard sources before.answers after.answers answer
+  pub broken : after.is_broken ≡ is_lost answer
+
+-- a write failed and a part of the line was sent; no answer was awaited, and nothing is sent any longer
+pub record WasCutOff {S K : Type 0} (sinks : SinkGhosts K) (before after : Wire S K) (text : List ℕ) : Type 0 where
+  pub able : before.is_broken ≡ false
+  pub part : WrotePart (sinks.held before.commands) (sinks.held after.commands) text
+  pub cause : sinks.faults after.commands ≡ counted_up (sinks.faults before.commands)
+  pub unheard : after.answers ≡ before.answers
+  pub broken : after.is_broken ≡ true
+
+-- nothing was sent or heard, and nothing is sent any longer
+abbrev pub IsOut : {S K : Type 0} → Wire S K → Wire S K → Type 0
+IsOut before after = after ≡ record before { is_broken = true }
+
+-- the answer is lost, since the line was cut off, or nothing was sent
+abbrev pub IsUnasked : {S K : Type 0} → SinkGhosts K → Wire S K → Wire S K → List ℕ → Answer → Type 0
+IsUnasked sinks before after text Well = ⊥
+IsUnasked sinks before after text Failed = ⊥
+IsUnasked sinks before after text Lost = WasCutOff sinks before after text ⊎ IsOut before after
+
+-- what asking by a line comes to
+abbrev pub AskCame : {S K : Type 0} → SourceGhosts S → SinkGhosts K → Wire S K → Wire S K → List ℕ → Answer → Type 0
+AskCame sources sinks before after text answer =
+    WasAnswered sources sinks before after text answer ⊎ IsUnasked sinks before after text answer

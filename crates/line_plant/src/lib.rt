@@ -1,0 +1,9 @@
+//! A device that is spoken to in lines: whatever answers on a reader what is asked of it on a writer.
+#![tactic(auto)]
+
+pub mod flushed;
+pub mod hearing;
+mod lines;
+pub mod names;
+pub mod plant;
+mod wire;

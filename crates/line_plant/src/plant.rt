@@ -1,0 +1,187 @@
+ghost use Rattle.std.specs.Prelude.{◌≡◌, ◌<◌, ◌+◌, length, None, false, if◌then◌else◌, OnOk, OnErr};
+ghost use Rattle.caa_base.specs.Outside.Counts.{counted_up, faults_after};
+ghost use Rattle.caa_base.specs.Outside.PlantState.{is_refused};
+ghost use Rattle.line_plant.specs.Lines.{put_line};
+ghost use Rattle.line_plant.specs.Wires.{AskCame};
+ghost use Rattle.line_plant.specs.Devices.{LayCame, PutCame};
+
+use crate::hearing::Answer;
+use crate::lines::{make_lay, make_put};
+use crate::wire::Wire;
+use caa_base::outside::plant::{Plant, PlantError};
+use caa_base::outside::sink::Sink;
+use caa_base::outside::source::Source;
+use caa_base::written::entry::{Drill, Failed, Object};
+use caa_base::written::name::{Name, name_at};
+use std::alloc::Global;
+use std::marker::Model;
+
+/// A count after one more; it stops at the last number.
+fn counted_up(count: u64) -> u64
+    ensures { result ≡ counted_up count }
+{
+    if count < u64::MAX { count + 1 } else { count }
+}
+
+/// A device that is asked for each put by a line, and answers it by a line. It tells no values.
+///
+/// `lay NAME VALUE NAME VALUE ..` asks it to bring all objects to their first values, and `put NAME VALUE` to bring one object to a
+/// value. It answers `well` where it did that, and `failed` where it refused, and may be asked again. Anything else, the end of the
+/// answers, and a read or a write that fails, is an answer that is lost: nobody knows any longer what the device did. From then on
+/// nothing is sent, and each call fails.
+///
+/// The memory for a line is kept from one to the next. Where none is found for the line of a put, the put fails as if its answer
+/// were lost.
+#[derive(Drop)]
+pub struct LinePlant<S, K> {
+    names: Vec<Name>,
+    wire: Wire<S, K>,
+    line: Vec<u8>,
+    objects: u64,
+    calls: u64,
+    room: u64,
+    lay_faults: u64,
+    faults: u64,
+}
+
+impl<S, K> Model for LinePlant<S, K> {
+    ghost use Rattle.std.specs.Prelude.{◌≤◌, length};
+    ghost use Rattle.line_plant.specs.Devices.{LineDevice};
+
+    ghost Value = { LineDevice S K };
+
+    ghost view = { λ p. record {
+      names = p.names.items;
+      wire = p.wire;
+      objects = p.objects;
+      calls = p.calls;
+      room = p.room;
+      lay_faults = p.lay_faults;
+      faults = p.faults;
+    } };
+}
+
+/// Asks for a put by a wire. Where no memory is found for the line, the wire is given up.
+fn ask_put<S: Source, K: Sink>(
+    wire: &mut Wire<S, K>,
+    line: &mut Vec<u8>,
+    name: &[u8],
+    value: i64,
+) -> Answer
+    ensures { AskCame ⟦<S as Source>⟧ ⟦<K as Sink>⟧ wire.old wire.new (put_line name.now value) result }
+{
+    match make_put(line, name, value) {
+        Ok(()) => wire.ask(line.as_slice()),
+        Err(_) => wire.give_up(),
+    }
+}
+
+impl<S: Source, K: Sink> LinePlant<S, K> {
+    /// A device with objects of these names, which answers on a source what it is asked on a sink. Nothing is sent yet.
+    pub fn new(alloc: Global, names: Vec<Name>, answers: S, commands: K) -> Self
+        ensures names { result.names ≡ names.items }
+        ensures answers { result.wire.answers ≡ answers }
+        ensures commands { result.wire.commands ≡ commands }
+        ensures whole { result.wire.is_broken ≡ false }
+        ensures lay_faults { result.lay_faults ≡ 0 }
+        ensures faults { result.faults ≡ 0 }
+    {
+        LinePlant {
+            names,
+            wire: Wire {
+                answers,
+                commands,
+                is_broken: false,
+            },
+            line: Vec::new(alloc),
+            objects: 0,
+            calls: 0,
+            room: 0,
+            lay_faults: 0,
+            faults: 0,
+        }
+    }
+
+    /// Whether an answer was lost, so that nothing is sent any longer.
+    pub fn is_broken(&self) -> bool
+        ensures { result ≡ self.now.wire.is_broken }
+    {
+        self.wire.is_broken
+    }
+}
+
+impl<S: Source, K: Sink> Plant for LinePlant<S, K> {
+    ghost lay_faults = { λ p. p.lay_faults };
+
+    ghost faults = { λ p. p.faults };
+
+    ghost state = { λ _. None };
+
+    ghost calls = { λ p. p.calls };
+
+    ghost room = { λ p. p.room };
+
+    ghost objects = { λ p. p.objects };
+
+    fn lay(
+        &mut self,
+        _alloc: Global,
+        values: &[i64],
+        _drills: &[Drill],
+        puts: u64,
+    ) -> Result<(), PlantError>
+        ensures came { LayCame ⟦<S as Source>⟧ ⟦<K as Sink>⟧ self.old self.new values.now result }
+        ensures names { self.new.names ≡ self.old.names }
+        ensures objects { OnOk result (self.new.objects ≡ length values.now) }
+        ensures calls { OnOk result (self.new.calls ≡ 0) }
+        ensures room { OnOk result (self.new.room ≡ puts) }
+        ensures refused { OnErr result (self.new.calls ≡ self.old.calls) }
+        ensures lay_faults { self.new.lay_faults ≡
+            (if is_refused result then counted_up self.old.lay_faults else self.old.lay_faults) }
+        ensures faults { self.new.faults ≡ self.old.faults }
+    {
+        if values.len() != self.names.len() {
+            self.lay_faults = counted_up(self.lay_faults);
+            return Err(PlantError::Failed);
+        }
+        make_lay(&mut self.line, self.names.as_slice(), values)?;
+        if self.wire.ask(self.line.as_slice()) != Answer::Well {
+            self.lay_faults = counted_up(self.lay_faults);
+            return Err(PlantError::Failed);
+        }
+        self.objects = values.len() as u64;
+        self.calls = 0;
+        self.room = puts;
+        Ok(())
+    }
+
+    fn put(&mut self, object: Object, value: i64) -> Result<(), Failed>
+        requires room { self.old.calls < self.old.room }
+        requires laid { object < self.old.objects }
+        ensures came { PutCame ⟦<S as Source>⟧ ⟦<K as Sink>⟧ self.old self.new object value result }
+        ensures names { self.new.names ≡ self.old.names }
+        ensures calls { self.new.calls ≡ self.old.calls + 1 }
+        ensures room { self.new.room ≡ self.old.room }
+        ensures objects { self.new.objects ≡ self.old.objects }
+        ensures faults { self.new.faults ≡ faults_after result self.old.faults }
+        ensures lay_faults { self.new.lay_faults ≡ self.old.lay_faults }
+    {
+        self.calls += 1;
+        let name = name_at(self.names.as_slice(), object);
+        match ask_put(&mut self.wire, &mut self.line, name, value) {
+            Answer::Well => Ok(()),
+            Answer::Failed | Answer::Lost => {
+                self.faults = counted_up(self.faults);
+                Err(Failed)
+            }
+        }
+    }
+
+    fn lay_faults(&self) -> u64 {
+        self.lay_faults
+    }
+
+    fn faults(&self) -> u64 {
+        self.faults
+    }
+}
