@@ -1,26 +1,25 @@
 -- Who has no entry still has none after an entry of somebody else that doesn't wake it: what it waits for didn't come.
 use Rattle.std.proofs.Common.{◌≡◌, ℕ, pos, ◌==◌, Bool, true, false, not, cond, ◌&&◌, ◌||◌, ◌⊎◌, List, [], ◌∷◌, ◌++◌, zero, suc, slice_get, Some, None, Option, refl, sym, ap, ◌∙◌, subst, inl, inr, is_none}
 use Rattle.std.specs.List.{list_any, list_all}
-use Rattle.std.proofs.lemmas.Bool.{and_parts, and_from, and_right, or_parts, or_left, or_right, eqb-true, eq-eqb, false≢true, not-true, cases_Bool, false_from_ne_true, both_ways}
+use Rattle.std.proofs.lemmas.Bool.{and_parts, and_from, and_right, or_parts, or_left, or_right, eqb-true, eq-eqb, false≢true, cases_Bool, false_from_ne_true, both_ways}
 use Rattle.caa_base.specs.declared.written.entry.Entry.{Entry}
 use Rattle.caa_base.specs.declared.written.entry.Kind.{Kind}
 use Rattle.caa_base.specs.declared.written.entry.Kind.TheVariants as kind
-use Rattle.caa_base.specs.declared.written.entry.Verdict.TheVariants as verdict
 use Rattle.place_plan.specs.declared.drafts.draft_rows.Step.{Step}
 use Rattle.place_plan.specs.declared.drafts.draft_rows.Step.TheVariants as step
 use Rattle.place_plan.specs.Plans.PlanValue.{Plan}
-use Rattle.caa_base.specs.Written.Lists.{member, is_at, is_empty, same_option, first_of, first_not}
+use Rattle.caa_base.specs.Written.Lists.{member, is_at, is_empty, same_option, first_not}
 use Rattle.place_plan.specs.Plans.Places.{around, parent, roles_of, objects_of, uses, plays_of, alternates_of, internal_of, fault_of}
 use Rattle.place_plan.specs.RulesOfJournals.Entries.{is_in, is_by, has, has_by}
 use Rattle.place_plan.specs.RulesOfJournals.Whereabouts.{inside, inside_after, is_inside, all_are_inside, has_started, has_ended, is_undoing}
 use Rattle.place_plan.specs.RulesOfJournals.Raising.{has_handled, raises_in, exceptions_raised, is_raised, is_doomed, halts_in, is_halted, all_are_halted, exception_resolved, exception_handled}
 use Rattle.place_plan.specs.RulesOfJournals.Objects.{holder_of, holder_after, objects_are_ready, next_restore}
 use Rattle.place_plan.specs.RulesOfJournals.Roles.{advances, gives_value, position, register, program_in, next_step, next_raise, raise_of, has_given, has_given_after, all_have_given, was_refused_in_handler, verdict_at, verdict_of, is_undo, wants_undo, signal_in, signals, has_aborted, all_have_aborted, next_play}
-use Rattle.place_plan.specs.RulesOfJournals.Rules.{Row, MayFollow, breaks_off, place_entered}
+use Rattle.place_plan.specs.RulesOfJournals.Rules.{Row, MayFollow, breaks_off}
 use Rattle.place_plan.specs.RulesOfJournals.Journals.{LegalPast, HasNoEntry}
 use Rattle.journal_laws.specs.Laws.{Holds, has_role_in, wakes_by, wakes, SleepsOn}
 use Rattle.journal_laws.specs.Due.{plainly, due_of, due_at, due_arrival, due_inside, due_waiting, due_live, due_restore, due_doomed, due_hot, due_running, due_halted, due_resolve, due_resolved, due_answer, due_handler, due_calm, due_body, due_forward, due_step, due_held, due_agreed, due_end, DueIsRight, least_of}
-use Rattle.caa_base.proofs.ListLemmas.{failed, at_same}
+use Rattle.caa_base.proofs.ListLemmas.{failed}
 use Rattle.place_plan.proofs.OnJournals.EntryKinds.{of_kind}
 use Rattle.journal_laws.proofs.Playable.{IsPlayable}
 use Rattle.journal_laws.proofs.Options.{some_apart}
