@@ -46,3 +46,4 @@ pub mod LegalWellFormed
 pub mod Costs
 pub mod Walked
 pub mod LengthLaw
+pub mod Sleeping

@@ -13,7 +13,7 @@ use Rattle.place_plan.specs.RulesOfJournals.Whereabouts.{inside, stays, is_live,
 use Rattle.place_plan.specs.RulesOfJournals.Raising.{exceptions_raised, is_raised, exception_resolved}
 use Rattle.place_plan.specs.RulesOfJournals.Objects.{holder_of, value_of, writes, has_failed}
 use Rattle.place_plan.specs.RulesOfJournals.Rules.{MayFollow}
-use Rattle.place_plan.specs.RulesOfJournals.Journals.{LegalPast, AllOver, is_put, plays_ended, committed_value}
+use Rattle.place_plan.specs.RulesOfJournals.Journals.{LegalPast, AllOver, HasNoEntry, is_put, plays_ended, committed_value}
 use Rattle.place_plan.specs.Plans.Bound.{bound}
 
 -- what a law says holds of every legal journal of the plan
@@ -65,6 +65,37 @@ GoesOn plan past = (AllOver plan past → ⊥) → HasEntry plan past
 -- length law: there are at most as many entries as the bound says
 abbrev pub IsBounded : Plan → List Entry → Type 0
 IsBounded plan past = length past ≤ bound plan
+
+-- ---- who sleeps on
+
+-- t has a role in the place, where there is one
+abbrev pub has_role_in : Plan → ℕ → Option ℕ → Bool
+has_role_in plan t None = false
+has_role_in plan t (Some p) = member t (roles_of plan p)
+
+-- an entry of this kind in p may bring what t waits for: that somebody comes to a place of t or back to it, says something there or
+-- learns it, or gives back its objects; those of a play anybody may wait for
+abbrev pub wakes_by : Plan → Kind → ℕ → ℕ → Bool
+wakes_by plan kind.Arrive p t = member t (roles_of plan p)
+wakes_by plan kind.PutFault p t = member t (roles_of plan p)
+wakes_by plan kind.Raise p t = member t (roles_of plan p)
+wakes_by plan kind.Inform p t = member t (roles_of plan p)
+wakes_by plan kind.Verdict p t = member t (roles_of plan p)
+wakes_by plan kind.Abort p t = member t (roles_of plan p)
+wakes_by plan kind.Withdraw p t = has_role_in plan t (parent plan p)
+wakes_by plan kind.Leave p t = has_role_in plan t (parent plan p)
+wakes_by plan kind.End p t = is_none (parent plan p) || has_role_in plan t (parent plan p)
+wakes_by plan _ p t = false
+
+-- the entry may wake t
+abbrev pub wakes : Plan → Entry → ℕ → Bool
+wakes plan e t = wakes_by plan e.kind e.place t
+
+-- who has no entry still has none after an entry of somebody else that doesn't wake it
+abbrev pub SleepsOn : Plan → List Entry → Type 0
+SleepsOn plan past =
+    (e : Entry) (t : ℕ) → MayFollow plan past e → (e.by == t) ≡ false → wakes plan e t ≡ false
+    → HasNoEntry plan past t → HasNoEntry plan (e ∷ past) t
 
 -- ---- resolution law
 

@@ -1,7 +1,7 @@
 //! The laws of all legal journals of a plan. Each is a statement alone: the call does nothing.
 #![tactic(auto)]
 
-ghost use Rattle.journal_laws.specs.Laws.{Holds, AtMostOne, GoesOn, IsBounded, InsideIsInnermost, HolderIsInnermost, DeviceLaw, CommitLaw, KeepsLaws};
+ghost use Rattle.journal_laws.specs.Laws.{Holds, AtMostOne, GoesOn, SleepsOn, IsBounded, InsideIsInnermost, HolderIsInnermost, DeviceLaw, CommitLaw, KeepsLaws};
 ghost use Rattle.journal_laws.specs.Due.{DueIsRight};
 ghost use Rattle.place_plan.specs.RulesOfJournals.WellFormed.{AllWellFormed};
 
@@ -25,6 +25,13 @@ pub fn at_most_one(plan: &Plan)
 /// Progress law: as long as not all participants are over, the rules let some participant make an entry.
 pub fn goes_on(plan: &Plan)
     ensures { Holds GoesOn plan.now }
+{
+    plan.is_closed();
+}
+
+/// Who has no entry still has none after an entry of another participant, unless that entry may wake it.
+pub fn sleeps_on(plan: &Plan)
+    ensures { Holds SleepsOn plan.now }
 {
     plan.is_closed();
 }

@@ -96,4 +96,4 @@ most_entries = 1000000
 
 -- entries of a journal that is audited
 abbrev pub most_audited : ℕ
-most_audited = 5000
+most_audited = 1000000

@@ -66,7 +66,7 @@ pub const MOST_PLACES: u64 = 65_536;
 pub const MOST_ENTRIES: u64 = 1_000_000;
 
 /// Entries of a journal that is audited.
-pub const MOST_AUDITED: u64 = 5_000;
+pub const MOST_AUDITED: u64 = 1_000_000;
 
 /// Whether a number may be the value of an object or a register.
 pub fn is_value(value: i64) -> bool
