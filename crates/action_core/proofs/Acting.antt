@@ -101,13 +101,23 @@ module _ (plan : Plan) (past : List Entry) where
 
   pub inform_acts : (e : Entry) → Acts plan past (of_kind kind.Inform e) e.place e.by [] true false
   inform_acts e =
-      record
-      { own = refl; raises = λ q. sym (none (e.place == q)); stops = λ q. sym (test (e.place == q)); settles = λ q. sym (stay (e.place == q)) }
+      record {
+        own = refl;
+        raises = λ q. sym (none (e.place == q));
+        stops = λ q. sym (test (e.place == q));
+        settles =
+            λ q. sym (stay (e.place == q));
+      }
 
   pub resolve_acts : (e : Entry) → Acts plan past (of_kind kind.Resolve e) e.place e.by [] false true
   resolve_acts e =
-      record
-      { own = refl; raises = λ q. sym (none (e.place == q)); stops = λ q. sym (stay (e.place == q)); settles = λ q. sym (test (e.place == q)) }
+      record {
+        own = refl;
+        raises = λ q. sym (none (e.place == q));
+        stops = λ q. sym (stay (e.place == q));
+        settles =
+            λ q. sym (test (e.place == q));
+      }
 
   -- the other kinds, and a put refused in a handler, and a leave that carries nothing
   pub fault_idle : (e : Entry) → has_handled past e.place e.by ≡ true
@@ -149,8 +159,13 @@ module _ (plan : Plan) (past : List Entry) where
   idle_acts kind.Inform e h = absurd (false≢true (sym h))
   idle_acts kind.Resolve e h = absurd (false≢true (sym h))
   idle_acts _ e h =
-      record
-      { own = refl; raises = λ q. sym (none (e.place == q)); stops = λ q. sym (stay (e.place == q)); settles = λ q. sym (stay (e.place == q)) }
+      record {
+        own = refl;
+        raises = λ q. sym (none (e.place == q));
+        stops = λ q. sym (stay (e.place == q));
+        settles =
+            λ q. sym (stay (e.place == q));
+      }
 
 -- ---- that it may
 
@@ -183,8 +198,13 @@ module _ (plan : Plan) (playable : IsPlayable plan) (few : length plan.participa
   pub running : (p t : ℕ) → member t (roles_of plan p) ≡ true → is_halted plan past p t ≡ false → IsRunning rows p t
   running p t role free =
       let l = playable.known p t role in
-      record
-      { there = there p t role; known = omega (arith, l, few); running = (row p t role).halted t ∙ free; unresolved = (row p t role).resolution ∙ unresolved p t role free }
+      record {
+        there = there p t role;
+        known = omega (arith, l, few);
+        running = (row p t role).halted t ∙ free;
+        unresolved =
+            (row p t role).resolution ∙ unresolved p t role free;
+      }
 
   pub covered : (p t : ℕ) → member t (roles_of plan p) ≡ true → IfSome (at rows p).cover (λ x. x < (internal_of plan p).count)
   covered p t role = by_option (at rows p).cover (row p t role).cover

@@ -133,7 +133,8 @@ module _ (plan : Plan) (playable : IsPlayable plan) (past : List Entry) (legal :
 
   pub over_right : (t : ℕ) → (is_none (inside plan past t) && is_none (next_play plan past t)) ≡ is_over plan past t
   over_right t = same_tests _ _ (λ w. by_both (inside plan past t) (next_play plan past t) refl refl w)
-      (λ w. both_none (inside plan past t) (next_play plan past t) (over_outside plan playable past legal t w) (over_done plan playable past legal t w))
+      (λ w. both_none (inside plan past t) (next_play plan past t) (over_outside plan playable past legal t w)
+      (over_done plan playable past legal t w))
     where
       by_both : (a b : Option ℕ) → inside plan past t ≡ a → next_play plan past t ≡ b → (is_none a && is_none b) ≡ true
           → is_over plan past t ≡ true

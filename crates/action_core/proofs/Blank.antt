@@ -69,8 +69,11 @@ module _ (plan : Plan) (tree : IsTree plan) where
       let apart = own_apart past e p t legal h.here none in record
       { unstepped = rw apart b.unstepped; unread = rw apart b.unread; unhandled = rw apart b.unhandled }
   blank_by past kind.Leave e p t legal h none b =
-      record
-      { unstepped = rw (round_apart past e p t legal h.here none (not (is_left_in_silence plan past e.place))) b.unstepped; unread = b.unread; unhandled = b.unhandled }
+      record {
+        unstepped = rw (round_apart past e p t legal h.here none (not (is_left_in_silence plan past e.place))) b.unstepped;
+        unread = b.unread;
+        unhandled = b.unhandled;
+      }
   blank_by past _ e p t legal h none b = record { unstepped = b.unstepped; unread = b.unread; unhandled = b.unhandled }
 
   pub blank : (past : List Entry) → LegalPast plan past → (p t : ℕ) → has_by kind.Arrive past p t ≡ false → IsBlank plan past p t

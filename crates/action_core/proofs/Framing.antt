@@ -49,8 +49,16 @@ module _ (plan : Plan) (tree : IsTree plan) where
       → Comes plan past e e.by e.place
   comes past e legal is h =
       let b = blank plan tree past legal e.place e.by (fresh plan past e h) in
-      record
-      { is = is; own = refl; there = refl; leads = by_inside (inside plan past e.by) refl; unstepped = b.unstepped; unread = b.unread; unhandled = b.unhandled }
+      record {
+        is = is;
+        own = refl;
+        there = refl;
+        leads = by_inside (inside plan past e.by) refl;
+        unstepped = b.unstepped;
+        unread =
+            b.unread;
+        unhandled = b.unhandled;
+      }
     where
       by_inside : (o : Option ℕ) → inside plan past e.by ≡ o → around plan e.place ≡ chain plan (inside plan past e.by)
       by_inside None w =
@@ -182,7 +190,8 @@ few_round plan closed past legal t p fs here s =
         no_top (g ∷ gs) v = absurd cc
     by_around (q ∷ qs) w places each =
         low_top plan past t q (2 ^ 32 - 1) qs (rest fs) (places ∙ w) each
-        (few_steps plan closed past q t (step.Enter (nest_number plan p)) (entering plan (is_playable plan closed) past legal p q t here (ap first_of w)))
+        (few_steps plan closed past q t (step.Enter (nest_number plan p))
+        (entering plan (is_playable plan closed) past legal p q t here (ap first_of w)))
 
 -- ---- what the calls need
 

@@ -44,7 +44,8 @@ module _ (plan : Plan) (tree : IsTree plan) (past : List Entry) (legal : LegalPa
       by_tests : (hot handled : Bool) → has_handled past p t ≡ handled → (given : Bool) (o : Option ℕ)
           → exception_resolved past p ≡ o
           → MatchOption
-          (cond (not hot) None (cond handled (cond (is_handling past p t) (handler_verdict plan past p t) None) (cond given None (unhandled_verdict plan p t o))))
+          (cond (not hot) None (cond handled (cond (is_handling past p t) (handler_verdict plan past p t) None)
+          (cond given None (unhandled_verdict plan p t o))))
           ⊥ (SaysVerdict e)
           → has kind.Resolve past p ≡ true
       by_tests false handled h given o r due = absurd due

@@ -145,7 +145,9 @@ unsaid plan playable past e legal h =
         → (handling : Bool) → is_handling past e.place e.by ≡ handling → (given : Bool) → has_given plan past e.place e.by ≡ given
         → (o : Option ℕ)
         → MatchOption
-        (cond calm (cond given None (final_verdict plan past e.place e.by)) (cond (not hot) None (cond handled (cond handling (handler_verdict plan past e.place e.by) None) (cond given None (unhandled_verdict plan e.place e.by o)))))
+        (cond calm (cond given None (final_verdict plan past e.place e.by))
+        (cond (not hot) None (cond handled (cond handling (handler_verdict plan past e.place e.by) None)
+        (cond given None (unhandled_verdict plan e.place e.by o)))))
         ⊥ (SaysVerdict e)
         → has_given plan past e.place e.by ≡ false
     by_tests calm hot hv handled dv handling gv false v o due = v
@@ -309,7 +311,8 @@ module _ (plan : Plan) (playable : IsPlayable plan) (past : List Entry) (e : Ent
   pub carried_there : (p : ℕ) → parent plan e.place ≡ Some p → p < length plan.places
   carried_there p into =
       place_known plan p e.by
-      (playable.tree.roles_in p e.place e.by (parent_round plan playable.tree e.place p into) (maker_role plan playable.tree past e legal may))
+      (playable.tree.roles_in p e.place e.by (parent_round plan playable.tree e.place p into)
+      (maker_role plan playable.tree past e legal may))
 
   -- what an abort names is an exception that its place tells outside
   pub abort_below_names : e.kind ≡ kind.Abort → IfSome (exception_named e) (λ x. x < (interface_of plan e.place).count)

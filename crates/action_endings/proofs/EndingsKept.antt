@@ -404,7 +404,8 @@ module _ (plan : Plan) (past : List Entry) (e : Entry) (p t : ℕ) where
     given_up_said : KeepsVerdicts plan past p old → KeepsVerdicts plan (given_up ∷ past) p new
     given_up_said was =
         let v = verdicts_left plan past given_up p old (given_up_verdicts p) was in
-        subst (KeepsVerdicts plan (given_up ∷ past) p) (sym g.rest) (record { given = v.given; said = v.said; undo = v.undo; known = v.known })
+        subst (KeepsVerdicts plan (given_up ∷ past) p) (sym g.rest)
+        (record { given = v.given; said = v.said; undo = v.undo; known = v.known })
 
     not_none : (new.aborted == 0) ≡ false
     not_none = false_from_ne_true _ (λ none.
@@ -438,7 +439,8 @@ module _ (plan : Plan) (past : List Entry) (e : Entry) (p t : ℕ) where
 -- t gives the verdict v in p
 pub said_keeps : (plan : Plan) (past : List Entry) (e : Entry) (p t : ℕ) (v : Verdict) (old new : List Ending)
     → has_bit (at old p).given t ≡ false → member t (roles_of plan p) ≡ true → role_number plan p t < most_roles
-    → SignalsBelow (interface_of plan p).count v → Stands plan past old → Says plan past e p t v → ChangesAt (Gives (role_number plan p t) t v) p old new → Stands plan (e ∷ past) new
+    → SignalsBelow (interface_of plan p).count v → Stands plan past old → Says plan past e p t v
+    → ChangesAt (Gives (role_number plan p t) t v) p old new → Stands plan (e ∷ past) new
 said_keeps plan past e p t v old new fresh role low fits s w c =
     let is = spoken_is plan past e p t w.gives w.here w.own in
     let counts : has_given plan (spoken plan past e p t ∷ past) p t ≡ true =

@@ -97,9 +97,11 @@ undo_right plan past p row k all = k.undo ∙ by_list (roles_of plan p) all
 pub signals_known : (plan : Plan) (past : List Entry) (p : ℕ) (row : Ending) → KeepsVerdicts plan past p row → AreKnown plan p row
 signals_known plan past p row k = by_list (roles_of plan p)
   where
-    by_verdict : (v : Verdict) → SignalsBelow (interface_of plan p).count v → All (λ x. x < (interface_of plan p).count) (signal_in (Some v))
+    by_verdict : (v : Verdict) → SignalsBelow (interface_of plan p).count v
+        → All (λ x. x < (interface_of plan p).count) (signal_in (Some v))
     by_verdict verdict.Done h = All-nil (λ x. x < (interface_of plan p).count)
-    by_verdict (verdict.Signal x) h = All-cons (λ y. y < (interface_of plan p).count) x [] h (All-nil (λ y. y < (interface_of plan p).count))
+    by_verdict (verdict.Signal x) h =
+        All-cons (λ y. y < (interface_of plan p).count) x [] h (All-nil (λ y. y < (interface_of plan p).count))
     by_verdict verdict.Undo h = All-nil (λ x. x < (interface_of plan p).count)
 
     by_bit : (t : ℕ) (b : Bool) → (b ≡ true → SignalsBelow (interface_of plan p).count (verdict_kept plan p t row))

@@ -14,7 +14,8 @@ plan_answered script r plan (planned {plan = p} h) e = let same : p ≡ plan = c
 plan_answered script r plan (refused h) e = absurd cc
 plan_answered script r plan (wanting memory) e = absurd cc
 
-pub refusal_answered : (script : Script) (r : Result Plan CheckError) (error : CheckError) → IsAnswer script r → r ≡ Err error → (error.cause ≡ cause.OutOfMemory → ⊥) → IsFirstRefused script error
+pub refusal_answered : (script : Script) (r : Result Plan CheckError) (error : CheckError) → IsAnswer script r → r ≡ Err error
+    → (error.cause ≡ cause.OutOfMemory → ⊥) → IsFirstRefused script error
 refusal_answered script r error (planned h) e memory = absurd cc
 refusal_answered script r error (refused {error = x} h) e memory = let same : x ≡ error = cc in subst (IsFirstRefused script) same h
 refusal_answered script r error (wanting {error = x} lost) e memory =
@@ -22,7 +23,8 @@ refusal_answered script r error (wanting {error = x} lost) e memory =
     absurd (memory (subst (λ (y : CheckError). y.cause ≡ cause.OutOfMemory) same lost))
 
 -- a script whose line has a fault other than want of memory is refused for it
-pub unplannable : (bytes : List ℕ) (script : Script) (error : CheckError) (refusal : Refusal) → reading_of bytes ≡ Ok script → (error.cause ≢ cause.OutOfMemory → IsFirstRefused script error)
+pub unplannable : (bytes : List ℕ) (script : Script) (error : CheckError) (refusal : Refusal) → reading_of bytes ≡ Ok script
+    → (error.cause ≢ cause.OutOfMemory → IsFirstRefused script error)
     → refusal.line ≡ error.line → IsCause script error.line error.cause refusal.fault → IsRefusedScript bytes refusal
 unplannable bytes script error refusal spelled first line told =
     inr (record {

@@ -48,15 +48,18 @@ module _ {P : Type 0} (call : Call P) (sink : SinkUse) (c : Command) (bytes : Li
   one_command d asked = let both : Some d ≡ Some c = sym asked ∙ given.asked in cc
 
   -- an input that isn't too long was read, or memory was wanting
-  stopped : (most : ℕ) (e : ReadError) → length bytes ≤ most → TookUntil call.source.left_before call.source.left_after most e → HasStopped call.source e → unread_finding e ≡ finding.OutOfMemory
+  stopped : (most : ℕ) (e : ReadError) → length bytes ≤ most → TookUntil call.source.left_before call.source.left_after most e
+      → HasStopped call.source e → unread_finding e ≡ finding.OutOfMemory
   stopped most error.Fault short taken cause = absurd (given.read (counted_up-rose _ _ cause))
   stopped most error.TooLong short taken cause =
-      absurd (not_too_long bytes call.source.left_after most short (subst (λ (o : Option (List ℕ)). TookOff o call.source.left_after (most + 1)) given.told taken))
+      absurd (not_too_long bytes call.source.left_after most short
+      (subst (λ (o : Option (List ℕ)). TookOff o call.source.left_after (most + 1)) given.told taken))
   stopped most error.OutOfMemory short taken cause = refl
 
   unread : (found : Finding) → length bytes ≤ most_bytes c → IsUnread call found → found ≡ finding.OutOfMemory
   unread found short u =
-      let most : length bytes ≤ most_bytes u.command = subst (λ d. length bytes ≤ most_bytes d) (sym (one_command u.command u.given)) short in
+      let most : length bytes ≤ most_bytes u.command =
+      subst (λ d. length bytes ≤ most_bytes d) (sym (one_command u.command u.given)) short in
       u.finding ∙ stopped (most_bytes u.command) u.error most u.taken u.cause
 
   -- what was read is what the source told
@@ -66,7 +69,8 @@ module _ {P : Type 0} (call : Call P) (sink : SinkUse) (c : Command) (bytes : Li
   was_read : (found : Finding) → IsRead call found → InputComesTo c bytes found call.left
   was_read found r = subst₂ (λ d b. InputComesTo d b found call.left) (one_command r.command r.given) (own_bytes found r) r.comes
 
-  input_comes : (found : Finding) → length bytes ≤ most_bytes c → CameTo call found → (InputComesTo c bytes found call.left) ⊎ (found ≡ finding.OutOfMemory)
+  input_comes : (found : Finding) → length bytes ≤ most_bytes c → CameTo call found → (InputComesTo c bytes found call.left)
+      ⊎ (found ≡ finding.OutOfMemory)
   input_comes found short (inl usage) = let none : Some c ≡ None = sym given.asked ∙ usage.cause in absurd cc
   input_comes found short (inr (inl u)) = inr (unread found short u)
   input_comes found short (inr (inr r)) = inl (was_read found r)
@@ -78,9 +82,11 @@ module _ {P : Type 0} (call : Call P) (sink : SinkUse) (c : Command) (bytes : Li
 -- ---- what was told
 
 -- where this was found, or want of memory, it was told
-was_told : (found other : Finding) (journal handed : List Entry) (sink : SinkUse) (answer : Status) → (Rose sink.faults_before sink.faults_after → ⊥)
+was_told : (found other : Finding) (journal handed : List Entry) (sink : SinkUse) (answer : Status)
+    → (Rose sink.faults_before sink.faults_after → ⊥)
     → (other ≡ found) ⊎ (other ≡ finding.OutOfMemory) → Tells other journal handed sink answer → WasTold found sink answer
-was_told found other journal handed sink answer quiet (inl same) (inl whole) = inl (whole.answered ∙ ap status_of same, whole.written ∙ ap (λ f. append_known sink.held_before (finding_text f)) same)
+was_told found other journal handed sink answer quiet (inl same) (inl whole) =
+    inl (whole.answered ∙ ap status_of same, whole.written ∙ ap (λ f. append_known sink.held_before (finding_text f)) same)
 was_told found other journal handed sink answer quiet (inr lost) (inl whole) = inr (whole.answered ∙ ap status_of lost)
 was_told found other journal handed sink answer quiet one (inr (inl cut)) = absurd (quiet (counted_up-rose _ _ cut.cause))
 was_told found other journal handed sink answer quiet one (inr (inr lost)) = inr lost.answered
@@ -115,7 +121,8 @@ script_of_script (command.Graph most) bytes h = elim h [ ]
 script_of_script command.Audit bytes h = elim h [ ]
 
 -- a play that ended is served, or its text found no memory
-ended_served : (plan : Plan) (journal : List Entry) (seens : List Seen) (found : Finding) → EndsAs plan journal seens found → WasServed (status_of found)
+ended_served : (plan : Plan) (journal : List Entry) (seens : List Seen) (found : Finding) → EndsAs plan journal seens found
+    → WasServed (status_of found)
 ended_served plan journal seens (finding.Played true text) h = inr (inl refl)
 ended_served plan journal seens (finding.Played false text) h = inl refl
 ended_served plan journal seens finding.OutOfMemory h = inr (inr refl)
@@ -129,7 +136,8 @@ ended_served plan journal seens (finding.Illegal line) h = elim h [ ]
 ended_served plan journal seens (finding.Printed text) h = elim h [ ]
 
 -- where the device could be laid out, a play that didn't begin found no memory
-begun_served : {P : Type 0} (found : Finding) (left : Left P) → (Rose left.plant.lay_faults_before left.plant.lay_faults_after → ⊥) → DoesNotBegin found left → WasServed (status_of found)
+begun_served : {P : Type 0} (found : Finding) (left : Left P)
+    → (Rose left.plant.lay_faults_before left.plant.lay_faults_after → ⊥) → DoesNotBegin found left → WasServed (status_of found)
 begun_served finding.PlantFault left laid h = absurd (laid (counted_up-rose _ _ h.0))
 begun_served finding.OutOfMemory left laid h = inr (inr refl)
 begun_served finding.Usage left laid h = elim h [ ]
@@ -154,7 +162,8 @@ checked_served plan (finding.Printed text) left h = elim h [ ]
 checked_served plan finding.OutOfMemory left h = elim h [ ]
 
 -- a text that is printed is served, or found no memory
-printed_served : {P : Type 0} (holds : List ℕ → Type 0) (found : Finding) (left : Left P) → Prints holds found left → WasServed (status_of found)
+printed_served : {P : Type 0} (holds : List ℕ → Type 0) (found : Finding) (left : Left P) → Prints holds found left
+    → WasServed (status_of found)
 printed_served holds (finding.Printed text) left h = inl refl
 printed_served holds finding.OutOfMemory left h = inr (inr refl)
 printed_served holds finding.Usage left h = elim h [ ]
@@ -168,7 +177,8 @@ printed_served holds (finding.Illegal line) left h = elim h [ ]
 
 -- over a plan, a command other than `audit` comes to nothing else
 plan_served : {P : Type 0} (c : Command) (plan : Plan) (bytes : List ℕ) (found : Finding) (left : Left P) → ServesPlans c
-    → (Rose left.plant.lay_faults_before left.plant.lay_faults_after → ⊥) → PlanComesTo c plan bytes found left → WasServed (status_of found)
+    → (Rose left.plant.lay_faults_before left.plant.lay_faults_after → ⊥) → PlanComesTo c plan bytes found left
+    → WasServed (status_of found)
 plan_served command.Audit plan bytes found left other laid h = elim other [ ]
 plan_served (command.Graph most) plan bytes found left other laid h = elim other [ ]
 plan_served command.Check plan bytes found left other laid h = checked_served plan found left h
@@ -181,7 +191,8 @@ plan_served (command.Pool workers) plan bytes found left other laid (inr unopene
 plan_served (command.Messages seed) plan bytes found left other laid h = printed_served (IsPlayedByMessages plan seed) found left h
 
 -- a command other than `graph` is refused for what its script is refused for
-refused_script : (c : Command) (bytes : List ℕ) (refusal : Refusal) → ((most : ℕ) → c ≡ command.Graph most → ⊥) → IsRefusedFor c bytes refusal → IsRefusedScript (script_in c bytes) refusal
+refused_script : (c : Command) (bytes : List ℕ) (refusal : Refusal) → ((most : ℕ) → c ≡ command.Graph most → ⊥)
+    → IsRefusedFor c bytes refusal → IsRefusedScript (script_in c bytes) refusal
 refused_script command.Check bytes refusal other h = h
 refused_script (command.Sim seed) bytes refusal other h = h
 refused_script command.Run bytes refusal other h = h
@@ -195,8 +206,11 @@ no_graph : (c : Command) → ServesPlans c → (most : ℕ) → c ≡ command.Gr
 no_graph c plans most same = subst ServesPlans same plans
 
 -- a script that has a plan isn't turned away
-not_away : {P : Type 0} (c : Command) (bytes : List ℕ) (plan : Plan) (found : Finding) (left : Left P) → ((most : ℕ) → c ≡ command.Graph most → ⊥) → HasPlan (script_in c bytes) plan → IsNotServed c bytes found left → found ≡ finding.OutOfMemory
-not_away c bytes plan (finding.Refused refusal) left other script h = absurd (not_refused (script_in c bytes) plan refusal script (refused_script c bytes refusal other h.0))
+not_away : {P : Type 0} (c : Command) (bytes : List ℕ) (plan : Plan) (found : Finding) (left : Left P)
+    → ((most : ℕ) → c ≡ command.Graph most → ⊥) → HasPlan (script_in c bytes) plan → IsNotServed c bytes found left
+    → found ≡ finding.OutOfMemory
+not_away c bytes plan (finding.Refused refusal) left other script h =
+    absurd (not_refused (script_in c bytes) plan refusal script (refused_script c bytes refusal other h.0))
 not_away c bytes plan finding.OutOfMemory left other script h = refl
 not_away c bytes plan finding.Usage left other script h = elim h [ ]
 not_away c bytes plan finding.SourceFault left other script h = elim h [ ]
@@ -210,19 +224,24 @@ not_away c bytes plan (finding.Printed text) left other script h = elim h [ ]
 lost_served : (found : Finding) → found ≡ finding.OutOfMemory → WasServed (status_of found)
 lost_served found lost = inr (inr (ap status_of lost))
 
-found_served : {P : Type 0} (call : Call P) (sink : SinkUse) (h : IsServable call sink) (journal : List Entry) (found : Finding) → CameTo (with_journal call journal) found → WasServed (status_of found)
+found_served : {P : Type 0} (call : Call P) (sink : SinkUse) (h : IsServable call sink) (journal : List Entry) (found : Finding)
+    → CameTo (with_journal call journal) found → WasServed (status_of found)
 found_served call sink h journal found came =
-    let short : length h.bytes ≤ most_bytes h.served = subst (λ n. length h.bytes ≤ n) (sym (most_of_script h.served h.plans)) (plan_short h.bytes h.plan h.script) in
-    let script : HasPlan (script_in h.served h.bytes) h.plan = subst (λ b. HasPlan b h.plan) (sym (script_of_script h.served h.bytes h.plans)) h.script in
+    let short : length h.bytes ≤ most_bytes h.served =
+    subst (λ n. length h.bytes ≤ n) (sym (most_of_script h.served h.plans)) (plan_short h.bytes h.plan h.script) in
+    let script : HasPlan (script_in h.served h.bytes) h.plan =
+    subst (λ b. HasPlan b h.plan) (sym (script_of_script h.served h.bytes h.plans)) h.script in
     let left = (with_journal call journal).left in
-    elim (input_comes (with_journal call journal) sink h.served h.bytes (given_with call sink h.served h.bytes h.given journal) found short came) [
+    elim (input_comes (with_journal call journal) sink h.served h.bytes (given_with call sink h.served h.bytes h.given journal)
+    found short came) [
       | inl (inl served) ↦ plan_served h.served served.plan h.bytes found left h.plans h.laid served.comes
       | inl (inr (inl away)) ↦ lost_served found (not_away h.served h.bytes h.plan found left (no_graph h.served h.plans) script away)
       | inl (inr (inr graph)) ↦ absurd (no_graph h.served h.plans graph.most graph.asked)
       | inr lost ↦ lost_served found lost
     ]
 
-answer_served : {P : Type 0} (call : Call P) (sink : SinkUse) (answer : Status) → Answers call sink answer → IsServable call sink → WasServed answer
+answer_served : {P : Type 0} (call : Call P) (sink : SinkUse) (answer : Status) → Answers call sink answer
+    → IsServable call sink → WasServed answer
 answer_served call sink answer a h = by a.tells
   where
     by : Tells a.finding a.journal call.left.journal sink answer → WasServed answer
@@ -232,8 +251,10 @@ answer_served call sink answer a h = by a.tells
 
 -- ---- `audit`
 
-audited : {P : Type 0} (plan : Plan) (bytes : List ℕ) (found : Finding) (left : Left P) → AuditComesTo plan bytes found left → (IsToFind plan bytes found) ⊎ (found ≡ finding.OutOfMemory)
-audited plan bytes (finding.Legal entries) left h = inl (legal_journal (record { journal = left.journal; lawful = h.lawful; number = h.number }))
+audited : {P : Type 0} (plan : Plan) (bytes : List ℕ) (found : Finding) (left : Left P) → AuditComesTo plan bytes found left
+    → (IsToFind plan bytes found) ⊎ (found ≡ finding.OutOfMemory)
+audited plan bytes (finding.Legal entries) left h =
+    inl (legal_journal (record { journal = left.journal; lawful = h.lawful; number = h.number }))
 audited plan bytes (finding.Illegal line) left h = inl (illegal_line h.0)
 audited plan bytes (finding.Refused refusal) left h = inl (too_many_entries h.0)
 audited plan bytes finding.OutOfMemory left h = inr refl
@@ -245,25 +266,32 @@ audited plan bytes (finding.Played failed text) left h = elim h [ ]
 audited plan bytes (finding.Printed text) left h = elim h [ ]
 
 -- by the plan of the script nothing else is found than what is to be found
-as_to_find : {P : Type 0} (call : Call P) (sink : SinkUse) (found other : Finding) (left : Left P) (h : IsAuditable call sink found) (plan : Plan) → IsThePlan (script_in command.Audit h.bytes) plan
+as_to_find : {P : Type 0} (call : Call P) (sink : SinkUse) (found other : Finding) (left : Left P)
+    (h : IsAuditable call sink found) (plan : Plan) → IsThePlan (script_in command.Audit h.bytes) plan
     → (IsToFind plan h.bytes other) ⊎ (other ≡ finding.OutOfMemory) → (other ≡ found) ⊎ (other ≡ finding.OutOfMemory)
 as_to_find call sink found other left h plan script (inl one) =
     let own : IsToFind plan h.bytes found = subst (λ p. IsToFind p h.bytes found) (script.only h.plan h.script) h.finds in
     inl (found_alone plan (plan_tells (script_in command.Audit h.bytes) plan script.has) h.bytes other found one own)
 as_to_find call sink found other left h plan script (inr lost) = inr lost
 
-found_audited : {P : Type 0} (call : Call P) (sink : SinkUse) (found other : Finding) (h : IsAuditable call sink found) (journal : List Entry) → CameTo (with_journal call journal) other → (other ≡ found) ⊎ (other ≡ finding.OutOfMemory)
+found_audited : {P : Type 0} (call : Call P) (sink : SinkUse) (found other : Finding) (h : IsAuditable call sink found)
+    (journal : List Entry) → CameTo (with_journal call journal) other → (other ≡ found) ⊎ (other ≡ finding.OutOfMemory)
 found_audited call sink found other h journal came =
     let left = (with_journal call journal).left in
-    elim (input_comes (with_journal call journal) sink command.Audit h.bytes (given_with call sink command.Audit h.bytes h.given journal) other h.fits came) [
-      | inl (inl served) ↦ as_to_find call sink found other left h served.plan served.script (audited served.plan h.bytes other left served.comes)
+    elim (input_comes (with_journal call journal) sink command.Audit h.bytes
+    (given_with call sink command.Audit h.bytes h.given journal) other h.fits came) [
+      | inl (inl served) ↦ as_to_find call sink found other left h served.plan served.script
+          (audited served.plan h.bytes other left served.comes)
       | inl (inr (inl away)) ↦ inr (not_away command.Audit h.bytes h.plan other left (λ most same. cc) h.script away)
       | inl (inr (inr graph)) ↦ let same = graph.asked in absurd cc
       | inr lost ↦ inr lost
     ]
 
-answer_audited : {P : Type 0} (call : Call P) (sink : SinkUse) (found : Finding) (answer : Status) → Answers call sink answer → IsAuditable call sink found → WasTold found sink answer
-answer_audited call sink found answer a h = was_told found a.finding a.journal call.left.journal sink answer h.given.written (found_audited call sink found a.finding h a.journal a.came) a.tells
+answer_audited : {P : Type 0} (call : Call P) (sink : SinkUse) (found : Finding) (answer : Status) → Answers call sink answer
+    → IsAuditable call sink found → WasTold found sink answer
+answer_audited call sink found answer a h =
+    was_told found a.finding a.journal call.left.journal sink answer h.given.written
+    (found_audited call sink found a.finding h a.journal a.came) a.tells
 
 -- ---- what is refused
 
@@ -271,7 +299,8 @@ answer_audited call sink found answer a h = was_told found a.finding a.journal c
 abbrev IsRefusal : Finding → Type 0
 IsRefusal found = (status_of found ≡ status.Refused) ⊎ (found ≡ finding.OutOfMemory)
 
-refused_away : {P : Type 0} (c : Command) (bytes : List ℕ) (found : Finding) (left : Left P) → IsNotServed c bytes found left → IsRefusal found
+refused_away : {P : Type 0} (c : Command) (bytes : List ℕ) (found : Finding) (left : Left P) → IsNotServed c bytes found left
+    → IsRefusal found
 refused_away c bytes (finding.Refused refusal) left h = inl refl
 refused_away c bytes finding.OutOfMemory left h = inr refl
 refused_away c bytes finding.Usage left h = elim h [ ]
@@ -284,7 +313,8 @@ refused_away c bytes (finding.Illegal line) left h = elim h [ ]
 refused_away c bytes (finding.Printed text) left h = elim h [ ]
 
 -- a command that is served over a plan isn't refused
-not_both : {P : Type 0} (c : Command) (bytes : List ℕ) (plan : Plan) (refusal : Refusal) (found : Finding) (left : Left P) → HasPlan (script_in c bytes) plan → PlanComesTo c plan bytes found left → IsRefusedFor c bytes refusal → ⊥
+not_both : {P : Type 0} (c : Command) (bytes : List ℕ) (plan : Plan) (refusal : Refusal) (found : Finding) (left : Left P)
+    → HasPlan (script_in c bytes) plan → PlanComesTo c plan bytes found left → IsRefusedFor c bytes refusal → ⊥
 not_both (command.Graph most) bytes plan refusal found left script comes h = comes
 not_both command.Check bytes plan refusal found left script comes h = not_refused bytes plan refusal script h
 not_both (command.Sim seed) bytes plan refusal found left script comes h = not_refused bytes plan refusal script h
@@ -303,7 +333,8 @@ no_text most bytes text refusal made (inr u) =
     let two : None ≡ Some u.error = sym none ∙ u.first in
     absurd cc
 
-printed_refused : {P : Type 0} (most : ℕ) (bytes : List ℕ) (refusal : Refusal) (found : Finding) (left : Left P) → Prints (IsGraphText most bytes) found left → IsRefusedGraph most bytes refusal → IsRefusal found
+printed_refused : {P : Type 0} (most : ℕ) (bytes : List ℕ) (refusal : Refusal) (found : Finding) (left : Left P)
+    → Prints (IsGraphText most bytes) found left → IsRefusedGraph most bytes refusal → IsRefusal found
 printed_refused most bytes refusal (finding.Printed text) left h refused = absurd (no_text most bytes text.items refusal h.0 refused)
 printed_refused most bytes refusal finding.OutOfMemory left h refused = inr refl
 printed_refused most bytes refusal finding.Usage left h refused = elim h [ ]
@@ -315,10 +346,13 @@ printed_refused most bytes refusal (finding.Played failed text) left h refused =
 printed_refused most bytes refusal (finding.Legal entries) left h refused = elim h [ ]
 printed_refused most bytes refusal (finding.Illegal line) left h refused = elim h [ ]
 
-graph_refused : {P : Type 0} (c : Command) (bytes : List ℕ) (refusal : Refusal) (found : Finding) (left : Left P) → MakesGraph c bytes found left → IsRefusedFor c bytes refusal → IsRefusal found
-graph_refused c bytes refusal found left graph h = printed_refused graph.most bytes refusal found left graph.prints (subst (λ d. IsRefusedFor d bytes refusal) graph.asked h)
+graph_refused : {P : Type 0} (c : Command) (bytes : List ℕ) (refusal : Refusal) (found : Finding) (left : Left P)
+    → MakesGraph c bytes found left → IsRefusedFor c bytes refusal → IsRefusal found
+graph_refused c bytes refusal found left graph h =
+    printed_refused graph.most bytes refusal found left graph.prints (subst (λ d. IsRefusedFor d bytes refusal) graph.asked h)
 
-module _ {P : Type 0} (call : Call P) (sink : SinkUse) (c : Command) (bytes : List ℕ) (given : IsGiven call sink c bytes) (found : Finding) where
+module _ {P : Type 0} (call : Call P) (sink : SinkUse) (c : Command) (bytes : List ℕ) (given : IsGiven call sink c bytes)
+    (found : Finding) where
   -- an input that is too long isn't read to its end
   long_refused : most_bytes c < length bytes → CameTo call found → IsRefusal found
   long_refused long (inl usage) = let none : Some c ≡ None = sym given.asked ∙ usage.cause in absurd cc
@@ -340,7 +374,8 @@ module _ {P : Type 0} (call : Call P) (sink : SinkUse) (c : Command) (bytes : Li
     | inr lost ↦ inr lost
   ]
 
-found_refused : {P : Type 0} (call : Call P) (sink : SinkUse) (h : IsRefusable call sink) (journal : List Entry) (found : Finding) → CameTo (with_journal call journal) found → IsRefusal found
+found_refused : {P : Type 0} (call : Call P) (sink : SinkUse) (h : IsRefusable call sink) (journal : List Entry)
+    (found : Finding) → CameTo (with_journal call journal) found → IsRefusal found
 found_refused call sink h journal found came =
     let given = given_with call sink h.served h.bytes h.given journal in
     elim h.cause [
@@ -348,7 +383,8 @@ found_refused call sink h journal found came =
       | inr holds ↦ script_refused (with_journal call journal) sink h.served h.bytes given found holds came
     ]
 
-answer_refused : {P : Type 0} (call : Call P) (sink : SinkUse) (answer : Status) → Answers call sink answer → IsRefusable call sink → WasRefused answer
+answer_refused : {P : Type 0} (call : Call P) (sink : SinkUse) (answer : Status) → Answers call sink answer
+    → IsRefusable call sink → WasRefused answer
 answer_refused call sink answer a h = by (found_refused call sink h a.journal a.finding a.came) a.tells
   where
     by : IsRefusal a.finding → Tells a.finding a.journal call.left.journal sink answer → WasRefused answer
@@ -360,7 +396,8 @@ answer_refused call sink answer a h = by (found_refused call sink h a.journal a.
 -- ---- `graph`
 
 -- where a text can be made of a script, it is made, or memory was wanting
-made_away : {P : Type 0} (most : ℕ) (bytes text : List ℕ) (found : Finding) (left : Left P) → IsGraphText most bytes text → IsNotServed (command.Graph most) bytes found left → found ≡ finding.OutOfMemory
+made_away : {P : Type 0} (most : ℕ) (bytes text : List ℕ) (found : Finding) (left : Left P) → IsGraphText most bytes text
+    → IsNotServed (command.Graph most) bytes found left → found ≡ finding.OutOfMemory
 made_away most bytes text (finding.Refused refusal) left made h = absurd (no_text most bytes text refusal made h.0)
 made_away most bytes text finding.OutOfMemory left made h = refl
 made_away most bytes text finding.Usage left made h = elim h [ ]
@@ -382,7 +419,8 @@ one_text most bytes text other made more =
 abbrev IsText : List ℕ → Finding → Type 0
 IsText text found = ((status_of found ≡ status.Done) × (finding_text found ≡ text)) ⊎ (found ≡ finding.OutOfMemory)
 
-printed_text : {P : Type 0} (most : ℕ) (bytes text : List ℕ) (found : Finding) (left : Left P) → IsGraphText most bytes text → Prints (IsGraphText most bytes) found left → IsText text found
+printed_text : {P : Type 0} (most : ℕ) (bytes text : List ℕ) (found : Finding) (left : Left P) → IsGraphText most bytes text
+    → Prints (IsGraphText most bytes) found left → IsText text found
 printed_text most bytes text (finding.Printed other) left made h = inl (refl, one_text most bytes text other.items made h.0)
 printed_text most bytes text finding.OutOfMemory left made h = inr refl
 printed_text most bytes text finding.Usage left made h = elim h [ ]
@@ -394,23 +432,27 @@ printed_text most bytes text (finding.Played failed other) left made h = elim h 
 printed_text most bytes text (finding.Legal entries) left made h = elim h [ ]
 printed_text most bytes text (finding.Illegal line) left made h = elim h [ ]
 
-made_text : {P : Type 0} (most : ℕ) (bytes text : List ℕ) (found : Finding) (left : Left P) → IsGraphText most bytes text → MakesGraph (command.Graph most) bytes found left → IsText text found
+made_text : {P : Type 0} (most : ℕ) (bytes text : List ℕ) (found : Finding) (left : Left P) → IsGraphText most bytes text
+    → MakesGraph (command.Graph most) bytes found left → IsText text found
 made_text most bytes text found left made graph =
     let asked : command.Graph most ≡ command.Graph graph.most = graph.asked in
     let same : graph.most ≡ most = cc in
     printed_text most bytes text found left made (subst (λ m. Prints (IsGraphText m bytes) found left) same graph.prints)
 
-found_text : {P : Type 0} (call : Call P) (sink : SinkUse) (text : List ℕ) (h : IsMakeable call sink text) (journal : List Entry) (found : Finding) → CameTo (with_journal call journal) found → IsText text found
+found_text : {P : Type 0} (call : Call P) (sink : SinkUse) (text : List ℕ) (h : IsMakeable call sink text)
+    (journal : List Entry) (found : Finding) → CameTo (with_journal call journal) found → IsText text found
 found_text call sink text h journal found came =
     let left = (with_journal call journal).left in
-    elim (input_comes (with_journal call journal) sink (command.Graph h.most) h.bytes (given_with call sink (command.Graph h.most) h.bytes h.given journal) found h.fits came) [
+    elim (input_comes (with_journal call journal) sink (command.Graph h.most) h.bytes
+    (given_with call sink (command.Graph h.most) h.bytes h.given journal) found h.fits came) [
       | inl (inl served) ↦ absurd served.comes
       | inl (inr (inl away)) ↦ inr (made_away h.most h.bytes text found left h.made away)
       | inl (inr (inr graph)) ↦ made_text h.most h.bytes text found left h.made graph
       | inr lost ↦ inr lost
     ]
 
-answer_text : {P : Type 0} (call : Call P) (sink : SinkUse) (text : List ℕ) (answer : Status) → Answers call sink answer → IsMakeable call sink text → WasPrinted text sink answer
+answer_text : {P : Type 0} (call : Call P) (sink : SinkUse) (text : List ℕ) (answer : Status) → Answers call sink answer
+    → IsMakeable call sink text → WasPrinted text sink answer
 answer_text call sink text answer a h = by (found_text call sink text h a.journal a.finding a.came) a.tells
   where
     by : IsText text a.finding → Tells a.finding a.journal call.left.journal sink answer → WasPrinted text sink answer
@@ -422,4 +464,11 @@ answer_text call sink text answer a h = by (found_text call sink text h a.journa
 -- ---- all
 
 pub complete : {P : Type 0} (call : Call P) (sink : SinkUse) (answer : Status) → Answers call sink answer → MissesNothing call sink answer
-complete call sink answer a = record { served = answer_served call sink answer a; printed = (λ text. answer_text call sink text answer a); audited = (λ found. answer_audited call sink found answer a); refused = answer_refused call sink answer a }
+complete call sink answer a =
+    record {
+      served = answer_served call sink answer a;
+      printed = (λ text. answer_text call sink text answer a);
+      audited =
+          (λ found. answer_audited call sink found answer a);
+      refused = answer_refused call sink answer a;
+    }

@@ -28,11 +28,13 @@ use Rattle.caa_commands.specs.Served.{IsToFind, legal_journal, illegal_line, too
 
 module _ (plan : Plan) (journal : List Entry) where
   -- where the entries before k are legal, each of them may follow those before it
-  may_stand : (i k : ℕ) → i < k → k ≤ length journal → IsLegal plan (take k journal) → (e : Entry) → slice_get journal i ≡ Some e → MayFollow plan (reverse (take i journal)) e
+  may_stand : (i k : ℕ) → i < k → k ≤ length journal → IsLegal plan (take k journal) → (e : Entry)
+      → slice_get journal i ≡ Some e → MayFollow plan (reverse (take i journal)) e
   may_stand i k less within legal e there =
       let front : LegalPast plan (reverse (take (i + 1) (take k journal))) = legal_front plan (take k journal) (i + 1) legal in
       let cut : reverse (take (i + 1) (take k journal)) ≡ e ∷ reverse (take i journal) =
-      ap reverse (take-take (i + 1) k journal (omega arith)) ∙ reverse_more journal i e (omega arith) ∙ ap (λ x. x ∷ reverse (take i journal)) (get_or_from_slice_get journal i e e there) in
+      ap reverse (take-take (i + 1) k journal (omega arith)) ∙ reverse_more journal i e (omega arith)
+      ∙ ap (λ x. x ∷ reverse (take i journal)) (get_or_from_slice_get journal i e e there) in
       (subst (LegalPast plan) cut front).1
 
   all : IsLegal plan journal → IsLegal plan (take (length journal) journal)
@@ -47,7 +49,8 @@ module _ (plan : Plan) (journal : List Entry) where
       by (e ∷ js) (suc i) h = by js i (omega (arith, h))
 
   not_before : (i k : ℕ) → IsFirstIllegal plan journal i → i < k → k ≤ length journal → IsLegal plan (take k journal) → ⊥
-  not_before i k first less within legal = let at = there i first.within in first.wrong at.0 at.1 (may_stand i k less within legal at.0 at.1)
+  not_before i k first less within legal = let at =
+      there i first.within in first.wrong at.0 at.1 (may_stand i k less within legal at.0 at.1)
 
   -- a legal journal has none
   not_legal : (i : ℕ) → IsFirstIllegal plan journal i → IsLegal plan journal → ⊥
@@ -74,13 +77,15 @@ module _ (plan : Plan) (journal : List Entry) where
 -- ---- one text
 
 module _ (plan : Plan) (tells : Tells plan) (text : List ℕ) where
-  one_journal : (js es : List Entry) (ss ms : List Seen) → IsText plan most_audited text js ss → IsText plan most_audited text es ms → (js ≡ es) × (ss ≡ ms)
+  one_journal : (js es : List Entry) (ss ms : List Seen) → IsText plan most_audited text js ss
+      → IsText plan most_audited text es ms → (js ≡ es) × (ss ≡ ms)
   one_journal js es ss ms h k = texts-differ plan tells most_audited js es ss ms h.fit k.fit (sym h.same ∙ k.same)
 
   not_many : (js : List Entry) (ss : List Seen) → IsText plan most_audited text js ss → HasTooMany plan most_audited text → ⊥
   not_many js ss h many =
       let line = most_audited + 2 in
-      let lost : error.TooMany line ≡ error.OutOfMemory = reads-back plan most_audited text (Err (error.TooMany line)) tells (refl, many) js ss h in
+      let lost : error.TooMany line ≡ error.OutOfMemory =
+      reads-back plan most_audited text (Err (error.TooMany line)) tells (refl, many) js ss h in
       absurd cc
 
   -- a lawful text has no line at fault
@@ -147,12 +152,14 @@ module _ (plan : Plan) (tells : Tells plan) (bytes : List ℕ) where
       let same = one_journal plan tells text a.journal b.journal a.lawful.seens b.lawful.seens a.lawful.spelled b.lawful.spelled in
       ap finding.Legal (a.number ∙ ap length same.0 ∙ sym b.number)
   found_alone found other (legal_journal a) (illegal_line b) = absurd (lawful_alone plan tells text a.journal b.number a.lawful b.cause)
-  found_alone found other (legal_journal a) (too_many_entries b) = absurd (not_many plan tells text a.journal a.lawful.seens a.lawful.spelled b.many)
+  found_alone found other (legal_journal a) (too_many_entries b) =
+      absurd (not_many plan tells text a.journal a.lawful.seens a.lawful.spelled b.many)
   found_alone found other (illegal_line a) (legal_journal b) = absurd (lawful_alone plan tells text b.journal a.number b.lawful a.cause)
   found_alone found other (illegal_line a) (illegal_line b) =
       let same : a.number ≡ b.number = one_line plan tells text a.number b.number a.cause b.cause in
       ap finding.Illegal (a.counted ∙ ap (λ n. script_lines bytes + n) same ∙ sym b.counted)
   found_alone found other (illegal_line a) (too_many_entries b) = absurd (many_alone plan tells text a.number b.many a.cause)
-  found_alone found other (too_many_entries a) (legal_journal b) = absurd (not_many plan tells text b.journal b.lawful.seens b.lawful.spelled a.many)
+  found_alone found other (too_many_entries a) (legal_journal b) =
+      absurd (not_many plan tells text b.journal b.lawful.seens b.lawful.spelled a.many)
   found_alone found other (too_many_entries a) (illegal_line b) = absurd (many_alone plan tells text b.number a.many b.cause)
   found_alone found other (too_many_entries {refusal = r} a) (too_many_entries {refusal = q} b) = ap finding.Refused (one_refusal r q a b)

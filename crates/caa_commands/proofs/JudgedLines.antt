@@ -20,11 +20,13 @@ line_filled first others =
     let whole : length (line first others) ≡ length (first ++ spaced others) + 1 = length-append (first ++ spaced others) (10 ∷ []) in
     omega (arith, whole)
 
-lines_few : {A : Type 0} (line_of : A → List ℕ) → ((x : A) → 1 ≤ length (line_of x)) → (xs : List A) → length xs ≤ length (flat_map line_of xs)
+lines_few : {A : Type 0} (line_of : A → List ℕ) → ((x : A) → 1 ≤ length (line_of x)) → (xs : List A)
+    → length xs ≤ length (flat_map line_of xs)
 lines_few line_of filled [] = omega arith
 lines_few line_of filled (x ∷ xs) = omega (arith, filled x, lines_few line_of filled xs, length-append (line_of x) (flat_map line_of xs))
 
-pub text_long : (plan : Plan) (journal : List Entry) (seens : List Seen) → 2 + length journal + length plan.objects + length plan.places + length seens ≤ length (text_of plan journal seens) + 1
+pub text_long : (plan : Plan) (journal : List Entry) (seens : List Seen) → 2 + length journal + length plan.objects
+    + length plan.places + length seens ≤ length (text_of plan journal seens) + 1
 text_long plan journal seens =
     let past = reverse journal in
     let objects = range_with_len 0 (length plan.objects) in
@@ -33,7 +35,9 @@ text_long plan journal seens =
     let object_text = flat_map (object_line plan past) objects in
     let outcome_text = flat_map (outcome_line plan past) places in
     let seen_text = flat_map (seen_line plan) seens in
-    let whole : length (text_of plan journal seens) ≡ length first_line + length (entry_text ++ closing_lines plan past ++ seen_text) = length-append first_line (entry_text ++ closing_lines plan past ++ seen_text) in
+    let whole : length (text_of plan journal seens) ≡ length first_line
+    + length (entry_text ++ closing_lines plan past ++ seen_text) =
+    length-append first_line (entry_text ++ closing_lines plan past ++ seen_text) in
     let first : length first_line ≡ 8 = refl in
     let closing : length (closing_lines plan past) ≡ length object_text + length outcome_text = length-append object_text outcome_text in
     omega (
@@ -41,7 +45,8 @@ text_long plan journal seens =
       whole,
       first,
       closing,
-      lines_few (entry_line plan) (λ e. line_filled (kind_word e.kind) (decimal e.place ∷ participant_name plan e.by ∷ field_words e.kind plan e)) journal,
+      lines_few (entry_line plan)
+          (λ e. line_filled (kind_word e.kind) (decimal e.place ∷ participant_name plan e.by ∷ field_words e.kind plan e)) journal,
       lines_few (object_line plan past) (λ o. omega arith) objects,
       lines_few (outcome_line plan past) (λ p. omega arith) places,
       lines_few (seen_line plan) (λ s. omega arith) seens,
@@ -56,40 +61,49 @@ shared_few [] text = omega arith
 shared_few (a ∷ bytes) [] = omega arith
 shared_few (a ∷ bytes) (b ∷ text) = by (a == b) (a == 10) (shared_few bytes text)
   where
-    by : (same feed : Bool) → lines_shared bytes text ≤ length bytes → (if same then (if feed then suc (lines_shared bytes text) else lines_shared bytes text) else 0) ≤ suc (length bytes)
+    by : (same feed : Bool) → lines_shared bytes text ≤ length bytes
+        → (if same then (if feed then suc (lines_shared bytes text) else lines_shared bytes text) else 0) ≤ suc (length bytes)
     by false feed h = omega arith
     by true true h = omega (arith, h)
     by true false h = omega (arith, h)
 
 -- ---- a wrong look is one of the looks, or the one after them
 
-wrong_among : (plan : Plan) (past : List Entry) (before : Option Seen) (seens : List Seen) (i look : ℕ) → first_wrong_from plan past before seens i ≡ Some look → look ≤ i + length seens
+wrong_among : (plan : Plan) (past : List Entry) (before : Option Seen) (seens : List Seen) (i look : ℕ)
+    → first_wrong_from plan past before seens i ≡ Some look → look ≤ i + length seens
 wrong_among plan past before [] i look = by (is_whole plan before)
   where
     by : (b : Bool) → (if b then None else Some i) ≡ Some look → look ≤ i + 0
     by true e = absurd cc
     by false e = let same : i ≡ look = cc in omega (arith, same)
-wrong_among plan past before (s ∷ seens) i look = by (is_right plan past before s (next_seen seens)) (wrong_among plan past (Some s) seens (suc i) look)
+wrong_among plan past before (s ∷ seens) i look =
+    by (is_right plan past before s (next_seen seens)) (wrong_among plan past (Some s) seens (suc i) look)
   where
-    by : (b : Bool) → (first_wrong_from plan past (Some s) seens (suc i) ≡ Some look → look ≤ suc i + length seens) → (if b then first_wrong_from plan past (Some s) seens (suc i) else Some i) ≡ Some look → look ≤ i + suc (length seens)
+    by : (b : Bool) → (first_wrong_from plan past (Some s) seens (suc i) ≡ Some look → look ≤ suc i + length seens)
+        → (if b then first_wrong_from plan past (Some s) seens (suc i) else Some i) ≡ Some look → look ≤ i + suc (length seens)
     by true later e = omega (arith, later e)
     by false later e = let same : i ≡ look = cc in omega (arith, same)
 
-pub wrong_look-few : (plan : Plan) (journal : List Entry) (seens : List Seen) (look : ℕ) → wrong_look plan journal seens ≡ Some look → look ≤ length seens
+pub wrong_look-few : (plan : Plan) (journal : List Entry) (seens : List Seen) (look : ℕ) → wrong_look plan journal seens
+    ≡ Some look → look ≤ length seens
 wrong_look-few plan journal [] look e = absurd cc
 wrong_look-few plan journal (s ∷ seens) look e = omega (arith, wrong_among plan (reverse journal) None (s ∷ seens) 0 look e)
 
 -- ---- the line of a judgement
 
 module _ (plan : Plan) (text : List ℕ) (number : ℕ) where
-  near_text : (journal : List Entry) (seens : List Seen) → text ≡ text_of plan journal seens → number ≤ length (text_of plan journal seens) + 1 → number ≤ length text + 1
+  near_text : (journal : List Entry) (seens : List Seen) → text ≡ text_of plan journal seens
+      → number ≤ length (text_of plan journal seens) + 1 → number ≤ length text + 1
   near_text journal seens same h = subst (λ (text : List ℕ). number ≤ length text + 1) (sym same) h
 
   pub illegal_near : IsIllegalAt plan text number → number ≤ length text + 1
   illegal_near (inl bad) = omega (arith, bad.before, shared_few text (text_of plan bad.journal bad.seens))
   illegal_near (inr (inl u)) = near_text u.journal u.seens u.spelled.same (by u.wrong)
     where
-      by : IsFirstIllegal plan u.journal u.index ⊎ IsUnfinished plan u.journal u.index → number ≤ length (text_of plan u.journal u.seens) + 1
+      by : IsFirstIllegal plan u.journal u.index ⊎ IsUnfinished plan u.journal u.index
+          → number ≤ length (text_of plan u.journal u.seens) + 1
       by (inl wrong) = omega (arith, u.line, wrong.within, text_long plan u.journal u.seens)
       by (inr open_end) = omega (arith, u.line, open_end.past_all, text_long plan u.journal u.seens)
-  illegal_near (inr (inr w)) = near_text w.journal w.seens w.spelled.same (omega (arith, w.line, wrong_look-few plan w.journal w.seens w.look w.wrong, text_long plan w.journal w.seens))
+  illegal_near (inr (inr w)) =
+      near_text w.journal w.seens w.spelled.same
+      (omega (arith, w.line, wrong_look-few plan w.journal w.seens w.look w.wrong, text_long plan w.journal w.seens))

@@ -10,7 +10,8 @@ use Rattle.script_checker.specs.After.{after}
 use Rattle.script_checker.specs.Compiled.{IsPlanOf, IsFirstRefused, IsAccepted, AreAccepted, declared_after}
 
 -- where all lines are accepted, each is
-accepted_there : (names : List (List ℕ)) (s : SoFar) (lines : List Line) (line : Line) (rest : List Line) → AreAccepted names s (lines ++ line ∷ rest) → IsAccepted (declared_after names s lines) line.form
+accepted_there : (names : List (List ℕ)) (s : SoFar) (lines : List Line) (line : Line) (rest : List Line)
+    → AreAccepted names s (lines ++ line ∷ rest) → IsAccepted (declared_after names s lines) line.form
 accepted_there names s [] line rest h = h.0
 accepted_there names s (l ∷ lines) line rest h = accepted_there names (after names s l.form) lines line rest h.1
 

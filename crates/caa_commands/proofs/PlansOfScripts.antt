@@ -53,7 +53,8 @@ names_in done = flat_map (λ l. names_of l.said.asked) done
 abbrev end_of : ℕ → Bool → Result (List Numbered) ScriptError
 end_of number b = if b then Ok [] else Err (record { line = number; cause = cause.BadLine })
 
-said_few : (number : ℕ) (s : Section) (lines : List (List ℕ)) (done : List Numbered) → said_from number s lines ≡ Ok done → length (names_in done) + length done ≤ weight lines
+said_few : (number : ℕ) (s : Section) (lines : List (List ℕ)) (done : List Numbered) → said_from number s lines ≡ Ok done
+    → length (names_in done) + length done ≤ weight lines
 said_few number s [] done h = by (at_top s) h
   where
     by : (b : Bool) → end_of number b ≡ Ok done → length (names_in done) + length done ≤ 0
@@ -62,21 +63,36 @@ said_few number s [] done h = by (at_top s) h
 said_few number s (line ∷ lines) done h = by (line_of s line) refl h (λ t rest. said_few (number + 1) t lines rest)
   where
     Later : Type 0
-    Later = (t : Section) (rest : List Numbered) → said_from (number + 1) t lines ≡ Ok rest → length (names_in rest) + length rest ≤ weight lines
+    Later = (t : Section) (rest : List Numbered) → said_from (number + 1) t lines ≡ Ok rest
+        → length (names_in rest) + length rest ≤ weight lines
 
-    more : (said : Said) (r : Result (List Numbered) ScriptError) → line_of s line ≡ Ok (Some said) → (said_from (number + 1) (goes_to said.kind s) lines ≡ r) → before (record { number = number; said = said }) r ≡ Ok done → Later → length (names_in done) + length done ≤ weight (line ∷ lines)
+    more : (said : Said) (r : Result (List Numbered) ScriptError) → line_of s line ≡ Ok (Some said)
+        → (said_from (number + 1) (goes_to said.kind s) lines ≡ r) → before (record { number = number; said = said }) r
+        ≡ Ok done → Later → length (names_in done) + length done ≤ weight (line ∷ lines)
     more said (Err e) f g k later = absurd cc
     more said (Ok rest) f g k later =
         let same : record { number = number; said = said } ∷ rest ≡ done = cc in
-        let both : length (names_in done) + length done ≡ length (names_of said.asked ++ names_in rest) + (length rest + 1) = subst (λ d. length (names_in d) + length d ≡ length (names_of said.asked ++ names_in rest) + (length rest + 1)) same (omega arith) in
-        omega (arith, both, later (goes_to said.kind s) rest g, length-append (names_of said.asked) (names_in rest), length-names_of said.asked, speaks-short s line said (speaks s line said f))
+        let both : length (names_in done) + length done ≡ length (names_of said.asked ++ names_in rest) + (length rest + 1) =
+        subst (λ d. length (names_in d) + length d ≡ length (names_of said.asked ++ names_in rest) + (length rest + 1))
+        same (omega arith) in
+        omega (
+          arith,
+          both,
+          later (goes_to said.kind s) rest g,
+          length-append (names_of said.asked) (names_in rest),
+          length-names_of said.asked,
+          speaks-short s line said (speaks s line said f),
+        )
 
-    by : (r : Result (Option Said) ScriptCause) → line_of s line ≡ r → with_line number s (λ t. said_from (number + 1) t lines) r ≡ Ok done → Later → length (names_in done) + length done ≤ weight (line ∷ lines)
+    by : (r : Result (Option Said) ScriptCause) → line_of s line ≡ r
+        → with_line number s (λ t. said_from (number + 1) t lines) r ≡ Ok done → Later → length (names_in done) + length done
+        ≤ weight (line ∷ lines)
     by (Err c) e k later = absurd cc
     by (Ok None) e k later = omega (arith, later s done k)
     by (Ok (Some said)) e k later = more said (said_from (number + 1) (goes_to said.kind s) lines) e refl k later
 
-script_few : (bytes : List ℕ) (r : Result (List Numbered) ScriptError) (script : Script) → said_from 1 section.Top (lines_of bytes) ≡ r → script_of r ≡ Ok script → length script.names + length script.lines ≤ length bytes + 1
+script_few : (bytes : List ℕ) (r : Result (List Numbered) ScriptError) (script : Script)
+    → said_from 1 section.Top (lines_of bytes) ≡ r → script_of r ≡ Ok script → length script.names + length script.lines ≤ length bytes + 1
 script_few bytes (Err e) script said h = absurd cc
 script_few bytes (Ok done) script said h =
     let same : script_by done ≡ script = cc in
@@ -107,7 +123,8 @@ module _ (bytes : List ℕ) (plan : Plan) (h : HasPlan bytes plan) where
   few_places =
       let draft = h.compiled.draft in
       let whole = breaks_none h.script.names h.script.lines are_script.sound h.compiled.accepted draft h.compiled.declared in
-      let parts = and_parts (nat_le (length (plan_of draft).places) most_places) (nat_le (bound (plan_of draft)) most_entries) (keeps_rules draft whole).1 in
+      let parts = and_parts (nat_le (length (plan_of draft).places) most_places) (nat_le (bound (plan_of draft)) most_entries)
+      (keeps_rules draft whole).1 in
       subst (λ (p : Plan). length p.places ≤ most_places) (sym h.compiled.unfolded) (leb-true _ _ parts.0)
 
   -- it tells a journal from its text

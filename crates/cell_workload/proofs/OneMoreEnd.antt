@@ -11,6 +11,7 @@ ends_counted-push mark (first ∷ entries) e = let more = ends_counted-push mark
 
 -- one more entry
 pub ends_counted-more : (mark : ℕ) (entries : List Entry) (i : ℕ) (d : Entry) → i < length entries
-    → ends_counted mark (take i entries) + (if says_outcome mark (get_or entries i d) then 1 else 0) ≡ ends_counted mark (take (i + 1) entries)
+    → ends_counted mark (take i entries) + (if says_outcome mark (get_or entries i d) then 1 else 0)
+    ≡ ends_counted mark (take (i + 1) entries)
 ends_counted-more mark entries i d within =
     sym (ap (ends_counted mark) (take_more entries i d within) ∙ ends_counted-push mark (take i entries) (get_or entries i d))

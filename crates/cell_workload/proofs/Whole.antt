@@ -53,7 +53,8 @@ shorts (cycle ∷ cycles) =
     (short_play (cycle % 10 == 0) (cycle % 5 == 0)) (shorts cycles)
 
 -- words that are there add nothing
-none_new : (words more : List (List ℕ)) → list_all (is_among cell_names) words ≡ true → with_names cell_names (words ++ more) ≡ with_names cell_names more
+none_new : (words more : List (List ℕ)) → list_all (is_among cell_names) words ≡ true → with_names cell_names (words ++ more)
+    ≡ with_names cell_names more
 none_new [] more among = refl
 none_new (word ∷ words) more among =
     let p = and_parts (is_among cell_names word) (list_all (is_among cell_names) words) among in
@@ -99,7 +100,8 @@ short_work =
 object_short : (n : ℕ) → nat_le (length (name_at cell_names n)) 32 ≡ true → is_short cell_names (form.Object n (pos 0)) ≡ true
 object_short n few = short_object n (leb-true (length (name_at cell_names n)) 32 few) (pos 0) (ltb-true 0 10 refl)
 
-put_short : (n v : ℕ) → nat_le (length (name_at cell_names n)) 32 ≡ true → nat_lt v 10 ≡ true → is_short cell_names (form.PutStep n (pos v)) ≡ true
+put_short : (n v : ℕ) → nat_le (length (name_at cell_names n)) 32 ≡ true → nat_lt v 10 ≡ true
+    → is_short cell_names (form.PutStep n (pos v)) ≡ true
 put_short n v few small = short_put n (leb-true (length (name_at cell_names n)) 32 few) (pos v) (ltb-true v 10 small)
 
 add_short : (n : ℕ) → nat_le (length (name_at cell_names n)) 32 ≡ true → is_short cell_names (form.AddStep n (pos 1)) ≡ true
@@ -149,7 +151,8 @@ are_script cycles few =
     }
 
 -- one more play
-pub plays_more : (cycle : ℕ) → 1 ≤ cycle → map play_line (range_with_len 1 (cycle + 1 - 1)) ≡ map play_line (range_with_len 1 (cycle - 1)) ++ play_line cycle ∷ []
+pub plays_more : (cycle : ℕ) → 1 ≤ cycle → map play_line (range_with_len 1 (cycle + 1 - 1))
+    ≡ map play_line (range_with_len 1 (cycle - 1)) ++ play_line cycle ∷ []
 plays_more zero some = absurd (omega (arith, some))
 plays_more (suc n) some =
     let more : suc n + 1 - 1 ≡ n + 1 = omega arith in

@@ -42,7 +42,8 @@ module _ (script : Script) (most : ℕ) where
   room_from s passed number (line ∷ lines) live bad free =
       by (next_stage s line.form) refl bad (λ next. room_from next (passed + length (exception_in line.form)) (line.number + 1) lines)
     where
-      parts : (cause_of script most passed line.form ≡ None) × (refused_from script most (passed + length (exception_in line.form)) lines ≡ None)
+      parts : (cause_of script most passed line.form ≡ None)
+          × (refused_from script most (passed + length (exception_in line.form)) lines ≡ None)
       parts =
           passed_on line.number (refused_from script most (passed + length (exception_in line.form)) lines)
           (cause_of script most passed line.form) free
@@ -52,7 +53,9 @@ module _ (script : Script) (most : ℕ) where
 
       by : (n : Option Stage) → next_stage s line.form ≡ n → bad_if line.number (λ next. bad_from next (line.number + 1) lines) n ≡ None
           →
-          ((next : Stage) → next ≢ stage.Over → bad_from next (line.number + 1) lines ≡ None → refused_from script most (passed + length (exception_in line.form)) lines ≡ None → has_room (primitive_count script) most ≡ true)
+          ((next : Stage) → next ≢ stage.Over → bad_from next (line.number + 1) lines ≡ None
+          → refused_from script most (passed + length (exception_in line.form)) lines ≡ None
+          → has_room (primitive_count script) most ≡ true)
           → has_room (primitive_count script) most ≡ true
       by None e b rest = cc
       by (Some next) e b rest =

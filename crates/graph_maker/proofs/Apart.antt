@@ -40,8 +40,11 @@ new_numbered word todo new = subst AreNumbered (new_kept (word ∷ []) todo new)
 
 pub new_more : (done first later : List (List ℕ)) → NewWords done first → NewWords (done ++ first) later → NewWords done (first ++ later)
 new_more done [] later new more = subst (λ (l : List (List ℕ)). NewWords l later) (append-nil done) more
-new_more done (word ∷ first) later new more =
-    (new.0, new_more (done ++ word ∷ []) first later new.1 (subst (λ (l : List (List ℕ)). NewWords l later) (sym (append_assoc done (word ∷ []) first)) more))
+new_more done (word ∷ first) later new more = (
+  new.0,
+  new_more (done ++ word ∷ []) first later new.1
+      (subst (λ (l : List (List ℕ)). NewWords l later) (sym (append_assoc done (word ∷ []) first)) more),
+)
 
 -- ---- a word that no test of another kind lets through
 
@@ -117,7 +120,8 @@ module _ (script : Script) (most : ℕ) where
         by true e =
             let same : name n ≡ codes "universal" = (bytes_eq-Decides (name n) (codes "universal")).0 e in
             absurd
-            (both_ways (n == number_in script.names (codes "universal")) not (eq-eqb n (number_in script.names (codes "universal")) (sym (numbered n n_in) ∙ ap (number_in script.names) same)))
+            (both_ways (n == number_in script.names (codes "universal")) not
+            (eq-eqb n (number_in script.names (codes "universal")) (sym (numbered n n_in) ∙ ap (number_in script.names) same)))
 
     -- names that are names are those of numbers in range
     pub in_range : (ns : List ℕ) → list_all is_name (map name ns) ≡ true → list_all (λ m. nat_lt m (length script.names)) ns ≡ true
@@ -145,11 +149,14 @@ module _ (script : Script) (most : ℕ) where
         let pushed : map name (before ++ n ∷ []) ≡ map name before ++ name n ∷ [] = map_push name before n in
         let next : length (before ++ n ∷ []) ≡ length before + 1 = length_push before n in
         let all : list_all (λ m. nat_lt m (length script.names)) (before ++ n ∷ []) ≡ true =
-        list_all-append (λ m. nat_lt m (length script.names)) before (n ∷ []) ∙ and_from (list_all (λ m. nat_lt m (length script.names)) before) (nat_lt n (length script.names) && true) within (and_from (nat_lt n (length script.names)) true p.0 refl) in (
+        list_all-append (λ m. nat_lt m (length script.names)) before (n ∷ [])
+        ∙ and_from (list_all (λ m. nat_lt m (length script.names)) before) (nat_lt n (length script.names) && true)
+        within (and_from (nat_lt n (length script.names)) true p.0 refl) in (
           or_from (bytes_eq (name n) (codes "universal")) (is_among (map name before) (name n)) (not_universal n n_in r.0)
               (others_apart n before n_in within none),
           subst (λ (l : List (List ℕ)). NewWords (codes "universal" ∷ l) (map name todo)) pushed
-              (primitives_new (before ++ n ∷ []) todo (append_assoc before (n ∷ []) todo ∙ total) (subst (λ k. Free k todo) (sym next) free.1) all p.1),
+              (primitives_new (before ++ n ∷ []) todo (append_assoc before (n ∷ []) todo ∙ total)
+              (subst (λ k. Free k todo) (sym next) free.1) all p.1),
         )
 
   -- and no primitive has a made name
@@ -198,7 +205,8 @@ module _ (n most : ℕ) (small : n < 128) where
           let mine = large.many in
           let yours = other.many in
           absurd
-          (differ (sym (names_apart n set b small large.is.primitives other.is.primitives (omega (arith, mine)) (omega (arith, yours)) same)))
+          (differ (sym (names_apart n set b small large.is.primitives other.is.primitives (omega (arith, mine))
+          (omega (arith, yours)) same)))
 
   among_either : (xs ys : List (List ℕ)) (w : List ℕ) → is_among xs w ≡ false → is_among ys w ≡ false → is_among (xs ++ ys) w ≡ false
   among_either [] ys w none more = more
@@ -215,7 +223,8 @@ module _ (n most : ℕ) (small : n < 128) where
       subst IsLarge (get_or_at before set todo 0 (length before) refl)
       (are (length before) 0 (omega (arith, length-append before (set ∷ todo)))) in
       let front : All IsLarge before =
-      λ k d within. subst IsLarge (get_or_append_left before (set ∷ todo) d k within) (are k d (omega (arith, within, length-append before (set ∷ todo)))) in
+      λ k d within. subst IsLarge (get_or_append_left before (set ∷ todo) d k within)
+      (are k d (omega (arith, within, length-append before (set ∷ todo)))) in
       let differ : All (λ (b : ℕ). b ≢ set) before = λ k d within same.
       apart k (length before) d within (omega (arith, length-append before (set ∷ todo)))
       (get_or_append_left before (set ∷ todo) d k within ∙ same ∙ sym (get_or_at before set todo d (length before) refl)) in
@@ -227,5 +236,6 @@ module _ (n most : ℕ) (small : n < 128) where
             (not_among (is_made_name n most) words (set_name n set) unmade (large_made set large))
             (not_before before set front large differ),
         subst (λ (l : List (List ℕ)). NewWords l (map (set_name n) todo)) (sym moved)
-            (made_new words unmade (before ++ set ∷ []) todo (subst (All IsLarge) (sym shifted) are) (subst (AllPairs (λ a b. a ≢ b)) (sym shifted) apart)),
+            (made_new words unmade (before ++ set ∷ []) todo (subst (All IsLarge) (sym shifted) are)
+            (subst (AllPairs (λ a b. a ≢ b)) (sym shifted) apart)),
       )

@@ -16,7 +16,11 @@ use Rattle.graph_maker.specs.SetNames.{are_numbers, ascend, goes_on}
 
 -- ---- what a cut list yields
 
-module _ {F : Type 0} {s s' : Split ℕ F} (t u : Split ℕ F) {g : Mut F (Bor ℕ × Unit {0}) Bool} {f : F} {r : Option (Bor (List ℕ))} (p : ℕ → Bool) (xs : List ℕ) (items : List (Bor (List ℕ))) (yields : Yields (slice.split_steps g) s items t) (step : slice.split_steps g t r u) (same : s ≡ s') (rest : slice.split_rest s' ≡ xs) (done : slice.split_done s' ≡ false) (closure : slice.split_callee s' ≡ f) (tests : (x : ℕ) (b : Bool) (q : F) → CalledAt g f x b q → (q ≡ f) × (b ≡ p x)) where
+module _ {F : Type 0} {s s' : Split ℕ F} (t u : Split ℕ F) {g : Mut F (Bor ℕ × Unit {0}) Bool} {f : F}
+    {r : Option (Bor (List ℕ))} (p : ℕ → Bool) (xs : List ℕ) (items : List (Bor (List ℕ)))
+    (yields : Yields (slice.split_steps g) s items t) (step : slice.split_steps g t r u) (same : s ≡ s')
+    (rest : slice.split_rest s' ≡ xs) (done : slice.split_done s' ≡ false) (closure : slice.split_callee s' ≡ f)
+    (tests : (x : ℕ) (b : Bool) (q : F) → CalledAt g f x b q → (q ≡ f) × (b ≡ p x)) where
   -- the next piece
   pub piece_next : (x : Bor (List ℕ)) → r ≡ Some x
       → (length items < length (slice_split p xs)) × (x.now ≡ get_or (slice_split p xs) (length items) x.now)

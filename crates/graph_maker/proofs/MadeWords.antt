@@ -41,7 +41,8 @@ words_are names graph ns most =
     let n = length ns in
     let next : n + 1 ≡ suc n = omega arith in
     let size : length (map (name_at names) ns) ≡ n = length-map ns (name_at names) in
-    let larger : map (set_name n) (drop (n + 1) (table n most)) ≡ map (set_name (length (map (name_at names) ns))) (larger_sets (length (map (name_at names) ns)) most) =
+    let larger : map (set_name n) (drop (n + 1) (table n most)) ≡ map (set_name (length (map (name_at names) ns)))
+    (larger_sets (length (map (name_at names) ns)) most) =
     ap (λ k. map (set_name n) (drop k (table n most))) next ∙ ap (λ k. map (set_name k) (larger_sets k most)) (sym size) in
     ap (λ (l : List (List ℕ)). name_at names graph ∷ map (name_at names) ns ++ l) larger
 

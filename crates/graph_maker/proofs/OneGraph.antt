@@ -49,7 +49,8 @@ pub record GoesTo (names : List (List ℕ)) (s : SoFar) (lines : List Line) (gra
 abbrev in_graph : Declared → DeclaredGraph → SoFar
 in_graph d g = record { declared = d; block = block.Graph g }
 
-one_more : (names : List (List ℕ)) (s : SoFar) (number : ℕ) (f : Form) (lines : List Line) (graphs : List DeclaredGraph) → IsAccepted s f → GoesTo names (after names s f) lines graphs → GoesTo names s (record { number = number; form = f } ∷ lines) graphs
+one_more : (names : List (List ℕ)) (s : SoFar) (number : ℕ) (f : Form) (lines : List Line) (graphs : List DeclaredGraph)
+    → IsAccepted s f → GoesTo names (after names s f) lines graphs → GoesTo names s (record { number = number; form = f } ∷ lines) graphs
 one_more names s number f lines graphs fine rest = record { accepted = (fine, rest.accepted); declares = rest.declares }
 
 -- ---- single lines
@@ -173,7 +174,8 @@ module _ (names : List (List ℕ)) (d : Declared) (numbers : List ℕ) where
       → GoesTo names (in_graph d g) (record { number = number; form = form.Exception x } ∷ lines)
       (d.graphs ++ record { exceptions = all; pairs = pairs } ∷ []) in
       subst P moved
-      (λ placed faultless. one_more names (in_graph d g) number (form.Exception x) lines (d.graphs ++ record { exceptions = (done ++ x ∷ []) ++ todo; pairs = pairs } ∷ [])
+      (λ placed faultless. one_more names (in_graph d g) number (form.Exception x) lines
+      (d.graphs ++ record { exceptions = (done ++ x ∷ []) ++ todo; pairs = pairs } ∷ [])
       (exception_fine d g x fresh.0 fresh.1) (exceptions_then (number + 1) (done ++ x ∷ []) todo pairs fresh.2 placed faultless))
       placed faultless
 
@@ -184,7 +186,10 @@ pub one_graph : (names : List (List ℕ)) (graph : ℕ) (own numbers : List ℕ)
     → IsFaultless (length (number_in names (codes "universal") ∷ own)) pairs
     → GoesTo names (nothing_yet names)
     (numbered_from 1 (form.Graph graph ∷ map form.Exception own ++ map (cover_form numbers) pairs ++ form.End ∷ []))
-    (plain_graph (number_in names (codes "universal")) ∷ record { exceptions = number_in names (codes "universal") ∷ own; pairs = pairs } ∷ [])
+    (plain_graph (number_in names (codes "universal")) ∷ record {
+      exceptions = number_in names (codes "universal") ∷ own;
+      pairs = pairs;
+    } ∷ [])
 one_graph names graph own numbers pairs fresh placed faultless =
     let u = number_in names (codes "universal") in
     let s = after names (nothing_yet names) (form.Graph graph) in

@@ -29,7 +29,8 @@ two_at_least n zero =
     subst (All (λ (s : ℕ). 2 ≤ size_of n s)) (sym (drop_all n (sets n (suc zero)) few)) (All-nil (λ (s : ℕ). 2 ≤ size_of n s))
 two_at_least n (suc most) =
     let room = more_exceptions n (suc most) (omega arith) in
-    let last : All (λ (s : ℕ). 2 ≤ size_of n s) (choose n (suc (suc most))) = λ k d within. let size = (chosen n (suc (suc most)) k d within).1 in omega (arith, size) in
+    let last : All (λ (s : ℕ). 2 ≤ size_of n s) (choose n (suc (suc most))) = λ k d within. let size =
+    (chosen n (suc (suc most)) k d within).1 in omega (arith, size) in
     subst (All (λ (s : ℕ). 2 ≤ size_of n s)) (sym (drop-append-le n (sets n (suc most)) (choose n (suc (suc most))) (omega (arith, room))))
     (All-append (λ (s : ℕ). 2 ≤ size_of n s) (drop n (sets n (suc most))) (choose n (suc (suc most))) (two_at_least n most) last)
 
@@ -48,7 +49,8 @@ sets_apart n most = λ i j d less within same.
     let one = members_apart n most (suc (n + i)) (suc (n + j)) (omega (arith, i_in)) (omega (arith, j_in)) equal in
     omega (arith, one, less)
 
-module _ (script : Script) (most : ℕ) (whole : AreScript script.names (forms_of script.lines)) (accepted : refusal_of script most ≡ None) (small : primitive_count script < 128) (some : 0 < most) where
+module _ (script : Script) (most : ℕ) (whole : AreScript script.names (forms_of script.lines))
+    (accepted : refusal_of script most ≡ None) (small : primitive_count script < 128) (some : 0 < most) where
   numbered : AreNumbered script.names
   numbered =
       subst AreNumbered whole.order (numbered-with_names [] (flat_map (form_names script.names) (forms_of script.lines)) numbered-none)
@@ -68,7 +70,8 @@ module _ (script : Script) (most : ℕ) (whole : AreScript script.names (forms_o
       made_new (length prims) most less (codes "universal" ∷ prims) unmade [] (drop (length prims) (sets (length prims) most))
       (large_sets (length prims) most less some) (sets_apart (length prims) most) in
       new_more (codes "universal" ∷ []) prims (map (set_name (length prims)) (drop (length prims) (sets (length prims) most))) first
-      (subst (λ (l : List (List ℕ)). NewWords l (map (set_name (length prims)) (drop (length prims) (sets (length prims) most)))) (append-nil (codes "universal" ∷ prims)) later)
+      (subst (λ (l : List (List ℕ)). NewWords l
+      (map (set_name (length prims)) (drop (length prims) (sets (length prims) most)))) (append-nil (codes "universal" ∷ prims)) later)
 
   pub own_names : HaveOwnNames (codes "universal" ∷ exception_names (primitive_names script) most)
   own_names a b less below same =

@@ -48,7 +48,9 @@ module _ (n most : ℕ) where
       let lowered = lowered_is n (members_of n most a) is.low is.among in
       let had = lowered.1.had in
       let a_some : 0 < a = elim (cases_eq a 0) [
-        | inl zero_is ↦ absurd (both_ways (has_bit 0 lowered.0) (had_in_zero lowered.0) (subst (λ (x : ℕ). has_bit (members_of n most x) lowered.0 ≡ true) zero_is had))
+        | inl zero_is ↦ absurd
+            (both_ways (has_bit 0 lowered.0) (had_in_zero lowered.0)
+            (subst (λ (x : ℕ). has_bit (members_of n most x) lowered.0 ≡ true) zero_is had))
         | inr apart ↦ omega (arith, apart)
       ] in
       (a_some, below_some a b a_some (over_from n most (more (pair among) none)))
@@ -89,7 +91,8 @@ two_rows names first second (a ∷ b ∷ c ∷ rows) h = absurd h.1.1
 
 -- ---- the made script
 
-module _ (script : Script) (most : ℕ) (room : HasRoom (primitive_count script) most) (own_names : HaveOwnNames (codes "universal" ∷ exception_names (primitive_names script) most)) where
+module _ (script : Script) (most : ℕ) (room : HasRoom (primitive_count script) most)
+    (own_names : HaveOwnNames (codes "universal" ∷ exception_names (primitive_names script) most)) where
   abbrev n : ℕ
   n = primitive_count script
 
@@ -110,7 +113,8 @@ module _ (script : Script) (most : ℕ) (room : HasRoom (primitive_count script)
 
   there : list_all (is_among names) words ≡ true
   there =
-      (and_parts (is_among names (name_at script.names (graph_of script.lines))) (list_all (is_among names) words) (all_among-with_names [] (words_of script most))).1
+      (and_parts (is_among names (name_at script.names (graph_of script.lines))) (list_all (is_among names) words)
+      (all_among-with_names [] (words_of script most))).1
 
   apart : AreApart (universal ∷ own)
   apart = numbers_apart names (codes "universal") words there own_names
@@ -126,7 +130,8 @@ module _ (script : Script) (most : ℕ) (room : HasRoom (primitive_count script)
       let fits : length (universal ∷ own) ≤ 128 = omega (arith, few, size) in
       one_graph names first own (first ∷ own) (pairs_of n most)
       (fresh (universal ∷ []) own apart fits)
-      (placed first universal own (pairs_of n most) apart (subst (λ k. All (λ (p : ℕ × ℕ). IsInside k p.0 × IsInside k p.1) (pairs_of n most)) (sym count) (pairs_inside n most)))
+      (placed first universal own (pairs_of n most) apart
+      (subst (λ k. All (λ (p : ℕ × ℕ). IsInside k p.0 × IsInside k p.1) (pairs_of n most)) (sym count) (pairs_inside n most)))
       (subst (λ k. IsFaultless k (pairs_of n most)) (sym count) (record { acyclic = no_cycle n most; joined = all_joined n most }))
 
   graph_of_sets : (row : GraphRow) → IsRowOf names graph row → IsGraphOfSets script most row

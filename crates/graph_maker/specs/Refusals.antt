@@ -106,7 +106,8 @@ refused_if number later (Some c) = Some (record { line = number; cause = c })
 abbrev pub refused_from : Script → ℕ → ℕ → List Line → Option MadeError
 refused_from script most passed [] = None
 refused_from script most passed (line ∷ lines) =
-    refused_if line.number (refused_from script most (passed + length (exception_in line.form)) lines) (cause_of script most passed line.form)
+    refused_if line.number (refused_from script most (passed + length (exception_in line.form)) lines)
+    (cause_of script most passed line.form)
 
 -- ---- the refusal
 

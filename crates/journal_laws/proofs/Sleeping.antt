@@ -156,7 +156,8 @@ module _ (plan : Plan) (playable : IsPlayable plan) (past : List Entry) (legal :
   breaks_same p = λ i. refused_same p i || not (is_none (raise_same p i))
 
   inside_same : inside plan (e ∷ past) t ≡ inside plan past t
-  inside_same = ap (λ own. inside_after plan e.kind e.place own (inside plan past t)) other ∙ others_stay plan e.kind e.place (inside plan past t)
+  inside_same = ap (λ own. inside_after plan e.kind e.place own (inside plan past t)) other
+      ∙ others_stay plan e.kind e.place (inside plan past t)
 
   play_same : next_play plan (e ∷ past) t ≡ next_play plan past t
   play_same = λ i. first_not (λ p. had_same kind.Arrive p i) (plays_of plan t)
@@ -307,7 +308,8 @@ module _ (plan : Plan) (playable : IsPlayable plan) (past : List Entry) (legal :
     held_before kind.End x o was s w h = by_use (uses plan x.place o) h
       where
         by_use : (b : Bool) → same_option (cond b (parent plan x.place) was) (Some p) ≡ true → same_option was (Some p) ≡ true
-        by_use true h = absurd (both_ways _ (same_apart plan t (parent plan x.place) p (or_parts (is_none (parent plan x.place)) _ w).1 role) h)
+        by_use true h =
+            absurd (both_ways _ (same_apart plan t (parent plan x.place) p (or_parts (is_none (parent plan x.place)) _ w).1 role) h)
         by_use false h = h
     held_before _ x o was s w h = h
 

@@ -15,5 +15,6 @@ pub ruleset goes_on_telling = (put_tells, try_tells)
 
 -- a base by its parts
 pub base_same : (faults other : ℕ) (values values' drills drills' : Bool) → faults ≡ other → values ≡ values' → drills ≡ drills'
-    → ◌≡◌ {A = Base} (record { faults = faults; tells_values = values; tells_drills = drills }) (record { faults = other; tells_values = values'; tells_drills = drills' })
+    → ◌≡◌ {A = Base} (record { faults = faults; tells_values = values; tells_drills = drills })
+    (record { faults = other; tells_values = values'; tells_drills = drills' })
 base_same faults other values values' drills drills' e f g = (λ i. record { faults = e i; tells_values = f i; tells_drills = g i })

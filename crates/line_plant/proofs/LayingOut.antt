@@ -32,7 +32,8 @@ spaced_more names values name value same =
     ∙ sym (append_assoc (spaced (names_and_values names values)) (spaced (name ∷ [])) (spaced (signed_decimal value ∷ [])))
 
 -- the line as far as it was made, with one more object
-pub line_more : (front : List ℕ) (names : List (List ℕ)) (values : List ℤ) (i : ℕ) (name : List ℕ) (value : ℤ) → i < length names → i < length values
+pub line_more : (front : List ℕ) (names : List (List ℕ)) (values : List ℤ) (i : ℕ) (name : List ℕ) (value : ℤ)
+    → i < length names → i < length values
     → name ≡ get_or names i name → value ≡ get_or values i value
     → front ++ spaced (names_and_values (take i names) (take i values)) ++ spaced (name ∷ []) ++ spaced (signed_decimal value ∷ [])
     ≡ front ++ spaced (names_and_values (take (i + 1) names) (take (i + 1) values))

@@ -31,7 +31,8 @@ WasNotDone sources sinks before after text =
     AskCame sources sinks before after text answer.Failed ⊎ AskCame sources sinks before after text answer.Lost
 
 -- what a put comes to: it succeeds only where the line of that put was sent and answered `well`
-abbrev pub PutCame : {S K : Type 0} → SourceGhosts S → SinkGhosts K → LineDevice S K → LineDevice S K → ℕ → ℤ → {T E : Type 0} → Result T E → Type 0
+abbrev pub PutCame : {S K : Type 0} → SourceGhosts S → SinkGhosts K → LineDevice S K → LineDevice S K → ℕ → ℤ → {T E : Type 0}
+    → Result T E → Type 0
 PutCame sources sinks before after object value (Ok v) =
     WasDone sources sinks before.wire after.wire (put_line (name_at before.names object) value)
 PutCame sources sinks before after object value (Err e) =
@@ -44,7 +45,8 @@ pub record IsUnfit {S K : Type 0} (before after : LineDevice S K) (values : List
 
 -- what a laying out comes to: it succeeds only where the line of these values was sent and answered `well`; where no memory is found
 -- for the line, the device isn't asked
-abbrev pub LayCame : {S K : Type 0} → SourceGhosts S → SinkGhosts K → LineDevice S K → LineDevice S K → List ℤ → {T : Type 0} → Result T PlantError → Type 0
+abbrev pub LayCame : {S K : Type 0} → SourceGhosts S → SinkGhosts K → LineDevice S K → LineDevice S K → List ℤ → {T : Type 0}
+    → Result T PlantError → Type 0
 LayCame sources sinks before after values (Ok v) = WasDone sources sinks before.wire after.wire (lay_line before.names values)
 LayCame sources sinks before after values (Err refusal.Failed) =
     WasNotDone sources sinks before.wire after.wire (lay_line before.names values) ⊎ IsUnfit before after values

@@ -20,10 +20,12 @@ module _ (order : CoverOrder) (xs : List ℕ) where
       record {
         in_range = x_in;
         above = parts.0;
-        least = λ y y_in each. elim (or_cases (not (covers_each order y xs)) (covers order y x) (in_range_all (λ z. not (covers_each order z xs) || covers order z x) 0 order.count parts.1 y (omega arith) (omega arith))) [
-          | inl other ↦ absurd (both_ways (covers_each order y xs) (not-true _ other) each)
-          | inr over ↦ over
-        ];
+        least = λ y y_in each. elim
+            (or_cases (not (covers_each order y xs)) (covers order y x)
+            (in_range_all (λ z. not (covers_each order z xs) || covers order z x) 0 order.count parts.1 y (omega arith) (omega arith))) [
+              | inl other ↦ absurd (both_ways (covers_each order y xs) (not-true _ other) each)
+              | inr over ↦ over
+            ];
       }
 
   -- where there is a least cover, it is the number that is computed

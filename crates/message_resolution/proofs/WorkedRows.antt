@@ -65,5 +65,6 @@ abbrev three : List Event
 three =
     event.Deliver 2 1 ∷ event.Deliver 0 2 ∷ event.Deliver 0 1 ∷ event.Deliver 2 0 ∷ event.Raise 2 4 ∷ event.Raise 1 3 ∷ event.Raise 0 2 ∷ []
 
-pub three_send : (course_of tree 3 three).messages ≡ message.Raised 0 2 ∷ message.Raised 1 3 ∷ message.Raised 2 4 ∷ message.Resolved 2 0 ∷ []
+pub three_send : (course_of tree 3 three).messages ≡ message.Raised 0 2 ∷ message.Raised 1 3 ∷ message.Raised 2 4
+    ∷ message.Resolved 2 0 ∷ []
 three_send = refl

@@ -24,7 +24,8 @@ each_comes s n t l =
     ]
 
 -- where each participant that is asked in a round is silent, none has an entry
-pub round_silent : (plan : Plan) (past : List Entry) (first : ℕ) → ((i : ℕ) → i < length plan.participants → HasNoEntry plan past (participant_asked plan first i)) → HasEntry plan past → ⊥
+pub round_silent : (plan : Plan) (past : List Entry) (first : ℕ)
+    → ((i : ℕ) → i < length plan.participants → HasNoEntry plan past (participant_asked plan first i)) → HasEntry plan past → ⊥
 round_silent plan past first h has =
     let i = each_comes first (length plan.participants) has.entry.by has.known in
     h i.0 i.1 has.entry (sym i.2) has.may

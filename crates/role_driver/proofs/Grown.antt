@@ -10,10 +10,14 @@ pub none_yet : (begins : ℕ → ℕ) (plan : Plan) (old : List Entry) → (none
 none_yet begins plan old = (record { added = []; kept = sym (append-nil old); turns = tt }, refl)
 
 -- after one more turn, there is one entry more
-pub one_more : (begins : ℕ → ℕ) (plan : Plan) (old mid new : List Entry) (grown : GrewBy begins plan old mid) (first : ℕ) → first ≡ begins (suc (length grown.added)) → TakesTurn plan mid new first → (more : GrewBy begins plan old new) × (length more.added ≡ suc (length grown.added))
+pub one_more : (begins : ℕ → ℕ) (plan : Plan) (old mid new : List Entry) (grown : GrewBy begins plan old mid) (first : ℕ)
+    → first ≡ begins (suc (length grown.added)) → TakesTurn plan mid new first → (more : GrewBy begins plan old new)
+    × (length more.added ≡ suc (length grown.added))
 one_more begins plan old mid new s first e t =
-    let past : reverse mid ≡ s.added ++ reverse old = ap reverse s.kept ∙ reverse-append old (reverse s.added) ∙ ap (λ es. es ++ reverse old) (reverse-reverse s.added) in
-    let grown : new ≡ old ++ reverse (t.entry ∷ s.added) = t.added ∙ ap (λ es. es ++ t.entry ∷ []) s.kept ∙ append_assoc old (reverse s.added) (t.entry ∷ []) ∙ ap (λ es. old ++ es) (sym (reverse-append (t.entry ∷ []) s.added)) in (
+    let past : reverse mid ≡ s.added ++ reverse old = ap reverse s.kept ∙ reverse-append old (reverse s.added)
+    ∙ ap (λ es. es ++ reverse old) (reverse-reverse s.added) in
+    let grown : new ≡ old ++ reverse (t.entry ∷ s.added) = t.added ∙ ap (λ es. es ++ t.entry ∷ []) s.kept
+    ∙ append_assoc old (reverse s.added) (t.entry ∷ []) ∙ ap (λ es. old ++ es) (sym (reverse-append (t.entry ∷ []) s.added)) in (
       record {
         added = t.entry ∷ s.added;
         kept = grown;

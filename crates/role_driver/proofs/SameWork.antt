@@ -45,17 +45,21 @@ module _ (plan : Plan) (past : List Entry) (t : ℕ) where
         inside = inside_other e e.kind far (inside plan later t) ∙ h.inside;
         handled = λ p. ap (λ b. cond b (Some e.arg) (exception_handled later p t)) (not_by kind.Handle p) ∙ h.handled p;
         position = λ p.
-            ap (λ b. cond b 0 (cond (advances plan later p e e.kind && (e.by == t)) (suc (position plan later p t)) (position plan later p t))) (not_by kind.Handle p)
-            ∙ ap (λ b. cond b (suc (position plan later p t)) (position plan later p t)) (no_own (advances plan later p e e.kind) (e.by == t) far)
+            ap (λ b. cond b 0 (cond (advances plan later p e e.kind && (e.by == t)) (suc (position plan later p t))
+            (position plan later p t))) (not_by kind.Handle p)
+            ∙ ap (λ b. cond b (suc (position plan later p t)) (position plan later p t))
+            (no_own (advances plan later p e e.kind) (e.by == t) far)
             ∙ h.position p;
         register = λ p.
-            ap (λ b. cond b (pos 0) (cond (gives_value e.kind && ((e.place == p) && (e.by == t))) e.value (register plan later p t))) (not_by kind.Handle p)
+            ap (λ b. cond b (pos 0)
+            (cond (gives_value e.kind && ((e.place == p) && (e.by == t))) e.value (register plan later p t))) (not_by kind.Handle p)
             ∙ ap (λ b. cond b e.value (register plan later p t)) (no_own (gives_value e.kind) _ (no_own (e.place == p) (e.by == t) far))
             ∙ h.register p;
       }
 
   -- nor do any number of them
-  grown : (later more : List Entry) → filter (λ (e : Entry). e.by == t) more ≡ [] → IsAsFar plan past later t → IsAsFar plan past (reverse more ++ later) t
+  grown : (later more : List Entry) → filter (λ (e : Entry). e.by == t) more ≡ [] → IsAsFar plan past later t
+      → IsAsFar plan past (reverse more ++ later) t
   grown later [] none h = h
   grown later (e ∷ more) none h = by (e.by == t) refl none (λ own gone. grown (e ∷ later) more gone (one_other e later own h))
     where
@@ -77,7 +81,8 @@ as_far : (plan : Plan) (old before : Journal) (t : ℕ) → GrowsWithout old bef
 as_far plan old before t h =
     let more = h.begins.0 in
     let none = none_added t old more (ap (entries_by t) h.begins.1 ∙ h.alone) in
-    let here : IsAsFar plan (reverse old) (reverse old) t = record { inside = refl; handled = λ p. refl; position = λ p. refl; register = λ p. refl } in
+    let here : IsAsFar plan (reverse old) (reverse old) t =
+    record { inside = refl; handled = λ p. refl; position = λ p. refl; register = λ p. refl } in
     subst (λ xs. IsAsFar plan (reverse old) xs t) (sym (reverse-append old more) ∙ ap reverse h.begins.1)
     (grown plan (reverse old) t (reverse old) more none here)
 
@@ -88,7 +93,8 @@ work_is : (m n : ℕ) → ◌≡◌ {A = Option Step} (Some (step.Work m)) (Some
 work_is m n e = cc
 
 -- where t was asked for work in p, a work entry of its is made in p
-pub work_place : (plan : Plan) (old before : Journal) (t p k : ℕ) (from : ℤ) (e : Entry) → MayFollow plan (reverse old) (work_entry p t k from)
+pub work_place : (plan : Plan) (old before : Journal) (t p k : ℕ) (from : ℤ) (e : Entry)
+    → MayFollow plan (reverse old) (work_entry p t k from)
     → GrowsWithout old before t → MayFollow plan (reverse before) e → e.kind ≡ kind.Work → e.by ≡ t → e.place ≡ p
 work_place plan old before t p k from e may h follows is own =
     let w : MayWork plan (reverse before) e = subst (λ (k : Kind). Row k plan (reverse before) e) is follows in
@@ -100,7 +106,8 @@ pub work_stays : (plan : Plan) (start mid before new : Journal) (t p k q j : ℕ
     → Answers plan before new t (Some work) (answer.Work q j begin) → work.rounds ≡ k → work.from ≡ from → ⊥
 work_stays plan start mid before new t p k q j from begin work first h second rounds starts =
     let far = as_far plan mid before t h in
-    let a : MayWork plan (reverse mid) (work_entry p t k from) = subst (λ xs. MayFollow plan (reverse xs) (work_entry p t k from)) (sym first.kept) first.may in
+    let a : MayWork plan (reverse mid) (work_entry p t k from) =
+    subst (λ xs. MayFollow plan (reverse xs) (work_entry p t k from)) (sym first.kept) first.may in
     let b : MayWork plan (reverse before) (work_entry q t j begin) = second.may in
     let place : q ≡ p = some_is q p (sym b.here ∙ far.inside ∙ a.here) in
     let steps : next_step plan (reverse before) q t ≡ next_step plan (reverse mid) p t =

@@ -36,7 +36,8 @@ pub goes_one : (P : Entry → Type 0) (old new : List Entry) (e : Entry) → new
 goes_one P old new e added h = record { more = e ∷ []; goes_on = sym added; each = (h, tt) }
 
 -- what an answer adds, if anything
-answered : (P : Entry → Type 0) (plan : Plan) (old new : Journal) (t : ℕ) (hint : Option Worked) (a : Answer) → Answers plan old new t hint a
+answered : (P : Entry → Type 0) (plan : Plan) (old new : Journal) (t : ℕ) (hint : Option Worked) (a : Answer)
+    → Answers plan old new t hint a
     → ((e : Entry) → Did plan old new t hint e → P e) → GoesOnWith P old new
 answered P plan old new t hint (answer.Did e) h each = goes_one P old new e h.added (each e h)
 answered P plan old new t hint (answer.Work p rounds from) h each = goes_nowhere P old new h.kept
@@ -54,7 +55,8 @@ module _ (was_told : ℕ → ℕ → Type 0) where
   others_each t (e ∷ more) none = by (e.by == t) refl none (others_each t more)
     where
       by : (b : Bool) → (e.by == t) ≡ b → cond b (e ∷ filter (λ (e : Entry). e.by == t) more) (filter (λ (e : Entry). e.by == t) more) ≡ []
-          → (filter (λ (e : Entry). e.by == t) more ≡ [] → AllByRecursion (IsToldOf was_told t) more) → AllByRecursion (IsToldOf was_told t) (e ∷ more)
+          → (filter (λ (e : Entry). e.by == t) more ≡ [] → AllByRecursion (IsToldOf was_told t) more)
+          → AllByRecursion (IsToldOf was_told t) (e ∷ more)
       by true own gone rest = absurd cc
       by false own gone rest = (λ mine. absurd (false≢true (sym own ∙ eq-eqb e.by t mine)), rest gone)
 

@@ -24,7 +24,8 @@ watches_below draft h =
     (and_parts (list_all (drill_in_range draft) draft.drills) _ c.1).1
 
 watches_known : (plan : Plan) → IsClosed plan → all_below (length plan.objects) plan.watches ≡ true
-watches_known plan closed = subst (λ (p : Plan). all_below (length p.objects) p.watches ≡ true) (sym closed.same) (watches_below closed.draft (keeps_rules closed.draft closed.whole).0.ranges)
+watches_known plan closed = subst (λ (p : Plan). all_below (length p.objects) p.watches ≡ true) (sym closed.same)
+    (watches_below closed.draft (keeps_rules closed.draft closed.whole).0.ranges)
 
 objects_low : (n : ℕ) (bs : List Blank) → all_below n (map (λ b. b.object) bs) ≡ true → All (λ b. b.object < n) bs
 objects_low n [] h = All-nil (λ (b : Blank). b.object < n)
@@ -32,14 +33,19 @@ objects_low n (b ∷ bs) h =
     let parts = and_parts (nat_lt b.object n) _ h in
     All-cons (λ (b : Blank). b.object < n) b bs (ltb-true b.object n parts.0) (objects_low n bs parts.1)
 
-pub blanks_known : (plan : Plan) → IsClosed plan → (n : ℕ) → n ≡ length plan.objects → (bs : List Blank) → map (λ b. b.object) bs ≡ plan.watches → All (λ b. b.object < n) bs
-blanks_known plan closed n same bs is = objects_low n bs (subst (λ m. all_below m (map (λ b. b.object) bs) ≡ true) (sym same) (subst (λ os. all_below (length plan.objects) os ≡ true) (sym is) (watches_known plan closed)))
+pub blanks_known : (plan : Plan) → IsClosed plan → (n : ℕ) → n ≡ length plan.objects → (bs : List Blank)
+    → map (λ b. b.object) bs ≡ plan.watches → All (λ b. b.object < n) bs
+blanks_known plan closed n same bs is =
+    objects_low n bs
+    (subst (λ m. all_below m (map (λ b. b.object) bs) ≡ true) (sym same)
+    (subst (λ os. all_below (length plan.objects) os ≡ true) (sym is) (watches_known plan closed)))
 
 -- lists that are mapped to one are of one length
 pub same_length : {X Y Z : Type 0} (f : X → Z) (g : Y → Z) (xs : List X) (ys : List Y) → map f xs ≡ map g ys → length xs ≡ length ys
 same_length f g xs ys same = sym (length-map xs f) ∙ ap length same ∙ length-map ys g
 
-tasks_one_by_one : (w : Committed) (seer : Watching) → w.initials ≡ seer.initials → w.publications.book ≡ seer.known.book → (bs : List Blank) → map (λ b. task_with seer b.object) bs ≡ map (task_by w) (map (λ b. b.object) bs)
+tasks_one_by_one : (w : Committed) (seer : Watching) → w.initials ≡ seer.initials → w.publications.book ≡ seer.known.book
+    → (bs : List Blank) → map (λ b. task_with seer b.object) bs ≡ map (task_by w) (map (λ b. b.object) bs)
 tasks_one_by_one w seer e f [] = refl
 tasks_one_by_one w seer e f (b ∷ bs) =
     let one : task_with seer b.object ≡ task_by w b.object = λ i. record { object = b.object; initials = sym e i; book = sym f i } in
@@ -47,5 +53,6 @@ tasks_one_by_one w seer e f (b ∷ bs) =
     λ i. one i ∷ rest i
 
 -- what observers of a writer's list are to watch
-pub tasks_are : (w : Committed) (seer : Watching) → w.initials ≡ seer.initials → w.publications.book ≡ seer.known.book → (bs : List Blank) (os : List ℕ) → map (λ b. b.object) bs ≡ os → map (λ b. task_with seer b.object) bs ≡ map (task_by w) os
+pub tasks_are : (w : Committed) (seer : Watching) → w.initials ≡ seer.initials → w.publications.book ≡ seer.known.book
+    → (bs : List Blank) (os : List ℕ) → map (λ b. b.object) bs ≡ os → map (λ b. task_with seer b.object) bs ≡ map (task_by w) os
 tasks_are w seer e f bs os is = tasks_one_by_one w seer e f bs ∙ ap (map (task_by w)) is

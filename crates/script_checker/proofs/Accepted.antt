@@ -104,7 +104,8 @@ pub record IsKept (names : List (List ℕ)) (Holds : Declared → Block → Type
   pub in_action : (d : Declared) (a : OpenAction) (f : Form) → is_sound names f ≡ true → NoneInAction d a f
       → (goes_on f ≡ false → a.program ≡ None) → Holds d (block.Action a) → Holds d (block.Action (action_with names d a f))
   pub closes : (d : Declared) (a : OpenAction) → Holds d (block.Action a) → Holds d (block.Action (closed a verdict.Done))
-  pub ends : (d : Declared) (b : Block) → HasNone (record { declared = d; block = b }) form.End → Holds d b → Holds (ended names d b) block.Top
+  pub ends : (d : Declared) (b : Block) → HasNone (record { declared = d; block = b }) form.End → Holds d b
+      → Holds (ended names d b) block.Top
 
 module _ (names : List (List ℕ)) (Holds : Declared → Block → Type 0) (kept : IsKept names Holds) where
   abbrev HoldsOf : SoFar → Type 0
@@ -115,7 +116,8 @@ module _ (names : List (List ℕ)) (Holds : Declared → Block → Type 0) (kept
   IsShut (block.Action a) f = goes_on f ≡ false → a.program ≡ None
   IsShut b f = Unit {0}
 
-  says : (d : Declared) (b : Block) (f : Form) → is_sound names f ≡ true → HasNone (record { declared = d; block = b }) f → IsShut b f → Holds d b → HoldsOf (said_in names d b f)
+  says : (d : Declared) (b : Block) (f : Form) → is_sound names f ≡ true → HasNone (record { declared = d; block = b }) f
+      → IsShut b f → Holds d b → HoldsOf (said_in names d b f)
   says d b form.End sound none shut h = kept.ends d b none h
   says d block.Top f sound none shut h = kept.at_top d f sound none h
   says d (block.Graph g) f sound none shut h = kept.in_graph d g f sound none h
@@ -141,5 +143,6 @@ module _ (names : List (List ℕ)) (Holds : Declared → Block → Type 0) (kept
   holds_after s (line ∷ lines) sound accepted h =
       let p = and_parts (is_sound names line.form) (list_all (is_sound names) (forms_of lines)) sound in
       holds_after (after names s line.form) lines p.1 accepted.1
-      (says s.declared (settled_block (goes_on line.form) s.block) line.form p.0 accepted.0 (shuts s.block line.form (goes_on line.form) refl)
+      (says s.declared (settled_block (goes_on line.form) s.block) line.form p.0 accepted.0
+      (shuts s.block line.form (goes_on line.form) refl)
       (settles s.declared s.block (goes_on line.form) h))

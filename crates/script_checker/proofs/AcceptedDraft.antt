@@ -40,7 +40,9 @@ use Rattle.script_checker.proofs.RangesKept.{action_right, is_valued, drill_belo
 use Rattle.script_checker.proofs.MapsKept.{use_mapped, AreMapped, maps_kept, mapped_at_first}
 use Rattle.caa_base.specs.Written.Limits.{most_participants, most_objects, most_actions, most_watches, most_drills, most_graphs, most_places, most_entries}
 
-module _ (names : List (List ℕ)) (lines : List Line) (sound : list_all (is_sound names) (forms_of lines) ≡ true) (accepted : AreAccepted names (nothing_yet names) lines) (draft : Draft) (drafted : IsDraftOf names (declared_after names (nothing_yet names) lines).declared draft) where
+module _ (names : List (List ℕ)) (lines : List Line) (sound : list_all (is_sound names) (forms_of lines) ≡ true)
+    (accepted : AreAccepted names (nothing_yet names) lines) (draft : Draft)
+    (drafted : IsDraftOf names (declared_after names (nothing_yet names) lines).declared draft) where
   abbrev last : Declared
   last = (declared_after names (nothing_yet names) lines).declared
 
@@ -69,7 +71,14 @@ module _ (names : List (List ℕ)) (lines : List Line) (sound : list_all (is_sou
       let actions : length draft.actions ≤ most_actions = rw drafted.actions (omega (arith, counts.actions.0, counts.actions.1)) in
       let watches : length draft.watches ≤ most_watches = rw drafted.watches counts.watches in
       let drills : length draft.drills ≤ most_drills = rw drafted.drills counts.drills in
-      rw (le-leb _ _ participants, le-leb _ _ objects, le-leb _ _ graphs, le-leb _ _ actions, le-leb _ _ watches, le-leb _ _ drills) (rw drafted.actions fits.0)
+      rw (
+        le-leb _ _ participants,
+        le-leb _ _ objects,
+        le-leb _ _ graphs,
+        le-leb _ _ actions,
+        le-leb _ _ watches,
+        le-leb _ _ drills,
+      ) (rw drafted.actions fits.0)
 
   -- the plain graph stands first, and each graph has its names
   pub keeps_graphs : graph_rule draft ≡ true
@@ -97,9 +106,11 @@ module _ (names : List (List ℕ)) (lines : List Line) (sound : list_all (is_sou
       (λ nest m.
       let p = and_parts (all_below (length draft.actions) nest.actions) _ m in
       let q = and_parts (all_differ nest.roles) _ p.1 in
-      all_imply (λ a. length nest.roles == length (slice_index_or draft.actions a no_action).roles) (λ a. fills draft a nest.roles) nest.actions (λ a e. and_from _ _ e q.0) q.1)
+      all_imply (λ a. length nest.roles == length (slice_index_or draft.actions a no_action).roles)
+      (λ a. fills draft a nest.roles) nest.actions (λ a e. and_from _ _ e q.0) q.1)
       k)
-      (subst (λ (actions : List ActionRow). list_all (λ (action : ActionRow). list_all (uses_filled actions last.graphs) action.nests) actions ≡ true) (sym drafted.actions) h.0)
+      (subst (λ (actions : List ActionRow). list_all
+      (λ (action : ActionRow). list_all (uses_filled actions last.graphs) action.nests) actions ≡ true) (sym drafted.actions) h.0)
 
   plays_right : list_all (play_right (length draft.participants) draft.actions) draft.plays ≡ true
   plays_right =
@@ -115,8 +126,10 @@ module _ (names : List (List ℕ)) (lines : List Line) (sound : list_all (is_sou
       let h = kept (Pass uses_faced faced_test) (pass_kept uses_faced faced_test names) (refl, tt) in
       all_imply (λ (action : ActionRow). list_all (uses_faced draft.actions last.graphs) action.nests)
       (λ (action : ActionRow). list_all (has_one_face draft) action.nests) draft.actions
-      (λ action k. all_imply (uses_faced draft.actions last.graphs) (has_one_face draft) action.nests (λ nest m. (and_parts (all_below (length draft.actions) nest.actions) _ m).1) k)
-      (subst (λ (actions : List ActionRow). list_all (λ (action : ActionRow). list_all (uses_faced actions last.graphs) action.nests) actions ≡ true) (sym drafted.actions) h.0)
+      (λ action k. all_imply (uses_faced draft.actions last.graphs) (has_one_face draft) action.nests
+      (λ nest m. (and_parts (all_below (length draft.actions) nest.actions) _ m).1) k)
+      (subst (λ (actions : List ActionRow). list_all
+      (λ (action : ActionRow). list_all (uses_faced actions last.graphs) action.nests) actions ≡ true) (sym drafted.actions) h.0)
 
   -- an action owns all objects that it touches
   pub keeps_objects : object_rule draft ≡ true
@@ -125,7 +138,8 @@ module _ (names : List (List ℕ)) (lines : List Line) (sound : list_all (is_sou
       all_imply (held_in draft.actions) (holds_action draft) draft.actions
       (λ action k.
       let p = and_parts (list_all (holds_role action.objects) action.roles) _ k in
-      and_from _ _ p.0 (all_imply (uses_held draft.actions action.objects) (holds_nest draft action.objects) action.nests (λ nest m. (and_parts (all_below (length draft.actions) nest.actions) _ m).1) p.1))
+      and_from _ _ p.0 (all_imply (uses_held draft.actions action.objects) (holds_nest draft action.objects) action.nests
+      (λ nest m. (and_parts (all_below (length draft.actions) nest.actions) _ m).1) p.1))
       (subst (λ (actions : List ActionRow). list_all (held_in actions) actions ≡ true) (sym drafted.actions) h.0)
 
   -- no action is too deep
@@ -193,9 +207,11 @@ module _ (names : List (List ℕ)) (lines : List Line) (sound : list_all (is_sou
       let many_actions : length last.actions ≤ length draft.actions = rw drafted.actions (omega arith) in
       let many_graphs : length last.graphs ≤ length draft.graphs = omega (arith, rows_many names last.graphs draft.graphs drafted.graphs) in
       subst
-      (λ (actions : List ActionRow). list_all (action_right (length draft.objects) (length draft.actions) (length draft.graphs) (exceptions_of draft)) actions ≡ true)
+      (λ (actions : List ActionRow). list_all
+      (action_right (length draft.objects) (length draft.actions) (length draft.graphs) (exceptions_of draft)) actions ≡ true)
       (sym drafted.actions)
-      (mapped.ranges.ended_right (length draft.objects) (length draft.actions) (length draft.graphs) (exceptions_of draft) many_objects many_actions many_graphs (λ g. omega (arith, exceptions g)))
+      (mapped.ranges.ended_right (length draft.objects) (length draft.actions) (length draft.graphs) (exceptions_of draft)
+      many_objects many_actions many_graphs (λ g. omega (arith, exceptions g)))
 
   -- all numbers are in range
   pub keeps_ranges : range_rule draft ≡ true
@@ -217,8 +233,10 @@ module _ (names : List (List ℕ)) (lines : List Line) (sound : list_all (is_sou
       let h = mapped.maps (exceptions_of draft) face (record { counts = λ g l. exceptions g; faces = λ a l. rw drafted.actions refl }) in
       all_imply (λ (action : ActionRow). list_all (use_mapped (exceptions_of draft) face) action.nests)
       (λ (action : ActionRow). list_all (maps_all draft) action.nests) draft.actions
-      (λ action k. all_imply (use_mapped (exceptions_of draft) face) (maps_all draft) action.nests (λ nest m. (and_parts (not (is_empty nest.actions)) _ m).1) k)
-      (subst (λ (actions : List ActionRow). list_all (λ (action : ActionRow). list_all (use_mapped (exceptions_of draft) face) action.nests) actions ≡ true) (sym drafted.actions) h.0)
+      (λ action k. all_imply (use_mapped (exceptions_of draft) face) (maps_all draft) action.nests
+      (λ nest m. (and_parts (not (is_empty nest.actions)) _ m).1) k)
+      (subst (λ (actions : List ActionRow). list_all
+      (λ (action : ActionRow). list_all (use_mapped (exceptions_of draft) face) action.nests) actions ≡ true) (sym drafted.actions) h.0)
 
   pub keeps_handlers : handler_rule draft ≡ true
   keeps_handlers =
@@ -243,4 +261,16 @@ module _ (names : List (List ℕ)) (lines : List Line) (sound : list_all (is_sou
   pub breaks_none : broken_rule draft ≡ None
   breaks_none =
       let parts = keeps_parts in
-      rw (parts.sizes, parts.graphs, parts.ranges, parts.order, parts.fillings, parts.enters, parts.objects, parts.depths, parts.handlers, keeps_bound parts, keeps_faces) refl
+      rw (
+        parts.sizes,
+        parts.graphs,
+        parts.ranges,
+        parts.order,
+        parts.fillings,
+        parts.enters,
+        parts.objects,
+        parts.depths,
+        parts.handlers,
+        keeps_bound parts,
+        keeps_faces,
+      ) refl

@@ -102,18 +102,22 @@ module _ (s : SoFar) (f : Form) where
       chain (in_action (λ a. too_deep_in_action s.declared f) s.block) cause.TooDeep c _ p (λ h. h)
       (λ d e. let p1 = passes_deep d p in chain (is_past_limit s.declared s.block f) cause.Limit c _ p1 (λ h. h)
       (λ l e. let p2 = passes_limit l p1 in chain (is_past_bound s.declared s.block f) cause.JournalBound c _ p2 (λ h. h)
-      (λ b e. let p3 = passes_bound b p2 in chain (in_action (λ a. other_face_in_action s.declared a f) s.block) cause.AlternateFace c None p3 (λ h. h) (λ o e. nothing c e) e) e) e)
+      (λ b e. let p3 = passes_bound b p2 in chain (in_action (λ a. other_face_in_action s.declared a f) s.block)
+      cause.AlternateFace c None p3 (λ h. h) (λ o e. nothing c e) e) e) e)
       e
 
   none_size : HasNoneBelow s f 18 → size_cause s.declared s.block f ≡ None → HasNone s f
   none_size p e =
       let d =
       none_here (in_action (λ a. too_deep_in_action s.declared f) s.block) cause.TooDeep
-      (cause_if (is_past_limit s.declared s.block f) cause.Limit (cause_if (is_past_bound s.declared s.block f) cause.JournalBound (cause_if (in_action (λ a. other_face_in_action s.declared a f) s.block) cause.AlternateFace None)))
+      (cause_if (is_past_limit s.declared s.block f) cause.Limit
+      (cause_if (is_past_bound s.declared s.block f) cause.JournalBound
+      (cause_if (in_action (λ a. other_face_in_action s.declared a f) s.block) cause.AlternateFace None)))
       e in
       let l =
       none_here (is_past_limit s.declared s.block f) cause.Limit
-      (cause_if (is_past_bound s.declared s.block f) cause.JournalBound (cause_if (in_action (λ a. other_face_in_action s.declared a f) s.block) cause.AlternateFace None))
+      (cause_if (is_past_bound s.declared s.block f) cause.JournalBound
+      (cause_if (in_action (λ a. other_face_in_action s.declared a f) s.block) cause.AlternateFace None))
       d.1 in
       let b =
       none_here (is_past_bound s.declared s.block f) cause.JournalBound
@@ -126,7 +130,8 @@ module _ (s : SoFar) (f : Form) where
       chain (is_unfilled s.declared s.block f) cause.RoleUnfilled c _ p (λ h. h)
       (λ u e. let p1 = passes_unfilled u p in chain (fills_twice s.block f) cause.RoleTwice c _ p1 (λ h. h)
       (λ t e. let p2 = passes_filled t p1 in chain (in_action (λ a. enters_otherwise_in_action a f) s.block) cause.NestOrder c _ p2 (λ h. h)
-      (λ n e. let p3 = passes_order n p2 in chain (in_action (λ a. not_held_in_action s.declared a f) s.block) cause.ObjectNotHeld c (size_cause s.declared s.block f) p3 (λ h. h)
+      (λ n e. let p3 = passes_order n p2 in chain (in_action (λ a. not_held_in_action s.declared a f) s.block)
+      cause.ObjectNotHeld c (size_cause s.declared s.block f) p3 (λ h. h)
       (λ o e. least_size c (passes_held o p3) e) e) e) e)
       e
 
@@ -134,11 +139,14 @@ module _ (s : SoFar) (f : Form) where
   none_part p e =
       let u =
       none_here (is_unfilled s.declared s.block f) cause.RoleUnfilled
-      (cause_if (fills_twice s.block f) cause.RoleTwice (cause_if (in_action (λ a. enters_otherwise_in_action a f) s.block) cause.NestOrder (cause_if (in_action (λ a. not_held_in_action s.declared a f) s.block) cause.ObjectNotHeld (size_cause s.declared s.block f))))
+      (cause_if (fills_twice s.block f) cause.RoleTwice
+      (cause_if (in_action (λ a. enters_otherwise_in_action a f) s.block) cause.NestOrder
+      (cause_if (in_action (λ a. not_held_in_action s.declared a f) s.block) cause.ObjectNotHeld (size_cause s.declared s.block f))))
       e in
       let t =
       none_here (fills_twice s.block f) cause.RoleTwice
-      (cause_if (in_action (λ a. enters_otherwise_in_action a f) s.block) cause.NestOrder (cause_if (in_action (λ a. not_held_in_action s.declared a f) s.block) cause.ObjectNotHeld (size_cause s.declared s.block f)))
+      (cause_if (in_action (λ a. enters_otherwise_in_action a f) s.block) cause.NestOrder
+      (cause_if (in_action (λ a. not_held_in_action s.declared a f) s.block) cause.ObjectNotHeld (size_cause s.declared s.block f)))
       u.1 in
       let n =
       none_here (in_action (λ a. enters_otherwise_in_action a f) s.block) cause.NestOrder

@@ -111,11 +111,25 @@ ends_few names d block.Top h = h
 ends_few names d (block.Graph g) h =
     let n : length (d.graphs ++ g ∷ []) ≡ length d.graphs + 1 = length-append d.graphs _ in
     let graphs : FewGraphs (ended names d (block.Graph g)) 0 = (omega (arith, h.graphs.0), h.graphs.1) in
-    record { participants = h.participants; objects = h.objects; drills = h.drills; watches = h.watches; graphs = graphs; actions = h.actions }
+    record {
+      participants = h.participants;
+      objects = h.objects;
+      drills = h.drills;
+      watches = h.watches;
+      graphs = graphs;
+      actions = h.actions;
+    }
 ends_few names d (block.Action a) h =
     let n : length (d.actions ++ row_of names a ∷ []) ≡ length d.actions + 1 = length-append d.actions _ in
     let actions : FewActions (ended names d (block.Action a)) 0 = (omega (arith, h.actions.0), h.actions.1) in
-    record { participants = h.participants; objects = h.objects; drills = h.drills; watches = h.watches; graphs = h.graphs; actions = actions }
+    record {
+      participants = h.participants;
+      objects = h.objects;
+      drills = h.drills;
+      watches = h.watches;
+      graphs = h.graphs;
+      actions = actions;
+    }
 
 pub counts_kept : (names : List (List ℕ)) → IsKept names AreCountsFew
 counts_kept names = record {
@@ -137,4 +151,11 @@ counts_kept names = record {
 
 pub few_at_first : (universal : ℕ) → AreFew (nothing_declared universal) 0 0
 few_at_first universal =
-    record { participants = (refl, omega arith); objects = (refl, omega arith); drills = omega arith; watches = omega arith; graphs = (omega arith, omega arith); actions = (omega arith, omega arith) }
+    record {
+      participants = (refl, omega arith);
+      objects = (refl, omega arith);
+      drills = omega arith;
+      watches = omega arith;
+      graphs = (omega arith, omega arith);
+      actions = (omega arith, omega arith);
+    }

@@ -101,7 +101,8 @@ pub nests_there : (actions : List ActionRow) (depths : List ℕ) (a : ℕ) → l
     → list_all (λ (action : ActionRow). list_all (λ (nest : NestRow). all_below (length actions) nest.actions) action.nests) actions ≡ true
     → list_all (λ (nest : NestRow). all_below (length depths) nest.actions) (slice_index_or actions a no_action).nests ≡ true
 nests_there actions depths a e l h =
-    rw e (at_row (λ (action : ActionRow). list_all (λ (nest : NestRow). all_below (length actions) nest.actions) action.nests) actions a no_action h l)
+    rw e (at_row (λ (action : ActionRow). list_all (λ (nest : NestRow). all_below (length actions) nest.actions) action.nests)
+    actions a no_action h l)
 
 one_more : (depths : List ℕ) (actions : List ActionRow) (action : ActionRow) → DepthsTell depths actions
     → list_all (is_shallow depths) action.nests ≡ true
@@ -115,8 +116,16 @@ one_more depths actions action h flat here there =
     below_more (IsDepth (depths ++ v ∷ []) (actions ++ action ∷ [])) (length actions)
     (λ k l.
     let within : k < length depths = omega (arith, h.many) in
-    rw (same_action actions action k l, at_longer depths v k within, deepest_longer depths v (slice_index_or actions k no_action).nests (nests_there actions depths k h.many l there)) (h.tell k l))
-    (rw (action_last actions action (length actions) refl, at_last depths v (length actions) h.many, deepest_longer depths v action.nests (rw h.many here)) (omega arith, omega arith))
+    rw (
+      same_action actions action k l,
+      at_longer depths v k within,
+      deepest_longer depths v (slice_index_or actions k no_action).nests (nests_there actions depths k h.many l there),
+    ) (h.tell k l))
+    (rw (
+      action_last actions action (length actions) refl,
+      at_last depths v (length actions) h.many,
+      deepest_longer depths v action.nests (rw h.many here),
+    ) (omega arith, omega arith))
 
 -- what the action that is being declared nests is shallow
 abbrev ShallowIn : Declared → Block → Type 0
@@ -161,7 +170,8 @@ module _ (names : List (List ℕ)) (d : Declared) where
   says_shallow a (form.MapFailure nest x) none h = nest_changes a nest _ h (λ k. k)
   says_shallow a (form.Alternate nest action) none h =
       nest_changes a nest _ h
-      (λ k. all_push (λ n. nat_lt (at d.depths n) most_depth) (nest_of a nest).row.actions (index_of action d.action_names) k (below_most _ (shallow d a (form.Alternate nest action) none)))
+      (λ k. all_push (λ n. nat_lt (at d.depths n) most_depth) (nest_of a nest).row.actions (index_of action d.action_names)
+      k (below_most _ (shallow d a (form.Alternate nest action) none)))
   says_shallow a form.DoneLine none h = closed_shallow d a _ a.program h
   says_shallow a (form.SignalLine x) none h = closed_shallow d a _ a.program h
   says_shallow a form.UndoLine none h = closed_shallow d a _ a.program h
@@ -176,7 +186,8 @@ module _ (names : List (List ℕ)) (d : Declared) where
       record {
         many = omega (arith, h.depths.many);
         tell =
-            λ k l. one_more d.depths d.actions row h.depths (all_rows (is_shallow d.depths) a.nests h.shallow_in) (all_rows (uses_there d.actions d.graphs) a.nests h.there.1) h.there.0 k (omega arith);
+            λ k l. one_more d.depths d.actions row h.depths (all_rows (is_shallow d.depths) a.nests h.shallow_in)
+            (all_rows (uses_there d.actions d.graphs) a.nests h.there.1) h.there.0 k (omega arith);
       }
   ends_told block.Top h = h.depths
   ends_told (block.Graph g) h = h.depths
@@ -186,18 +197,33 @@ depths_kept names =
     let there = pass_kept uses_there there_test names in
     record {
       at_top =
-          λ d f sound none h. record { there = there.at_top d f sound none h.there; depths = begins_told names d f h.depths; shallow_in = begins_shallow names d f };
+          λ d f sound none h. record {
+            there = there.at_top d f sound none h.there;
+            depths = begins_told names d f h.depths;
+            shallow_in = begins_shallow names d f;
+          };
       in_graph = λ d g f sound none h. record { there = h.there; depths = h.depths; shallow_in = tt };
       in_action =
-          λ d a f sound none shut h. record { there = there.in_action d a f sound none shut h.there; depths = h.depths; shallow_in = says_shallow names d a f none h.shallow_in };
+          λ d a f sound none shut h. record {
+            there = there.in_action d a f sound none shut h.there;
+            depths = h.depths;
+            shallow_in = says_shallow names d a f none h.shallow_in;
+          };
       closes =
-          λ d a h. record { there = there.closes d a h.there; depths = h.depths; shallow_in = closed_shallow d a verdict.Done a.program h.shallow_in };
+          λ d a h. record {
+            there = there.closes d a h.there;
+            depths = h.depths;
+            shallow_in =
+                closed_shallow d a verdict.Done a.program h.shallow_in;
+          };
       ends = λ d b none h. record { there = there.ends d b none h.there; depths = ends_told names d b h; shallow_in = tt };
     }
 
 -- ---- the depths of the actions
 
-module _ (depths : List ℕ) (actions : List ActionRow) (tell : (a : ℕ) → a < length actions → IsDepth depths actions a) (there : list_all (λ (action : ActionRow). list_all (λ (nest : NestRow). all_below (length actions) nest.actions) action.nests) actions ≡ true) where
+module _ (depths : List ℕ) (actions : List ActionRow) (tell : (a : ℕ) → a < length actions → IsDepth depths actions a)
+    (there : list_all (λ (action : ActionRow). list_all (λ (nest : NestRow). all_below (length actions) nest.actions)
+    action.nests) actions ≡ true) where
   -- what a level tells is no more than what the table tells
   of_level : (f : ℕ → ℕ) (acts : List ℕ) → ((a : ℕ) → a < length actions → f a ≤ at depths a) → all_below (length actions) acts ≡ true
       → deepest_of f acts ≤ deepest_of (at depths) acts
@@ -226,7 +252,8 @@ module _ (depths : List ℕ) (actions : List ActionRow) (tell : (a : ℕ) → a 
       let nests = (slice_index_or actions a no_action).nests in
       let less =
       level (depth_within most actions) nests (within_table most)
-      (at_row (λ (action : ActionRow). list_all (λ (nest : NestRow). all_below (length actions) nest.actions) action.nests) actions a no_action there l) in
+      (at_row (λ (action : ActionRow). list_all (λ (nest : NestRow). all_below (length actions) nest.actions) action.nests)
+      actions a no_action there l) in
       let here = (tell a l).0 in
       omega arith
 

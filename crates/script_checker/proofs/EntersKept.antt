@@ -27,7 +27,8 @@ module _ (names : List (List ℕ)) (d : Declared) where
   says_enter (form.Action name) h = h
   says_enter f h = h
 
-  ends_enter : (b : Block) → HasNone (record { declared = d; block = b }) form.End → list_all enters d.actions ≡ true → list_all enters (ended names d b).actions ≡ true
+  ends_enter : (b : Block) → HasNone (record { declared = d; block = b }) form.End → list_all enters d.actions ≡ true
+      → list_all enters (ended names d b).actions ≡ true
   ends_enter (block.Action a) none h = all_push enters d.actions (row_of names a) h (not-false _ (entered d a form.End none))
   ends_enter b none h = h
 

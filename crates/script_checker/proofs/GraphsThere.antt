@@ -91,7 +91,13 @@ module _ (names : List (List ℕ)) (d : Declared) where
   ends_there : (b : Block) → GraphsThere d b → GraphsThere (ended names d b) block.Top
   ends_there (block.Graph g) h =
       let n : length (d.graphs ++ g ∷ []) ≡ length d.graphs + 1 = length-append d.graphs (g ∷ []) in
-      record { many = omega (arith, h.many); plain = still_first d.graphs _ h.plain; filled = all_push has_exception d.graphs g h.filled h.begun; begun = tt }
+      record {
+        many = omega (arith, h.many);
+        plain = still_first d.graphs _ h.plain;
+        filled =
+            all_push has_exception d.graphs g h.filled h.begun;
+        begun = tt;
+      }
   ends_there block.Top h = h
   ends_there (block.Action a) h = record { many = h.many; plain = h.plain; filled = h.filled; begun = tt }
 

@@ -40,18 +40,24 @@ eqb_turn_false a b h = by_test (b == a) refl
     by_test false e = e
     by_test true e = absurd (false≢true (sym h ∙ eqb_turn b a e))
 
-absent_push : (n x : ℕ) (program : Program) (handlers : List HandlerRow) → member n (exceptions_of handlers) ≡ false → (x == n) ≡ false → member n (exceptions_of (handlers ++ record { exception = x; program = program } ∷ [])) ≡ false
+absent_push : (n x : ℕ) (program : Program) (handlers : List HandlerRow) → member n (exceptions_of handlers) ≡ false
+    → (x == n) ≡ false → member n (exceptions_of (handlers ++ record { exception = x; program = program } ∷ [])) ≡ false
 absent_push n x program [] h e = rw e refl
 absent_push n x program (k ∷ handlers) h e =
     let p = or_parts (k.exception == n) (member n (exceptions_of handlers)) h in
     rw (p.0, absent_push n x program handlers p.1 e) refl
 
-differ_push : (x : ℕ) (program : Program) (handlers : List HandlerRow) → all_differ (exceptions_of handlers) ≡ true → list_any (handles x) handlers ≡ false → all_differ (exceptions_of (handlers ++ record { exception = x; program = program } ∷ [])) ≡ true
+differ_push : (x : ℕ) (program : Program) (handlers : List HandlerRow) → all_differ (exceptions_of handlers) ≡ true
+    → list_any (handles x) handlers ≡ false
+    → all_differ (exceptions_of (handlers ++ record { exception = x; program = program } ∷ [])) ≡ true
 differ_push x program [] h f = refl
 differ_push x program (k ∷ handlers) h f =
     let p = and_parts (not (member k.exception (exceptions_of handlers))) (all_differ (exceptions_of handlers)) h in
     let q = or_parts (k.exception == x) (list_any (handles x) handlers) f in
-    rw (absent_push k.exception x program handlers (not-true _ p.0) (eqb_turn_false k.exception x q.0), differ_push x program handlers p.1 q.1) refl
+    rw (
+      absent_push k.exception x program handlers (not-true _ p.0) (eqb_turn_false k.exception x q.0),
+      differ_push x program handlers p.1 q.1,
+    ) refl
 
 -- ---- what is being declared
 
@@ -75,8 +81,11 @@ program_differs (Some x) program row f h = differ_push x program row.handlers h 
 closed_differ : (a : OpenAction) (v : Verdict) (o : Option OpenProgram) → a.program ≡ o → OpenDiffer a → OpenDiffer (closed_if a o v)
 closed_differ a v None e h = h
 closed_differ a v (Some p) e h =
-    let fresh : fresh_for a.role_rows (Some p) ≡ true = subst (λ (o : Option OpenProgram). fresh_for a.role_rows o ≡ true) e h.1 in
-    (all_set handlers_differ a.role_rows p.role no_role _ (program_differs p.exception (record { steps = p.steps; verdict = v }) (slice_index_or a.role_rows p.role no_role) fresh) h.0, refl)
+    let fresh : fresh_for a.role_rows (Some p) ≡ true = subst (λ (o : Option OpenProgram). fresh_for a.role_rows o ≡ true) e h.1 in (
+      all_set handlers_differ a.role_rows p.role no_role _
+          (program_differs p.exception (record { steps = p.steps; verdict = v }) (slice_index_or a.role_rows p.role no_role) fresh) h.0,
+      refl,
+    )
 
 fresh_still : (rows : List RoleRow) (o : Option OpenProgram) (x : Option Step) → fresh_for rows o ≡ true
     → fresh_for rows (with_step o x) ≡ true
@@ -86,8 +95,11 @@ fresh_still rows (Some p) (Some x) h = h
 
 module _ (names : List (List ℕ)) (d : Declared) (a : OpenAction) where
   abort_differs : (role : ℕ) (row : AbortRow) → a.program ≡ None → OpenDiffer a → OpenDiffer (with_abort a role row)
-  abort_differs role row shut h =
-      (all_change handlers_differ (λ (r : RoleRow). record r { abort = row }) a.role_rows (index_of role a.roles) no_role (λ r k. k) h.0, rw shut refl)
+  abort_differs role row shut h = (
+    all_change handlers_differ (λ (r : RoleRow). record r { abort = row }) a.role_rows (index_of role a.roles) no_role
+        (λ r k. k) h.0,
+    rw shut refl,
+  )
 
   says_differ : (f : Form) → NoneInAction d a f → (goes_on f ≡ false → a.program ≡ None) → OpenDiffer a
       → OpenDiffer (action_with names d a f)

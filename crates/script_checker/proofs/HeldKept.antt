@@ -42,7 +42,8 @@ uses_held actions objects nest =
     all_below (length actions) nest.actions && list_all (λ a. all_members objects (slice_index_or actions a no_action)) nest.actions
 
 -- what is being declared touches these objects alone
-pub record TouchesOnly (actions : List ActionRow) (objects : List ℕ) (steps : List Step) (roles : List RoleRow) (nests : List OpenNest) : Type 0 where
+pub record TouchesOnly (actions : List ActionRow) (objects : List ℕ) (steps : List Step) (roles : List RoleRow)
+    (nests : List OpenNest) : Type 0 where
   pub steps_held : list_all (holds_step objects) steps ≡ true
   pub holds_roles : list_all (holds_role objects) roles ≡ true
   pub holds_nests : list_all (λ (nest : OpenNest). uses_held actions objects nest.row) nests ≡ true
@@ -70,7 +71,8 @@ any_role objects role h =
     and_parts (list_all (holds_step []) role.body.steps)
     (list_all (λ (h : HandlerRow). list_all (holds_step []) h.program.steps) role.handlers) h in
     and_from _ _ (all_imply (holds_step []) (holds_step objects) role.body.steps (any_step objects) p.0)
-    (all_imply (λ (h : HandlerRow). list_all (holds_step []) h.program.steps) (λ (h : HandlerRow). list_all (holds_step objects) h.program.steps) role.handlers
+    (all_imply (λ (h : HandlerRow). list_all (holds_step []) h.program.steps)
+    (λ (h : HandlerRow). list_all (holds_step objects) h.program.steps) role.handlers
     (λ h k. all_imply (holds_step []) (holds_step objects) h.program.steps (any_step objects) k) p.1)
 
 any_use : (actions : List ActionRow) (objects : List ℕ) (nest : NestRow) → uses_held actions [] nest ≡ true
@@ -78,8 +80,10 @@ any_use : (actions : List ActionRow) (objects : List ℕ) (nest : NestRow) → u
 any_use actions objects nest h =
     let p = and_parts (all_below (length actions) nest.actions) _ h in
     and_from _ _ p.0
-    (all_imply (λ a. all_members [] (slice_index_or actions a no_action)) (λ a. all_members objects (slice_index_or actions a no_action)) nest.actions
-    (λ a k. all_imply (λ o. member o []) (λ o. member o objects) (slice_index_or actions a no_action).objects (λ o m. absurd (false≢true m)) k) p.1)
+    (all_imply (λ a. all_members [] (slice_index_or actions a no_action))
+    (λ a. all_members objects (slice_index_or actions a no_action)) nest.actions
+    (λ a k. all_imply (λ o. member o []) (λ o. member o objects) (slice_index_or actions a no_action).objects
+    (λ o m. absurd (false≢true m)) k) p.1)
 
 any_objects : (actions : List ActionRow) (old objects : List ℕ) (steps : List Step) (roles : List RoleRow) (nests : List OpenNest)
     → old ≡ [] → TouchesOnly actions old steps roles nests → TouchesOnly actions objects steps roles nests
@@ -99,13 +103,15 @@ holds_program : (objects : List ℕ) (exception : Option ℕ) (program : Program
     → (row : RoleRow) → holds_role objects row ≡ true → holds_role objects (with_program row exception program) ≡ true
 holds_program objects None program p row h =
     and_from _ _ p
-    (and_parts (list_all (holds_step objects) row.body.steps) (list_all (λ (h : HandlerRow). list_all (holds_step objects) h.program.steps) row.handlers) h).1
+    (and_parts (list_all (holds_step objects) row.body.steps)
+    (list_all (λ (h : HandlerRow). list_all (holds_step objects) h.program.steps) row.handlers) h).1
 holds_program objects (Some x) program p row h =
     let parts =
     and_parts (list_all (holds_step objects) row.body.steps)
     (list_all (λ (h : HandlerRow). list_all (holds_step objects) h.program.steps) row.handlers) h in
     and_from _ _ parts.0
-    (all_push (λ (h : HandlerRow). list_all (holds_step objects) h.program.steps) row.handlers (record { exception = x; program = program }) parts.1 p)
+    (all_push (λ (h : HandlerRow). list_all (holds_step objects) h.program.steps) row.handlers
+    (record { exception = x; program = program }) parts.1 p)
 
 closed_held : (actions : List ActionRow) (a : OpenAction) (v : Verdict) (o : Option OpenProgram) → a.program ≡ o → OpenHeld actions a
     → OpenHeld actions (closed_if a o v)
@@ -164,11 +170,20 @@ module _ (names : List (List ℕ)) (d : Declared) (a : OpenAction) (h : OpenHeld
       (empty_is a.uses (not-false _ (or_parts (not (is_empty a.uses)) (not (all_differ objects)) (once d a (form.Uses objects) none)).0))
       h
   says_held (form.Roles roles) none =
-      record { steps_held = h.steps_held; holds_roles = all_mapped (holds_role a.uses) (idle_role names) roles (λ name. refl); holds_nests = h.holds_nests }
+      record {
+        steps_held = h.steps_held;
+        holds_roles = all_mapped (holds_role a.uses) (idle_role names) roles (λ name. refl);
+        holds_nests = h.holds_nests;
+      }
   says_held (form.Nest nest action roles) none =
       let there = neither (is_action d action) (list_all (is_among a.roles) roles) (known d a (form.Nest nest action roles) none) in
       let m = not-false _ (held d a (form.Nest nest action roles) none) in
-      record { steps_held = h.steps_held; holds_roles = h.holds_roles; holds_nests = all_push (λ (nest : OpenNest). uses_held d.actions a.uses nest.row) a.nests _ h.holds_nests (rw (there.0, m) refl) }
+      record {
+        steps_held = h.steps_held;
+        holds_roles = h.holds_roles;
+        holds_nests =
+            all_push (λ (nest : OpenNest). uses_held d.actions a.uses nest.row) a.nests _ h.holds_nests (rw (there.0, m) refl);
+      }
   says_held (form.Map nest lower upper) none = other_nest nest _ (λ k. k)
   says_held (form.MapUndo nest x) none = other_nest nest _ (λ k. k)
   says_held (form.MapFailure nest x) none = other_nest nest _ (λ k. k)
@@ -213,7 +228,8 @@ held_longer actions more action h =
     (all_imply (uses_held actions action.objects) (uses_held (actions ++ more ∷ []) action.objects) action.nests
     (λ nest k.
     let q = and_parts (all_below (length actions) nest.actions) _ k in
-    and_from _ _ (below_more (length actions) _ nest.actions (one_longer actions more) q.0) (acts_same (all_members action.objects) actions more nest.actions q.0 q.1))
+    and_from _ _ (below_more (length actions) _ nest.actions (one_longer actions more) q.0)
+    (acts_same (all_members action.objects) actions more nest.actions q.0 q.1))
     p.1)
 
 module _ (names : List (List ℕ)) (d : Declared) where

@@ -70,11 +70,16 @@ fewer_actions : (graphs : List DeclaredGraph) (actions : List ActionRow) (more :
     → AreCounted graphs (actions ++ more ∷ []) count face → AreCounted graphs actions count face
 fewer_actions graphs actions more count face h =
     let n : length (actions ++ more ∷ []) ≡ length actions + 1 = length-append actions (more ∷ []) in
-    record { counts = h.counts; faces = λ a l. h.faces a (omega arith) ∙ ap (λ (action : ActionRow). action.interface) (same_action actions more a l) }
+    record {
+      counts = h.counts;
+      faces = λ a l. h.faces a (omega arith)
+          ∙ ap (λ (action : ActionRow). action.interface) (same_action actions more a l);
+    }
 
 -- ---- changes of a use
 
-mapped_still : (count face : ℕ → ℕ) (row : NestRow) (i x : ℕ) → use_mapped count face row ≡ true → use_mapped count face (record row { maps = slice_set row.maps i x }) ≡ true
+mapped_still : (count face : ℕ → ℕ) (row : NestRow) (i x : ℕ) → use_mapped count face row ≡ true
+    → use_mapped count face (record row { maps = slice_set row.maps i x }) ≡ true
 mapped_still count face row i x h = rw length-set h
 
 first_still : (actions : List ℕ) (a : ℕ) → is_empty actions ≡ false → slice_index_or (actions ++ a ∷ []) 0 0 ≡ slice_index_or actions 0 0
@@ -85,7 +90,8 @@ some_still : (actions : List ℕ) (a : ℕ) → not (is_empty (actions ++ a ∷ 
 some_still [] a = refl
 some_still (b ∷ actions) a = refl
 
-alternate_still : (count face : ℕ → ℕ) (row : NestRow) (a : ℕ) → use_mapped count face row ≡ true → use_mapped count face (record row { actions = row.actions ++ a ∷ [] }) ≡ true
+alternate_still : (count face : ℕ → ℕ) (row : NestRow) (a : ℕ) → use_mapped count face row ≡ true
+    → use_mapped count face (record row { actions = row.actions ++ a ∷ [] }) ≡ true
 alternate_still count face row a h =
     let p = and_parts (not (is_empty row.actions)) _ h in
     and_from _ _ (some_still row.actions a) (rw (first_still row.actions a (not-true _ p.0)) p.1)
@@ -104,11 +110,13 @@ face_there d b a h l =
     let count : ℕ → ℕ = λ g. length (exceptions_at d.graphs g) in
     let k =
     at_row (action_right (length d.objects) (length d.actions) (length d.graphs) count) d.actions a no_action
-    (h.ended_right (length d.objects) (length d.actions) (length d.graphs) count (omega arith) (omega arith) (omega arith) (λ g. omega arith))
+    (h.ended_right (length d.objects) (length d.actions) (length d.graphs) count (omega arith) (omega arith) (omega arith)
+    (λ g. omega arith))
     l in
     let action = slice_index_or d.actions a no_action in
     ltb-true action.interface (length d.graphs)
-    (and_parts (nat_lt action.interface (length d.graphs)) _ (and_parts (nat_lt action.internal (length d.graphs)) _ (and_parts _ _ k).0).1).0
+    (and_parts (nat_lt action.interface (length d.graphs)) _
+    (and_parts (nat_lt action.internal (length d.graphs)) _ (and_parts _ _ k).0).1).0
 
 module _ (names : List (List ℕ)) (d : Declared) where
   begins_maps : (f : Form) → MapsRight d block.Top → MapsRight (declared_with names d f) (block_begun d f)

@@ -173,8 +173,12 @@ module _ (names : List (List ℕ)) (numbered : AreNumbered names) where
 
   begins_stand : (d : Declared) (f : Form) → is_sound names f ≡ true → NoneAtTop d f → AreDeclaredNamed names d
       → AreDeclaredNamed names (declared_with names d f)
-  begins_stand d (form.Participant n) sound none h =
-      (named_push d.participants d.participant_rows n (first_spelled n _ sound) (once_at_top d (form.Participant n) none) h.0, h.1, h.2, h.3)
+  begins_stand d (form.Participant n) sound none h = (
+    named_push d.participants d.participant_rows n (first_spelled n _ sound) (once_at_top d (form.Participant n) none) h.0,
+    h.1,
+    h.2,
+    h.3,
+  )
   begins_stand d (form.Object n v) sound none h = (
     h.0,
     objects_push d.objects d.object_rows (record { name = name_at names n; initial = v }) n refl (first_spelled n _ sound)
@@ -182,8 +186,13 @@ module _ (names : List (List ℕ)) (numbered : AreNumbered names) where
     h.2,
     watches_stand d.objects n d.watches h.3,
   )
-  begins_stand d (form.Watch n) sound none h =
-      (h.0, h.1, h.2, watches_push d.objects d.watches n (not-false (is_among d.objects n) (known_at_top d (form.Watch n) none)) (once_at_top d (form.Watch n) none) h.3)
+  begins_stand d (form.Watch n) sound none h = (
+    h.0,
+    h.1,
+    h.2,
+    watches_push d.objects d.watches n (not-false (is_among d.objects n) (known_at_top d (form.Watch n) none))
+        (once_at_top d (form.Watch n) none) h.3,
+  )
   begins_stand d f sound none h = h
 
   begins_named : (d : Declared) (f : Form) → AreDeclaredNamed names d → OpenNamed names (block_begun d f)
@@ -201,7 +210,11 @@ module _ (names : List (List ℕ)) (numbered : AreNumbered names) where
   ends_stand d (block.Graph g) h = (
     h.0.0,
     h.0.1,
-    record { first = h.0.2.first; own = All-push (λ (graph : DeclaredGraph). AreOwn names (exception_name names) graph.exceptions) d.graphs g h.0.2.own h.1 },
+    record {
+      first = h.0.2.first;
+      own =
+          All-push (λ (graph : DeclaredGraph). AreOwn names (exception_name names) graph.exceptions) d.graphs g h.0.2.own h.1;
+    },
     h.0.3,
   )
   ends_stand d block.Top h = h.0
@@ -266,7 +279,8 @@ own_names_of script plan whole h =
     (numbered-with_names [] (flat_map (form_names names) (forms_of script.lines)) numbered-none) in
     let d = (declared_after names (nothing_yet names) script.lines).declared in
     let stand =
-    (holds_after names (NamesStand names) (names_kept names numbered) (nothing_yet names) script.lines whole.sound h.accepted (nothing_stands names numbered)).0 in
+    (holds_after names (NamesStand names) (names_kept names numbered) (nothing_yet names) script.lines whole.sound h.accepted
+    (nothing_stands names numbered)).0 in
     let draft = h.draft in
     let count : length draft.objects ≡ length d.objects =
     ap (λ (rows : List ObjectRow). length rows) h.declared.objects ∙ sym (length-map d.object_rows (λ (row : ObjectRow). row.name)) ∙ ap

@@ -136,7 +136,8 @@ filled_test = record {
       let apart : all_differ (map (λ r. index_of r a.roles) roles) ≡ true =
       differ_mapped a.roles roles (not-false _ (differing d a (form.Nest nest action roles) none)) k.1 in
       let f : (length (map (λ r. index_of r a.roles) roles) == length (action_of d action).roles) ≡ true =
-      rw length-map (eqb_turn (length (action_of d action).roles) (length roles) (not-false _ (filled d a (form.Nest nest action roles) none))) in
+      rw length-map
+      (eqb_turn (length (action_of d action).roles) (length roles) (not-false _ (filled d a (form.Nest nest action roles) none))) in
       rw (k.0, apart, f) refl;
   mapped = λ actions graphs row i x h. h;
   undone = λ actions graphs row x h. h;
@@ -156,7 +157,11 @@ filled_test = record {
   one_action = λ actions graphs action row h.
       let p = and_parts (all_below (length actions) row.actions) _ h in
       let q = and_parts (all_differ row.roles) _ p.1 in
-      rw (below_more (length actions) _ row.actions (one_longer actions action) p.0, q.0, acts_same (fits_roles row) actions action row.actions p.0 q.1) refl;
+      rw (
+        below_more (length actions) _ row.actions (one_longer actions action) p.0,
+        q.0,
+        acts_same (fits_roles row) actions action row.actions p.0 q.1,
+      ) refl;
   one_graph = λ actions graphs graph row h. h;
 }
 
@@ -197,7 +202,8 @@ one_face_longer actions action (b ∷ acts) h =
     let e : face_in (actions ++ action ∷ []) (b ∷ acts) ≡ face_in actions (b ∷ acts) =
     ap (λ (a : ActionRow). a.interface) (same_action actions action b (ltb-true _ _ k.0)) in
     and_from _ _ (below_more (length actions) _ (b ∷ acts) (one_longer actions action) p.0)
-    (subst (λ (face : ℕ). list_all (λ a. tells face (slice_index_or (actions ++ action ∷ []) a no_action)) (b ∷ acts) ≡ true) (sym e) (acts_same (tells (face_in actions (b ∷ acts))) actions action (b ∷ acts) p.0 p.1))
+    (subst (λ (face : ℕ). list_all (λ a. tells face (slice_index_or (actions ++ action ∷ []) a no_action)) (b ∷ acts) ≡ true)
+    (sym e) (acts_same (tells (face_in actions (b ∷ acts))) actions action (b ∷ acts) p.0 p.1))
 
 pub faced_test : IsNestTest uses_faced
 faced_test = record {

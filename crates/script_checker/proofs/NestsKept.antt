@@ -28,10 +28,16 @@ use Rattle.script_checker.proofs.ListsChange.{all_push, all_set, all_rows}
 pub record IsNestTest (test : List ActionRow → List DeclaredGraph → NestRow → Bool) : Type 0 where
   pub nested : (names : List (List ℕ)) (d : Declared) (a : OpenAction) (nest action : ℕ) (roles : List ℕ)
       → NoneInAction d a (form.Nest nest action roles) → test d.actions d.graphs (nest_said names d a nest action roles) ≡ true
-  pub mapped : (actions : List ActionRow) (graphs : List DeclaredGraph) (row : NestRow) (i x : ℕ) → test actions graphs row ≡ true → test actions graphs (record row { maps = slice_set row.maps i x }) ≡ true
-  pub undone : (actions : List ActionRow) (graphs : List DeclaredGraph) (row : NestRow) (x : ℕ) → test actions graphs row ≡ true → test actions graphs (record row { undo = x }) ≡ true
-  pub failed : (actions : List ActionRow) (graphs : List DeclaredGraph) (row : NestRow) (x : ℕ) → test actions graphs row ≡ true → test actions graphs (record row { failure = x }) ≡ true
-  pub alternated : (d : Declared) (a : OpenAction) (nest action : ℕ) → NoneInAction d a (form.Alternate nest action) → test d.actions d.graphs (nest_of a nest).row ≡ true → test d.actions d.graphs (record (nest_of a nest).row { actions = (nest_of a nest).row.actions ++ index_of action d.action_names ∷ [] }) ≡ true
+  pub mapped : (actions : List ActionRow) (graphs : List DeclaredGraph) (row : NestRow) (i x : ℕ)
+      → test actions graphs row ≡ true → test actions graphs (record row { maps = slice_set row.maps i x }) ≡ true
+  pub undone : (actions : List ActionRow) (graphs : List DeclaredGraph) (row : NestRow) (x : ℕ) → test actions graphs row ≡ true
+      → test actions graphs (record row { undo = x }) ≡ true
+  pub failed : (actions : List ActionRow) (graphs : List DeclaredGraph) (row : NestRow) (x : ℕ) → test actions graphs row ≡ true
+      → test actions graphs (record row { failure = x }) ≡ true
+  pub alternated : (d : Declared) (a : OpenAction) (nest action : ℕ) → NoneInAction d a (form.Alternate nest action)
+      → test d.actions d.graphs (nest_of a nest).row ≡ true
+      → test d.actions d.graphs
+      (record (nest_of a nest).row { actions = (nest_of a nest).row.actions ++ index_of action d.action_names ∷ [] }) ≡ true
   pub one_action : (actions : List ActionRow) (graphs : List DeclaredGraph) (action : ActionRow) (row : NestRow)
       → test actions graphs row ≡ true → test (actions ++ action ∷ []) graphs row ≡ true
   pub one_graph : (actions : List ActionRow) (graphs : List DeclaredGraph) (graph : DeclaredGraph) (row : NestRow)
@@ -85,7 +91,8 @@ module _ (test : List ActionRow → List DeclaredGraph → NestRow → Bool) (is
     ends_pass block.Top h = h
     ends_pass (block.Graph g) h = (
       all_imply (ends_well d.actions d.graphs) (ends_well d.actions (d.graphs ++ g ∷ [])) d.actions
-          (λ action k. all_imply (test d.actions d.graphs) (test d.actions (d.graphs ++ g ∷ [])) action.nests (is_test.one_graph d.actions d.graphs g) k)
+          (λ action k. all_imply (test d.actions d.graphs) (test d.actions (d.graphs ++ g ∷ [])) action.nests
+          (is_test.one_graph d.actions d.graphs g) k)
           h.0,
       tt,
     )
@@ -93,7 +100,8 @@ module _ (test : List ActionRow → List DeclaredGraph → NestRow → Bool) (is
         let row = row_of names a in
         let more = all_imply (test d.actions d.graphs) (test (d.actions ++ row ∷ []) d.graphs) in (
           all_push (ends_well (d.actions ++ row ∷ []) d.graphs) d.actions row
-              (all_imply (ends_well d.actions d.graphs) (ends_well (d.actions ++ row ∷ []) d.graphs) d.actions (λ action k. more action.nests (is_test.one_action d.actions d.graphs row) k) h.0)
+              (all_imply (ends_well d.actions d.graphs) (ends_well (d.actions ++ row ∷ []) d.graphs) d.actions
+              (λ action k. more action.nests (is_test.one_action d.actions d.graphs row) k) h.0)
               (more row.nests (is_test.one_action d.actions d.graphs row) (all_rows (test d.actions d.graphs) a.nests h.1)),
           tt,
         )

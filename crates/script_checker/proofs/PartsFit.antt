@@ -86,11 +86,27 @@ more_steps (Some p) x w = few_more most_steps p.steps x w
 module _ (names : List (List ℕ)) (d : Declared) (a : OpenAction) (h : ActionFits a) where
   begun : (p : OpenProgram) → p.steps ≡ [] → AreFit (Some p) a.role_rows a.roles a.nests
   begun p e =
-      record { steps = rw e (omega arith); roles = h.roles; few_roles = h.few_roles; all_roles = h.all_roles; nests = h.nests; few_nests = h.few_nests }
+      record {
+        steps = rw e (omega arith);
+        roles = h.roles;
+        few_roles = h.few_roles;
+        all_roles = h.all_roles;
+        nests = h.nests;
+        few_nests = h.few_nests;
+      }
 
-  stepped : (x : Step) → nat_le most_steps (length (steps_of a.program)) ≡ false → ActionFits (record a { program = with_step a.program (Some x) })
+  stepped : (x : Step) → nat_le most_steps (length (steps_of a.program)) ≡ false
+      → ActionFits (record a { program = with_step a.program (Some x) })
   stepped x w =
-      record { steps = more_steps a.program x w; roles = h.roles; few_roles = h.few_roles; all_roles = h.all_roles; nests = h.nests; few_nests = h.few_nests }
+      record {
+        steps = more_steps a.program x w;
+        roles = h.roles;
+        few_roles = h.few_roles;
+        all_roles = h.all_roles;
+        nests =
+            h.nests;
+        few_nests = h.few_nests;
+      }
 
   aborted : (role : ℕ) (row : AbortRow) → ActionFits (with_abort a role row)
   aborted role row = record {
@@ -169,7 +185,13 @@ module _ (names : List (List ℕ)) (d : Declared) where
   end_fits a h u =
       let some : is_empty a.role_rows ≡ false = as_filled a.role_rows a.roles h.all_roles u in
       let few : length (nest_rows a.nests) ≤ most_nests = omega (arith, h.few_nests, rows_many a.nests) in
-      rw (some, le-leb (length a.role_rows) most_roles h.few_roles, le-leb (length (nest_rows a.nests)) most_nests few, h.roles, all_rows nest_fits a.nests h.nests) refl
+      rw (
+        some,
+        le-leb (length a.role_rows) most_roles h.few_roles,
+        le-leb (length (nest_rows a.nests)) most_nests few,
+        h.roles,
+        all_rows nest_fits a.nests h.nests,
+      ) refl
 
   begins_fit : (f : Form) → ActionsFit d block.Top → ActionsFit (declared_with names d f) (block_begun d f)
   begins_fit (form.Action name) h =

@@ -117,7 +117,8 @@ record AreActionsNamed (names : List (List ℕ)) (begun : List ℕ) (rows : List
   pub parts : All NamesParts rows
 
 -- the roles and the nested uses of an action have names of their own
-record ArePartsNamed (names : List (List ℕ)) (roles : List ℕ) (role_words : List (List ℕ)) (nests : List ℕ) (nest_words : List (List ℕ)) : Type 0 where
+record ArePartsNamed (names : List (List ℕ)) (roles : List ℕ) (role_words : List (List ℕ)) (nests : List ℕ)
+    (nest_words : List (List ℕ)) : Type 0 where
   pub of_roles : AreNamedBy names roles role_words
   pub of_nests : AreNamedBy names nests nest_words
 
@@ -153,7 +154,8 @@ module _ (names : List (List ℕ)) (numbered : AreNumbered names) where
   begins_named d f = tt
 
   -- other rows of the same names
-  roles_as : (a : OpenAction) (rows : List RoleRow) → role_names rows ≡ role_names a.role_rows → ActionNamed names a → ActionNamed names (record a { role_rows = rows })
+  roles_as : (a : OpenAction) (rows : List RoleRow) → role_names rows ≡ role_names a.role_rows → ActionNamed names a
+      → ActionNamed names (record a { role_rows = rows })
   roles_as a rows e h = record { of_roles = subst (AreNamedBy names a.roles) (sym e) h.of_roles; of_nests = h.of_nests }
 
   nest_as : (a : OpenAction) (name : ℕ) (nest : OpenNest) → nest.row.name ≡ (nest_of a name).row.name → ActionNamed names a
@@ -185,7 +187,9 @@ module _ (names : List (List ℕ)) (numbered : AreNumbered names) where
       (h.0, record { of_roles = roles_said a roles sound (not-false (all_differ roles) differ); of_nests = h.1.of_nests })
   acts_stand d a (form.Nest nest action roles) sound none h =
       let spelled = first_spelled names numbered nest _ (parts_sound names (form.Nest nest action roles) sound) in
-      let pushed = named_push names numbered a.nest_names (use_names a.nests) nest spelled (once d a (form.Nest nest action roles) none) h.1.of_nests in (
+      let pushed =
+      named_push names numbered a.nest_names (use_names a.nests) nest spelled (once d a (form.Nest nest action roles) none)
+      h.1.of_nests in (
         h.0,
         record {
           of_roles = h.1.of_roles;
@@ -255,7 +259,8 @@ own_parts_of script plan whole h =
     let s = declared_after names (nothing_yet names) script.lines in
     let d = s.declared in
     let stand =
-    (holds_after names (PartsStand names) (parts_kept names numbered) (nothing_yet names) script.lines whole.sound h.accepted (nothing_stands names numbered)).0 in
+    (holds_after names (PartsStand names) (parts_kept names numbered) (nothing_yet names) script.lines whole.sound h.accepted
+    (nothing_stands names numbered)).0 in
     let own = ended_own names d.actions s.block (named_rows names d.action_names (begun_names names d.actions s.block) stand.own) in
     subst HasOwnParts (sym h.unfolded) (record {
       actions = subst (λ (rows : List ActionRow). AreOwnNames (action_names rows)) (sym h.declared.actions) own;

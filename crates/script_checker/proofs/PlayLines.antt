@@ -61,7 +61,8 @@ sound_before names (l ∷ before) line rest h =
 abbrev without_play : Declared → Draft → Draft
 without_play d draft = record draft { plays = d.plays }
 
-module _ (names : List (List ℕ)) (d : Declared) (action : ℕ) (who : List ℕ) (draft : Draft) (drafted : IsDraftOf names (declared_with names d (form.Play action who)) draft) where
+module _ (names : List (List ℕ)) (d : Declared) (action : ℕ) (who : List ℕ) (draft : Draft)
+    (drafted : IsDraftOf names (declared_with names d (form.Play action who)) draft) where
   drafted_without : IsDraftOf names d (without_play d draft)
   drafted_without = record {
     participants = drafted.participants;
@@ -73,11 +74,14 @@ module _ (names : List (List ℕ)) (d : Declared) (action : ℕ) (who : List ℕ
     watches = drafted.watches;
   }
 
-  module _ (b : Block) (few : AreCountsFew d b) (deep : AreShallow d b) (weights : AreWeighed d b) (before : KeepsParts (without_play d draft)) (known : unknown_at_top d (form.Play action who) ≡ false) (filled : unfilled_at_top d (form.Play action who) ≡ false) (apart : filled_twice_at_top (form.Play action who) ≡ false) where
+  module _ (b : Block) (few : AreCountsFew d b) (deep : AreShallow d b) (weights : AreWeighed d b)
+      (before : KeepsParts (without_play d draft)) (known : unknown_at_top d (form.Play action who) ≡ false)
+      (filled : unfilled_at_top d (form.Play action who) ≡ false) (apart : filled_twice_at_top (form.Play action who) ≡ false) where
     right : list_all (play_right (length draft.participants) draft.actions) draft.plays ≡ true
     right =
         rw (drafted.participants, few.participants.0, drafted.actions, drafted.plays)
-        (all_push (play_right (length d.participants) d.actions) d.plays (play_row d action who) weights.right (said_play names d action who known filled apart))
+        (all_push (play_right (length d.participants) d.actions) d.plays (play_row d action who) weights.right
+        (said_play names d action who known filled apart))
 
     keeps : KeepsParts draft
     keeps =
@@ -113,7 +117,9 @@ module _ (names : List (List ℕ)) (d : Declared) (action : ℕ) (who : List ℕ
 
 -- ---- the law
 
-module _ (names : List (List ℕ)) (lines : List Line) (lead : lead_to_top section.Top (forms_of lines) ≡ true) (sound : list_all (is_sound names) (forms_of lines) ≡ true) (accepted : AreAccepted names (nothing_yet names) lines) (action : ℕ) (who : List ℕ) (draft : Draft) where
+module _ (names : List (List ℕ)) (lines : List Line) (lead : lead_to_top section.Top (forms_of lines) ≡ true)
+    (sound : list_all (is_sound names) (forms_of lines) ≡ true) (accepted : AreAccepted names (nothing_yet names) lines)
+    (action : ℕ) (who : List ℕ) (draft : Draft) where
   abbrev last : Declared
   last = (declared_after names (nothing_yet names) lines).declared
 

@@ -28,7 +28,8 @@ use Rattle.script_checker.proofs.NestTests.{neither, eqb_turn, differ_mapped, be
 abbrev pub play_right : ℕ → List ActionRow → PlayRow → Bool
 play_right participants actions play =
     nat_lt play.action (length actions) &&
-    (all_below participants play.who && ((length play.who == length (slice_index_or actions play.action no_action).roles) && all_differ play.who))
+    (all_below participants play.who && ((length play.who == length (slice_index_or actions play.action no_action).roles)
+    && all_differ play.who))
 
 abbrev pub PlaysRight : Declared → Block → Type 0
 PlaysRight d b = list_all (play_right (length d.participants) d.actions) d.plays ≡ true
@@ -72,7 +73,8 @@ module _ (names : List (List ℕ)) (d : Declared) where
       (more_participants (length d.participants) _ d.actions (omega arith)) h
   says_plays (form.Play action who) none h =
       all_push (play_right (length d.participants) d.actions) d.plays _ h
-      (said_play action who (known_at_top d (form.Play action who) none) (filled_at_top d (form.Play action who) none) (differing_at_top d (form.Play action who) none))
+      (said_play action who (known_at_top d (form.Play action who) none) (filled_at_top d (form.Play action who) none)
+      (differing_at_top d (form.Play action who) none))
   says_plays f none h = h
 
   ends_plays : (b : Block) → PlaysRight d b → PlaysRight (ended names d b) block.Top
@@ -106,5 +108,6 @@ module _ (draft : Draft) (right : list_all (play_right (length draft.participant
   pub plays_filled : list_all (λ (play : PlayRow). fills draft play.action play.who) draft.plays ≡ true
   plays_filled =
       all_imply (play_right (length draft.participants) draft.actions) (λ (play : PlayRow). fills draft play.action play.who) draft.plays
-      (λ play h. (and_parts (all_below (length draft.participants) play.who) _ (and_parts (nat_lt play.action (length draft.actions)) _ h).1).1)
+      (λ play h. (and_parts (all_below (length draft.participants) play.who) _
+      (and_parts (nat_lt play.action (length draft.actions)) _ h).1).1)
       right

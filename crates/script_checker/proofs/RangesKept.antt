@@ -115,7 +115,8 @@ program_right c (Some x) program e p row h =
     and_parts (list_all (handler_in_range c.objects c.internal c.interface) row.handlers) (abort_in_range c.interface row.abort)
     parts.1 in
     and_from _ _ parts.0
-    (and_from _ _ (all_push (handler_in_range c.objects c.internal c.interface) row.handlers (record { exception = x; program = program }) more.0 (and_from _ _ e p)) more.1)
+    (and_from _ _ (all_push (handler_in_range c.objects c.internal c.interface) row.handlers
+    (record { exception = x; program = program }) more.0 (and_from _ _ e p)) more.1)
 
 closed_parts : (c : Counts) (a : OpenAction) (v : Verdict) (o : Option OpenProgram) → a.program ≡ o → verdict_in_range c.interface v ≡ true
     → PartsRight c a → PartsRight c (closed_if a o v)
@@ -125,8 +126,15 @@ closed_parts c a v (Some p) e w k =
     let handled : handled_in_range c.internal p.exception ≡ true =
     subst (λ (o : Option OpenProgram). opening_in_range c.internal o ≡ true) e k.1 in
     let steps : list_all (step_in_range c.objects c.internal) p.steps ≡ true =
-    subst (λ (o : Option OpenProgram). list_all (step_in_range c.objects c.internal) (steps_of o) ≡ true) e k.0 in
-    (refl, refl, k.2, k.3, all_change (role_in_range c.objects c.internal c.interface) (λ (row : RoleRow). with_program row p.exception program) a.role_rows p.role no_role (program_right c p.exception program handled (and_from _ _ steps w)) k.4, k.5)
+    subst (λ (o : Option OpenProgram). list_all (step_in_range c.objects c.internal) (steps_of o) ≡ true) e k.0 in (
+      refl,
+      refl,
+      k.2,
+      k.3,
+      all_change (role_in_range c.objects c.internal c.interface) (λ (row : RoleRow). with_program row p.exception program)
+          a.role_rows p.role no_role (program_right c p.exception program handled (and_from _ _ steps w)) k.4,
+      k.5,
+    )
 
 -- where it is closed, there is as much as before
 closed_enough : (c : Counts) (d : Declared) (a : OpenAction) (v : Verdict) (o : Option OpenProgram) → Enough c d (closed_if a o v)
@@ -164,29 +172,59 @@ nest_from : (c : Counts) (row : NestRow) → NestParts c row → NestRight c row
 nest_from c row p =
     and_from _ _ p.actions_right (and_from _ _ p.roles_right (and_from _ _ p.maps_right (and_from _ _ p.undo_right p.failure_right)))
 
-mapped_right : (c : Counts) (row : NestRow) (i x : ℕ) → nat_lt x c.internal ≡ true → NestRight c row → NestRight c (record row { maps = slice_set row.maps i x })
+mapped_right : (c : Counts) (row : NestRow) (i x : ℕ) → nat_lt x c.internal ≡ true → NestRight c row
+    → NestRight c (record row { maps = slice_set row.maps i x })
 mapped_right c row i x l h =
     let p = nest_parts c row h in
     nest_from c (record row { maps = slice_set row.maps i x })
-    (record { actions_right = p.actions_right; roles_right = p.roles_right; maps_right = all_set (λ n. nat_lt n c.internal) row.maps i 0 x (λ k. l) p.maps_right; undo_right = p.undo_right; failure_right = p.failure_right })
+    (record {
+      actions_right = p.actions_right;
+      roles_right = p.roles_right;
+      maps_right =
+          all_set (λ n. nat_lt n c.internal) row.maps i 0 x (λ k. l) p.maps_right;
+      undo_right = p.undo_right;
+      failure_right =
+          p.failure_right;
+    })
 
 undone_right : (c : Counts) (row : NestRow) (x : ℕ) → nat_lt x c.internal ≡ true → NestRight c row → NestRight c (record row { undo = x })
 undone_right c row x l h =
     let p = nest_parts c row h in
     nest_from c (record row { undo = x })
-    (record { actions_right = p.actions_right; roles_right = p.roles_right; maps_right = p.maps_right; undo_right = l; failure_right = p.failure_right })
+    (record {
+      actions_right = p.actions_right;
+      roles_right = p.roles_right;
+      maps_right = p.maps_right;
+      undo_right = l;
+      failure_right = p.failure_right;
+    })
 
-failed_right : (c : Counts) (row : NestRow) (x : ℕ) → nat_lt x c.internal ≡ true → NestRight c row → NestRight c (record row { failure = x })
+failed_right : (c : Counts) (row : NestRow) (x : ℕ) → nat_lt x c.internal ≡ true → NestRight c row
+    → NestRight c (record row { failure = x })
 failed_right c row x l h =
     let p = nest_parts c row h in
     nest_from c (record row { failure = x })
-    (record { actions_right = p.actions_right; roles_right = p.roles_right; maps_right = p.maps_right; undo_right = p.undo_right; failure_right = l })
+    (record {
+      actions_right = p.actions_right;
+      roles_right = p.roles_right;
+      maps_right = p.maps_right;
+      undo_right =
+          p.undo_right;
+      failure_right = l;
+    })
 
-alternated_right : (c : Counts) (row : NestRow) (a : ℕ) → nat_lt a c.actions ≡ true → NestRight c row → NestRight c (record row { actions = row.actions ++ a ∷ [] })
+alternated_right : (c : Counts) (row : NestRow) (a : ℕ) → nat_lt a c.actions ≡ true → NestRight c row
+    → NestRight c (record row { actions = row.actions ++ a ∷ [] })
 alternated_right c row a l h =
     let p = nest_parts c row h in
     nest_from c (record row { actions = row.actions ++ a ∷ [] })
-    (record { actions_right = all_push (λ n. nat_lt n c.actions) row.actions a p.actions_right l; roles_right = p.roles_right; maps_right = p.maps_right; undo_right = p.undo_right; failure_right = p.failure_right })
+    (record {
+      actions_right = all_push (λ n. nat_lt n c.actions) row.actions a p.actions_right l;
+      roles_right = p.roles_right;
+      maps_right = p.maps_right;
+      undo_right = p.undo_right;
+      failure_right = p.failure_right;
+    })
 
 -- ---- lines that change a part
 
@@ -203,13 +241,16 @@ same_opening internal None x h = h
 same_opening internal (Some p) x h = h
 
 module _ (d : Declared) (a : OpenAction) (h : OpenRight d a) where
-  step_more : (x : Step) → ((c : Counts) → Enough c d a → step_in_range c.objects c.internal x ≡ true) → OpenRight d (record a { program = with_step a.program (Some x) })
+  step_more : (x : Step) → ((c : Counts) → Enough c d a → step_in_range c.objects c.internal x ≡ true)
+      → OpenRight d (record a { program = with_step a.program (Some x) })
   step_more x right = λ c b.
       let k = h c b in
       (steps_more c a.program x (right c b) k.0, same_opening c.internal a.program x k.1, k.2, k.3, k.4, k.5)
 
   -- a body or a handler is begun
-  opened : (p : OpenProgram) (bodies : List ℕ) → p.steps ≡ [] → ((c : Counts) → Enough c d a → handled_in_range c.internal p.exception ≡ true) → OpenRight d (record a { bodies = bodies; program = Some p })
+  opened : (p : OpenProgram) (bodies : List ℕ) → p.steps ≡ []
+      → ((c : Counts) → Enough c d a → handled_in_range c.internal p.exception ≡ true)
+      → OpenRight d (record a { bodies = bodies; program = Some p })
   opened p bodies e right = λ c b.
       let k = h c b in
       (rw e refl, right c b, k.2, k.3, k.4, k.5)
@@ -239,8 +280,15 @@ module _ (d : Declared) (a : OpenAction) (h : OpenRight d a) where
   nest_changes : (name : ℕ) (nest : OpenNest) → ((c : Counts) → Enough c d a → NestRight c (nest_of a name).row → NestRight c nest.row)
       → OpenRight d (with_nest a name nest)
   nest_changes name nest keeps = λ c b.
-      let k = h c b in
-      (k.0, k.1, k.2, k.3, k.4, all_set (λ (nest : OpenNest). nest_in_range c.actions c.roles c.internal nest.row) a.nests (index_of name a.nest_names) (begun_nest no_nest) nest (keeps c b) k.5)
+      let k = h c b in (
+        k.0,
+        k.1,
+        k.2,
+        k.3,
+        k.4,
+        all_set (λ (nest : OpenNest). nest_in_range c.actions c.roles c.internal nest.row) a.nests
+            (index_of name a.nest_names) (begun_nest no_nest) nest (keeps c b) k.5,
+      )
 
 -- ---- exceptions of graphs
 
@@ -278,17 +326,38 @@ module _ (names : List (List ℕ)) (d : Declared) (a : OpenAction) (now : Graphs
       (named_there names d a graph (not-false _ (known d a (form.Internal graph) none)) now) in
       let m : length (exceptions_at d.graphs (graph_number d graph)) ≤ c.internal = b.of_inner in
       h c
-      (record { of_objects = b.of_objects; of_actions = b.of_actions; of_roles = b.of_roles; of_inner = omega arith; of_outer = b.of_outer })
+      (record {
+        of_objects = b.of_objects;
+        of_actions = b.of_actions;
+        of_roles = b.of_roles;
+        of_inner = omega arith;
+        of_outer =
+            b.of_outer;
+      })
   says_open (form.Interface graph) sound none = λ c b.
       let few =
       said_graph d.graphs a.interface (graph_number d graph) now.plain now.filled (once d a (form.Interface graph) none)
       (named_there names d a graph (not-false _ (known d a (form.Interface graph) none)) now) in
       let m : length (exceptions_at d.graphs (graph_number d graph)) ≤ c.interface = b.of_outer in
       h c
-      (record { of_objects = b.of_objects; of_actions = b.of_actions; of_roles = b.of_roles; of_inner = b.of_inner; of_outer = omega arith })
+      (record {
+        of_objects = b.of_objects;
+        of_actions = b.of_actions;
+        of_roles = b.of_roles;
+        of_inner = b.of_inner;
+        of_outer =
+            omega arith;
+      })
   says_open (form.Fault x) sound none = λ c b.
-      let k = h c b in
-      (k.0, k.1, k.2, still_below (index_of x (inner d a)) (length (inner d a)) c.internal (not-false _ (known d a (form.Fault x) none)) b.of_inner, k.4, k.5)
+      let k = h c b in (
+        k.0,
+        k.1,
+        k.2,
+        still_below (index_of x (inner d a)) (length (inner d a)) c.internal (not-false _ (known d a (form.Fault x) none))
+            b.of_inner,
+        k.4,
+        k.5,
+      )
   says_open (form.Uses objects) sound none = λ c b.
       let k = h c b in
       let m : length d.objects ≤ c.objects = b.of_objects in
@@ -313,26 +382,33 @@ module _ (names : List (List ℕ)) (d : Declared) (a : OpenAction) (now : Graphs
         k.3,
         k.4,
         all_push (λ (nest : OpenNest). nest_in_range c.actions c.roles c.internal nest.row) a.nests _ k.5
-            (and_from _ _ (and_from _ _ (still_below (index_of action d.action_names) (length d.actions) c.actions among.0 b.of_actions) refl)
-            (and_from _ _ (numbers_below a.roles roles c.roles among.1 b.of_roles) (and_from _ _ (zeros_below _ c.internal one) (and_from _ _ one one)))),
+            (and_from _ _
+            (and_from _ _ (still_below (index_of action d.action_names) (length d.actions) c.actions among.0 b.of_actions) refl)
+            (and_from _ _ (numbers_below a.roles roles c.roles among.1 b.of_roles)
+            (and_from _ _ (zeros_below _ c.internal one) (and_from _ _ one one)))),
       )
   says_open (form.Map nest lower upper) sound none =
       let among =
-      (neither (is_among (face d a nest) lower) (is_among (inner d a) upper) (or_parts (not (is_among a.nest_names nest)) _ (known d a (form.Map nest lower upper) none)).1).1 in
+      (neither (is_among (face d a nest) lower) (is_among (inner d a) upper)
+      (or_parts (not (is_among a.nest_names nest)) _ (known d a (form.Map nest lower upper) none)).1).1 in
       nest_changes d a h nest _
-      (λ c b. mapped_right c (nest_of a nest).row (index_of lower (face d a nest)) (index_of upper (inner d a)) (still_below (index_of upper (inner d a)) (length (inner d a)) c.internal among b.of_inner))
+      (λ c b. mapped_right c (nest_of a nest).row (index_of lower (face d a nest)) (index_of upper (inner d a))
+      (still_below (index_of upper (inner d a)) (length (inner d a)) c.internal among b.of_inner))
   says_open (form.MapUndo nest x) sound none =
       let among = (neither (is_among a.nest_names nest) (is_among (inner d a) x) (known d a (form.MapUndo nest x) none)).1 in
       nest_changes d a h nest _
-      (λ c b. undone_right c (nest_of a nest).row (index_of x (inner d a)) (still_below (index_of x (inner d a)) (length (inner d a)) c.internal among b.of_inner))
+      (λ c b. undone_right c (nest_of a nest).row (index_of x (inner d a))
+      (still_below (index_of x (inner d a)) (length (inner d a)) c.internal among b.of_inner))
   says_open (form.MapFailure nest x) sound none =
       let among = (neither (is_among a.nest_names nest) (is_among (inner d a) x) (known d a (form.MapFailure nest x) none)).1 in
       nest_changes d a h nest _
-      (λ c b. failed_right c (nest_of a nest).row (index_of x (inner d a)) (still_below (index_of x (inner d a)) (length (inner d a)) c.internal among b.of_inner))
+      (λ c b. failed_right c (nest_of a nest).row (index_of x (inner d a))
+      (still_below (index_of x (inner d a)) (length (inner d a)) c.internal among b.of_inner))
   says_open (form.Alternate nest action) sound none =
       let among = (neither (is_among a.nest_names nest) (is_action d action) (known d a (form.Alternate nest action) none)).1 in
       nest_changes d a h nest _
-      (λ c b. alternated_right c (nest_of a nest).row (index_of action d.action_names) (still_below (index_of action d.action_names) (length d.actions) c.actions among b.of_actions))
+      (λ c b. alternated_right c (nest_of a nest).row (index_of action d.action_names)
+      (still_below (index_of action d.action_names) (length d.actions) c.actions among b.of_actions))
   says_open (form.Abort role x) sound none =
       let among = (neither (is_among a.roles role) (is_among (outer d a) x) (known d a (form.Abort role x) none)).1 in
       abort_said d a h role (abort.Always (index_of x (outer d a)))
@@ -389,7 +465,8 @@ abbrev pub action_right : ℕ → ℕ → ℕ → (ℕ → ℕ) → ActionRow �
 action_right objects actions graphs count action =
     (nat_lt action.internal graphs && (nat_lt action.interface graphs && nat_lt action.fault (count action.internal)))
     && ((is_rising action.objects && all_below objects action.objects)
-    && (list_all (role_in_range objects (count action.internal) (count action.interface)) action.roles && list_all (nest_in_range actions (length action.roles) (count action.internal)) action.nests))
+    && (list_all (role_in_range objects (count action.internal) (count action.interface)) action.roles
+    && list_all (nest_in_range actions (length action.roles) (count action.internal)) action.nests))
 
 -- their numbers are in range, however much is declared later
 abbrev pub EndedRight : Declared → Type 0
@@ -414,7 +491,8 @@ module _ (names : List (List ℕ)) (d : Declared) where
       here c
       (record { of_objects = lo; of_actions = la; of_roles = omega (arith, all_roles); of_inner = lc inside; of_outer = lc outside }) in
       and_from _ _
-      (and_from _ _ (lt-ltb inside graphs (omega (arith, there.begun.0))) (and_from _ _ (lt-ltb outside graphs (omega (arith, there.begun.1))) k.3))
+      (and_from _ _ (lt-ltb inside graphs (omega (arith, there.begun.0)))
+      (and_from _ _ (lt-ltb outside graphs (omega (arith, there.begun.1))) k.3))
       (and_from _ _ k.2 (and_from _ _ k.4 (all_rows (nest_in_range actions (length a.role_rows) (count inside)) a.nests k.5)))
 
   ends_ended : (b : Block) → GraphsThere d b → ActionsFit d b → RightIn d b → EndedRight d → EndedRight (ended names d b)
@@ -472,7 +550,8 @@ module _ (names : List (List ℕ)) (d : Declared) where
       record {
         valued = h.valued;
         drilled =
-            λ many l. all_push (drill_below many) d.drills _ (h.drilled many l) (still_below (index_of object d.objects) (length d.objects) many a l);
+            λ many l. all_push (drill_below many) d.drills _ (h.drilled many l)
+            (still_below (index_of object d.objects) (length d.objects) many a l);
         watched = h.watched;
       }
   says_outside (form.Watch object) sound none h =
@@ -481,7 +560,8 @@ module _ (names : List (List ℕ)) (d : Declared) where
         valued = h.valued;
         drilled = h.drilled;
         watched =
-            λ many l. all_push (λ n. nat_lt n many) d.watches _ (h.watched many l) (still_below (index_of object d.objects) (length d.objects) many a l);
+            λ many l. all_push (λ n. nat_lt n many) d.watches _ (h.watched many l)
+            (still_below (index_of object d.objects) (length d.objects) many a l);
       }
   says_outside f sound none h = h
 
@@ -520,7 +600,13 @@ ranges_kept names =
         outside_right = says_outside names d f sound none h.outside_right;
       };
       in_graph =
-          λ d g f sound none h. record { there = there.in_graph d g f sound none h.there; fits = h.fits; open_right = tt; ended_right = h.ended_right; outside_right = h.outside_right };
+          λ d g f sound none h. record {
+            there = there.in_graph d g f sound none h.there;
+            fits = h.fits;
+            open_right = tt;
+            ended_right = h.ended_right;
+            outside_right = h.outside_right;
+          };
       in_action = λ d a f sound none shut h. record {
         there = there.in_action d a f sound none shut h.there;
         fits = fits.in_action d a f sound none shut h.fits;

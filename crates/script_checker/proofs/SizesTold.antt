@@ -18,17 +18,20 @@ use Rattle.script_checker.proofs.WeightsKept.{one_place}
 abbrev counted_entries : ActionRow → ℕ
 counted_entries action = counted (own_entries action)
 
-module _ (d : Declared) (b : Block) (shallow : AreShallow d b) (draft : Draft) (keeps : KeepsParts draft) (same : draft.actions ≡ d.actions) where
+module _ (d : Declared) (b : Block) (shallow : AreShallow d b) (draft : Draft) (keeps : KeepsParts draft)
+    (same : draft.actions ≡ d.actions) where
   pub places_told : ((a : ℕ) → a < length d.actions → IsWeight one_place d.places d.actions a)
       → counted (played_weight (at d.places) draft.plays) ≡ counted (length (plan_of draft).places)
   places_told tell =
       counted_places draft keeps d.places (own_weights one_place d.actions)
       (λ a l. own_at one_place d.actions a (subst (λ (actions : List ActionRow). a < length actions) same l))
-      (rw same (λ a l. weighs one_place d.depths d.places d.actions shallow.depths.tell tell shallow.there.0 most_depth a l (shallow.depths.tell a l).1))
+      (rw same (λ a l. weighs one_place d.depths d.places d.actions shallow.depths.tell tell shallow.there.0 most_depth
+      a l (shallow.depths.tell a l).1))
 
   pub entries_told : ((a : ℕ) → a < length d.actions → IsWeight own_entries d.bounds d.actions a)
       → counted (played_weight (at d.bounds) draft.plays) ≡ counted (bound (plan_of draft))
   entries_told tell =
       counted_bound draft keeps d.bounds (own_weights counted_entries d.actions)
       (rw same (λ a l. own_at counted_entries d.actions a l))
-      (rw same (λ a l. weighs counted_entries d.depths d.bounds d.actions shallow.depths.tell (λ n below. omega (arith, tell n below)) shallow.there.0 most_depth a l (shallow.depths.tell a l).1))
+      (rw same (λ a l. weighs counted_entries d.depths d.bounds d.actions shallow.depths.tell
+      (λ n below. omega (arith, tell n below)) shallow.there.0 most_depth a l (shallow.depths.tell a l).1))

@@ -44,7 +44,8 @@ taken_more names lines n s t rows more line l is h a e r =
     record {
       accepted =
           subst (λ (some : List Line). AreAccepted names (nothing_yet names) some) (sym whole)
-          (accepted_push names (nothing_yet names) (take n lines) line h.accepted (subst (λ (s : SoFar). IsAccepted s line.form) h.declared a));
+          (accepted_push names (nothing_yet names) (take n lines) line h.accepted
+          (subst (λ (s : SoFar). IsAccepted s line.form) h.declared a));
       declared =
           e ∙ ap (λ (s : SoFar). after names s line.form) h.declared ∙ sym (declared_push names (nothing_yet names) (take n lines) line)
           ∙ ap (λ (some : List Line). declared_after names (nothing_yet names) some) (sym whole);
@@ -58,7 +59,9 @@ cut lines n line l is =
     (drop-cons lines n line l ∙ ap (λ (x : Line). x ∷ drop (suc n) lines) (sym is) ∙ sym (ap (λ (k : ℕ). line ∷ drop k lines) (add-one n)))
 
 -- the line after these is refused
-pub line_refused : (script : Script) (names : List (List ℕ)) (lines : List Line) (n : ℕ) (s : SoFar) (rows : List GraphRow) (line : Line) (c : CheckCause) → names ≡ script.names → lines ≡ script.lines → n < length lines → line ≡ get_or lines n line → Taken names lines n s rows → IsLeastCause s line.form c → IsFirstRefused script (record { line = line.number; cause = c })
+pub line_refused : (script : Script) (names : List (List ℕ)) (lines : List Line) (n : ℕ) (s : SoFar) (rows : List GraphRow)
+    (line : Line) (c : CheckCause) → names ≡ script.names → lines ≡ script.lines → n < length lines → line ≡ get_or lines n line
+    → Taken names lines n s rows → IsLeastCause s line.form c → IsFirstRefused script (record { line = line.number; cause = c })
 line_refused script names lines n s rows line c en el l is h least = record {
   before = take n lines;
   line = line;
@@ -91,7 +94,8 @@ all_declared script names lines n s rows en el l h =
           (subst (λ (names : List (List ℕ)). AreAccepted names (nothing_yet names) (take n lines)) en h.accepted);
       declared =
           ap (λ (s : SoFar). s.declared)
-          (h.declared ∙ ap (λ (names : List (List ℕ)). declared_after names (nothing_yet names) (take n lines)) en ∙ ap (λ (lines : List Line). declared_after script.names (nothing_yet script.names) lines) whole);
+          (h.declared ∙ ap (λ (names : List (List ℕ)). declared_after names (nothing_yet names) (take n lines)) en
+          ∙ ap (λ (lines : List Line). declared_after script.names (nothing_yet script.names) lines) whole);
       graphs = subst (λ (names : List (List ℕ)). AreRowsOf names s.declared.graphs rows) en h.rows;
     }
 

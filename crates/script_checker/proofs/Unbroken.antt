@@ -30,4 +30,9 @@ module _ (script : Script) (d : Declared) (rows : List GraphRow) (h : IsDeclared
       let objects = subst (λ (t : Declared). length t.objects ≡ length t.object_rows) (sym h.declared) (sym few.objects.0) in
       let places = ap (λ (t : Declared). t.all_places) h.declared ∙ sizes.0 in
       let whole = ap (λ (t : Declared). t.whole_bound) h.declared ∙ sizes.1 in
-      record { plan = plan_of draft; made = planned_by script d rows h (plan_of draft) refl; counted = rw (participants, objects, places, whole) refl }
+      record {
+        plan = plan_of draft;
+        made = planned_by script d rows h (plan_of draft) refl;
+        counted =
+            rw (participants, objects, places, whole) refl;
+      }

@@ -33,8 +33,13 @@ acts_longer : (table : List ℕ) (v : ℕ) (acts : List ℕ) → all_below (leng
 acts_longer table v [] h = refl
 acts_longer table v (a ∷ acts) h =
     let p = and_parts (nat_lt a (length table)) (all_below (length table) acts) h in
-    omega
-    (arith, sum_by-cons (at (table ++ v ∷ [])) a acts, sum_by-cons (at table) a acts, at_longer table v a (ltb-true _ _ p.0), acts_longer table v acts p.1)
+    omega (
+      arith,
+      sum_by-cons (at (table ++ v ∷ [])) a acts,
+      sum_by-cons (at table) a acts,
+      at_longer table v a (ltb-true _ _ p.0),
+      acts_longer table v acts p.1,
+    )
 
 nests_longer : (table : List ℕ) (v : ℕ) (nests : List NestRow)
     → list_all (λ (nest : NestRow). all_below (length table) nest.actions) nests ≡ true
@@ -43,8 +48,13 @@ nests_longer table v [] h = refl
 nests_longer table v (nest ∷ nests) h =
     let p =
     and_parts (all_below (length table) nest.actions) (list_all (λ (nest : NestRow). all_below (length table) nest.actions) nests) h in
-    omega
-    (arith, sum_by-cons (λ (other : NestRow). sum_by (at (table ++ v ∷ [])) other.actions) nest nests, sum_by-cons (λ (other : NestRow). sum_by (at table) other.actions) nest nests, acts_longer table v nest.actions p.0, nests_longer table v nests p.1)
+    omega (
+      arith,
+      sum_by-cons (λ (other : NestRow). sum_by (at (table ++ v ∷ [])) other.actions) nest nests,
+      sum_by-cons (λ (other : NestRow). sum_by (at table) other.actions) nest nests,
+      acts_longer table v nest.actions p.0,
+      nests_longer table v nests p.1,
+    )
 
 plays_longer : (participants : ℕ) (actions : List ActionRow) (table : List ℕ) (v : ℕ) (plays : List PlayRow) → length table ≡ length actions
     → list_all (play_right participants actions) plays ≡ true → played_weight (at (table ++ v ∷ [])) plays ≡ played_weight (at table) plays
@@ -54,8 +64,13 @@ plays_longer participants actions table v (play ∷ plays) e h =
     let q = and_parts (nat_lt play.action (length actions)) _ p.0 in
     let low = ltb-true play.action (length actions) q.0 in
     let within : play.action < length table = omega arith in
-    omega
-    (arith, sum_by-cons (λ (other : PlayRow). at (table ++ v ∷ []) other.action) play plays, sum_by-cons (λ (other : PlayRow). at table other.action) play plays, at_longer table v play.action within, plays_longer participants actions table v plays e p.1)
+    omega (
+      arith,
+      sum_by-cons (λ (other : PlayRow). at (table ++ v ∷ []) other.action) play plays,
+      sum_by-cons (λ (other : PlayRow). at table other.action) play plays,
+      at_longer table v play.action within,
+      plays_longer participants actions table v plays e p.1,
+    )
 
 -- ---- a table of weights, and what the plays come to by it
 
@@ -64,7 +79,8 @@ pub record Weighs (own : ActionRow → ℕ) (table : List ℕ) (actions : List A
   pub tell : (a : ℕ) → a < length actions → IsWeight own table actions a
   pub whole : total ≡ counted (played_weight (at table) plays)
 
-module _ (own : ActionRow → ℕ) (table : List ℕ) (actions : List ActionRow) (plays : List PlayRow) (total : ℕ) (h : Weighs own table actions plays total) where
+module _ (own : ActionRow → ℕ) (table : List ℕ) (actions : List ActionRow) (plays : List PlayRow) (total : ℕ)
+    (h : Weighs own table actions plays total) where
   -- one action more
   weighs_longer : (participants : ℕ) (action : ActionRow)
       → list_all (λ (nest : NestRow). all_below (length actions) nest.actions) action.nests ≡ true
@@ -79,8 +95,16 @@ module _ (own : ActionRow → ℕ) (table : List ℕ) (actions : List ActionRow)
       let more = below_more (IsWeight own (table ++ v ∷ []) (actions ++ action ∷ [])) (length actions)
       (λ k l.
       let within : k < length table = omega (arith, h.many) in
-      rw (same_action actions action k l, at_longer table v k within, nests_longer table v (slice_index_or actions k no_action).nests (nests_there actions table k h.many l there)) (h.tell k l))
-      (rw (action_last actions action (length actions) refl, at_last table v (length actions) h.many, nests_longer table v action.nests (rw h.many here)) refl) in
+      rw (
+        same_action actions action k l,
+        at_longer table v k within,
+        nests_longer table v (slice_index_or actions k no_action).nests (nests_there actions table k h.many l there),
+      ) (h.tell k l))
+      (rw (
+        action_last actions action (length actions) refl,
+        at_last table v (length actions) h.many,
+        nests_longer table v action.nests (rw h.many here),
+      ) refl) in
       record {
         many = omega (arith, h.many);
         tell = λ a l. more a (omega arith);
@@ -93,8 +117,12 @@ module _ (own : ActionRow → ℕ) (table : List ℕ) (actions : List ActionRow)
     many = h.many;
     tell = h.tell;
     whole =
-        omega
-        (arith, h.whole, sum_by-append (λ (other : PlayRow). at table other.action) plays (play ∷ []), sum_by-cons (λ (other : PlayRow). at table other.action) play []);
+        omega (
+          arith,
+          h.whole,
+          sum_by-append (λ (other : PlayRow). at table other.action) plays (play ∷ []),
+          sum_by-cons (λ (other : PlayRow). at table other.action) play [],
+        );
   }
 
 -- ---- lines
@@ -116,24 +144,34 @@ pub record AreWeighed (d : Declared) (b : Block) : Type 0 where
 
 module _ (names : List (List ℕ)) (d : Declared) where
   says_places : (f : Form) → NoneAtTop d f → PlacesWeigh d → PlacesWeigh (declared_with names d f)
-  says_places (form.Play action who) none h =
-      (weighs_play one_place d.places d.actions d.plays d.all_places h.0 _, ltb-false most_places (places_with d action) (within_at_top d (form.Play action who) none))
+  says_places (form.Play action who) none h = (
+    weighs_play one_place d.places d.actions d.plays d.all_places h.0 _,
+    ltb-false most_places (places_with d action) (within_at_top d (form.Play action who) none),
+  )
   says_places f none h = h
 
   says_entries : (f : Form) → NoneAtTop d f → EntriesWeigh d → EntriesWeigh (declared_with names d f)
-  says_entries (form.Play action who) none h =
-      (weighs_play own_entries d.bounds d.actions d.plays d.whole_bound h.0 _, ltb-false most_entries (bound_with d action) (bounded_at_top d (form.Play action who) none))
+  says_entries (form.Play action who) none h = (
+    weighs_play own_entries d.bounds d.actions d.plays d.whole_bound h.0 _,
+    ltb-false most_entries (bound_with d action) (bounded_at_top d (form.Play action who) none),
+  )
   says_entries f none h = h
 
   ends_places : (b : Block) → AreWeighed d b → PlacesWeigh (ended names d b)
-  ends_places (block.Action a) h =
-      (weighs_longer one_place d.places d.actions d.plays d.all_places h.places.0 (length d.participants) (row_of names a) (all_rows (uses_there d.actions d.graphs) a.nests h.there.1) h.there.0 h.right, h.places.1)
+  ends_places (block.Action a) h = (
+    weighs_longer one_place d.places d.actions d.plays d.all_places h.places.0 (length d.participants) (row_of names a)
+        (all_rows (uses_there d.actions d.graphs) a.nests h.there.1) h.there.0 h.right,
+    h.places.1,
+  )
   ends_places block.Top h = h.places
   ends_places (block.Graph g) h = h.places
 
   ends_entries : (b : Block) → AreWeighed d b → EntriesWeigh (ended names d b)
-  ends_entries (block.Action a) h =
-      (weighs_longer own_entries d.bounds d.actions d.plays d.whole_bound h.entries.0 (length d.participants) (row_of names a) (all_rows (uses_there d.actions d.graphs) a.nests h.there.1) h.there.0 h.right, h.entries.1)
+  ends_entries (block.Action a) h = (
+    weighs_longer own_entries d.bounds d.actions d.plays d.whole_bound h.entries.0 (length d.participants) (row_of names a)
+        (all_rows (uses_there d.actions d.graphs) a.nests h.there.1) h.there.0 h.right,
+    h.entries.1,
+  )
   ends_entries block.Top h = h.entries
   ends_entries (block.Graph g) h = h.entries
 
@@ -150,8 +188,20 @@ weights_kept names =
       };
       in_graph = λ d g f sound none h. record { there = h.there; right = h.right; places = h.places; entries = h.entries };
       in_action =
-          λ d a f sound none shut h. record { there = there.in_action d a f sound none shut h.there; right = h.right; places = h.places; entries = h.entries };
+          λ d a f sound none shut h. record {
+            there = there.in_action d a f sound none shut h.there;
+            right = h.right;
+            places =
+                h.places;
+            entries = h.entries;
+          };
       closes = λ d a h. record { there = there.closes d a h.there; right = h.right; places = h.places; entries = h.entries };
       ends =
-          λ d b none h. record { there = there.ends d b none h.there; right = right.ends d b none h.right; places = ends_places names d b h; entries = ends_entries names d b h };
+          λ d b none h. record {
+            there = there.ends d b none h.there;
+            right = right.ends d b none h.right;
+            places =
+                ends_places names d b h;
+            entries = ends_entries names d b h;
+          };
     }

@@ -26,7 +26,10 @@ abbrev pub IsWeight : (ActionRow → ℕ) → List ℕ → List ActionRow → �
 IsWeight own table actions a =
     at table a ≡ counted (own (slice_index_or actions a no_action) + nested_weight (at table) (slice_index_or actions a no_action).nests)
 
-module _ (own : ActionRow → ℕ) (depths table : List ℕ) (actions : List ActionRow) (deep : (a : ℕ) → a < length actions → IsDepth depths actions a) (tell : (a : ℕ) → a < length actions → IsWeight own table actions a) (there : list_all (λ (action : ActionRow). list_all (λ (nest : NestRow). all_below (length actions) nest.actions) action.nests) actions ≡ true) where
+module _ (own : ActionRow → ℕ) (depths table : List ℕ) (actions : List ActionRow) (deep : (a : ℕ) → a < length actions
+    → IsDepth depths actions a) (tell : (a : ℕ) → a < length actions → IsWeight own table actions a)
+    (there : list_all (λ (action : ActionRow). list_all (λ (nest : NestRow). all_below (length actions) nest.actions)
+    action.nests) actions ≡ true) where
   -- this tells what the table does of all actions that are no deeper
   abbrev Agrees : ℕ → (ℕ → ℕ) → Type 0
   Agrees most f = (a : ℕ) → a < length actions → at depths a ≤ most → at table a ≡ counted (f a)
@@ -51,8 +54,13 @@ module _ (own : ActionRow → ℕ) (depths table : List ℕ) (actions : List Act
       (list_all (λ (nest : NestRow). all_below (length actions) nest.actions) nests) h in
       let first : deepest_of (at depths) nest.actions ≤ most = omega arith in
       let rest : deepest (at depths) nests ≤ most = omega arith in
-      omega
-      (arith, sum_by-cons (λ (other : NestRow). sum_by (at table) other.actions) nest nests, sum_by-cons (λ (other : NestRow). sum_by f other.actions) nest nests, acts_agree most f nest.actions ih p.0 first, nests_agree most f nests ih p.1 rest)
+      omega (
+        arith,
+        sum_by-cons (λ (other : NestRow). sum_by (at table) other.actions) nest nests,
+        sum_by-cons (λ (other : NestRow). sum_by f other.actions) nest nests,
+        acts_agree most f nest.actions ih p.0 first,
+        nests_agree most f nests ih p.1 rest,
+      )
 
   pub weighs : (most : ℕ) → Agrees most (weight (own_weights own actions) most actions)
   unfolding weight
@@ -64,5 +72,9 @@ module _ (own : ActionRow → ℕ) (depths table : List ℕ) (actions : List Act
       let below =
       at_row (λ (action : ActionRow). list_all (λ (nest : NestRow). all_below (length actions) nest.actions) action.nests) actions a
       no_action there l in
-      omega
-      (arith, tell a l, own_at own actions a l, nests_agree most (weight (own_weights own actions) most actions) nests (weighs most) below shallow)
+      omega (
+        arith,
+        tell a l,
+        own_at own actions a l,
+        nests_agree most (weight (own_weights own actions) most actions) nests (weighs most) below shallow,
+      )

@@ -11,7 +11,8 @@ plan_answered script r plan (planned {plan = p} h) e = let same : p ≡ plan = c
 plan_answered script r plan (refused h) e = absurd cc
 plan_answered script r plan (wanting memory) e = absurd cc
 
-pub refusal_answered : (script : Script) (r : Result Plan CheckError) (error : CheckError) → IsAnswer script r → r ≡ Err error → (error.cause ≡ cause.OutOfMemory → ⊥) → IsFirstRefused script error
+pub refusal_answered : (script : Script) (r : Result Plan CheckError) (error : CheckError) → IsAnswer script r → r ≡ Err error
+    → (error.cause ≡ cause.OutOfMemory → ⊥) → IsFirstRefused script error
 refusal_answered script r error (planned h) e memory = absurd cc
 refusal_answered script r error (refused {error = x} h) e memory = let same : x ≡ error = cc in subst (IsFirstRefused script) same h
 refusal_answered script r error (wanting {error = x} lost) e memory =

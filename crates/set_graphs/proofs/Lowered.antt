@@ -40,7 +40,8 @@ lowered_is (suc n) set low among =
     elim (cases_Bool (is_counted set n)) [
       | inl counted ↦
           let parts = and_parts (has_bit set n) (nat_lt 0 (without_member set n)) counted in
-          elim (Contains-append_cases (without_member set n ∷ []) (lowered n set) low (subst (λ (l : List ℕ). Contains l low) (lowered_with n set counted) among)) [
+          elim (Contains-append_cases (without_member set n ∷ []) (lowered n set) low
+          (subst (λ (l : List ℕ). Contains l low) (lowered_with n set counted) among)) [
             | inl here ↦
                 let e : without_member set n ≡ low = only (without_member set n) low here in
                 (n, record { had = parts.0; some = subst (λ (s : ℕ). 0 < s) e (ltb-true 0 (without_member set n) parts.1); lacks = e })
@@ -69,7 +70,8 @@ lowered_has (suc n) set bit low below is =
       | inr before ↦
           let found = lowered_has n set bit low (omega (arith, below, before)) is in
           elim (cases_Bool (is_counted set n)) [
-            | inl counted ↦ subst (λ (l : List ℕ). Contains l low) (sym (lowered_with n set counted)) (Contains-later (without_member set n) low (lowered n set) found)
+            | inl counted ↦ subst (λ (l : List ℕ). Contains l low) (sym (lowered_with n set counted))
+                (Contains-later (without_member set n) low (lowered n set) found)
             | inr not ↦ subst (λ (l : List ℕ). Contains l low) (sym (lowered_past n set not)) found
           ]
     ]
@@ -111,7 +113,10 @@ pair_has n all (suc bound) a b below is =
           let named = subst (λ (k : ℕ). Contains (pairs_at n all a) (a, k)) is.number made in
           Contains-append_right (pairs_below n all bound) (pairs_at n all bound) (a, b)
           (subst (λ (k : ℕ). Contains (pairs_at n all k) (a, b)) here named)
-      | inr before ↦ Contains-append_left (pairs_below n all bound) (pairs_at n all bound) (a, b) (pair_has n all bound a b (omega (arith, below, before)) is)
+      | inr before ↦ Contains-append_left (pairs_below n all bound) (pairs_at n all bound) (
+        a,
+        b,
+      ) (pair_has n all bound a b (omega (arith, below, before)) is)
     ]
 
 -- pairs are of exceptions of the table
@@ -121,7 +126,8 @@ pairs_in_range n all zero few = All-nil (λ (p : ℕ × ℕ). (p.0 < length all)
 pairs_in_range n all (suc bound) few =
     let P : ℕ × ℕ → Type 0 = λ (p : ℕ × ℕ). (p.0 < length all) × (p.1 < length all) in
     All-append P (pairs_below n all bound) (pairs_at n all bound) (pairs_in_range n all bound (omega (arith, few)))
-    (All-map P (λ (set : ℕ). (bound, number_in all set)) (lowered n (slice_index all bound)) (λ k d lt. (omega (arith, few), number_below all _ (omega (arith, few)))))
+    (All-map P (λ (set : ℕ). (bound, number_in all set)) (lowered n (slice_index all bound))
+    (λ k d lt. (omega (arith, few), number_below all _ (omega (arith, few)))))
 
 -- ---- a loop that adds the pairs of one exception, from the greatest member on
 -- the exception over a set

@@ -62,7 +62,8 @@ number-members n most a a_in =
     let all = table n most in
     let at : position_or_len (λ other. other == set) all ≡ a =
     position_or_len_is (λ other. other == set) all a 0 (omega (arith, a_in))
-    (λ k less. ne_eqb (get_or all k 0) set (λ same. let e = members_apart n most k a (omega (arith, less, a_in)) a_in same in omega (arith, less, e)))
+    (λ k less. ne_eqb (get_or all k 0) set (λ same. let e =
+    members_apart n most k a (omega (arith, less, a_in)) a_in same in omega (arith, less, e)))
     (λ _. eq-eqb (get_or all a 0) set refl) in
     ap (λ i. unwrap_or (cond (nat_lt i (length all)) (Some i) None) 0) at
     ∙ ap (λ b. unwrap_or (cond b (Some a) None) 0) (lt-ltb a (length all) a_in)

@@ -139,7 +139,8 @@ module _ (n most : ℕ) where
       → IsWithin (members_of n most b) (members_of n most a) → Chain (exception_count n most) (pairs_of n most) a b
   down_to zero a b sized a_some a_in b_some b_in into =
       elim (missing n (members_of n most a) (members_of n most b) ((numbered n most).stands a a_some a_in).primitives) [
-        | inr back ↦ subst (λ (x : ℕ). Chain (exception_count n most) (pairs_of n most) a x) (members_apart n most a b a_in b_in (same_within (members_of n most a) (members_of n most b) back into)) none
+        | inr back ↦ subst (λ (x : ℕ). Chain (exception_count n most) (pairs_of n most) a x)
+            (members_apart n most a b a_in b_in (same_within (members_of n most a) (members_of n most b) back into)) none
         | inl found ↦
             let down = one_down a b a_some a_in b_some b_in into found in
             let fewer = down.fewer in
@@ -147,7 +148,8 @@ module _ (n most : ℕ) where
       ]
   down_to (suc size) a b sized a_some a_in b_some b_in into =
       elim (missing n (members_of n most a) (members_of n most b) ((numbered n most).stands a a_some a_in).primitives) [
-        | inr back ↦ subst (λ (x : ℕ). Chain (exception_count n most) (pairs_of n most) a x) (members_apart n most a b a_in b_in (same_within (members_of n most a) (members_of n most b) back into)) none
+        | inr back ↦ subst (λ (x : ℕ). Chain (exception_count n most) (pairs_of n most) a x)
+            (members_apart n most a b a_in b_in (same_within (members_of n most a) (members_of n most b) back into)) none
         | inl found ↦
             let down = one_down a b a_some a_in b_some b_in into found in
             let fewer = down.fewer in

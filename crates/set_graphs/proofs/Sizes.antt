@@ -33,10 +33,12 @@ AllPairs-append R xs ys left right across i j d less below =
           elim (cases_lt i (length xs)) [
             | inl i_in ↦
                 subst (λ x. R x (get_or (xs ++ ys) j d)) (sym (get_or_append_left xs ys d i i_in))
-                (subst (λ y. R (get_or xs i d) y) (sym at_j) (across _ _ (Contains-get_or xs i d i_in) (Contains-get_or ys (j - length xs) d j_below)))
+                (subst (λ y. R (get_or xs i d) y) (sym at_j)
+                (across _ _ (Contains-get_or xs i d i_in) (Contains-get_or ys (j - length xs) d j_below)))
             | inr i_out ↦
                 subst (λ x. R x (get_or (xs ++ ys) j d)) (sym (get_or-append_right xs ys i d i_out))
-                (subst (λ y. R (get_or ys (i - length xs) d) y) (sym at_j) (right (i - length xs) (j - length xs) d (omega (arith, less, i_out)) j_below))
+                (subst (λ y. R (get_or ys (i - length xs) d) y) (sym at_j)
+                (right (i - length xs) (j - length xs) d (omega (arith, less, i_out)) j_below))
           ]
     ]
 
@@ -75,8 +77,11 @@ chosen zero (suc size) = All-nil (IsOfSize zero (suc size))
 chosen (suc n) (suc size) =
     let P : ℕ → Type 0 = IsOfSize (suc n) (suc size) in
     All-append P (map with_first (choose n size)) (map without_first (choose n (suc size)))
-    (All-map P with_first (choose n size) (All-weaker (IsOfSize n size) (λ set. P (with_first set)) (with_sized n size) (choose n size) (chosen n size)))
-    (All-map P without_first (choose n (suc size)) (All-weaker (IsOfSize n (suc size)) (λ set. P (without_first set)) (without_sized n (suc size)) (choose n (suc size)) (chosen n (suc size))))
+    (All-map P with_first (choose n size) (All-weaker (IsOfSize n size) (λ set. P (with_first set)) (with_sized n size)
+    (choose n size) (chosen n size)))
+    (All-map P without_first (choose n (suc size))
+    (All-weaker (IsOfSize n (suc size)) (λ set. P (without_first set)) (without_sized n (suc size)) (choose n (suc size))
+    (chosen n (suc size))))
 
 pub chosen_all : (n size set : ℕ) → set < 2 ^ n → size_of n set ≡ size → Contains (choose n size) set
 chosen_all zero zero set low sized =
@@ -90,13 +95,15 @@ chosen_all (suc n) (suc size) set low sized =
           let e = with_half set one in
           let found = chosen_all n size (set / 2) (half_below n set low) (omega (arith, sized, one)) in
           subst (Contains (choose (suc n) (suc size))) (sym e)
-          (Contains-append_left (map with_first (choose n size)) (map without_first (choose n (suc size))) (with_first (set / 2)) (Contains-map with_first (choose n size) (set / 2) found))
+          (Contains-append_left (map with_first (choose n size)) (map without_first (choose n (suc size)))
+          (with_first (set / 2)) (Contains-map with_first (choose n size) (set / 2) found))
       | inr other ↦
           let none : set % 2 ≡ 0 = omega (arith, other) in
           let e = without_half set none in
           let found = chosen_all n (suc size) (set / 2) (half_below n set low) (omega (arith, sized, none)) in
           subst (Contains (choose (suc n) (suc size))) (sym e)
-          (Contains-append_right (map with_first (choose n size)) (map without_first (choose n (suc size))) (without_first (set / 2)) (Contains-map without_first (choose n (suc size)) (set / 2) found))
+          (Contains-append_right (map with_first (choose n size)) (map without_first (choose n (suc size)))
+          (without_first (set / 2)) (Contains-map without_first (choose n (suc size)) (set / 2) found))
     ]
 
 -- what differs first still does behind a first primitive that both have, or both lack

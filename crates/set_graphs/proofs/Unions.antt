@@ -67,7 +67,8 @@ module _ (n most : ℕ) where
   union_below [] in_range some = pow_pos n
   union_below (x ∷ xs) in_range some =
       let low =
-      ((numbered n most).stands x (All-head (λ (x : ℕ). 0 < x) x xs some) (All-head (λ (x : ℕ). x < exception_count n most) x xs in_range)).primitives in
+      ((numbered n most).stands x (All-head (λ (x : ℕ). 0 < x) x xs some)
+      (All-head (λ (x : ℕ). x < exception_count n most) x xs in_range)).primitives in
       or_lt n (members_of n most x) (union_of n most xs) low
       (union_below xs (All-tail (λ (x : ℕ). x < exception_count n most) x xs in_range) (All-tail (λ (x : ℕ). 0 < x) x xs some))
 
@@ -76,7 +77,8 @@ module _ (n most : ℕ) where
   union_some [] full in_range some = absurd (omega (arith, full))
   union_some (x ∷ xs) full in_range some =
       let has =
-      ((numbered n most).stands x (All-head (λ (x : ℕ). 0 < x) x xs some) (All-head (λ (x : ℕ). x < exception_count n most) x xs in_range)).some in
+      ((numbered n most).stands x (All-head (λ (x : ℕ). 0 < x) x xs some)
+      (All-head (λ (x : ℕ). x < exception_count n most) x xs in_range)).some in
       some_within (members_of n most x) (union_of n most (x ∷ xs)) has
       (λ bit had. had_from_left (members_of n most x) (union_of n most xs) bit had)
 
@@ -157,7 +159,8 @@ module _ (n most : ℕ) where
                       | inr other ↦
                           let y_some : 0 < y = omega (arith, other) in
                           within y_some number.some
-                          (subst (λ (s : ℕ). IsWithin s (members_of n most y)) (sym number.members) (each_over y xs y_some y_below in_range each))
+                          (subst (λ (s : ℕ). IsWithin s (members_of n most y)) (sym number.members)
+                          (each_over y xs y_some y_below in_range each))
                     ]);
               }
         ]
@@ -169,8 +172,12 @@ module _ (n most : ℕ) where
         let union = number_of n most (union_of n most xs) in
         elim (cases_Bool any) [
           | inl among ↦ subst (IsLeastCover order xs) (sym (cond-true any 0 union among))
-              (least_universal xs in_range (λ y y_in each. over_universal n most y (over_covered y 0 y_in (omega arith) (at_universal (λ (x : ℕ). covers order y x ≡ true) xs among (all_passed (covers order y) xs each)))))
-          | inr not ↦ subst (IsLeastCover order xs) (sym (cond-false any 0 union not)) (least_union xs full in_range (none_universal xs not))
+              (least_universal xs in_range
+              (λ y y_in each. over_universal n most y
+              (over_covered y 0 y_in (omega arith)
+              (at_universal (λ (x : ℕ). covers order y x ≡ true) xs among (all_passed (covers order y) xs each)))))
+          | inr not ↦ subst (IsLeastCover order xs) (sym (cond-false any 0 union not))
+              (least_union xs full in_range (none_universal xs not))
         ]
 
     -- there is one least cover
@@ -202,7 +209,8 @@ module _ (n most : ℕ) where
       let below = first.in_range in
       let in_range : All (λ (x : ℕ). x < exception_count n most) (a ∷ b ∷ []) =
       All-cons (λ (x : ℕ). x < exception_count n most) a (b ∷ []) (omega (arith, less, below, many))
-      (All-cons (λ (x : ℕ). x < exception_count n most) b [] (omega (arith, below, many)) (All-nil (λ (x : ℕ). x < exception_count n most))) in
+      (All-cons (λ (x : ℕ). x < exception_count n most) b [] (omega (arith, below, many))
+      (All-nil (λ (x : ℕ). x < exception_count n most))) in
       first.without (least_of n most (a ∷ b ∷ []), least_is unjoined.order unjoined.is_order_of (a ∷ b ∷ []) (omega arith) in_range)
 
   -- so that nothing but want of memory is left
@@ -214,10 +222,14 @@ module _ (n most : ℕ) where
       → refusal ≡ OutOfMemory
   only_memory count pairs result (Cycle at) counts declares few is many cycle unjoined =
       absurd
-      (no_cycle at (subst (λ (k : ℕ). IsFirstInCycle k (pairs_of n most) at) counts (subst (λ (l : List (ℕ × ℕ)). IsFirstInCycle count l at) declares ((cycle at).0 is).1)))
+      (no_cycle at
+      (subst (λ (k : ℕ). IsFirstInCycle k (pairs_of n most) at) counts
+      (subst (λ (l : List (ℕ × ℕ)). IsFirstInCycle count l at) declares ((cycle at).0 is).1)))
   only_memory count pairs result (NoLeast a b) counts declares few is many cycle unjoined =
       absurd
-      (all_joined a b (subst (λ (k : ℕ). IsFirstUnjoined k (pairs_of n most) a b) counts (subst (λ (l : List (ℕ × ℕ)). IsFirstUnjoined count l a b) declares ((unjoined a b).0 is).1)))
+      (all_joined a b
+      (subst (λ (k : ℕ). IsFirstUnjoined k (pairs_of n most) a b) counts
+      (subst (λ (l : List (ℕ × ℕ)). IsFirstUnjoined count l a b) declares ((unjoined a b).0 is).1)))
   only_memory count pairs result (TooMany number) counts declares few is many cycle unjoined =
       absurd (let past = ((many number).0 is).0 in omega (arith, past, few))
   only_memory count pairs result OutOfMemory counts declares few is many cycle unjoined = refl

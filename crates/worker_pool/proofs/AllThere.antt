@@ -28,9 +28,11 @@ module _ {M : Type 0} (t : ℕ) where
   pub has_one : (seats : List (Seat M)) → 1 ≤ weight_of (one_for t) seats → has_seat t seats ≡ true
   has_one [] heavy = absurd (omega (arith, heavy))
   has_one (s ∷ seats) heavy =
-      has_by (s.participant == t) (has_seat t seats) (weight_of (one_for t) seats) (has_one seats) (omega (arith, heavy, sum_by-cons (λ (x : Seat M). one_for t (participant_of x)) s seats))
+      has_by (s.participant == t) (has_seat t seats) (weight_of (one_for t) seats) (has_one seats)
+      (omega (arith, heavy, sum_by-cons (λ (x : Seat M). one_for t (participant_of x)) s seats))
 
-pub all_there : {M : Type 0} (n : ℕ) (opened left kept : List (Seat M)) → HaveAll n opened → ((h : ℕ → ℕ) → weight_of h opened ≡ weight_of h left + weight_of h kept) → HaveAll n (left ++ kept)
+pub all_there : {M : Type 0} (n : ℕ) (opened left kept : List (Seat M)) → HaveAll n opened
+    → ((h : ℕ → ℕ) → weight_of h opened ≡ weight_of h left + weight_of h kept) → HaveAll n (left ++ kept)
 all_there {M = M} n opened left kept all same t less =
     let w = weighs_one t opened (all t less) in
     let e = same (one_for t) in

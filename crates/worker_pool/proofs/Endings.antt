@@ -17,18 +17,25 @@ module _ {M : Type 0} where
   -- one more seat was taken
   pub held_more : (before : List ℕ) (seats : List (Seat M)) (x : Seat M) (held : List ℕ) → held ≡ before ++ map participant_of seats
       → held ++ participant_of x ∷ [] ≡ before ++ map participant_of (seats ++ x ∷ [])
-  held_more before seats x held e = ap (λ l. l ++ participant_of x ∷ []) e ∙ (append_assoc before (map participant_of seats) (participant_of x ∷ []) ∙ ap (λ l. before ++ l) (sym (mapped seats x)))
+  held_more before seats x held e = ap (λ l. l ++ participant_of x ∷ []) e
+      ∙ (append_assoc before (map participant_of seats) (participant_of x ∷ []) ∙ ap (λ l. before ++ l) (sym (mapped seats x)))
 
   weighs_mapped : (h : ℕ → ℕ) (seats : List (Seat M)) → sum_by h (map participant_of seats) ≡ weight_of h seats
   weighs_mapped h [] = refl
-  weighs_mapped h (s ∷ seats) = omega (arith, sum_by-cons h (participant_of s) (map participant_of seats), sum_by-cons (λ (x : Seat M). h (participant_of x)) s seats, weighs_mapped h seats)
+  weighs_mapped h (s ∷ seats) = omega (
+    arith,
+    sum_by-cons h (participant_of s) (map participant_of seats),
+    sum_by-cons (λ (x : Seat M). h (participant_of x)) s seats,
+    weighs_mapped h seats,
+  )
 
   nothing_weighs : (h : ℕ → ℕ) (queued : List (Seat M)) → length queued ≡ 0 → weight_of h queued ≡ 0
   nothing_weighs h [] e = refl
   nothing_weighs h (x ∷ xs) e = absurd (omega (arith, e))
 
   -- nothing is queued any more
-  pub at_end : (v : HandView M) (before : List ℕ) (opened seats queued : List (Seat M)) → v.opened ≡ opened → v.held ≡ before ++ map participant_of seats
+  pub at_end : (v : HandView M) (before : List ℕ) (opened seats queued : List (Seat M)) → v.opened ≡ opened → v.held ≡ before
+      ++ map participant_of seats
       → length queued ≡ 0 → AreAll v queued → (h : ℕ → ℕ) → weight_of h opened ≡ weight_of h seats + sum_by h before
   at_end v before opened seats queued o e none all h =
       let a = all h in

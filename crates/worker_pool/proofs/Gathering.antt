@@ -9,7 +9,8 @@ use Rattle.worker_pool.specs.declared.hand_view.HandView.{HandView}
 use Rattle.worker_pool.specs.inner.Steps.{both_hands}
 use Rattle.worker_pool.specs.Hands.{parts_by, weight_by}
 
-module _ {M : Type 0} (v w u : HandView M) (hand : Hand M) (rest others : List (Hand M)) (joined : u ≡ both_hands v w) (is : w ≡ view hand.pass) (cut : others ≡ rest ++ hand ∷ []) where
+module _ {M : Type 0} (v w u : HandView M) (hand : Hand M) (rest others : List (Hand M)) (joined : u ≡ both_hands v w)
+    (is : w ≡ view hand.pass) (cut : others ≡ rest ++ hand ∷ []) where
   pub gathered_parts : (total : ℕ) → v.parts + sum_by parts_by others ≡ total → u.parts + sum_by parts_by rest ≡ total
   gathered_parts total e =
       let a : u.parts ≡ v.parts + w.parts = ap (λ (x : HandView M). x.parts) joined in
@@ -17,7 +18,8 @@ module _ {M : Type 0} (v w u : HandView M) (hand : Hand M) (rest others : List (
       let c : sum_by parts_by others ≡ sum_by parts_by (rest ++ hand ∷ []) = ap (sum_by parts_by) cut in
       omega (arith, a, b, c, e, sum_by_push parts_by rest hand)
 
-  pub gathered_held : (h : ℕ → ℕ) (total : ℕ) → sum_by h v.held + sum_by (weight_by h) others ≡ total → sum_by h u.held + sum_by (weight_by h) rest ≡ total
+  pub gathered_held : (h : ℕ → ℕ) (total : ℕ) → sum_by h v.held + sum_by (weight_by h) others ≡ total
+      → sum_by h u.held + sum_by (weight_by h) rest ≡ total
   gathered_held h total e =
       let a : sum_by h u.held ≡ sum_by h (v.held ++ w.held) = ap (λ (x : HandView M). sum_by h x.held) joined in
       let b : sum_by h w.held ≡ weight_by h hand = ap (λ (x : HandView M). sum_by h x.held) is in
@@ -28,7 +30,8 @@ module _ {M : Type 0} (v w u : HandView M) (hand : Hand M) (rest others : List (
   gathered_some some = let a : u.parts ≡ v.parts + w.parts = ap (λ (x : HandView M). x.parts) joined in omega (arith, a, some)
 
 -- one hand is taken out of a list, and its pass takes in those of the others
-module _ {M : Type 0} (hands : List (Hand M)) (at : ℕ) (hand : Hand M) (rest : List (Hand M)) (v u : HandView M) (within : at < length hands) (value : hand ≡ slice_index_or hands at hand)
+module _ {M : Type 0} (hands : List (Hand M)) (at : ℕ) (hand : Hand M) (rest : List (Hand M)) (v u : HandView M)
+    (within : at < length hands) (value : hand ≡ slice_index_or hands at hand)
     (cut : rest ≡ swap_remove hands at hand) (is : v ≡ view hand.pass) where
   pub whole_parts : u.parts ≡ v.parts + sum_by parts_by rest → 17 ≤ sum_by parts_by hands → 17 ≤ u.parts
   whole_parts e all =
@@ -37,7 +40,8 @@ module _ {M : Type 0} (hands : List (Hand M)) (at : ℕ) (hand : Hand M) (rest :
       let c : parts_by hand ≡ parts_by (slice_index_or hands at hand) = ap parts_by value in
       omega (arith, a, b, c, e, all, sum_by-swap_remove parts_by hands at hand within)
 
-  pub whole_held : (h : ℕ → ℕ) → sum_by h u.held ≡ sum_by h v.held + sum_by (weight_by h) rest → sum_by h u.held ≡ sum_by (weight_by h) hands
+  pub whole_held : (h : ℕ → ℕ) → sum_by h u.held ≡ sum_by h v.held + sum_by (weight_by h) rest
+      → sum_by h u.held ≡ sum_by (weight_by h) hands
   whole_held h e =
       let a : sum_by h v.held ≡ weight_by h hand = ap (λ (x : HandView M). sum_by h x.held) is in
       let b : sum_by (weight_by h) rest ≡ sum_by (weight_by h) (swap_remove hands at hand) = ap (sum_by (weight_by h)) cut in

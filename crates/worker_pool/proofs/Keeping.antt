@@ -22,13 +22,15 @@ Spent v = v.parts ≡ 0 → v.held ≡ []
 
 module _ {M : Type 0} where
   -- what holds of the new view and of each other one holds of all
-  each_set : (P : HandView M → Type 0) (views : List (HandView M)) (k : ℕ) (w : (HandView M)) → P w → ((j : ℕ) (u : (HandView M)) → IsAt views j u → P u)
+  each_set : (P : HandView M → Type 0) (views : List (HandView M)) (k : ℕ) (w : (HandView M)) → P w
+      → ((j : ℕ) (u : (HandView M)) → IsAt views j u → P u)
       → (j : ℕ) (u : (HandView M)) → IsAt (set views k w) j u → P u
   each_set P views k w mine others j u at =
       ⊎_elim (λ (t : (j ≡ k) × (w ≡ u)). subst P t.1 mine) (λ (t : (j ≢ k) × IsAt views j u). others j u t.1) (at_set views k j w u at)
 
   -- with one queued seat more or less
-  theirs_more : (opened queued : List (Seat M)) (x : Seat M) → AreOfTheirs opened queued → IsOfTheirs opened x → AreOfTheirs opened (queued ++ x ∷ [])
+  theirs_more : (opened queued : List (Seat M)) (x : Seat M) → AreOfTheirs opened queued → IsOfTheirs opened x
+      → AreOfTheirs opened (queued ++ x ∷ [])
   theirs_more opened [] x all one = (one, tt)
   theirs_more opened (y ∷ ys) x all one = (all.0, theirs_more opened ys x all.1 one)
 
@@ -53,7 +55,8 @@ module _ {M : Type 0} where
   -- ---- a change of one view
 
   -- the rule after one view changed and the queue too
-  changed : (queued queued' : List (Seat M)) (views : List (HandView M)) (k : ℕ) (v w : (HandView M)) (kept : RelayRule queued views) → IsAt views k v
+  changed : (queued queued' : List (Seat M)) (views : List (HandView M)) (k : ℕ) (v w : (HandView M))
+      (kept : RelayRule queued views) → IsAt views k v
       → w.parts ≡ v.parts → Same kept.opened w → Spent w
       → ((h : ℕ → ℕ) → weight_of h queued' + sum_by h w.held ≡ weight_of h queued + sum_by h v.held)
       → AreOfTheirs kept.opened queued'
@@ -63,13 +66,15 @@ module _ {M : Type 0} where
     parts = (let s = total_set (λ (u : (HandView M)). u.parts) views k v w at in let p = kept.parts in omega (arith, s, p, parts));
     same = each_set (Same kept.opened) views k w same kept.same;
     spent = each_set Spent views k w spent kept.spent;
-    balance = λ h. (let s = total_set (λ (u : (HandView M)). sum_by h u.held) views k v w at in let b = kept.balance h in let c = weighs h in omega (arith, s, b, c));
+    balance = λ h. (let s = total_set (λ (u : (HandView M)). sum_by h u.held) views k v w at in let b =
+        kept.balance h in let c = weighs h in omega (arith, s, b, c));
     theirs = theirs;
   }
 
   -- ---- taking and putting
 
-  longer : (queued : List (Seat M)) (views : List (HandView M)) (k : ℕ) (v : (HandView M)) (kept : RelayRule queued views) → IsAt views k v → 0 < v.parts
+  longer : (queued : List (Seat M)) (views : List (HandView M)) (k : ℕ) (v : (HandView M)) (kept : RelayRule queued views)
+      → IsAt views k v → 0 < v.parts
       → length queued + length v.held ≤ length v.opened
   longer queued views k v kept at some_part =
       let b = kept.balance (λ _. 1) in
@@ -95,7 +100,8 @@ module _ {M : Type 0} where
   pub knows : (k : ℕ) (v : (HandView M)) → Learns RelayRule k v (RuleHeldFor v)
   knows k v items views kept at = (views, k, at, kept)
 
-  pub puts : (n k : ℕ) (v : (HandView M)) (x : Seat M) → 0 < v.parts → Contains v.held (participant_of x) → IsOfTheirs v.opened x → Pushes RelayRule n k v x (DidPut v x)
+  pub puts : (n k : ℕ) (v : (HandView M)) (x : Seat M) → 0 < v.parts → Contains v.held (participant_of x)
+      → IsOfTheirs v.opened x → Pushes RelayRule n k v x (DidPut v x)
   puts n k v x some_part has one items views few kept at =
       let o : v.opened ≡ kept.opened = kept.same k v at some_part in
       let w : (HandView M) = record v { held = without (participant_of x) v.held } in (
@@ -114,14 +120,16 @@ module _ {M : Type 0} where
 
   -- ---- opening
 
-  others_idle : (views : List (HandView M)) (k : ℕ) (v : (HandView M)) → IsAt views k v → parts_in views ≤ v.parts → (j : ℕ) (u : (HandView M)) → j ≢ k → IsAt views j u → u.parts ≡ 0
+  others_idle : (views : List (HandView M)) (k : ℕ) (v : (HandView M)) → IsAt views k v → parts_in views ≤ v.parts
+      → (j : ℕ) (u : (HandView M)) → j ≢ k → IsAt views j u → u.parts ≡ 0
   others_idle views k v at all j u apart at' =
       let p = parts_le (λ (y : (HandView M)). y.parts) views k j v u (λ e. apart (sym e)) at at' in omega (arith, p, all)
 
   first_stays : (opened : List (Seat M)) (x y : Seat M) (more : List (Seat M)) → IsOfTheirs (x ∷ more) y → IsOfTheirs (x ∷ opened) y
   first_stays opened x y more one first at = one first at
 
-  theirs_stay : (x z : Seat M) (xs : List (Seat M)) (queued : List (Seat M)) → AreOfTheirs (x ∷ xs) queued → AreOfTheirs (x ∷ (xs ++ z ∷ [])) queued
+  theirs_stay : (x z : Seat M) (xs : List (Seat M)) (queued : List (Seat M)) → AreOfTheirs (x ∷ xs) queued
+      → AreOfTheirs (x ∷ (xs ++ z ∷ [])) queued
   theirs_stay x z xs [] all = tt
   theirs_stay x z xs (y ∷ ys) all = (all.0, theirs_stay x z xs ys all.1)
 
@@ -132,13 +140,16 @@ module _ {M : Type 0} where
   given_first : (x first : Seat M) → slice_get (x ∷ []) 0 ≡ Some first → x ≡ first
   given_first x first at = search rules
 
-  theirs_opened : (opened queued : List (Seat M)) (x : Seat M) → length queued ≤ length opened → AreOfTheirs opened queued → IsOfTheirs opened x → IsBeside x x
+  theirs_opened : (opened queued : List (Seat M)) (x : Seat M) → length queued ≤ length opened → AreOfTheirs opened queued
+      → IsOfTheirs opened x → IsBeside x x
       → AreOfTheirs (opened ++ x ∷ []) (queued ++ x ∷ [])
   theirs_opened [] queued x few all one own =
-      subst (λ q. AreOfTheirs (x ∷ []) (q ++ x ∷ [])) (sym (none_of queued few)) ((λ first at. subst (λ s. IsBeside s x) (given_first x first at) own), tt)
+      subst (λ q. AreOfTheirs (x ∷ []) (q ++ x ∷ [])) (sym (none_of queued few))
+      ((λ first at. subst (λ s. IsBeside s x) (given_first x first at) own), tt)
   theirs_opened (y ∷ ys) queued x few all one own = theirs_more (y ∷ (ys ++ x ∷ [])) queued x (theirs_stay y x ys queued all) one
 
-  pub opens : (n k : ℕ) (v : HandView M) (x : Seat M) → all_parts ≤ v.parts → IsOfTheirs v.opened x → IsBeside x x → Pushes RelayRule n k v x (Opened v x)
+  pub opens : (n k : ℕ) (v : HandView M) (x : Seat M) → all_parts ≤ v.parts → IsOfTheirs v.opened x → IsBeside x x
+      → Pushes RelayRule n k v x (Opened v x)
   opens n k v x all one own items views few kept at =
       let some_part : 0 < v.parts = omega (arith, all) in
       let o : v.opened ≡ kept.opened = kept.same k v at some_part in
@@ -157,7 +168,14 @@ module _ {M : Type 0} where
               (let s = total_set (λ (u : HandView M). sum_by h u.held) views k v w at in
               let b = kept.balance h in
               let o' : weight_of h v.opened ≡ weight_of h kept.opened = ap (weight_of h) o in
-              omega (arith, s, b, o', total_more (λ (y : Seat M). h (participant_of y)) items x, total_more (λ (y : Seat M). h (participant_of y)) v.opened x));
+              omega (
+                arith,
+                s,
+                b,
+                o',
+                total_more (λ (y : Seat M). h (participant_of y)) items x,
+                total_more (λ (y : Seat M). h (participant_of y)) v.opened x,
+              ));
           theirs = theirs_opened v.opened items x (omega (arith, long)) (subst (λ o'. AreOfTheirs o' items) (sym o) kept.theirs) one own;
         },
         refl,
@@ -194,7 +212,8 @@ module _ {M : Type 0} where
 
   -- ---- joining
 
-  pub merges : (k : ℕ) (v : HandView M) (other : ℕ) (w : HandView M) → 0 < v.parts → Merges RelayRule k v other w (both_hands v w) spent_hand
+  pub merges : (k : ℕ) (v : HandView M) (other : ℕ) (w : HandView M) → 0 < v.parts
+      → Merges RelayRule k v other w (both_hands v w) spent_hand
   merges k v other w some_part items views kept at two at' =
       let b : HandView M = both_hands v w in
       let o : v.opened ≡ kept.opened = kept.same k v at some_part in
@@ -205,7 +224,8 @@ module _ {M : Type 0} where
             let t = total_set (λ (u : HandView M). u.parts) (set views k b) other w spent_hand at' in
             let p = kept.parts in
             omega (arith, s, t, p));
-        same = each_set (Same kept.opened) (set views k b) other spent_hand (λ some. absurd (omega arith)) (each_set (Same kept.opened) views k b (λ _. o) kept.same);
+        same = each_set (Same kept.opened) (set views k b) other spent_hand (λ some. absurd (omega arith))
+            (each_set (Same kept.opened) views k b (λ _. o) kept.same);
         spent = each_set Spent (set views k b) other spent_hand (λ _. refl)
             (each_set Spent views k b (λ none. absurd (omega (arith, none, some_part))) kept.spent);
         balance = λ h.
@@ -223,7 +243,9 @@ module _ {M : Type 0} where
       let some_part : 0 < v.parts = omega (arith, all) in
       let most : parts_in views ≤ v.parts = (let p = kept.parts in omega (arith, p, all)) in
       let idle : (j : ℕ) (u : HandView M) → j ≢ k → IsAt views j u → u.parts ≡ 0 = others_idle views k v at most in
-      let alone = total_alone (λ (u : HandView M). sum_by h u.held) views k v at (λ j u apart at'. ap (sum_by h) (kept.spent j u at' (idle j u apart at'))) in
+      let alone =
+      total_alone (λ (u : HandView M). sum_by h u.held) views k v at
+      (λ j u apart at'. ap (sum_by h) (kept.spent j u at' (idle j u apart at'))) in
       let b = kept.balance h in
       let o : weight_of h v.opened ≡ weight_of h kept.opened = ap (weight_of h) (kept.same k v at some_part) in
       omega (arith, alone, b, o)

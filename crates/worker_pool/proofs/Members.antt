@@ -12,7 +12,8 @@ use Rattle.worker_pool.specs.inner.Working.{IsAtWork, IsMember, number_by}
 
 module _ {M : Type 0} where
   -- a worker that has taken nothing yet
-  pub fresh_worker : (relay : Relay M) (worker : Worker M) → IsHandOf relay worker.hand × (held_by worker.hand ≡ []) → (worker.kept.items ≡ []) × (length (opened_in relay) ≤ vec_capacity worker.kept)
+  pub fresh_worker : (relay : Relay M) (worker : Worker M) → IsHandOf relay worker.hand × (held_by worker.hand ≡ [])
+      → (worker.kept.items ≡ []) × (length (opened_in relay) ≤ vec_capacity worker.kept)
       → IsAtWork relay (number_of worker.hand) worker
   fresh_worker relay worker hand kept = record {
     hand = hand.0;
@@ -23,7 +24,8 @@ module _ {M : Type 0} where
   }
 
   -- by its own number
-  pub by_own_number : (relay : Relay M) (n : ℕ) (worker : Worker M) → IsAtWork relay n worker → IsAtWork relay (number_of worker.hand) worker
+  pub by_own_number : (relay : Relay M) (n : ℕ) (worker : Worker M) → IsAtWork relay n worker
+      → IsAtWork relay (number_of worker.hand) worker
   by_own_number relay n worker at = subst (λ k. IsAtWork relay k worker) (sym at.numbered) at
 
   -- by the relay and the number that were promised
@@ -31,18 +33,21 @@ module _ {M : Type 0} where
   as_promised relay other n worker same at = subst (λ r. IsAtWork r n worker) same at
 
   -- the number of a member that was started
-  pub number_started : {H : Type 0} (relay : Relay M) (relay_of : H → Relay M) (f : H → ℕ) (n : ℕ) (r : Result H (Worker M)) → IfOk r (λ h. (relay_of h ≡ relay) × (f h ≡ n)) → IfErr r (λ w. IsAtWork relay n w)
+  pub number_started : {H : Type 0} (relay : Relay M) (relay_of : H → Relay M) (f : H → ℕ) (n : ℕ) (r : Result H (Worker M))
+      → IfOk r (λ h. (relay_of h ≡ relay) × (f h ≡ n)) → IfErr r (λ w. IsAtWork relay n w)
       → number_by f r ≡ n
   number_started relay relay_of f n (Ok h) ok err = ok.1
   number_started relay relay_of f n (Err w) ok err = err.numbered
 
-  pub member_started : {H : Type 0} (relay : Relay M) (relay_of : H → Relay M) (f : H → ℕ) (n : ℕ) (r : Result H (Worker M)) → IfOk r (λ h. (relay_of h ≡ relay) × (f h ≡ n)) → IfErr r (λ w. IsAtWork relay n w)
+  pub member_started : {H : Type 0} (relay : Relay M) (relay_of : H → Relay M) (f : H → ℕ) (n : ℕ) (r : Result H (Worker M))
+      → IfOk r (λ h. (relay_of h ≡ relay) × (f h ≡ n)) → IfErr r (λ w. IsAtWork relay n w)
       → IsMember relay relay_of r
   member_started relay relay_of f n (Ok h) ok err = ok.0
   member_started relay relay_of f n (Err w) ok err = by_own_number relay n w err
 
   -- one worker more is back
-  pub held_back : {V : Type 0} (h : ℕ → ℕ) (hands hands' : List (Hand M)) (kept kept' : List V) (hand : Hand M) (v : V) (f : V → ℕ) → hands' ≡ hands ++ hand ∷ [] → kept' ≡ kept ++ v ∷ []
+  pub held_back : {V : Type 0} (h : ℕ → ℕ) (hands hands' : List (Hand M)) (kept kept' : List V) (hand : Hand M) (v : V)
+      (f : V → ℕ) → hands' ≡ hands ++ hand ∷ [] → kept' ≡ kept ++ v ∷ []
       → weight_by h hand ≡ f v → sum_by (weight_by h) hands ≡ sum_by f kept → sum_by (weight_by h) hands' ≡ sum_by f kept'
   held_back h hands hands' kept kept' hand v f more more' same all =
       let a : sum_by (weight_by h) hands' ≡ sum_by (weight_by h) (hands ++ hand ∷ []) = ap (sum_by (weight_by h)) more in

@@ -38,12 +38,15 @@ same a b is = ⊎_elim (λ (t : ((a == b) ≡ true) × (a ≡ b)). t.0) (λ t. a
 pub all_below : (hands : ℕ) → 0 < hands → hands ≤ 17 → below (part_of hands) hands ≡ 17
 all_below zero some few = absurd (omega (arith, some))
 all_below (suc m) some few =
-    let ones = below_ones (part_of (suc m)) m (λ j less. one_by (suc m) (j + 1 == suc m) (not_same (j + 1) (suc m) (λ e. omega (arith, e, less)))) in
+    let ones =
+    below_ones (part_of (suc m)) m
+    (λ j less. one_by (suc m) (j + 1 == suc m) (not_same (j + 1) (suc m) (λ e. omega (arith, e, less)))) in
     let rest = rest_by (suc m) (m + 1 == suc m) (same (m + 1) (suc m) (omega arith)) in
     omega (arith, ones, rest, few)
 
 module _ {M : Type 0} where
-  at_number : (k : ℕ) (hs : List (Hand M)) (i : ℕ) (h : Hand M) → i < length hs → slice_index_or hs i h ≡ h → slice_index_or (map (λ (x : Hand M). x.number) hs) i k ≡ h.number
+  at_number : (k : ℕ) (hs : List (Hand M)) (i : ℕ) (h : Hand M) → i < length hs → slice_index_or hs i h ≡ h
+      → slice_index_or (map (λ (x : Hand M). x.number) hs) i k ≡ h.number
   at_number k [] i h less is = absurd (omega (arith, less))
   at_number k (x ∷ xs) zero h less is = ap (λ (y : Hand M). y.number) is
   at_number k (x ∷ xs) (suc i) h less is = at_number k xs i h (omega (arith, less)) is
@@ -61,16 +64,29 @@ module _ {M : Type 0} where
 
   weighs_numbers : (f : ℕ → ℕ) (hs : List (Hand M)) → sum_by f (map (λ (x : Hand M). x.number) hs) ≡ sum_by (λ (h : Hand M). f h.number) hs
   weighs_numbers f [] = refl
-  weighs_numbers f (h ∷ hs) = omega (arith, sum_by-cons f h.number (map (λ (x : Hand M). x.number) hs), sum_by-cons (λ (x : Hand M). f x.number) h hs, weighs_numbers f hs)
+  weighs_numbers f (h ∷ hs) = omega (
+    arith,
+    sum_by-cons f h.number (map (λ (x : Hand M). x.number) hs),
+    sum_by-cons (λ (x : Hand M). f x.number) h hs,
+    weighs_numbers f hs,
+  )
 
-  parts_known : (relay : Relay M) (hs : List (Hand M)) → All (λ h. IsHandOf relay h) hs → sum_by parts_by hs ≡ sum_by (λ (h : Hand M). part_of relay.hands h.number) hs
+  parts_known : (relay : Relay M) (hs : List (Hand M)) → All (λ h. IsHandOf relay h) hs
+      → sum_by parts_by hs ≡ sum_by (λ (h : Hand M). part_of relay.hands h.number) hs
   parts_known relay [] all = refl
   parts_known relay (h ∷ hs) all =
       let mine = (all 0 h (omega arith)).parts in
-      omega (arith, sum_by-cons parts_by h hs, sum_by-cons (λ (x : Hand M). part_of relay.hands x.number) h hs, mine, parts_known relay hs (All-tail (λ x. IsHandOf relay x) h hs all))
+      omega (
+        arith,
+        sum_by-cons parts_by h hs,
+        sum_by-cons (λ (x : Hand M). part_of relay.hands x.number) h hs,
+        mine,
+        parts_known relay hs (All-tail (λ x. IsHandOf relay x) h hs all),
+      )
 
   -- where no hand is missing, the hands have all parts
-  pub have_parts : (relay : Relay M) (hs : List (Hand M)) → All (λ h. IsHandOf relay h) hs → HaveAll relay.hands hs → 17 ≤ sum_by parts_by hs
+  pub have_parts : (relay : Relay M) (hs : List (Hand M)) → All (λ h. IsHandOf relay h) hs → HaveAll relay.hands hs
+      → 17 ≤ sum_by parts_by hs
   have_parts relay hs all every =
       let e = enough (part_of relay.hands) relay.hands (map (λ (x : Hand M). x.number) hs) (λ j less. found j hs (every j less)) in
       let b = all_below relay.hands relay.few.0 relay.few.1 in

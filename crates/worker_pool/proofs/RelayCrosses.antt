@@ -24,11 +24,13 @@ use Rattle.atomic_table.proofs.shared.Seat.TheSendSync as token_crosses
 
 module _ (M : RattleType) (s : IsSend M) where
   pub row_send : IsSend (seat.the_row M)
-  row_send = recorded_send (Struct (shape (seat.the_type M))) (seat.the_type M).D (seat.the_type M).to (seat.the_type M).to_one (seat_send M s)
+  row_send = recorded_send (Struct (shape (seat.the_type M))) (seat.the_type M).D (seat.the_type M).to (seat.the_type M).to_one
+      (seat_send M s)
 
   pub relay_sync : IsSync (Struct (shape (relay.the_type M)))
   relay_sync = struct_sync (shape (relay.the_type M)) (
-    queue_crosses.the_field_sync (option.the_row (seat.the_row M)) (doing.the_row (seat.the_row M) (view.the_row M)) (turns.the_row (once.the_row M)) heap.the_row
+    queue_crosses.the_field_sync (option.the_row (seat.the_row M)) (doing.the_row (seat.the_row M) (view.the_row M))
+        (turns.the_row (once.the_row M)) heap.the_row
         (ruled.ghosts (seat.the_row M) (view.the_row M) (once.the_row M) (rule.ghosts M) ruled.no_dict) heap_impl.ghosts
         (option_crosses.the_send (seat.the_row M) row_send) send sync (record { frees = frees.frees }),
     (search sendable, (search (crosses, sendable) depth 20, tt)),
@@ -37,7 +39,8 @@ module _ (M : RattleType) (s : IsSend M) where
   -- so may a hand go there
   pub hand_send : IsSend (Struct (shape (hand.the_type M)))
   hand_send = struct_send (shape (hand.the_type M)) (
-    token_crosses.the_send (option.the_row (seat.the_row M)) (doing.the_row (seat.the_row M) (view.the_row M)) (option_crosses.the_send (seat.the_row M) row_send),
+    token_crosses.the_send (option.the_row (seat.the_row M)) (doing.the_row (seat.the_row M) (view.the_row M))
+        (option_crosses.the_send (seat.the_row M) row_send),
     (search sendable, (Vec-send (seat.the_row M) row_send, tt)),
   )
 

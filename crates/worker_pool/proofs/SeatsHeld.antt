@@ -27,18 +27,22 @@ module _ {M : Type 0} where
 
 module _ {M : Type 0} (table : TableId) (terms : Terms) where
   -- what is of the manager of the opened seats is of this manager
-  pub theirs_in : (opened : List (Seat M)) (seat : Seat M) → 0 < length opened → All (λ s. IsSeatOf table terms s) opened → IsOfTheirs opened seat → IsSeatOf table terms seat
+  pub theirs_in : (opened : List (Seat M)) (seat : Seat M) → 0 < length opened → All (λ s. IsSeatOf table terms s) opened
+      → IsOfTheirs opened seat → IsSeatOf table terms seat
   theirs_in [] seat some all one = absurd (omega (arith, some))
   theirs_in (x ∷ xs) seat some all one = beside_opened table terms x seat (all 0 x (omega arith)) (one x (head_of x xs))
 
   -- the other way round
-  pub in_theirs : (opened : List (Seat M)) (seat : Seat M) → All (λ s. IsSeatOf table terms s) opened → IsSeatOf table terms seat → IsOfTheirs opened seat
+  pub in_theirs : (opened : List (Seat M)) (seat : Seat M) → All (λ s. IsSeatOf table terms s) opened
+      → IsSeatOf table terms seat → IsOfTheirs opened seat
   in_theirs opened seat all mine first at = both_beside table terms first seat (first_in (IsSeatOf table terms) opened first at all) mine
 
 -- a seat was taken and put back
-pub put_back : (h : ℕ → ℕ) (x p : ℕ) (held taken left : List ℕ) (total : ℕ) → x ≡ p → taken ≡ held ++ p ∷ [] → left ≡ without x taken → sum_by h held ≡ total → sum_by h left ≡ total
+pub put_back : (h : ℕ → ℕ) (x p : ℕ) (held taken left : List ℕ) (total : ℕ) → x ≡ p → taken ≡ held ++ p ∷ []
+    → left ≡ without x taken → sum_by h held ≡ total → sum_by h left ≡ total
 put_back h x p held taken left total same took put e =
-    let has : Contains taken x = subst (λ l. Contains l x) (sym took) (subst (λ y. Contains (held ++ y ∷ []) x) same (Contains-push held x)) in
+    let has : Contains taken x =
+    subst (λ l. Contains l x) (sym took) (subst (λ y. Contains (held ++ y ∷ []) x) same (Contains-push held x)) in
     let w = without_weighs h x taken has in
     let t : sum_by h taken ≡ sum_by h (held ++ p ∷ []) = ap (sum_by h) took in
     let l : sum_by h left ≡ sum_by h (without x taken) = ap (sum_by h) put in
@@ -46,7 +50,8 @@ put_back h x p held taken left total same took put e =
     omega (arith, w, t, l, s, e, sum_by_push h held p)
 
 -- and kept
-pub keep_one : {M : Type 0} (h : ℕ → ℕ) (seat : Seat M) (p : ℕ) (held taken : List ℕ) (kept more : List (Seat M)) → participant_of seat ≡ p → taken ≡ held ++ p ∷ [] → more ≡ kept ++ seat ∷ []
+pub keep_one : {M : Type 0} (h : ℕ → ℕ) (seat : Seat M) (p : ℕ) (held taken : List ℕ) (kept more : List (Seat M))
+    → participant_of seat ≡ p → taken ≡ held ++ p ∷ [] → more ≡ kept ++ seat ∷ []
     → sum_by h held ≡ weight_of h kept → sum_by h taken ≡ weight_of h more
 keep_one {M = M} h seat p held taken kept more same took pushed e =
     let t : sum_by h taken ≡ sum_by h (held ++ p ∷ []) = ap (sum_by h) took in
@@ -55,5 +60,6 @@ keep_one {M = M} h seat p held taken kept more same took pushed e =
     omega (arith, t, m, s, e, sum_by_push h held p, sum_by_push (λ (x : Seat M). h (participant_of x)) kept seat)
 
 -- as many are held as are kept
-pub as_many : {M : Type 0} (held : List ℕ) (kept : List (Seat M)) → ((h : ℕ → ℕ) → sum_by h held ≡ weight_of h kept) → length held ≡ length kept
+pub as_many : {M : Type 0} (held : List ℕ) (kept : List (Seat M)) → ((h : ℕ → ℕ) → sum_by h held ≡ weight_of h kept)
+    → length held ≡ length kept
 as_many held kept e = let one = e (λ _. 1) in omega (arith, one, ones held, ones kept)

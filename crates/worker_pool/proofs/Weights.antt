@@ -12,7 +12,8 @@ module _ {A : Type 0} (f : A → ℕ) where
   -- the weight after one change
   pub total_set : (xs : List A) (k : ℕ) (v w : A) → get_elem? xs k ≡ some v → sum_by f (set xs k w) + f v ≡ sum_by f xs + f w
   total_set [] k v w e = absurd (some-ne-none v (sym e))
-  total_set (x ∷ xs) zero v w e = let same : x ≡ v = some-injective x v e in omega (arith, sum_by-cons f x xs, sum_by-cons f w xs, ap f same)
+  total_set (x ∷ xs) zero v w e = let same : x ≡ v =
+      some-injective x v e in omega (arith, sum_by-cons f x xs, sum_by-cons f w xs, ap f same)
   total_set (x ∷ xs) (suc k) v w e = omega (arith, sum_by-cons f x xs, sum_by-cons f x (set xs k w), total_set xs k v w e)
 
   -- no member weighs more than the whole
@@ -25,8 +26,10 @@ module _ {A : Type 0} (f : A → ℕ) where
   pub parts_le : (xs : List A) (i j : ℕ) (v w : A) → i ≢ j → get_elem? xs i ≡ some v → get_elem? xs j ≡ some w → f v + f w ≤ sum_by f xs
   parts_le [] i j v w apart at at' = absurd (some-ne-none v (sym at))
   parts_le (x ∷ xs) zero zero v w apart at at' = absurd (apart refl)
-  parts_le (x ∷ xs) zero (suc j) v w apart at at' = let same : x ≡ v = some-injective x v at in omega (arith, sum_by-cons f x xs, ap f same, part_le xs j w at')
-  parts_le (x ∷ xs) (suc i) zero v w apart at at' = let same : x ≡ w = some-injective x w at' in omega (arith, sum_by-cons f x xs, ap f same, part_le xs i v at)
+  parts_le (x ∷ xs) zero (suc j) v w apart at at' = let same : x ≡ v =
+      some-injective x v at in omega (arith, sum_by-cons f x xs, ap f same, part_le xs j w at')
+  parts_le (x ∷ xs) (suc i) zero v w apart at at' = let same : x ≡ w =
+      some-injective x w at' in omega (arith, sum_by-cons f x xs, ap f same, part_le xs i v at)
   parts_le (x ∷ xs) (suc i) (suc j) v w apart at at' =
       omega (arith, sum_by-cons f x xs, parts_le xs i j v w (λ e. apart (ap suc e)) at at')
 
@@ -47,7 +50,12 @@ module _ {A : Type 0} (f : A → ℕ) where
       let same : x ≡ v = some-injective x v e in
       omega (arith, sum_by-cons f x xs, ap f same, total_none xs (λ j w at. none (suc j) w (λ h. omega arith) at))
   total_alone (x ∷ xs) (suc k) v e none =
-      omega (arith, sum_by-cons f x xs, none 0 x (λ h. omega arith) refl, total_alone xs k v e (λ j w apart at. none (suc j) w (λ h. apart (omega arith)) at))
+      omega (
+        arith,
+        sum_by-cons f x xs,
+        none 0 x (λ h. omega arith) refl,
+        total_alone xs k v e (λ j w apart at. none (suc j) w (λ h. apart (omega arith)) at),
+      )
 
 -- each member weighs one: the weight is the length
 pub ones : {A : Type 0} (xs : List A) → sum_by (λ (x : A). 1) xs ≡ length xs
@@ -69,7 +77,8 @@ without_weighs h x [] has = let short = has.1 in absurd (omega arith)
 without_weighs h x (y ∷ ys) has =
     without_by h x y ys (y == x)
     (λ yes. ⊎_elim (λ (t : ((y == x) ≡ true) × (y ≡ x)). t.1) (λ t. absurd (grind (arith, t.0, yes))) (eqb_tells y x))
-    (λ no. ⊎_elim (λ (t : ((y == x) ≡ true) × (y ≡ x)). absurd (grind (arith, t.0, no))) (λ t. without_weighs h x ys (in_rest x y ys has t.1)) (eqb_tells y x))
+    (λ no. ⊎_elim (λ (t : ((y == x) ≡ true) × (y ≡ x)). absurd (grind (arith, t.0, no)))
+    (λ t. without_weighs h x ys (in_rest x y ys has t.1)) (eqb_tells y x))
 
 -- ---- enough of each number
 
@@ -82,7 +91,8 @@ first_or : (x j y : ℕ) (ys : List ℕ) → Contains (y ∷ ys) j → (Contains
 first_or x j y ys (zero, few, is) rest = (0, omega arith, is)
 first_or x j y ys (suc k, few, is) rest = let r = rest (k, omega (arith, few), is) in (suc r.0, (let s = r.1 in omega (arith, s)), r.2)
 
-contains_by : (x j y : ℕ) (ys : List ℕ) (b : Bool) → (b ≡ true → y ≡ x) → Contains (y ∷ ys) j → j ≢ x → (Contains ys j → Contains (without x ys) j)
+contains_by : (x j y : ℕ) (ys : List ℕ) (b : Bool) → (b ≡ true → y ≡ x) → Contains (y ∷ ys) j → j ≢ x
+    → (Contains ys j → Contains (without x ys) j)
     → Contains (if b then ys else (y ∷ without x ys)) j
 contains_by x j y ys true = λ yes has other rest. in_rest j y ys has (λ e. other (sym e ∙ yes refl))
 contains_by x j y ys false = λ yes has other rest. first_or x j y ys has rest
@@ -90,7 +100,8 @@ contains_by x j y ys false = λ yes has other rest. first_or x j y ys has rest
 pub contains_without : (x j : ℕ) (ys : List ℕ) → Contains ys j → j ≢ x → Contains (without x ys) j
 contains_without x j [] has other = has
 contains_without x j (y ∷ ys) has other =
-    contains_by x j y ys (y == x) (λ yes. ⊎_elim (λ (t : ((y == x) ≡ true) × (y ≡ x)). t.1) (λ t. absurd (grind (arith, t.0, yes))) (eqb_tells y x)) has other
+    contains_by x j y ys (y == x)
+    (λ yes. ⊎_elim (λ (t : ((y == x) ≡ true) × (y ≡ x)). t.1) (λ t. absurd (grind (arith, t.0, yes))) (eqb_tells y x)) has other
     (λ in_ys. contains_without x j ys in_ys other)
 
 -- a list in which each number below k stands weighs no less than these

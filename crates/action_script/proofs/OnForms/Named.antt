@@ -60,7 +60,9 @@ line_at test (first ∷ lines) (suc i) d line within at all =
     let p = and_parts (test first.form) _ all in
     line_at test lines i d line (omega arith) at p.1
 
-pub form_sound : (lines : List Line) (names : List (List ℕ)) (script : Script) (i : ℕ) (line : Line) → record { lines = lines; names = names } ≡ script → AreScript names (forms_of lines) → i < length script.lines → line ≡ get_or lines i line → is_sound script.names line.form ≡ true
+pub form_sound : (lines : List Line) (names : List (List ℕ)) (script : Script) (i : ℕ) (line : Line)
+    → record { lines = lines; names = names } ≡ script → AreScript names (forms_of lines) → i < length script.lines
+    → line ≡ get_or lines i line → is_sound script.names line.form ≡ true
 form_sound lines names script i line same whole within at =
     let P : Script → Type 0 = λ s. i < length s.lines → is_sound s.names line.form ≡ true in
     subst P same (λ below. line_at (is_sound names) lines i line line below at whole.sound) within

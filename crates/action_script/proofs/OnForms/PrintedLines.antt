@@ -32,7 +32,12 @@ pub record SayFields (names : List (List ℕ)) (parts : List Part) (fields : Lis
   pub right : list_all is_right (asked_of parts (map (field_word names) fields)) ≡ true
   pub words : AreWords (map (field_word names) fields)
 
-say_one : (names : List (List ℕ)) (p : Part) (parts : List Part) (f : Field) (fields : List Field) → AreNumbered names → fits_part names p f ≡ true → SayFields names parts fields → (map (field_of names) (record { part = p; word = field_word names f } ∷ asked_of parts (map (field_word names) fields)) ≡ f ∷ fields) × (list_all is_right (record { part = p; word = field_word names f } ∷ asked_of parts (map (field_word names) fields)) ≡ true) × AreWords (map (field_word names) (f ∷ fields))
+say_one : (names : List (List ℕ)) (p : Part) (parts : List Part) (f : Field) (fields : List Field) → AreNumbered names
+    → fits_part names p f ≡ true → SayFields names parts fields
+    → (map (field_of names) (record { part = p; word = field_word names f } ∷ asked_of parts (map (field_word names) fields))
+    ≡ f ∷ fields)
+    × (list_all is_right (record { part = p; word = field_word names f } ∷ asked_of parts (map (field_word names) fields))
+    ≡ true) × AreWords (map (field_word names) (f ∷ fields))
 say_one names p parts f fields numbered h rest =
     let one = field_by-word names p f numbered h in
     let right = field_word-part names p f h in
@@ -118,7 +123,8 @@ line_of-form s names form numbered sound short stands =
     within
     ∙ ap (λ ws. line_by_words s (list_all is_plain (form_line names form)) ws) cut
     ∙ ap
-    (λ b. if b then Ok None else (if list_all is_plain (form_line names form) then by_kind words (kind_here s (word_of k) (length words)) else Err cause.BadLine))
+    (λ b. if b then Ok None else
+    (if list_all is_plain (form_line names form) then by_kind words (kind_here s (word_of k) (length words)) else Err cause.BadLine))
     (first_speaks k)
     ∙ ap (λ b. if b then by_kind words (kind_here s (word_of k) (length words)) else Err cause.BadLine) plain
     ∙ ap (by_kind words) here

@@ -68,7 +68,8 @@ all_made-own names done (p ∷ parts) [] e h = absurd (omega arith)
 all_made-own names done (p ∷ parts) (f ∷ fields) e h =
     let both = and_parts (fits_part names p f) _ h in
     let first : made p (slice_get (done ++ f ∷ fields) (length done)) ≡ f = ap (made p) (there done f fields) ∙ made_own names p f both.0 in
-    let same : all_made (length done + 1) parts (done ++ f ∷ fields) ≡ all_made (length (done ++ f ∷ [])) parts ((done ++ f ∷ []) ++ fields) =
+    let same : all_made (length done + 1) parts (done ++ f ∷ fields) ≡ all_made (length (done ++ f ∷ [])) parts
+    ((done ++ f ∷ []) ++ fields) =
     ap₂ (λ i l. all_made i parts l) (sym (one_longer done f)) (sym (append_assoc done (f ∷ []) fields)) in
     ap₂ (λ x l. x ∷ l) first (same ∙ all_made-own names (done ++ f ∷ []) parts fields (omega arith) both.1)
 

@@ -46,8 +46,14 @@ weight-spaced (word ∷ words) = omega (arith, length-append word (spaced words)
 
 joined_short : (line first : List ℕ) (words : List (List ℕ)) → words_of line ≡ first ∷ words → length (first ++ spaced words) ≤ length line
 joined_short line first words cut =
-    omega
-    (arith, length-append first (spaced words), weight-spaced words, ap weight cut, weight-filled (slice_split is_blank line), weight-split is_blank line)
+    omega (
+      arith,
+      length-append first (spaced words),
+      weight-spaced words,
+      ap weight cut,
+      weight-filled (slice_split is_blank line),
+      weight-split is_blank line,
+    )
 
 -- ---- words that were tried
 
@@ -74,7 +80,9 @@ right_checked asked h = by_tests (list_all (λ a. not (is_wrong_test a)) asked) 
 
 -- ---- words as fields
 
-among_first : (test : List ℕ → Bool) (p : Part) (word : List ℕ) (asked : List Asked) → list_all test (names_of (record { part = p; word = word } ∷ asked)) ≡ true → (is_name_part p ≡ true → test word ≡ true) × (list_all test (names_of asked) ≡ true)
+among_first : (test : List ℕ → Bool) (p : Part) (word : List ℕ) (asked : List Asked)
+    → list_all test (names_of (record { part = p; word = word } ∷ asked)) ≡ true → (is_name_part p ≡ true → test word ≡ true)
+    × (list_all test (names_of asked) ≡ true)
 among_first test part.Name word asked h = let p = and_parts (test word) _ h in ((λ _. p.0), p.1)
 among_first test part.Value word asked h = ((λ e. cc), h)
 among_first test part.Count word asked h = ((λ e. cc), h)
@@ -154,13 +162,16 @@ abbrev Spoken : Section → List Numbered → Type 0
 Spoken s [] = at_top s ≡ true
 Spoken s (line ∷ lines) = ((text : List ℕ) × Speaks s text line.said) × Spoken (goes_to line.said.kind s) lines
 
-spoken_after : (number : ℕ) (s : Section) (said : Said) (text : List ℕ) (read : Result (List Numbered) ScriptError) (lines : List Numbered) → Speaks s text said → ((rest : List Numbered) → read ≡ Ok rest → Spoken (goes_to said.kind s) rest) → before (record { number = number; said = said }) read ≡ Ok lines → Spoken s lines
+spoken_after : (number : ℕ) (s : Section) (said : Said) (text : List ℕ) (read : Result (List Numbered) ScriptError)
+    (lines : List Numbered) → Speaks s text said → ((rest : List Numbered) → read ≡ Ok rest → Spoken (goes_to said.kind s) rest)
+    → before (record { number = number; said = said }) read ≡ Ok lines → Spoken s lines
 spoken_after number s said text (Err e) lines says later h = cc
 spoken_after number s said text (Ok rest) lines says later h =
     let same : record { number = number; said = said } ∷ rest ≡ lines = cc in
     subst (Spoken s) same ((text, says), later rest refl)
 
-spoken_line : (number : ℕ) (s : Section) (text : List ℕ) (more : Section → Result (List Numbered) ScriptError) (r : Result (Option Said) ScriptCause) (lines : List Numbered)
+spoken_line : (number : ℕ) (s : Section) (text : List ℕ) (more : Section → Result (List Numbered) ScriptError)
+    (r : Result (Option Said) ScriptCause) (lines : List Numbered)
     → line_of s text ≡ r → ((t : Section) (rest : List Numbered) → more t ≡ Ok rest → Spoken t rest) → with_line number s more r ≡ Ok lines
     → Spoken s lines
 spoken_line number s text more (Err c) lines e later h = cc
@@ -226,6 +237,8 @@ pub well_read : (bytes : List ℕ) (script : Script) → reading_of bytes ≡ Ok
     → length script.lines < 2 ^ 32 → AreScript script.names (forms_of script.lines)
 well_read bytes script h few_names few_lines = by (nat_lt most_script_bytes (length bytes)) h
   where
-    by : (b : Bool) → (if b then Err (record { line = 0; cause = cause.TooLong }) else script_of (said_from 1 section.Top (lines_of bytes))) ≡ Ok script → AreScript script.names (forms_of script.lines)
+    by : (b : Bool)
+        → (if b then Err (record { line = 0; cause = cause.TooLong }) else script_of (said_from 1 section.Top (lines_of bytes)))
+        ≡ Ok script → AreScript script.names (forms_of script.lines)
     by true g = cc
     by false g = by_said bytes (said_from 1 section.Top (lines_of bytes)) script refl g few_names few_lines

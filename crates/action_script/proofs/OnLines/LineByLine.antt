@@ -56,7 +56,8 @@ pub has_read-more : (bytes rest more line : List ℕ) (s new : SoFar) → HasRea
     → Took s line new → HasRead bytes more new
 has_read-more bytes rest more line s new h cut took = by (line_of s.section line) refl took
   where
-    whole : said_from 1 section.Top (lines_of bytes) ≡ all_before h.done (with_line s.line s.section (λ t. said_from (s.line + 1) t (lines_of more)) (line_of s.section line))
+    whole : said_from 1 section.Top (lines_of bytes)
+        ≡ all_before h.done (with_line s.line s.section (λ t. said_from (s.line + 1) t (lines_of more)) (line_of s.section line))
     whole = whole-cut bytes rest more line s h.done h.whole cut
 
     by : (r : Result (Option Said) ScriptCause) → line_of s.section line ≡ r → TookLine r s new → HasRead bytes more new
@@ -126,8 +127,13 @@ took-names s line new took = by (line_of s.section line) refl took
     by (Ok None) e took = let same : new.names ≡ s.names = ap (λ n. n.names) took in omega (arith, ap length same)
     by (Ok (Some said)) e took =
         let same : new.names ≡ with_names s.names (names_of said.asked) = ap (λ n. n.names) took in
-        omega
-        (arith, ap length same, length-with_names s.names (names_of said.asked), length-names_of said.asked, speaks-short s.section line said (speaks s.section line said e))
+        omega (
+          arith,
+          ap length same,
+          length-with_names s.names (names_of said.asked),
+          length-names_of said.asked,
+          speaks-short s.section line said (speaks s.section line said e),
+        )
 
 -- ---- the whole text
 
@@ -141,7 +147,8 @@ pub reading_of-refused : (bytes : List ℕ) (e : ScriptError) → length bytes �
 reading_of-refused bytes e h refused = within bytes h ∙ ap script_of refused
 
 -- the reader isn't at the top
-pub reading_of-open : (bytes : List ℕ) (s : SoFar) → length bytes ≤ most_script_bytes → HasRead bytes [] s → at_top s.section ≡ false → reading_of bytes ≡ Err (record { line = s.line; cause = cause.BadLine })
+pub reading_of-open : (bytes : List ℕ) (s : SoFar) → length bytes ≤ most_script_bytes → HasRead bytes [] s
+    → at_top s.section ≡ false → reading_of bytes ≡ Err (record { line = s.line; cause = cause.BadLine })
 reading_of-open bytes s h read outside =
     let e : ScriptError = record { line = s.line; cause = cause.BadLine } in
     reading_of-refused bytes e h

@@ -12,7 +12,8 @@ length-numbered_from number [] = refl
 length-numbered_from number (form ∷ forms) = omega (arith, length-numbered_from (number + 1) forms)
 
 -- one form more
-pub numbered_from-push : (number : ℕ) (forms : List Form) (form : Form) (last : ℕ) → last ≡ number + length forms → numbered_from number (forms ++ form ∷ []) ≡ numbered_from number forms ++ record { number = last; form = form } ∷ []
+pub numbered_from-push : (number : ℕ) (forms : List Form) (form : Form) (last : ℕ) → last ≡ number + length forms
+    → numbered_from number (forms ++ form ∷ []) ≡ numbered_from number forms ++ record { number = last; form = form } ∷ []
 numbered_from-push number [] form last h = let same : number ≡ last = omega arith in ap (λ n. record { number = n; form = form } ∷ []) same
 numbered_from-push number (first ∷ forms) form last h =
     ap (λ l. record { number = number; form = first } ∷ l) (numbered_from-push (number + 1) forms form last (omega arith))

@@ -89,7 +89,8 @@ cut_line s line words short cut =
 pub line_empty : (s : Section) (line : List ℕ) → length line ≤ most_line_bytes → words_of line ≡ [] → line_of s line ≡ Ok None
 line_empty s line short cut = cut_line s line [] short cut
 
-module _ (s : Section) (line first : List ℕ) (words : List (List ℕ)) (short : length line ≤ most_line_bytes) (cut : words_of line ≡ first ∷ words) where
+module _ (s : Section) (line first : List ℕ) (words : List (List ℕ)) (short : length line ≤ most_line_bytes)
+    (cut : words_of line ≡ first ∷ words) where
   abbrev pub by_comment : Bool → Result (Option Said) ScriptCause
   by_comment b =
       if b then Ok None else (if list_all is_plain line then by_kind words (kind_here s first (length words)) else Err cause.BadLine)
@@ -110,7 +111,8 @@ module _ (s : Section) (line first : List ℕ) (words : List (List ℕ)) (short 
   pub line_unknown : begins_comment first ≡ false → kind_here s first (length words) ≡ None → line_of s line ≡ Err cause.BadLine
   line_unknown spoken none = line_found None spoken none ∙ either (list_all is_plain line)
     where
-      either : (b : Bool) → ◌≡◌ {A = Result (Option Said) ScriptCause} (if b then Err cause.BadLine else Err cause.BadLine) (Err cause.BadLine)
+      either : (b : Bool) → ◌≡◌ {A = Result (Option Said) ScriptCause} (if b then Err cause.BadLine else Err cause.BadLine)
+          (Err cause.BadLine)
       either true = refl
       either false = refl
 

@@ -38,7 +38,9 @@ by_words : (s : Section) (line : List ℕ) (said : Said) → length line ≤ mos
 by_words s line said short plain [] cut h = cc
 by_words s line said short plain (first ∷ words) cut h = by_comment (begins_comment first) refl h
   where
-    by_found : begins_comment first ≡ false → (kind : LineKind) → kind_here s first (length words) ≡ Some kind → (r : Result (Unit {0}) ScriptCause) → trial_of (asked_of (parts_of kind) words) ≡ r → by_check (record { kind = kind; asked = asked_of (parts_of kind) words }) r ≡ Ok (Some said) → Speaks s line said
+    by_found : begins_comment first ≡ false → (kind : LineKind) → kind_here s first (length words) ≡ Some kind
+        → (r : Result (Unit {0}) ScriptCause) → trial_of (asked_of (parts_of kind) words) ≡ r
+        → by_check (record { kind = kind; asked = asked_of (parts_of kind) words }) r ≡ Ok (Some said) → Speaks s line said
     by_found spoken kind found (Err c) e g = cc
     by_found spoken kind found (Ok u) e g =
         let same : record { kind = kind; asked = asked_of (parts_of kind) words } ≡ said = cc in

@@ -131,7 +131,8 @@ field_by-with_names names words part.Test word h = refl
 -- ---- words taken one by one
 
 -- the word at a place is asked to be what the part at this place asks for
-pub asked_at : (parts : List Part) (words : List (Bor (List ℕ))) (i : ℕ) (none : Bor (List ℕ)) (d : Asked) → i < length words → record { part = part_at parts i; word = (get_or words i none).now } ≡ get_or (asked_of parts (map (λ w. w.now) words)) i d
+pub asked_at : (parts : List Part) (words : List (Bor (List ℕ))) (i : ℕ) (none : Bor (List ℕ)) (d : Asked) → i < length words
+    → record { part = part_at parts i; word = (get_or words i none).now } ≡ get_or (asked_of parts (map (λ w. w.now) words)) i d
 asked_at parts [] i none d within = absurd (omega (arith, within))
 asked_at [] (first ∷ words) zero none d within = refl
 asked_at [] (first ∷ words) (suc i) none d within = asked_at [] words i none d (omega (arith, within))
@@ -139,12 +140,19 @@ asked_at (one ∷ parts) (first ∷ words) zero none d within = refl
 asked_at (one ∷ parts) (first ∷ words) (suc i) none d within = asked_at parts words i none d (omega (arith, within))
 
 -- from a place on, it comes before those behind it
-names_from : (words : List (Bor (List ℕ))) (i : ℕ) (none : Bor (List ℕ)) → i < length words → asked_of [] (map (λ w. w.now) (drop i words)) ≡ record { part = part.Name; word = (get_or words i none).now } ∷ asked_of [] (map (λ w. w.now) (drop (suc i) words))
+names_from : (words : List (Bor (List ℕ))) (i : ℕ) (none : Bor (List ℕ)) → i < length words
+    → asked_of [] (map (λ w. w.now) (drop i words)) ≡ record { part = part.Name; word = (get_or words i none).now }
+    ∷ asked_of [] (map (λ w. w.now) (drop (suc i) words))
 names_from [] i none within = absurd (omega (arith, within))
 names_from (first ∷ words) zero none within = refl
 names_from (first ∷ words) (suc i) none within = names_from words i none (omega (arith, within))
 
-pub asked_from : (parts : List Part) (words : List (Bor (List ℕ))) (i : ℕ) (none : Bor (List ℕ)) → i < length words → asked_of (drop i parts) (map (λ w. w.now) (drop i words)) ≡ record { part = part_at parts i; word = (get_or words i none).now } ∷ asked_of (drop (suc i) parts) (map (λ w. w.now) (drop (suc i) words))
+pub asked_from : (parts : List Part) (words : List (Bor (List ℕ))) (i : ℕ) (none : Bor (List ℕ)) → i < length words
+    → asked_of (drop i parts) (map (λ w. w.now) (drop i words)) ≡ record {
+      part = part_at parts i;
+      word =
+          (get_or words i none).now;
+    } ∷ asked_of (drop (suc i) parts) (map (λ w. w.now) (drop (suc i) words))
 asked_from parts [] i none within = absurd (omega (arith, within))
 asked_from [] words i none within =
     let word : Asked = record { part = part.Name; word = (get_or words i none).now } in
@@ -173,7 +181,9 @@ module _ (asked : List Asked) (i : ℕ) (word : Asked) (within : i < length aske
     where
       by : (b : Bool) → with_names (if b then with_name names word.word else names) (names_of (drop (i + 1) asked))
           ≡ with_names names
-          (map (λ a. a.word) (cond b (word ∷ filter (λ a. is_name_part a.part) (drop (i + 1) asked)) (filter (λ a. is_name_part a.part) (drop (i + 1) asked))))
+          (map (λ a. a.word)
+          (cond b (word ∷ filter (λ a. is_name_part a.part) (drop (i + 1) asked))
+          (filter (λ a. is_name_part a.part) (drop (i + 1) asked))))
       by true = refl
       by false = refl
 
@@ -183,7 +193,8 @@ module _ (asked : List Asked) (i : ℕ) (word : Asked) (within : i < length aske
       (with_names (if is_name_part word.part then with_name names word.word else names) more) word
   field_taken names more =
       sym
-      (field_by-with_names (if is_name_part word.part then with_name names word.word else names) more word.part word.word (λ yes. rw yes (is_among-with_own_name names word.word)))
+      (field_by-with_names (if is_name_part word.part then with_name names word.word else names) more word.part word.word
+      (λ yes. rw yes (is_among-with_own_name names word.word)))
 
   pub fields_taken : (f : Asked → Field) (fields : List Field) (field : Field) → fields ≡ map f (take i asked) → field ≡ f word
       → fields ++ field ∷ [] ≡ map f (take (i + 1) asked)

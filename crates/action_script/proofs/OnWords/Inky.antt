@@ -85,7 +85,8 @@ value_word (b ∷ rest) h = by (b == 45) refl h
   where
     by : (c : Bool) → (b == 45) ≡ c
         → is_some
-        (if c then negative_of (at_most 1000000000000 (natural_of rest)) else option_map pos (at_most 1000000000000 (natural_of (b ∷ rest))))
+        (if c then negative_of (at_most 1000000000000 (natural_of rest)) else option_map pos
+        (at_most 1000000000000 (natural_of (b ∷ rest))))
         ≡ true
         → IsWord (b ∷ rest)
     by true e g =
@@ -115,7 +116,8 @@ test_of-some word t h = by_below (bytes_eq word (codes "below")) refl h
 
     by_below : (c : Bool) → bytes_eq word (codes "below") ≡ c
         →
-        (if c then Some test.Below else (if bytes_eq word (codes "above") then Some test.Above else (if bytes_eq word (codes "equal") then Some test.Equal else None)))
+        (if c then Some test.Below else
+        (if bytes_eq word (codes "above") then Some test.Above else (if bytes_eq word (codes "equal") then Some test.Equal else None)))
         ≡ Some t
         → test_word t ≡ word
     by_below true e g = let same : test.Below ≡ t = cc in subst (λ x. test_word x ≡ word) same (same_word word (codes "below") e)

@@ -54,7 +54,8 @@ natural_of-some word n h = by (leads_well word) (list_all is_digit word) refl re
 pub decimal-natural : (word : List ℕ) (n : ℕ) → IsNatural word n → n < 2 ^ 64 → decimal n ≡ word
 decimal-natural word n h small =
     subst (λ m. decimal m ≡ word) h.value
-    (decimal-digits_value own word h.digits (leads_well-filled word h.leads) (leads_well-zero word h.leads) (subst (λ m. m < 2 ^ 64) (sym h.value) small))
+    (decimal-digits_value own word h.digits (leads_well-filled word h.leads) (leads_well-zero word h.leads)
+    (subst (λ m. m < 2 ^ 64) (sym h.value) small))
 
 pub at_most-some : (most : ℕ) (o : Option ℕ) (n : ℕ) → at_most most o ≡ Some n → (o ≡ Some n) × (n ≤ most)
 at_most-some most None n h = cc
@@ -101,7 +102,8 @@ value_of-digits : (word : List ℕ) → 0 < length word → list_all is_digit wo
 value_of-digits [] filled h = absurd (omega arith)
 value_of-digits (b ∷ rest) filled h =
     ap
-    (λ c. if c then negative_of (at_most 1000000000000 (natural_of rest)) else option_map pos (at_most 1000000000000 (natural_of (b ∷ rest))))
+    (λ c. if c then negative_of (at_most 1000000000000 (natural_of rest)) else option_map pos
+    (at_most 1000000000000 (natural_of (b ∷ rest))))
     (first_digit b rest h)
 
 pub value_of-decimal : (v : ℤ) → is_value v ≡ true → value_of (signed_decimal v) ≡ Some v
@@ -137,7 +139,10 @@ negative rest (Some (suc n)) v e h =
     let same : negsuc n ≡ v = cc in
     let p = at_most-some 1000000000000 (natural_of rest) (suc n) e in
     subst (IsValueWord (45 ∷ rest)) same
-    (record { written = ap (λ w. 45 ∷ w) (decimal-natural rest (suc n) (natural_of-some rest (suc n) p.0) (omega (arith, p.1))); within = le-leb (n + 1) 1000000000000 (omega (arith, p.1)) })
+    (record {
+      written = ap (λ w. 45 ∷ w) (decimal-natural rest (suc n) (natural_of-some rest (suc n) p.0) (omega (arith, p.1)));
+      within = le-leb (n + 1) 1000000000000 (omega (arith, p.1));
+    })
 
 pub value_of-some : (word : List ℕ) (v : ℤ) → value_of word ≡ Some v → IsValueWord word v
 value_of-some [] v h = cc
@@ -145,7 +150,8 @@ value_of-some (b ∷ rest) v h = by (b == 45) refl h
   where
     by : (c : Bool) → (b == 45) ≡ c
         →
-        (if c then negative_of (at_most 1000000000000 (natural_of rest)) else option_map pos (at_most 1000000000000 (natural_of (b ∷ rest))))
+        (if c then negative_of (at_most 1000000000000 (natural_of rest)) else option_map pos
+        (at_most 1000000000000 (natural_of (b ∷ rest))))
         ≡ Some v
         → IsValueWord (b ∷ rest) v
     by true e g =

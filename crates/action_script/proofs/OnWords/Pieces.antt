@@ -35,7 +35,9 @@ pub end_found : (p : ℕ → Bool) (text : List ℕ) (place : Option ℕ) → Is
     → unwrap_or place (length text) ≡ position_or_len p text
 end_found p text None none =
     sym
-    (position_or_len_is p text (length text) 0 (omega arith) (λ k below. false_from_ne_true (p (slice_index text k)) (none k (omega arith) below)) (λ past. absurd (omega (arith, past))))
+    (position_or_len_is p text (length text) 0 (omega arith)
+    (λ k below. false_from_ne_true (p (slice_index text k)) (none k (omega arith) below)) (λ past. absurd (omega (arith, past))))
 end_found p text (Some place) first =
     sym
-    (position_or_len_is p text place 0 (omega (arith, first.0.high)) (λ k below. false_from_ne_true (p (slice_index text k)) (first.0.before k (omega arith) below)) (λ within. first.1))
+    (position_or_len_is p text place 0 (omega (arith, first.0.high))
+    (λ k below. false_from_ne_true (p (slice_index text k)) (first.0.before k (omega arith) below)) (λ within. first.1))

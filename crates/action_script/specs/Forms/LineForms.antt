@@ -36,7 +36,8 @@ wording_of (form.MapUndo n m) = record { kind = kind.MapUndo; fields = field.Nam
 wording_of (form.MapFailure n m) = record { kind = kind.MapFailure; fields = field.Name n ∷ field.Name m ∷ [] }
 wording_of (form.Alternate n m) = record { kind = kind.Alternate; fields = field.Name n ∷ field.Name m ∷ [] }
 wording_of (form.Abort n m) = record { kind = kind.Abort; fields = field.Name n ∷ field.Name m ∷ [] }
-wording_of (form.AbortTest n t v m) = record { kind = kind.AbortTest; fields = field.Name n ∷ field.Test t ∷ field.Value v ∷ field.Name m ∷ [] }
+wording_of (form.AbortTest n t v m) =
+    record { kind = kind.AbortTest; fields = field.Name n ∷ field.Test t ∷ field.Value v ∷ field.Name m ∷ [] }
 wording_of (form.Body n) = record { kind = kind.Body; fields = field.Name n ∷ [] }
 wording_of (form.Handler n m) = record { kind = kind.Handler; fields = field.Name n ∷ field.Name m ∷ [] }
 wording_of (form.ReadStep n) = record { kind = kind.Read; fields = field.Name n ∷ [] }

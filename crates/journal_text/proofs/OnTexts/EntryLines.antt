@@ -125,7 +125,8 @@ named-read plan g e (suc (suc m)) more h fit same = absurd (omega (arith, fit.ma
 
 verdict-read : (plan : Plan) (p : ℕ) (e : Entry) (m : ℕ) (more : List ℕ) → is_well_named plan ≡ true
     → MayShowException (interface_of plan p) 1 3 e → e.mark ≡ m
-    → marked_fields (verdict_mark (verdict_in plan (action_at plan p).interface (rest_of (verdict_words plan p (verdict_of_mark m e.arg)) more)))
+    → marked_fields
+    (verdict_mark (verdict_in plan (action_at plan p).interface (rest_of (verdict_words plan p (verdict_of_mark m e.arg)) more)))
     ≡ fields e.arg e.mark e.value
 verdict-read plan p e zero more h fit same =
     fields-same 0 e.arg 0 e.mark (pos 0) e.value (sym (fit.bare (λ one. omega (arith, one, same)))) (sym same) (sym fit.value)
@@ -138,7 +139,8 @@ verdict-read plan p e (suc (suc (suc m))) more h fit same = absurd (omega (arith
 
 end-read : (plan : Plan) (p : ℕ) (e : Entry) (m : ℕ) (more : List ℕ) → is_well_named plan ≡ true
     → MayShowException (interface_of plan p) 1 5 e → e.mark ≡ m
-    → marked_fields (outcome_mark (outcome_in plan (action_at plan p).interface (rest_of (outcome_words plan p (outcome_of_mark m e.arg)) more)))
+    → marked_fields
+    (outcome_mark (outcome_in plan (action_at plan p).interface (rest_of (outcome_words plan p (outcome_of_mark m e.arg)) more)))
     ≡ fields e.arg e.mark e.value
 end-read plan p e zero more h fit same =
     fields-same 0 e.arg 0 e.mark (pos 0) e.value (sym (fit.bare (λ one. omega (arith, one, same)))) (sym same) (sym fit.value)

@@ -88,7 +88,9 @@ decisions_more plan past old new next n found before own agreed added =
       all = omega arith;
       own = λ t is at. elim (got_push before.decided found is t at) [
         | inl earlier ↦ before.own t is earlier
-        | inr last ↦ subst (λ o. IsOneOf (decisions (order_of plan) (members plan) t ((course plan past).local t)) o) last.1 (subst (λ k. IsOneOf (decisions (order_of plan) (members plan) k ((course plan past).local k)) found) (sym all ∙ sym last.0) own)
+        | inr last ↦ subst (λ o. IsOneOf (decisions (order_of plan) (members plan) t ((course plan past).local t)) o) last.1
+            (subst (λ k. IsOneOf (decisions (order_of plan) (members plan) k ((course plan past).local k)) found)
+            (sym all ∙ sym last.0) own)
       ];
       agreed = λ t is at. elim (got_push before.decided found is t at) [
         | inl earlier ↦ before.agreed t is earlier
@@ -99,7 +101,8 @@ decisions_more plan past old new next n found before own agreed added =
           ∙ ap (λ text. text ++ resolved_line plan n found) before.lines
           ∙ append_assoc old (resolved_lines plan 0 before.decided) (resolved_line plan n found)
           ∙ ap (λ ls. old ++ ls)
-          (ap (λ k. resolved_lines plan 0 before.decided ++ resolved_line plan k found) (sym all ∙ sym (zero-add (length before.decided))) ∙ sym (resolved_lines-push plan 0 before.decided found));
+          (ap (λ k. resolved_lines plan 0 before.decided ++ resolved_line plan k found)
+          (sym all ∙ sym (zero-add (length before.decided))) ∙ sym (resolved_lines-push plan 0 before.decided found));
     }
 
 pub decisions_none : (plan : Plan) (past : List Event) (old : List ℕ) → AddsDecisions plan past old old 0

@@ -40,7 +40,8 @@ last_wish-raised plan past [] some = absurd (some refl)
 last_wish-raised plan past (e ∷ es) some = refl
 
 -- an event that is legal happens
-pub happens : (old new : WorldView) (e : Event) (answer : Result (Unit {0}) NotLegal) → OnOk answer (new ≡ record old { past = e ∷ old.past })
+pub happens : (old new : WorldView) (e : Event) (answer : Result (Unit {0}) NotLegal)
+    → OnOk answer (new ≡ record old { past = e ∷ old.past })
     → (IsErr answer ↔ (is_legal_event (course_of old.order old.count old.past) e ≡ false)) → is_legal_event
     (course_of old.order old.count old.past) e ≡ true → new.past ≡ e ∷ old.past
 happens old new e (Ok done) ok refused legal = ap (λ (w : WorldView). w.past) ok

@@ -41,7 +41,8 @@ module _ (order : CoverOrder) (count : ℕ) (course : Course) (t : ℕ) (x : Loc
   pub lasting : (P : ℕ → List LocalEvent → Type 0) (u : ℕ) → (P t (course.local t) → P t (x ∷ course.local t)) → P u (course.local u)
       → P u (advanced.local u)
   lasting P u step before = elim (cases_eq u t) [
-    | inl same ↦ subst (λ v. P v (advanced.local v)) (sym same) (subst (P t) (sym local_same) (step (subst (λ v. P v (course.local v)) same before)))
+    | inl same ↦ subst (λ v. P v (advanced.local v)) (sym same)
+        (subst (P t) (sym local_same) (step (subst (λ v. P v (course.local v)) same before)))
     | inr other ↦ subst (P u) (sym (local_other u other)) before
   ]
 
@@ -83,7 +84,8 @@ word_known order count t past (raises e) t_in may =
     All-cons (IsMessage order count) (message.Raised t e) [] (t_in, may) (All-nil (IsMessage order count))
 word_known order count t past (receives (message.Raised v e)) t_in may = elim (cases_Bool (has_spoken past)) [
   | inl spoken ↦ subst (All (IsMessage order count)) (sym (cond-true _ _ _ spoken)) (All-nil (IsMessage order count))
-  | inr silent ↦ subst (All (IsMessage order count)) (sym (cond-false _ _ _ silent)) (All-cons (IsMessage order count) (message.Suspended t) [] t_in (All-nil (IsMessage order count)))
+  | inr silent ↦ subst (All (IsMessage order count)) (sym (cond-false _ _ _ silent))
+      (All-cons (IsMessage order count) (message.Suspended t) [] t_in (All-nil (IsMessage order count)))
 ]
 word_known order count t past (receives (message.Suspended v)) t_in may = All-nil (IsMessage order count)
 word_known order count t past (receives (message.Resolved v e)) t_in may = All-nil (IsMessage order count)
@@ -100,7 +102,8 @@ said_right messages more u said = elim said [
   | inr raised_one ↦ inr (raised_one.0, Contains-append_right messages more _ raised_one.1)
 ]
 
-module _ (order : CoverOrder) (sound : IsSound order) (count : ℕ) (course : Course) (raised : List ℕ) (kept : KeepsWords order count course raised) (t : ℕ) (t_in : t < count) (x : LocalEvent) (may : MeetsNow order course t x) where
+module _ (order : CoverOrder) (sound : IsSound order) (count : ℕ) (course : Course) (raised : List ℕ)
+    (kept : KeepsWords order count course raised) (t : ℕ) (t_in : t < count) (x : LocalEvent) (may : MeetsNow order course t x) where
   abbrev sent : List Message
   sent = answers order count t (course.local t) x
 
@@ -117,7 +120,8 @@ module _ (order : CoverOrder) (sound : IsSound order) (count : ℕ) (course : Co
     | inr now ↦
         let by = sends_raised order count t (course.local t) x u e now in
         subst (λ v. Contains (own (next.local v)) e) (sym by.0)
-        (subst (λ past. Contains (own past) e) (sym (local_same order count course t x)) (subst (λ y. Contains (own (y ∷ course.local t)) e) (sym by.1) (first_in e (own (course.local t)))))
+        (subst (λ past. Contains (own past) e) (sym (local_same order count course t x))
+        (subst (λ y. Contains (own (y ∷ course.local t)) e) (sym by.1) (first_in e (own (course.local t)))))
   ]
 
   sent_first : (e : ℕ) → x ≡ raises e → Contains sent (message.Raised t e)
@@ -155,7 +159,8 @@ module _ (order : CoverOrder) (sound : IsSound order) (count : ℕ) (course : Co
   step_said u = at_each order count course t x (λ v past. has_spoken past ≡ true → HasSaid next.messages v) u
       (λ spoken. elim (cases_Bool (has_spoken (course.local t))) [
         | inl had ↦ said_left course.messages sent t (kept.said t had)
-        | inr silent ↦ said_right course.messages sent t (said_left (word t (course.local t) x) _ t (said_now order count course t x silent spoken))
+        | inr silent ↦ said_right course.messages sent t
+            (said_left (word t (course.local t) x) _ t (said_now order count course t x silent spoken))
       ])
       (λ other spoken. said_left course.messages sent u (kept.said u spoken))
 
@@ -170,11 +175,13 @@ module _ (order : CoverOrder) (sound : IsSound order) (count : ℕ) (course : Co
   step_once : (u e f : ℕ) → Contains (own (next.local u)) e → Contains (own (next.local u)) f → e ≡ f
   step_once u e f = at_each order count course t x (λ v past. Contains (own past) e → Contains (own past) f → e ≡ f) u
       (elim (own_cases order course t x may) [
-        | inl none ↦ λ at_e at_f. kept.once t e f (subst (λ es. Contains (es ++ own (course.local t)) e) none at_e) (subst (λ es. Contains (es ++ own (course.local t)) f) none at_f)
+        | inl none ↦ λ at_e at_f. kept.once t e f (subst (λ es. Contains (es ++ own (course.local t)) e) none at_e)
+            (subst (λ es. Contains (es ++ own (course.local t)) f) none at_f)
         | inr raises_now ↦
             let only : own (x ∷ course.local t) ≡ raises_now.0 ∷ [] =
             ap (λ y. raised_at y ++ own (course.local t)) raises_now.1 ∙ ap (λ es. raises_now.0 ∷ es) raises_now.2 in
-            λ at_e at_f. sym (one_in raises_now.0 e (subst (λ es. Contains es e) only at_e)) ∙ one_in raises_now.0 f (subst (λ es. Contains es f) only at_f)
+            λ at_e at_f. sym (one_in raises_now.0 e (subst (λ es. Contains es e) only at_e))
+            ∙ one_in raises_now.0 f (subst (λ es. Contains es f) only at_f)
       ])
       (λ other at_e at_f. kept.once u e f at_e at_f)
 
@@ -202,8 +209,11 @@ module _ (order : CoverOrder) (sound : IsSound order) (count : ℕ) (course : Co
 
   step_known : All (IsMessage order count) next.messages
   step_known =
-      All-append (IsMessage order count) course.messages sent kept.known (All-append (IsMessage order count) (word t (course.local t) x) _ (word_known order count t (course.local t) x t_in now_met)
-      (resolution_known (resolution order count t (course.local t) x) (λ e at. let least = resolution_least order count t (course.local t) x e sound told_range (in_resolution_only order count t (course.local t) x e at) in least.in_range)))
+      All-append (IsMessage order count) course.messages sent kept.known
+      (All-append (IsMessage order count) (word t (course.local t) x) _ (word_known order count t (course.local t) x t_in now_met)
+      (resolution_known (resolution order count t (course.local t) x) (λ e at. let least =
+      resolution_least order count t (course.local t) x e sound told_range
+      (in_resolution_only order count t (course.local t) x e at) in least.in_range)))
 
   step_to_raised : (u e : ℕ) → Contains (own (next.local u)) e → Contains (raised_at x ++ raised) e
   step_to_raised u e = at_each order count course t x (λ v past. Contains (own past) e → Contains (raised_at x ++ raised) e) u
@@ -215,7 +225,11 @@ module _ (order : CoverOrder) (sound : IsSound order) (count : ℕ) (course : Co
 
   step_from_raised : (e : ℕ) → Contains (raised_at x ++ raised) e → (u : ℕ) × Contains (own (next.local u)) e
   step_from_raised e at = elim (Contains-append_cases (raised_at x) raised e at) [
-    | inl now ↦ (t, subst (λ past. Contains (own past) e) (sym (local_same order count course t x)) (Contains-append_left (raised_at x) (own (course.local t)) e now))
+    | inl now ↦ (
+      t,
+      subst (λ past. Contains (own past) e) (sym (local_same order count course t x))
+          (Contains-append_left (raised_at x) (own (course.local t)) e now),
+    )
     | inr before ↦ let who = kept.from_raised e before in (who.0, own_grows who.0 e who.1)
   ]
 

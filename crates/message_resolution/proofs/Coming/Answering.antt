@@ -24,7 +24,8 @@ word_raised t past (raises f) u e at =
     (a, ap (λ y. raises y) b)
 word_raised t past (receives (message.Raised v f)) u e at = elim (cases_cond (has_spoken past) [] (message.Suspended t ∷ []) _ refl) [
   | inl none ↦ absurd (nothing_in _ (subst (λ ms. Contains ms (message.Raised u e)) none at))
-  | inr some ↦ let same : message.Suspended t ≡ message.Raised u e = one_in _ _ (subst (λ ms. Contains ms (message.Raised u e)) some at) in absurd cc
+  | inr some ↦ let same : message.Suspended t ≡ message.Raised u e =
+      one_in _ _ (subst (λ ms. Contains ms (message.Raised u e)) some at) in absurd cc
 ]
 word_raised t past (receives (message.Suspended v)) u e at = absurd (nothing_in _ at)
 word_raised t past (receives (message.Resolved v f)) u e at = absurd (nothing_in _ at)
@@ -35,7 +36,9 @@ word_suspended : (t : ℕ) (past : List LocalEvent) (x : LocalEvent) (u : ℕ) �
 word_suspended t past (raises f) u at = let same : message.Raised t f ≡ message.Suspended u = one_in _ _ at in absurd cc
 word_suspended t past (receives (message.Raised v f)) u at = elim (cases_Bool (has_spoken past)) [
   | inl spoken ↦ absurd (nothing_in (message.Suspended u) (subst (λ ms. Contains ms (message.Suspended u)) (cond-true _ _ _ spoken) at))
-  | inr silent ↦ let same : message.Suspended t ≡ message.Suspended u = one_in _ _ (subst (λ ms. Contains ms (message.Suspended u)) (cond-false _ _ _ silent) at) in let a : u ≡ t = cc in (a, silent, refl, refl)
+  | inr silent ↦ let same : message.Suspended t ≡ message.Suspended u =
+      one_in _ _ (subst (λ ms. Contains ms (message.Suspended u)) (cond-false _ _ _ silent) at) in let a : u ≡ t =
+      cc in (a, silent, refl, refl)
 ]
 word_suspended t past (receives (message.Suspended v)) u at = absurd (nothing_in _ at)
 word_suspended t past (receives (message.Resolved v f)) u at = absurd (nothing_in _ at)
@@ -44,7 +47,8 @@ word_resolved : (t : ℕ) (past : List LocalEvent) (x : LocalEvent) (u e : ℕ) 
 word_resolved t past (raises f) u e at = let same : message.Raised t f ≡ message.Resolved u e = one_in _ _ at in absurd cc
 word_resolved t past (receives (message.Raised v f)) u e at = elim (cases_cond (has_spoken past) [] (message.Suspended t ∷ []) _ refl) [
   | inl none ↦ absurd (nothing_in _ (subst (λ ms. Contains ms (message.Resolved u e)) none at))
-  | inr some ↦ let same : message.Suspended t ≡ message.Resolved u e = one_in _ _ (subst (λ ms. Contains ms (message.Resolved u e)) some at) in absurd cc
+  | inr some ↦ let same : message.Suspended t ≡ message.Resolved u e =
+      one_in _ _ (subst (λ ms. Contains ms (message.Resolved u e)) some at) in absurd cc
 ]
 word_resolved t past (receives (message.Suspended v)) u e at = absurd (nothing_in _ at)
 word_resolved t past (receives (message.Resolved v f)) u e at = absurd (nothing_in _ at)
@@ -59,10 +63,13 @@ resolved_map t (e ∷ es) m at = elim (cases_in _ _ m at) [
 
 module _ (order : CoverOrder) (count t : ℕ) (past : List LocalEvent) (x : LocalEvent) where
   in_resolution : (e : ℕ) → Contains (resolution order count t past x) e → resolution order count t past x ≡ e ∷ []
-  in_resolution e at = elim (cases_cond (may_resolve count t (x ∷ past) && not (has_resolved count t past)) (least_cover order (told (x ∷ past)) ∷ []) [] _ refl) [
-    | inl some ↦ let same : least_cover order (told (x ∷ past)) ≡ e = one_in _ _ (subst (λ es. Contains es e) some at) in some ∙ ap (λ y. y ∷ []) same
-    | inr none ↦ absurd (nothing_in e (subst (λ es. Contains es e) none at))
-  ]
+  in_resolution e at =
+      elim (cases_cond (may_resolve count t (x ∷ past) && not (has_resolved count t past))
+      (least_cover order (told (x ∷ past)) ∷ []) [] _ refl) [
+        | inl some ↦ let same : least_cover order (told (x ∷ past)) ≡ e = one_in _ _ (subst (λ es. Contains es e) some at) in some
+            ∙ ap (λ y. y ∷ []) same
+        | inr none ↦ absurd (nothing_in e (subst (λ es. Contains es e) none at))
+      ]
 
   pub in_resolution_only : (e : ℕ) → Contains (resolution order count t past x) e → resolution order count t past x ≡ e ∷ []
   in_resolution_only e at = in_resolution e at

@@ -30,7 +30,9 @@ pub raises_no_more : (order : CoverOrder) (count : ℕ) (course : Course) (t : �
 raises_no_more order count course t (raises e) t_in spoken may = absurd (both_ways (has_spoken (course.local t)) may.0 (spoken t t_in))
 raises_no_more order count course t (receives m) t_in spoken may = refl
 
-module _ (order : CoverOrder) (sound : IsSound order) (count : ℕ) (course : Course) (raised : List ℕ) (words : KeepsWords order count course raised) (kept : KeepsDecisions order count course raised) (t : ℕ) (t_in : t < count) (x : LocalEvent) (may : MeetsNow order course t x) where
+module _ (order : CoverOrder) (sound : IsSound order) (count : ℕ) (course : Course) (raised : List ℕ)
+    (words : KeepsWords order count course raised) (kept : KeepsDecisions order count course raised) (t : ℕ) (t_in : t < count)
+    (x : LocalEvent) (may : MeetsNow order course t x) where
   abbrev sent : List Message
   sent = answers order count t (course.local t) x
 
@@ -42,12 +44,15 @@ module _ (order : CoverOrder) (sound : IsSound order) (count : ℕ) (course : Co
 
   step_resolved_decided : (u e : ℕ) → Contains next.messages (message.Resolved u e) → Decides e u (next.local u)
   step_resolved_decided u e at = elim (Contains-append_cases course.messages sent _ at) [
-    | inl before ↦ lasting order count course t x (Decides e) u (λ had. Contains-append_right (resolution order count t (course.local t) x ++ resolved_at x) _ e had) (kept.resolved_decided u e before)
+    | inl before ↦ lasting order count course t x (Decides e) u
+        (λ had. Contains-append_right (resolution order count t (course.local t) x ++ resolved_at x) _ e had)
+        (kept.resolved_decided u e before)
     | inr now ↦
         let by = sends_resolved order count t (course.local t) x u e now in
         let here : Decides e t (x ∷ course.local t) =
         Contains-append_left (resolution order count t (course.local t) x ++ resolved_at x) _ e
-        (Contains-append_left (resolution order count t (course.local t) x) (resolved_at x) e (subst (λ es. Contains es e) (sym by.1) (first_in e []))) in
+        (Contains-append_left (resolution order count t (course.local t) x) (resolved_at x) e
+        (subst (λ es. Contains es e) (sym by.1) (first_in e []))) in
         subst (λ v. Decides e v (next.local v)) (sym by.0) (subst (Decides e t) (sym (local_same order count course t x)) here)
   ]
 
@@ -60,8 +65,11 @@ module _ (order : CoverOrder) (sound : IsSound order) (count : ℕ) (course : Co
         | inl had ↦ let found = kept.resolved_sent t had in (found.0, Contains-append_left course.messages sent _ found.1)
         | inr fresh ↦ elim (or_cases (may_resolve count t (x ∷ course.local t)) (has_resolved count t (course.local t)) has) [
           | inl now ↦
-              let e = least_cover order (told (x ∷ course.local t)) in
-              (e, Contains-append_right course.messages sent _ (resolution_sent order count t (course.local t) x e (does_resolve order count t (course.local t) x now fresh)))
+              let e = least_cover order (told (x ∷ course.local t)) in (
+                e,
+                Contains-append_right course.messages sent _
+                    (resolution_sent order count t (course.local t) x e (does_resolve order count t (course.local t) x now fresh)),
+              )
           | inr had ↦ absurd (both_ways (has_resolved count t (course.local t)) fresh had)
         ]
       ])
@@ -76,7 +84,8 @@ module _ (order : CoverOrder) (sound : IsSound order) (count : ℕ) (course : Co
   -- what was agreed stays
   agreed_stays : (e : ℕ) → AllSpoken count course × IsLeastCover order raised e → Agreed e
   agreed_stays e was = (
-    λ u u_in. lasting order count course t x (λ v past. has_spoken past ≡ true) u (λ had. or_right _ (has_spoken (course.local t)) had) (was.0 u u_in),
+    λ u u_in. lasting order count course t x (λ v past. has_spoken past ≡ true) u
+        (λ had. or_right _ (has_spoken (course.local t)) had) (was.0 u u_in),
     subst (λ es. IsLeastCover order (es ++ raised) e) (sym (raises_no_more order count course t x t_in was.0 may)) was.1,
   )
 
@@ -88,8 +97,12 @@ module _ (order : CoverOrder) (sound : IsSound order) (count : ℕ) (course : Co
       subst (λ past. may_resolve count t past ≡ true) (sym (local_same order count course t x)) right.0 in
       let met = subst (λ past. All (MayMeet order count t) past) (local_same order count course t x) (next_words.met t) in
       let least = resolution_least order count t (course.local t) x e sound (told_in order count t (x ∷ course.local t) met) is in
-      let least_next = subst (λ past. IsLeastCover order (told past) e) (sym (local_same order count course t x)) least in
-      (all_spoken order count next (raised_at x ++ raised) next_words t may_next, least-same_set order (told (next.local t)) (raised_at x ++ raised) e (told_raised order count next (raised_at x ++ raised) next_words t) (raised_told_all order count next (raised_at x ++ raised) next_words t may_next) least_next)
+      let least_next = subst (λ past. IsLeastCover order (told past) e) (sym (local_same order count course t x)) least in (
+        all_spoken order count next (raised_at x ++ raised) next_words t may_next,
+        least-same_set order (told (next.local t)) (raised_at x ++ raised) e
+            (told_raised order count next (raised_at x ++ raised) next_words t)
+            (raised_told_all order count next (raised_at x ++ raised) next_words t may_next) least_next,
+      )
 
   agreed_heard : (e : ℕ) → (v : ℕ) × (x ≡ receives (message.Resolved v e)) → Agreed e
   agreed_heard e from =

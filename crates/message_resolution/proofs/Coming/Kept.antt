@@ -93,8 +93,10 @@ module _ (order : CoverOrder) (count : ℕ) (course : Course) (raised : List ℕ
   told_raised e at =
       let found = flat_map_member told_at (course.local t) e at in
       elim (told_from found.0 e found.2) [
-        | inl own_one ↦ kept.to_raised t e (flat_map_from raised_at (course.local t) (raises e) e (subst (Contains (course.local t)) own_one found.1) (first_in e []))
-        | inr other ↦ kept.to_raised other.0 e (kept.raised_sent other.0 e (kept.received t (message.Raised other.0 e) (subst (Contains (course.local t)) other.1 found.1)))
+        | inl own_one ↦ kept.to_raised t e
+            (flat_map_from raised_at (course.local t) (raises e) e (subst (Contains (course.local t)) own_one found.1) (first_in e []))
+        | inr other ↦ kept.to_raised other.0 e
+            (kept.raised_sent other.0 e (kept.received t (message.Raised other.0 e) (subst (Contains (course.local t)) other.1 found.1)))
       ]
 
   -- who may resolve has heard each other member
@@ -102,7 +104,8 @@ module _ (order : CoverOrder) (count : ℕ) (course : Course) (raised : List ℕ
   heard_each may u u_in other =
       let parts = and_parts (has_raised (course.local t)) _ may in
       let heard = (and_parts (has_heard_all count t (course.local t)) _ parts.1).0 in
-      elim (or_cases (u == t) (has_heard (course.local t) u) (in_range_all (λ v. v == t || has_heard (course.local t) v) 0 count heard u (omega arith) (omega arith))) [
+      elim (or_cases (u == t) (has_heard (course.local t) u)
+      (in_range_all (λ v. v == t || has_heard (course.local t) v) 0 count heard u (omega arith) (omega arith))) [
         | inl same ↦ absurd (other (eqb-true u t same))
         | inr has ↦ has
       ]
@@ -110,10 +113,12 @@ module _ (order : CoverOrder) (count : ℕ) (course : Course) (raised : List ℕ
   -- where a member may resolve, all have spoken
   pub all_spoken : may_resolve count t (course.local t) ≡ true → AllSpoken count course
   all_spoken may u u_in = elim (cases_eq u t) [
-    | inl same ↦ subst (λ v. has_spoken (course.local v) ≡ true) (sym same) (raised_spoken (course.local t) (and_parts (has_raised (course.local t)) _ may).0)
+    | inl same ↦ subst (λ v. has_spoken (course.local v) ≡ true) (sym same)
+        (raised_spoken (course.local t) (and_parts (has_raised (course.local t)) _ may).0)
     | inr other ↦ elim (heard_said (course.local t) u (heard_each may u u_in other)) [
       | inl suspended ↦ (kept.suspended u (kept.received t (message.Suspended u) suspended)).0
-      | inr raised_one ↦ has_own_spoken (course.local u) raised_one.0 (kept.raised_sent u raised_one.0 (kept.received t (message.Raised u raised_one.0) raised_one.1))
+      | inr raised_one ↦ has_own_spoken (course.local u) raised_one.0
+          (kept.raised_sent u raised_one.0 (kept.received t (message.Raised u raised_one.0) raised_one.1))
     ]
   ]
 
@@ -128,7 +133,8 @@ module _ (order : CoverOrder) (count : ℕ) (course : Course) (raised : List ℕ
             let found = flat_map_member raised_at (course.local t) e mine in
             flat_map_from told_at (course.local t) found.0 e found.1 (own_told_at found.0 e found.2)
         | inr other ↦ elim (heard_said (course.local t) u (heard_each may u (kept.members u e who.1) other)) [
-          | inl suspended ↦ absurd (nothing_in e (subst (λ es. Contains es e) (kept.suspended u (kept.received t (message.Suspended u) suspended)).1 who.1))
+          | inl suspended ↦ absurd
+              (nothing_in e (subst (λ es. Contains es e) (kept.suspended u (kept.received t (message.Suspended u) suspended)).1 who.1))
           | inr raised_one ↦
               let same : raised_one.0 ≡ e =
               kept.once u raised_one.0 e

@@ -90,7 +90,8 @@ module _ (order : CoverOrder) (count : ℕ) where
       let decisions_kept =
       keeps_decisions order sound count course (all_raised past) before.0 before.1 (member_of e) step.member step.x step.may in
       subst (λ (c : Course). Keeps c (raised_by e ++ all_raised past)) (sym (course_step past e step))
-      (subst (λ (es : List ℕ). Keeps (advanced order count course (member_of e) step.x) (es ++ all_raised past)) step.raised (words, decisions_kept))
+      (subst (λ (es : List ℕ). Keeps (advanced order count course (member_of e) step.x) (es ++ all_raised past)) step.raised
+      (words, decisions_kept))
 
   -- what was decided stays decided
   pub decided_stays : (later past : List Event) (t e : ℕ) → LegalPast order count (later ++ past) → HasDecided order count past t e
@@ -103,7 +104,8 @@ module _ (order : CoverOrder) (count : ℕ) where
       let before = decided_stays later past t e legal.0 has in
       let after =
       lasting order count course (member_of l) step.x (λ v met. Contains (decisions order count v met) e) t
-      (λ had. Contains-append_right (resolution order count (member_of l) (course.local (member_of l)) step.x ++ resolved_at step.x) _ e had)
+      (λ had. Contains-append_right (resolution order count (member_of l) (course.local (member_of l)) step.x
+      ++ resolved_at step.x) _ e had)
       before in
       subst (λ (c : Course). Contains (decisions order count t (c.local t)) e) (sym (course_step rest l step)) after
 
@@ -129,6 +131,7 @@ module _ (order : CoverOrder) (count : ℕ) where
         agreed = record {
           least = least;
           only =
-              λ u other decides. least_one_only order (all_raised (later ++ past)) other e sound.is_order (kept.decided u other decides).1 least;
+              λ u other decides. least_one_only order (all_raised (later ++ past)) other e sound.is_order
+              (kept.decided u other decides).1 least;
         };
       }

@@ -46,8 +46,11 @@ delivers_itself t number = and_from _ _ (eq-eqb t t refl) (eq-eqb number number 
 
 pub delivered_or_not : (past : List Event) (t number : ℕ) → Contains past (Deliver t number) ⊎ (Contains past (Deliver t number) → ⊥)
 delivered_or_not past t number = elim (cases_Bool (list_any (is_delivery t number) past)) [
-  | inl some ↦ let found = any_member (is_delivery t number) past some in inl (subst (Contains past) (is_delivery_true t number found.0 found.2) found.1)
-  | inr none ↦ inr (λ at. both_ways (list_any (is_delivery t number) past) none (any_from (is_delivery t number) past (Deliver t number) at (delivers_itself t number)))
+  | inl some ↦ let found =
+      any_member (is_delivery t number) past some in inl (subst (Contains past) (is_delivery_true t number found.0 found.2) found.1)
+  | inr none ↦ inr
+      (λ at. both_ways (list_any (is_delivery t number) past) none
+      (any_from (is_delivery t number) past (Deliver t number) at (delivers_itself t number)))
 ]
 
 got_contained : (messages : List Message) (m : Message) → Contains messages m → (number : ℕ) × (slice_get messages number ≡ Some m)
@@ -115,7 +118,9 @@ heard_decides : (order : CoverOrder) (count t : ℕ) (past : List LocalEvent) (v
     → Contains (decisions order count t past) e
 heard_decides order count t [] v e at = absurd (nothing_in _ at)
 heard_decides order count t (x ∷ past) v e at = elim (cases_in x past _ at) [
-  | inl same ↦ Contains-append_left (resolution order count t past x ++ resolved_at x) _ e (Contains-append_right (resolution order count t past x) (resolved_at x) e (subst (λ y. Contains (resolved_at y) e) (sym same) (first_in e [])))
+  | inl same ↦ Contains-append_left (resolution order count t past x ++ resolved_at x) _ e
+      (Contains-append_right (resolution order count t past x) (resolved_at x) e
+      (subst (λ y. Contains (resolved_at y) e) (sym same) (first_in e [])))
   | inr later ↦ Contains-append_right (resolution order count t past x ++ resolved_at x) _ e (heard_decides order count t past v e later)
 ]
 
@@ -145,8 +150,12 @@ module _ (order : CoverOrder) (count : ℕ) where
       let member : member_of e ≡ t = ap member_of is in
       let here : Contains ((advanced order count course (member_of e) step.x).local (member_of e)) (receives found.0) =
       subst (λ met. Contains met (receives found.0)) (sym (local_same order count course (member_of e) step.x))
-      (subst (λ y. Contains (step.x ∷ course.local (member_of e)) y) found.2 (first_in step.x (course.local (member_of e)))) in
-      (found.0, got_later past e legal number found.0 found.1, subst (λ (c : Course). Contains (c.local t) (receives found.0)) (sym (course_step order count past e step)) (subst (λ u. Contains ((advanced order count course (member_of e) step.x).local u) (receives found.0)) member here))
+      (subst (λ y. Contains (step.x ∷ course.local (member_of e)) y) found.2 (first_in step.x (course.local (member_of e)))) in (
+        found.0,
+        got_later past e legal number found.0 found.1,
+        subst (λ (c : Course). Contains (c.local t) (receives found.0)) (sym (course_step order count past e step))
+            (subst (λ u. Contains ((advanced order count course (member_of e) step.x).local u) (receives found.0)) member here),
+      )
 
   pub delivered_met : (past : List Event) (t number : ℕ) → LegalPast order count past → Contains past (Deliver t number) → Met past t number
   delivered_met [] t number legal at = absurd (nothing_in _ at)
@@ -155,8 +164,13 @@ module _ (order : CoverOrder) (count : ℕ) where
     | inr before ↦
         let course = course_of order count past in
         let step = step_of order count past e legal.1 in
-        let found = delivered_met past t number legal.0 before in
-        (found.0, got_later past e legal number found.0 found.1, subst (λ (c : Course). Contains (c.local t) (receives found.0)) (sym (course_step order count past e step)) (lasting order count course (member_of e) step.x (λ v met. Contains met (receives found.0)) t (λ had. later_in step.x (course.local (member_of e)) (receives found.0) had) found.2))
+        let found = delivered_met past t number legal.0 before in (
+          found.0,
+          got_later past e legal number found.0 found.1,
+          subst (λ (c : Course). Contains (c.local t) (receives found.0)) (sym (course_step order count past e step))
+              (lasting order count course (member_of e) step.x (λ v met. Contains met (receives found.0)) t
+              (λ had. later_in step.x (course.local (member_of e)) (receives found.0) had) found.2),
+        )
   ]
 
   module _ (sound : IsSound order) (past : List Event) (legal : LegalPast order count past) where
@@ -189,14 +203,17 @@ module _ (order : CoverOrder) (count : ℕ) where
     reached_call : IsSettled order count past → (u e : ℕ) → Contains course.messages (message.Raised u e) → AllSpoken count course
     reached_call calm u e at t t_in = elim (cases_eq u t) [
       | inl same ↦ subst (λ v. has_spoken (course.local v) ≡ true) same (has_own_spoken (course.local u) e (words.raised_sent u e at))
-      | inr other ↦ any_from is_call (course.local t) (receives (message.Raised u e)) (reached calm t (message.Raised u e) t_in other at) refl
+      | inr other ↦ any_from is_call (course.local t) (receives (message.Raised u e))
+          (reached calm t (message.Raised u e) t_in other at) refl
     ]
 
     hears : IsSettled order count past → AllSpoken count course → (g u : ℕ) → g < count → u < count → u ≢ g
         → has_heard (course.local g) u ≡ true
     hears calm spoken g u g_in u_in other = elim (words.said u (spoken u u_in)) [
-      | inl suspended ↦ any_from (is_word_of u) (course.local g) (receives (message.Suspended u)) (reached calm g (message.Suspended u) g_in other suspended) (eq-eqb u u refl)
-      | inr raised_one ↦ any_from (is_word_of u) (course.local g) (receives (message.Raised u raised_one.0)) (reached calm g (message.Raised u raised_one.0) g_in other raised_one.1) (eq-eqb u u refl)
+      | inl suspended ↦ any_from (is_word_of u) (course.local g) (receives (message.Suspended u))
+          (reached calm g (message.Suspended u) g_in other suspended) (eq-eqb u u refl)
+      | inr raised_one ↦ any_from (is_word_of u) (course.local g) (receives (message.Raised u raised_one.0))
+          (reached calm g (message.Raised u raised_one.0) g_in other raised_one.1) (eq-eqb u u refl)
     ]
 
     no_greater : (g : ℕ) → ((v : ℕ) → g < v → v < count → has_raised (course.local v) ≡ false) → has_greater g (course.local g) ≡ false
@@ -206,7 +223,8 @@ module _ (order : CoverOrder) (count : ℕ) where
         let raises_too =
         words.raised_sent from.0 from.1
         (words.received g (message.Raised from.0 from.1) (subst (Contains (course.local g)) from.3 found.1)) in
-        both_ways (has_raised (course.local from.0)) (last from.0 from.2 (words.members from.0 from.1 raises_too)) (own_has_raised (course.local from.0) from.1 raises_too))
+        both_ways (has_raised (course.local from.0)) (last from.0 from.2 (words.members from.0 from.1 raises_too))
+        (own_has_raised (course.local from.0) from.1 raises_too))
 
     resolver : IsSettled order count past → (u e : ℕ) → Contains (own (course.local u)) e
         → (g : ℕ) × (f : ℕ) × Contains course.messages (message.Resolved g f)
@@ -216,7 +234,8 @@ module _ (order : CoverOrder) (count : ℕ) where
         let last = greatest (λ v. has_raised (course.local v)) count u u_in (own_has_raised (course.local u) e at) in
         let g = last.0 in
         let g_in = last.1 in
-        let heard : has_heard_all count g (course.local g) ≡ true = all_in_range (λ v. v == g || has_heard (course.local g) v) 0 count (λ v low high. elim (cases_eq v g) [
+        let heard : has_heard_all count g (course.local g) ≡ true =
+        all_in_range (λ v. v == g || has_heard (course.local g) v) 0 count (λ v low high. elim (cases_eq v g) [
           | inl same ↦ or_left (v == g) (has_heard (course.local g) v) (eq-eqb v g same)
           | inr other ↦ or_right (v == g) (has_heard (course.local g) v) (hears calm spoken g v g_in (omega arith) other)
         ]) in
@@ -234,8 +253,10 @@ module _ (order : CoverOrder) (count : ℕ) where
         let found = resolver calm who.0 first.0 who.1 in (
           found.1,
           elim (cases_eq found.0 t) [
-            | inl same ↦ subst (λ v. Contains (decisions order count v (course.local v)) found.1) same (kept.resolved_decided found.0 found.1 found.2)
-            | inr other ↦ heard_decides order count t (course.local t) found.0 found.1 (reached calm t (message.Resolved found.0 found.1) t_in other found.2)
+            | inl same ↦ subst (λ v. Contains (decisions order count v (course.local v)) found.1) same
+                (kept.resolved_decided found.0 found.1 found.2)
+            | inr other ↦ heard_decides order count t (course.local t) found.0 found.1
+                (reached calm t (message.Resolved found.0 found.1) t_in other found.2)
           ],
         )
       where
@@ -251,8 +272,13 @@ module _ (order : CoverOrder) (count : ℕ) where
     unspoken none u spoken =
         let found = any_member is_call (course.local u) spoken in
         elim (call_from found.0 found.2) [
-          | inl mine ↦ nothing_in mine.0 (subst (λ es. Contains es mine.0) none (words.to_raised u mine.0 (flat_map_from raised_at (course.local u) found.0 mine.0 found.1 (subst (λ y. Contains (raised_at y) mine.0) (sym mine.1) (first_in mine.0 [])))))
-          | inr other ↦ unraised none other.0 other.1 (words.received u (message.Raised other.0 other.1) (subst (Contains (course.local u)) other.2 found.1))
+          | inl mine ↦ nothing_in mine.0
+              (subst (λ es. Contains es mine.0) none
+              (words.to_raised u mine.0
+              (flat_map_from raised_at (course.local u) found.0 mine.0 found.1
+              (subst (λ y. Contains (raised_at y) mine.0) (sym mine.1) (first_in mine.0 [])))))
+          | inr other ↦ unraised none other.0 other.1
+              (words.received u (message.Raised other.0 other.1) (subst (Contains (course.local u)) other.2 found.1))
         ]
 
     pub unsent : all_raised past ≡ [] → (m : Message) → Contains course.messages m → ⊥

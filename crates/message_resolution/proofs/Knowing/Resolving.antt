@@ -31,7 +31,10 @@ module _ (order : CoverOrder) (count me : ℕ) (past : List LocalEvent) (x : Loc
   pub resolves_rightly : (e : ℕ) (es : List ℕ) → resolution order count me past x ≡ e ∷ es
       → (may_resolve count me (x ∷ past) ≡ true) × (has_resolved count me past ≡ false)
   resolves_rightly e es is = elim (cases_Bool (may_resolve count me (x ∷ past) && not (has_resolved count me past))) [
-    | inl holds ↦ let parts = and_parts (may_resolve count me (x ∷ past)) (not (has_resolved count me past)) holds in (parts.0, not-true _ parts.1)
+    | inl holds ↦ let parts = and_parts (may_resolve count me (x ∷ past)) (not (has_resolved count me past)) holds in (
+      parts.0,
+      not-true _ parts.1,
+    )
     | inr fails ↦ let none = does_not_resolve fails in absurd cc
   ]
 
@@ -58,12 +61,14 @@ module _ (node : Known) where
   pub none_not_raised : ((e : ℕ) → node.state ≡ Raised e → ⊥) → IsResolutionOf node None
   none_not_raised other order past x ordered taken =
       sym
-      (does_not_resolve order node.count node.me past x (and_left _ _ (and_left _ _ (not_raised (x ∷ past) (λ e is. other e (taken.state ∙ is))))))
+      (does_not_resolve order node.count node.me past x
+      (and_left _ _ (and_left _ _ (not_raised (x ∷ past) (λ e is. other e (taken.state ∙ is))))))
 
   pub none_greater : node.has_greater ≡ true → IsResolutionOf node None
   none_greater greater order past x ordered taken =
       sym
-      (does_not_resolve order node.count node.me past x (and_left _ _ (and_right _ _ (and_right _ _ (not_from_true _ (sym taken.greater ∙ greater))))))
+      (does_not_resolve order node.count node.me past x
+      (and_left _ _ (and_right _ _ (and_right _ _ (not_from_true _ (sym taken.greater ∙ greater))))))
 
   pub none_again : node.has_resolved ≡ true → IsResolutionOf node None
   none_again had order past x ordered taken =
@@ -72,7 +77,8 @@ module _ (node : Known) where
   pub none_unheard : list_all (λ b. b) node.heard ≡ false → IsResolutionOf node None
   none_unheard fails order past x ordered taken =
       sym
-      (does_not_resolve order node.count node.me past x (and_left _ _ (and_right _ _ (and_left _ _ (sym (heard_all order past x node taken) ∙ fails)))))
+      (does_not_resolve order node.count node.me past x
+      (and_left _ _ (and_right _ _ (and_left _ _ (sym (heard_all order past x node taken) ∙ fails)))))
 
   -- what it has covered is the least cover
   cover_is : (order : CoverOrder) (xs : List ℕ) (cover : Option ℕ) → IsOrder order → (xs ≡ [] → ⊥) → IsCoverOf order xs cover
@@ -113,7 +119,8 @@ module _ (node : Known) where
     sends = λ order past x ordered taken. ap (λ es. map (λ e. message.Resolved node.me e) es) (found order past x ordered taken);
   }
 
-  pub resolves_some : (e : ℕ) → IsResolutionOf node (Some e) → Resolves node (record node { has_resolved = true; decided = Some e }) (Some (message.Resolved node.me e))
+  pub resolves_some : (e : ℕ) → IsResolutionOf node (Some e)
+      → Resolves node (record node { has_resolved = true; decided = Some e }) (Some (message.Resolved node.me e))
   resolves_some e found = record {
     me = refl;
     count = refl;

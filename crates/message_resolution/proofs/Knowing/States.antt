@@ -58,8 +58,10 @@ pub heard_more : (heard : List Bool) (from me u : ℕ) (before : Bool) → from 
     → slice_index_or heard u false ≡ (u == me || before)
     → slice_index_or (slice_set heard from true) u false ≡ (u == me || (from == u || before))
 heard_more heard from me u before fits was = elim (cases_eq from u) [
-  | inl same ↦ rw (sym same) (get_or-set_same heard from true false fits ∙ sym (or_right (from == me) (from == from || before) (rw (eq-eqb from from refl))))
-  | inr other ↦ get_or-set_other heard from u true false (λ same. other (sym same)) ∙ was ∙ ap (λ b. u == me || (b || before)) (sym (ne_eqb from u other))
+  | inl same ↦ rw (sym same) (get_or-set_same heard from true false fits
+      ∙ sym (or_right (from == me) (from == from || before) (rw (eq-eqb from from refl))))
+  | inr other ↦ get_or-set_other heard from u true false (λ same. other (sym same)) ∙ was
+      ∙ ap (λ b. u == me || (b || before)) (sym (ne_eqb from u other))
 ]
 
 -- without the state Raised nothing was raised

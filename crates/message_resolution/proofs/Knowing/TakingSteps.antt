@@ -19,7 +19,8 @@ abbrev pub Joins : CoverOrder → Option ℕ → ℕ → ℕ → Type 0
 Joins order cover e joined = (xs : List ℕ) → All (λ x. x < order.count) xs → IsCoverOf order xs cover → IsLeastCover order (e ∷ xs) joined
 
 module _ (order : CoverOrder) (base : Known) where
-  pub takes_raise : (e joined : ℕ) → e < order.count → Joins order base.cover e joined → TakesIn order (raises e) base (record base { state = Raised e; cover = Some joined }) (Some (message.Raised base.me e))
+  pub takes_raise : (e joined : ℕ) → e < order.count → Joins order base.cover e joined
+      → TakesIn order (raises e) base (record base { state = Raised e; cover = Some joined }) (Some (message.Raised base.me e))
   takes_raise e joined e_in joins = record {
     me = refl;
     count = refl;
@@ -37,7 +38,8 @@ module _ (order : CoverOrder) (base : Known) where
     says = λ past stands. refl;
   }
 
-  pub takes_suspended : (from : ℕ) → from < base.count → from ≢ base.me → TakesIn order (receives (message.Suspended from)) base (record base { heard = slice_set base.heard from true }) None
+  pub takes_suspended : (from : ℕ) → from < base.count → from ≢ base.me
+      → TakesIn order (receives (message.Suspended from)) base (record base { heard = slice_set base.heard from true }) None
   takes_suspended from from_in other = record {
     me = refl;
     count = refl;
@@ -57,7 +59,8 @@ module _ (order : CoverOrder) (base : Known) where
     says = λ past stands. refl;
   }
 
-  pub takes_resolved : (from e : ℕ) → from < base.count → e < order.count → from ≢ base.me → TakesIn order (receives (message.Resolved from e)) base (record base { decided = Some e }) None
+  pub takes_resolved : (from e : ℕ) → from < base.count → e < order.count → from ≢ base.me
+      → TakesIn order (receives (message.Resolved from e)) base (record base { decided = Some e }) None
   takes_resolved from e from_in e_in other = record {
     me = refl;
     count = refl;
@@ -75,11 +78,18 @@ module _ (order : CoverOrder) (base : Known) where
     says = λ past stands. refl;
   }
 
-  module _ (from e joined : ℕ) (from_in : from < base.count) (e_in : e < order.count) (other : from ≢ base.me) (joins : Joins order base.cover e joined) where
+  module _ (from e joined : ℕ) (from_in : from < base.count) (e_in : e < order.count) (other : from ≢ base.me)
+      (joins : Joins order base.cover e joined) where
     -- the node once it has noted who raised and what
     abbrev noted : State → Known
     noted state =
-        record base { state = state; heard = slice_set base.heard from true; cover = Some joined; has_greater = nat_lt base.me from || base.has_greater }
+        record base {
+          state = state;
+          heard = slice_set base.heard from true;
+          cover = Some joined;
+          has_greater =
+              nat_lt base.me from || base.has_greater;
+        }
 
     taken_raised : (state : State) (past : List LocalEvent) → StandsFor order past base
         → state ≡ state_of (receives (message.Raised from e) ∷ past)
@@ -101,35 +111,39 @@ module _ (order : CoverOrder) (base : Known) where
     -- and once it has answered
     answered : (state : State) → base.state ≡ state → (new : Known) (said : Option Message) → SuspendsFrom (noted state) state new said
         → TakesIn order (receives (message.Raised from e)) base new said
-    answered Normal is new said does = subst (λ (n : Known). TakesIn order (receives (message.Raised from e)) base n said) (sym does.0) (record {
-      me = refl;
-      count = refl;
-      taken =
-          λ past stands. taken_raised Suspended past stands (ap (λ xs. state_with xs true) (sym (normal past (sym stands.state ∙ is)).0));
-      says = λ past stands.
-          let silent : has_spoken past ≡ false = (normal past (sym stands.state ∙ is)).1 in
-          ap listed does.1 ∙ ap (λ b. if b then [] else message.Suspended base.me ∷ []) (sym silent);
-    })
-    answered (Raised own_one) is new said does = subst (λ (n : Known). TakesIn order (receives (message.Raised from e)) base n said) (sym does.0) (record {
-      me = refl;
-      count = refl;
-      taken = λ past stands.
-          let mine = raised past own_one (sym stands.state ∙ is) in
-          taken_raised (Raised own_one) past stands (ap (λ xs. state_with xs true) (sym mine.1));
-      says = λ past stands.
-          let mine = raised past own_one (sym stands.state ∙ is) in
-          let spoken : has_spoken past ≡ true = raised_spoken past (own_raised past own_one mine.0 mine.1) in
-          ap listed does.1 ∙ ap (λ b. if b then [] else message.Suspended base.me ∷ []) (sym spoken);
-    })
-    answered Suspended is new said does = subst (λ (n : Known). TakesIn order (receives (message.Raised from e)) base n said) (sym does.0) (record {
-      me = refl;
-      count = refl;
-      taken =
-          λ past stands. taken_raised Suspended past stands (ap (λ xs. state_with xs true) (sym (suspended past (sym stands.state ∙ is)).0));
-      says = λ past stands.
-          let spoken : has_spoken past ≡ true = (suspended past (sym stands.state ∙ is)).1 in
-          ap listed does.1 ∙ ap (λ b. if b then [] else message.Suspended base.me ∷ []) (sym spoken);
-    })
+    answered Normal is new said does = subst (λ (n : Known). TakesIn order (receives (message.Raised from e)) base n said)
+        (sym does.0) (record {
+          me = refl;
+          count = refl;
+          taken =
+              λ past stands. taken_raised Suspended past stands (ap (λ xs. state_with xs true) (sym (normal past (sym stands.state ∙ is)).0));
+          says = λ past stands.
+              let silent : has_spoken past ≡ false = (normal past (sym stands.state ∙ is)).1 in
+              ap listed does.1 ∙ ap (λ b. if b then [] else message.Suspended base.me ∷ []) (sym silent);
+        })
+    answered (Raised own_one) is new said does =
+        subst (λ (n : Known). TakesIn order (receives (message.Raised from e)) base n said) (sym does.0) (record {
+          me = refl;
+          count = refl;
+          taken = λ past stands.
+              let mine = raised past own_one (sym stands.state ∙ is) in
+              taken_raised (Raised own_one) past stands (ap (λ xs. state_with xs true) (sym mine.1));
+          says = λ past stands.
+              let mine = raised past own_one (sym stands.state ∙ is) in
+              let spoken : has_spoken past ≡ true = raised_spoken past (own_raised past own_one mine.0 mine.1) in
+              ap listed does.1 ∙ ap (λ b. if b then [] else message.Suspended base.me ∷ []) (sym spoken);
+        })
+    answered Suspended is new said does =
+        subst (λ (n : Known). TakesIn order (receives (message.Raised from e)) base n said) (sym does.0) (record {
+          me = refl;
+          count = refl;
+          taken =
+              λ past stands. taken_raised Suspended past stands
+              (ap (λ xs. state_with xs true) (sym (suspended past (sym stands.state ∙ is)).0));
+          says = λ past stands.
+              let spoken : has_spoken past ≡ true = (suspended past (sym stands.state ∙ is)).1 in
+              ap listed does.1 ∙ ap (λ b. if b then [] else message.Suspended base.me ∷ []) (sym spoken);
+        })
 
     pub takes_raised : (new : Known) (said : Option Message) → Suspends (noted base.state) new said
         → TakesIn order (receives (message.Raised from e)) base new said

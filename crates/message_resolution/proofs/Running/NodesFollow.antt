@@ -59,7 +59,8 @@ other_got : (t : ℕ) (o : Option Message) → is_from_other t o ≡ true → (m
 other_got t None other = absurd cc
 other_got t (Some m) other = (m, refl, eqb-false (sender_of m) t (not-true _ other))
 
-module _ (order : CoverOrder) (sound : IsSound order) (count : ℕ) (past : List Event) (messages : List Message) (nodes : List Known) (room : ℕ) (holds : HoldsRun order count past messages nodes room) where
+module _ (order : CoverOrder) (sound : IsSound order) (count : ℕ) (past : List Event) (messages : List Message)
+    (nodes : List Known) (room : ℕ) (holds : HoldsRun order count past messages nodes room) where
   may_meet : (e : Event) → MayCome order count past e → (node : Known) → IsNodeAt order count past (member_of e) node
       → MayMeetNode order messages node e
   may_meet (Raise by f) may node at = (silent_normal order count past by node at (not-true _ may.legal), may.in_range.1)
@@ -68,8 +69,12 @@ module _ (order : CoverOrder) (sound : IsSound order) (count : ℕ) (past : List
       let found = other_got to (slice_get course.messages number) may.legal in
       let known =
       All-contains (IsMessage order count) course.messages found.0 (keeps order count past sound holds.legal).0.known
-      (contains_got course.messages number found.0 found.1) in
-      (found.0, ap (λ ms. slice_get ms number) holds.sent ∙ found.1, λ same. found.2 (same ∙ at.me), subst (λ n. IsMessage order n found.0) (sym at.members) known)
+      (contains_got course.messages number found.0 found.1) in (
+        found.0,
+        ap (λ ms. slice_get ms number) holds.sent ∙ found.1,
+        λ same. found.2 (same ∙ at.me),
+        subst (λ n. IsMessage order n found.0) (sym at.members) known,
+      )
 
   pub may_meet_at : (e : Event) → MayCome order count past e → (node : Known) → slice_get nodes (member_of e) ≡ Some node
       → IsNodeOf order node × MayMeetNode order messages node e
@@ -77,7 +82,8 @@ module _ (order : CoverOrder) (sound : IsSound order) (count : ℕ) (past : List
       let at = holds.each (member_of e) node is in
       (((course_of order count past).local (member_of e), at.stands), may_meet e may node at)
 
-  module _ (e : Event) (may : MayCome order count past e) (new : List Known) (sent : Sent) (nodes_meet : NodesMeet order messages nodes new e sent) where
+  module _ (e : Event) (may : MayCome order count past e) (new : List Known) (sent : Sent)
+      (nodes_meet : NodesMeet order messages nodes new e sent) where
     abbrev course : Course
     course = course_of order count past
 
@@ -114,7 +120,8 @@ module _ (order : CoverOrder) (sound : IsSound order) (count : ℕ) (past : List
               let meets = one.meets in
               let stands : StandsFor order ((course_of order count (e ∷ past)).local t) one.next =
               subst (λ (c : Course). StandsFor order (c.local t) one.next) (sym same_course)
-              (subst (λ local. StandsFor order local one.next) (sym (local_same order count course t step.x)) (meets.stands (course.local t) at.stands)) in
+              (subst (λ local. StandsFor order local one.next) (sym (local_same order count course t step.x))
+              (meets.stands (course.local t) at.stands)) in
               let at_t : IsNodeAt order count (e ∷ past) t one.next =
               record { me = meets.me ∙ at.me; members = meets.count ∙ at.members; stands = stands } in
               subst (IsNodeAt order count (e ∷ past) u) here.1 (subst (λ v. IsNodeAt order count (e ∷ past) v one.next) (sym here.0) at_t)

@@ -52,5 +52,6 @@ delivery_found events t number found is = (
   λ holds.
       let some = any_member (is_delivery t number) events (sym is ∙ holds) in
       Contains-reverse events (Deliver t number) (subst (Contains events) (is_delivery_true t number some.0 some.2) some.1),
-  λ at. is ∙ any_from (is_delivery t number) events (Deliver t number) (Contains-from_reverse events (Deliver t number) at) (delivers_itself t number),
+  λ at. is ∙ any_from (is_delivery t number) events (Deliver t number) (Contains-from_reverse events (Deliver t number) at)
+      (delivers_itself t number),
 )

@@ -38,7 +38,8 @@ module _ (order : CoverOrder) (count : ℕ) where
   due_before past number t n u legal due low now =
       let below = due_sent past number t due in
       let step = step_of order count past (Deliver t number) (due_may_come past number t due) in
-      let same : slice_get (course_of order count (Deliver t number ∷ past)).messages n ≡ slice_get (course_of order count past).messages n =
+      let same : slice_get (course_of order count (Deliver t number ∷ past)).messages n
+      ≡ slice_get (course_of order count past).messages n =
       ap (λ (c : Course). slice_get c.messages n) (course_step order count past (Deliver t number) step) ∙ got_before
       (course_of order count past).messages _ n (omega arith) in
       record {
@@ -67,7 +68,8 @@ module _ (order : CoverOrder) (count : ℕ) where
       rest = λ final later. upto.rest final (delivers (record { due = due; first = upto.calm }) later);
       calm = λ n u before now. elim (before_next n u before) [
         | inl earlier ↦ upto.calm n u earlier (due_before past number t n u legal due (at_most n u earlier) now)
-        | inr here ↦ now.never (subst (λ k. Contains (Deliver t number ∷ past) (Deliver u k)) (sym here.0) (subst (λ v. Contains (Deliver t number ∷ past) (Deliver v number)) (sym here.1) (first_in (Deliver t number) past)))
+        | inr here ↦ now.never (subst (λ k. Contains (Deliver t number ∷ past) (Deliver u k)) (sym here.0)
+            (subst (λ v. Contains (Deliver t number ∷ past) (Deliver v number)) (sym here.1) (first_in (Deliver t number) past)))
       ];
     }
 
@@ -131,8 +133,11 @@ module _ (first cur next : RunView) (number t : ℕ) (row : DeliversRow first cu
   row_settles start begins =
       let upto = row.settles start begins in
       elim due.past [
-        | inl now ↦ subst (λ es. SettlesUpTo first.order first.count start es number (t + 1)) (sym now.1) (up_to_due first.order first.count start cur.past number t (moved (λ o n. LegalPast o n cur.past) due.legal) upto (moved (λ o n. IsDue o n cur.past number t) now.0))
-        | inr none ↦ subst (λ es. SettlesUpTo first.order first.count start es number (t + 1)) (sym none.1) (up_to_calm first.order first.count start cur.past number t upto (λ is. none.0 (still (λ o n. IsDue o n cur.past number t) is)))
+        | inl now ↦ subst (λ es. SettlesUpTo first.order first.count start es number (t + 1)) (sym now.1)
+            (up_to_due first.order first.count start cur.past number t (moved (λ o n. LegalPast o n cur.past) due.legal)
+            upto (moved (λ o n. IsDue o n cur.past number t) now.0))
+        | inr none ↦ subst (λ es. SettlesUpTo first.order first.count start es number (t + 1)) (sym none.1)
+            (up_to_calm first.order first.count start cur.past number t upto (λ is. none.0 (still (λ o n. IsDue o n cur.past number t) is)))
       ]
 
   pub row_more : DeliversRow first next number (t + 1)

@@ -42,5 +42,6 @@ settled_world run new room held within order count same long settles =
       spare = subst (λ n. room + 2 * n * n ≤ new.event_room) (sym count) (omega arith);
       long = subst (λ n. length new.past ≤ room + 2 * n * n) (sym count) (omega arith);
       beyond =
-          λ over. subst (λ n. IsSettled new.order n new.past) (sym count) (subst (λ o. IsSettled o run.count new.past) (sym order) (settles_settled run.order run.count settles));
+          λ over. subst (λ n. IsSettled new.order n new.past) (sym count)
+          (subst (λ o. IsSettled o run.count new.past) (sym order) (settles_settled run.order run.count settles));
     }

@@ -20,7 +20,8 @@ pub record RunView : Type 0 where
   pub event_room : ℕ
 
 -- the past is legal, the messages are those that it sent, each node stands for its member, and there is room for two messages each
-pub record HoldsRun (order : CoverOrder) (count : ℕ) (past : List Event) (messages : List Message) (nodes : List Known) (message_room : ℕ) : Type 0 where
+pub record HoldsRun (order : CoverOrder) (count : ℕ) (past : List Event) (messages : List Message) (nodes : List Known)
+    (message_room : ℕ) : Type 0 where
   pub few : count ≤ most_members
   pub legal : LegalPast order count past
   pub sent : messages ≡ (course_of order count past).messages
@@ -35,7 +36,8 @@ AreFreshNodes count nodes = (order : CoverOrder) (t : ℕ) (node : Known) → sl
 -- a node may raise where it is Normal, and may be told of another's message
 abbrev pub MayMeetNode : CoverOrder → List Message → Known → Event → Type 0
 MayMeetNode order messages node (Raise by exception) = (node.state ≡ Normal) × (exception < order.count)
-MayMeetNode order messages node (Deliver to number) = (m : Message) × (slice_get messages number ≡ Some m) × (sender_of m ≢ node.me) × IsMessage order node.count m
+MayMeetNode order messages node (Deliver to number) = (m : Message) × (slice_get messages number ≡ Some m)
+    × (sender_of m ≢ node.me) × IsMessage order node.count m
 
 abbrev pub MayMeetAt : CoverOrder → List Message → List Known → Event → Type 0
 MayMeetAt order messages nodes e =

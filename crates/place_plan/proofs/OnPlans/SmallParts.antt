@@ -28,7 +28,9 @@ use Rattle.caa_base.proofs.ListLemmas.{get_passes, all_imply}
 
 -- there are few participants
 pub few_participants : (plan : Plan) → IsClosed plan → length plan.participants ≤ most_participants
-few_participants plan closed = of_plan (λ q. length q.participants ≤ most_participants) plan closed (leb-true _ _ (and_parts (nat_le (length closed.draft.participants) most_participants) _ (keeps_of plan closed).sizes).0)
+few_participants plan closed =
+    of_plan (λ q. length q.participants ≤ most_participants) plan closed
+    (leb-true _ _ (and_parts (nat_le (length closed.draft.participants) most_participants) _ (keeps_of plan closed).sizes).0)
 
 -- ---- depth
 
@@ -39,7 +41,8 @@ in_list depth (x ∷ xs) a d h m = elim (or_cases (x == a) (member a xs) m) [
   | inr later ↦ in_list depth xs a d (omega arith) later
 ]
 
-in_use : (depth : ℕ → ℕ) (nests : List NestRow) (k a d : ℕ) → deepest depth nests ≤ d → member a (slice_index_or nests k no_nest).actions ≡ true → depth a ≤ d
+in_use : (depth : ℕ → ℕ) (nests : List NestRow) (k a d : ℕ) → deepest depth nests ≤ d
+    → member a (slice_index_or nests k no_nest).actions ≡ true → depth a ≤ d
 in_use depth [] zero a d h m = absurd (false≢true m)
 in_use depth [] (suc k) a d h m = absurd (false≢true m)
 in_use depth (nest ∷ nests) zero a d h m = in_list depth nest.actions a d (omega arith) m
@@ -50,7 +53,8 @@ unfolding depth_within
 no_bottom actions a f = omega arith
 
 -- what is nested in an action is less deep
-inner_fits : (actions : List ActionRow) (d a k b : ℕ) → Fits (suc d) actions a → member b (slice_index_or (slice_index_or actions a no_action).nests k no_nest).actions ≡ true → Fits d actions b
+inner_fits : (actions : List ActionRow) (d a k b : ℕ) → Fits (suc d) actions a
+    → member b (slice_index_or (slice_index_or actions a no_action).nests k no_nest).actions ≡ true → Fits d actions b
 unfolding depth_within
 inner_fits actions d a k b f m =
     let low : deepest (depth_within (suc d) actions) (slice_index_or actions a no_action).nests ≤ d = omega arith in
@@ -81,7 +85,10 @@ module _ (draft : Draft) (keeps : KeepsParts draft) where
       inner p k c (suc d, e, f) m =
           let there = in_table made.places p k c m in
           let placed = ((is_unfolded draft keeps.depths).instances p there).child k c m in
-          let nested : member (place_at made c).action (slice_index_or (slice_index_or made.actions (place_at made p).action no_action).nests k no_nest).actions ≡ true = subst (λ (a : ActionRow). member (place_at made c).action (slice_index_or a.nests k no_nest).actions ≡ true) (action_is made p there) placed.action in
+          let nested : member (place_at made c).action
+          (slice_index_or (slice_index_or made.actions (place_at made p).action no_action).nests k no_nest).actions ≡ true =
+          subst (λ (a : ActionRow). member (place_at made c).action (slice_index_or a.nests k no_nest).actions ≡ true)
+          (action_is made p there) placed.action in
           let deeper : length (around made c) ≡ suc (length (around made p)) = ap (λ (qs : List ℕ). length qs) placed.round in
           (d, omega (arith, e, deeper), inner_fits made.actions d (place_at made p).action k (place_at made c).action f nested)
 
@@ -120,7 +127,9 @@ pub programs_short : (plan : Plan) → IsClosed plan → (p t : ℕ) (x : Option
 programs_short plan closed p t x = leb-true _ _ (by_handler x)
   where
     all : list_all (λ (a : ActionRow). list_all role_fits a.roles) plan.actions ≡ true
-    all = of_plan (λ q. list_all (λ (a : ActionRow). list_all role_fits a.roles) q.actions ≡ true) plan closed (all_imply action_fits (λ (a : ActionRow). list_all role_fits a.roles) closed.draft.actions weaker (all_fit closed.draft (keeps_of plan closed).sizes))
+    all = of_plan (λ q. list_all (λ (a : ActionRow). list_all role_fits a.roles) q.actions ≡ true) plan closed
+        (all_imply action_fits (λ (a : ActionRow). list_all role_fits a.roles) closed.draft.actions weaker
+        (all_fit closed.draft (keeps_of plan closed).sizes))
       where
         weaker : (a : ActionRow) → action_fits a ≡ true → list_all role_fits a.roles ≡ true
         weaker a h =
@@ -130,11 +139,13 @@ programs_short plan closed p t x = leb-true _ _ (by_handler x)
             (and_parts (list_all role_fits a.roles) _ d.1).0
 
     role : role_fits (role_row plan p t) ≡ true
-    role = get_passes role_fits (action_at plan p).roles (index_of t (roles_of plan p)) no_role (action_passes (λ (a : ActionRow). list_all role_fits a.roles) plan all refl p) refl
+    role = get_passes role_fits (action_at plan p).roles (index_of t (roles_of plan p)) no_role
+        (action_passes (λ (a : ActionRow). list_all role_fits a.roles) plan all refl p) refl
 
     by_handler : (o : Option ℕ) → program_fits (program_in plan p t o) ≡ true
     by_handler None = (and_parts (program_fits (role_row plan p t).body) _ role).0
-    by_handler (Some y) = handler_passes program_fits y (role_row plan p t).handlers (and_parts (program_fits (role_row plan p t).body) _ role).1 refl
+    by_handler (Some y) =
+        handler_passes program_fits y (role_row plan p t).handlers (and_parts (program_fits (role_row plan p t).body) _ role).1 refl
 
 -- ---- objects
 
@@ -154,4 +165,5 @@ objects_rise plan closed p = rises (objects_of plan p) (action_passes (λ (a : A
   where
     all : list_all (λ (a : ActionRow). is_rising a.objects) plan.actions ≡ true
     all = of_plan (λ q. list_all (λ (a : ActionRow). is_rising a.objects) q.actions ≡ true) plan closed
-        (all_imply (objects_in_range closed.draft) (λ (a : ActionRow). is_rising a.objects) closed.draft.actions (λ a h. (and_parts (is_rising a.objects) _ h).0) (objects_range closed.draft (keeps_of plan closed)))
+        (all_imply (objects_in_range closed.draft) (λ (a : ActionRow). is_rising a.objects) closed.draft.actions
+        (λ a h. (and_parts (is_rising a.objects) _ h).0) (objects_range closed.draft (keeps_of plan closed)))

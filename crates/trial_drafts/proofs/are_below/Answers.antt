@@ -13,7 +13,8 @@ loop-pair-preserved c =
     let i = c.loop-pair.pair-index in
     let pair = get_or pairs i (0, 0) in
     subst (All (AreBelow c.args.count)) (sym (take_more pairs i (0, 0) c.loop-pair-test.true))
-    (All-append (AreBelow c.args.count) (take i pairs) (pair ∷ []) c.loop-pair.invariant (All-cons (AreBelow c.args.count) pair [] (omega arith, omega arith) (All-nil (AreBelow c.args.count))))
+    (All-append (AreBelow c.args.count) (take i pairs) (pair ∷ []) c.loop-pair.invariant
+    (All-cons (AreBelow c.args.count) pair [] (omega arith, omega arith) (All-nil (AreBelow c.args.count))))
 
 pub returns : goal.returns
 returns c = λ t. subst (All (AreBelow c.args.count)) (take_all c.loop-pair.pair-index c.args.pairs.now (omega arith)) c.loop-pair.invariant

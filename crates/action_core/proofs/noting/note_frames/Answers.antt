@@ -18,7 +18,10 @@ a_step k (inr (inr h)) = (ap is_step h, ap gives_value h)
 -- the kinds that leave the frames
 a_stay : (k : Kind)
     → (k ≡ kind.Start) ⊎
-    ((k ≡ kind.PutFault) ⊎ ((k ≡ kind.Raise) ⊎ ((k ≡ kind.Inform) ⊎ ((k ≡ kind.Resolve) ⊎ ((k ≡ kind.Verdict) ⊎ ((k ≡ kind.Abort) ⊎ ((k ≡ kind.Undo) ⊎ ((k ≡ kind.Restore) ⊎ (k ≡ kind.End)))))))))
+    ((k ≡ kind.PutFault)
+    ⊎ ((k ≡ kind.Raise)
+    ⊎ ((k ≡ kind.Inform)
+    ⊎ ((k ≡ kind.Resolve) ⊎ ((k ≡ kind.Verdict) ⊎ ((k ≡ kind.Abort) ⊎ ((k ≡ kind.Undo) ⊎ ((k ≡ kind.Restore) ⊎ (k ≡ kind.End)))))))))
     → unmoving k ≡ true
 a_stay k (inl h) = ap unmoving h
 a_stay k (inr (inl h)) = ap unmoving h
@@ -44,7 +47,8 @@ enter-requires-clause-room c =
 pub returns-in-Arrive : goal.returns-in-Arrive
 returns-in-Arrive c =
     c.enter.ensures.keeps c.args.plan.now (reverse c.args.journal.now) c.args.entry.now c.requires.stands
-    (coming c.args.plan.now c.is_closed.ensures (reverse c.args.journal.now) c.args.entry.now c.requires.legal c.requires.may c.args.frames.now c.requires.stands c.in-Arrive.is)
+    (coming c.args.plan.now c.is_closed.ensures (reverse c.args.journal.now) c.args.entry.now c.requires.legal c.requires.may
+    c.args.frames.now c.requires.stands c.in-Arrive.is)
 
 pub advance-requires-clause-known : goal.advance-requires-clause-known
 advance-requires-clause-known c =
@@ -69,7 +73,9 @@ returns-in-Read c =
     ap (λ b. cond b (Some c.args.entry.now.value) None) (a_step _ c.in-Read.is).1 in
     c.advance.ensures.keeps c.args.plan.now (reverse c.args.journal.now) c.args.entry.now
     (nests c.args.plan.now (is_playable c.args.plan.now c.is_closed.ensures).tree) c.requires.stands
-    (subst (λ v. Steps c.args.plan.now (reverse c.args.journal.now) c.args.entry.now c.args.entry.now.by (Some v)) (sym same) (stepping c.args.plan.now c.is_closed.ensures (reverse c.args.journal.now) c.args.entry.now c.requires.legal c.requires.may c.args.frames.now c.requires.stands (Some c.args.entry.now.value) (a_step _ c.in-Read.is).0 gives))
+    (subst (λ v. Steps c.args.plan.now (reverse c.args.journal.now) c.args.entry.now c.args.entry.now.by (Some v)) (sym same)
+    (stepping c.args.plan.now c.is_closed.ensures (reverse c.args.journal.now) c.args.entry.now c.requires.legal
+    c.requires.may c.args.frames.now c.requires.stands (Some c.args.entry.now.value) (a_step _ c.in-Read.is).0 gives))
 
 pub advance-requires-in-Check-clause-known : goal.advance-requires-in-Check-clause-known
 advance-requires-in-Check-clause-known c =
@@ -93,7 +99,8 @@ returns-in-Check c =
     ap (λ (k : Kind). cond (gives_value k) (Some c.args.entry.now.value) None) c.in-Check.is in
     c.advance-in-Check.ensures.keeps c.args.plan.now (reverse c.args.journal.now) c.args.entry.now
     (nests c.args.plan.now (is_playable c.args.plan.now c.is_closed.ensures).tree) c.requires.stands
-    (stepping c.args.plan.now c.is_closed.ensures (reverse c.args.journal.now) c.args.entry.now c.requires.legal c.requires.may c.args.frames.now c.requires.stands None (ap is_step c.in-Check.is) gives)
+    (stepping c.args.plan.now c.is_closed.ensures (reverse c.args.journal.now) c.args.entry.now c.requires.legal c.requires.may
+    c.args.frames.now c.requires.stands None (ap is_step c.in-Check.is) gives)
 
 pub begin_handler-requires-clause-known : goal.begin_handler-requires-clause-known
 begin_handler-requires-clause-known c =
@@ -110,7 +117,12 @@ pub returns-in-Handle : goal.returns-in-Handle
 returns-in-Handle c =
     c.begin_handler.ensures.keeps c.args.plan.now (reverse c.args.journal.now) c.args.entry.now
     (nests c.args.plan.now (is_playable c.args.plan.now c.is_closed.ensures).tree) c.requires.stands
-    (record { is = c.in-Handle.is; own = refl; here = (row_of c.args.plan.now (reverse c.args.journal.now) kind.Handle c.args.entry.now c.in-Handle.is c.requires.may).here })
+    (record {
+      is = c.in-Handle.is;
+      own = refl;
+      here =
+          (row_of c.args.plan.now (reverse c.args.journal.now) kind.Handle c.args.entry.now c.in-Handle.is c.requires.may).here;
+    })
 
 pub leave-requires : goal.leave-requires
 leave-requires c =
@@ -121,7 +133,12 @@ pub returns-in-Withdraw : goal.returns-in-Withdraw
 returns-in-Withdraw c =
     c.leave.ensures.keeps c.args.plan.now (reverse c.args.journal.now) c.args.entry.now
     (nests c.args.plan.now (is_playable c.args.plan.now c.is_closed.ensures).tree) c.requires.stands
-    (record { is = inl c.in-Withdraw.is; own = refl; here = (row_of c.args.plan.now (reverse c.args.journal.now) kind.Withdraw c.args.entry.now c.in-Withdraw.is c.requires.may).here })
+    (record {
+      is = inl c.in-Withdraw.is;
+      own = refl;
+      here =
+          (row_of c.args.plan.now (reverse c.args.journal.now) kind.Withdraw c.args.entry.now c.in-Withdraw.is c.requires.may).here;
+    })
 
 pub leave-requires-then-silent : goal.leave-requires-then-silent
 leave-requires-then-silent c =
@@ -132,7 +149,12 @@ pub returns-then-silent : goal.returns-then-silent
 returns-then-silent c =
     c.leave-then-silent.ensures.keeps c.args.plan.now (reverse c.args.journal.now) c.args.entry.now
     (nests c.args.plan.now (is_playable c.args.plan.now c.is_closed.ensures).tree) c.requires.stands
-    (record { is = inr (c.in-Leave.is, sym c.requires.silent ∙ c.if-silent.true); own = refl; here = (row_of c.args.plan.now (reverse c.args.journal.now) kind.Leave c.args.entry.now c.in-Leave.is c.requires.may).here })
+    (record {
+      is = inr (c.in-Leave.is, sym c.requires.silent ∙ c.if-silent.true);
+      own = refl;
+      here =
+          (row_of c.args.plan.now (reverse c.args.journal.now) kind.Leave c.args.entry.now c.in-Leave.is c.requires.may).here;
+    })
 
 pub come_back-requires-clause-known : goal.come_back-requires-clause-known
 come_back-requires-clause-known c =
@@ -149,7 +171,13 @@ pub returns-else-silent : goal.returns-else-silent
 returns-else-silent c =
     c.come_back.ensures.keeps c.args.plan.now (reverse c.args.journal.now) c.args.entry.now
     (nests c.args.plan.now (is_playable c.args.plan.now c.is_closed.ensures).tree) c.requires.stands
-    (record { is = c.in-Leave.is; own = refl; here = (row_of c.args.plan.now (reverse c.args.journal.now) kind.Leave c.args.entry.now c.in-Leave.is c.requires.may).here; aloud = sym c.requires.silent ∙ c.if-silent.false })
+    (record {
+      is = c.in-Leave.is;
+      own = refl;
+      here =
+          (row_of c.args.plan.now (reverse c.args.journal.now) kind.Leave c.args.entry.now c.in-Leave.is c.requires.may).here;
+      aloud = sym c.requires.silent ∙ c.if-silent.false;
+    })
 
 pub returns-in-Start : goal.returns-in-Start
 returns-in-Start c =

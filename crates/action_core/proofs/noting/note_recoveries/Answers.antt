@@ -92,8 +92,10 @@ inform-requires c =
     let playable = is_playable plan c.is_closed.ensures in
     let few = few_participants plan c.is_closed.ensures in
     let may = subst (λ (k : Kind). Row k plan past e) c.in-Inform.is c.requires.may in
-    record
-    { running = running plan playable few past c.requires.legal _ c.requires.stands e.place e.by (role plan playable few past c.requires.legal _ c.requires.stands e may.here) may.running }
+    record {
+      running = running plan playable few past c.requires.legal _ c.requires.stands e.place e.by
+          (role plan playable few past c.requires.legal _ c.requires.stands e may.here) may.running;
+    }
 
 pub resolve-requires-clause-there : goal.resolve-requires-clause-there
 resolve-requires-clause-there c =
@@ -125,7 +127,8 @@ resolve-requires-clause-unresolved c =
     let playable = is_playable plan c.is_closed.ensures in
     let few = few_participants plan c.is_closed.ensures in
     let may = subst (λ (k : Kind). Row k plan past e) c.in-Resolve.is c.requires.may in
-    (row plan playable few past c.requires.legal _ c.requires.stands e.place e.by (role plan playable few past c.requires.legal _ c.requires.stands e may.here)).resolution
+    (row plan playable few past c.requires.legal _ c.requires.stands e.place e.by
+    (role plan playable few past c.requires.legal _ c.requires.stands e may.here)).resolution
     ∙ may.fresh
 
 pub returns-in-Raise : goal.returns-in-Raise
@@ -134,7 +137,8 @@ returns-in-Raise c =
     let past = reverse c.args.journal.now in
     let e = c.args.entry.now in
     c.raise.ensures.keeps past e c.requires.stands
-    (subst (λ (x : Entry). Acts plan past x e.place e.by (e.arg ∷ []) true false) (of_its_kind kind.Raise e c.in-Raise.is) (raise_acts plan past e))
+    (subst (λ (x : Entry). Acts plan past x e.place e.by (e.arg ∷ []) true false) (of_its_kind kind.Raise e c.in-Raise.is)
+    (raise_acts plan past e))
 
 pub returns-then-not-handled : goal.returns-then-not-handled
 returns-then-not-handled c =
@@ -155,7 +159,8 @@ returns-else-not-handled c =
     let e = c.args.entry.now in
     let done = sym (c.requires.handled c.in-PutFault.is) ∙ c.if-not-handled.false in
     nothing_keeps plan past e e.place e.by _ c.requires.stands
-    (subst (λ (x : Entry). Acts plan past x e.place e.by [] false false) (of_its_kind kind.PutFault e c.in-PutFault.is) (fault_idle plan past e done))
+    (subst (λ (x : Entry). Acts plan past x e.place e.by [] false false) (of_its_kind kind.PutFault e c.in-PutFault.is)
+    (fault_idle plan past e done))
 
 pub returns-in-Some : goal.returns-in-Some
 returns-in-Some c =
@@ -163,7 +168,8 @@ returns-in-Some c =
     let past = reverse c.args.journal.now in
     let e = c.args.entry.now in
     c.raise-in-Some.ensures.keeps past e c.requires.stands
-    (subst (λ (x : Entry). Acts plan past x c.in-Some.outer e.by (e.arg ∷ []) true false) (of_its_kind kind.Leave e c.in-Leave.is) (carries_acts plan past e c.in-Some.outer (sym c.in-Some.ensures) c.if-entry-eq1.true))
+    (subst (λ (x : Entry). Acts plan past x c.in-Some.outer e.by (e.arg ∷ []) true false)
+    (of_its_kind kind.Leave e c.in-Leave.is) (carries_acts plan past e c.in-Some.outer (sym c.in-Some.ensures) c.if-entry-eq1.true))
 
 pub returns-in_default : goal.returns-in_default
 returns-in_default c =
@@ -172,7 +178,8 @@ returns-in_default c =
     let e = c.args.entry.now in
     let top : parent plan e.place ≡ None = sym c.in_default.ensures in
     nothing_keeps plan past e e.place e.by _ c.requires.stands
-    (subst (λ (x : Entry). Acts plan past x e.place e.by [] false false) (of_its_kind kind.Leave e c.in-Leave.is) (leave_idle plan past e e.place (λ q. ap (λ (o : Option ℕ). is_at o q && (e.mark == 1)) top)))
+    (subst (λ (x : Entry). Acts plan past x e.place e.by [] false false) (of_its_kind kind.Leave e c.in-Leave.is)
+    (leave_idle plan past e e.place (λ q. ap (λ (o : Option ℕ). is_at o q && (e.mark == 1)) top)))
 
 pub returns-else-entry-eq1 : goal.returns-else-entry-eq1
 returns-else-entry-eq1 c =
@@ -181,7 +188,8 @@ returns-else-entry-eq1 c =
     let e = c.args.entry.now in
     let quiet : (e.mark == 1) ≡ false = ne_eqb e.mark 1 c.if-entry-eq1.false in
     nothing_keeps plan past e e.place e.by _ c.requires.stands
-    (subst (λ (x : Entry). Acts plan past x e.place e.by [] false false) (of_its_kind kind.Leave e c.in-Leave.is) (leave_idle plan past e e.place (λ q. rw quiet (off (is_at (parent plan e.place) q)))))
+    (subst (λ (x : Entry). Acts plan past x e.place e.by [] false false) (of_its_kind kind.Leave e c.in-Leave.is)
+    (leave_idle plan past e e.place (λ q. rw quiet (off (is_at (parent plan e.place) q)))))
   where
     off : (b : Bool) → (b && false) ≡ false
     off true = refl
@@ -193,7 +201,8 @@ returns-in-Inform c =
     let past = reverse c.args.journal.now in
     let e = c.args.entry.now in
     c.inform.ensures.keeps past e c.requires.stands
-    (subst (λ (x : Entry). Acts plan past x e.place e.by [] true false) (of_its_kind kind.Inform e c.in-Inform.is) (inform_acts plan past e))
+    (subst (λ (x : Entry). Acts plan past x e.place e.by [] true false) (of_its_kind kind.Inform e c.in-Inform.is)
+    (inform_acts plan past e))
 
 pub returns-in-Resolve : goal.returns-in-Resolve
 returns-in-Resolve c =
@@ -204,12 +213,20 @@ returns-in-Resolve c =
     let few = few_participants plan c.is_closed.ensures in
     let may = subst (λ (k : Kind). Row k plan past e) c.in-Resolve.is c.requires.may in
     c.resolve.ensures.keeps plan past e e.by c.requires.stands
-    (one_least (internal_of plan e.place) (exceptions_raised plan past e.place) e.arg c.resolve.result (playable.sound e.place).0 may.least (c.resolve.ensures.least plan past c.requires.stands))
-    (subst (λ (x : Entry). Acts plan past x e.place e.by [] false true) (of_its_kind kind.Resolve e c.in-Resolve.is) (resolve_acts plan past e))
+    (one_least (internal_of plan e.place) (exceptions_raised plan past e.place) e.arg c.resolve.result
+    (playable.sound e.place).0 may.least (c.resolve.ensures.least plan past c.requires.stands))
+    (subst (λ (x : Entry). Acts plan past x e.place e.by [] false true) (of_its_kind kind.Resolve e c.in-Resolve.is)
+    (resolve_acts plan past e))
 
 idle : (k : Kind)
     → (k ≡ kind.Arrive) ⊎
-    ((k ≡ kind.Withdraw) ⊎ ((k ≡ kind.Start) ⊎ ((k ≡ kind.Read) ⊎ ((k ≡ kind.Work) ⊎ ((k ≡ kind.Write) ⊎ ((k ≡ kind.Check) ⊎ ((k ≡ kind.Handle) ⊎ ((k ≡ kind.Verdict) ⊎ ((k ≡ kind.Abort) ⊎ ((k ≡ kind.Undo) ⊎ ((k ≡ kind.Restore) ⊎ (k ≡ kind.End))))))))))))
+    ((k ≡ kind.Withdraw)
+    ⊎ ((k ≡ kind.Start)
+    ⊎ ((k ≡ kind.Read)
+    ⊎ ((k ≡ kind.Work)
+    ⊎ ((k ≡ kind.Write)
+    ⊎ ((k ≡ kind.Check)
+    ⊎ ((k ≡ kind.Handle) ⊎ ((k ≡ kind.Verdict) ⊎ ((k ≡ kind.Abort) ⊎ ((k ≡ kind.Undo) ⊎ ((k ≡ kind.Restore) ⊎ (k ≡ kind.End))))))))))))
     → recovers k ≡ false
 idle k (inl h) = ap recovers h
 idle k (inr (inl h)) = ap recovers h

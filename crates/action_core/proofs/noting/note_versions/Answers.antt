@@ -15,7 +15,15 @@ use Rattle.action_core.proofs.noting.note_versions.Goals as goal
 -- the kinds that leave the versions
 a_stay : (k : Kind)
     → (k ≡ kind.Arrive) ⊎
-    ((k ≡ kind.Withdraw) ⊎ ((k ≡ kind.Read) ⊎ ((k ≡ kind.Work) ⊎ ((k ≡ kind.Check) ⊎ ((k ≡ kind.PutFault) ⊎ ((k ≡ kind.Raise) ⊎ ((k ≡ kind.Inform) ⊎ ((k ≡ kind.Resolve) ⊎ ((k ≡ kind.Handle) ⊎ ((k ≡ kind.Verdict) ⊎ ((k ≡ kind.Abort) ⊎ ((k ≡ kind.Undo) ⊎ (k ≡ kind.Leave)))))))))))))
+    ((k ≡ kind.Withdraw)
+    ⊎ ((k ≡ kind.Read)
+    ⊎ ((k ≡ kind.Work)
+    ⊎ ((k ≡ kind.Check)
+    ⊎ ((k ≡ kind.PutFault)
+    ⊎ ((k ≡ kind.Raise)
+    ⊎ ((k ≡ kind.Inform)
+    ⊎ ((k ≡ kind.Resolve)
+    ⊎ ((k ≡ kind.Handle) ⊎ ((k ≡ kind.Verdict) ⊎ ((k ≡ kind.Abort) ⊎ ((k ≡ kind.Undo) ⊎ (k ≡ kind.Leave)))))))))))))
     → unvalued k ≡ true
 a_stay k (inl h) = ap unvalued h
 a_stay k (inr (inl h)) = ap unvalued h
@@ -44,7 +52,9 @@ take-requires-clause-free c =
 pub returns-in-Start : goal.returns-in-Start
 returns-in-Start c =
     c.take.ensures.keeps (reverse c.args.journal.now) c.args.entry.now c.requires.stands
-    (takes c.args.plan.now (is_playable c.args.plan.now c.is_closed.ensures).tree (reverse c.args.journal.now) c.args.entry.now c.requires.legal c.in-Start.is (row_of c.args.plan.now (reverse c.args.journal.now) kind.Start c.args.entry.now c.in-Start.is c.requires.may))
+    (takes c.args.plan.now (is_playable c.args.plan.now c.is_closed.ensures).tree (reverse c.args.journal.now) c.args.entry.now
+    c.requires.legal c.in-Start.is (row_of c.args.plan.now (reverse c.args.journal.now) kind.Start c.args.entry.now
+    c.in-Start.is c.requires.may))
 
 pub give_back-requires-clause-whole : goal.give_back-requires-clause-whole
 give_back-requires-clause-whole c = c.requires.stands.as_many
@@ -63,19 +73,23 @@ returns-in-End c =
 pub write-requires : goal.write-requires
 write-requires c =
     subst (λ n. c.args.entry.now.arg < n) (sym c.requires.stands.as_many)
-    (object_put c.args.plan.now (is_playable c.args.plan.now c.is_closed.ensures) (reverse c.args.journal.now) c.args.entry.now c.requires.legal c.requires.may c.in-Write.is)
+    (object_put c.args.plan.now (is_playable c.args.plan.now c.is_closed.ensures) (reverse c.args.journal.now) c.args.entry.now
+    c.requires.legal c.requires.may c.in-Write.is)
 
 pub returns-in-Write : goal.returns-in-Write
 returns-in-Write c =
     let same : to_z w64 (of_z w64 c.args.entry.now.value) ≡ c.args.entry.now.value = omega (arith, ints) in
     let put : is_put c.args.entry.now ≡ true = at_kind (λ x. is_put x ≡ true) kind.Write c.args.entry.now c.in-Write.is refl in
     c.write.ensures.keeps c.args.plan.now (reverse c.args.journal.now) c.args.entry.now c.requires.stands
-    (subst (Puts c.args.plan.now (reverse c.args.journal.now) c.args.entry.now c.args.entry.now.arg) (sym same) (puts c.args.plan.now (is_playable c.args.plan.now c.is_closed.ensures).tree (reverse c.args.journal.now) c.args.entry.now (c.requires.legal, c.requires.may) put))
+    (subst (Puts c.args.plan.now (reverse c.args.journal.now) c.args.entry.now c.args.entry.now.arg) (sym same)
+    (puts c.args.plan.now (is_playable c.args.plan.now c.is_closed.ensures).tree (reverse c.args.journal.now)
+    c.args.entry.now (c.requires.legal, c.requires.may) put))
 
 pub write-requires-then-entry-eq0 : goal.write-requires-then-entry-eq0
 write-requires-then-entry-eq0 c =
     subst (λ n. c.args.entry.now.arg < n) (sym c.requires.stands.as_many)
-    (object_restored c.args.plan.now (is_playable c.args.plan.now c.is_closed.ensures) (reverse c.args.journal.now) c.args.entry.now c.requires.legal c.requires.may c.in-Restore.is)
+    (object_restored c.args.plan.now (is_playable c.args.plan.now c.is_closed.ensures) (reverse c.args.journal.now)
+    c.args.entry.now c.requires.legal c.requires.may c.in-Restore.is)
 
 pub returns-then-entry-eq0 : goal.returns-then-entry-eq0
 returns-then-entry-eq0 c =
@@ -84,7 +98,9 @@ returns-then-entry-eq0 c =
     at_kind (λ x. is_put x ≡ true) kind.Restore c.args.entry.now c.in-Restore.is
     (eq-eqb c.args.entry.now.mark 0 c.if-entry-eq0.true) in
     c.write-then-entry-eq0.ensures.keeps c.args.plan.now (reverse c.args.journal.now) c.args.entry.now c.requires.stands
-    (subst (Puts c.args.plan.now (reverse c.args.journal.now) c.args.entry.now c.args.entry.now.arg) (sym same) (puts c.args.plan.now (is_playable c.args.plan.now c.is_closed.ensures).tree (reverse c.args.journal.now) c.args.entry.now (c.requires.legal, c.requires.may) put))
+    (subst (Puts c.args.plan.now (reverse c.args.journal.now) c.args.entry.now c.args.entry.now.arg) (sym same)
+    (puts c.args.plan.now (is_playable c.args.plan.now c.is_closed.ensures).tree (reverse c.args.journal.now)
+    c.args.entry.now (c.requires.legal, c.requires.may) put))
 
 pub returns-else-entry-eq0 : goal.returns-else-entry-eq0
 returns-else-entry-eq0 c =

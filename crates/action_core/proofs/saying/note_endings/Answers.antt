@@ -13,7 +13,11 @@ use Rattle.action_core.proofs.saying.note_endings.Goals as goal
 
 a_stay : (k : Kind)
     → (k ≡ kind.Arrive) ⊎
-    ((k ≡ kind.Withdraw) ⊎ ((k ≡ kind.Start) ⊎ ((k ≡ kind.Read) ⊎ ((k ≡ kind.Work) ⊎ ((k ≡ kind.Write) ⊎ ((k ≡ kind.Check) ⊎ ((k ≡ kind.Inform) ⊎ ((k ≡ kind.Resolve) ⊎ ((k ≡ kind.Handle) ⊎ (k ≡ kind.End))))))))))
+    ((k ≡ kind.Withdraw)
+    ⊎ ((k ≡ kind.Start)
+    ⊎ ((k ≡ kind.Read)
+    ⊎ ((k ≡ kind.Work)
+    ⊎ ((k ≡ kind.Write) ⊎ ((k ≡ kind.Check) ⊎ ((k ≡ kind.Inform) ⊎ ((k ≡ kind.Resolve) ⊎ ((k ≡ kind.Handle) ⊎ (k ≡ kind.End))))))))))
     → unsaying k ≡ true
 a_stay k (inl h) = ap unsaying h
 a_stay k (inr (inl h)) = ap unsaying h
@@ -30,7 +34,8 @@ a_stay k (inr (inr (inr (inr (inr (inr (inr (inr (inr (inr h)))))))))) = ap unsa
 pub note_raising-requires-clause-there : goal.note_raising-requires-clause-there
 note_raising-requires-clause-there c =
     subst (λ n. c.args.entry.now.place < n) (sym c.requires.stands.as_many)
-    (place_there c.args.plan.now (is_playable c.args.plan.now c.is_closed.ensures) (reverse c.args.journal.now) c.args.entry.now c.requires.legal c.requires.may)
+    (place_there c.args.plan.now (is_playable c.args.plan.now c.is_closed.ensures) (reverse c.args.journal.now) c.args.entry.now
+    c.requires.legal c.requires.may)
 
 pub note_raising-requires-clause-raises : goal.note_raising-requires-clause-raises
 note_raising-requires-clause-raises c = raise_raises c.args.plan.now (reverse c.args.journal.now) c.args.entry.now c.in-Raise.is
@@ -38,7 +43,8 @@ note_raising-requires-clause-raises c = raise_raises c.args.plan.now (reverse c.
 pub note_raising-requires-then-not-handled-clause-there : goal.note_raising-requires-then-not-handled-clause-there
 note_raising-requires-then-not-handled-clause-there c =
     subst (λ n. c.args.entry.now.place < n) (sym c.requires.stands.as_many)
-    (place_there c.args.plan.now (is_playable c.args.plan.now c.is_closed.ensures) (reverse c.args.journal.now) c.args.entry.now c.requires.legal c.requires.may)
+    (place_there c.args.plan.now (is_playable c.args.plan.now c.is_closed.ensures) (reverse c.args.journal.now) c.args.entry.now
+    c.requires.legal c.requires.may)
 
 pub note_raising-requires-then-not-handled-clause-raises : goal.note_raising-requires-then-not-handled-clause-raises
 note_raising-requires-then-not-handled-clause-raises c =
@@ -54,7 +60,8 @@ returns-else-not-handled c =
 pub note_raising-requires-in-Some-clause-there : goal.note_raising-requires-in-Some-clause-there
 note_raising-requires-in-Some-clause-there c =
     subst (λ n. c.in-Some.outer < n) (sym c.requires.stands.as_many)
-    (carried_there c.args.plan.now (is_playable c.args.plan.now c.is_closed.ensures) (reverse c.args.journal.now) c.args.entry.now c.requires.legal c.requires.may c.in-Some.outer (sym c.in-Some.ensures))
+    (carried_there c.args.plan.now (is_playable c.args.plan.now c.is_closed.ensures) (reverse c.args.journal.now)
+    c.args.entry.now c.requires.legal c.requires.may c.in-Some.outer (sym c.in-Some.ensures))
 
 pub note_raising-requires-in-Some-clause-raises : goal.note_raising-requires-in-Some-clause-raises
 note_raising-requires-in-Some-clause-raises c =
@@ -94,12 +101,16 @@ verdict-requires-clause-fresh c =
 pub verdict-requires-clause-in_range : goal.verdict-requires-clause-in_range
 verdict-requires-clause-in_range c =
     subst (SignalsBelow (interface_of c.args.plan.now c.args.entry.now.place).count) (sym c.of_mark-verdict.ensures)
-    (verdict_below c.args.plan.now (is_playable c.args.plan.now c.is_closed.ensures) (reverse c.args.journal.now) c.args.entry.now (row_of c.args.plan.now (reverse c.args.journal.now) kind.Verdict c.args.entry.now c.in-Verdict.is c.requires.may))
+    (verdict_below c.args.plan.now (is_playable c.args.plan.now c.is_closed.ensures) (reverse c.args.journal.now)
+    c.args.entry.now (row_of c.args.plan.now (reverse c.args.journal.now) kind.Verdict c.args.entry.now c.in-Verdict.is c.requires.may))
 
 pub returns-in-Verdict : goal.returns-in-Verdict
 returns-in-Verdict c =
     c.verdict.ensures.keeps (reverse c.args.journal.now) c.args.entry.now c.requires.stands
-    (subst (Says c.args.plan.now (reverse c.args.journal.now) c.args.entry.now c.args.entry.now.place c.args.entry.now.by) (sym c.of_mark-verdict.ensures) (says c.args.plan.now (is_playable c.args.plan.now c.is_closed.ensures) (reverse c.args.journal.now) c.args.entry.now.kind c.args.entry.now c.requires.legal c.in-Verdict.is c.requires.may))
+    (subst (Says c.args.plan.now (reverse c.args.journal.now) c.args.entry.now c.args.entry.now.place c.args.entry.now.by)
+    (sym c.of_mark-verdict.ensures)
+    (says c.args.plan.now (is_playable c.args.plan.now c.is_closed.ensures) (reverse c.args.journal.now)
+    c.args.entry.now.kind c.args.entry.now c.requires.legal c.in-Verdict.is c.requires.may))
 
 pub abort-requires-clause-may : goal.abort-requires-clause-may
 abort-requires-clause-may c =
@@ -114,7 +125,8 @@ abort-requires-clause-fresh c =
 pub abort-requires-clause-in_range : goal.abort-requires-clause-in_range
 abort-requires-clause-in_range c =
     subst (λ o. IfSome o (λ x. x < (interface_of c.args.plan.now c.args.entry.now.place).count)) (sym c.exception_named.ensures)
-    (abort_below_names c.args.plan.now (is_playable c.args.plan.now c.is_closed.ensures) (reverse c.args.journal.now) c.args.entry.now c.requires.legal c.requires.may c.in-Abort.is)
+    (abort_below_names c.args.plan.now (is_playable c.args.plan.now c.is_closed.ensures) (reverse c.args.journal.now)
+    c.args.entry.now c.requires.legal c.requires.may c.in-Abort.is)
 
 pub returns-in-Abort : goal.returns-in-Abort
 returns-in-Abort c =
@@ -124,7 +136,8 @@ returns-in-Abort c =
 pub start_undo-requires : goal.start_undo-requires
 start_undo-requires c =
     subst (λ n. c.args.entry.now.place < n) (sym c.requires.stands.as_many)
-    (place_there c.args.plan.now (is_playable c.args.plan.now c.is_closed.ensures) (reverse c.args.journal.now) c.args.entry.now c.requires.legal c.requires.may)
+    (place_there c.args.plan.now (is_playable c.args.plan.now c.is_closed.ensures) (reverse c.args.journal.now) c.args.entry.now
+    c.requires.legal c.requires.may)
 
 pub returns-in-Undo : goal.returns-in-Undo
 returns-in-Undo c =
@@ -134,7 +147,8 @@ returns-in-Undo c =
 pub restored-requires-clause-there : goal.restored-requires-clause-there
 restored-requires-clause-there c =
     subst (λ n. c.args.entry.now.place < n) (sym c.requires.stands.as_many)
-    (place_there c.args.plan.now (is_playable c.args.plan.now c.is_closed.ensures) (reverse c.args.journal.now) c.args.entry.now c.requires.legal c.requires.may)
+    (place_there c.args.plan.now (is_playable c.args.plan.now c.is_closed.ensures) (reverse c.args.journal.now) c.args.entry.now
+    c.requires.legal c.requires.may)
 
 pub restored-requires-clause-undoing : goal.restored-requires-clause-undoing
 restored-requires-clause-undoing c =
@@ -150,7 +164,17 @@ restored-requires-clause-some c =
 pub returns-in-Restore : goal.returns-in-Restore
 returns-in-Restore c =
     c.restored.ensures.keeps c.args.plan.now (reverse c.args.journal.now) c.args.entry.now c.requires.stands
-    (record { restores = c.in-Restore.is; here = refl; next = next_kept c.args.plan.now c.is_closed.ensures (reverse c.args.journal.now) c.args.entry.now c.args.endings.now c.requires.stands (row_of c.args.plan.now (reverse c.args.journal.now) kind.Restore c.args.entry.now c.in-Restore.is c.requires.may); mark = restored_well c.args.plan.now (reverse c.args.journal.now) c.args.entry.now (row_of c.args.plan.now (reverse c.args.journal.now) kind.Restore c.args.entry.now c.in-Restore.is c.requires.may) })
+    (record {
+      restores = c.in-Restore.is;
+      here = refl;
+      next =
+          next_kept c.args.plan.now c.is_closed.ensures (reverse c.args.journal.now) c.args.entry.now c.args.endings.now
+          c.requires.stands (row_of c.args.plan.now (reverse c.args.journal.now) kind.Restore c.args.entry.now c.in-Restore.is
+          c.requires.may);
+      mark =
+          restored_well c.args.plan.now (reverse c.args.journal.now) c.args.entry.now
+          (row_of c.args.plan.now (reverse c.args.journal.now) kind.Restore c.args.entry.now c.in-Restore.is c.requires.may);
+    })
 
 pub returns-in-Arrive : goal.returns-in-Arrive
 returns-in-Arrive c =

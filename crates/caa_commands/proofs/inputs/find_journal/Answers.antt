@@ -4,8 +4,10 @@ use Rattle.caa_commands.proofs.LineStarts.{after_dropped}
 use Rattle.caa_commands.proofs.inputs.find_journal.Goals as goal
 
 -- what is left after the lines of the script is the text of the journal
-left_after : (bytes rest : List ℕ) (lines : ℕ) → lines ≡ script_lines bytes → ((n : ℕ) → after_lines (lines + n) bytes ≡ after_lines n rest) → journal_part bytes ≡ rest
-left_after bytes rest lines same after = let all : script_lines bytes ≡ lines + 0 = omega (arith, same) in ap (λ k. after_lines k bytes) all ∙ after 0
+left_after : (bytes rest : List ℕ) (lines : ℕ) → lines ≡ script_lines bytes
+    → ((n : ℕ) → after_lines (lines + n) bytes ≡ after_lines n rest) → journal_part bytes ≡ rest
+left_after bytes rest lines same after = let all : script_lines bytes ≡ lines + 0 =
+    omega (arith, same) in ap (λ k. after_lines k bytes) all ∙ after 0
 
 pub returns-clause-before : goal.returns-clause-before
 returns-clause-before c =

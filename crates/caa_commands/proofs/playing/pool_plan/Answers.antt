@@ -11,7 +11,8 @@ use Rattle.caa_commands.proofs.playing.pool_plan.Goals as goal
 pub ended-requires-clause-entries : goal.ended-requires-clause-entries
 ended-requires-clause-entries g c =
     let parts = c.into_parts-plan.ensures in
-    all_well_formed c.args.plan _ c.into_parts-plan.result.2.entries (parts.plan ∙ c.in-Ok-pool.ensures.plan ∙ c.in-Ok.ensures.plan) parts.legal c.is_well_formed.ensures
+    all_well_formed c.args.plan _ c.into_parts-plan.result.2.entries (parts.plan ∙ c.in-Ok-pool.ensures.plan
+    ∙ c.in-Ok.ensures.plan) parts.legal c.is_well_formed.ensures
 
 pub returns : goal.returns
 returns g c =

@@ -17,10 +17,12 @@ use Rattle.caa_commands.proofs.playing.run_plan.Goals as goal
 pub ended_in_threads-requires-clause-entries : goal.ended_in_threads-requires-clause-entries
 ended_in_threads-requires-clause-entries g c =
     let parts = c.into_parts-plan.ensures in
-    all_well_formed c.args.plan _ c.into_parts-plan.result.2.entries (parts.plan ∙ c.in-Ok-run.ensures.plan ∙ c.in-Ok.ensures.plan) parts.legal c.is_well_formed.ensures
+    all_well_formed c.args.plan _ c.into_parts-plan.result.2.entries (parts.plan ∙ c.in-Ok-run.ensures.plan
+    ∙ c.in-Ok.ensures.plan) parts.legal c.is_well_formed.ensures
 
 -- with looks a play is told; without them no memory was found
-comes : {P : Type 0} (plan : Plan) (left : Left P) (found : Finding) (seens : Option Looks) → IsPlayed plan left → IfSome seens (λ s. first_wrong plan left.journal s.seens ≡ None)
+comes : {P : Type 0} (plan : Plan) (left : Left P) (found : Finding) (seens : Option Looks) → IsPlayed plan left
+    → IfSome seens (λ s. first_wrong plan left.journal s.seens ≡ None)
     → IfSome seens (λ s. EndsAs plan left.journal s.seens found) → IfNone seens (found ≡ finding.OutOfMemory) → RunComesTo plan found left
 comes plan left found (Some s) played right ends lost = inl (record { played = played; seens = s.seens; right = λ _. right; ends = ends })
 comes plan left found None played right ends lost =

@@ -12,7 +12,8 @@ use Rattle.caa_commands.proofs.playing.simulate.Goals as goal
 pub ended-requires-clause-entries : goal.ended-requires-clause-entries
 ended-requires-clause-entries g c =
     let parts = c.into_parts-plan.ensures in
-    all_well_formed c.args.plan _ c.into_parts-plan.result.2.entries (parts.plan ∙ c.sim.ensures.plan ∙ c.in-Ok.ensures.plan) parts.legal c.is_well_formed.ensures
+    all_well_formed c.args.plan _ c.into_parts-plan.result.2.entries (parts.plan ∙ c.sim.ensures.plan ∙ c.in-Ok.ensures.plan)
+    parts.legal c.is_well_formed.ensures
 
 pub returns : goal.returns
 returns g c =
@@ -25,7 +26,8 @@ returns g c =
     let finding = c.ended-2.result.finding in
     let same : c.into_parts-plan.result.0 ≡ plan = parts.plan ∙ c.sim.ensures.plan ∙ opened.plan in
     let legal = subst (λ p. IsLegal p journal) same parts.legal in
-    let grown = subst₂ (λ p j. GrewBy (first_of_seed c.args.seed) p c.in-Ok.hall.journal.entries j) opened.plan (sym parts.journal) c.sim.ensures.scheduled in
+    let grown = subst₂ (λ p j. GrewBy (first_of_seed c.args.seed) p c.in-Ok.hall.journal.entries j) opened.plan
+    (sym parts.journal) c.sim.ensures.scheduled in
     let played : IsPlayed plan (left_of (plant_use g.P.Plant c.args.plant plant) journal) = record {
       legal = legal;
       complete = subst₂ IsComplete opened.plan (sym parts.journal) c.sim.ensures.complete;

@@ -9,7 +9,8 @@ returns-clause-refused c =
     let script = c.in_ok-script.script in
     let error = c.in-Err.error in
     let told = c.in_ok-refusal-in-Err.ensures in
-    unplannable c.args.bytes.now script error c.in_ok-refusal-in-Err.refusal c.in_ok-script.ensures.script (refusal_answered script (Err error) error c.in-Err.ensures refl) told.line told.fault
+    unplannable c.args.bytes.now script error c.in_ok-refusal-in-Err.refusal c.in_ok-script.ensures.script
+    (refusal_answered script (Err error) error c.in-Err.ensures refl) told.line told.fault
 
 pub returns-in-Ok-clause-plan : goal.returns-in-Ok-clause-plan
 returns-in-Ok-clause-plan c =

@@ -8,4 +8,11 @@ overflow_add-line g c =
     let start = c.find_journal-start in
     let left : ℕ = length c.args.bytes.now - start.result.place in
     let rest = drop start.result.place c.args.bytes.now in
-    omega (arith, illegal_near c.args.plan.now (take left rest) c.in-Illegal.number c.in-Illegal.ensures, length-take left rest, length-drop start.result.place c.args.bytes.now, start.ensures.few, start.ensures.within)
+    omega (
+      arith,
+      illegal_near c.args.plan.now (take left rest) c.in-Illegal.number c.in-Illegal.ensures,
+      length-take left rest,
+      length-drop start.result.place c.args.bytes.now,
+      start.ensures.few,
+      start.ensures.within,
+    )

@@ -5,7 +5,8 @@ use Rattle.caa_commands.proofs.top.top.Goals as goal
 
 pub returns-clause-answer : goal.returns-clause-answer
 returns-clause-answer g c =
-    answered g.P.Plant _ _ _ c.args.plant _ _ _ _ _ _ _ (sym c.in-Some.is ∙ c.command_of.ensures.command) c.tell.ensures.plant c.decide_in_threads-decision.ensures.came
+    answered g.P.Plant _ _ _ c.args.plant _ _ _ _ _ _ _ (sym c.in-Some.is ∙ c.command_of.ensures.command) c.tell.ensures.plant
+    c.decide_in_threads-decision.ensures.came
     c.tell.ensures.tells
 
 pub returns-clause-completeness : goal.returns-clause-completeness

@@ -18,7 +18,8 @@ returns-in-Did-clause-formed g c =
       | in-Work w ↦
           let new = g.M.Machine.journal_of w.next-answer.new.self in
           let hint = Some w.make.result in
-          let answer = subst (λ p. Answers p mid new c.args.by hint w.next-answer.result) c.next.ensures.plan w.next-answer.ensures.answer in
+          let answer = subst (λ p. Answers p mid new c.args.by hint w.next-answer.result) c.next.ensures.plan
+          w.next-answer.ensures.answer in
           let same = ap g.M.Machine.plan_of w.machine-is ∙ w.next-answer.ensures.plan ∙ c.next.ensures.plan in
           subst (λ p. IsWellFormed p c.in-Did.entry) (sym same)
           (made_well plan mid new c.args.by hint w.next-answer.result c.in-Did.entry law legal answer (sym w.answer-is ∙ c.in-Did.is))

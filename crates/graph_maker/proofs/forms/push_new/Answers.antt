@@ -19,4 +19,5 @@ returns-else-number_in-len c =
     let word = c.args.word.now in
     let sized : vec_len c.args.names.now ≡ length names = c.args.names.now.ok.0 in
     old_name names word
-    (λ same. c.if-number_in-len.false (c.number_in.ensures ∙ ap (λ l. number_in l word) c.deref.ensures.value ∙ same ∙ sym sized ∙ sym c.len.ensures))
+    (λ same. c.if-number_in-len.false (c.number_in.ensures ∙ ap (λ l. number_in l word) c.deref.ensures.value ∙ same ∙ sym sized
+    ∙ sym c.len.ensures))

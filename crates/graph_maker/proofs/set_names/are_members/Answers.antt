@@ -33,7 +33,9 @@ loop-word-preserved c =
     let words = slice_split (λ b. b == 45) c.args.text.now in
     let number = c.in-Some-natural_of.number in
     subst (λ k. IsAscending c.args.primitives words k (c.loop-word.count + 1) number) (sym (length_push c.loop-word.yielded c.in-Some.word))
-    (number_next c.args.primitives c.args.most words (length c.loop-word.yielded) c.loop-word.count c.loop-word.last c.loop-word.invariant c.in-Some.word.now t.0 t.1 number (sym c.natural_of.ensures.value ∙ c.in-Some-natural_of.is) (omega (arith, c.if-number-last.true)) c.in-Some-natural_of.ensures.small)
+    (number_next c.args.primitives c.args.most words (length c.loop-word.yielded) c.loop-word.count c.loop-word.last
+    c.loop-word.invariant c.in-Some.word.now t.0 t.1 number (sym c.natural_of.ensures.value ∙ c.in-Some-natural_of.is)
+    (omega (arith, c.if-number-last.true)) c.in-Some-natural_of.ensures.small)
 
 pub returns-then-count-ge2 : goal.returns-then-count-ge2
 returns-then-count-ge2 c =

@@ -18,7 +18,8 @@ pub returns : goal.returns
 returns c =
     let plan = c.args.plan.now in
     let begun = c.push_front.new.text.items in
-    let front : begun ≡ front_text c.width.result c.height.result = c.in_ok-push_front.ensures ∙ ap (λ t. t ++ front_text c.width.result c.height.result) c.new-text.ensures.items in
+    let front : begun ≡ front_text c.width.result c.height.result = c.in_ok-push_front.ensures
+    ∙ ap (λ t. t ++ front_text c.width.result c.height.result) c.new-text.ensures.items in
     let shapes = c.in_ok-shapes.shapes.items in
     let part : c.drawn-part.result.now ≡ drawn c.args.first c.args.count c.args.journal.now.entries =
     c.drawn-part.ensures.part ∙ ap (drawn c.args.first c.args.count) c.as_slice.ensures in

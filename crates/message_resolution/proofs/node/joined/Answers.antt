@@ -5,4 +5,5 @@ use Rattle.message_resolution.proofs.node.joined.Goals as goal
 
 pub returns-in-Some : goal.returns-in-Some
 returns-in-Some c =
-    λ xs in_range is. least_cons c.args.graph.now c.args.exception xs c.in-Some.cover c.least.result c.is_sound.ensures.sound.is_order in_range (subst (λ o. IsCoverOf c.args.graph.now xs o) c.in-Some.is is) c.least.ensures
+    λ xs in_range is. least_cons c.args.graph.now c.args.exception xs c.in-Some.cover c.least.result
+    c.is_sound.ensures.sound.is_order in_range (subst (λ o. IsCoverOf c.args.graph.now xs o) c.in-Some.is is) c.least.ensures

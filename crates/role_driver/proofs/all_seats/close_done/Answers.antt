@@ -9,4 +9,5 @@ unreachable-requires g c =
 
 pub returns-clause-complete : goal.returns-clause-complete
 returns-clause-complete g c =
-    all_over g.M.Machine.base_of c.args.manager (g.M.Machine.journal_of c.in-Ok.closed.machine) c.args.seats.items c.requires.done c.in-Ok.ensures.accounts c.requires.all
+    all_over g.M.Machine.base_of c.args.manager (g.M.Machine.journal_of c.in-Ok.closed.machine) c.args.seats.items
+    c.requires.done c.in-Ok.ensures.accounts c.requires.all

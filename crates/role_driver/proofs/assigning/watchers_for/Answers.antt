@@ -12,10 +12,16 @@ loop-blank-preserved g c =
     let inv = c.loop-blank.invariant in let observer = observer_of c.args._manager.now in
     let took = c.in-Some.ensures.steps.0 in let one = ap length took in
     let pushed = c.push_reserved.ensures in
-    let alike = last_alike placeless (length c.next.new.self.rest.items) observer c.loop-blank.observers.items c.pop.new.self.items c.in-Some-pop.observer c.pop.result (inv.observers ∙ ap (λ l. replicate (length l) observer) took) c.pop.ensures.items c.in-Some-pop.is in
+    let alike = last_alike placeless (length c.next.new.self.rest.items) observer c.loop-blank.observers.items
+    c.pop.new.self.items c.in-Some-pop.observer c.pop.result (inv.observers ∙ ap (λ l. replicate (length l) observer) took)
+    c.pop.ensures.items c.in-Some-pop.is in
     record {
       room = omega (arith, inv.room, one, pushed.len, pushed.capacity);
       observers = alike.0;
-      objects = (all_first (λ (b : Blank). b.object < length observer.initials) c.in-Some.blank c.next.new.self.rest.items c.loop-blank.blank-iterator.rest.items took inv.objects).1;
-      tasks = moved_on (λ (b : Blank). task_with observer b.object) task_of c.loop-blank.blank-iterator.rest.items c.next.new.self.rest.items c.loop-blank.watchers.items c.push_reserved.new.self.items c.in-Some.blank c.new.result pushed.items took (c.new.ensures ∙ ap (λ (w : Watching). task_with w c.in-Some.blank.object) alike.1) ∙ inv.tasks;
+      objects =
+          (all_first (λ (b : Blank). b.object < length observer.initials) c.in-Some.blank c.next.new.self.rest.items
+          c.loop-blank.blank-iterator.rest.items took inv.objects).1;
+      tasks = moved_on (λ (b : Blank). task_with observer b.object) task_of c.loop-blank.blank-iterator.rest.items
+          c.next.new.self.rest.items c.loop-blank.watchers.items c.push_reserved.new.self.items c.in-Some.blank c.new.result
+          pushed.items took (c.new.ensures ∙ ap (λ (w : Watching). task_with w c.in-Some.blank.object) alike.1) ∙ inv.tasks;
     }

@@ -11,5 +11,6 @@ invariant-loop-blank g l =
       room : vec_len l.watchers + length left ≡ vec_capacity l.watchers;
       observers : map placeless l.observers.items ≡ replicate (length left) observer;
       objects : All (λ b. b.object < length observer.initials) left;
-      tasks : map task_of l.watchers.items ++ map (λ b. task_with observer b.object) left ≡ map (λ b. task_with observer b.object) l.fn.blanks.items;
+      tasks : map task_of l.watchers.items ++ map (λ b. task_with observer b.object) left
+          ≡ map (λ b. task_with observer b.object) l.fn.blanks.items;
     }

@@ -14,7 +14,11 @@ push_reserved-requires g c =
 pub join_one-requires : goal.join_one-requires
 join_one-requires g c =
     let manager = c.args.manager.now in let base_of = g.M.Machine.base_of in
-    record { member = (all_first (λ r. IsMember base_of manager (λ h. h.promise.seat.value) r) c.in-Some.member c.next.new.self.rest.items c.loop-member.member-iterator.rest.items c.in-Some.ensures.steps.0 c.loop-member.invariant.crew).0 }
+    record {
+      member =
+          (all_first (λ r. IsMember base_of manager (λ h. h.promise.seat.value) r) c.in-Some.member c.next.new.self.rest.items
+          c.loop-member.member-iterator.rest.items c.in-Some.ensures.steps.0 c.loop-member.invariant.crew).0;
+    }
 
 pub loop-member-preserved : goal.loop-member-preserved
 loop-member-preserved g c =
@@ -24,7 +28,11 @@ loop-member-preserved g c =
     let pushed = c.push_reserved.ensures in
     record {
       room = omega (arith, inv.room, one, pushed.len, pushed.capacity);
-      crew = (all_first (λ r. IsMember base_of manager (λ h. h.promise.seat.value) r) c.in-Some.member c.next.new.self.rest.items c.loop-member.member-iterator.rest.items took inv.crew).1;
-      opened = all_more (IsSeatIn base_of manager) c.loop-member.seats.items c.join_one.result c.push_reserved.new.self.items pushed.items inv.opened c.join_one.ensures.opened;
-      order = moved_on (λ r. who_of (λ h. h.promise.participant) r) participant_of c.loop-member.member-iterator.rest.items c.next.new.self.rest.items c.loop-member.seats.items c.push_reserved.new.self.items c.in-Some.member c.join_one.result pushed.items took c.join_one.ensures.same ∙ inv.order;
+      crew = (all_first (λ r. IsMember base_of manager (λ h. h.promise.seat.value) r) c.in-Some.member
+          c.next.new.self.rest.items c.loop-member.member-iterator.rest.items took inv.crew).1;
+      opened = all_more (IsSeatIn base_of manager) c.loop-member.seats.items c.join_one.result c.push_reserved.new.self.items
+          pushed.items inv.opened c.join_one.ensures.opened;
+      order = moved_on (λ r. who_of (λ h. h.promise.participant) r) participant_of c.loop-member.member-iterator.rest.items
+          c.next.new.self.rest.items c.loop-member.seats.items c.push_reserved.new.self.items c.in-Some.member c.join_one.result
+          pushed.items took c.join_one.ensures.same ∙ inv.order;
     }

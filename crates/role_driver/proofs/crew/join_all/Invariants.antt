@@ -12,5 +12,6 @@ invariant-loop-member g l =
       room : vec_len l.seats + length left ≡ vec_capacity l.seats;
       crew : All (λ r. IsMember base_of l.manager (λ h. h.promise.seat.value) r) left;
       opened : All (λ s. IsSeatIn base_of l.manager s) l.seats.items;
-      order : map participant_of l.seats.items ++ map (λ r. who_of (λ h. h.promise.participant) r) left ≡ map (λ r. who_of (λ h. h.promise.participant) r) l.fn.crew.items;
+      order : map participant_of l.seats.items ++ map (λ r. who_of (λ h. h.promise.participant) r) left
+          ≡ map (λ r. who_of (λ h. h.promise.participant) r) l.fn.crew.items;
     }

@@ -11,6 +11,8 @@ loop-index-preserved g c =
     let now = c.turn_of-done.new.member in let was = c.index_mut.result.now in
     record {
       long = inv.long;
-      crew = All-set (λ r. IsMember base_of manager (λ h. h.promise.seat.value) r) c.loop-index.crew.items c.loop-index.index now c.turn_of-done.ensures.member inv.crew;
-      order = map-set_same (λ r. who_of (λ h. h.promise.participant) r) c.loop-index.crew.items c.loop-index.index now was (c.turn_of-done.ensures.same ∙ ap (who_of (λ h. h.promise.participant)) c.index_mut.ensures.value) ∙ inv.order;
+      crew = All-set (λ r. IsMember base_of manager (λ h. h.promise.seat.value) r) c.loop-index.crew.items c.loop-index.index
+          now c.turn_of-done.ensures.member inv.crew;
+      order = map-set_same (λ r. who_of (λ h. h.promise.participant) r) c.loop-index.crew.items c.loop-index.index now
+          was (c.turn_of-done.ensures.same ∙ ap (who_of (λ h. h.promise.participant)) c.index_mut.ensures.value) ∙ inv.order;
     }

@@ -8,5 +8,6 @@ invariant-loop-index g l =
     record {
       long : l.index-end ≡ vec_len l.crew;
       crew : All (λ r. IsMember base_of l.manager (λ h. h.promise.seat.value) r) l.crew.items;
-      order : map (λ r. who_of (λ h. h.promise.participant) r) l.crew.items ≡ map (λ r. who_of (λ h. h.promise.participant) r) l.fn.crew.items;
+      order : map (λ r. who_of (λ h. h.promise.participant) r) l.crew.items ≡ map (λ r. who_of (λ h. h.promise.participant) r)
+          l.fn.crew.items;
     }

@@ -12,5 +12,6 @@ invariant-loop-seat g l =
       room : (vec_len l.crew + length left ≡ vec_capacity l.crew) × (vec_capacity l.crew ≡ length l.handed_back);
       opened : All (λ s. IsSeatIn base_of l.manager s) left;
       crew : All (λ r. IsMember base_of l.manager (λ h. h.promise.seat.value) r) l.crew.items;
-      order : map (λ r. who_of (λ h. h.promise.participant) r) l.crew.items ++ map participant_of left ≡ map participant_of l.fn.seats.items;
+      order : map (λ r. who_of (λ h. h.promise.participant) r) l.crew.items ++ map participant_of left
+          ≡ map participant_of l.fn.seats.items;
     }

@@ -12,8 +12,10 @@ unreachable-requires g c =
     let mid = seen_by c.step_and_ask.new.seat in
     let new = seen_by c.step_and_ask-in-Work.new.seat in
     let start : to_z w64 (of_z w64 c.in-Work.from) ≡ c.in-Work.from = omega (arith, ints) in
-    let own = subst (λ t. Steps plan mid new t (Some c.mix-done.result) c.step_and_ask-in-Work.result) c.step_and_ask.ensures.same c.step_and_ask-in-Work.ensures.turn in
-    let second = subst (λ a. Steps plan mid new (participant_of c.args.seat.now) (Some c.mix-done.result) a) c.in-Work-step_and_ask.is own in
+    let own = subst (λ t. Steps plan mid new t (Some c.mix-done.result) c.step_and_ask-in-Work.result)
+    c.step_and_ask.ensures.same c.step_and_ask-in-Work.ensures.turn in
+    let second = subst (λ a. Steps plan mid new (participant_of c.args.seat.now) (Some c.mix-done.result) a)
+    c.in-Work-step_and_ask.is own in
     asked_once plan (seen_by c.args.seat.now) mid new (participant_of c.args.seat.now) c.in-Work.place c.in-Work.rounds
     c.in-Work-step_and_ask.place c.in-Work-step_and_ask.rounds c.in-Work.from c.in-Work-step_and_ask.from c.mix-done.result
     c.in-Work.ensures.turn second c.mix-done.ensures.rounds (c.mix-done.ensures.from ∙ start)
@@ -29,7 +31,9 @@ returns-in_default-step_and_ask g c =
     let first = c.in-Work.ensures.turn in
     let second : Steps plan mid new who (Some c.mix-done.result) answer =
     subst (λ t. Steps plan mid new t (Some c.mix-done.result) answer) c.step_and_ask.ensures.same c.step_and_ask-in-Work.ensures.turn in
-    let told = subst (λ t. g.G.Gate.was_told c.args.gate.now t c.in-Work.place) (c.participant.ensures ∙ c.step_and_ask.ensures.same) c.mix-done.ensures.told in
+    let told =
+    subst (λ t. g.G.Gate.was_told c.args.gate.now t c.in-Work.place) (c.participant.ensures ∙ c.step_and_ask.ensures.same)
+    c.mix-done.ensures.told in
     record {
       opened = c.step_and_ask-in-Work.ensures.opened;
       same = c.step_and_ask-in-Work.ensures.same ∙ c.step_and_ask.ensures.same;

@@ -22,9 +22,18 @@ add_looks-requires-clause-room g c =
     let law = subst (Holds PublishingLaw) c.plan-3.ensures c.publishes_committed.ensures past done.legal in
     let commit = subst (Holds CommitLaw) c.plan-2.ensures c.ends_commit.ensures past done.legal in
     let task = looked.task ∙ c.requires.task in
-    let good = are_good plan past c.args.writer.now done law commit c.last_look-last.new.self.observer (watched_object plan c.args.watch) c.args.watcher.now.object c.last_look-last.new.self.object c.seen.result.now c.last_look-last.result
-    (ap (λ (t : Task). t.initials) task) (ap (λ (t : Task). t.object) c.requires.task) (ap (λ (t : Task). t.object) task) looked.known c.seen.ensures.right looked.last in
-    omega (arith, good.few, c.requires.right.few, c.requires.room, row_fits c.args.watch (length plan.watches) (suc (length plan.plays)) c.requires.watch)
+    let good = are_good plan past c.args.writer.now done law commit c.last_look-last.new.self.observer
+    (watched_object plan c.args.watch) c.args.watcher.now.object c.last_look-last.new.self.object c.seen.result.now
+    c.last_look-last.result
+    (ap (λ (t : Task). t.initials) task) (ap (λ (t : Task). t.object) c.requires.task) (ap (λ (t : Task). t.object) task)
+    looked.known c.seen.ensures.right looked.last in
+    omega (
+      arith,
+      good.few,
+      c.requires.right.few,
+      c.requires.room,
+      row_fits c.args.watch (length plan.watches) (suc (length plan.plays)) c.requires.watch,
+    )
 
 pub add_looks-requires-clause-values : goal.add_looks-requires-clause-values
 add_looks-requires-clause-values g c =
@@ -34,11 +43,14 @@ add_looks-requires-clause-values g c =
     let commit = subst (Holds CommitLaw) c.plan-2.ensures c.ends_commit.ensures past done.legal in
     let task = looked.task ∙ c.requires.task in
     let o = watched_object plan c.args.watch in
-    let good = are_good plan past c.args.writer.now done law commit c.last_look-last.new.self.observer o c.args.watcher.now.object c.last_look-last.new.self.object c.seen.result.now c.last_look-last.result
-    (ap (λ (t : Task). t.initials) task) (ap (λ (t : Task). t.object) c.requires.task) (ap (λ (t : Task). t.object) task) looked.known c.seen.ensures.right looked.last in
+    let good = are_good plan past c.args.writer.now done law commit c.last_look-last.new.self.observer o
+    c.args.watcher.now.object c.last_look-last.new.self.object c.seen.result.now c.last_look-last.result
+    (ap (λ (t : Task). t.initials) task) (ap (λ (t : Task). t.object) c.requires.task) (ap (λ (t : Task). t.object) task)
+    looked.known c.seen.ensures.right looked.last in
     let formed = subst (Holds AllWellFormed) c.plan.ensures c.is_well_formed.ensures past done.legal in
     let fits = committed_fits plan (subst IsClosed c.plan-4.ensures c.is_closed.ensures) past formed in
-    All-weaker (λ r. r.value ≡ committed_value plan past r.ends o) (λ r. IsValue r.value) (λ (r : Reading) e. subst IsValue (sym e) (fits r.ends o)) (with_last c.seen.result.now c.last_look-last.result) good.committed
+    All-weaker (λ r. r.value ≡ committed_value plan past r.ends o) (λ r. IsValue r.value)
+    (λ (r : Reading) e. subst IsValue (sym e) (fits r.ends o)) (with_last c.seen.result.now c.last_look-last.result) good.committed
 
 pub returns-clause-right : goal.returns-clause-right
 returns-clause-right g c =
@@ -48,7 +60,10 @@ returns-clause-right g c =
     let commit = subst (Holds CommitLaw) c.plan-2.ensures c.ends_commit.ensures past done.legal in
     let task = looked.task ∙ c.requires.task in
     let seen = c.seen.result.now in let last = c.last_look-last.result in
-    let good = are_good plan past c.args.writer.now done law commit c.last_look-last.new.self.observer (watched_object plan c.args.watch) c.args.watcher.now.object c.last_look-last.new.self.object seen last
-    (ap (λ (t : Task). t.initials) task) (ap (λ (t : Task). t.object) c.requires.task) (ap (λ (t : Task). t.object) task) looked.known c.seen.ensures.right looked.last in
+    let good = are_good plan past c.args.writer.now done law commit c.last_look-last.new.self.observer
+    (watched_object plan c.args.watch) c.args.watcher.now.object c.last_look-last.new.self.object seen last
+    (ap (λ (t : Task). t.initials) task) (ap (λ (t : Task). t.object) c.requires.task) (ap (λ (t : Task). t.object) task)
+    looked.known c.seen.ensures.right looked.last in
     subst (AreRightSoFar plan past (suc c.args.watch)) (sym c.add_looks.ensures.looks)
-    (next_watch plan past c.args.watch c.args.seens.now.seens (filter (λ r. nat_lt r.ends last.ends) seen) last c.requires.right good.committed good.rise good.end good.few)
+    (next_watch plan past c.args.watch c.args.seens.now.seens (filter (λ r. nat_lt r.ends last.ends) seen) last c.requires.right
+    good.committed good.rise good.end good.few)

@@ -15,5 +15,7 @@ loop-post-preserved g c =
     let pushed = c.push_reserved.ensures in
     record {
       room = omega (arith, inv.room, one, pushed.len, pushed.capacity);
-      tasks = moved_on (λ p. task_at (λ h. h.promise.watcher.value) p) task_of c.loop-post.post-iterator.rest.items c.next.new.self.rest.items c.loop-post.back.items c.push_reserved.new.self.items c.in-Some.post c.call_back.result pushed.items took c.call_back.ensures ∙ inv.tasks;
+      tasks = moved_on (λ p. task_at (λ h. h.promise.watcher.value) p) task_of c.loop-post.post-iterator.rest.items
+          c.next.new.self.rest.items c.loop-post.back.items c.push_reserved.new.self.items c.in-Some.post c.call_back.result
+          pushed.items took c.call_back.ensures ∙ inv.tasks;
     }

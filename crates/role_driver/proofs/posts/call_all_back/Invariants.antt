@@ -7,5 +7,6 @@ invariant-loop-post g l =
     let left = l.post-iterator.rest.items in
     record {
       room : vec_len l.back + length left ≡ vec_capacity l.back;
-      tasks : map task_of l.back.items ++ map (λ p. task_at (λ h. h.promise.watcher.value) p) left ≡ map (λ p. task_at (λ h. h.promise.watcher.value) p) l.fn.posts.items;
+      tasks : map task_of l.back.items ++ map (λ p. task_at (λ h. h.promise.watcher.value) p) left
+          ≡ map (λ p. task_at (λ h. h.promise.watcher.value) p) l.fn.posts.items;
     }

@@ -10,5 +10,7 @@ loop-watcher-preserved g c =
     let pushed = c.push_reserved.ensures in
     record {
       room = (omega (arith, inv.room.0, one, pushed.len, pushed.capacity), pushed.capacity ∙ inv.room.1);
-      tasks = moved_on task_of (λ p. task_at (λ h. h.promise.watcher.value) p) c.loop-watcher.watcher-iterator.rest.items c.next.new.self.rest.items c.loop-watcher.posts.items c.push_reserved.new.self.items c.in-Some.watcher c.post.result pushed.items took c.post.ensures ∙ inv.tasks;
+      tasks = moved_on task_of (λ p. task_at (λ h. h.promise.watcher.value) p) c.loop-watcher.watcher-iterator.rest.items
+          c.next.new.self.rest.items c.loop-watcher.posts.items c.push_reserved.new.self.items c.in-Some.watcher c.post.result
+          pushed.items took c.post.ensures ∙ inv.tasks;
     }

@@ -30,19 +30,22 @@ pub drive_in_threads-seats-requires-clause-watch : goal.drive_in_threads-seats-r
 drive_in_threads-seats-requires-clause-watch g c κs within =
     let room = c.requires.watch_room in
     let blanks = c.args.watch_room.blanks.items in
-    let many = same_length task_of (λ (b : Blank). task_with (observer_of c.args.opened.manager) b.object) c.watchers_for.result.items blanks c.watchers_for.ensures ∙ (sym (length-map blanks (λ b. b.object)) ∙ ap length room.blanks) in
+    let many = same_length task_of (λ (b : Blank). task_with (observer_of c.args.opened.manager) b.object)
+    c.watchers_for.result.items blanks c.watchers_for.ensures ∙ (sym (length-map blanks (λ b. b.object)) ∙ ap length room.blanks) in
     (room.posts.0, room.posts.1 ∙ sym many, room.back.0, room.back.1 ∙ sym many)
 
 pub drive_in_threads-seats-requires-clause-over : goal.drive_in_threads-seats-requires-clause-over
 drive_in_threads-seats-requires-clause-over g c κs within =
     let room = c.requires.watch_room in
     let blanks = c.args.watch_room.blanks.items in
-    let many = same_length task_of (λ (b : Blank). task_with (observer_of c.args.opened.manager) b.object) c.watchers_for.result.items blanks c.watchers_for.ensures ∙ (sym (length-map blanks (λ b. b.object)) ∙ ap length room.blanks) in
+    let many = same_length task_of (λ (b : Blank). task_with (observer_of c.args.opened.manager) b.object)
+    c.watchers_for.result.items blanks c.watchers_for.ensures ∙ (sym (length-map blanks (λ b. b.object)) ∙ ap length room.blanks) in
     ap length c.as_slice-2.ensures.value ∙ room.over ∙ sym many
 
 pub drive_each-seats-requires-clause-room : goal.drive_each-seats-requires-clause-room
 drive_each-seats-requires-clause-room g c =
-    let long = order_counts participant_of c.drive_in_threads-seats.result.0.items _ (c.drive_in_threads-seats.ensures.order ∙ c.requires.order) in
+    let long = order_counts participant_of c.drive_in_threads-seats.result.0.items _ (c.drive_in_threads-seats.ensures.order
+    ∙ c.requires.order) in
     search rules
 
 pub seens_of-seens-requires-clause-tasks : goal.seens_of-seens-requires-clause-tasks
@@ -50,8 +53,10 @@ seens_of-seens-requires-clause-tasks g c =
     let closed = c.close_done-machine.ensures in let writer = c.close_done-machine.result.writer in
     let watches = c.requires.watch_room.blanks ∙ ap (λ (p : Plan). p.watches) (sym closed.plan) in
     c.drive_in_threads-seats.ensures.tasks ∙ c.watchers_for.ensures
-    ∙ tasks_are writer (observer_of c.args.opened.manager) closed.published.initials closed.book c.args.watch_room.blanks.items (g.M.Machine.plan_of c.close_done-machine.result.machine).watches watches
+    ∙ tasks_are writer (observer_of c.args.opened.manager) closed.published.initials closed.book c.args.watch_room.blanks.items
+    (g.M.Machine.plan_of c.close_done-machine.result.machine).watches watches
 
 pub close_done-machine-requires-clause-all : goal.close_done-machine-requires-clause-all
 close_done-machine-requires-clause-all g c =
-    order_has_all (length (plan_in c.args.opened.manager).participants) c.drive_each-seats.result.items (c.drive_each-seats.ensures.same ∙ (c.drive_in_threads-seats.ensures.order ∙ c.requires.order))
+    order_has_all (length (plan_in c.args.opened.manager).participants) c.drive_each-seats.result.items
+    (c.drive_each-seats.ensures.same ∙ (c.drive_in_threads-seats.ensures.order ∙ c.requires.order))

@@ -25,7 +25,8 @@ loop-state-preserved g c =
     let old = g.M.Machine.journal_of c.loop-state.machine in
     let new = g.M.Machine.journal_of c.take_turn.new.machine in
     let state = c.next_state-state.result in
-    let mixed : state ≡ state_after c.args.seed (suc (length kept.scheduled.0.added)) = c.next_state-state.ensures.value ∙ ap next_state kept.scheduled.1 in
+    let mixed : state ≡ state_after c.args.seed (suc (length kept.scheduled.0.added)) = c.next_state-state.ensures.value
+    ∙ ap next_state kept.scheduled.1 in
     let turn = subst (λ p. TakesTurn p old new (state / 65536)) kept.plan c.take_turn.ensures.turn in
     let more = one_more (first_of_seed c.args.seed) plan first old new kept.scheduled.0 (state / 65536) (ap (λ s. s / 65536) mixed) turn in
     record {

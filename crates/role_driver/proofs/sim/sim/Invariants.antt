@@ -10,7 +10,8 @@ invariant-loop-state g l = record {
   base : g.M.Machine.base_of l.machine ≡ g.M.Machine.base_of l.fn.machine;
   count : g.M.Machine.count_of l.fn.machine ≤ g.M.Machine.count_of l.machine;
   small : l.state < 2 ^ 31;
-  scheduled : (s : GrewBy (first_of_seed l.seed) (g.M.Machine.plan_of l.fn.machine) (g.M.Machine.journal_of l.fn.machine) (g.M.Machine.journal_of l.machine)) × (l.state ≡ state_after l.seed (length s.added));
+  scheduled : (s : GrewBy (first_of_seed l.seed) (g.M.Machine.plan_of l.fn.machine) (g.M.Machine.journal_of l.fn.machine)
+      (g.M.Machine.journal_of l.machine)) × (l.state ≡ state_after l.seed (length s.added));
 }
 
 abbrev pub decreases-loop-state : goal.decreases-loop-state

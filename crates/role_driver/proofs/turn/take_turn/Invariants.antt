@@ -10,5 +10,7 @@ invariant-loop-others g l = record {
   count : g.M.Machine.count_of l.fn.machine ≤ g.M.Machine.count_of l.machine;
   journal : g.M.Machine.journal_of l.machine ≡ g.M.Machine.journal_of l.fn.machine;
   known : l.participants ≡ length (g.M.Machine.plan_of l.fn.machine).participants;
-  before : (i : ℕ) → i < l.others → HasNoEntry (g.M.Machine.plan_of l.fn.machine) (reverse (g.M.Machine.journal_of l.fn.machine)) (participant_asked (g.M.Machine.plan_of l.fn.machine) l.first i);
+  before : (i : ℕ) → i < l.others
+      → HasNoEntry (g.M.Machine.plan_of l.fn.machine) (reverse (g.M.Machine.journal_of l.fn.machine))
+      (participant_asked (g.M.Machine.plan_of l.fn.machine) l.first i);
 }

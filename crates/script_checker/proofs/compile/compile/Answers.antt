@@ -18,7 +18,8 @@ of_sound-requires c =
 pub returns-in-Ok-of_sound : goal.returns-in-Ok-of_sound
 returns-in-Ok-of_sound c =
     planned
-    (planned_by c.args.script.now c.in-Ok.made.0 c.in-Ok.made.1.items c.in-Ok.ensures.declared c.in-Ok-of_sound.plan (c.in-Ok-of_sound.ensures ∙ ap (λ (draft : Draft). plan_of draft) c.draft_of.ensures))
+    (planned_by c.args.script.now c.in-Ok.made.0 c.in-Ok.made.1.items c.in-Ok.ensures.declared c.in-Ok-of_sound.plan
+    (c.in-Ok-of_sound.ensures ∙ ap (λ (draft : Draft). plan_of draft) c.draft_of.ensures))
 
 pub returns-in-Err-of_sound : goal.returns-in-Err-of_sound
 returns-in-Err-of_sound c = wanting c.wanting.ensures

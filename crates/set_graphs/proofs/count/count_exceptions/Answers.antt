@@ -48,4 +48,5 @@ loop-size-preserved c =
     let here = ap (λ (n : ℕ). length (choose n (c.loop-size.size + 1))) all in
     ap (λ (k : ℕ). k + slice_index c.loop-primitive.counts (c.loop-size.size + 1)) c.loop-size.invariant
     ∙
-    (ap (λ (k : ℕ). exception_count c.args.primitives c.loop-size.size + k) (counted ∙ here) ∙ sym (exceptions_more c.args.primitives c.loop-size.size))
+    (ap (λ (k : ℕ). exception_count c.args.primitives c.loop-size.size + k) (counted ∙ here)
+    ∙ sym (exceptions_more c.args.primitives c.loop-size.size))

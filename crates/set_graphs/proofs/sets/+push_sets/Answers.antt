@@ -39,7 +39,8 @@ returns t c =
     let u = unit_is c.args.next (omega (arith, last, left)) in
     let first =
     subst
-    (λ b. c.push_sets.new.sets.items ≡ c.args.sets.now.items ++ map (moved_after (c.args.before + b) (c.args.next + 1)) (choose (c.args.left - 1) (c.args.size - 1)))
+    (λ b. c.push_sets.new.sets.items ≡ c.args.sets.now.items ++ map (moved_after (c.args.before + b) (c.args.next + 1))
+    (choose (c.args.left - 1) (c.args.size - 1)))
     u (c.in_ok-push_sets.ensures) in
     on_ok_weaker c.push_sets-2.result
     (added c.args.before c.args.next c.args.left c.args.size _ _ _ (grind (arith, left)) (grind (arith, size)) first)

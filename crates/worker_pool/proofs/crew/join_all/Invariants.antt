@@ -14,5 +14,6 @@ invariant-loop-member g l =
       hands : All (λ h. IsHandOf l.relay h) l.hands.items;
       kept : All (λ v. All (λ s. IsOpened l.relay s) v.items) l.kept.items;
       held : (h : ℕ → ℕ) → sum_by (weight_by h) l.hands.items ≡ sum_by (λ v. weight_of h v.items) l.kept.items;
-      order : map number_of l.hands.items ++ map (λ r. number_by (λ h. h.promise.number) r) left ≡ map (λ r. number_by (λ h. h.promise.number) r) l.fn.members.items;
+      order : map number_of l.hands.items ++ map (λ r. number_by (λ h. h.promise.number) r) left
+          ≡ map (λ r. number_by (λ h. h.promise.number) r) l.fn.members.items;
     }

@@ -11,6 +11,8 @@ loop-index-preserved g c =
     let now = c.work_here.new.member in let was = c.index_mut.result.now in
     record {
       long = inv.long;
-      members = All-set (λ r. IsMember relay (λ h. h.promise.relay.value) r) c.loop-index.members.items c.loop-index.index now c.work_here.ensures.member inv.members;
-      order = map-set_same (λ r. number_by (λ h. h.promise.number) r) c.loop-index.members.items c.loop-index.index now was (c.work_here.ensures.same ∙ ap (number_by (λ h. h.promise.number)) c.index_mut.ensures.value) ∙ inv.order;
+      members = All-set (λ r. IsMember relay (λ h. h.promise.relay.value) r) c.loop-index.members.items c.loop-index.index
+          now c.work_here.ensures.member inv.members;
+      order = map-set_same (λ r. number_by (λ h. h.promise.number) r) c.loop-index.members.items c.loop-index.index now
+          was (c.work_here.ensures.same ∙ ap (number_by (λ h. h.promise.number)) c.index_mut.ensures.value) ∙ inv.order;
     }

@@ -6,5 +6,6 @@ abbrev pub invariant-loop-index : goal.invariant-loop-index
 invariant-loop-index g l = record {
   long : l.index-end ≡ vec_len l.members;
   members : All (λ r. IsMember l.relay (λ h. h.promise.relay.value) r) l.members.items;
-  order : map (λ r. number_by (λ h. h.promise.number) r) l.members.items ≡ map (λ r. number_by (λ h. h.promise.number) r) l.fn.members.items;
+  order : map (λ r. number_by (λ h. h.promise.number) r) l.members.items ≡ map (λ r. number_by (λ h. h.promise.number) r)
+      l.fn.members.items;
 }

@@ -10,7 +10,9 @@ loop-seat-preserved g c =
     let pushed = c.push_reserved.ensures in
     let room = inv.room in
     record {
-      items = ap (λ l. l ++ rest) pushed.items ∙ (append_assoc c.loop-seat.seats.items (c.in-Some.seat ∷ []) rest ∙ (ap (λ l. c.loop-seat.seats.items ++ l) (sym took) ∙ inv.items));
+      items = ap (λ l. l ++ rest) pushed.items
+          ∙ (append_assoc c.loop-seat.seats.items (c.in-Some.seat ∷ []) rest
+          ∙ (ap (λ l. c.loop-seat.seats.items ++ l) (sym took) ∙ inv.items));
       room = omega (arith, room, one, pushed.len, pushed.capacity);
       same = pushed.capacity ∙ inv.same;
     }

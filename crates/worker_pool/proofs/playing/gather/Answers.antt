@@ -21,7 +21,16 @@ loop-more-preserved g c =
     let same = c.append-seats.ensures.room in
     let long = ap length items in
     record {
-      items = ap (λ l. l ++ flat_map (λ v. v.items) rest) items ∙ (append_assoc c.loop-more.seats.items c.in-Some.more.items (flat_map (λ v. v.items) rest)
+      items = ap (λ l. l ++ flat_map (λ v. v.items) rest) items
+          ∙ (append_assoc c.loop-more.seats.items c.in-Some.more.items (flat_map (λ v. v.items) rest)
           ∙ (ap (λ l. c.loop-more.seats.items ++ flat_map (λ v. v.items) l) (sym c.in-Some.ensures.steps.0) ∙ inv.items));
-      room = omega (arith, room, took, same, long, length-append c.loop-more.seats.items c.in-Some.more.items, sum_by-cons (λ v. length v.items) c.in-Some.more rest);
+      room = omega (
+        arith,
+        room,
+        took,
+        same,
+        long,
+        length-append c.loop-more.seats.items c.in-Some.more.items,
+        sum_by-cons (λ v. length v.items) c.in-Some.more rest,
+      );
     }

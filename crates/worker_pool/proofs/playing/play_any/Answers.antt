@@ -6,7 +6,8 @@ use Rattle.worker_pool.specs.inner.Rooms.{IsRoomForAny}
 use Rattle.worker_pool.proofs.playing.play_any.Goals as goal
 
 pub play_seats-requires-clause-room : goal.play_seats-requires-clause-room
-play_seats-requires-clause-room g c κs within = subst (IsRoomForAny (length (plan_in c.args.manager.now).participants)) c.in-Some.is c.requires.room
+play_seats-requires-clause-room g c κs within =
+    subst (IsRoomForAny (length (plan_in c.args.manager.now).participants)) c.in-Some.is c.requires.room
 
 pub returns-in-None-clause-done : goal.returns-in-None-clause-done
 returns-in-None-clause-done g c k d less =

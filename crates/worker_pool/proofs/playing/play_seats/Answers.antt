@@ -69,14 +69,16 @@ close-requires g c = record { hands = c.work_in_threads-hands.ensures.back.hands
 pub unreachable-requires : goal.unreachable-requires
 unreachable-requires g c =
     let missing = c.in-Err.ensures.missing in
-    let order = c.work_in_threads-hands.ensures.order ∙ (c.open-relay.ensures.order ∙ ap (range_with_len 0) (sym c.open-relay.ensures.count)) in
+    let order = c.work_in_threads-hands.ensures.order
+    ∙ (c.open-relay.ensures.order ∙ ap (range_with_len 0) (sym c.open-relay.ensures.count)) in
     true≢false (sym (order_has_hands _ _ order _ missing.known) ∙ missing.out)
 
 pub gather-seats-requires : goal.gather-seats-requires
 gather-seats-requires g c =
     let back = c.work_in_threads-hands.ensures.back in
     let kept = c.work_in_threads-hands.result.kept.items in
-    let once = λ (h : ℕ → ℕ). balance h c.open-relay.result.relay c.in-Ok.left.items c.work_in_threads-hands.result.hands.items kept (λ v. v.items) c.in-Ok.ensures.once back.held in
+    let once = λ (h : ℕ → ℕ). balance h c.open-relay.result.relay c.in-Ok.left.items c.work_in_threads-hands.result.hands.items
+    kept (λ v. v.items) c.in-Ok.ensures.once back.held in
     let long = counted (opened_in c.open-relay.result.relay) c.in-Ok.left.items (flat_map (λ v. v.items) kept) once in
     let room = c.in-Ok.ensures.room in
     omega (arith, long, room, long_flat (λ v. v.items) kept)
@@ -85,7 +87,8 @@ pub drive_each-requires-clause-room : goal.drive_each-requires-clause-room
 drive_each-requires-clause-room g c =
     let back = c.work_in_threads-hands.ensures.back in
     let kept = c.work_in_threads-hands.result.kept.items in
-    let once = λ (h : ℕ → ℕ). balance h c.open-relay.result.relay c.in-Ok.left.items c.work_in_threads-hands.result.hands.items kept (λ v. v.items) c.in-Ok.ensures.once back.held in
+    let once = λ (h : ℕ → ℕ). balance h c.open-relay.result.relay c.in-Ok.left.items c.work_in_threads-hands.result.hands.items
+    kept (λ v. v.items) c.in-Ok.ensures.once back.held in
     let many = counted (opened_in c.open-relay.result.relay) c.in-Ok.left.items (flat_map (λ v. v.items) kept) once in
     let long = order_counts participant_of c.args.seats.items _ c.requires.order in
     let opened = ap length c.open-relay.ensures.opened in
@@ -97,17 +100,21 @@ pub drive_each-requires-clause-opened : goal.drive_each-requires-clause-opened
 drive_each-requires-clause-opened g c =
     let relay = c.open-relay.result.relay in
     let kept = c.work_in_threads-hands.result.kept.items in
-    let all = All-append (λ s. IsOpened relay s) c.in-Ok.left.items (flat_map (λ v. v.items) kept) c.in-Ok.ensures.theirs (all_flat (λ v. v.items) (λ s. IsOpened relay s) kept c.work_in_threads-hands.ensures.back.kept) in
+    let all = All-append (λ s. IsOpened relay s) c.in-Ok.left.items (flat_map (λ v. v.items) kept) c.in-Ok.ensures.theirs
+    (all_flat (λ v. v.items) (λ s. IsOpened relay s) kept c.work_in_threads-hands.ensures.back.kept) in
     let mine = subst (All (λ s. IsSeatIn g.M.Machine.base_of c.args.manager.now s)) (sym c.open-relay.ensures.opened) c.requires.seats in
-    theirs_all (table_of c.args.manager.now) (terms_in g.M.Machine.base_of c.args.manager.now) (opened_in relay) c.gather-seats.result.items relay.some mine
+    theirs_all (table_of c.args.manager.now) (terms_in g.M.Machine.base_of c.args.manager.now) (opened_in relay)
+    c.gather-seats.result.items relay.some mine
     (subst (All (λ s. IsOpened relay s)) (sym c.gather-seats.ensures) all)
 
 pub returns-clause-all : goal.returns-clause-all
 returns-clause-all g c =
     let back = c.work_in_threads-hands.ensures.back in
     let kept = c.work_in_threads-hands.result.kept.items in
-    let once = λ (h : ℕ → ℕ). balance h c.open-relay.result.relay c.in-Ok.left.items c.work_in_threads-hands.result.hands.items kept (λ v. v.items) c.in-Ok.ensures.once back.held in
+    let once = λ (h : ℕ → ℕ). balance h c.open-relay.result.relay c.in-Ok.left.items c.work_in_threads-hands.result.hands.items
+    kept (λ v. v.items) c.in-Ok.ensures.once back.held in
     let n = length (plan_in c.args.manager.now).participants in
     let opened = subst (HaveAll n) (sym c.open-relay.ensures.opened) (order_has_all n c.args.seats.items c.requires.order) in
     let all = all_there n (opened_in c.open-relay.result.relay) c.in-Ok.left.items (flat_map (λ v. v.items) kept) opened once in
-    have_all_same n c.gather-seats.result.items c.drive_each.result.items c.drive_each.ensures.same (subst (HaveAll n) (sym c.gather-seats.ensures) all)
+    have_all_same n c.gather-seats.result.items c.drive_each.result.items c.drive_each.ensures.same
+    (subst (HaveAll n) (sym c.gather-seats.ensures) all)

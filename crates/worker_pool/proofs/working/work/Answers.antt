@@ -9,7 +9,8 @@ use Rattle.worker_pool.proofs.working.work.Goals as goal
 
 pub step_while_due-requires : goal.step_while_due-requires
 step_while_due-requires g c = record {
-  opened = theirs_in (table_of c.args.manager.now) (terms_in g.M.Machine.base_of c.args.manager.now) _ _ c.args.relay.now.some c.requires.relay c.in-Some-take.ensures.theirs;
+  opened = theirs_in (table_of c.args.manager.now) (terms_in g.M.Machine.base_of c.args.manager.now) _ _ c.args.relay.now.some
+      c.requires.relay c.in-Some-take.ensures.theirs;
 }
 
 pub put-requires-clause-holds : goal.put-requires-clause-holds
@@ -17,11 +18,13 @@ put-requires-clause-holds g c =
     let seat = c.wait_if_fruitless.new.seat in
     let same = c.wait_if_fruitless.ensures.same ∙ c.step_while_due.ensures.same in
     subst (λ l. Contains l (participant_of seat)) (sym c.in-Some-take.ensures.held)
-    (subst (λ p. Contains (held_by c.loop.worker.hand ++ p ∷ []) (participant_of seat)) same (Contains-push (held_by c.loop.worker.hand) (participant_of seat)))
+    (subst (λ p. Contains (held_by c.loop.worker.hand ++ p ∷ []) (participant_of seat)) same
+    (Contains-push (held_by c.loop.worker.hand) (participant_of seat)))
 
 pub put-requires-clause-opened : goal.put-requires-clause-opened
 put-requires-clause-opened g c =
-    in_theirs (table_of c.args.manager.now) (terms_in g.M.Machine.base_of c.args.manager.now) _ _ c.requires.relay c.wait_if_fruitless.ensures.opened
+    in_theirs (table_of c.args.manager.now) (terms_in g.M.Machine.base_of c.args.manager.now) _ _ c.requires.relay
+    c.wait_if_fruitless.ensures.opened
 
 pub loop-preserved-in-Waits : goal.loop-preserved-in-Waits
 loop-preserved-in-Waits g c =
@@ -52,7 +55,8 @@ loop-preserved g c =
       numbered = c.take.ensures.number ∙ inv.numbered;
       opened = subst (All (λ s. IsOpened relay s)) (sym items)
           (All-push (λ s. IsOpened relay s) c.loop.worker.kept.items _ inv.opened
-          (in_theirs (table_of c.args.manager.now) (terms_in g.M.Machine.base_of c.args.manager.now) _ _ c.requires.relay c.step_while_due.ensures.opened));
+          (in_theirs (table_of c.args.manager.now) (terms_in g.M.Machine.base_of c.args.manager.now) _ _ c.requires.relay
+          c.step_while_due.ensures.opened));
       held = λ h. keep_one h _ _ _ _ _ _ c.step_while_due.ensures.same c.in-Some-take.ensures.held items (inv.held h);
       room = subst (λ n. length (opened_in relay) ≤ n) (sym c.push_reserved.ensures.capacity) inv.room;
     }

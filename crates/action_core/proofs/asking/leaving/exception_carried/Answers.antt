@@ -11,7 +11,8 @@ use Rattle.action_core.proofs.asking.leaving.exception_carried.Goals as goal
 pub returns-then-is_quiet : goal.returns-then-is_quiet
 returns-then-is_quiet c = λ past r s.
     sym
-    (ap (λ b. cond b None (outcome_mapped c.args.plan.now c.args.place (newest (is_in kind.End c.args.place) past) (newest (is_by kind.Abort c.args.place c.args.by) past)))
+    (ap (λ b. cond b None (outcome_mapped c.args.plan.now c.args.place (newest (is_in kind.End c.args.place) past)
+    (newest (is_by kind.Abort c.args.place c.args.by) past)))
     (sym (c.is_quiet.ensures past r s) ∙ c.if-is_quiet.true))
 
 pub returns-else-is_quiet : goal.returns-else-is_quiet
@@ -24,5 +25,6 @@ returns-else-is_quiet c = λ past r s.
     ∙ told_right c.args.plan.now c.args.place (newest (is_by kind.Abort c.args.place c.args.by) past)
     (newest (is_in kind.End c.args.place) past)
     ∙ sym
-    (ap (λ b. cond b None (outcome_mapped c.args.plan.now c.args.place (newest (is_in kind.End c.args.place) past) (newest (is_by kind.Abort c.args.place c.args.by) past)))
+    (ap (λ b. cond b None (outcome_mapped c.args.plan.now c.args.place (newest (is_in kind.End c.args.place) past)
+    (newest (is_by kind.Abort c.args.place c.args.by) past)))
     (sym (c.is_quiet.ensures past r s) ∙ c.if-is_quiet.false))

@@ -14,4 +14,5 @@ returns-then-has_aborted c = λ past s. c.abort_of.ensures.stands past s
 pub returns-else-has_aborted : goal.returns-else-has_aborted
 returns-else-has_aborted c = λ past s.
     sym
-    (ap name_in (none_newest (is_by kind.Abort c.args.place c.args.by) past (sym (c.has_aborted.ensures.stands past s) ∙ c.if-has_aborted.false)))
+    (ap name_in (none_newest (is_by kind.Abort c.args.place c.args.by) past (sym (c.has_aborted.ensures.stands past s)
+    ∙ c.if-has_aborted.false)))

@@ -8,5 +8,6 @@ pub returns : goal.returns
 returns c = λ past s legal here handled.
     ap (λ (p : Person). p.refused) c.person.ensures
     ∙
-    (s.each c.args.by (known_inside c.args.plan.now (is_playable c.args.plan.now c.is_closed.ensures) past legal c.args.by c.args.place here)).refused
+    (s.each c.args.by (known_inside c.args.plan.now (is_playable c.args.plan.now c.is_closed.ensures) past legal c.args.by
+    c.args.place here)).refused
     c.args.place here handled

@@ -37,6 +37,7 @@ returns c =
     let new : Person = record { turn = c.turn_after-turn.result; refused = c.refused_after-refused.result } in
     subst (PersonOfEach plan (e ∷ past)) (sym c.set.ensures)
     (person_keeps plan playable past e c.args.self.now new c.requires.legal c.requires.may listed
-    (λ opens. subst (λ (p : Person). IsNext plan e.by (suc p.turn) new.turn) c.person-person.ensures (subst (λ n. IsNext plan e.by n new.turn) (one_more c.person-person.result.turn) (c.turn_after-turn.ensures.goes_on opens)))
+    (λ opens. subst (λ (p : Person). IsNext plan e.by (suc p.turn) new.turn) c.person-person.ensures
+    (subst (λ n. IsNext plan e.by n new.turn) (one_more c.person-person.result.turn) (c.turn_after-turn.ensures.goes_on opens)))
     (λ shut. c.turn_after-turn.ensures.stays shut ∙ ap (λ (p : Person). p.turn) c.person-person.ensures)
     (c.refused_after-refused.ensures ∙ ap (λ (p : Person). refused_after e p.refused) c.person-person.ensures) c.requires.stands)

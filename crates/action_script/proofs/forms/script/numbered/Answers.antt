@@ -4,13 +4,23 @@ use Rattle.action_script.proofs.forms.script.numbered.Goals as goal
 
 pub overflow_cast-number : goal.overflow_cast-number
 overflow_cast-number c =
-    omega
-    (arith, c.len.ensures, ap length c.loop-form.invariant.are, length-numbered_from 1 c.loop-form.yielded, ap length c.in-Some.ensures.steps.0)
+    omega (
+      arith,
+      c.len.ensures,
+      ap length c.loop-form.invariant.are,
+      length-numbered_from 1 c.loop-form.yielded,
+      ap length c.in-Some.ensures.steps.0,
+    )
 
 pub overflow_add-number : goal.overflow_add-number
 overflow_add-number c =
-    omega
-    (arith, c.len.ensures, ap length c.loop-form.invariant.are, length-numbered_from 1 c.loop-form.yielded, ap length c.in-Some.ensures.steps.0)
+    omega (
+      arith,
+      c.len.ensures,
+      ap length c.loop-form.invariant.are,
+      length-numbered_from 1 c.loop-form.yielded,
+      ap length c.in-Some.ensures.steps.0,
+    )
 
 pub loop-form-preserved : goal.loop-form-preserved
 loop-form-preserved c =

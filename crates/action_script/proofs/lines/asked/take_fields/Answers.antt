@@ -41,7 +41,8 @@ returns-in-None-clause-right c =
     let wrong : is_right word ≡ false =
     ap (λ p. is_part p word.word) (sym c.part_at.ensures) ∙ sym c.in_ok-field.ensures.right ∙ ap is_some c.in-None.is in
     sym
-    (c.loop-index.invariant.right ∙ right_in_turn (all parts words) i word (within parts words i test) (there parts words i test) ∙ ap (λ b. b && list_all is_right (drop (i + 1) (all parts words))) wrong)
+    (c.loop-index.invariant.right ∙ right_in_turn (all parts words) i word (within parts words i test)
+    (there parts words i test) ∙ ap (λ b. b && list_all is_right (drop (i + 1) (all parts words))) wrong)
 
 pub loop-index-preserved : goal.loop-index-preserved
 loop-index-preserved c =
@@ -81,7 +82,9 @@ pub returns-clause-right : goal.returns-clause-right
 returns-clause-right c =
     let own = all c.args.parts.now c.args.words.now in
     sym
-    (c.loop-index.invariant.right ∙ ap (list_all is_right) (drop_of_length-le own (omega (arith, as_many c.args.parts.now c.args.words.now, c.loop-index-test.false))))
+    (c.loop-index.invariant.right
+    ∙ ap (list_all is_right)
+    (drop_of_length-le own (omega (arith, as_many c.args.parts.now c.args.words.now, c.loop-index-test.false))))
 
 pub returns-clause-taken : goal.returns-clause-taken
 returns-clause-taken c = λ yes.

@@ -7,7 +7,8 @@ use Rattle.action_script.proofs.lines.reader.read.Goals as goal
 
 pub returns-then-not-at_top-clause-refused : goal.returns-then-not-at_top-clause-refused
 returns-then-not-at_top-clause-refused c =
-    λ known. reading_of-open c.args.bytes.now (so_far c.in-Ok.reader) (omega arith) c.in-Ok.ensures.read (sym c.at_top.ensures ∙ c.if-not-at_top.true)
+    λ known. reading_of-open c.args.bytes.now (so_far c.in-Ok.reader) (omega arith) c.in-Ok.ensures.read
+    (sym c.at_top.ensures ∙ c.if-not-at_top.true)
 
 pub returns-in-Ok-to_names-clause-read : goal.returns-in-Ok-to_names-clause-read
 returns-in-Ok-to_names-clause-read c =

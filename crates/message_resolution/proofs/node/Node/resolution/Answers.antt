@@ -18,7 +18,8 @@ returns-then-self c =
     subst (λ (n : Known). IsResolutionOf n None) c.self.view_is (elim c.then-self.branch [
       | then-self-via-then-self w ↦ none_greater base w.if-self.true
       | then-self-via-else-self+then-self-2 w ↦ none_again base w.if-self-2.true
-      | then-self-via-else-self+else-self-2+then-not-has_heard_all w ↦ none_unheard base (ap (λ (k : Known). list_all (λ b. b) k.heard) c.self.view_is ∙ sym w.has_heard_all.ensures ∙ w.if-not-has_heard_all.true)
+      | then-self-via-else-self+else-self-2+then-not-has_heard_all w ↦ none_unheard base
+          (ap (λ (k : Known). list_all (λ b. b) k.heard) c.self.view_is ∙ sym w.has_heard_all.ensures ∙ w.if-not-has_heard_all.true)
     ])
 
 pub returns : goal.returns

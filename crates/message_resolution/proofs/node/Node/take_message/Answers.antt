@@ -22,7 +22,8 @@ returns-in-Suspended c =
     subst
     (λ (old : Known). TakesIn c.args.graph.now (receives c.args.message) old (record base { heard = slice_set base.heard from true }) None)
     c.self.view_is
-    (subst (λ (m : Message). TakesIn c.args.graph.now (receives m) base (record base { heard = slice_set base.heard from true }) None) (sym is) (takes_suspended c.args.graph.now base from from_in other))
+    (subst (λ (m : Message). TakesIn c.args.graph.now (receives m) base (record base { heard = slice_set base.heard from true })
+    None) (sym is) (takes_suspended c.args.graph.now base from from_in other))
 
 pub returns-in-Resolved : goal.returns-in-Resolved
 returns-in-Resolved c =
@@ -38,4 +39,5 @@ returns-in-Resolved c =
     (subst (λ (m : Message). sender_of m ≢ c.args.self.now.me) is c.requires.other) in
     subst (λ (old : Known). TakesIn c.args.graph.now (receives c.args.message) old (record base { decided = Some exception }) None)
     c.self-in-Resolved.view_is
-    (subst (λ (m : Message). TakesIn c.args.graph.now (receives m) base (record base { decided = Some exception }) None) (sym is) (takes_resolved c.args.graph.now base from exception in_range.0 in_range.1 other))
+    (subst (λ (m : Message). TakesIn c.args.graph.now (receives m) base (record base { decided = Some exception }) None)
+    (sym is) (takes_resolved c.args.graph.now base from exception in_range.0 in_range.1 other))

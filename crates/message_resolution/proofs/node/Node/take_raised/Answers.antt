@@ -15,9 +15,15 @@ returns c =
     let other : from ≢ base.me = subst (λ (k : Known). from ≢ k.me) (sym c.self.view_is) c.requires.other in
     let does =
     subst
-    (λ (g : Bool). Suspends (record base { heard = slice_set base.heard from true; cover = Some c.joined.result; has_greater = g }) c.suspend.new.self c.suspend.result)
+    (λ (g : Bool). Suspends (record base {
+      heard = slice_set base.heard from true;
+      cover = Some c.joined.result;
+      has_greater =
+          g;
+    }) c.suspend.new.self c.suspend.result)
     c.is_below-self-inside.ensures c.suspend.ensures in
     subst
     (λ (old : Known). TakesIn c.args.graph.now (receives (message.Raised from c.args.exception)) old c.suspend.new.self c.suspend.result)
     c.self.view_is
-    (takes_raised c.args.graph.now base from c.args.exception c.joined.result from_in c.requires.in_range other c.joined.ensures c.suspend.new.self c.suspend.result does)
+    (takes_raised c.args.graph.now base from c.args.exception c.joined.result from_in c.requires.in_range other c.joined.ensures
+    c.suspend.new.self c.suspend.result does)

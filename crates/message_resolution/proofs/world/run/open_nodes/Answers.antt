@@ -16,5 +16,6 @@ loop-me-preserved c =
       room = c.push_reserved.ensures.capacity ∙ before.room;
       fresh =
           subst (AreFreshNodes c.args.count) (sym items)
-          (fresh_more c.args.count c.loop-me.nodes.items node before.fresh (c.in_ok-open.ensures.me ∙ sym many) c.in_ok-open.ensures.count c.in_ok-open.ensures.stands);
+          (fresh_more c.args.count c.loop-me.nodes.items node before.fresh (c.in_ok-open.ensures.me ∙ sym many)
+          c.in_ok-open.ensures.count c.in_ok-open.ensures.stands);
     }

@@ -11,4 +11,6 @@ unreachable-requires c =
     (c.in_ok-pairs.ensures.pairs ∙ ap (λ (all : List ℕ). pairs_below n all (length all)) (c.deref.ensures.value ∙ c.in_ok-table.ensures)) in
     let few = c.if-count.false in
     c.in_default.not-OutOfMemory
-    (only_memory n c.args.most c.count_exceptions-count.result c.deref-2.result.now c.build.result c.in-Err.refusal c.count_exceptions-count.ensures pairs (omega (arith, few)) c.in-Err.is c.build.ensures.too_many c.build.ensures.cycle c.build.ensures.no_least)
+    (only_memory n c.args.most c.count_exceptions-count.result c.deref-2.result.now c.build.result c.in-Err.refusal
+    c.count_exceptions-count.ensures pairs (omega (arith, few)) c.in-Err.is c.build.ensures.too_many c.build.ensures.cycle
+    c.build.ensures.no_least)

@@ -14,7 +14,8 @@ returns-clause-back c =
     let is : at ≡ number_of n most set =
     c.number_in.ensures ∙ ap (λ (l : List ℕ). number_in l set) (c.deref.ensures.value ∙ keeps.stands_for) in
     subst
-    (λ (g : SetOrder). set < 2 ^ g.primitives → size_of g.primitives set ≤ g.most → (0 < at) × (at < g.order.count) × (members_of g.primitives g.most at ≡ set))
+    (λ (g : SetOrder). set < 2 ^ g.primitives → size_of g.primitives set ≤ g.most → (0 < at) × (at < g.order.count)
+    × (members_of g.primitives g.most at ≡ set))
     c.self.view_is
     (λ low few.
     let number = number_whole n most set (record { some = c.requires.some; primitives = low; few = few }) in

@@ -15,7 +15,8 @@ compare_exchange-requires c =
       c.learn.ensures.0 ∙ (ap (λ s. s.book) c.again-both.ensures ∙ book),
       kept.book ∙ book,
       asked.0,
-      rw (ap (λ w. w.key) kept.word, asked.3) (counts all both _ c.self.inside.ends c.plain-asked.result.ask kept.right kept.last mine kept.counted),
+      rw (ap (λ w. w.key) kept.word, asked.3)
+          (counts all both _ c.self.inside.ends c.plain-asked.result.ask kept.right kept.last mine kept.counted),
     )
 
 pub returns-clause-begins : goal.returns-clause-begins

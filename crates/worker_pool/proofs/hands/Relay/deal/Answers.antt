@@ -36,7 +36,8 @@ loop-number-preserved g c =
       order = order_more number_of _ _ _ c.loop-number.number items inv.order refl;
       hands = subst (All (λ h. IsHandOf c.args.self.now h × (held_by h ≡ []))) (sym items)
           (All-push (λ h. IsHandOf c.args.self.now h × (held_by h ≡ [])) c.loop-number.hands.items _ inv.hands
-          (cut_hand c.args.self.now (view c.loop-number.pass) _ c.loop-number.number refl queue.1 inv.opened rule.1 (omega (arith, less)) c.new.ensures.items));
+          (cut_hand c.args.self.now (view c.loop-number.pass) _ c.loop-number.number refl queue.1 inv.opened rule.1
+          (omega (arith, less)) c.new.ensures.items));
     }
 
 pub returns-clause-order : goal.returns-clause-order
@@ -45,7 +46,8 @@ returns-clause-order g c =
     let up = c.loop-number.auto.number-end in
     let down = c.loop-number-test.false in
     let some = c.args.self.now.few.0 in
-    order_more number_of _ _ _ c.loop-number.number c.push_reserved-2.ensures.items inv.order (omega (arith, up, down)) ∙ ap (range_with_len 0) (omega (arith, up, down, some))
+    order_more number_of _ _ _ c.loop-number.number c.push_reserved-2.ensures.items inv.order (omega (arith, up, down))
+    ∙ ap (range_with_len 0) (omega (arith, up, down, some))
 
 pub returns-clause-hands : goal.returns-clause-hands
 returns-clause-hands g c =
@@ -56,4 +58,6 @@ returns-clause-hands g c =
     let p = inv.parts in
     subst (All (λ h. IsHandOf c.args.self.now h × (held_by h ≡ []))) (sym c.push_reserved-2.ensures.items)
     (All-push (λ h. IsHandOf c.args.self.now h × (held_by h ≡ [])) c.loop-number.hands.items _ inv.hands
-    (last_hand c.args.self.now _ (c.args.self.now.hands - 1) refl inv.here inv.opened (omega (arith, some)) (let e : (view c.loop-number.pass).parts ≡ 18 - c.args.self.now.hands = omega (arith, up, down, some, p) in e) inv.held c.requires.spare.0 c.requires.spare.1))
+    (last_hand c.args.self.now _ (c.args.self.now.hands - 1) refl inv.here inv.opened (omega (arith, some))
+    (let e : (view c.loop-number.pass).parts ≡ 18 - c.args.self.now.hands = omega (arith, up, down, some, p) in e)
+    inv.held c.requires.spare.0 c.requires.spare.1))

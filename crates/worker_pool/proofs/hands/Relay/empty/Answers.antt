@@ -20,10 +20,12 @@ loop-preserved g c =
       here = (c.pop_as.ensures.queue.0 ∙ inv.here.0, c.pop_as.ensures.queue.2 ∙ inv.here.1);
       opened = ap (λ (v : HandView _). v.opened) rule.held ∙ inv.opened;
       parts = subst (λ (v : HandView _). all_parts ≤ v.parts) (sym rule.held) inv.parts;
-      held = ap (λ (v : HandView _). v.held) rule.held ∙ (held_more _ _ c.in-Some-pop_as.seat _ inv.held ∙ ap (λ xs. (view c.args.pass).held ++ map participant_of xs) (sym items));
+      held = ap (λ (v : HandView _). v.held) rule.held
+          ∙ (held_more _ _ c.in-Some-pop_as.seat _ inv.held ∙ ap (λ xs. (view c.args.pass).held ++ map participant_of xs) (sym items));
       room = subst (λ n. length c.args.self.opened.value.items ≤ n) (sym c.push_reserved.ensures.capacity) inv.room;
       theirs = subst (λ xs. All (λ x. IsOfTheirs c.args.self.opened.value.items x) xs) (sym items)
-          (All-push (λ x. IsOfTheirs c.args.self.opened.value.items x) c.loop.seats.items c.in-Some-pop_as.seat inv.theirs (subst (λ o. IsOfTheirs o c.in-Some-pop_as.seat) inv.opened rule.theirs));
+          (All-push (λ x. IsOfTheirs c.args.self.opened.value.items x) c.loop.seats.items c.in-Some-pop_as.seat inv.theirs
+          (subst (λ o. IsOfTheirs o c.in-Some-pop_as.seat) inv.opened rule.theirs));
     }
 
 pub returns-in-None-pop_as-clause-once : goal.returns-in-None-pop_as-clause-once

@@ -18,7 +18,8 @@ loop-hand-preserved g c =
       here = (c.absorb.ensures.queue.0 ∙ inv.here.0, c.absorb.ensures.queue.2 ∙ inv.here.1);
       opened = ap (λ (v : HandView _). v.opened) rule ∙ inv.opened;
       some = gathered_some _ _ _ c.in-Some.hand _ _ rule (ap (λ t. t.0.me.0.client) c.into_parts-other.ensures) items inv.some;
-      hands = (all_split (λ h. IsHandOf c.args.self.now h) c.pop.new.self.items c.in-Some.hand (subst (λ xs. All (λ h. IsHandOf c.args.self.now h) xs) items inv.hands)).0;
+      hands = (all_split (λ h. IsHandOf c.args.self.now h) c.pop.new.self.items c.in-Some.hand
+          (subst (λ xs. All (λ h. IsHandOf c.args.self.now h) xs) items inv.hands)).0;
       parts = gathered_parts _ _ _ c.in-Some.hand _ _ rule (ap (λ t. t.0.me.0.client) c.into_parts-other.ensures) items _ inv.parts;
       held = λ h. gathered_held _ _ _ c.in-Some.hand _ _ rule (ap (λ t. t.0.me.0.client) c.into_parts-other.ensures) items h _ (inv.held h);
     }

@@ -11,7 +11,8 @@ invariant-loop-hand g l = record {
   some : 0 < (view l.pass).parts;
   hands : All (λ h. IsHandOf l.self h) l.others.items;
   parts : (view l.pass).parts + sum_by parts_by l.others.items ≡ (view l.initial.pass).parts + sum_by parts_by l.initial.others.items;
-  held : (h : ℕ → ℕ) → sum_by h (view l.pass).held + sum_by (weight_by h) l.others.items ≡ sum_by h (view l.initial.pass).held + sum_by (weight_by h) l.initial.others.items;
+  held : (h : ℕ → ℕ) → sum_by h (view l.pass).held + sum_by (weight_by h) l.others.items ≡ sum_by h (view l.initial.pass).held
+      + sum_by (weight_by h) l.initial.others.items;
 }
 
 abbrev pub decreases-loop-hand : goal.decreases-loop-hand

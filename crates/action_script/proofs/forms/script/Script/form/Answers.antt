@@ -9,4 +9,5 @@ returns-clause-sound c =
 pub returns-clause-named : goal.returns-clause-named
 returns-clause-named c =
     form_below c.args.self.now.names c.index.result.now.form
-    (form_sound c.self.inside.lines.items c.self.inside.names.items c.args.self.now c.args.index c.index.result.now c.self.view_is c.self.invariant.0 c.requires c.index.ensures)
+    (form_sound c.self.inside.lines.items c.self.inside.names.items c.args.self.now c.args.index c.index.result.now
+    c.self.view_is c.self.invariant.0 c.requires c.index.ensures)

@@ -19,7 +19,8 @@ returns-in-Normal c =
     node_at run.graph run.count _ run.messages.items run.nodes.items _ c.self.invariant by c.index.result.now by_in.0 c.index.ensures in
     let silent = normal_silent run.graph run.count _ by c.index.result.now at (sym c.state.ensures ∙ c.in-Normal.is) in
     subst (λ (v : RunView). true ≡ is_legal_event (course_of v.order v.count v.past) c.args.event) c.self.view_is
-    (subst (λ (e : Event). true ≡ is_legal_event (course_of run.graph run.count (reverse run.events.items)) e) (sym c.in-Raise.is) (sym (not_from_false _ silent)))
+    (subst (λ (e : Event). true ≡ is_legal_event (course_of run.graph run.count (reverse run.events.items)) e)
+    (sym c.in-Raise.is) (sym (not_from_false _ silent)))
 
 pub returns-in_default : goal.returns-in_default
 returns-in_default c =
@@ -32,4 +33,5 @@ returns-in_default c =
     node_at run.graph run.count _ run.messages.items run.nodes.items _ c.self.invariant by c.index.result.now by_in.0 c.index.ensures in
     let spoken = other_spoken run.graph run.count _ by c.index.result.now at (λ is. c.in_default.not-Normal (c.state.ensures ∙ is)) in
     subst (λ (v : RunView). false ≡ is_legal_event (course_of v.order v.count v.past) c.args.event) c.self.view_is
-    (subst (λ (e : Event). false ≡ is_legal_event (course_of run.graph run.count (reverse run.events.items)) e) (sym c.in-Raise.is) (sym (not_from_true _ spoken)))
+    (subst (λ (e : Event). false ≡ is_legal_event (course_of run.graph run.count (reverse run.events.items)) e)
+    (sym c.in-Raise.is) (sym (not_from_true _ spoken)))
