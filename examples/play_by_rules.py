@@ -2,7 +2,7 @@
 """Plays a script by the rules of docs/journal.md and the schedule of a seed of docs/program.md, and prints the journal. It looks back
 over the list of entries for each question, as the rules do, was written from these two pages, and shares nothing with the program.
 It expects a script that `check` accepts, and is slow: a second for some hundred entries. With no seed it compares the examples that
-are played by `sim`.
+are played by `sim`, and those of `cell`, whose script is that of the example shift_of_a_cell, with as many plays as there are cycles.
 
     python3 -B examples/play_by_rules.py [SEED < SCRIPT]"""
 import os
@@ -389,6 +389,24 @@ def journal_of(text, seed):
     return "".join(f"{line}\n" for line in lines)
 
 
+def cell_of(shift, cycles):
+    """The script of a production cell that works for so many cycles: the lines of a shift up to its plays, and a play for each cycle."""
+    lines = [line for line in shift.splitlines() if not line.startswith("play ")]
+    for cycle in range(1, cycles + 1):
+        action = "lost" if cycle % 10 == 0 else "jammed" if cycle % 5 == 0 else "plain"
+        lines.append(f"play {action} feeder robot press")
+    return "".join(f"{line}\n" for line in lines)
+
+
+def summary_of(shift, cycles):
+    """What `cell` tells of the journal of such a script, played by the number of its cycles."""
+    lines = journal_of(cell_of(shift, cycles), cycles).splitlines()
+    ends = [line.split()[3] for line in lines if line.startswith("end ")]
+    counts = [f"{word} {ends.count(word)}" for word in ("commit", "signal", "undone", "aborted", "failed")]
+    objects = [line for line in lines if line.startswith("object ")]
+    return "".join(f"{line}\n" for line in [f"cell {cycles}", *counts, *objects])
+
+
 def text_of(file):
     with open(file, encoding="utf-8") as it:
         return it.read()
@@ -400,14 +418,17 @@ def main():
         return
     cases = os.path.join(os.path.dirname(os.path.abspath(__file__)), "cases")
     names, wrong = [], []
+    shift = text_of(f"{cases}/shift_of_a_cell")
     for file in sorted(os.listdir(cases)):
         name, ending = os.path.splitext(file)
         words = text_of(f"{cases}/{file}").split() if ending == ".args" else []
-        if words[:1] == ["sim"] and words[1].isdigit():
+        if words[:1] in (["sim"], ["cell"]) and words[1].isdigit():
             names.append(name)
-            if journal_of(text_of(f"{cases}/{name}"), int(words[1])) != text_of(f"{cases}/{name}.stdout"):
+            number = int(words[1])
+            text = summary_of(shift, number) if words[0] == "cell" else journal_of(text_of(f"{cases}/{name}"), number)
+            if text != text_of(f"{cases}/{name}.stdout"):
                 wrong.append(name)
-                print(f"{name}: the rules give another journal")
+                print(f"{name}: the rules give another text")
     print(f"{len(names)} plays by the rules, {len(wrong)} differ")
     sys.exit(bool(wrong))
 

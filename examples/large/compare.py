@@ -197,6 +197,43 @@ def limits():
     ]
 
 
+# ---- the production cell
+
+def cycles_of(cycles):
+    """How many of so many cycles are plain, jammed and lost."""
+    lost = cycles // 10
+    jammed = cycles // 5 - lost
+    return cycles - jammed - lost, jammed, lost
+
+
+def cell_summary(cycles):
+    """What `cell` prints. A plain cycle has three commits and one more piece; a jammed one has two, a signal and one more for the
+    scrap; a lost one has a commit inside, and is undone."""
+    plain, jammed, lost = cycles_of(cycles)
+    ends = [f"commit {3 * plain + 2 * jammed + lost}", f"signal {jammed}", f"undone {lost}", "aborted 0", "failed 0"]
+    things = ["object table 0", "object arm 0", "object plate 0", f"object out {plain}", f"object scrap {jammed}"]
+    return lines([f"cell {cycles}", *ends, *things])
+
+
+def cell_counts(cycles):
+    """What `check` prints of the script that `cell` plays: of its actions load, forge, forge_jam, plain, jammed and lost each has
+    the bound that its roles, its longest body and handler, and its objects make."""
+    load, forge, forge_jam = 2 * (8 + 1) + 2 + 4, 2 * (8 + 4) + 3 + 4, 2 * (8 + 1 + 2) + 3 + 4
+    outer = [3 * (8 + steps) + 5 + 4 for steps in (2, 2 + 1, 1)]
+    plain, jammed, lost = cycles_of(cycles)
+    bound = plain * (outer[0] + load + forge) + jammed * (outer[1] + load + forge_jam) + lost * (outer[2] + load)
+    return f"ok participants 3 objects 5 places {3 * plain + 3 * jammed + 2 * lost} bound {bound}\n"
+
+
+def cell_script(cycles):
+    """That script: what stands before the plays of a shift, and a play for each cycle."""
+    with open(os.path.join(CASES, "shift_of_a_cell")) as file:
+        front = [line for line in file.read().splitlines() if not line.startswith("play ")]
+    for cycle in range(1, cycles + 1):
+        front.append(f"play {'lost' if cycle % 10 == 0 else 'jammed' if cycle % 5 == 0 else 'plain'} feeder robot press")
+    return lines(front)
+
+
 # ---- words and short scripts
 
 USAGE = "usage: check | sim SEED | run | audit | cell N | graph K | messages SEED | pool W\n"
@@ -205,7 +242,8 @@ USAGE = "usage: check | sim SEED | run | audit | cell N | graph K | messages SEE
 def wrong_words():
     """Words that are no command."""
     return [[], ["sim"], ["sim", "01"], ["sim", "-0"], ["sim", "2147483648"], ["sim", "1", "1"], ["check", "1"], ["audit", "1"],
-            ["run", "1"], ["messages"], ["messages", "2147483648"], ["cell", "1"], ["cell", "2001"], ["--help"]]
+            ["run", "1"], ["messages"], ["messages", "2147483648"], ["cell"], ["cell", "0"], ["cell", "01"], ["cell", "2001"],
+            ["cell", "1", "1"], ["--help"]]
 
 
 def refusals():
@@ -260,6 +298,17 @@ def words_and_refusals(program):
         compare(f"audit: {line.strip()}", program, ["audit"], 4, line, input=(lines(script) + "journal\n").encode())
 
 
+def cells(program):
+    """The production cell. Nothing is read for it, so it matters not what stands on standard input."""
+    for cycles in (1, 4, 5, 10, 200, 2000):
+        compare(f"cell {cycles}", program, ["cell", str(cycles)], 0, cell_summary(cycles), input=b"")
+    compare("cell 10, closed", program, ["cell", "10"], 0, cell_summary(10), preexec_fn=closed_input)
+    compare("cell 10, from a folder", program, ["cell", "10"], 0, cell_summary(10), stdin=os.open(CASES, os.O_RDONLY))
+    compare("cell 10, status 5", program, ["cell", "10"], 5, None, stdout=open("/dev/full", "wb"))
+    compare("cell 2000, status 8", program, ["cell", "2000"], 8, "", preexec_fn=little_memory)
+    compare("check of its script", program, ["check"], 0, cell_counts(2000), input=cell_script(2000).encode())
+
+
 def watched_run(program):
     """A run with a watch: what is seen before both plays have ended depends on when threads run."""
     def text(name):
@@ -304,6 +353,7 @@ def statuses(program):
 large_inputs(sys.argv[1])
 scripts_at_limits(sys.argv[1])
 words_and_refusals(sys.argv[1])
+cells(sys.argv[1])
 watched_run(sys.argv[1])
 statuses(sys.argv[1])
 sys.exit(1 if wrong else 0)

@@ -7,7 +7,9 @@ use Rattle.script_checker.specs.declared.check_error.CheckError.{CheckError}
 use Rattle.script_checker.specs.declared.check_error.CheckCause.TheVariants as cause
 use Rattle.script_checker.specs.Compiled.{IsAnswer, planned, refused, wanting, IsPlanOf, IsFirstRefused}
 use Rattle.caa_commands.specs.declared.fault.Refusal.{Refusal}
-use Rattle.caa_commands.specs.Scripts.{IsCause, IsRefusedScript}
+use Rattle.caa_commands.specs.Scripts.{IsCause, IsRefusedLine, IsRefusedScript, IsUnplanned, HasNoPlan}
+use Rattle.caa_commands.specs.declared.scripts.NoPlan.{NoPlan}
+use Rattle.caa_commands.specs.declared.scripts.NoPlan.TheVariants as no_plan
 
 pub plan_answered : (script : Script) (r : Result Plan CheckError) (plan : Plan) → IsAnswer script r → r ≡ Ok plan → IsPlanOf script plan
 plan_answered script r plan (planned {plan = p} h) e = let same : p ≡ plan = cc in subst (IsPlanOf script) same h
@@ -23,15 +25,24 @@ refusal_answered script r error (wanting {error = x} lost) e memory =
     absurd (memory (subst (λ (y : CheckError). y.cause ≡ cause.OutOfMemory) same lost))
 
 -- a script whose line has a fault other than want of memory is refused for it
-pub unplannable : (bytes : List ℕ) (script : Script) (error : CheckError) (refusal : Refusal) → reading_of bytes ≡ Ok script
+pub refused_for : (script : Script) (error : CheckError) (refusal : Refusal)
     → (error.cause ≢ cause.OutOfMemory → IsFirstRefused script error)
-    → refusal.line ≡ error.line → IsCause script error.line error.cause refusal.fault → IsRefusedScript bytes refusal
-unplannable bytes script error refusal spelled first line told =
-    inr (record {
-      script = script;
-      spelled = spelled;
+    → refusal.line ≡ error.line → IsCause script error.line error.cause refusal.fault → IsRefusedLine script refusal
+refused_for script error refusal first line told =
+    record {
       error = error;
       first = first (λ e. subst (λ k. IsCause script error.line k refusal.fault) e told);
       line = line;
       fault = told;
-    })
+    }
+
+-- the bytes that spell a refused script are refused
+pub unplannable : (bytes : List ℕ) (script : Script) (refusal : Refusal) → reading_of bytes ≡ Ok script → IsRefusedLine script refusal
+    → IsRefusedScript bytes refusal
+unplannable bytes script refusal spelled refused = inr (record { script = script; spelled = spelled; refused = refused })
+
+-- and so they are where there is no plan for that script
+pub unplanned : (bytes : List ℕ) (script : Script) (why : NoPlan) → reading_of bytes ≡ Ok script → IsUnplanned script why
+    → HasNoPlan bytes why
+unplanned bytes script (no_plan.Refused refusal) spelled refused = unplannable bytes script refusal spelled refused
+unplanned bytes script no_plan.OutOfMemory spelled refused = tt

@@ -11,8 +11,10 @@ use Rattle.action_script.specs.Forms.Printing.{text_of}
 use Rattle.action_script.specs.Forms.ScriptValue.{Script}
 use Rattle.graph_maker.specs.MadeScripts.{script_of_sets}
 use Rattle.graph_maker.specs.Refusals.{refusal_of}
-use Rattle.script_checker.specs.Compiled.{IsFirstRefused}
-use Rattle.journal_text.specs.declared.looks.seens.Seen.{Seen}
+use Rattle.script_checker.specs.Compiled.{IsPlanOf, IsFirstRefused}
+use Rattle.journal_text.specs.Texts.Text.{text_of as text_of_journal}
+use Rattle.cell_workload.specs.CellScript.{cell_script}
+use Rattle.cell_workload.specs.Summary.{summary_text}
 use Rattle.message_plays.specs.Texts.{IsPlayedByMessages}
 use Rattle.place_plan.specs.Plans.PlanValue.{Plan}
 use Rattle.caa_commands.specs.declared.command.Command.{Command}
@@ -22,13 +24,14 @@ use Rattle.caa_commands.specs.declared.finding.Finding.{Finding}
 use Rattle.caa_commands.specs.declared.finding.Finding.TheVariants as finding
 use Rattle.caa_commands.specs.declared.status.Status.{Status}
 use Rattle.caa_commands.specs.declared.status.Status.TheVariants as status
+use Rattle.caa_commands.specs.Commands.{reads_input}
 use Rattle.caa_commands.specs.Findings.{status_of, finding_text}
 use Rattle.caa_commands.specs.Inputs.{most_bytes, script_in}
-use Rattle.caa_commands.specs.Scripts.{HasPlan, IsThePlan, IsRefusedScript}
+use Rattle.caa_commands.specs.Scripts.{HasPlan, IsThePlan, IsRefusedScript, IsRefusedLine}
 use Rattle.caa_commands.specs.OutsideUse.{SinkUse, Left, Call}
 use Rattle.caa_commands.specs.Graphs.{IsGraphText, IsRefusedGraph}
-use Rattle.caa_commands.specs.Calls.{CheckComesTo, IsRefusedFor, MakesGraph, Prints, EndsAs, DoesNotBegin, AuditComesTo, PlanComesTo, InputComesTo, IsNotServed, IsUnread, IsRead, HasStopped, unread_finding, CameTo, with_journal, Tells, Answers}
-use Rattle.caa_commands.specs.Served.{IsGiven, WasTold, IsMakeable, IsServable, ServesPlans, WasPrinted, WasServed, IsToFind, legal_journal, illegal_line, too_many_entries, IsAuditable, HoldsRefused, IsRefusable, WasRefused, MissesNothing}
+use Rattle.caa_commands.specs.Calls.{CheckComesTo, IsRefusedFor, MakesGraph, Prints, EndsWith, DoesNotBegin, AuditComesTo, PlanComesTo, InputComesTo, IsNotServed, IsWorked, IsNotWorked, IsUnread, IsRead, HasStopped, unread_finding, CameTo, with_journal, Tells, Answers}
+use Rattle.caa_commands.specs.Served.{IsGiven, WasTold, IsMakeable, IsServable, IsWorkable, IsUnworkable, ServesPlans, WasPrinted, WasServed, IsToFind, legal_journal, illegal_line, too_many_entries, IsAuditable, HoldsRefused, IsRefusable, WasRefused, MissesNothing}
 use Rattle.caa_base.proofs.Counting.{counted_up-rose}
 use Rattle.caa_commands.proofs.NotRefused.{plan_not_refused}
 use Rattle.caa_commands.proofs.PlansOfScripts.{plan_short, plan_tells}
@@ -69,11 +72,18 @@ module _ {P : Type 0} (call : Call P) (sink : SinkUse) (c : Command) (bytes : Li
   was_read : (found : Finding) → IsRead call found → InputComesTo c bytes found call.left
   was_read found r = subst₂ (λ d b. InputComesTo d b found call.left) (one_command r.command r.given) (own_bytes found r) r.comes
 
-  input_comes : (found : Finding) → length bytes ≤ most_bytes c → CameTo call found → (InputComesTo c bytes found call.left)
-      ⊎ (found ≡ finding.OutOfMemory)
-  input_comes found short (inl usage) = let none : Some c ≡ None = sym given.asked ∙ usage.cause in absurd cc
-  input_comes found short (inr (inl u)) = inr (unread found short u)
-  input_comes found short (inr (inr r)) = inl (was_read found r)
+  -- a command that reads is no cell's
+  no_cell : (cycles : ℕ) → reads_input c ≡ true → call.asked ≡ Some (command.Cell cycles) → ⊥
+  no_cell cycles reads asked =
+      let both : false ≡ true = ap reads_input (one_command (command.Cell cycles) asked) ∙ reads in
+      absurd cc
+
+  input_comes : (found : Finding) → reads_input c ≡ true → length bytes ≤ most_bytes c → CameTo call found
+      → (InputComesTo c bytes found call.left) ⊎ (found ≡ finding.OutOfMemory)
+  input_comes found reads short (inl usage) = let none : Some c ≡ None = sym given.asked ∙ usage.cause in absurd cc
+  input_comes found reads short (inr (inl cell)) = absurd (no_cell cell.cycles reads cell.given)
+  input_comes found reads short (inr (inr (inl u))) = inr (unread found short u)
+  input_comes found reads short (inr (inr (inr r))) = inl (was_read found r)
 
   -- the same, where the call hands back another journal
   given_with : (journal : List Entry) → IsGiven (with_journal call journal) sink c bytes
@@ -99,7 +109,8 @@ not_refused bytes plan refusal h (inl m) = let both : Ok h.script ≡ Err m.erro
 not_refused bytes plan refusal h (inr u) =
     let both : Ok h.script ≡ Ok u.script = sym h.spelled ∙ u.spelled in
     let same : u.script ≡ h.script = cc in
-    plan_not_refused h.script plan u.error h.compiled (subst (λ (s : Script). IsFirstRefused s u.error) same u.first)
+    plan_not_refused h.script plan u.refused.error h.compiled
+    (subst (λ (s : Script). IsFirstRefused s u.refused.error) same u.refused.first)
 
 -- a command other than `audit` reads a script
 most_of_script : (c : Command) → ServesPlans c → most_bytes c ≡ most_script_bytes
@@ -109,6 +120,7 @@ most_of_script command.Run h = refl
 most_of_script (command.Messages seed) h = refl
 most_of_script (command.Pool workers) h = refl
 most_of_script (command.Graph most) h = elim h [ ]
+most_of_script (command.Cell cycles) h = elim h [ ]
 most_of_script command.Audit h = elim h [ ]
 
 script_of_script : (c : Command) (bytes : List ℕ) → ServesPlans c → script_in c bytes ≡ bytes
@@ -118,22 +130,33 @@ script_of_script command.Run bytes h = refl
 script_of_script (command.Messages seed) bytes h = refl
 script_of_script (command.Pool workers) bytes h = refl
 script_of_script (command.Graph most) bytes h = elim h [ ]
+script_of_script (command.Cell cycles) bytes h = elim h [ ]
 script_of_script command.Audit bytes h = elim h [ ]
 
+plans_read : (c : Command) → ServesPlans c → reads_input c ≡ true
+plans_read command.Check h = refl
+plans_read (command.Sim seed) h = refl
+plans_read command.Run h = refl
+plans_read (command.Messages seed) h = refl
+plans_read (command.Pool workers) h = refl
+plans_read (command.Graph most) h = refl
+plans_read (command.Cell cycles) h = elim h [ ]
+plans_read command.Audit h = refl
+
 -- a play that ended is served, or its text found no memory
-ended_served : (plan : Plan) (journal : List Entry) (seens : List Seen) (found : Finding) → EndsAs plan journal seens found
+ended_served : (plan : Plan) (journal : List Entry) (printed : List ℕ) (found : Finding) → EndsWith plan journal printed found
     → WasServed (status_of found)
-ended_served plan journal seens (finding.Played true text) h = inr (inl refl)
-ended_served plan journal seens (finding.Played false text) h = inl refl
-ended_served plan journal seens finding.OutOfMemory h = inr (inr refl)
-ended_served plan journal seens finding.Usage h = elim h [ ]
-ended_served plan journal seens finding.SourceFault h = elim h [ ]
-ended_served plan journal seens (finding.Refused refusal) h = elim h [ ]
-ended_served plan journal seens (finding.Checked counts) h = elim h [ ]
-ended_served plan journal seens finding.PlantFault h = elim h [ ]
-ended_served plan journal seens (finding.Legal entries) h = elim h [ ]
-ended_served plan journal seens (finding.Illegal line) h = elim h [ ]
-ended_served plan journal seens (finding.Printed text) h = elim h [ ]
+ended_served plan journal printed (finding.Played true text) h = inr (inl refl)
+ended_served plan journal printed (finding.Played false text) h = inl refl
+ended_served plan journal printed finding.OutOfMemory h = inr (inr refl)
+ended_served plan journal printed finding.Usage h = elim h [ ]
+ended_served plan journal printed finding.SourceFault h = elim h [ ]
+ended_served plan journal printed (finding.Refused refusal) h = elim h [ ]
+ended_served plan journal printed (finding.Checked counts) h = elim h [ ]
+ended_served plan journal printed finding.PlantFault h = elim h [ ]
+ended_served plan journal printed (finding.Legal entries) h = elim h [ ]
+ended_served plan journal printed (finding.Illegal line) h = elim h [ ]
+ended_served plan journal printed (finding.Printed text) h = elim h [ ]
 
 -- where the device could be laid out, a play that didn't begin found no memory
 begun_served : {P : Type 0} (found : Finding) (left : Left P)
@@ -181,12 +204,16 @@ plan_served : {P : Type 0} (c : Command) (plan : Plan) (bytes : List ℕ) (found
     → WasServed (status_of found)
 plan_served command.Audit plan bytes found left other laid h = elim other [ ]
 plan_served (command.Graph most) plan bytes found left other laid h = elim other [ ]
+plan_served (command.Cell cycles) plan bytes found left other laid h = elim other [ ]
 plan_served command.Check plan bytes found left other laid h = checked_served plan found left h
-plan_served (command.Sim seed) plan bytes found left other laid (inl played) = ended_served plan left.journal [] found played.ends
+plan_served (command.Sim seed) plan bytes found left other laid (inl played) =
+    ended_served plan left.journal (text_of_journal plan left.journal []) found played.1
 plan_served (command.Sim seed) plan bytes found left other laid (inr unopened) = begun_served found left laid unopened
-plan_served command.Run plan bytes found left other laid (inl played) = ended_served plan left.journal played.seens found played.ends
+plan_served command.Run plan bytes found left other laid (inl played) =
+    ended_served plan left.journal (text_of_journal plan left.journal played.seens) found played.ends
 plan_served command.Run plan bytes found left other laid (inr unopened) = begun_served found left laid unopened
-plan_served (command.Pool workers) plan bytes found left other laid (inl played) = ended_served plan left.journal [] found played.ends
+plan_served (command.Pool workers) plan bytes found left other laid (inl played) =
+    ended_served plan left.journal (text_of_journal plan left.journal []) found played.ends
 plan_served (command.Pool workers) plan bytes found left other laid (inr unopened) = begun_served found left laid unopened
 plan_served (command.Messages seed) plan bytes found left other laid h = printed_served (IsPlayedByMessages plan seed) found left h
 
@@ -199,6 +226,7 @@ refused_script command.Run bytes refusal other h = h
 refused_script command.Audit bytes refusal other h = h
 refused_script (command.Messages seed) bytes refusal other h = h
 refused_script (command.Pool workers) bytes refusal other h = h
+refused_script (command.Cell cycles) bytes refusal other h = h
 refused_script (command.Graph most) bytes refusal other h = absurd (other most refl)
 
 -- a command that serves plans makes no graph
@@ -233,21 +261,27 @@ found_served call sink h journal found came =
     subst (λ b. HasPlan b h.plan) (sym (script_of_script h.served h.bytes h.plans)) h.script in
     let left = (with_journal call journal).left in
     elim (input_comes (with_journal call journal) sink h.served h.bytes (given_with call sink h.served h.bytes h.given journal)
-    found short came) [
+    found (plans_read h.served h.plans) short came) [
       | inl (inl served) ↦ plan_served h.served served.plan h.bytes found left h.plans h.laid served.comes
       | inl (inr (inl away)) ↦ lost_served found (not_away h.served h.bytes h.plan found left (no_graph h.served h.plans) script away)
       | inl (inr (inr graph)) ↦ absurd (no_graph h.served h.plans graph.most graph.asked)
       | inr lost ↦ lost_served found lost
     ]
 
-answer_served : {P : Type 0} (call : Call P) (sink : SinkUse) (answer : Status) → Answers call sink answer
-    → IsServable call sink → WasServed answer
-answer_served call sink answer a h = by a.tells
+-- what came to be served is served, unless a write failed
+served_answer : {P : Type 0} (call : Call P) (sink : SinkUse) (answer : Status) (a : Answers call sink answer)
+    → (Rose sink.faults_before sink.faults_after → ⊥) → WasServed (status_of a.finding) → WasServed answer
+served_answer call sink answer a quiet served = by a.tells
   where
     by : Tells a.finding a.journal call.left.journal sink answer → WasServed answer
-    by (inl whole) = subst WasServed (sym whole.answered) (found_served call sink h a.journal a.finding a.came)
-    by (inr (inl cut)) = absurd (h.given.written (counted_up-rose _ _ cut.cause))
+    by (inl whole) = subst WasServed (sym whole.answered) served
+    by (inr (inl cut)) = absurd (quiet (counted_up-rose _ _ cut.cause))
     by (inr (inr lost)) = inr (inr lost.answered)
+
+answer_served : {P : Type 0} (call : Call P) (sink : SinkUse) (answer : Status) → Answers call sink answer
+    → IsServable call sink → WasServed answer
+answer_served call sink answer a h =
+    served_answer call sink answer a h.given.written (found_served call sink h a.journal a.finding a.came)
 
 -- ---- `audit`
 
@@ -279,7 +313,7 @@ found_audited : {P : Type 0} (call : Call P) (sink : SinkUse) (found other : Fin
 found_audited call sink found other h journal came =
     let left = (with_journal call journal).left in
     elim (input_comes (with_journal call journal) sink command.Audit h.bytes
-    (given_with call sink command.Audit h.bytes h.given journal) other h.fits came) [
+    (given_with call sink command.Audit h.bytes h.given journal) other refl h.fits came) [
       | inl (inl served) ↦ as_to_find call sink found other left h served.plan served.script
           (audited served.plan h.bytes other left served.comes)
       | inl (inr (inl away)) ↦ inr (not_away command.Audit h.bytes h.plan other left (λ most same. cc) h.script away)
@@ -316,6 +350,7 @@ refused_away c bytes (finding.Printed text) left h = elim h [ ]
 not_both : {P : Type 0} (c : Command) (bytes : List ℕ) (plan : Plan) (refusal : Refusal) (found : Finding) (left : Left P)
     → HasPlan (script_in c bytes) plan → PlanComesTo c plan bytes found left → IsRefusedFor c bytes refusal → ⊥
 not_both (command.Graph most) bytes plan refusal found left script comes h = comes
+not_both (command.Cell cycles) bytes plan refusal found left script comes h = comes
 not_both command.Check bytes plan refusal found left script comes h = not_refused bytes plan refusal script h
 not_both (command.Sim seed) bytes plan refusal found left script comes h = not_refused bytes plan refusal script h
 not_both command.Run bytes plan refusal found left script comes h = not_refused bytes plan refusal script h
@@ -354,20 +389,21 @@ graph_refused c bytes refusal found left graph h =
 module _ {P : Type 0} (call : Call P) (sink : SinkUse) (c : Command) (bytes : List ℕ) (given : IsGiven call sink c bytes)
     (found : Finding) where
   -- an input that is too long isn't read to its end
-  long_refused : most_bytes c < length bytes → CameTo call found → IsRefusal found
-  long_refused long (inl usage) = let none : Some c ≡ None = sym given.asked ∙ usage.cause in absurd cc
-  long_refused long (inr (inl u)) = by u.error u.finding u.cause
+  long_refused : reads_input c ≡ true → most_bytes c < length bytes → CameTo call found → IsRefusal found
+  long_refused reads long (inl usage) = let none : Some c ≡ None = sym given.asked ∙ usage.cause in absurd cc
+  long_refused reads long (inr (inl cell)) = absurd (no_cell call sink c bytes given cell.cycles reads cell.given)
+  long_refused reads long (inr (inr (inl u))) = by u.error u.finding u.cause
     where
       by : (e : ReadError) → found ≡ unread_finding e → HasStopped call.source e → IsRefusal found
       by error.Fault same cause = absurd (given.read (counted_up-rose _ _ cause))
       by error.TooLong same cause = inl (ap status_of same)
       by error.OutOfMemory same cause = inr same
-  long_refused long (inr (inr r)) =
+  long_refused reads long (inr (inr (inr r))) =
       let most : most_bytes r.command ≡ most_bytes c = ap most_bytes (one_command call sink c bytes given r.command r.given) in
       absurd (omega (arith, r.read.fits, long, most, ap length (own_bytes call sink c bytes given found r)))
 
-  script_refused : HoldsRefused c bytes → CameTo call found → IsRefusal found
-  script_refused h came = elim (input_comes call sink c bytes given found h.fits came) [
+  script_refused : reads_input c ≡ true → HoldsRefused c bytes → CameTo call found → IsRefusal found
+  script_refused reads h came = elim (input_comes call sink c bytes given found reads h.fits came) [
     | inl (inl served) ↦ absurd (not_both c bytes served.plan h.refusal found call.left served.script.has served.comes h.script)
     | inl (inr (inl away)) ↦ refused_away c bytes found call.left away
     | inl (inr (inr graph)) ↦ graph_refused c bytes h.refusal found call.left graph h.script
@@ -379,19 +415,106 @@ found_refused : {P : Type 0} (call : Call P) (sink : SinkUse) (h : IsRefusable c
 found_refused call sink h journal found came =
     let given = given_with call sink h.served h.bytes h.given journal in
     elim h.cause [
-      | inl long ↦ long_refused (with_journal call journal) sink h.served h.bytes given found long came
-      | inr holds ↦ script_refused (with_journal call journal) sink h.served h.bytes given found holds came
+      | inl long ↦ long_refused (with_journal call journal) sink h.served h.bytes given found h.reads long came
+      | inr holds ↦ script_refused (with_journal call journal) sink h.served h.bytes given found h.reads holds came
     ]
 
-answer_refused : {P : Type 0} (call : Call P) (sink : SinkUse) (answer : Status) → Answers call sink answer
-    → IsRefusable call sink → WasRefused answer
-answer_refused call sink answer a h = by (found_refused call sink h a.journal a.finding a.came) a.tells
+-- what came to be refused is refused, unless a write failed
+refused_answer : {P : Type 0} (call : Call P) (sink : SinkUse) (answer : Status) (a : Answers call sink answer)
+    → (Rose sink.faults_before sink.faults_after → ⊥) → IsRefusal a.finding → WasRefused answer
+refused_answer call sink answer a quiet refusal = by refusal a.tells
   where
     by : IsRefusal a.finding → Tells a.finding a.journal call.left.journal sink answer → WasRefused answer
     by (inl refused) (inl whole) = inl (whole.answered ∙ refused)
     by (inr lost) (inl whole) = inr (whole.answered ∙ ap status_of lost)
-    by one (inr (inl cut)) = absurd (h.given.written (counted_up-rose _ _ cut.cause))
+    by one (inr (inl cut)) = absurd (quiet (counted_up-rose _ _ cut.cause))
     by one (inr (inr lost)) = inr lost.answered
+
+answer_refused : {P : Type 0} (call : Call P) (sink : SinkUse) (answer : Status) → Answers call sink answer
+    → IsRefusable call sink → WasRefused answer
+answer_refused call sink answer a h =
+    refused_answer call sink answer a h.given.written (found_refused call sink h a.journal a.finding a.came)
+
+-- ---- `cell`
+
+module _ {P : Type 0} (call : Call P) (cycles : ℕ) (asked : call.asked ≡ Some (command.Cell cycles)) (found : Finding) where
+  -- nothing is read
+  not_read : (c : Command) → call.asked ≡ Some c → reads_input c ≡ true → ⊥
+  not_read c given reads =
+      let both : Some c ≡ Some (command.Cell cycles) = sym given ∙ asked in
+      let same : c ≡ command.Cell cycles = cc in
+      let two : false ≡ true = sym (ap reads_input same) ∙ reads in
+      absurd cc
+
+  cell_comes : CameTo call found → (IsWorked cycles found call.left) ⊎ (IsNotWorked cycles found call.left)
+  cell_comes (inl usage) = let none : Some (command.Cell cycles) ≡ None = sym asked ∙ usage.cause in absurd cc
+  cell_comes (inr (inl cell)) =
+      let both : Some (command.Cell cell.cycles) ≡ Some (command.Cell cycles) = sym cell.given ∙ asked in
+      let same : cell.cycles ≡ cycles = cc in
+      subst (λ n. (IsWorked n found call.left) ⊎ (IsNotWorked n found call.left)) same cell.comes
+  cell_comes (inr (inr (inl u))) = absurd (not_read u.command u.given u.reads)
+  cell_comes (inr (inr (inr r))) = absurd (not_read r.command r.given r.reads)
+
+worked_served : {P : Type 0} (cycles : ℕ) (found : Finding) (left : Left P)
+    → (Rose left.plant.lay_faults_before left.plant.lay_faults_after → ⊥) → IsWorked cycles found left → WasServed (status_of found)
+worked_served cycles found left laid w = elim w.comes [
+  | inl played ↦ ended_served w.plan left.journal (summary_text w.plan left.journal cycles) found played.1
+  | inr unopened ↦ begun_served found left laid unopened
+]
+
+-- a cell whose script has a plan isn't turned away
+not_unworked : {P : Type 0} (cycles : ℕ) (plan : Plan) (found : Finding) (left : Left P) → IsPlanOf (cell_script cycles) plan
+    → IsNotWorked cycles found left → found ≡ finding.OutOfMemory
+not_unworked cycles plan (finding.Refused refusal) left script h =
+    absurd (plan_not_refused (cell_script cycles) plan h.0.error script h.0.first)
+not_unworked cycles plan finding.OutOfMemory left script h = refl
+not_unworked cycles plan finding.Usage left script h = elim h [ ]
+not_unworked cycles plan finding.SourceFault left script h = elim h [ ]
+not_unworked cycles plan finding.PlantFault left script h = elim h [ ]
+not_unworked cycles plan (finding.Checked counts) left script h = elim h [ ]
+not_unworked cycles plan (finding.Played failed text) left script h = elim h [ ]
+not_unworked cycles plan (finding.Legal entries) left script h = elim h [ ]
+not_unworked cycles plan (finding.Illegal line) left script h = elim h [ ]
+not_unworked cycles plan (finding.Printed text) left script h = elim h [ ]
+
+found_worked : {P : Type 0} (call : Call P) (sink : SinkUse) (h : IsWorkable call sink) (journal : List Entry) (found : Finding)
+    → CameTo (with_journal call journal) found → WasServed (status_of found)
+found_worked call sink h journal found came =
+    let left = (with_journal call journal).left in
+    elim (cell_comes (with_journal call journal) h.cycles h.given.asked found came) [
+      | inl worked ↦ worked_served h.cycles found left h.laid worked
+      | inr away ↦ lost_served found (not_unworked h.cycles h.plan found left h.script away)
+    ]
+
+answer_worked : {P : Type 0} (call : Call P) (sink : SinkUse) (answer : Status) → Answers call sink answer
+    → IsWorkable call sink → WasServed answer
+answer_worked call sink answer a h =
+    served_answer call sink answer a h.given.written (found_worked call sink h a.journal a.finding a.came)
+
+unworked_away : {P : Type 0} (cycles : ℕ) (found : Finding) (left : Left P) → IsNotWorked cycles found left → IsRefusal found
+unworked_away cycles (finding.Refused refusal) left h = inl refl
+unworked_away cycles finding.OutOfMemory left h = inr refl
+unworked_away cycles finding.Usage left h = elim h [ ]
+unworked_away cycles finding.SourceFault left h = elim h [ ]
+unworked_away cycles finding.PlantFault left h = elim h [ ]
+unworked_away cycles (finding.Checked counts) left h = elim h [ ]
+unworked_away cycles (finding.Played failed text) left h = elim h [ ]
+unworked_away cycles (finding.Legal entries) left h = elim h [ ]
+unworked_away cycles (finding.Illegal line) left h = elim h [ ]
+unworked_away cycles (finding.Printed text) left h = elim h [ ]
+
+found_unworked : {P : Type 0} (call : Call P) (sink : SinkUse) (h : IsUnworkable call sink) (journal : List Entry)
+    (found : Finding) → CameTo (with_journal call journal) found → IsRefusal found
+found_unworked call sink h journal found came =
+    elim (cell_comes (with_journal call journal) h.cycles h.given.asked found came) [
+      | inl worked ↦ absurd (plan_not_refused (cell_script h.cycles) worked.plan h.script.error worked.script.has h.script.first)
+      | inr away ↦ unworked_away h.cycles found (with_journal call journal).left away
+    ]
+
+answer_unworked : {P : Type 0} (call : Call P) (sink : SinkUse) (answer : Status) → Answers call sink answer
+    → IsUnworkable call sink → WasRefused answer
+answer_unworked call sink answer a h =
+    refused_answer call sink answer a h.given.written (found_unworked call sink h a.journal a.finding a.came)
 
 -- ---- `graph`
 
@@ -444,7 +567,7 @@ found_text : {P : Type 0} (call : Call P) (sink : SinkUse) (text : List ℕ) (h 
 found_text call sink text h journal found came =
     let left = (with_journal call journal).left in
     elim (input_comes (with_journal call journal) sink (command.Graph h.most) h.bytes
-    (given_with call sink (command.Graph h.most) h.bytes h.given journal) found h.fits came) [
+    (given_with call sink (command.Graph h.most) h.bytes h.given journal) found refl h.fits came) [
       | inl (inl served) ↦ absurd served.comes
       | inl (inr (inl away)) ↦ inr (made_away h.most h.bytes text found left h.made away)
       | inl (inr (inr graph)) ↦ made_text h.most h.bytes text found left h.made graph
@@ -467,8 +590,10 @@ pub complete : {P : Type 0} (call : Call P) (sink : SinkUse) (answer : Status) �
 complete call sink answer a =
     record {
       served = answer_served call sink answer a;
+      worked = answer_worked call sink answer a;
       printed = (λ text. answer_text call sink text answer a);
       audited =
           (λ found. answer_audited call sink found answer a);
       refused = answer_refused call sink answer a;
+      unworked = answer_unworked call sink answer a;
     }

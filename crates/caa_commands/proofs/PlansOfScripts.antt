@@ -28,7 +28,7 @@ use Rattle.script_checker.proofs.AcceptedDraft.{breaks_none}
 use Rattle.script_checker.proofs.NamesKept.{own_names_of}
 use Rattle.journal_text.proofs.OnTexts.ReadingLemmas.{Tells}
 use Rattle.script_checker.specs.Compiled.{IsPlanOf}
-use Rattle.caa_commands.specs.Scripts.{HasPlan, IsThePlan}
+use Rattle.caa_commands.specs.Scripts.{HasPlan, IsThePlan, IsOnlyPlan}
 use Rattle.journal_text.proofs.OnTexts.WellNamed.{well_named}
 
 -- ---- the lines of a text are no longer than the text
@@ -133,14 +133,19 @@ module _ (bytes : List ℕ) (plan : Plan) (h : HasPlan bytes plan) where
 
 -- ---- the plan of a script
 
--- where the script has one plan at most, this is its plan
-pub the_plan : (bytes : List ℕ) (script : Script) (plan : Plan)
-    → ((one other : Plan) → IsPlanOf script one → IsPlanOf script other → one ≡ other)
-    → reading_of bytes ≡ Ok script → IsPlanOf script plan → IsThePlan bytes plan
-the_plan bytes script plan one spelled compiled = record {
-  has = record { script = script; spelled = spelled; compiled = compiled };
+-- the plan of the script that the bytes spell is that of the bytes
+pub the_plan : (bytes : List ℕ) (script : Script) (plan : Plan) → reading_of bytes ≡ Ok script → IsOnlyPlan script plan
+    → IsThePlan bytes plan
+the_plan bytes script plan spelled own = record {
+  has = record { script = script; spelled = spelled; compiled = own.has };
   only = λ other h.
       let both : Ok h.script ≡ Ok script = sym h.spelled ∙ spelled in
       let same : h.script ≡ script = cc in
-      one other plan (subst (λ (s : Script). IsPlanOf s other) same h.compiled) compiled;
+      own.only other (subst (λ (s : Script). IsPlanOf s other) same h.compiled);
 }
+
+-- where a script has one plan at most, this is its plan
+pub only_plan : (script : Script) (plan : Plan)
+    → ((one other : Plan) → IsPlanOf script one → IsPlanOf script other → one ≡ other)
+    → IsPlanOf script plan → IsOnlyPlan script plan
+only_plan script plan one compiled = record { has = compiled; only = λ other h. one other plan h compiled }

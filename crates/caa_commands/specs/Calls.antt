@@ -13,6 +13,8 @@ use Rattle.role_driver.specs.Schedule.{GrewBy, first_of_seed}
 use Rattle.journal_text.specs.declared.looks.seens.Seen.{Seen}
 use Rattle.journal_text.specs.Watching.Right.{first_wrong}
 use Rattle.journal_text.specs.Texts.Text.{text_of}
+use Rattle.cell_workload.specs.CellScript.{cell_script}
+use Rattle.cell_workload.specs.Summary.{summary_text}
 use Rattle.message_plays.specs.Texts.{IsPlayedByMessages}
 use Rattle.caa_commands.specs.declared.command.Command.{Command}
 use Rattle.caa_commands.specs.declared.command.Command.TheVariants as command
@@ -23,17 +25,20 @@ use Rattle.caa_commands.specs.declared.status.Status.{Status}
 use Rattle.caa_commands.specs.declared.status.Status.TheVariants as status
 use Rattle.caa_commands.specs.declared.fault.Refusal.{Refusal}
 use Rattle.caa_commands.specs.Graphs.{IsGraphText, IsRefusedGraph}
+use Rattle.caa_commands.specs.Commands.{reads_input}
 use Rattle.caa_commands.specs.Findings.{status_of, finding_text, is_played, needs_memory}
 use Rattle.caa_commands.specs.Inputs.{most_bytes, script_in, journal_part}
 use Rattle.caa_commands.specs.Judging.{IsLawful, IsIllegal, HasTooManyEntries}
 use Rattle.caa_commands.specs.FailedPlays.{IsPlayed, has_failed_play}
-use Rattle.caa_commands.specs.Scripts.{IsThePlan, IsRefusedScript}
+use Rattle.caa_commands.specs.Scripts.{IsThePlan, IsOnlyPlan, IsRefusedScript, IsRefusedLine}
 use Rattle.caa_commands.specs.OutsideUse.{SourceUse, SinkUse, Left, Call, IsIdle, IsUnplayed}
 
--- ---- a command that is served over a plan; `check` only tells how large it is, and `graph` needs none
+-- ---- a command that is served over the plan of a script that is read; `check` only tells how large that is, `graph` needs none, and
+-- `cell` reads none
 abbrev pub NeedsPlan : Command → Type 0
 NeedsPlan command.Check = ⊥
 NeedsPlan (command.Graph most) = ⊥
+NeedsPlan (command.Cell cycles) = ⊥
 NeedsPlan _ = Unit {0}
 
 -- what each command comes to over a plan
@@ -49,12 +54,15 @@ Prints holds (finding.Printed text) left = holds text.items × IsIdle left
 Prints holds finding.OutOfMemory left = IsIdle left
 Prints holds _ left = ⊥
 
--- a play that ended: status clause, and printed clause with these looks. Its text may have found no memory
+-- a play that ended: status clause, and printed clause with this text. The text may have found no memory
+abbrev pub EndsWith : Plan → List Entry → List ℕ → Finding → Type 0
+EndsWith plan journal printed (finding.Played failed text) = (failed ≡ has_failed_play plan journal) × (text.items ≡ printed)
+EndsWith plan journal printed finding.OutOfMemory = Unit {0}
+EndsWith plan journal printed _ = ⊥
+
+-- the text of the journal is printed, with these looks
 abbrev pub EndsAs : Plan → List Entry → List Seen → Finding → Type 0
-EndsAs plan journal seens (finding.Played failed text) =
-    (failed ≡ has_failed_play plan journal) × (text.items ≡ text_of plan journal seens)
-EndsAs plan journal seens finding.OutOfMemory = Unit {0}
-EndsAs plan journal seens _ = ⊥
+EndsAs plan journal seens found = EndsWith plan journal (text_of plan journal seens) found
 
 -- no play began: the device refused once to be laid out, or no memory was found and it refused nothing
 abbrev pub DoesNotBegin : {P : Type 0} → Finding → Left P → Type 0
@@ -62,15 +70,19 @@ DoesNotBegin finding.PlantFault left = (left.plant.lay_faults_after ≡ counted_
 DoesNotBegin finding.OutOfMemory left = (left.plant.lay_faults_after ≡ left.plant.lay_faults_before) × IsUnplayed left
 DoesNotBegin _ left = ⊥
 
--- `sim` plays the plan by the schedule of the seed, and nobody watches
-pub record IsSimulated {P : Type 0} (plan : Plan) (seed : ℕ) (found : Finding) (left : Left P) : Type 0 where
+-- the plan is played by the schedule of the seed
+pub record IsSimulated {P : Type 0} (plan : Plan) (seed : ℕ) (left : Left P) : Type 0 where
   pub played : IsPlayed plan left
   pub schedule : GrewBy (first_of_seed seed) plan [] left.journal
-  pub ends : EndsAs plan left.journal [] found
 
--- `sim` plays, or no play begins
+-- `sim` plays so, and nobody watches; or no play begins
 abbrev pub SimComesTo : {P : Type 0} → Plan → ℕ → Finding → Left P → Type 0
-SimComesTo plan seed found left = IsSimulated plan seed found left ⊎ DoesNotBegin found left
+SimComesTo plan seed found left = (IsSimulated plan seed left × EndsAs plan left.journal [] found) ⊎ DoesNotBegin found left
+
+-- `cell` plays so too, by the number of its cycles, and tells the summary of the journal; or no play begins
+abbrev pub CellComesTo : {P : Type 0} → Plan → ℕ → Finding → Left P → Type 0
+CellComesTo plan cycles found left =
+    (IsSimulated plan cycles left × EndsWith plan left.journal (summary_text plan left.journal cycles) found) ⊎ DoesNotBegin found left
 
 -- `run` plays the plan in threads, and what is told of its watches is right (observer clause)
 pub record IsRun {P : Type 0} (plan : Plan) (found : Finding) (left : Left P) : Type 0 where
@@ -115,6 +127,7 @@ PlanComesTo command.Audit plan bytes found left = AuditComesTo plan bytes found 
 PlanComesTo (command.Graph most) plan bytes found left = ⊥
 PlanComesTo (command.Messages seed) plan bytes found left = Prints (IsPlayedByMessages plan seed) found left
 PlanComesTo (command.Pool workers) plan bytes found left = PoolComesTo plan found left
+PlanComesTo (command.Cell cycles) plan bytes found left = ⊥
 
 -- ---- what each command comes to over the bytes that were read
 
@@ -146,6 +159,20 @@ abbrev pub InputComesTo : {P : Type 0} → Command → List ℕ → Finding → 
 InputComesTo command bytes found left =
     IsServed command bytes found left ⊎ (IsNotServed command bytes found left ⊎ MakesGraph command bytes found left)
 
+-- ---- what `cell` comes to, for which nothing is read
+
+-- script clause: this is the plan of the cell's script, which has no other
+pub record IsWorked {P : Type 0} (cycles : ℕ) (found : Finding) (left : Left P) : Type 0 where
+  pub plan : Plan
+  pub script : IsOnlyPlan (cell_script cycles) plan
+  pub comes : CellComesTo plan cycles found left
+
+-- a line of that script is refused, or no memory was found for its plan. No line is, as a run with the most cycles shows
+abbrev pub IsNotWorked : {P : Type 0} → ℕ → Finding → Left P → Type 0
+IsNotWorked cycles (finding.Refused refusal) left = IsRefusedLine (cell_script cycles) refusal × IsIdle left
+IsNotWorked cycles finding.OutOfMemory left = IsIdle left
+IsNotWorked cycles _ left = ⊥
+
 -- ---- what a call comes to, in the order in which things are tried
 
 -- the words are no command that is served, and nothing was read
@@ -155,6 +182,14 @@ pub record IsUsage {P : Type 0} (call : Call P) (found : Finding) : Type 0 where
   pub unread : call.source.left_after ≡ call.source.left_before
   pub unfailed : call.source.faults_after ≡ call.source.faults_before
   pub idle : IsIdle call.left
+
+-- the words are `cell` and a number of cycles: nothing was read, and this is what the cell comes to
+pub record IsCell {P : Type 0} (call : Call P) (found : Finding) : Type 0 where
+  pub cycles : ℕ
+  pub given : call.asked ≡ Some (command.Cell cycles)
+  pub unread : call.source.left_after ≡ call.source.left_before
+  pub unfailed : call.source.faults_after ≡ call.source.faults_before
+  pub comes : IsWorked cycles found call.left ⊎ IsNotWorked cycles found call.left
 
 -- a reading came to no end: one read failed; or none did, and the input has more bytes than that of the command may have, or no
 -- memory was found
@@ -172,6 +207,7 @@ unread_finding error.OutOfMemory = finding.OutOfMemory
 pub record IsUnread {P : Type 0} (call : Call P) (found : Finding) : Type 0 where
   pub command : Command
   pub given : call.asked ≡ Some command
+  pub reads : reads_input command ≡ true
   pub error : ReadError
   pub finding : found ≡ unread_finding error
   pub taken : TookUntil call.source.left_before call.source.left_after (most_bytes command) error
@@ -189,13 +225,14 @@ pub record WasRead (source : SourceUse) (most : ℕ) (bytes : List ℕ) : Type 0
 pub record IsRead {P : Type 0} (call : Call P) (found : Finding) : Type 0 where
   pub command : Command
   pub given : call.asked ≡ Some command
+  pub reads : reads_input command ≡ true
   pub bytes : List ℕ
   pub read : WasRead call.source (most_bytes command) bytes
   pub comes : InputComesTo command bytes found call.left
 
--- words that are no command, or an input that wasn't read, or one that was
+-- words that are no command, or `cell`, or an input that wasn't read, or one that was
 abbrev pub CameTo : {P : Type 0} → Call P → Finding → Type 0
-CameTo call found = IsUsage call found ⊎ (IsUnread call found ⊎ IsRead call found)
+CameTo call found = IsUsage call found ⊎ (IsCell call found ⊎ (IsUnread call found ⊎ IsRead call found))
 
 -- ---- what a call answers
 

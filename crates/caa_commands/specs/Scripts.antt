@@ -23,6 +23,11 @@ use Rattle.caa_commands.specs.declared.scripts.NoPlan.TheVariants as no_plan
 
 -- ---- a script that has a plan
 
+-- this is the plan of a script: it has it, and no other
+pub record IsOnlyPlan (script : Script) (plan : Plan) : Type 0 where
+  pub has : IsPlanOf script plan
+  pub only : (other : Plan) → IsPlanOf script other → other ≡ plan
+
 -- what the bytes spell is accepted, and makes this plan
 pub record HasPlan (bytes : List ℕ) (plan : Plan) : Type 0 where
   pub script : Script
@@ -94,14 +99,18 @@ pub record IsMisspelled (bytes : List ℕ) (refusal : Refusal) : Type 0 where
   pub line : refusal.line ≡ error.line
   pub fault : IsSpelling error.cause refusal.fault
 
--- the text is that of a script, but one of its lines is refused, and this is the first
-pub record IsUnplannable (bytes : List ℕ) (refusal : Refusal) : Type 0 where
-  pub script : Script
-  pub spelled : reading_of bytes ≡ Ok script
+-- one line of a script is refused, and this is the first
+pub record IsRefusedLine (script : Script) (refusal : Refusal) : Type 0 where
   pub error : CheckError
   pub first : IsFirstRefused script error
   pub line : refusal.line ≡ error.line
   pub fault : IsCause script error.line error.cause refusal.fault
+
+-- the text is that of a script, but one of its lines is refused
+pub record IsUnplannable (bytes : List ℕ) (refusal : Refusal) : Type 0 where
+  pub script : Script
+  pub spelled : reading_of bytes ≡ Ok script
+  pub refused : IsRefusedLine script refusal
 
 -- the script is refused as a text, or for what it says
 abbrev pub IsRefusedScript : List ℕ → Refusal → Type 0
@@ -116,3 +125,8 @@ HasNoScript bytes no_plan.OutOfMemory = Unit {0}
 abbrev pub HasNoPlan : List ℕ → NoPlan → Type 0
 HasNoPlan bytes (no_plan.Refused refusal) = IsRefusedScript bytes refusal
 HasNoPlan bytes no_plan.OutOfMemory = Unit {0}
+
+-- why a script has no plan; want of memory tells nothing of it
+abbrev pub IsUnplanned : Script → NoPlan → Type 0
+IsUnplanned script (no_plan.Refused refusal) = IsRefusedLine script refusal
+IsUnplanned script no_plan.OutOfMemory = Unit {0}

@@ -1,9 +1,11 @@
 -- Which calls are served, and which are turned away, where no read and no write fails.
-use Rattle.std.specs.Prelude.{◌≡◌, ◌⊎◌, ℕ, ◌<◌, ◌≤◌, List, length, Some}
+use Rattle.std.specs.Prelude.{◌≡◌, ◌⊎◌, ℕ, ◌<◌, ◌≤◌, true, List, length, Some}
 use Rattle.std.specs.Io.KnownBytes.{append_known}
 use Rattle.caa_base.specs.Outside.Counts.{Rose}
 use Rattle.caa_base.specs.declared.written.entry.Entry.{Entry}
 use Rattle.place_plan.specs.Plans.PlanValue.{Plan}
+use Rattle.script_checker.specs.Compiled.{IsPlanOf}
+use Rattle.cell_workload.specs.CellScript.{cell_script}
 use Rattle.caa_commands.specs.declared.command.Command.{Command}
 use Rattle.caa_commands.specs.declared.command.Command.TheVariants as command
 use Rattle.caa_commands.specs.declared.fault.Refusal.{Refusal}
@@ -11,12 +13,13 @@ use Rattle.caa_commands.specs.declared.finding.Finding.{Finding}
 use Rattle.caa_commands.specs.declared.finding.Finding.TheVariants as finding
 use Rattle.caa_commands.specs.declared.status.Status.{Status}
 use Rattle.caa_commands.specs.declared.status.Status.TheVariants as status
+use Rattle.caa_commands.specs.Commands.{reads_input}
 use Rattle.caa_commands.specs.Findings.{status_of, finding_text}
 use Rattle.caa_commands.specs.Inputs.{most_bytes, script_in, journal_part}
 use Rattle.caa_commands.specs.Judging.{IsLawful, IsIllegal, HasTooManyEntries}
 use Rattle.caa_commands.specs.Calls.{IsRefusedFor}
 use Rattle.caa_commands.specs.Graphs.{IsGraphText}
-use Rattle.caa_commands.specs.Scripts.{HasPlan}
+use Rattle.caa_commands.specs.Scripts.{HasPlan, IsRefusedLine}
 use Rattle.caa_commands.specs.OutsideUse.{SinkUse, Call}
 
 -- the words are this command, the source tells these bytes, and no count of failed reads or failed writes rose
@@ -34,10 +37,11 @@ WasTold found sink answer =
 
 -- ---- `check`, `sim SEED`, `run`, `messages SEED` and `pool W`
 
--- a command that serves each script which has a plan
+-- a command that serves each script which it reads and which has a plan
 abbrev pub ServesPlans : Command → Type 0
 ServesPlans command.Audit = ⊥
 ServesPlans (command.Graph most) = ⊥
+ServesPlans (command.Cell cycles) = ⊥
 ServesPlans _ = Unit {0}
 
 -- the bytes spell a script with a plan, and the device didn't refuse to be laid out
@@ -53,6 +57,28 @@ pub record IsServable {P : Type 0} (call : Call P) (sink : SinkUse) : Type 0 whe
 -- the command was served, or no memory was found
 abbrev pub WasServed : Status → Type 0
 WasServed answer = (answer ≡ status.Done) ⊎ ((answer ≡ status.SomeFailed) ⊎ (answer ≡ status.OutOfMemory))
+
+-- ---- `cell N`
+
+-- the words are `cell` and this number of cycles, and no count of failed writes rose
+pub record IsCellAsked {P : Type 0} (call : Call P) (sink : SinkUse) (cycles : ℕ) : Type 0 where
+  pub asked : call.asked ≡ Some (command.Cell cycles)
+  pub written : Rose sink.faults_before sink.faults_after → ⊥
+
+-- the script of the cell has a plan, and the device didn't refuse to be laid out
+pub record IsWorkable {P : Type 0} (call : Call P) (sink : SinkUse) : Type 0 where
+  pub cycles : ℕ
+  pub given : IsCellAsked call sink cycles
+  pub plan : Plan
+  pub script : IsPlanOf (cell_script cycles) plan
+  pub laid : Rose call.left.plant.lay_faults_before call.left.plant.lay_faults_after → ⊥
+
+-- a line of that script is refused
+pub record IsUnworkable {P : Type 0} (call : Call P) (sink : SinkUse) : Type 0 where
+  pub cycles : ℕ
+  pub given : IsCellAsked call sink cycles
+  pub refusal : Refusal
+  pub script : IsRefusedLine (cell_script cycles) refusal
 
 -- ---- `graph K`
 
@@ -103,6 +129,7 @@ pub record HoldsRefused (command : Command) (bytes : List ℕ) : Type 0 where
 -- the bytes are more than those of the command may be, or the script among them is refused
 pub record IsRefusable {P : Type 0} (call : Call P) (sink : SinkUse) : Type 0 where
   pub served : Command
+  pub reads : reads_input served ≡ true
   pub bytes : List ℕ
   pub given : IsGiven call sink served bytes
   pub cause : (most_bytes served < length bytes) ⊎ HoldsRefused served bytes
@@ -116,6 +143,8 @@ WasRefused answer = (answer ≡ status.Refused) ⊎ (answer ≡ status.OutOfMemo
 -- what can be served is served, what is to be found is told, and what is to be refused is refused
 pub record MissesNothing {P : Type 0} (call : Call P) (sink : SinkUse) (answer : Status) : Type 0 where
   pub served : IsServable call sink → WasServed answer
+  pub worked : IsWorkable call sink → WasServed answer
   pub printed : (text : List ℕ) → IsMakeable call sink text → WasPrinted text sink answer
   pub audited : (found : Finding) → IsAuditable call sink found → WasTold found sink answer
   pub refused : IsRefusable call sink → WasRefused answer
+  pub unworked : IsUnworkable call sink → WasRefused answer

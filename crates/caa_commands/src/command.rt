@@ -2,6 +2,7 @@ ghost use Rattle.std.specs.Prelude.{◌≡◌, map, string_bytes, IfSome};
 ghost use Rattle.caa_commands.specs.Commands.{command_of, number_alone, alone, asks_for_threads, without_threads, IsWithinRange};
 
 use action_script::words::word::value_of;
+use cell_workload::MOST_CYCLES;
 
 /// The greatest seed.
 const MOST_SEED: u32 = 2_147_483_647;
@@ -29,6 +30,8 @@ pub enum Command {
     Messages(u32),
     /// Plays a script by so many workers, from 1 to 16, each in a thread of its own, who take the seats of participants by turns.
     Pool(u32),
+    /// Plays the script of a production cell for so many cycles, from 1 to 2,000.
+    Cell(u32),
 }
 
 /// Just a number from the least to the greatest, in decimal digits without a sign and without leading zeros.
@@ -75,6 +78,8 @@ pub fn command_of(words: &[String]) -> Option<Command>
         Some(Command::Messages(number_alone(0, MOST_SEED, more)?))
     } else if word.as_str() == "pool" {
         Some(Command::Pool(number_alone(1, MOST_WORKERS, more)?))
+    } else if word.as_str() == "cell" {
+        Some(Command::Cell(number_alone(1, MOST_CYCLES, more)?))
     } else {
         None
     }

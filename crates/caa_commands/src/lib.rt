@@ -1,6 +1,7 @@
 //! The commands of the program `caa`: which words ask for what, what each comes to, and what is printed. The top calls serve them.
 #![tactic(auto)]
 
+mod cells;
 mod command;
 mod fault;
 mod finding;

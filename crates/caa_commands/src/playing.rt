@@ -1,6 +1,6 @@
 //! Plays of a plan over a device, and what they come to.
 
-ghost use Rattle.std.specs.Prelude.{◌≡◌, ◌<◌, ◌≤◌, ◌^◌, [], true, is_some, IfSome, IfNone, IfOk, IfErr};
+ghost use Rattle.std.specs.Prelude.{◌≡◌, ◌<◌, ◌≤◌, ◌^◌, ℕ, List, [], true, is_some, IfSome, IfNone, IfOk, IfErr};
 ghost use Rattle.place_plan.specs.RulesOfJournals.WellFormed.{AllWellFormed};
 ghost use Rattle.journal_text.specs.Watching.Looks.{AreOfPlan};
 ghost use Rattle.journal_text.specs.Texts.Naming.{is_well_named};
@@ -9,14 +9,16 @@ ghost use Rattle.journal_replay.specs.Device.{attempts_in};
 ghost use Rattle.caa_commands.specs.declared.finding.Finding.{Finding};
 ghost use Rattle.caa_commands.specs.FailedPlays.{is_failed_play, has_failed_play};
 ghost use Rattle.caa_commands.specs.OutsideUse.{plant_use, left_of, IsIdle};
-ghost use Rattle.caa_commands.specs.Calls.{EndsAs, DoesNotBegin, SimComesTo, RunComesTo, PoolComesTo};
+ghost use Rattle.cell_workload.specs.CellScript.{most_cycles};
+ghost use Rattle.caa_commands.specs.Calls.{EndsAs, EndsWith, DoesNotBegin, IsSimulated, SimComesTo, CellComesTo, RunComesTo, PoolComesTo};
 
 use crate::finding::Finding;
 use action_core::Hall;
 use caa_base::outside::gate::Gate;
 use caa_base::outside::plant::Plant;
-use caa_base::written::entry::{Entry, Kind, Outcome};
+use caa_base::written::entry::{Entry, Kind, OutOfMemory, Outcome};
 use caa_base::written::journal::Journal;
+use cell_workload::summary;
 use journal_laws::{is_well_formed, keeps_laws};
 use journal_replay::hall::OpenCause;
 use journal_text::looks::seens::Seens;
@@ -98,6 +100,31 @@ fn open<P: Plant>(alloc: Global, plan: Plan, plant: P) -> Result<Hall<P>, Decisi
     }
 }
 
+/// What a play comes to that has ended with this journal, and of which this is to be printed, where memory was found for it.
+fn ended_with<P: Plant>(
+    plan: &Plan,
+    plant: P,
+    journal: Journal,
+    text: Result<Vec<u8>, OutOfMemory>,
+) -> Decision<P>
+    ensures ends { (printed : List ℕ) → IfOk text (λ t. t.items ≡ printed) → EndsWith plan.now journal.entries printed result.finding }
+    ensures plant { result.plant ≡ plant }
+    ensures journal { result.journal.entries ≡ journal.entries }
+{
+    let finding = match text {
+        Ok(text) => Finding::Played {
+            failed: has_failed_play(plan, &journal),
+            text,
+        },
+        Err(_) => Finding::OutOfMemory,
+    };
+    Decision {
+        finding,
+        plant,
+        journal,
+    }
+}
+
 /// What a play comes to that has ended with this journal and these looks.
 fn ended<P: Plant>(
     alloc: Global,
@@ -112,18 +139,32 @@ fn ended<P: Plant>(
     ensures plant { result.plant ≡ plant }
     ensures journal { result.journal.entries ≡ journal.entries }
 {
-    let finding = match write(alloc, plan, &journal, seens) {
-        Ok(text) => Finding::Played {
-            failed: has_failed_play(plan, &journal),
-            text,
-        },
-        Err(_) => Finding::OutOfMemory,
+    let text = write(alloc, plan, &journal, seens);
+    ended_with(plan, plant, journal, text)
+}
+
+/// Plays a plan to its end by the schedule of a seed, and gives the plan, the device and the journal; or no play begins.
+fn play_by_seed<P: Plant>(
+    alloc: Global,
+    plan: Plan,
+    seed: u32,
+    plant: P,
+) -> Result<(Plan, P, Journal), Decision<P>>
+    requires { seed < 2 ^ 31 }
+    ensures plan { IfOk result (λ played. played.0 ≡ plan) }
+    ensures played { IfOk result (λ played.
+        IsSimulated plan seed (left_of (plant_use ⟦<P as Plant>⟧ plant played.1) played.2.entries)) }
+    ensures entries { IfOk result (λ played. AllWellFormed played.0 played.2.entries) }
+    ensures refused { IfErr result (λ decision.
+        DoesNotBegin decision.finding (left_of (plant_use ⟦<P as Plant>⟧ plant decision.plant) decision.journal.entries)) }
+{
+    keeps_laws(&plan);
+    is_well_formed(&plan);
+    let hall = match open(alloc, plan, plant) {
+        Ok(hall) => hall,
+        Err(decision) => return Err(decision),
     };
-    Decision {
-        finding,
-        plant,
-        journal,
-    }
+    Ok(sim(hall, seed).into_parts())
 }
 
 /// Plays a plan to its end by the schedule of a seed, and writes the text of its journal.
@@ -132,14 +173,25 @@ pub fn simulate<P: Plant>(alloc: Global, plan: Plan, seed: u32, plant: P) -> Dec
     ensures { SimComesTo plan seed result.finding
         (left_of (plant_use ⟦<P as Plant>⟧ plant result.plant) result.journal.entries) }
 {
-    keeps_laws(&plan);
-    is_well_formed(&plan);
-    let hall = match open(alloc, plan, plant) {
-        Ok(hall) => hall,
-        Err(decision) => return decision,
-    };
-    let (plan, plant, journal) = sim(hall, seed).into_parts();
-    ended(alloc, &plan, plant, journal, &Seens::empty(alloc))
+    match play_by_seed(alloc, plan, seed, plant) {
+        Ok((plan, plant, journal)) => ended(alloc, &plan, plant, journal, &Seens::empty(alloc)),
+        Err(decision) => decision,
+    }
+}
+
+/// Plays the plan of a cell's script to its end, by the schedule of the number of its cycles, and tells the summary of its journal.
+pub fn play_cell<P: Plant>(alloc: Global, plan: Plan, cycles: u32, plant: P) -> Decision<P>
+    requires { cycles ≤ most_cycles }
+    ensures { CellComesTo plan cycles result.finding
+        (left_of (plant_use ⟦<P as Plant>⟧ plant result.plant) result.journal.entries) }
+{
+    match play_by_seed(alloc, plan, cycles, plant) {
+        Ok((plan, plant, journal)) => {
+            let text = summary(alloc, &plan, &journal, cycles);
+            ended_with(&plan, plant, journal, text)
+        }
+        Err(decision) => decision,
+    }
 }
 
 /// No memory was found to play this machine.

@@ -3,7 +3,7 @@
 ghost use Rattle.std.specs.Prelude.{◌≡◌, true, [], Ok, IfOk, IfErr, OnOk};
 ghost use Rattle.action_script.specs.Lines.Spelling.{reading_of};
 ghost use Rattle.journal_text.specs.Texts.Naming.{is_well_named};
-ghost use Rattle.caa_commands.specs.Scripts.{IsThePlan, IsCounted, HasNoPlan, HasNoScript, IsSpelling, IsCause, declared_after, declared_at, exception_at};
+ghost use Rattle.caa_commands.specs.Scripts.{IsThePlan, IsOnlyPlan, IsCounted, IsUnplanned, HasNoPlan, HasNoScript, IsSpelling, IsCause, declared_after, declared_at, exception_at};
 
 use crate::fault::{Fault, Refusal};
 use action_script::forms::form::Form;
@@ -150,26 +150,35 @@ fn refusal_of(alloc: Global, script: &Script, error: CheckError) -> Result<Refus
     })
 }
 
-/// The plan of the script that these bytes spell, which has no other; its names tell its parts apart.
+/// The plan of a script, which has no other; its names tell its parts apart.
 ///
 /// A refusal names the line and the fault, and for a graph the exceptions at fault.
+pub fn plan_of_script(alloc: Global, script: &Script) -> Result<Plan, NoPlan>
+    ensures plan { IfOk result (IsOnlyPlan script.now) }
+    ensures named { IfOk result (λ plan. is_well_named plan ≡ true) }
+    ensures refused { IfErr result (IsUnplanned script.now) }
+{
+    match compile(alloc, script) {
+        Ok(plan) => {
+            has_one_plan(script);
+            has_own_names(script, &plan);
+            Ok(plan)
+        }
+        Err(error) => {
+            let refusal = refusal_of(alloc, script, error)?;
+            Err(NoPlan::Refused(refusal))
+        }
+    }
+}
+
+/// The plan of the script that these bytes spell. A refusal is that of the bytes, or that of the script.
 pub fn plan_of(alloc: Global, bytes: &[u8]) -> Result<Plan, NoPlan>
     ensures plan { IfOk result (IsThePlan bytes.now) }
     ensures named { IfOk result (λ plan. is_well_named plan ≡ true) }
     ensures refused { IfErr result (HasNoPlan bytes.now) }
 {
     let script = script_of(alloc, bytes)?;
-    match compile(alloc, &script) {
-        Ok(plan) => {
-            has_one_plan(&script);
-            has_own_names(&script, &plan);
-            Ok(plan)
-        }
-        Err(error) => {
-            let refusal = refusal_of(alloc, &script, error)?;
-            Err(NoPlan::Refused(refusal))
-        }
-    }
+    plan_of_script(alloc, &script)
 }
 
 /// How large the plan is of the script that these bytes spell. The plan isn't made; a refusal is the same as that of `plan_of`.

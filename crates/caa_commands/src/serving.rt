@@ -1,15 +1,16 @@
 //! What the commands come to over the input, before anything is written.
 
-ghost use Rattle.std.specs.Prelude.{◌≡◌, ◌<◌, ◌≤◌, ◌^◌, None, Some, true, IfSome};
+ghost use Rattle.std.specs.Prelude.{◌≡◌, ◌<◌, ◌≤◌, ◌^◌, Some, true, false, IfSome};
 ghost use Rattle.caa_base.specs.Written.Limits.{most_audit_bytes};
 ghost use Rattle.journal_text.specs.Texts.Naming.{is_well_named};
 ghost use Rattle.message_plays.specs.Texts.{IsPlayedByMessages};
 ghost use Rattle.caa_commands.specs.declared.command.Command.{Command};
-ghost use Rattle.caa_commands.specs.Commands.{is_threaded, without_threads, IsWithinRange};
+ghost use Rattle.caa_commands.specs.Commands.{asks_for_input, is_threaded, reads_input, without_threads, IsWithinRange};
 ghost use Rattle.caa_commands.specs.OutsideUse.{source_use, plant_use, left_of, call_of};
 ghost use Rattle.caa_commands.specs.Calls.{AuditComesTo, NeedsPlan, Prints, PlanComesTo, InputComesTo, unread_finding, CameTo};
 ghost use Rattle.caa_commands.specs.Inputs.{most_bytes, script_in};
 
+use crate::cells::work;
 use crate::command::Command;
 use crate::fault::{Fault, Refusal};
 use crate::finding::Finding;
@@ -115,7 +116,8 @@ fn serve_plan<P: Plant>(
         (left_of (plant_use ⟦<P as Plant>⟧ plant result.plant) result.journal.entries) }
 {
     match command {
-        Command::Check | Command::Run | Command::Graph(_) | Command::Pool(_) => unreachable!(),
+        Command::Check | Command::Run | Command::Graph(_) | Command::Pool(_) | Command::Cell(_) =>
+            unreachable!(),
         Command::Sim(seed) => simulate(alloc, plan, seed, plant),
         Command::Audit => judge_after(alloc, &plan, bytes, plant),
         Command::Messages(seed) => agree(alloc, &plan, seed, plant),
@@ -133,7 +135,8 @@ fn script_in(command: Command, bytes: &[u8]) -> &[u8]
         | Command::Run
         | Command::Graph(_)
         | Command::Messages(_)
-        | Command::Pool(_) => bytes,
+        | Command::Pool(_)
+        | Command::Cell(_) => bytes,
     }
 }
 
@@ -156,12 +159,14 @@ fn serve_script<P: Plant>(alloc: Global, command: Command, bytes: &[u8], plant: 
 fn serve<P: Plant>(alloc: Global, command: Command, bytes: &[u8], plant: P) -> Decision<P>
     requires range { IsWithinRange command }
     requires quiet { without_threads (Some command) ≡ Some command }
+    requires reads { reads_input command ≡ true }
     ensures { InputComesTo command bytes.now result.finding
         (left_of (plant_use ⟦<P as Plant>⟧ plant result.plant) result.journal.entries) }
 {
     match command {
         Command::Check => check(alloc, bytes, plant),
         Command::Graph(most) => make_graph(alloc, bytes, most, plant),
+        Command::Cell(_) => unreachable!(),
         _ => serve_script(alloc, command, bytes, plant),
     }
 }
@@ -178,7 +183,8 @@ fn most_bytes(command: Command) -> u64
         | Command::Run
         | Command::Graph(_)
         | Command::Messages(_)
-        | Command::Pool(_) => MOST_SCRIPT_BYTES,
+        | Command::Pool(_)
+        | Command::Cell(_) => MOST_SCRIPT_BYTES,
     }
 }
 
@@ -210,11 +216,13 @@ pub fn decide<S: Source, P: Plant>(
         (source_use ⟦<S as Source>⟧ source.old source.new)
         (left_of (plant_use ⟦<P as Plant>⟧ plant result.plant) result.journal.entries))
         result.finding }
-    ensures untouched { asked ≡ None → source.new ≡ source.old }
+    ensures untouched { asks_for_input asked ≡ false → source.new ≡ source.old }
     ensures count { S.faults source.old ≤ S.faults source.new }
 {
-    let Some(command) = asked else {
-        return Decision::idle(alloc, Finding::Usage, plant);
+    let command = match asked {
+        None => return Decision::idle(alloc, Finding::Usage, plant),
+        Some(Command::Cell(cycles)) => return work(alloc, cycles, plant),
+        Some(command) => command,
     };
     match read_all(alloc, source, most_bytes(command)) {
         Ok(bytes) => serve(alloc, command, bytes.as_slice(), plant),

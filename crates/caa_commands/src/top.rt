@@ -1,5 +1,5 @@
-ghost use Rattle.std.specs.Prelude.{◌≡◌, ◌≤◌, [], if◌then◌else◌, true, None, map, string_bytes};
-ghost use Rattle.caa_commands.specs.Commands.{command_of, asks_for_threads, without_threads};
+ghost use Rattle.std.specs.Prelude.{◌≡◌, ◌≤◌, [], if◌then◌else◌, true, false, map, string_bytes};
+ghost use Rattle.caa_commands.specs.Commands.{command_of, asks_for_input, asks_for_threads, without_threads};
 ghost use Rattle.caa_commands.specs.Findings.{is_played};
 ghost use Rattle.caa_commands.specs.OutsideUse.{sink_use, call_over};
 ghost use Rattle.caa_commands.specs.Calls.{Tells, Answers};
@@ -72,14 +72,17 @@ fn tell<K: Sink, P: Plant>(alloc: Global, decision: Decision<P>, sink: &mut K) -
 /// `check` reads a script and tells how large its plan is. `sim SEED`, with a seed from 0 to 2147483647, plays it to its end in
 /// the order that the seed gives and writes the text of the journal. `audit` reads a script and the text of a journal after it,
 /// and tells whether the journal is legal and complete. `messages SEED`, with such a seed too, reads a script, lets the roles of
-/// its first play agree by messages, and writes what happened and what each has resolved. Things are tried in this order: the
-/// words (`Usage`); the reading (`SourceFault`, or `Refused` where it is too long); the script (`Refused`); for `audit` the
-/// journal (`Refused` past its most entries, or `Illegal`); for `sim` that the device is laid out (`PlantFault`), and the play
-/// (`SomeFailed` where a play failed); and the writing. Where not all of the text is written, the status is `SinkFault`, and a
-/// part of the text was written. At `OutOfMemory` nothing was written; it never comes for wrong words.
+/// its first play agree by messages, and writes what happened and what each has resolved. `cell N`, with a number from 1 to 2000,
+/// reads nothing: it plays the script of a production cell that works for N cycles, as `sim` plays one by the seed N, and writes the
+/// summary of the journal. Things are tried in this order: the words (`Usage`); the reading (`SourceFault`, or `Refused` where it is
+/// too long); the script (`Refused`); for `audit` the journal (`Refused` past its most entries, or `Illegal`); for `sim` and `cell`
+/// that the device is laid out (`PlantFault`), and the play (`SomeFailed` where a play failed); and the writing. Where not all of the
+/// text is written, the status is `SinkFault`, and a part of the text was written. At `OutOfMemory` nothing was written; it never
+/// comes for wrong words.
 ///
 /// The journal that is handed back is the played one, wherever the script was played; for `audit` at `Done` the one that was
-/// read; and else empty. The device is as it was for `check`, `audit` and `messages`, and wherever nothing was tried beyond the script.
+/// read; and else empty. The device is as it was for `check`, `audit`, `graph` and `messages`, and wherever nothing was tried beyond
+/// the script. The source is as it was for `cell`.
 pub fn top_quiet<S: Source, K: Sink, P: Plant>(
     alloc: Global,
     words: &[String],
@@ -101,7 +104,8 @@ pub fn top_quiet<S: Source, K: Sink, P: Plant>(
         (sink_use ⟦<K as Sink>⟧ sink.old sink.new)
         result.status }
 
-    ensures untouched { without_threads (command_of (map string_bytes words.now)) ≡ None → source.new ≡ source.old }
+    // Words that are no command leave the source as it was, and so does `cell`.
+    ensures untouched { asks_for_input (without_threads (command_of (map string_bytes words.now))) ≡ false → source.new ≡ source.old }
     ensures room { K.room sink.new ≡ K.room sink.old }
     ensures source_count { S.faults source.old ≤ S.faults source.new }
     ensures sink_count { K.faults sink.old ≤ K.faults sink.new }

@@ -1,48 +1,17 @@
-use Rattle.std.proofs.Common.{◌≡◌, ◌+◌, [], reverse, sym, ap, ◌∙◌, subst, subst₂, inl, IfSome}
-use Rattle.place_plan.specs.RulesOfJournals.Journals.{IsLegal, IsComplete, faults_in}
-use Rattle.place_plan.specs.declared.rules.machine.Base.{Base}
-use Rattle.journal_replay.specs.Device.{HasValues, HasDrills}
-use Rattle.role_driver.specs.Schedule.{GrewBy, first_of_seed}
-use Rattle.caa_commands.specs.FailedPlays.{IsPlayed}
+use Rattle.std.proofs.Common.{◌≡◌, [], sym, subst, subst₂, inl}
 use Rattle.caa_commands.specs.OutsideUse.{plant_use, left_of}
-use Rattle.caa_commands.specs.Calls.{EndsAs}
-use Rattle.caa_commands.proofs.Reversed.{all_well_formed}
+use Rattle.caa_commands.specs.Calls.{EndsAs, IsSimulated}
 use Rattle.caa_commands.proofs.playing.simulate.Goals as goal
 
-pub ended-requires-clause-entries : goal.ended-requires-clause-entries
-ended-requires-clause-entries g c =
-    let parts = c.into_parts-plan.ensures in
-    all_well_formed c.args.plan _ c.into_parts-plan.result.2.entries (parts.plan ∙ c.sim.ensures.plan ∙ c.in-Ok.ensures.plan)
-    parts.legal c.is_well_formed.ensures
-
-pub returns : goal.returns
-returns g c =
-    let parts = c.into_parts-plan.ensures in
-    let opened = c.in-Ok.ensures in
-    let told = c.ended-2.ensures in
+pub returns-in-Ok : goal.returns-in-Ok
+returns-in-Ok g c =
+    let played = c.in-Ok.ensures in
+    let told = c.ended.ensures in
     let plan = c.args.plan in
-    let plant = c.into_parts-plan.result.1 in
-    let journal = c.into_parts-plan.result.2.entries in
-    let finding = c.ended-2.result.finding in
-    let same : c.into_parts-plan.result.0 ≡ plan = parts.plan ∙ c.sim.ensures.plan ∙ opened.plan in
-    let legal = subst (λ p. IsLegal p journal) same parts.legal in
-    let grown = subst₂ (λ p j. GrewBy (first_of_seed c.args.seed) p c.in-Ok.hall.journal.entries j) opened.plan
-    (sym parts.journal) c.sim.ensures.scheduled in
-    let played : IsPlayed plan (left_of (plant_use g.P.Plant c.args.plant plant) journal) = record {
-      legal = legal;
-      complete = subst₂ IsComplete opened.plan (sym parts.journal) c.sim.ensures.complete;
-      laws = c.keeps_laws.ensures (reverse journal) legal;
-      faults = λ l. parts.faults l ∙ ap (λ b. b + faults_in journal) (ap (λ (b : Base). b.faults) c.sim.ensures.base ∙ opened.base);
-      device = subst (λ p. IfSome (g.P.Plant.state plant) (HasValues p journal)) same parts.state;
-      drills = subst (λ p. IfSome (g.P.Plant.drilling plant) (HasDrills p journal)) same parts.drilling;
-      tells = record {
-        values = parts.tells_state ∙ ap (λ (b : Base). b.tells_values) c.sim.ensures.base ∙ opened.tells_state;
-        drills = parts.tells_drilling ∙ ap (λ (b : Base). b.tells_drills) c.sim.ensures.base ∙ opened.tells_drilling;
-      };
-    } in
-    let seen = subst₂ (λ p s. EndsAs p journal s finding) same c.empty.ensures.seens told.ends in
-    inl (record {
-      played = subst₂ (λ q j. IsPlayed plan (left_of (plant_use g.P.Plant c.args.plant q) j)) (sym told.plant) (sym told.journal) played;
-      schedule = subst₂ (λ old j. GrewBy (first_of_seed c.args.seed) plan old j) opened.journal (sym told.journal) grown;
-      ends = subst (λ j. EndsAs plan j [] finding) (sym told.journal) seen;
-    })
+    let finding = c.ended.result.finding in
+    let seen = subst₂ (λ p s. EndsAs p c.in-Ok.journal.entries s finding) played.plan c.empty.ensures.seens told.ends in
+    inl (
+      subst₂ (λ q j. IsSimulated plan c.args.seed (left_of (plant_use g.P.Plant c.args.plant q) j)) (sym told.plant) (sym told.journal)
+      played.played,
+      subst (λ j. EndsAs plan j [] finding) (sym told.journal) seen,
+    )
