@@ -11,6 +11,7 @@ import sys
 from rules import Action, Play, Role, lines, said
 
 SEED = 2147483647
+MOST_AUDITED = 1_000_000
 CASES = os.path.join(os.path.dirname(os.path.abspath(__file__)), "..", "cases")
 
 # ---- a script of about 100,000 bytes with each kind of line
@@ -101,7 +102,7 @@ def all_kinds():
     return lines(script), counts + "\n", Play(WALKERS, VALUES, plays).play(SEED)
 
 
-# ---- a journal of nearly 5,000 entries
+# ---- a journal of nearly 5,000 entries, and one past the limit
 
 def long_journal():
     """A script, and a play of it."""
@@ -134,17 +135,17 @@ def audits():
     script, play = long_journal()
     front, many = lines(script), len(play.entries)
     other, index = with_other_work(play.entries)
-    past = ["arrive 0 p0"] * 5001
+    past = ["arrive 0 p0"] * (MOST_AUDITED + 1)
     return [
         ("a long journal", front + play.text(play.entries), 0, f"legal {many}\n"),
         ("a wrong entry near its end", front + play.text(other), 7, f"illegal {len(script) + index + 2}\n"),
         ("the script alone", front, 7, f"illegal {len(script) + 1}\n"),
         ("without its last line", front + play.text(play.entries)[: -len("outcome 1 long1 commit\n")], 7, f"illegal {front.count(chr(10)) + play.text(play.entries).count(chr(10))}\n"),
-        ("too many entries", front + play.text(past), 4, f"refused {len(script) + 5002} 19 limit\n"),
+        ("too many entries", front + play.text(past), 4, f"refused {len(script) + MOST_AUDITED + 2} 19 limit\n"),
     ]
 
 
-# ---- scripts at their limits
+# ---- scripts at their limits, and journals of nearly a million entries
 
 def nesting(name, lower, uses):
     """The lines of an action of one role, which enters so many uses of another action, one after another."""
@@ -174,6 +175,11 @@ def levels(depth, uses):
 def works(plays):
     """So many plays of an action of 256 steps."""
     return ["participant p", "action a", "roles r", "body r"] + ["work 0"] * 256 + ["end"] + ["play a p"] * plays
+
+
+def played_works(plays):
+    """How many entries a play of that has: each place has 5 beside its steps."""
+    return plays * (5 + 256)
 
 
 def exceptions(count):
@@ -290,6 +296,19 @@ def scripts_at_limits(program):
         compare(f"check: {name}", program, ["check"], status, text, input=lines(script).encode())
 
 
+def long_shifts(program):
+    """Journals of many plays, made by a seed and then audited. A core that looks back over the journal at each entry comes to no end."""
+    for plays in (2000, 3731):
+        script, many = works(plays), played_works(plays)
+        played = subprocess.run([program, "sim", "1"], input=lines(script).encode(), stdout=subprocess.PIPE)
+        entries = played.stdout.count(b"\n") - 1 - plays  # without the line of the journal and those of the outcomes
+        right = played.returncode == 0 and entries == many
+        print(f"sim of {plays} plays: {f'{many} entries' if right else f'status {played.returncode}, {entries} entries'}")
+        if not right:
+            wrong.append(f"sim of {plays} plays")
+        compare(f"audit of {many} entries", program, ["audit"], 0, f"legal {many}\n", input=lines(script).encode() + played.stdout)
+
+
 def words_and_refusals(program):
     for words in wrong_words():
         compare(f"words {' '.join(words) or 'none'}", program, words, 2, USAGE, input=b"")
@@ -352,6 +371,7 @@ def statuses(program):
 
 large_inputs(sys.argv[1])
 scripts_at_limits(sys.argv[1])
+long_shifts(sys.argv[1])
 words_and_refusals(sys.argv[1])
 cells(sys.argv[1])
 watched_run(sys.argv[1])

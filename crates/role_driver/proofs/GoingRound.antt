@@ -1,8 +1,8 @@
 -- Going round from any participant, each one is asked.
-use Rattle.std.proofs.Common.{◌≡◌, ℕ, ◌+◌, ◌-◌, ◌*◌, ◌%◌, ◌/◌, ◌<◌, List, length, arith, inl, inr, sym, ap, ◌∙◌}
+use Rattle.std.proofs.Common.{◌≡◌, ℕ, ◌+◌, ◌-◌, ◌*◌, ◌%◌, ◌/◌, ◌<◌, List, length, arith, inl, inr, sym, ap, ◌∙◌, subst}
 use Rattle.std.proofs.lemmas.Bool.{cases_lt}
 use Rattle.std.proofs.lemmas.Nat.{mod-mul-add}
-use Rattle.std.proofs.Math.Nat.{mod-lt, mod-add-div'}
+use Rattle.std.proofs.Math.Nat.{mod-lt, mod-add-div', mod-add-mod}
 use Rattle.caa_base.specs.declared.written.entry.Entry.{Entry}
 use Rattle.place_plan.specs.Plans.PlanValue.{Plan}
 use Rattle.journal_laws.specs.Laws.{HasEntry}
@@ -29,3 +29,19 @@ pub round_silent : (plan : Plan) (past : List Entry) (first : ℕ)
 round_silent plan past first h has =
     let i = each_comes first (length plan.participants) has.entry.by has.known in
     h i.0 i.1 has.entry (sym i.2) has.may
+
+-- who is asked after so many others, where the number from which one goes round is taken by the number of participants first
+pub asked_by : (plan : Plan) (n first others by : ℕ) → n ≡ length plan.participants → by ≡ (first % n + others) % n
+    → by ≡ participant_asked plan first others
+asked_by plan n first others by known is = is ∙ (mod-add-mod first n others ∙ ap (λ m. (first + others) % m) known)
+
+-- one more that was asked is silent
+pub silent_more : (plan : Plan) (past : List Entry) (first others by : ℕ) → by ≡ participant_asked plan first others
+    → HasNoEntry plan past by → ((i : ℕ) → i < others → HasNoEntry plan past (participant_asked plan first i))
+    → (i : ℕ) → i < others + 1 → HasNoEntry plan past (participant_asked plan first i)
+silent_more plan past first others by is silent before i low = elim (cases_lt i others) [
+  | inl below ↦ before i below
+  | inr high ↦
+      let same : others ≡ i = omega arith in
+      subst (λ j. HasNoEntry plan past (participant_asked plan first j)) same (subst (HasNoEntry plan past) is silent)
+]

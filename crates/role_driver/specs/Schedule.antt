@@ -18,9 +18,8 @@ pub record IsTurnOf (plan : Plan) (past : List Entry) (first t : ℕ) : Type 0 w
   pub own : t ≡ participant_asked plan first others
   pub before : (i : ℕ) → i < others → HasNoEntry plan past (participant_asked plan first i)
 
--- t made its entry
-pub record Acts (plan : Plan) (old new : List Entry) (t : ℕ) : Type 0 where
-  pub entry : Entry
+-- t made this entry of its own
+pub record Acts (plan : Plan) (old new : List Entry) (t : ℕ) (entry : Entry) : Type 0 where
   pub added : new ≡ old ++ entry ∷ []
   pub own : entry.by ≡ t
   pub may : MayFollow plan (reverse old) entry

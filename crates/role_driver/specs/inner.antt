@@ -3,5 +3,6 @@ pub mod Crew
 pub mod CrewRooms
 pub mod Gathering
 pub mod Records
+pub mod Sleeping
 pub mod WatchRooms
 pub mod Watching

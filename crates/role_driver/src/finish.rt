@@ -5,6 +5,7 @@ ghost use Rattle.role_driver.specs.Working.{TellsWork};
 
 use crate::turn::take_turn;
 use caa_base::outside::gate::Gate;
+use core_words::crew::nobody;
 use journal_laws::is_bounded;
 use place_plan::rules::machine::Machine;
 
@@ -21,8 +22,9 @@ pub fn finish<M: Machine, G: Gate>(mut machine: M, gate: &G) -> M
     ensures least_first { GrewBy always_least (M.plan_of machine) (M.journal_of machine) (M.journal_of result) }
     ensures told { TellsWork (G.was_told gate.now) (M.journal_of machine) (M.journal_of result) }
 {
+    let mut asleep = nobody();
     while !machine.complete() {
-        take_turn(&mut machine, 0, gate);
+        take_turn(&mut machine, 0, &mut asleep, gate);
         is_bounded(machine.plan());
     }
     machine

@@ -5,6 +5,7 @@ ghost use Rattle.role_driver.specs.Schedule.{GrewBy, first_of_seed};
 use crate::turn::take_turn;
 use caa_base::outside::gate::EmptyGate;
 use caa_base::written::work::next_state;
+use core_words::crew::nobody;
 use journal_laws::is_bounded;
 use place_plan::rules::machine::Machine;
 
@@ -23,9 +24,10 @@ pub fn sim<M: Machine>(mut machine: M, seed: u32) -> M
     ensures scheduled { GrewBy (first_of_seed seed) (M.plan_of machine) (M.journal_of machine) (M.journal_of result) }
 {
     let mut state = seed;
+    let mut asleep = nobody();
     while !machine.complete() {
         state = next_state(state);
-        take_turn(&mut machine, state / 65_536, &EmptyGate);
+        take_turn(&mut machine, state / 65_536, &mut asleep, &EmptyGate);
         is_bounded(machine.plan());
     }
     machine

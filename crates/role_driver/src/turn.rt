@@ -1,37 +1,40 @@
-ghost use Rattle.std.specs.Prelude.{◌≡◌, ◌<◌, ◌≤◌, ◌+◌, ◌%◌, length, MatchBool};
+ghost use Rattle.std.specs.Prelude.{◌≡◌, ◌<◌, ◌≤◌, ◌+◌, ◌%◌, length, MatchOption};
 ghost use Rattle.place_plan.specs.RulesOfJournals.Journals.{IsComplete};
 ghost use Rattle.role_driver.specs.Schedule.{Acts, IsKept, TakesTurn};
 ghost use Rattle.role_driver.specs.Working.{TellsWork};
+ghost use Rattle.role_driver.specs.inner.Sleeping.{AllSleep};
 
 use crate::mixing::mix;
+use crate::sleepers::unwoken;
 use caa_base::outside::gate::Gate;
-use caa_base::written::entry::Participant;
-use journal_laws::{at_most_one, goes_on};
+use caa_base::written::entry::{Entry, Participant};
+use core_words::crew::{Crew, is_in, with};
+use journal_laws::{at_most_one, goes_on, sleeps_on};
 use place_plan::rules::machine::{Answer, Machine};
 
-/// Lets a participant make its entry, and says whether it had one. Mixing work is done here, once the gate was called.
-fn act<M: Machine, G: Gate>(machine: &mut M, by: Participant, gate: &G) -> bool
+/// Lets a participant make its entry, if it has one, and gives it. Mixing work is done here, once the gate was called.
+fn act<M: Machine, G: Gate>(machine: &mut M, by: Participant, gate: &G) -> Option<Entry>
     requires { by < length (M.plan_of machine.old).participants }
     ensures plan { M.plan_of machine.new ≡ M.plan_of machine.old }
     ensures base { M.base_of machine.new ≡ M.base_of machine.old }
     ensures count { M.count_of machine.old ≤ M.count_of machine.new }
-    ensures acts { MatchBool result
-        (Acts (M.plan_of machine.old) (M.journal_of machine.old) (M.journal_of machine.new) by)
-        (IsKept (M.plan_of machine.old) (M.journal_of machine.old) (M.journal_of machine.new) by) }
+    ensures acts { MatchOption result
+        (IsKept (M.plan_of machine.old) (M.journal_of machine.old) (M.journal_of machine.new) by)
+        (Acts (M.plan_of machine.old) (M.journal_of machine.old) (M.journal_of machine.new) by) }
     ensures told { TellsWork (G.was_told gate.now) (M.journal_of machine.old) (M.journal_of machine.new) }
 {
     at_most_one(machine.plan());
     match machine.next(by, None) {
-        Answer::Did(_) => true,
-        Answer::NotYet | Answer::Over => false,
+        Answer::Did(entry) => Some(entry),
+        Answer::NotYet | Answer::Over => None,
         Answer::Work {
             place,
             rounds,
             from,
         } => {
             let work = mix(gate, by, place, from, rounds);
-            if let Answer::Did(_) = machine.next(by, Some(work)) {
-                true
+            if let Answer::Did(entry) = machine.next(by, Some(work)) {
+                Some(entry)
             } else {
                 unreachable!()
             }
@@ -39,34 +42,56 @@ fn act<M: Machine, G: Gate>(machine: &mut M, by: Participant, gate: &G) -> bool
     }
 }
 
-/// The participant that is asked after so many others, going round from this number, of so many participants.
-fn participant_asked(first: u32, others: u32, participants: u32) -> Participant
-    requires { 0 < participants }
+/// The participant that is asked after so many others, going round from this one, of so many participants.
+fn participant_asked(start: Participant, others: u32, participants: u32) -> Participant
+    requires start { start < participants }
+    requires others { others < participants }
     ensures below { result < participants }
-    ensures value { result ≡ (first + others) % participants }
+    ensures value { result ≡ (start + others) % participants }
 {
-    ((u64::from(first) + u64::from(others)) % u64::from(participants)) as u32
+    let left = participants - start;
+    if others < left {
+        start + others
+    } else {
+        others - left
+    }
 }
 
 /// Makes the entry of the first participant that has one, going round from this number.
-pub(crate) fn take_turn<M: Machine, G: Gate>(machine: &mut M, first: u32, gate: &G)
-    requires { IsComplete (M.plan_of machine.old) (M.journal_of machine.old) → ⊥ }
+///
+/// Nobody is asked of the crew that sleeps: none of it has an entry. Who is asked and has none sleeps until an entry may wake it.
+pub(crate) fn take_turn<M: Machine, G: Gate>(
+    machine: &mut M,
+    first: u32,
+    asleep: &mut Crew,
+    gate: &G,
+)
+    requires unfinished { IsComplete (M.plan_of machine.old) (M.journal_of machine.old) → ⊥ }
+    requires sleep { AllSleep (M.plan_of machine.old) (M.journal_of machine.old) asleep.old }
     ensures plan { M.plan_of machine.new ≡ M.plan_of machine.old }
     ensures base { M.base_of machine.new ≡ M.base_of machine.old }
     ensures count { M.count_of machine.old ≤ M.count_of machine.new }
     ensures turn { TakesTurn (M.plan_of machine.old) (M.journal_of machine.old) (M.journal_of machine.new) first }
+    ensures sleep { AllSleep (M.plan_of machine.new) (M.journal_of machine.new) asleep.new }
     ensures told { TellsWork (G.was_told gate.now) (M.journal_of machine.old) (M.journal_of machine.new) }
 {
+    goes_on(machine.plan());
+    machine.plan().is_closed();
     let participants = machine.plan().participants();
+    let start = first % participants;
     for others in 0..participants {
-        if act(
-            machine,
-            participant_asked(first, others, participants),
-            gate,
-        ) {
-            return;
+        let by = participant_asked(start, others, participants);
+        if is_in(*asleep, by) {
+            continue;
+        }
+        match act(machine, by, gate) {
+            Some(entry) => {
+                sleeps_on(machine.plan());
+                *asleep = unwoken(machine.plan(), &entry, *asleep);
+                return;
+            }
+            None => *asleep = with(*asleep, by),
         }
     }
-    goes_on(machine.plan());
     unreachable!()
 }

@@ -1,22 +1,11 @@
 //! Lines of text: words with one space between each two, and a line feed. Where no memory is found a part may have been added.
 
-ghost use Rattle.std.specs.Prelude.{◌≡◌, ◌∷◌, ◌++◌, [], decimal, is_ok, OnOk};
+ghost use Rattle.std.specs.Prelude.{◌≡◌, ◌∷◌, ◌++◌, [], decimal, OnOk};
 ghost use Rattle.std.specs.Fmt.{signed_decimal};
 ghost use Rattle.caa_base.specs.Written.Lines.{spaced};
 
 use crate::written::entry::OutOfMemory;
-use std::io;
-use std::io::Write;
-
-/// The answer of `write!` to a text in memory, which fails only where no memory was found.
-fn in_memory(answer: io::Result<()>) -> Result<(), OutOfMemory>
-    ensures { is_ok result ≡ is_ok answer }
-{
-    match answer {
-        Ok(()) => Ok(()),
-        Err(_) => Err(OutOfMemory),
-    }
-}
+use itoa::Buffer;
 
 /// Adds a word, after a space.
 pub fn push_word(text: &mut Vec<u8>, word: &[u8]) -> Result<(), OutOfMemory>
@@ -31,14 +20,14 @@ pub fn push_word(text: &mut Vec<u8>, word: &[u8]) -> Result<(), OutOfMemory>
 pub fn push_number(text: &mut Vec<u8>, number: u64) -> Result<(), OutOfMemory>
     ensures { OnOk result (text.new.items ≡ text.old.items ++ spaced (decimal number ∷ [])) }
 {
-    in_memory(write!(text, " {number}"))
+    push_word(text, Buffer::new().format(number).as_bytes())
 }
 
 /// Adds a value, after a space.
 pub fn push_value(text: &mut Vec<u8>, value: i64) -> Result<(), OutOfMemory>
     ensures { OnOk result (text.new.items ≡ text.old.items ++ spaced (signed_decimal value ∷ [])) }
 {
-    in_memory(write!(text, " {value}"))
+    push_word(text, Buffer::new().format(value).as_bytes())
 }
 
 /// Ends the line.

@@ -18,5 +18,6 @@ loop-machine-preserved g c =
       base = c.take_turn.ensures.base ∙ kept.base;
       count = omega (arith, kept.count, c.take_turn.ensures.count);
       grown = (one_more always_least plan first old new kept.grown 0 refl turn).0;
+      sleep = c.take_turn.ensures.sleep;
       told = goes_further (IsTold (g.G.Gate.was_told c.args.gate.now)) first old new kept.told c.take_turn.ensures.told;
     }

@@ -1,4 +1,5 @@
 use Rattle.std.proofs.Common.{◌≡◌, ◌∙◌, ◌/◌, suc, arith, ap, refl, sym, subst, length}
+use Rattle.std.proofs.lemmas.Bool.{both_ways}
 use Rattle.caa_base.specs.Written.Mixing.{next_state, state_after}
 use Rattle.role_driver.specs.Schedule.{TakesTurn, first_of_seed}
 use Rattle.role_driver.proofs.Grown.{none_yet, one_more}
@@ -13,6 +14,7 @@ loop-state-init g c =
       base = refl;
       count = omega arith;
       small = c.requires;
+      sleep = λ t w. absurd (both_ways _ (c.nobody-asleep.ensures t) w);
       scheduled = (none.0, sym (ap (λ n. state_after c.args.seed n) none.1));
     }
 
@@ -34,5 +36,6 @@ loop-state-preserved g c =
       base = c.take_turn.ensures.base ∙ kept.base;
       count = omega (arith, kept.count, c.take_turn.ensures.count);
       small = c.next_state-state.ensures.small;
+      sleep = c.take_turn.ensures.sleep;
       scheduled = (more.0, mixed ∙ ap (λ n. state_after c.args.seed n) (sym more.1));
     }
