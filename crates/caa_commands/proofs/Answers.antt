@@ -1,5 +1,5 @@
 -- What an answer of the checker says that is no want of memory.
-use Rattle.std.proofs.Common.{◌≡◌, ◌≢◌, ℕ, List, Ok, Err, Result, inr, subst}
+use Rattle.std.proofs.Common.{◌≡◌, ◌≢◌, ℕ, List, Ok, Err, Result, IfErr, inr, subst}
 use Rattle.action_script.specs.Lines.Spelling.{reading_of}
 use Rattle.action_script.specs.Forms.ScriptValue.{Script}
 use Rattle.place_plan.specs.Plans.PlanValue.{Plan}
@@ -46,3 +46,8 @@ pub unplanned : (bytes : List ℕ) (script : Script) (why : NoPlan) → reading_
     → HasNoPlan bytes why
 unplanned bytes script (no_plan.Refused refusal) spelled refused = unplannable bytes script refusal spelled refused
 unplanned bytes script no_plan.OutOfMemory spelled refused = tt
+
+pub unplanned_made : (bytes : List ℕ) (script : Script) (r : Result Plan NoPlan) → reading_of bytes ≡ Ok script
+    → IfErr r (IsUnplanned script) → IfErr r (HasNoPlan bytes)
+unplanned_made bytes script (Ok plan) spelled none = tt
+unplanned_made bytes script (Err why) spelled none = unplanned bytes script why spelled none

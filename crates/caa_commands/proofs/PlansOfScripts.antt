@@ -1,5 +1,5 @@
 -- A script is no longer than it may be, and its plan tells a journal from its text.
-use Rattle.std.proofs.Common.{◌≡◌, ℕ, ◌+◌, ◌≤◌, ◌==◌, nat_lt, nat_le, if◌then◌else◌, Bool, true, false, cond, List, [], ◌∷◌, ◌++◌, length, length-append, Option, Some, None, Result, Ok, Err, refl, sym, ◌∙◌, subst, arith}
+use Rattle.std.proofs.Common.{◌≡◌, ℕ, ◌+◌, ◌≤◌, ◌==◌, nat_lt, nat_le, if◌then◌else◌, Bool, true, false, cond, List, [], ◌∷◌, ◌++◌, length, length-append, Option, Some, None, Result, Ok, Err, IfOk, refl, sym, ◌∙◌, subst, arith}
 use Rattle.std.specs.List.{flat_map, slice_split}
 use Rattle.std.proofs.lemmas.Bool.{ltb-false, leb-true, and_parts}
 use Rattle.std.proofs.lemmas.List.{length-map}
@@ -28,6 +28,7 @@ use Rattle.script_checker.proofs.AcceptedDraft.{breaks_none}
 use Rattle.script_checker.proofs.NamesKept.{own_names_of}
 use Rattle.journal_text.proofs.OnTexts.ReadingLemmas.{Tells}
 use Rattle.script_checker.specs.Compiled.{IsPlanOf}
+use Rattle.caa_commands.specs.declared.scripts.NoPlan.{NoPlan}
 use Rattle.caa_commands.specs.Scripts.{HasPlan, IsThePlan, IsOnlyPlan}
 use Rattle.journal_text.proofs.OnTexts.WellNamed.{well_named}
 
@@ -143,6 +144,12 @@ the_plan bytes script plan spelled own = record {
       let same : h.script ≡ script = cc in
       own.only other (subst (λ (s : Script). IsPlanOf s other) same h.compiled);
 }
+
+-- where there is a plan of that script, it is that of the bytes
+pub the_plan_made : (bytes : List ℕ) (script : Script) (r : Result Plan NoPlan) → reading_of bytes ≡ Ok script
+    → IfOk r (IsOnlyPlan script) → IfOk r (IsThePlan bytes)
+the_plan_made bytes script (Ok plan) spelled own = the_plan bytes script plan spelled own
+the_plan_made bytes script (Err why) spelled own = tt
 
 -- where a script has one plan at most, this is its plan
 pub only_plan : (script : Script) (plan : Plan)
