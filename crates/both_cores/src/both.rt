@@ -1,6 +1,6 @@
 //! Two machines that are played as one.
 
-ghost use Rattle.std.specs.Prelude.{◌≡◌, ◌↔◌, length, true, false, None, Some, IfOk, IfErr, ℕ};
+ghost use Rattle.std.specs.Prelude.{◌≡◌, ◌↔◌, length, true, IsTrue, None, Some, IfOk, IfErr, ℕ};
 ghost use Rattle.both_cores.specs.Compared.{PartAt};
 
 use caa_base::written::entry::{Entry, Object, Participant};
@@ -33,11 +33,11 @@ fn again(hint: &Option<WorkDone>) -> Option<WorkDone>
     }
 }
 
-/// Whether two answers aren't the same.
-fn differ(one: Answer, other: Answer) -> bool
-    ensures { (result ≡ false) ↔ (one ≡ other) }
+/// Whether two answers are the same.
+fn is_same(one: &Answer, other: &Answer) -> bool
+    ensures { IsTrue result ↔ (one.now ≡ other.now) }
 {
-    one != other
+    *one == *other
 }
 
 /// Whether two machines tell the same entries.
@@ -145,10 +145,12 @@ impl<A: Machine, B: Machine> Machine for Both<A, B> {
         let same_hint = again(&hint);
         let answer = self.first.next(by, hint);
         let other = self.second.next(by, same_hint);
-        if differ(answer, other) {
+        if is_same(&answer, &other) {
+            answer
+        } else {
             self.parted = Some(entries);
+            answer
         }
-        answer
     }
 
     fn journal_len(&self) -> u64 {

@@ -28,8 +28,8 @@ invariant_of-self g c =
           c.next.ensures.answer (both.apart n is);
     }
 
-pub invariant_of-self-then-differ : goal.invariant_of-self-then-differ
-invariant_of-self-then-differ g c =
+pub invariant_of-self-else-is_same : goal.invariant_of-self-else-is_same
+invariant_of-self-else-is_same g c =
     let both = c.args.self.now in
     let plan = g.A.Machine.plan_of both.first in
     let old = g.A.Machine.journal_of both.first in
@@ -43,7 +43,7 @@ invariant_of-self-then-differ g c =
     c.again-same_hint.result c.next-other.result both.plan (both.together none) c.again-same_hint.ensures c.next-other.ensures.answer in
     let now =
     now_apart plan old first second c.args.by c.args.hint c.next-answer.result c.next-other.result law c.next-answer.ensures.answer asked
-    (λ same. true≢false (sym c.if-differ.true ∙ c.differ.ensures.1 same)) in
+    (λ same. true≢false (sym (c.is_same.ensures.1 same) ∙ c.if-is_same.false)) in
     let here : PartAt entries first second = subst (λ n. PartAt n first second) (sym c.journal_len-entries.ensures.value) now in
     record {
       plan = c.next-other.ensures.plan ∙ both.plan ∙ sym c.next-answer.ensures.plan;
@@ -51,8 +51,8 @@ invariant_of-self-then-differ g c =
       apart = λ n is. let same : entries ≡ n = cc in subst (λ m. PartAt m first second) same here;
     }
 
-pub invariant_of-self-else-differ : goal.invariant_of-self-else-differ
-invariant_of-self-else-differ g c =
+pub invariant_of-self-then-is_same : goal.invariant_of-self-then-is_same
+invariant_of-self-then-is_same g c =
     let both = c.args.self.now in
     let plan = g.A.Machine.plan_of both.first in
     let old = g.A.Machine.journal_of both.first in
@@ -62,10 +62,10 @@ invariant_of-self-else-differ g c =
     let asked =
     asked_alike plan (g.B.Machine.plan_of both.second) old (g.B.Machine.journal_of both.second) second c.args.by c.args.hint
     c.again-same_hint.result c.next-other.result both.plan (both.together none) c.again-same_hint.ensures c.next-other.ensures.answer in
-    let same = c.differ.ensures.0 c.if-differ.false in
+    let same = c.is_same.ensures.0 c.if-is_same.true in
     let alike = subst (Answers plan old second c.args.by c.args.hint) (sym same) asked in
     record {
       plan = c.next-other.ensures.plan ∙ both.plan ∙ sym c.next-answer.ensures.plan;
       together = λ _. still_same plan old first second c.args.by c.args.hint c.next-answer.result c.next-answer.ensures.answer alike;
-      apart = λ n is. let wrong : None {A = ℕ} ≡ Some n = sym none ∙ is in absurd cc;
+      apart = λ n is. let wrong = sym none ∙ is in absurd cc;
     }
