@@ -1,7 +1,7 @@
 """Audits journals that were worked out by hand, and the same with lines changed, and plays a script over a device that refuses
-puts; compares what the program answers.
+puts; compares what the program answers. The same plays go through the program that asks both cores, where it is named.
 
-    python3 examples/worked/compare.py PROGRAM
+    python3 examples/worked/compare.py PROGRAM [BOTH_CORES]
 """
 
 import os
@@ -180,15 +180,21 @@ def played(program, puts, entries, outer, inner, restores, value):
     return compare(f"sim with the refused puts {puts}", found, wanted)
 
 
-def main(program):
+def played_on_both(both_cores, puts, entries, *_):
+    script = UNDONE.format(drills="".join(f"drill x {put}\n" for put in puts))
+    return compare(f"both cores with the refused puts {puts}", answer_of(both_cores, ["1"], script), (f"same {entries} entries\n", 0))
+
+
+def main(program, *both_cores):
     wrong = sum(audited(program, name, {}, 0, None) for name in LEGAL)
     wrong += sum(audited(program, name, changes, 0, wanted) for name, changes, wanted in CHANGED)
     wrong += sum(audited(program, name, {}, cut, wanted) for name, cut, wanted in CUT)
     wrong += sum(played(program, *row) for row in REFUSED)
-    cases = len(LEGAL) + len(CHANGED) + len(CUT) + len(REFUSED)
+    wrong += sum(played_on_both(path, *row) for path in both_cores for row in REFUSED)
+    cases = len(LEGAL) + len(CHANGED) + len(CUT) + len(REFUSED) * (1 + len(both_cores))
     print(f"worked journals: {cases - wrong} of {cases} as wanted")
     return 1 if wrong else 0
 
 
 if __name__ == "__main__":
-    sys.exit(main(sys.argv[1]))
+    sys.exit(main(*sys.argv[1:]))

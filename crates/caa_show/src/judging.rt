@@ -6,11 +6,11 @@ ghost use Rattle.journal_text.specs.Texts.Naming.{is_well_named};
 ghost use Rattle.journal_text.specs.Watching.Looks.{AreOfPlan};
 ghost use Rattle.caa_show.specs.Read.{IsOfPlan};
 
+use action_core::audit_fast;
 use caa_base::written::entry::{Entry, OutOfMemory, Participant};
 use caa_base::written::journal::Journal;
 use caa_base::written::limits::MOST_AUDITED;
 use journal_replay::answer::Due;
-use journal_replay::audit::audit;
 use journal_replay::rule::due;
 use journal_text::looks::right::first_wrong;
 use journal_text::looks::seens::Seens;
@@ -180,6 +180,19 @@ fn tell_unread(alloc: Global, input: &Input, line: u64) -> Result<Vec<u8>, OutOf
     Ok(page.into_text())
 }
 
+/// Tells that a journal has more entries than are read; this line has the first that is too many.
+fn tell_too_many(alloc: Global, input: &Input, line: u64) -> Result<Vec<u8>, OutOfMemory> {
+    let mut page = Page::new(alloc, &[]);
+    let number = line.saturating_add(u64::from(input.script_lines));
+    tell_line(input, number, &mut page)?;
+    page.note(&[
+        Piece::Text("a journal may have "),
+        Piece::Number(MOST_AUDITED),
+        Piece::Text(" entries, and this is one more"),
+    ])?;
+    Ok(page.into_text())
+}
+
 /// Tells that a look is wrong.
 fn tell_look(alloc: Global, input: &Input, line: u64) -> Result<Vec<u8>, OutOfMemory> {
     let mut page = Page::new(alloc, &[]);
@@ -237,7 +250,9 @@ pub fn read_journal(
 {
     match read(alloc, plan, text, MOST_AUDITED) {
         Ok((journal, seens)) => Ok(Reading::Whole(journal, seens)),
-        Err(TextError::TooMany { line }) => Ok(Reading::Refused(tell_unread(alloc, input, line)?)),
+        Err(TextError::TooMany { line }) => Ok(Reading::Refused(tell_too_many(
+            alloc, input, line,
+        )?)),
         Err(TextError::BadLine { line }) => Ok(Reading::Refused(tell_unread(alloc, input, line)?)),
         Err(TextError::OutOfMemory) => Err(OutOfMemory),
     }
@@ -254,7 +269,7 @@ pub fn judge(
     requires named { is_well_named plan.now ≡ true }
     requires watches { AreOfPlan plan.now seens.now.seens }
 {
-    match audit(plan, &journal) {
+    match audit_fast(alloc, plan, &journal)? {
         Ok(()) => judge_looks(alloc, plan, input, journal, seens),
         Err(illegal) => {
             let index = illegal.index as usize;

@@ -19,7 +19,7 @@ use std::alloc::Global;
 /// no more than `MOST_ROWS`.
 ///
 /// Time goes downwards. Each participant has a lane, each entry a row of its own and a mark in its participant's lane, and each place
-/// a box inside that of the place round it.
+/// a box inside that of the place round it, in each lane from where its participant arrives to where it leaves.
 pub fn chart(
     alloc: Global,
     plan: &Plan,
@@ -40,7 +40,7 @@ pub fn chart(
     let shapes = frame(alloc, &view)?;
     let marks = marks_of(alloc, part)?;
     let mut text = Vec::new(alloc);
-    push_front(&mut text, width(&view), height(&view))?;
+    push_front(&mut text, width(&view, &shapes), height(&view))?;
     push_body(alloc, &mut text, plan, &shapes, &marks)?;
     Ok(text)
 }

@@ -4,8 +4,10 @@ ghost use Rattle.std.specs.Prelude.{◌<◌, ◌≤◌, ◌^◌};
 
 use crate::render::{LANE_WIDTH, LEFT, ROW_HEIGHT, TO_AXIS, TOP, axis, middle};
 use crate::shapes::Shape;
-use crate::spans::{Doing, Span, frees_objects, is_awaited, spans_of};
-use crate::words::{label_of, participant_name, push_place};
+use crate::spans::{Doing, Span, spans_of};
+use crate::stays::draw_places;
+use crate::waits::{Waited, waited_for};
+use crate::words::label_of;
 use caa_base::written::entry::{Entry, Kind, OutOfMemory, Participant, Place};
 use caa_base::written::line::{push_number, push_word};
 use place_plan::plans::plan::Plan;
@@ -27,9 +29,19 @@ fn bottom(view: &View) -> u64
     TOP + u64::from(view.rows) * ROW_HEIGHT
 }
 
-/// How wide the picture is.
-pub fn width(view: &View) -> u64 {
-    LEFT + u64::from(view.plan.participants().max(3)) * LANE_WIDTH + 10
+/// How wide a letter is, about.
+const LETTER_WIDTH: u64 = 6;
+
+/// How wide the picture is: all lanes, and what is written beyond the last.
+pub fn width(view: &View, shapes: &[Shape]) -> u64 {
+    let mut width = LEFT + u64::from(view.plan.participants().max(3)) * LANE_WIDTH;
+    for shape in shapes {
+        if let Shape::Words { left, words, .. } = shape {
+            let letters = LETTER_WIDTH.saturating_mul(words.len() as u64);
+            width = width.max(left.saturating_add(letters));
+        }
+    }
+    width.saturating_add(10)
 }
 
 /// How high the picture is.
@@ -38,7 +50,7 @@ pub fn height(view: &View) -> u64 {
 }
 
 /// The row of the entry of this number, if it is drawn.
-fn row_of(view: &View, number: u64) -> Option<u32> {
+pub fn row_of(view: &View, number: u64) -> Option<u32> {
     let row = number.checked_sub(view.first)?;
     if row < u64::from(view.rows) {
         Some(row as u32)
@@ -48,7 +60,7 @@ fn row_of(view: &View, number: u64) -> Option<u32> {
 }
 
 /// How far down the entry of this number stands: at the top of the part where it comes before, at its bottom where it comes after.
-fn level(view: &View, number: u64) -> u64
+pub fn level(view: &View, number: u64) -> u64
     ensures { result < 2 ^ 40 }
 {
     match row_of(view, number) {
@@ -72,7 +84,7 @@ pub fn frame(alloc: Global, view: &View) -> Result<Vec<Shape>, OutOfMemory> {
 }
 
 /// Adds words.
-fn write_words(
+pub fn write_words(
     shapes: &mut Vec<Shape>,
     class: &'static [u8],
     left: u64,
@@ -133,102 +145,13 @@ fn draw_lanes(alloc: Global, shapes: &mut Vec<Shape>, view: &View) -> Result<(),
     Ok(())
 }
 
-/// The numbers of the first and the last entry of each place and of those inside it.
-fn extents_of(alloc: Global, view: &View) -> Result<Vec<Option<(u64, u64)>>, OutOfMemory> {
-    let mut extents = vec![in alloc; None; view.plan.places() as usize]?;
-    for (number, entry) in view.entries.iter().enumerate() {
-        stretch(&mut extents, entry.place, number as u64);
-        for outer in view.plan.around(entry.place) {
-            stretch(&mut extents, *outer, number as u64);
-        }
-    }
-    Ok(extents)
-}
-
-/// An entry of this number came in the place.
-fn stretch(extents: &mut [Option<(u64, u64)>], place: Place, number: u64) {
-    if let Some(extent) = extents.get_mut(place as usize) {
-        *extent = match *extent {
-            Some((from, _)) => Some((from, number)),
-            None => Some((number, number)),
-        };
-    }
-}
-
-/// Draws a box for each place of which the part shows something.
-fn draw_places(alloc: Global, shapes: &mut Vec<Shape>, view: &View) -> Result<(), OutOfMemory> {
-    let extents = extents_of(alloc, view)?;
-    for place in 0..view.plan.places() {
-        if let Some(Some((from, to))) = extents.get(place as usize) {
-            if is_seen(view, *from, *to) {
-                draw_place(alloc, shapes, view, place, *from, *to)?;
-            }
-        }
-    }
-    Ok(())
-}
-
 /// Whether the part shows something of what goes from one entry to another.
-fn is_seen(view: &View, from: u64, to: u64) -> bool {
+pub fn is_seen(view: &View, from: u64, to: u64) -> bool {
     to >= view.first && from < view.first.saturating_add(u64::from(view.rows))
 }
 
-/// Draws the box of a place: one piece for each group of its lanes that stand side by side.
-fn draw_place(
-    alloc: Global,
-    shapes: &mut Vec<Shape>,
-    view: &View,
-    place: Place,
-    from: u64,
-    to: u64,
-) -> Result<(), OutOfMemory> {
-    let mut begun = None;
-    for lane in 0..view.plan.participants() {
-        let takes_part = view.plan.roles_of(place).contains(&lane);
-        match begun {
-            None if takes_part => begun = Some(lane),
-            Some(left) if !takes_part => {
-                draw_piece(alloc, shapes, view, place, (left, lane), (from, to))?;
-                begun = None;
-            },
-            _ => {},
-        }
-    }
-    if let Some(left) = begun {
-        let end = view.plan.participants();
-        draw_piece(alloc, shapes, view, place, (left, end), (from, to))?;
-    }
-    Ok(())
-}
-
-/// Draws the piece of the box of a place over the lanes from one to before another.
-fn draw_piece(
-    alloc: Global,
-    shapes: &mut Vec<Shape>,
-    view: &View,
-    place: Place,
-    lanes: (u32, u32),
-    numbers: (u64, u64),
-) -> Result<(), OutOfMemory> {
-    let inset = 3 * (view.plan.around(place).len() as u64).min(8);
-    let left = LEFT + u64::from(lanes.0) * LANE_WIDTH + inset;
-    let right = LEFT + u64::from(lanes.1) * LANE_WIDTH;
-    let right = right.saturating_sub(inset + 4);
-    let top = level(view, numbers.0).saturating_sub(ROW_HEIGHT / 2 - 1);
-    let base = level(view, numbers.1) + ROW_HEIGHT / 2 - 1;
-    shapes.push(Shape::Area {
-        class: b"place",
-        left,
-        top,
-        width: right.saturating_sub(left),
-        height: base.saturating_sub(top),
-    })?;
-    let mut words = Vec::new(alloc);
-    push_place(&mut words, view.plan, place)?;
-    write_words(shapes, b"action", right.saturating_sub(4), top + 11, words)
-}
-
-/// Draws what a participant does in a stretch, if the part shows something of it.
+/// Draws what a participant does in a stretch, if the part shows something of it. Where it waits, it waits until the last comes for whom
+/// it does, and then may go on.
 fn draw_span(
     alloc: Global,
     shapes: &mut Vec<Shape>,
@@ -239,16 +162,42 @@ fn draw_span(
         return Ok(());
     }
     let (class, half) = look_of(span.doing);
+    if class != b"wait".as_slice() {
+        return draw_stretch(shapes, view, span, class, half);
+    }
+    let waited = waited_for(alloc, view.plan, view.entries, span)?;
+    let wait = Span {
+        to: waited.until,
+        ..*span
+    };
+    let rest = Span {
+        from: waited.until,
+        ..*span
+    };
+    let (turn, thin) = look_of(Doing::Turn);
+    draw_stretch(shapes, view, &rest, turn, thin)?;
+    draw_stretch(shapes, view, &wait, class, half)?;
+    name_awaited(alloc, shapes, view, span, &waited)
+}
+
+/// Draws a stretch with this look, if it isn't empty.
+fn draw_stretch(
+    shapes: &mut Vec<Shape>,
+    view: &View,
+    span: &Span,
+    class: &'static [u8],
+    half: u64,
+) -> Result<(), OutOfMemory> {
     let top = level(view, span.from);
-    shapes.push(Shape::Area {
-        class,
-        left: axis(span.lane) - half,
-        top,
-        width: 2 * half,
-        height: level(view, span.to).saturating_sub(top),
-    })?;
-    if class == b"wait".as_slice() {
-        name_awaited(alloc, shapes, view, span)?;
+    let base = level(view, span.to);
+    if base > top {
+        shapes.push(Shape::Area {
+            class,
+            left: axis(span.lane).saturating_sub(half),
+            top,
+            width: half.saturating_mul(2),
+            height: base - top,
+        })?;
     }
     Ok(())
 }
@@ -271,50 +220,29 @@ fn name_awaited(
     shapes: &mut Vec<Shape>,
     view: &View,
     span: &Span,
+    waited: &Waited,
 ) -> Result<(), OutOfMemory> {
-    let from = span.from.max(view.first.saturating_sub(1));
-    let mut above = from;
+    let mut above = span.from.max(view.first.saturating_sub(1));
     let mut begun = false;
     let mut words = Vec::from_slice(alloc, b"waits for")?;
-    for (number, entry) in view.entries.iter().enumerate() {
-        let number = number as u64;
-        if number > from && number < span.to && is_told(view.plan, span, entry) {
-            if begun {
-                push_word(&mut words, b"and")?;
-            }
-            push_awaited(&mut words, view.plan, span, entry)?;
-            begun = true;
-            if above.saturating_add(2) < span.to {
-                above += 1;
-                write_beside(shapes, view, span.lane, above, words)?;
-                words = Vec::from_slice(alloc, b"and")?;
-                begun = false;
-            }
+    for name in waited.names.iter() {
+        if begun {
+            push_word(&mut words, b"and")?;
+        }
+        words.extend_from_slice(name)?;
+        begun = true;
+        if above.saturating_add(2) < span.to {
+            above += 1;
+            write_beside(shapes, view, span.lane, above, words)?;
+            words = Vec::from_slice(alloc, b"and")?;
+            begun = false;
         }
     }
-    if begun {
-        write_beside(shapes, view, span.lane, above.saturating_add(1), words)?;
+    let last = above.saturating_add(1);
+    if begun && last < span.to {
+        write_beside(shapes, view, span.lane, last, words)?;
     }
     Ok(())
-}
-
-/// Whether an entry tells whom or what a participant waits for.
-fn is_told(plan: &Plan, span: &Span, entry: &Entry) -> bool {
-    is_awaited(plan, span, entry) || frees_objects(plan, span, entry)
-}
-
-/// Adds what this entry tells of whom or what a participant waits for.
-fn push_awaited(
-    words: &mut Vec<u8>,
-    plan: &Plan,
-    span: &Span,
-    entry: &Entry,
-) -> Result<(), OutOfMemory> {
-    if is_awaited(plan, span, entry) {
-        push_word(words, participant_name(plan, entry.by))
-    } else {
-        push_place(words, plan, entry.place)
-    }
 }
 
 /// Writes words of waiting into the row of the entry of this number, if that is drawn.
@@ -331,7 +259,7 @@ fn write_beside(
     }
 }
 
-/// Draws what belongs to each row: its number, what its entry says, and a line to all whom it sets going.
+/// Draws what belongs to each row: its number, counted from 1, what its entry says, and a line to all whom it sets going.
 fn draw_rows(alloc: Global, shapes: &mut Vec<Shape>, view: &View) -> Result<(), OutOfMemory> {
     for (number, entry) in view.entries.iter().enumerate() {
         let number = number as u64;
@@ -340,7 +268,7 @@ fn draw_rows(alloc: Global, shapes: &mut Vec<Shape>, view: &View) -> Result<(), 
                 draw_joint(shapes, view, entry.place, middle(row))?;
             }
             let mut words = Vec::new(alloc);
-            push_number(&mut words, number)?;
+            push_number(&mut words, number.saturating_add(1))?;
             write_words(shapes, b"number", LEFT - 6, middle(row) + 3, words)?;
             write_words(
                 shapes,

@@ -7,6 +7,8 @@ pub mod marks;
 pub(crate) mod render;
 pub mod shapes;
 pub(crate) mod spans;
+pub(crate) mod stays;
 pub mod story;
 pub(crate) mod tellings;
+pub(crate) mod waits;
 pub(crate) mod words;

@@ -285,8 +285,9 @@ text{font:10px sans-serif}
 .name{font-weight:bold;font-size:13px}
 .number{fill:#777;font-size:8px;text-anchor:end}
 .lane{stroke:#bbb;stroke-dasharray:1 4}
-.place{fill:#000;fill-opacity:.05;stroke:#555}
-.action{fill:#333;font-weight:bold;text-anchor:end}
+.place{fill:#000;fill-opacity:.05}
+.edge{stroke:#555}
+.action{fill:#333;font-weight:bold}
 .turn{fill:#777}
 .body{fill:#56B4E9}
 .handler{fill:#E69F00;stroke:#000}

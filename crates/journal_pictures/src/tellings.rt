@@ -42,15 +42,30 @@ fn raised_by(plan: &Plan, place: Place, entry: &Entry) -> Option<Exception> {
     }
 }
 
+/// What comes after the start of a place; all, where it doesn't start.
+fn since_start(past: &[Entry], place: Place) -> &[Entry] {
+    for index in (0..past.len()).rev() {
+        if let Some(entry) = past.get(index) {
+            if entry.kind == Kind::Start && entry.place == place {
+                return past.get(index..).unwrap_or(past);
+            }
+        }
+    }
+    past
+}
+
 /// Whether something was raised in a place.
 fn is_hot(plan: &Plan, past: &[Entry], place: Place) -> bool {
-    past.iter()
+    since_start(past, place)
+        .iter()
         .any(|entry| raised_by(plan, place, entry).is_some())
 }
 
-/// Whether a participant made an entry of this kind in a place.
+/// Whether a participant made an entry of this kind in a place after its start.
 fn has_made(past: &[Entry], kind: Kind, place: Place, by: Participant) -> bool {
-    past.iter().any(|entry| entry.kind == kind && entry.place == place && entry.by == by)
+    since_start(past, place).iter().any(|entry| entry.kind == kind
+        && entry.place == place
+        && entry.by == by)
 }
 
 /// Adds the words of a deed behind the names of those who did it.
@@ -281,7 +296,7 @@ fn covered_by(
     resolve: &Entry,
 ) -> Result<Vec<Exception>, OutOfMemory> {
     let mut others = Vec::new(alloc);
-    for entry in past {
+    for entry in since_start(past, resolve.place) {
         if let Some(exception) = raised_by(plan, resolve.place, entry) {
             if exception != resolve.arg && !others.contains(&exception) {
                 others.push(exception)?;

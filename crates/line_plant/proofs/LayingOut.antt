@@ -1,10 +1,12 @@
 -- Lemmas on the line that lays out a device.
-use Rattle.std.proofs.Common.{◌≡◌, ℕ, ◌+◌, ◌<◌, ℤ, take, get_or, ap₂, List, [], ◌∷◌, ◌++◌, length, refl, ap, sym, ◌∙◌, append_assoc, arith}
-use Rattle.std.proofs.lemmas.List.{take_more}
+use Rattle.std.proofs.Common.{◌≡◌, ℕ, zero, suc, ◌+◌, ◌<◌, ◌≤◌, ℤ, take, get_or, ap₂, List, [], ◌∷◌, ◌++◌, length, refl, ap, sym, ◌∙◌, append_assoc, arith}
+use Rattle.std.proofs.lemmas.List.{take_more, length-append}
 use Rattle.std.proofs.lemmas.Grind.{common_steps}
 use Rattle.std.specs.Fmt.{signed_decimal}
 use Rattle.caa_base.specs.Written.Lines.{spaced}
-use Rattle.line_plant.specs.Lines.{names_and_values}
+use Rattle.caa_base.specs.Written.Names.{name_at}
+use Rattle.line_plant.specs.Lines.{names_and_values, lay_line}
+use Rattle.line_plant.specs.inner.Room.{HasRoom}
 
 -- words behind words
 pub spaced-append : (xs ys : List (List ℕ)) → spaced (xs ++ ys) ≡ spaced xs ++ spaced ys
@@ -46,3 +48,20 @@ line_more front names values i name value low small is_name is_value =
     ∙ sym (ap₂ (λ ns vs. spaced (names_and_values ns vs))
     (take_more names i name low ∙ ap (λ n. take i names ++ n ∷ []) (sym is_name))
     (take_more values i value small ∙ ap (λ v. take i values ++ v ∷ []) (sym is_value))))
+
+-- the words of all objects are longer than each name by two bytes and more
+pub words_behind : (names : List (List ℕ)) (values : List ℤ) (n : ℕ) → length names ≡ length values → n < length names
+    → length (name_at names n) + 2 ≤ length (spaced (names_and_values names values))
+words_behind [] values n same low = absurd (omega arith)
+words_behind (name ∷ names) [] n same low = absurd (omega arith)
+words_behind (name ∷ names) (v ∷ values) zero same low = simp length-append (omega arith)
+words_behind (name ∷ names) (v ∷ values) (suc n) same low =
+    let l = words_behind names values n (omega arith) (omega arith) in simp length-append (omega arith)
+
+-- with room for a value behind it, the line that lays out the objects has memory for each put
+pub room_for_puts : (names : List (List ℕ)) (values : List ℤ) (room : ℕ) → length names ≡ length values
+    → length (lay_line names values) + 20 ≤ room → HasRoom (length values) names room
+room_for_puts names values room same enough n low =
+    let l = words_behind names values n same (omega arith) in
+    let e : length (lay_line names values) ≡ 4 + length (spaced (names_and_values names values)) = grind (arith, common_steps) in
+    omega arith

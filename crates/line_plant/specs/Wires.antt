@@ -33,11 +33,12 @@ pub record WasCutOff {S K : Type 0} (sinks : SinkGhosts K) (before after : Wire 
   pub unheard : after.answers ≡ before.answers
   pub broken : after.is_broken ≡ true
 
--- nothing was sent or heard, and nothing is sent any longer
-abbrev pub IsOut : {S K : Type 0} → Wire S K → Wire S K → Type 0
-IsOut before after = after ≡ record before { is_broken = true }
+-- an answer was lost before, so nothing was sent or heard
+pub record IsOut {S K : Type 0} (before after : Wire S K) : Type 0 where
+  pub cause : before.is_broken ≡ true
+  pub kept : after ≡ before
 
--- the answer is lost, since the line was cut off, or nothing was sent
+-- the answer is lost, since the line was cut off, or the wire is out
 abbrev pub IsUnasked : {S K : Type 0} → SinkGhosts K → Wire S K → Wire S K → List ℕ → Answer → Type 0
 IsUnasked sinks before after text Well = ⊥
 IsUnasked sinks before after text Failed = ⊥

@@ -6,4 +6,6 @@ pub mod hearing;
 mod lines;
 pub mod names;
 pub mod plant;
+#[cfg(test)]
+mod tests;
 mod wire;

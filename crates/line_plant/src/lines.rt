@@ -1,21 +1,41 @@
-//! The lines that a device is sent. Where no memory is found, a part of the line is made.
+//! The lines that a device is sent.
 
-ghost use Rattle.std.specs.Prelude.{◌≡◌, ◌<◌, length, slice_index_or, OnOk};
+ghost use Rattle.std.specs.Prelude.{◌≡◌, ◌+◌, ◌<◌, ◌≤◌, ◌++◌, length, slice_index_or, vec_len, vec_capacity, IfOk};
 ghost use Rattle.line_plant.specs.Lines.{put_line, lay_line};
+ghost use Rattle.line_plant.specs.inner.Room.{most_put_bytes, HasRoom};
 
 use caa_base::written::entry::OutOfMemory;
 use caa_base::written::line::{end_line, push_value, push_word};
 use caa_base::written::name::Name;
+use itoa::Buffer;
+use std::alloc::Global;
 
-/// Makes the line that asks for a put.
-pub fn make_put(text: &mut Vec<u8>, name: &[u8], value: i64) -> Result<(), OutOfMemory>
-    ensures { OnOk result (text.new.items ≡ put_line name.now value) }
+/// How many bytes a value has at most.
+const MOST_VALUE_BYTES: usize = 20;
+
+/// Adds these bytes, for which there is room.
+fn add(text: &mut Vec<u8>, bytes: &[u8])
+    requires { vec_len text.old + length bytes.now ≤ vec_capacity text.old }
+    ensures bytes { text.new.items ≡ text.old.items ++ bytes.now }
+    ensures len { vec_len text.new ≡ vec_len text.old + length bytes.now }
+    ensures room { vec_capacity text.old ≤ vec_capacity text.new }
 {
+    text.extend_from_slice(bytes).unwrap();
+}
+
+/// Makes the line that asks for a put, in memory that has room for it.
+pub fn make_put(text: &mut Vec<u8>, name: &[u8], value: i64)
+    requires { most_put_bytes name.now ≤ vec_capacity text.old }
+    ensures line { text.new.items ≡ put_line name.now value }
+    ensures room { vec_capacity text.old ≤ vec_capacity text.new }
+{
+    let mut digits = Buffer::new();
     text.clear();
-    text.extend_from_slice(b"put")?;
-    push_word(text, name)?;
-    push_value(text, value)?;
-    end_line(text)
+    add(text, b"put ");
+    add(text, name);
+    add(text, b" ");
+    add(text, digits.format(value).as_bytes());
+    add(text, b"\n");
 }
 
 /// The first value of an object.
@@ -26,16 +46,18 @@ fn first_value(values: &[i64], object: usize) -> i64
     values[object]
 }
 
-/// Makes the line that lays out the objects with these first values.
-pub fn make_lay(text: &mut Vec<u8>, names: &[Name], values: &[i64]) -> Result<(), OutOfMemory>
+/// Makes the line that lays out the objects with these first values, in memory that has room for the line of any put of them.
+pub fn make_lay(alloc: Global, names: &[Name], values: &[i64]) -> Result<Vec<u8>, OutOfMemory>
     requires { length names.now ≡ length values.now }
-    ensures { OnOk result (text.new.items ≡ lay_line names.now values.now) }
+    ensures line { IfOk result (λ text. text.items ≡ lay_line names.now values.now) }
+    ensures room { IfOk result (λ text. HasRoom (length values.now) names.now (vec_capacity text)) }
 {
-    text.clear();
-    text.extend_from_slice(b"lay")?;
+    let mut text = Vec::from_slice(alloc, b"lay")?;
     for object in 0..values.len() {
-        push_word(text, names[object].bytes())?;
-        push_value(text, first_value(values, object))?;
+        push_word(&mut text, names[object].bytes())?;
+        push_value(&mut text, first_value(values, object))?;
     }
-    end_line(text)
+    end_line(&mut text)?;
+    text.reserve(MOST_VALUE_BYTES)?;
+    Ok(text)
 }

@@ -1,9 +1,10 @@
-ghost use Rattle.std.specs.Prelude.{◌≡◌, ◌<◌, ◌+◌, length, None, false, if◌then◌else◌, OnOk, OnErr};
+ghost use Rattle.std.specs.Prelude.{◌≡◌, ◌<◌, ◌≤◌, ◌+◌, length, None, false, if◌then◌else◌, OnOk, OnErr, vec_capacity};
 ghost use Rattle.caa_base.specs.Outside.Counts.{counted_up, faults_after};
 ghost use Rattle.caa_base.specs.Outside.PlantState.{is_refused};
 ghost use Rattle.line_plant.specs.Lines.{put_line};
 ghost use Rattle.line_plant.specs.Wires.{AskCame};
 ghost use Rattle.line_plant.specs.Devices.{LayCame, PutCame};
+ghost use Rattle.line_plant.specs.inner.Room.{most_put_bytes};
 
 use crate::hearing::Answer;
 use crate::lines::{make_lay, make_put};
@@ -30,8 +31,7 @@ fn counted_up(count: u64) -> u64
 /// answers, and a read or a write that fails, is an answer that is lost: nobody knows any longer what the device did. From then on
 /// nothing is sent, and each call fails.
 ///
-/// The memory for a line is kept from one to the next. Where none is found for the line of a put, the put fails as if its answer
-/// were lost.
+/// The memory for the line of a put is taken when the device is laid out, and kept from one to the next. So a put never wants any.
 #[derive(Drop)]
 pub struct LinePlant<S, K> {
     names: Vec<Name>,
@@ -45,8 +45,9 @@ pub struct LinePlant<S, K> {
 }
 
 impl<S, K> Model for LinePlant<S, K> {
-    ghost use Rattle.std.specs.Prelude.{◌≤◌, length};
+    ghost use Rattle.std.specs.Prelude.{vec_capacity};
     ghost use Rattle.line_plant.specs.Devices.{LineDevice};
+    ghost use Rattle.line_plant.specs.inner.Room.{HasRoom};
 
     ghost Value = { LineDevice S K };
 
@@ -59,21 +60,23 @@ impl<S, K> Model for LinePlant<S, K> {
       lay_faults = p.lay_faults;
       faults = p.faults;
     } };
+
+    ghost invariant = { λ p. HasRoom p.objects p.names.items (vec_capacity p.line) };
 }
 
-/// Asks for a put by a wire. Where no memory is found for the line, the wire is given up.
+/// Asks for a put by a wire, in memory that has room for its line.
 fn ask_put<S: Source, K: Sink>(
     wire: &mut Wire<S, K>,
     line: &mut Vec<u8>,
     name: &[u8],
     value: i64,
 ) -> Answer
-    ensures { AskCame ⟦<S as Source>⟧ ⟦<K as Sink>⟧ wire.old wire.new (put_line name.now value) result }
+    requires { most_put_bytes name.now ≤ vec_capacity line.old }
+    ensures came { AskCame ⟦<S as Source>⟧ ⟦<K as Sink>⟧ wire.old wire.new (put_line name.now value) result }
+    ensures room { vec_capacity line.old ≤ vec_capacity line.new }
 {
-    match make_put(line, name, value) {
-        Ok(()) => wire.ask(line.as_slice()),
-        Err(_) => wire.give_up(),
-    }
+    make_put(line, name, value);
+    wire.ask(line.as_slice())
 }
 
 impl<S: Source, K: Sink> LinePlant<S, K> {
@@ -125,7 +128,7 @@ impl<S: Source, K: Sink> Plant for LinePlant<S, K> {
 
     fn lay(
         &mut self,
-        _alloc: Global,
+        alloc: Global,
         values: &[i64],
         _drills: &[Drill],
         puts: u64,
@@ -144,11 +147,12 @@ impl<S: Source, K: Sink> Plant for LinePlant<S, K> {
             self.lay_faults = counted_up(self.lay_faults);
             return Err(PlantError::Failed);
         }
-        make_lay(&mut self.line, self.names.as_slice(), values)?;
-        if self.wire.ask(self.line.as_slice()) != Answer::Well {
+        let line = make_lay(alloc, self.names.as_slice(), values)?;
+        if self.wire.ask(line.as_slice()) != Answer::Well {
             self.lay_faults = counted_up(self.lay_faults);
             return Err(PlantError::Failed);
         }
+        self.line = line;
         self.objects = values.len() as u64;
         self.calls = 0;
         self.room = puts;

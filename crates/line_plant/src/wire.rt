@@ -1,5 +1,5 @@
-ghost use Rattle.std.specs.Prelude.{◌≡◌, true, OnOk, OnErr};
-ghost use Rattle.line_plant.specs.Wires.{IsOut, AskCame};
+ghost use Rattle.std.specs.Prelude.{◌≡◌, true};
+ghost use Rattle.line_plant.specs.Wires.{AskCame};
 
 use crate::hearing::{Answer, hear};
 use caa_base::outside::reading::write_all;
@@ -16,9 +16,9 @@ pub struct Wire<S, K> {
 
 impl<S: Source, K: Sink> Wire<S, K> {
     /// Nothing is sent any longer.
-    pub fn give_up(&mut self) -> Answer
+    fn give_up(&mut self) -> Answer
         ensures lost { result ≡ Answer.Lost }
-        ensures out { IsOut self.old self.new }
+        ensures broken { self.new ≡ record self.old { is_broken = true } }
     {
         self.is_broken = true;
         Answer::Lost

@@ -48,24 +48,30 @@ answered P plan old new t hint answer.Over h each = goes_nowhere P old new h.0.k
 stays : (old : Journal) (t : ℕ) → GrowsWithout old old t
 stays old t = record { begins = ([], append-nil old); alone = refl }
 
-module _ (was_told : ℕ → ℕ → Type 0) where
-  -- entries of others alone
-  others_each : (t : ℕ) (more : List Entry) → filter (λ (e : Entry). e.by == t) more ≡ [] → AllByRecursion (IsToldOf was_told t) more
-  others_each t [] none = tt
-  others_each t (e ∷ more) none = by (e.by == t) refl none (others_each t more)
-    where
-      by : (b : Bool) → (e.by == t) ≡ b → cond b (e ∷ filter (λ (e : Entry). e.by == t) more) (filter (λ (e : Entry). e.by == t) more) ≡ []
-          → (filter (λ (e : Entry). e.by == t) more ≡ [] → AllByRecursion (IsToldOf was_told t) more)
-          → AllByRecursion (IsToldOf was_told t) (e ∷ more)
-      by true own gone rest = absurd cc
-      by false own gone rest = (λ mine. absurd (false≢true (sym own ∙ eq-eqb e.by t mine)), rest gone)
+-- entries of others alone
+others_each : (P : Entry → Type 0) (t : ℕ) (more : List Entry) → filter (λ (e : Entry). e.by == t) more ≡ []
+    → AllByRecursion (λ e. e.by ≡ t → P e) more
+others_each P t [] none = tt
+others_each P t (e ∷ more) none = by (e.by == t) refl none (others_each P t more)
+  where
+    by : (b : Bool) → (e.by == t) ≡ b → cond b (e ∷ filter (λ (e : Entry). e.by == t) more) (filter (λ (e : Entry). e.by == t) more) ≡ []
+        → (filter (λ (e : Entry). e.by == t) more ≡ [] → AllByRecursion (λ e. e.by ≡ t → P e) more)
+        → AllByRecursion (λ e. e.by ≡ t → P e) (e ∷ more)
+    by true own gone rest = absurd cc
+    by false own gone rest = (λ mine. absurd (false≢true (sym own ∙ eq-eqb e.by t mine)), rest gone)
 
+-- where t made no entry, whatever is said of its entries holds of what is more
+pub others_go_on_so : (P : Entry → Type 0) (old new : Journal) (t : ℕ) → GrowsWithout old new t
+    → GoesOnWith (λ e. e.by ≡ t → P e) old new
+others_go_on_so P old new t h = record {
+  more = h.begins.0;
+  goes_on = h.begins.1;
+  each = others_each P t h.begins.0 (none_added t old h.begins.0 (ap (entries_by t) h.begins.1 ∙ h.alone));
+}
+
+module _ (was_told : ℕ → ℕ → Type 0) where
   pub others_go_on : (old new : Journal) (t : ℕ) → GrowsWithout old new t → TellsOwnWork was_told t old new
-  others_go_on old new t h = record {
-    more = h.begins.0;
-    goes_on = h.begins.1;
-    each = others_each t h.begins.0 (none_added t old h.begins.0 (ap (entries_by t) h.begins.1 ∙ h.alone));
-  }
+  others_go_on old new t h = others_go_on_so (IsTold was_told) old new t h
 
   -- an entry that is made without a hint is no work
   no_work : (plan : Plan) (old new : Journal) (t : ℕ) (e : Entry) → Did plan old new t None e → IsTold was_told e

@@ -1,5 +1,6 @@
 ghost use Rattle.std.specs.Prelude.{◌≡◌, [], length, map, reverse, true, All, IfOk, IfErr, IsTrue, vec_capacity};
 ghost use Rattle.place_plan.specs.RulesOfJournals.Roles.{is_over};
+ghost use Rattle.role_driver.specs.Handling.{TellsOwnHandlers};
 ghost use Rattle.role_driver.specs.Working.{TellsOwnWork};
 ghost use Rattle.role_driver.specs.inner.Crew.{IsBack, IsMember, who_of};
 ghost use Rattle.action_manager.specs.Managers.{plan_in, IsSeatIn};
@@ -7,6 +8,7 @@ ghost use Rattle.action_manager.specs.Seats.{participant_of, seen_by, IsBeside};
 
 use crate::driving::{drive, take_whole_turn};
 use crate::flag::Flag;
+use crate::handling::HandlerGate;
 use action_manager::{Manager, Seat};
 use caa_base::outside::gate::Gate;
 use caa_base::written::entry::Participant;
@@ -127,7 +129,7 @@ pub fn start_all<'s, E, M: Machine + Send, G: Gate + Sync, R: Threads + Wait + S
 }
 
 /// One turn of a seat, with its mixing work, and whether its participant is over.
-pub fn go_on<M: Machine, G: Gate, R: Wait>(
+pub fn go_on<M: Machine, G: Gate + HandlerGate, R: Wait>(
     rt: &R,
     manager: &Manager<M>,
     seat: &mut Seat<M>,
@@ -137,6 +139,7 @@ pub fn go_on<M: Machine, G: Gate, R: Wait>(
     ensures opened { IsSeatIn M.base_of manager.now seat.new }
     ensures same { participant_of seat.new ≡ participant_of seat.old }
     ensures told { TellsOwnWork (G.was_told gate.now) (participant_of seat.old) (seen_by seat.old) (seen_by seat.new) }
+    ensures handed { TellsOwnHandlers (G.was_handed gate.now) (participant_of seat.old) (seen_by seat.old) (seen_by seat.new) }
     ensures over { IsTrue result → is_over (plan_in manager.now) (reverse (seen_by seat.new)) (participant_of seat.old) ≡ true }
 {
     match take_whole_turn(rt, manager, seat, gate) {

@@ -8,8 +8,11 @@ ghost use Rattle.shared_views.specs.declared.bulletin.Announcement.TheVariants.{
 ghost use Rattle.action_manager.specs.Managers.{plan_in, cells_in, IsSeatIn};
 ghost use Rattle.action_manager.specs.Seats.{participant_of, seen_by, told_to};
 ghost use Rattle.action_manager.specs.Stepping.{Steps};
+ghost use Rattle.action_manager.specs.Tidings.{TellsAfter};
+ghost use Rattle.role_driver.specs.Handling.{HandsMade, TellsOwnHandlers};
 ghost use Rattle.role_driver.specs.Working.{TakesWholeTurn, TellsOwnWork};
 
+use crate::handling::HandlerGate;
 use crate::mixing::mix;
 use action_manager::{Manager, Seat};
 use caa_base::outside::gate::Gate;
@@ -35,8 +38,31 @@ fn ask<M: Machine>(manager: &Manager<M>, seat: &mut Seat<M>, handle: Entry) -> O
     }
 }
 
-/// A step of a seat, which asks the cell of the place after each Handle, and tells the gate which exception it gives.
-fn step_and_ask<M: Machine, G: Gate, R: Wait>(
+/// Tells the gate of the handler that begins, where a step made a Handle: which exception it is for, as the cell of the place gives it.
+///
+/// Where there is no note to ask the cell with, the Handle itself says it.
+fn tell_handler<M: Machine, G: HandlerGate>(
+    manager: &Manager<M>,
+    seat: &mut Seat<M>,
+    answer: Answer,
+    gate: &G,
+)
+    requires opened { IsSeatIn M.base_of manager.now seat.old }
+    requires told { TellsAfter (cells_in manager.now) answer (told_to seat.old) }
+    ensures opened { IsSeatIn M.base_of manager.now seat.new }
+    ensures same { (participant_of seat.new ≡ participant_of seat.old) × (seen_by seat.new ≡ seen_by seat.old) }
+    ensures handed { HandsMade (G.was_handed gate.now) answer }
+{
+    if let Answer::Did(entry) = answer {
+        if entry.kind == Kind::Handle {
+            let exception = ask(manager, seat, entry).unwrap_or(entry.arg);
+            gate.begin_handler(entry.by, entry.place, exception);
+        }
+    }
+}
+
+/// A step of a seat. Where it makes a Handle, the gate is told of the handler that begins.
+fn step_and_tell<M: Machine, G: HandlerGate, R: Wait>(
     rt: &R,
     manager: &Manager<M>,
     seat: &mut Seat<M>,
@@ -47,22 +73,17 @@ fn step_and_ask<M: Machine, G: Gate, R: Wait>(
     ensures opened { IsSeatIn M.base_of manager.now seat.new }
     ensures same { participant_of seat.new ≡ participant_of seat.old }
     ensures turn { Steps (plan_in manager.now) (seen_by seat.old) (seen_by seat.new) (participant_of seat.old) hint result }
+    ensures handed { TellsOwnHandlers (G.was_handed gate.now) (participant_of seat.old) (seen_by seat.old) (seen_by seat.new) }
 {
     let answer = manager.step(rt, seat, hint);
-    if let Answer::Did(entry) = answer {
-        if entry.kind == Kind::Handle {
-            if let Some(exception) = ask(manager, seat, entry) {
-                gate.handle(entry.by, entry.place, exception);
-            }
-        }
-    }
+    tell_handler(manager, seat, answer, gate);
     answer
 }
 
 /// One turn of a seat with its mixing work, so it never answers that there is work.
 ///
-/// Before the mixing it calls the gate.
-pub fn take_whole_turn<M: Machine, G: Gate, R: Wait>(
+/// Before the mixing it calls the gate, and after a Handle it tells the gate of the handler that begins.
+pub fn take_whole_turn<M: Machine, G: Gate + HandlerGate, R: Wait>(
     rt: &R,
     manager: &Manager<M>,
     seat: &mut Seat<M>,
@@ -73,15 +94,16 @@ pub fn take_whole_turn<M: Machine, G: Gate, R: Wait>(
     ensures same { participant_of seat.new ≡ participant_of seat.old }
     ensures turn { TakesWholeTurn (plan_in manager.now) (seen_by seat.old) (seen_by seat.new) (participant_of seat.old) result }
     ensures told { TellsOwnWork (G.was_told gate.now) (participant_of seat.old) (seen_by seat.old) (seen_by seat.new) }
+    ensures handed { TellsOwnHandlers (G.was_handed gate.now) (participant_of seat.old) (seen_by seat.old) (seen_by seat.new) }
 {
-    match step_and_ask(rt, manager, seat, None, gate) {
+    match step_and_tell(rt, manager, seat, None, gate) {
         Answer::Work {
             place,
             rounds,
             from,
         } => {
             let done = mix(gate, seat.participant(), place, from, rounds);
-            match step_and_ask(rt, manager, seat, Some(done), gate) {
+            match step_and_tell(rt, manager, seat, Some(done), gate) {
                 Answer::Work { .. } => unreachable!(),
                 answer => answer,
             }
@@ -92,9 +114,9 @@ pub fn take_whole_turn<M: Machine, G: Gate, R: Wait>(
 
 /// Takes turns for a seat until its participant is over, and mixes its work outside these turns.
 ///
-/// Before each piece of mixing it calls the gate, and where its participant has no entry now it waits past what it has seen. It
-/// need not return.
-pub fn drive<M: Machine, G: Gate, R: Wait>(
+/// Before each piece of mixing it calls the gate, and after each Handle it tells the gate which exception is handled. Where its
+/// participant has no entry now it waits past what it has seen. It need not return.
+pub fn drive<M: Machine, G: Gate + HandlerGate, R: Wait>(
     rt: &R,
     manager: &Manager<M>,
     mut seat: Seat<M>,
@@ -107,6 +129,7 @@ pub fn drive<M: Machine, G: Gate, R: Wait>(
     ensures legal { IsLegal (plan_in manager.now) (seen_by result) }
     ensures over { is_over (plan_in manager.now) (reverse (seen_by result)) (participant_of seat) ≡ true }
     ensures told { TellsOwnWork (G.was_told gate.now) (participant_of seat) (seen_by seat) (seen_by result) }
+    ensures handed { TellsOwnHandlers (G.was_handed gate.now) (participant_of seat) (seen_by seat) (seen_by result) }
 {
     for _ in rt.forever() {
         match take_whole_turn(rt, manager, &mut seat, gate) {

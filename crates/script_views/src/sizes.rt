@@ -152,10 +152,16 @@ pub fn tell_limit(form: &Form, notes: &mut Page) -> Result<usize, OutOfMemory> {
         Piece::Text(what),
         Piece::Text(", which is the most"),
     ])?;
-    if let Form::Roles(_) = form {
-        return Ok(MOST_ROLES.saturating_add(1));
+    match form {
+        Form::Roles(_) => Ok(MOST_ROLES.saturating_add(1)),
+        Form::Play(_, _) => {
+            notes.note(&[Piece::Text(
+                "a play has a place for its action, and one for each use that is nested in it, on all levels: play less often, or nest less",
+            )])?;
+            Ok(0)
+        }
+        _ => Ok(0),
     }
-    Ok(0)
 }
 
 /// How many plays stand in these lines.
@@ -168,13 +174,24 @@ fn plays_in(lines: &[Line]) -> usize {
 
 /// Tells that journals could get too long.
 pub fn tell_bound(scene: &Scene, notes: &mut Page) -> Result<usize, OutOfMemory> {
+    let plays = plays_in(scene.before) as u64;
+    if plays == 0 {
+        notes.note(&[
+            Piece::Text("the journal of this play alone could have more than "),
+            Piece::Number(MOST_ENTRIES),
+            Piece::Text(" entries, which is the most"),
+        ])?;
+        notes.note(&[Piece::Text("nest less in its action, or shorten bodies")])?;
+        return Ok(0);
+    }
     notes.note(&[
         Piece::Text("with this play and the "),
-        Piece::Number(plays_in(scene.before) as u64),
+        Piece::Number(plays),
         Piece::Text(" above it a journal could have more than "),
         Piece::Number(MOST_ENTRIES),
-        Piece::Text(" entries, which is the most: play less often, or shorter bodies"),
+        Piece::Text(" entries, which is the most"),
     ])?;
+    notes.note(&[Piece::Text("play less often, nest less, or shorten bodies")])?;
     Ok(0)
 }
 

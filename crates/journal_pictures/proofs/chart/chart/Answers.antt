@@ -11,7 +11,7 @@ push_body-requires c =
     let part : c.drawn-part.result.now ≡ drawn c.args.first c.args.count c.args.journal.now.entries =
     c.drawn-part.ensures.part ∙ ap (drawn c.args.first c.args.count) c.as_slice.ensures in
     All-same (λ m. IsWellFormed c.args.plan.now m.entry) _ _
-    (c.deref-2.ensures.value ∙ c.in_ok-marks.ensures ∙ ap (marks_from 0) part)
+    (c.deref-3.ensures.value ∙ c.in_ok-marks.ensures ∙ ap (marks_from 0) part)
     (marks_drawn (IsWellFormed c.args.plan.now) c.args.first c.args.count c.args.journal.now.entries c.requires)
 
 pub returns : goal.returns
@@ -23,14 +23,14 @@ returns c =
     let shapes = c.in_ok-shapes.shapes.items in
     let part : c.drawn-part.result.now ≡ drawn c.args.first c.args.count c.args.journal.now.entries =
     c.drawn-part.ensures.part ∙ ap (drawn c.args.first c.args.count) c.as_slice.ensures in
-    let marks : c.deref-2.result.now ≡ marks_from 0 (drawn c.args.first c.args.count c.args.journal.now.entries) =
-    c.deref-2.ensures.value ∙ c.in_ok-marks.ensures ∙ ap (marks_from 0) part in
+    let marks : c.deref-3.result.now ≡ marks_from 0 (drawn c.args.first c.args.count c.args.journal.now.entries) =
+    c.deref-3.ensures.value ∙ c.in_ok-marks.ensures ∙ ap (marks_from 0) part in
     record {
       width = c.width.result;
       height = c.height.result;
       shapes = shapes;
       same = c.in_ok-push_body.ensures
-          ∙ ap (λ parts. begun ++ body_text plan parts c.deref-2.result.now) c.deref.ensures.value
+          ∙ ap (λ parts. begun ++ body_text plan parts c.deref-3.result.now) c.deref-2.ensures.value
           ∙ ap (λ all. begun ++ body_text plan shapes all) marks
           ∙ ap (λ t. t ++ body_text plan shapes (marks_from 0 (drawn c.args.first c.args.count c.args.journal.now.entries))) front;
     }

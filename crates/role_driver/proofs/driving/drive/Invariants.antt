@@ -2,6 +2,7 @@ use Rattle.std.proofs.Common.{◌≡◌}
 use mathlib.Core.List.{IsPrefix}
 use Rattle.action_manager.specs.Managers.{IsSeatIn}
 use Rattle.action_manager.specs.Seats.{participant_of, seen_by}
+use Rattle.role_driver.specs.Handling.{TellsOwnHandlers}
 use Rattle.role_driver.specs.Working.{TellsOwnWork}
 use Rattle.role_driver.proofs.driving.drive.Given as goal
 
@@ -11,5 +12,7 @@ invariant-loop g l = record {
   same : participant_of l.seat ≡ participant_of l.initial.seat;
   seen : IsPrefix (seen_by l.initial.seat) (seen_by l.seat);
   told : TellsOwnWork (g.G.Gate.was_told l.gate) (participant_of l.initial.seat) (seen_by l.initial.seat) (seen_by l.seat);
+  handed :
+      TellsOwnHandlers (g.G.HandlerGate.was_handed l.gate) (participant_of l.initial.seat) (seen_by l.initial.seat) (seen_by l.seat);
   goes : (goal.iterator-loop g).can_next l.iterator' × (goal.iterator-loop g).is_finite l.iterator';
 }
