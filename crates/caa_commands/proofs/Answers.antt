@@ -39,13 +39,13 @@ refused_for script error refusal first line told =
 -- the bytes that spell a refused script are refused
 pub unplannable : (bytes : List ℕ) (script : Script) (refusal : Refusal) → reading_of bytes ≡ Ok script → IsRefusedLine script refusal
     → IsRefusedScript bytes refusal
-unplannable bytes script refusal spelled refused = inr (record { script = script; spelled = spelled; refused = refused })
+unplannable bytes script refusal spelled told = inr (record { script = script; spelled = spelled; refused = told })
 
 -- and so they are where there is no plan for that script
 pub unplanned : (bytes : List ℕ) (script : Script) (why : NoPlan) → reading_of bytes ≡ Ok script → IsUnplanned script why
     → HasNoPlan bytes why
-unplanned bytes script (no_plan.Refused refusal) spelled refused = unplannable bytes script refusal spelled refused
-unplanned bytes script no_plan.OutOfMemory spelled refused = tt
+unplanned bytes script (no_plan.Refused refusal) spelled told = unplannable bytes script refusal spelled told
+unplanned bytes script no_plan.OutOfMemory spelled told = tt
 
 pub unplanned_made : (bytes : List ℕ) (script : Script) (r : Result Plan NoPlan) → reading_of bytes ≡ Ok script
     → IfErr r (IsUnplanned script) → IfErr r (HasNoPlan bytes)

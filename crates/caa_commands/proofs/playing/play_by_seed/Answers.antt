@@ -6,14 +6,14 @@ use Rattle.role_driver.specs.Schedule.{GrewBy, first_of_seed}
 use Rattle.caa_commands.proofs.Reversed.{all_well_formed}
 use Rattle.caa_commands.proofs.playing.play_by_seed.Goals as goal
 
-pub returns-in-Ok-clause-entries : goal.returns-in-Ok-clause-entries
-returns-in-Ok-clause-entries g c =
+pub returns-clause-entries : goal.returns-clause-entries
+returns-clause-entries g c =
     let parts = c.into_parts.ensures in
     all_well_formed c.args.plan _ c.into_parts.result.2.entries (parts.plan ∙ c.sim.ensures.plan ∙ c.in-Ok.ensures.plan)
     parts.legal c.is_well_formed.ensures
 
-pub returns-in-Ok-clause-played : goal.returns-in-Ok-clause-played
-returns-in-Ok-clause-played g c =
+pub returns-clause-played : goal.returns-clause-played
+returns-clause-played g c =
     let parts = c.into_parts.ensures in
     let opened = c.in-Ok.ensures in
     let plan = c.args.plan in

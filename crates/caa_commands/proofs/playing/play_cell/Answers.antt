@@ -16,6 +16,6 @@ returns-in-Ok g c =
     (told.ends (summary_text c.in-Ok.plan journal cycles) c.summary-text.ensures) in
     inl (
       subst₂ (λ q j. IsSimulated plan cycles (left_of (plant_use g.P.Plant c.args.plant q) j)) (sym told.plant) (sym told.journal)
-      played.played,
+          played.played,
       subst (λ j. EndsWith plan j (summary_text plan j cycles) finding) (sym told.journal) seen,
     )

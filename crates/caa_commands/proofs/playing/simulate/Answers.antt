@@ -6,12 +6,12 @@ use Rattle.caa_commands.proofs.playing.simulate.Goals as goal
 pub returns-in-Ok : goal.returns-in-Ok
 returns-in-Ok g c =
     let played = c.in-Ok.ensures in
-    let told = c.ended.ensures in
+    let told = c.ended-in-Ok.ensures in
     let plan = c.args.plan in
-    let finding = c.ended.result.finding in
+    let finding = c.ended-in-Ok.result.finding in
     let seen = subst₂ (λ p s. EndsAs p c.in-Ok.journal.entries s finding) played.plan c.empty.ensures.seens told.ends in
     inl (
       subst₂ (λ q j. IsSimulated plan c.args.seed (left_of (plant_use g.P.Plant c.args.plant q) j)) (sym told.plant) (sym told.journal)
-      played.played,
+          played.played,
       subst (λ j. EndsAs plan j [] finding) (sym told.journal) seen,
     )

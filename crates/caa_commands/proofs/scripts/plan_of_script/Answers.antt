@@ -4,12 +4,12 @@ use Rattle.journal_text.proofs.OnTexts.WellNamed.{well_named}
 use Rattle.caa_commands.proofs.PlansOfScripts.{only_plan}
 use Rattle.caa_commands.proofs.scripts.plan_of_script.Goals as goal
 
-pub returns-clause-refused : goal.returns-clause-refused
-returns-clause-refused c =
+pub returns-in_ok-refusal-in-Err-clause-refused : goal.returns-in_ok-refusal-in-Err-clause-refused
+returns-in_ok-refusal-in-Err-clause-refused c =
     let script = c.args.script.now in
     let error = c.in-Err.error in
-    let told = c.in-Err-in_ok-refusal.ensures in
-    refused_for script error c.in-Err-in_ok-refusal.refusal
+    let told = c.in_ok-refusal-in-Err.ensures in
+    refused_for script error c.in_ok-refusal-in-Err.refusal
     (refusal_answered script (Err error) error c.in-Err.ensures refl) told.line told.fault
 
 pub returns-in-Ok-clause-plan : goal.returns-in-Ok-clause-plan
