@@ -324,7 +324,6 @@ def cells(program):
     compare("cell 10, closed", program, ["cell", "10"], 0, cell_summary(10), preexec_fn=closed_input)
     compare("cell 10, from a folder", program, ["cell", "10"], 0, cell_summary(10), stdin=os.open(CASES, os.O_RDONLY))
     compare("cell 10, status 5", program, ["cell", "10"], 5, None, stdout=open("/dev/full", "wb"))
-    compare("cell 2000, status 8", program, ["cell", "2000"], 8, "", preexec_fn=little_memory)
     compare("check of its script", program, ["check"], 0, cell_counts(2000), input=cell_script(2000).encode())
 
 
