@@ -3,13 +3,13 @@
 ghost use Rattle.std.specs.Prelude.{◌≡◌, ◌∷◌, ◌++◌, [], codes, decimal, is_ok, OnOk, IfOk};
 ghost use Rattle.std.specs.List.{flat_map};
 ghost use Rattle.place_plan.specs.RulesOfJournals.WellFormed.{IsWellFormed};
-ghost use Rattle.journal_text.specs.Texts.Text.{kind_word, entry_line};
+ghost use Rattle.journal_text.specs.Texts.Text.{entry_line};
 ghost use Rattle.journal_pictures.specs.Pictures.{axis, middle, escaped_byte, escaped, length_text, element_text, area_text, line_text, words_text, shape_text, sign_text, title_text, mark_text, front_text};
 
 use crate::marks::Mark;
 use crate::shapes::Shape;
-use caa_base::written::entry::{Entry, Kind, OutOfMemory};
-use journal_text::texts::text_writer::push_entry;
+use caa_base::written::entry::{Entry, OutOfMemory};
+use journal_text::texts::text_writer::{kind_word, push_entry};
 use place_plan::plans::plan::Plan;
 use std::alloc::Global;
 use std::io::Write;
@@ -208,7 +208,7 @@ fn push_sign(text: &mut Vec<u8>, mark: &Mark) -> Result<(), OutOfMemory>
     ensures { OnOk result (text.new.items ≡ text.old.items ++ sign_text mark.now) }
 {
     text.extend_from_slice(b"<use href=\"#")?;
-    text.extend_from_slice(sign_of(mark.entry.kind))?;
+    text.extend_from_slice(kind_word(mark.entry.kind))?;
     text.push(b'"')?;
     push_length(text, b"x", axis(mark.lane))?;
     push_length(text, b"y", middle(mark.row))?;
@@ -234,32 +234,6 @@ fn line_of(alloc: Global, plan: &Plan, entry: &Entry) -> Result<Vec<u8>, OutOfMe
     let mut line = Vec::new(alloc);
     push_entry(&mut line, plan, entry)?;
     Ok(line)
-}
-
-/// The name of the sign of a kind.
-fn sign_of(kind: Kind) -> &'static [u8]
-    ensures { result.now ≡ kind_word kind }
-{
-    match kind {
-        Kind::Arrive => b"arrive",
-        Kind::Withdraw => b"withdraw",
-        Kind::Start => b"start",
-        Kind::Read => b"read",
-        Kind::Work => b"work",
-        Kind::Write => b"write",
-        Kind::Check => b"check",
-        Kind::PutFault => b"putfault",
-        Kind::Raise => b"raise",
-        Kind::Inform => b"inform",
-        Kind::Resolve => b"resolve",
-        Kind::Handle => b"handle",
-        Kind::Verdict => b"verdict",
-        Kind::Abort => b"abort",
-        Kind::Undo => b"undo",
-        Kind::Restore => b"restore",
-        Kind::End => b"end",
-        Kind::Leave => b"leave",
-    }
 }
 
 /// Adds the front of a picture of this size.

@@ -22,7 +22,7 @@ pub fn is_of_many(kind: Kind) -> bool {
 pub fn are_told_together(left: &Entry, right: &Entry) -> bool {
     is_of_many(left.kind)
         && left.kind != Kind::Raise
-        && (left.kind != Kind::Verdict || left.mark == 0)
+        && (left.kind != Kind::Verdict || verdict_at(left) == Verdict::Done)
         && left.kind == right.kind
         && left.place == right.place
         && left.arg == right.arg

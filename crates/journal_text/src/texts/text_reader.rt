@@ -70,11 +70,12 @@ fn after_front<'a>(text: &'a [u8], front: &[u8]) -> Option<&'a [u8]>
     text.strip_prefix(front)
 }
 
-/// The well-formed entry whose line a text begins with, and the rest of the text.
+/// The well-formed entry whose line a text begins with, and the rest of the text. The line is written again into `line`, whose
+/// memory serves one line after another.
 fn next_entry<'a>(
-    alloc: Global,
     plan: &Plan,
     text: &'a [u8],
+    line: &mut Vec<u8>,
 ) -> Result<Option<(Entry, &'a [u8])>, OutOfMemory>
     requires { is_well_named plan.now ≡ true }
     ensures { IfOk result (λ found. EntryFound plan.now text.now (option_map (λ r. (r.0, r.1.now)) found)) }
@@ -86,20 +87,21 @@ fn next_entry<'a>(
     if !is_well_formed(plan, &entry) {
         return Ok(None);
     }
-    let mut line = Vec::new(alloc);
-    push_entry(&mut line, plan, &entry)?;
+    line.clear();
+    push_entry(line, plan, &entry)?;
     match after_front(text, line.as_slice()) {
         Some(rest) => Ok(Some((entry, rest))),
         None => Ok(None),
     }
 }
 
-/// The look whose line a text begins with, where its watch is none before the least, and the rest of the text.
+/// The look whose line a text begins with, where its watch is none before the least, and the rest of the text. The line is written
+/// again into `line`, whose memory serves one line after another.
 fn next_seen<'a>(
-    alloc: Global,
     plan: &Plan,
     text: &'a [u8],
     least: u32,
+    line: &mut Vec<u8>,
 ) -> Result<Option<(Seen, &'a [u8])>, OutOfMemory>
     requires { is_well_named plan.now ≡ true }
     ensures { IfOk result (λ found. SeenFound plan.now least text.now (option_map (λ r. (r.0, r.1.now)) found)) }
@@ -108,8 +110,8 @@ fn next_seen<'a>(
     if !may_stand(plan, least, &seen) {
         return Ok(None);
     }
-    let mut line = Vec::new(alloc);
-    push_seen(&mut line, plan, &seen)?;
+    line.clear();
+    push_seen(line, plan, &seen)?;
     match after_front(text, line.as_slice()) {
         Some(rest) => Ok(Some((seen, rest))),
         None => Ok(None),
@@ -129,7 +131,8 @@ fn read_entries<'a>(
 {
     let mut entries = Vec::new(alloc);
     let mut rest = text;
-    while let Some((entry, after)) = next_entry(alloc, plan, rest)? {
+    let mut line = Vec::new(alloc);
+    while let Some((entry, after)) = next_entry(plan, rest, &mut line)? {
         if entries.len() as u64 == limit {
             return Err(TextError::TooMany { line: limit + 2 });
         }
@@ -151,7 +154,8 @@ fn read_seens<'a>(
     let mut seens = Vec::new(alloc);
     let mut rest = text;
     let mut least = 0;
-    while let Some((seen, after)) = next_seen(alloc, plan, rest, least)? {
+    let mut line = Vec::new(alloc);
+    while let Some((seen, after)) = next_seen(plan, rest, least, &mut line)? {
         seens.push(seen)?;
         rest = after;
         least = seen.watch;

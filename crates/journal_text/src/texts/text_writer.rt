@@ -394,8 +394,8 @@ fn push_outcome(
     }
 }
 
-/// The word of a kind.
-pub(crate) fn kind_word(kind: Kind) -> &'static [u8]
+/// The word with which the line of an entry of this kind begins.
+pub fn kind_word(kind: Kind) -> &'static [u8]
     ensures { result.now ≡ kind_word kind }
 {
     match kind {

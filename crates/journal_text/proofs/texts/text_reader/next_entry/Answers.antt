@@ -13,8 +13,8 @@ returns-then-not-is_well_formed c =
     both_ways c.is_well_formed.result c.if-not-is_well_formed.true
     (c.is_well_formed.ensures.1 (subst (IsWellFormed c.args.plan.now) one fit)))
 
-pub returns : goal.returns
-returns c =
+pub returns-in-None : goal.returns-in-None
+returns-in-None c =
     let plan = c.args.plan.now in
     let text = c.args.text.now in
     let entry = c.in-Some.entry in

@@ -13,8 +13,8 @@ returns-then-not-may_stand c =
     let own : MayCome c.args.plan.now c.args.least seen = subst (MayCome c.args.plan.now c.args.least) (sym found) fit in
     both_ways c.may_stand.result c.if-not-may_stand.true (c.may_stand.ensures.1 (own.0, own.1.watch, own.1.value)))
 
-pub returns : goal.returns
-returns c =
+pub returns-in-None : goal.returns-in-None
+returns-in-None c =
     let seen = c.seen_in-seen.result in
     let text = c.args.text.now in
     let printed : c.push_seen.new.text.items ≡ seen_line c.args.plan.now seen = search rules in

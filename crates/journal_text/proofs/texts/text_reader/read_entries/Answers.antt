@@ -12,33 +12,33 @@ use Rattle.journal_text.proofs.texts.text_reader.read_entries.Goals as goal
 pub returns-then-len-limit-clause-stopped : goal.returns-then-len-limit-clause-stopped
 returns-then-len-limit-clause-stopped c =
     let plan = c.args.plan.now in
-    let entries = c.loop-entries.entries.items in
+    let entries = c.loop-line.entries.items in
     let entry = c.in-Some.entry in
-    let found : EntryFound plan c.loop-entries.rest.now (Some (entry, c.in-Some.after.now)) =
-    subst (λ (o : Option (Entry × Bor (List ℕ))). EntryFound plan c.loop-entries.rest.now
+    let found : EntryFound plan c.loop-line.rest.now (Some (entry, c.in-Some.after.now)) =
+    subst (λ (o : Option (Entry × Bor (List ℕ))). EntryFound plan c.loop-line.rest.now
     (option_map (λ r. (r.0, r.1.now)) o)) c.in-Some.is c.in_ok-entry.ensures in (
       refl,
       record {
         entries = entries ++ entry ∷ [];
         rest = c.in-Some.after.now;
-        fit = All-push (IsWellFormed plan) entries entry c.loop-entries.invariant.fit found.0;
-        many = omega (arith, length-append entries (entry ∷ []), c.len.ensures, c.if-len-limit.true, c.loop-entries.entries.ok.0);
+        fit = All-push (IsWellFormed plan) entries entry c.loop-line.invariant.fit found.0;
+        many = omega (arith, length-append entries (entry ∷ []), c.len.ensures, c.if-len-limit.true, c.loop-line.entries.ok.0);
         front =
-            front-more (entry_line plan) entries entry c.args.text.now c.loop-entries.rest.now c.in-Some.after.now
-            c.loop-entries.invariant.front found.1;
+            front-more (entry_line plan) entries entry c.args.text.now c.loop-line.rest.now c.in-Some.after.now
+            c.loop-line.invariant.front found.1;
       },
     )
 
-pub loop-entries-preserved : goal.loop-entries-preserved
-loop-entries-preserved c =
+pub loop-line-preserved : goal.loop-line-preserved
+loop-line-preserved c =
     let plan = c.args.plan.now in
-    let entries = c.loop-entries.entries.items in
+    let entries = c.loop-line.entries.items in
     let entry = c.in-Some.entry in
-    let found : EntryFound plan c.loop-entries.rest.now (Some (entry, c.in-Some.after.now)) =
-    subst (λ (o : Option (Entry × Bor (List ℕ))). EntryFound plan c.loop-entries.rest.now
+    let found : EntryFound plan c.loop-line.rest.now (Some (entry, c.in-Some.after.now)) =
+    subst (λ (o : Option (Entry × Bor (List ℕ))). EntryFound plan c.loop-line.rest.now
     (option_map (λ r. (r.0, r.1.now)) o)) c.in-Some.is c.in_ok-entry.ensures in
     record {
-      fit = rw c.in_ok-push.ensures.items (All-push (IsWellFormed plan) entries entry c.loop-entries.invariant.fit found.0);
+      fit = rw c.in_ok-push.ensures.items (All-push (IsWellFormed plan) entries entry c.loop-line.invariant.fit found.0);
       few =
           rw c.in_ok-push.ensures.items
           (omega (
@@ -46,11 +46,11 @@ loop-entries-preserved c =
             length-append entries (entry ∷ []),
             c.len.ensures,
             c.if-len-limit.false,
-            c.loop-entries.entries.ok.0,
-            c.loop-entries.invariant.few,
+            c.loop-line.entries.ok.0,
+            c.loop-line.invariant.few,
           ));
       front =
           rw c.in_ok-push.ensures.items
-          (front-more (entry_line plan) entries entry c.args.text.now c.loop-entries.rest.now c.in-Some.after.now
-          c.loop-entries.invariant.front found.1);
+          (front-more (entry_line plan) entries entry c.args.text.now c.loop-line.rest.now c.in-Some.after.now
+          c.loop-line.invariant.front found.1);
     }
