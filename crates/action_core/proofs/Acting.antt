@@ -22,8 +22,8 @@ use Rattle.place_plan.specs.RulesOfJournals.Rules.{MayPut, MayLeave, Names, exce
 use Rattle.cover_table.specs.Cover.{CoverOrder, IsLeastCover, IsSound}
 use Rattle.resolution_core.specs.declared.recovery.Recovery.{Recovery}
 use Rattle.core_words.specs.Joining.{IsCoverOf}
-use Rattle.resolution_core.specs.Recoveries.{at, IsRunning}
-use Rattle.resolution_core.specs.Standing.{IsRecoveryOf, StandsFor, Acts}
+use Rattle.resolution_core.specs.inner.Recoveries.{at, IsRunning}
+use Rattle.resolution_core.specs.inner.Standing.{IsRecoveryOf, StandsFor, Acts}
 
 -- ---- what an entry does
 

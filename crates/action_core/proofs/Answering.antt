@@ -27,12 +27,12 @@ use Rattle.journal_laws.proofs.Holding.{undoing_started}
 use Rattle.journal_laws.proofs.Lives.{live_from}
 use Rattle.journal_laws.proofs.Over.{over_outside, over_done, over_from}
 use Rattle.role_states.specs.declared.frame.Frame.{Frame}
-use Rattle.role_states.specs.Stacks.{at, top}
-use Rattle.role_states.specs.Standing.{IsInnermost, IsFrameOf, StandsFor}
+use Rattle.role_states.specs.inner.Stacks.{at, top}
+use Rattle.role_states.specs.inner.Standing.{IsInnermost, IsFrameOf, StandsFor}
 use Rattle.role_states.proofs.Keeping.{innermost}
 use Rattle.resolution_core.specs.declared.recovery.Recovery.{Recovery}
-use Rattle.resolution_core.specs.Recoveries.{at as recovery_at}
-use Rattle.resolution_core.specs.Standing.{StandsFor as RecoveriesStand}
+use Rattle.resolution_core.specs.inner.Recoveries.{at as recovery_at}
+use Rattle.resolution_core.specs.inner.Standing.{StandsFor as RecoveriesStand}
 use Rattle.object_versions.specs.declared.version.Version.{Version}
 use Rattle.object_versions.specs.inner.KeptVersions.{at as version_at, Stands as VersionsStand}
 use Rattle.action_core.specs.declared.stage.Stage.{Stage}
@@ -123,13 +123,6 @@ module _ (plan : Plan) (playable : IsPlayable plan) (past : List Entry) (legal :
           ap₂ (λ o n. slice_get (program_in plan p t o).steps n) (exception_right t p here) (position_right t p here)
 
   -- ---- plays
-
-  -- who is no participant has no play
-  no_plays : (t : ℕ) → length plan.participants ≤ t → next_play plan past t ≡ None
-  no_plays t high =
-      first_not_nowhere (λ p. has_by kind.Arrive past p t) (plays_of plan t) (λ p m.
-      let low = playable.known p t (plays_in plan t plan.plays p m).1 in
-      absurd (omega (arith, low, high)))
 
   pub over_right : (t : ℕ) → (is_none (inside plan past t) && is_none (next_play plan past t)) ≡ is_over plan past t
   over_right t = same_tests _ _ (λ w. by_both (inside plan past t) (next_play plan past t) refl refl w)

@@ -26,8 +26,8 @@ use Rattle.journal_laws.proofs.Arrivals.{fresh, begins_play, next_has, inside_ar
 use Rattle.journal_laws.proofs.Visited.{visits}
 use Rattle.action_core.proofs.Blank.{blank}
 use Rattle.role_states.specs.declared.frame.Frame.{Frame}
-use Rattle.role_states.specs.Stacks.{at, top, rest, most_frames}
-use Rattle.role_states.specs.Standing.{chain, NestsWell, AreFramesOf, IsStackOf, StandsFor, Comes, Steps, is_step, value_given}
+use Rattle.role_states.specs.inner.Stacks.{at, top, rest, most_frames}
+use Rattle.role_states.specs.inner.Standing.{chain, NestsWell, AreFramesOf, IsStackOf, StandsFor, Comes, Steps, is_step, value_given}
 use Rattle.action_core.proofs.Makers.{maker_known, row_of}
 
 module _ (plan : Plan) (tree : IsTree plan) where

@@ -23,7 +23,7 @@ use Rattle.journal_laws.proofs.Phases.{hot_open}
 use Rattle.journal_laws.proofs.Ranges.{verdict_fields, place_known}
 use Rattle.journal_laws.proofs.Raised.{parent_round}
 use Rattle.journal_laws.proofs.Recovering.{handling_given}
-use Rattle.resolution_core.specs.Standing.{Acts}
+use Rattle.resolution_core.specs.inner.Standing.{Acts}
 use Rattle.action_endings.specs.declared.ending.Ending.{Ending}
 use Rattle.action_endings.specs.inner.KeptEndings.{at, tried_kept, SignalsBelow, exception_named, Stands}
 use Rattle.action_endings.specs.inner.ChangedEndings.{MaySay, is_apart, RaisesFirst, NoneCounts, Says, LeavesEndings}

@@ -4,8 +4,8 @@ ghost use Rattle.place_plan.specs.RulesOfJournals.Whereabouts.{is_left_in_silenc
 ghost use Rattle.place_plan.specs.RulesOfJournals.Raising.{has_handled};
 ghost use Rattle.place_plan.specs.RulesOfJournals.Rules.{MayFollow};
 ghost use Rattle.place_plan.specs.RulesOfJournals.Journals.{LegalPast};
-ghost use Rattle.role_states.specs.Standing.{StandsFor as FramesStand};
-ghost use Rattle.resolution_core.specs.Standing.{StandsFor as RecoveriesStand};
+ghost use Rattle.role_states.specs.inner.Standing.{StandsFor as FramesStand};
+ghost use Rattle.resolution_core.specs.inner.Standing.{StandsFor as RecoveriesStand};
 ghost use Rattle.object_versions.specs.inner.KeptVersions.{Stands as VersionsStand};
 
 use caa_base::written::entry::{Entry, Kind};

@@ -11,8 +11,8 @@ use Rattle.place_plan.specs.Plans.PlanValue.{Plan}
 use Rattle.place_plan.specs.Plans.Places.{internal_of}
 use Rattle.place_plan.specs.RulesOfJournals.Raising.{exceptions_raised, is_halted, exception_resolved}
 use Rattle.resolution_core.specs.declared.recovery.Recovery.{Recovery}
-use Rattle.resolution_core.specs.Recoveries.{unraised, at, resolved_to, ChangesAt, Raised, Informed}
-use Rattle.resolution_core.specs.Standing.{IsRecoveryOf, StandsFor, Acts}
+use Rattle.resolution_core.specs.inner.Recoveries.{unraised, at, resolved_to, ChangesAt, Raised, Informed}
+use Rattle.resolution_core.specs.inner.Standing.{IsRecoveryOf, StandsFor, Acts}
 
 -- these are exceptions of p
 abbrev AreKnown : Plan → ℕ → List ℕ → Type 0

@@ -1,2 +1,1 @@
-pub mod Recoveries
-pub mod Standing
+pub mod inner

@@ -6,8 +6,8 @@ ghost use Rattle.caa_base.specs.declared.written.entry.Entry.{Entry as EntryValu
 ghost use Rattle.place_plan.specs.Plans.PlanValue.{Plan as PlanValue};
 ghost use Rattle.place_plan.specs.Plans.Places.{internal_of, roles_of};
 ghost use Rattle.place_plan.specs.RulesOfJournals.Raising.{exceptions_raised, is_raised, is_halted, all_are_halted, exception_resolved};
-ghost use Rattle.resolution_core.specs.Recoveries.{at, resolved_to, IsRunning, ChangesAt, Raised, Informed};
-ghost use Rattle.resolution_core.specs.Standing.{StandsFor, Acts};
+ghost use Rattle.resolution_core.specs.inner.Recoveries.{at, resolved_to, IsRunning, ChangesAt, Raised, Informed};
+ghost use Rattle.resolution_core.specs.inner.Standing.{StandsFor, Acts};
 
 use crate::recovery::Recovery;
 use caa_base::written::entry::{Exception, OutOfMemory, Participant, Place};

@@ -13,8 +13,8 @@ use Rattle.place_plan.specs.RulesOfJournals.Raising.{has_handled}
 use Rattle.place_plan.specs.RulesOfJournals.Roles.{position, register, advances, gives_value}
 use Rattle.place_plan.proofs.OnJournals.EntryKinds.{of_kind}
 use Rattle.role_states.specs.declared.frame.Frame.{Frame}
-use Rattle.role_states.specs.Stacks.{at, top, rest, entered, advanced, begun, changed}
-use Rattle.role_states.specs.Standing.{chain, NestsWell, IsFrameOf, AreFramesOf, IsStackOf, StandsFor, IsInnermost, Comes, is_step, value_given, Steps, BeginsHandler, GoesOut, ComesBack}
+use Rattle.role_states.specs.inner.Stacks.{at, top, rest, entered, advanced, begun, changed}
+use Rattle.role_states.specs.inner.Standing.{chain, NestsWell, IsFrameOf, AreFramesOf, IsStackOf, StandsFor, IsInnermost, Comes, is_step, value_given, Steps, BeginsHandler, GoesOut, ComesBack}
 
 -- an entry of this kind is e itself
 of_its_kind : (k : Kind) (e : Entry) → e.kind ≡ k → of_kind k e ≡ e

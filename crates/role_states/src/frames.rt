@@ -1,8 +1,8 @@
 ghost use Rattle.std.specs.Prelude.{◌≡◌, ◌<◌, ◌-◌, ◌^◌, ◌∷◌, [], List, length, slice_set, false, is_none, None, IfOk, IfSome};
 ghost use Rattle.caa_base.specs.declared.written.entry.Entry.{Entry as EntryValue};
 ghost use Rattle.place_plan.specs.Plans.PlanValue.{Plan as PlanValue};
-ghost use Rattle.role_states.specs.Stacks.{most_frames, top, rest, at, entered, advanced, begun, changed};
-ghost use Rattle.role_states.specs.Standing.{NestsWell, IsInnermost, StandsFor, Comes, Steps, BeginsHandler, GoesOut, ComesBack};
+ghost use Rattle.role_states.specs.inner.Stacks.{most_frames, top, rest, at, entered, advanced, begun, changed};
+ghost use Rattle.role_states.specs.inner.Standing.{NestsWell, IsInnermost, StandsFor, Comes, Steps, BeginsHandler, GoesOut, ComesBack};
 
 use crate::frame::Frame;
 use crate::stack::Stack;

@@ -1,5 +1,5 @@
 ghost use Rattle.std.specs.Prelude.{◌≡◌, ◌<◌, ◌∷◌, [], length, false, is_none, IfOk};
-ghost use Rattle.role_states.specs.Stacks.{most_frames, top, rest};
+ghost use Rattle.role_states.specs.inner.Stacks.{most_frames, top, rest};
 
 use crate::frame::Frame;
 use caa_base::written::entry::OutOfMemory;
@@ -15,7 +15,7 @@ pub struct Stack {
 impl Model for Stack {
     ghost use Rattle.std.specs.Prelude.{◌≡◌, List, reverse, vec_capacity};
     ghost use Rattle.role_states.specs.declared.frame.Frame.{Frame as FrameValue};
-    ghost use Rattle.role_states.specs.Stacks.{most_frames};
+    ghost use Rattle.role_states.specs.inner.Stacks.{most_frames};
 
     ghost Value = { List FrameValue };
 

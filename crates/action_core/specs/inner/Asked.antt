@@ -2,9 +2,9 @@
 use Rattle.std.specs.Prelude.{ℕ, pos, Bool, false, if◌then◌else◌, List, Option, Some, None}
 use Rattle.caa_base.specs.Written.Lists.{is_at}
 use Rattle.role_states.specs.declared.frame.Frame.{Frame}
-use Rattle.role_states.specs.Stacks.{at, top}
+use Rattle.role_states.specs.inner.Stacks.{at, top}
 use Rattle.resolution_core.specs.declared.recovery.Recovery.{Recovery}
-use Rattle.resolution_core.specs.Recoveries.{at as recovery_at}
+use Rattle.resolution_core.specs.inner.Recoveries.{at as recovery_at}
 
 -- the place of a frame, where there is one
 abbrev pub place_of : Option Frame → Option ℕ

@@ -3,11 +3,11 @@ use Rattle.std.specs.Prelude.{List}
 use Rattle.caa_base.specs.declared.written.entry.Entry.{Entry}
 use Rattle.place_plan.specs.Plans.PlanValue.{Plan}
 use Rattle.role_states.specs.declared.frame.Frame.{Frame}
-use Rattle.role_states.specs.Standing.{StandsFor as FramesStand}
+use Rattle.role_states.specs.inner.Standing.{StandsFor as FramesStand}
 use Rattle.object_versions.specs.declared.version.Version.{Version}
 use Rattle.object_versions.specs.inner.KeptVersions.{Stands as VersionsStand}
 use Rattle.resolution_core.specs.declared.recovery.Recovery.{Recovery}
-use Rattle.resolution_core.specs.Standing.{StandsFor as RecoveriesStand}
+use Rattle.resolution_core.specs.inner.Standing.{StandsFor as RecoveriesStand}
 use Rattle.action_endings.specs.declared.ending.Ending.{Ending}
 use Rattle.action_endings.specs.inner.KeptEndings.{Stands as EndingsStand}
 use Rattle.action_core.specs.declared.stage.Stage.{Stage}

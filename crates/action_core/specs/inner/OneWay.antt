@@ -12,11 +12,11 @@ use Rattle.caa_base.specs.declared.written.entry.Verdict.TheVariants as verdict
 use Rattle.caa_base.specs.Written.Marks.{verdict_mark, verdict_of_mark, outcome_mark, outcome_of_mark}
 use Rattle.place_plan.specs.Plans.PlanValue.{Plan}
 use Rattle.role_states.specs.declared.frame.Frame.{Frame}
-use Rattle.role_states.specs.Standing.{AreFramesOf, StandsFor as FramesStand}
+use Rattle.role_states.specs.inner.Standing.{AreFramesOf, StandsFor as FramesStand}
 use Rattle.object_versions.specs.declared.version.Version.{Version}
 use Rattle.object_versions.specs.inner.KeptVersions.{Stands as VersionsStand}
 use Rattle.resolution_core.specs.declared.recovery.Recovery.{Recovery}
-use Rattle.resolution_core.specs.Standing.{StandsFor as RecoveriesStand}
+use Rattle.resolution_core.specs.inner.Standing.{StandsFor as RecoveriesStand}
 use Rattle.action_endings.specs.declared.ending.Ending.{Ending}
 use Rattle.action_endings.specs.inner.KeptEndings.{SignalsBelow, Stands as EndingsStand}
 use Rattle.action_core.specs.declared.stage.Stage.{Stage}

@@ -4,8 +4,8 @@ ghost use Rattle.cover_table.specs.Cover.{has_bit};
 ghost use Rattle.caa_base.specs.declared.written.entry.Entry.{Entry as EntryValue};
 ghost use Rattle.place_plan.specs.Plans.Places.{roles_of};
 ghost use Rattle.place_plan.specs.RulesOfJournals.Raising.{all_are_halted};
-ghost use Rattle.resolution_core.specs.Recoveries.{at};
-ghost use Rattle.resolution_core.specs.Standing.{StandsFor};
+ghost use Rattle.resolution_core.specs.inner.Recoveries.{at};
+ghost use Rattle.resolution_core.specs.inner.Standing.{StandsFor};
 
 use caa_base::written::entry::Place;
 use place_plan::plans::plan::Plan;

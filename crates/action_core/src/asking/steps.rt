@@ -4,8 +4,8 @@ ghost use Rattle.place_plan.specs.RulesOfJournals.Whereabouts.{inside};
 ghost use Rattle.place_plan.specs.RulesOfJournals.Raising.{has_handled, exception_resolved};
 ghost use Rattle.place_plan.specs.RulesOfJournals.Roles.{register, or_idle, program_in, program_of, next_step, was_refused_in_handler};
 ghost use Rattle.place_plan.specs.RulesOfJournals.Journals.{LegalPast};
-ghost use Rattle.role_states.specs.Standing.{StandsFor as FramesStand};
-ghost use Rattle.resolution_core.specs.Standing.{StandsFor as RecoveriesStand};
+ghost use Rattle.role_states.specs.inner.Standing.{StandsFor as FramesStand};
+ghost use Rattle.resolution_core.specs.inner.Standing.{StandsFor as RecoveriesStand};
 ghost use Rattle.action_core.specs.inner.Asked.{frame_kept, handled_kept};
 ghost use Rattle.action_core.specs.inner.KeptPeople.{PersonOfEach};
 

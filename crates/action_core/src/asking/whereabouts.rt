@@ -10,7 +10,7 @@ ghost use Rattle.place_plan.specs.RulesOfJournals.Whereabouts.{inside, all_are_i
 ghost use Rattle.place_plan.specs.RulesOfJournals.Raising.{is_calm};
 ghost use Rattle.place_plan.specs.RulesOfJournals.Roles.{next_step, next_play, is_over};
 ghost use Rattle.place_plan.specs.RulesOfJournals.Journals.{LegalPast};
-ghost use Rattle.role_states.specs.Standing.{StandsFor as FramesStand};
+ghost use Rattle.role_states.specs.inner.Standing.{StandsFor as FramesStand};
 ghost use Rattle.action_core.specs.inner.Asked.{place_kept, is_kept_in};
 ghost use Rattle.action_core.specs.inner.KeptStages.{StageOfEach, has_ended_by, is_undone_kept, at as stage_at};
 ghost use Rattle.action_core.specs.inner.KeptPeople.{PersonOfEach, at as person_at};

@@ -2,7 +2,7 @@ use Rattle.std.proofs.Common.{◌≡◌, ◌∙◌, ◌⊎◌, to_z, of_z, w64, 
 use Rattle.caa_base.specs.declared.written.entry.Kind.{Kind}
 use Rattle.caa_base.specs.declared.written.entry.Kind.TheVariants as kind
 use Rattle.std.proofs.lemmas.Int.{ints}
-use Rattle.role_states.specs.Standing.{is_step, value_given, Steps}
+use Rattle.role_states.specs.inner.Standing.{is_step, value_given, Steps}
 use Rattle.place_plan.specs.RulesOfJournals.Roles.{gives_value}
 use Rattle.journal_laws.proofs.PlayablePlan.{is_playable}
 use Rattle.action_core.proofs.Makers.{row_of}

@@ -10,7 +10,7 @@ use Rattle.place_plan.specs.RulesOfJournals.Raising.{exceptions_raised}
 use Rattle.journal_laws.proofs.PlayablePlan.{is_playable}
 use Rattle.journal_laws.proofs.Ranges.{raise_in_range}
 use Rattle.journal_laws.proofs.Phases.{hot_open}
-use Rattle.resolution_core.specs.Standing.{Acts}
+use Rattle.resolution_core.specs.inner.Standing.{Acts}
 use Rattle.resolution_core.proofs.Keeping.{nothing_keeps}
 use Rattle.place_plan.proofs.OnPlans.SmallParts.{few_participants}
 use Rattle.action_core.proofs.Makers.{of_its_kind}

@@ -1,6 +1,6 @@
 use Rattle.std.proofs.Common.{subst}
 use Rattle.cover_table.specs.Cover.{CoverOrder, IsSound}
-use Rattle.resolution_core.specs.Recoveries.{ChangesAt, Raised}
+use Rattle.resolution_core.specs.inner.Recoveries.{ChangesAt, Raised}
 use Rattle.resolution_core.proofs.Keeping.{raised_keeps}
 use Rattle.resolution_core.proofs.resolver.Resolver.raise.Goals as goal
 

@@ -2,8 +2,8 @@ use Rattle.std.proofs.Common.{◌≡◌, ◌∙◌, ◌∷◌, sym, ap, subst, S
 use Rattle.place_plan.specs.Plans.Places.{internal_of}
 use Rattle.place_plan.specs.RulesOfJournals.Raising.{exceptions_raised}
 use Rattle.core_words.specs.Joining.{IsCoverOf}
-use Rattle.resolution_core.specs.Recoveries.{at, resolved_to}
-use Rattle.resolution_core.specs.Standing.{StandsFor}
+use Rattle.resolution_core.specs.inner.Recoveries.{at, resolved_to}
+use Rattle.resolution_core.specs.inner.Standing.{StandsFor}
 use Rattle.resolution_core.proofs.Keeping.{resolved_keeps}
 use Rattle.resolution_core.proofs.resolver.Resolver.resolve.Goals as goal
 

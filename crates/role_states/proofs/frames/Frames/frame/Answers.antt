@@ -1,6 +1,6 @@
 use Rattle.std.proofs.Common.{subst, sym}
-use Rattle.role_states.specs.Stacks.{at}
-use Rattle.role_states.specs.Standing.{IsInnermost}
+use Rattle.role_states.specs.inner.Stacks.{at}
+use Rattle.role_states.specs.inner.Standing.{IsInnermost}
 use Rattle.role_states.proofs.Keeping.{innermost}
 use Rattle.role_states.proofs.frames.Frames.frame.Goals as goal
 

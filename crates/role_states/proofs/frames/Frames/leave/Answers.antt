@@ -1,5 +1,5 @@
 use Rattle.std.proofs.Common.{◌∷◌, subst, sym}
-use Rattle.role_states.specs.Standing.{StandsFor}
+use Rattle.role_states.specs.inner.Standing.{StandsFor}
 use Rattle.role_states.proofs.Keeping.{goes_keeps}
 use Rattle.role_states.proofs.frames.Frames.leave.Goals as goal
 

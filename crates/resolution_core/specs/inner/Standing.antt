@@ -9,7 +9,7 @@ use Rattle.place_plan.specs.Plans.Places.{internal_of}
 use Rattle.place_plan.specs.RulesOfJournals.Entries.{is_in}
 use Rattle.place_plan.specs.RulesOfJournals.Raising.{raises_in, exceptions_raised, halts_in, is_halted, exception_resolved}
 use Rattle.resolution_core.specs.declared.recovery.Recovery.{Recovery}
-use Rattle.resolution_core.specs.Recoveries.{at}
+use Rattle.resolution_core.specs.inner.Recoveries.{at}
 
 -- the recovery is that of p by the past: it has the least cover of all that was raised there, who was halted there, and the
 -- exception to which p was resolved

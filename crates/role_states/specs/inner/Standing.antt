@@ -10,7 +10,7 @@ use Rattle.place_plan.specs.RulesOfJournals.Whereabouts.{inside, is_left_in_sile
 use Rattle.place_plan.specs.RulesOfJournals.Raising.{has_handled}
 use Rattle.place_plan.specs.RulesOfJournals.Roles.{position, register, gives_value}
 use Rattle.role_states.specs.declared.frame.Frame.{Frame}
-use Rattle.role_states.specs.Stacks.{at}
+use Rattle.role_states.specs.inner.Stacks.{at}
 
 -- the place, and those round it
 abbrev pub chain : Plan → Option ℕ → List ℕ
