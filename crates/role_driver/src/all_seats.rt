@@ -1,10 +1,11 @@
-ghost use Rattle.std.specs.Prelude.{◌≡◌, [], length, map, reverse, All, vec_capacity};
+ghost use Rattle.std.specs.Prelude.{◌≡◌, length, map, reverse, All};
 ghost use mathlib.Core.List.{IsPrefix};
 ghost use Rattle.place_plan.specs.RulesOfJournals.Journals.{IsLegal, IsComplete};
 ghost use Rattle.action_manager.specs.Publishing.{Publishes};
 ghost use Rattle.action_manager.specs.Managers.{plan_in, handed_in, book_in, IsSeatIn};
 ghost use Rattle.action_manager.specs.Seats.{participant_of, HaveAll};
 ghost use Rattle.role_driver.specs.SeatsDriven.{IsDone};
+ghost use Rattle.role_driver.specs.inner.Room.{HasRoomFor};
 
 use crate::driving::drive;
 use action_manager::{Closed, Manager, Seat};
@@ -20,7 +21,7 @@ pub fn drive_each<M: Machine, G: Gate, R: Wait>(
     mut driven: Vec<Seat<M>>,
     gate: &G,
 ) -> Vec<Seat<M>>
-    requires room { (driven.items ≡ []) × (vec_capacity driven ≡ length seats.items) }
+    requires room { HasRoomFor (length seats.items) driven }
     requires opened { All (λ s. IsSeatIn M.base_of manager.now s) seats.items }
     ensures done { All (λ s. IsDone M.base_of manager.now s) result.items }
     ensures same { map participant_of result.items ≡ map participant_of seats.items }

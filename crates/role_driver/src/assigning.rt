@@ -1,5 +1,6 @@
-ghost use Rattle.std.specs.Prelude.{◌≡◌, ◌<◌, [], All, length, map, replicate, vec_capacity};
+ghost use Rattle.std.specs.Prelude.{◌≡◌, ◌<◌, All, length, map, replicate};
 ghost use Rattle.shared_views.specs.Committing.{placeless};
+ghost use Rattle.role_driver.specs.inner.Room.{HasRoomFor};
 ghost use Rattle.role_driver.specs.inner.Watching.{task_of};
 ghost use Rattle.role_driver.specs.inner.WatchRooms.{task_with, observer_of};
 
@@ -18,7 +19,7 @@ pub fn watchers_for<M: Machine>(
 ) -> Vec<Watcher>
     requires observers { map placeless observers.items ≡ replicate (length blanks.items) (observer_of _manager.now) }
     requires objects { All (λ b. b.object < length (observer_of _manager.now).initials) blanks.items }
-    requires room { (watchers.items ≡ []) × (vec_capacity watchers ≡ length blanks.items) }
+    requires room { HasRoomFor (length blanks.items) watchers }
     ensures { map task_of result.items ≡ map (λ b. task_with (observer_of _manager.now) b.object) blanks.items }
 {
     for blank in blanks {

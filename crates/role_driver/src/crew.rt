@@ -1,10 +1,11 @@
-ghost use Rattle.std.specs.Prelude.{◌≡◌, [], length, map, reverse, true, All, IfOk, IfErr, IsTrue, vec_capacity};
+ghost use Rattle.std.specs.Prelude.{◌≡◌, length, map, reverse, true, All, IfOk, IfErr, IsTrue};
 ghost use Rattle.place_plan.specs.RulesOfJournals.Roles.{is_over};
 ghost use Rattle.role_driver.specs.Handling.{TellsOwnHandlers};
 ghost use Rattle.role_driver.specs.Working.{TellsOwnWork};
 ghost use Rattle.role_driver.specs.inner.Crew.{IsBack, IsMember, who_of};
 ghost use Rattle.action_manager.specs.Managers.{plan_in, IsSeatIn};
 ghost use Rattle.action_manager.specs.Seats.{participant_of, seen_by, IsBeside};
+ghost use Rattle.role_driver.specs.inner.Room.{HasRoomFor};
 
 use crate::driving::{drive, take_whole_turn};
 use crate::flag::Flag;
@@ -115,7 +116,7 @@ pub fn start_all<'s, E, M: Machine + Send, G: Gate + Sync, R: Threads + Wait + S
     handed_back: &'s [AtomicBool],
     gate: &'s G,
 ) -> Vec<Member<M>>
-    requires room { (crew.items ≡ []) × (vec_capacity crew ≡ length seats.items) }
+    requires room { HasRoomFor (length seats.items) crew }
     requires flags { length handed_back.now ≡ length seats.items }
     requires opened { All (λ s. IsSeatIn M.base_of manager.now s) seats.items }
     ensures crew { All (λ r. IsMember M.base_of manager.now (λ h. h.promise.seat.value) r) result.items }
@@ -232,7 +233,7 @@ pub fn join_all<M: Machine, G: Gate, R: Threads + Wait>(
     mut seats: Vec<Seat<M>>,
     gate: &G,
 ) -> Vec<Seat<M>>
-    requires room { (seats.items ≡ []) × (vec_capacity seats ≡ length crew.items) }
+    requires room { HasRoomFor (length crew.items) seats }
     requires crew { All (λ r. IsMember M.base_of manager.now (λ h. h.promise.seat.value) r) crew.items }
     ensures opened { All (λ s. IsSeatIn M.base_of manager.now s) result.items }
     ensures order { map participant_of result.items ≡ map (λ r. who_of (λ h. h.promise.participant) r) crew.items }

@@ -1,4 +1,5 @@
-ghost use Rattle.std.specs.Prelude.{◌≡◌, [], length, map, vec_capacity};
+ghost use Rattle.std.specs.Prelude.{◌≡◌, length, map};
+ghost use Rattle.role_driver.specs.inner.Room.{HasRoomFor};
 ghost use Rattle.role_driver.specs.inner.Watching.{task_of, task_at};
 
 use crate::watcher::Watcher;
@@ -64,7 +65,7 @@ pub fn post_all<'s, E, R: Threads + Wait + Sync>(
     mut posts: Vec<Post>,
     over: &'s [AtomicBool],
 ) -> Vec<Post>
-    requires room { (posts.items ≡ []) × (vec_capacity posts ≡ length watchers.items) }
+    requires room { HasRoomFor (length watchers.items) posts }
     requires flags { length over.now ≡ length watchers.items }
     ensures { map (λ p. task_at (λ h. h.promise.watcher.value) p) result.items ≡ map task_of watchers.items }
 {
@@ -94,7 +95,7 @@ fn call_back<R: Threads>(rt: &R, post: Post) -> Watcher
 
 /// The watchers of all posts, in order.
 pub fn call_all_back<R: Threads>(rt: &R, posts: Vec<Post>, mut back: Vec<Watcher>) -> Vec<Watcher>
-    requires room { (back.items ≡ []) × (vec_capacity back ≡ length posts.items) }
+    requires room { HasRoomFor (length posts.items) back }
     ensures { map task_of result.items ≡ map (λ p. task_at (λ h. h.promise.watcher.value) p) posts.items }
 {
     for post in posts {

@@ -1,4 +1,4 @@
-ghost use Rattle.std.specs.Prelude.{◌≡◌, ◌*◌, [], length, map, replicate, reverse, suc, All, None, is_some, is_none, IfSome, IfOk, IfErr, vec_capacity};
+ghost use Rattle.std.specs.Prelude.{◌≡◌, ◌*◌, [], length, map, replicate, reverse, suc, All, None, is_some, is_none, IfSome, IfOk, IfErr};
 ghost use Rattle.std.specs.List.{range_with_len};
 ghost use mathlib.Core.List.{IsPrefix};
 ghost use Rattle.place_plan.specs.Plans.Closed.{IsClosed};
@@ -10,6 +10,7 @@ ghost use Rattle.action_manager.specs.Publishing.{Publishes};
 ghost use Rattle.action_manager.specs.Managers.{plan_in, handed_in, IsSeatIn};
 ghost use Rattle.action_manager.specs.Seats.{participant_of};
 ghost use Rattle.role_driver.specs.inner.CrewRooms.{IsRoomForAll};
+ghost use Rattle.role_driver.specs.inner.Room.{HasRoomFor};
 ghost use Rattle.role_driver.specs.inner.Watching.{task_of};
 ghost use Rattle.shared_views.specs.Committing.{placeless};
 ghost use Rattle.role_driver.specs.inner.WatchRooms.{IsRoomFor, observer_of};
@@ -37,7 +38,7 @@ use std::thread::Threads;
 /// A machine that was played to its end, and what was seen of the watched objects meanwhile.
 pub struct Finished<M> {
     pub machine: M,
-    /// None just where a publication was refused.
+    /// What watchers saw. After `run` there is none just where a publication was refused; after a play without watchers it is empty.
     pub seens: Option<Seens>,
     /// The refusal of a publication, where one was refused.
     pub refused: Option<PublicationRefused>,
@@ -58,12 +59,10 @@ fn drive_in_threads<M: Machine + Send, G: Gate + Sync, R: Threads + Wait + Sync>
     over: &[AtomicBool],
     gate: &G,
 ) -> (Vec<Seat<M>>, Vec<Watcher>)
-    requires room { (crew.members.items ≡ []) × (vec_capacity crew.members ≡ length crew.seats.items) × (crew.back.items ≡ [])
-        × (vec_capacity crew.back ≡ length crew.seats.items) }
+    requires room { HasRoomFor (length crew.seats.items) crew.members × HasRoomFor (length crew.seats.items) crew.back }
     requires flags { length handed_back.now ≡ length crew.seats.items }
     requires opened { All (λ s. IsSeatIn M.base_of manager.now s) crew.seats.items }
-    requires watch { (watch.posts.items ≡ []) × (vec_capacity watch.posts ≡ length watch.watchers.items) × (watch.back.items ≡ [])
-        × (vec_capacity watch.back ≡ length watch.watchers.items) }
+    requires watch { HasRoomFor (length watch.watchers.items) watch.posts × HasRoomFor (length watch.watchers.items) watch.back }
     requires over { length over.now ≡ length watch.watchers.items }
     ensures opened { All (λ s. IsSeatIn M.base_of manager.now s) result.0.items }
     ensures order { map participant_of result.0.items ≡ map participant_of crew.seats.items }
@@ -83,12 +82,10 @@ fn drive_in_threads<M: Machine + Send, G: Gate + Sync, R: Threads + Wait + Sync>
         thread::scope_env(),
         rt,
         |scope| -> (Vec<Seat<M>>, Vec<Watcher>)
-            requires room { (members.items ≡ []) × (vec_capacity members ≡ length seats.items) × (back.items ≡ [])
-                × (vec_capacity back ≡ length seats.items) }
+            requires room { HasRoomFor (length seats.items) members × HasRoomFor (length seats.items) back }
             requires flags { length handed_back.now ≡ length seats.items }
             requires opened { All (λ s. IsSeatIn M.base_of manager.now s) seats.items }
-            requires watch { (posts.items ≡ []) × (vec_capacity posts ≡ length watchers.items) × (called.items ≡ [])
-                × (vec_capacity called ≡ length watchers.items) }
+            requires watch { HasRoomFor (length watchers.items) posts × HasRoomFor (length watchers.items) called }
             requires over { length over.now ≡ length watchers.items }
             ensures opened { All (λ s. IsSeatIn M.base_of manager.entry.now s) result.0.items }
             ensures order { map participant_of result.0.items ≡ map participant_of seats.items }

@@ -1,10 +1,11 @@
 -- What is made ready for the watchers before anything is played.
-use Rattle.std.specs.Prelude.{◌≡◌, ◌*◌, ℕ, [], length, map, suc, vec_capacity}
+use Rattle.std.specs.Prelude.{◌≡◌, ◌*◌, ℕ, [], length, map, suc}
 use Rattle.place_plan.specs.Plans.PlanValue.{Plan}
 use Rattle.shared_views.specs.Committing.{Watching}
 use Rattle.action_manager.specs.declared.manager.Manager.{Manager}
 use Rattle.action_manager.specs.Managers.{plan_in, book_in}
 use Rattle.action_manager.specs.Publishing.{new_observer}
+use Rattle.role_driver.specs.inner.Room.{HasRoomFor}
 use Rattle.role_driver.specs.inner.Watching.{Task}
 use Rattle.role_driver.specs.declared.watch_room.WatchRoom.{WatchRoom}
 
@@ -19,8 +20,8 @@ observer_of manager = new_observer (plan_in manager) (book_in manager)
 -- there is a blank for each watch of the plan, and room for the watchers, their threads, their return and their looks
 pub record IsRoomFor (plan : Plan) (r : WatchRoom) : Type 0 where
   pub blanks : map (λ b. b.object) r.blanks.items ≡ plan.watches
-  pub watchers : (r.watchers.items ≡ []) × (vec_capacity r.watchers ≡ length plan.watches)
-  pub posts : (r.posts.items ≡ []) × (vec_capacity r.posts ≡ length plan.watches)
-  pub back : (r.back.items ≡ []) × (vec_capacity r.back ≡ length plan.watches)
+  pub watchers : HasRoomFor (length plan.watches) r.watchers
+  pub posts : HasRoomFor (length plan.watches) r.posts
+  pub back : HasRoomFor (length plan.watches) r.back
   pub over : length r.over.items ≡ length plan.watches
   pub seens : (r.seens.seens ≡ []) × (r.seens.room ≡ length plan.watches * suc (length plan.plays))

@@ -4,7 +4,7 @@ use Rattle.role_driver.specs.declared.watch_room.Blank.{Blank}
 use Rattle.role_driver.specs.inner.Watching.{task_of}
 use Rattle.role_driver.specs.inner.WatchRooms.{task_with, observer_of}
 use Rattle.role_driver.proofs.Complete.{moved_on, all_first}
-use Rattle.role_driver.proofs.AllAlike.{last_alike}
+use Rattle.shared_views.proofs.AllAlike.{last_alike}
 use Rattle.role_driver.proofs.assigning.watchers_for.Goals as goal
 
 pub loop-blank-preserved : goal.loop-blank-preserved

@@ -32,7 +32,7 @@ drive_in_threads-seats-requires-clause-watch g c κs within =
     let blanks = c.args.watch_room.blanks.items in
     let many = same_length task_of (λ (b : Blank). task_with (observer_of c.args.opened.manager) b.object)
     c.watchers_for.result.items blanks c.watchers_for.ensures ∙ (sym (length-map blanks (λ b. b.object)) ∙ ap length room.blanks) in
-    (room.posts.0, room.posts.1 ∙ sym many, room.back.0, room.back.1 ∙ sym many)
+    ((room.posts.0, room.posts.1 ∙ sym many), (room.back.0, room.back.1 ∙ sym many))
 
 pub drive_in_threads-seats-requires-clause-over : goal.drive_in_threads-seats-requires-clause-over
 drive_in_threads-seats-requires-clause-over g c κs within =
