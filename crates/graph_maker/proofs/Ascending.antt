@@ -41,9 +41,6 @@ pub record IsAscending (n : ℕ) (words : List (List ℕ)) (read count last : �
   pub low : last ≤ n
   pub same : ascend n last (drop read words) ≡ ascend n 0 words
 
-pub none_read : (n : ℕ) (words : List (List ℕ)) → IsAscending n words 0 0 0
-none_read n words = record { counted = refl; few = omega arith; low = omega arith; same = refl }
-
 -- words that don't ascend are no numbers of members
 refuse : (n most : ℕ) (words : List (List ℕ)) → ascend n 0 words ≡ false → false ≡ are_numbers n most words
 refuse n most words h = sym (ap (λ b. b && (nat_le 2 (length words) && nat_le (length words) most)) h)

@@ -31,9 +31,6 @@ pub record Reads (s : Stage) (rest all : List Line) : Type 0 where
   pub same : bad_from stage.Graph 1 all ≡ bad_from s (number_for s number) rest
   pub leads : lead_to_top (section_of s) (forms_of rest) ≡ true
 
-pub read_first : (all : List Line) → lead_to_top section.Top (forms_of all) ≡ true → Reads stage.Graph all all
-read_first all leads = record { number = 1; same = refl; leads = leads }
-
 -- a line that may stand there
 record IsStep (s : Stage) (f : Form) (next : Stage) : Type 0 where
   numbered : (number : ℕ) → number_for next number ≡ number
@@ -67,16 +64,3 @@ read_more s line rest all next reads h =
           ∙ ap (λ k. bad_from next k rest) (sym (step.numbered (line.number + 1)));
       leads = ap (λ t. lead_to_top t (forms_of rest)) (sym step.goes) ∙ parts.1;
     }
-
-pub read_bad : (s : Stage) (line : Line) (rest all : List Line) → Reads s (line ∷ rest) all → next_stage s line.form ≡ None
-    → Some line.number ≡ bad_from stage.Graph 1 all
-read_bad s line rest all reads h = sym (reads.same ∙ ap (bad_if line.number (λ t. bad_from t (line.number + 1) rest)) h)
-
-pub read_over : (all : List Line) → Reads stage.Over [] all → None ≡ bad_from stage.Graph 1 all
-read_over all reads = sym reads.same
-
-pub read_lacking : (s : Stage) (all : List Line) → s ≢ stage.Over → Reads s [] all → Some 1 ≡ bad_from stage.Graph 1 all
-read_lacking stage.Graph all more reads = sym reads.same
-read_lacking stage.First all more reads = let h = reads.leads in cc
-read_lacking stage.More all more reads = let h = reads.leads in cc
-read_lacking stage.Over all more reads = absurd (more refl)

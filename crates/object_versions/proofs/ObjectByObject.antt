@@ -73,7 +73,3 @@ pub changed_more : (objects : List ℕ) (i d : ℕ) (change : Version → Versio
 changed_more objects i d change old new again l known c =
     subst (λ seen. ChangesEach seen change old (slice_set new (get_or objects i d) (change (at new (get_or objects i d)))))
     (sym (take_more objects i d l)) (one_more (take i objects) (get_or objects i d) change old new again known c)
-
--- before the first nothing has changed
-pub changed_none : (objects : List ℕ) (change : Version → Version) (old : List Version) → ChangesEach (take 0 objects) change old old
-changed_none objects change old = record { as_many = refl; each = λ o m. absurd (false≢true m); others = λ o m. refl }

@@ -183,12 +183,6 @@ module _ (s : SoFar) (f : Form) where
   pub known_in : HasNone s f → is_unknown s.declared s.block f ≡ false
   known_in h = false_from_ne_true (is_unknown s.declared s.block f) (λ e. h cause.Unknown e)
 
-  pub once_in : HasNone s f → is_twice s.declared s.block f ≡ false
-  once_in h = false_from_ne_true (is_twice s.declared s.block f) (λ e. h cause.Twice e)
-
-  pub within_in : HasNone s f → is_past_limit s.declared s.block f ≡ false
-  within_in h = false_from_ne_true (is_past_limit s.declared s.block f) (λ e. h cause.Limit e)
-
 -- ---- the end of a graph
 
 module _ (d : Declared) (g : DeclaredGraph) where

@@ -217,14 +217,6 @@ listed_begins (x ∷ xs) ys begins =
     subst (λ l. IsPrefix (listed (x ∷ xs)) (listed l)) begins.1
     (map (λ (e : Entered). e.changes) begins.0, sym (map-append (λ (e : Entered). e.changes) xs begins.0))
 
-pub listed_further : (log : List Entered) (e : Entered) → 0 < length log → listed (log ++ e ∷ []) ≡ listed log ++ e.changes ∷ []
-listed_further [] e some = absurd (omega (arith, some))
-listed_further (x ∷ xs) e some = map-append (λ (e : Entered). e.changes) xs (e ∷ [])
-
-pub listed_length : (log : List Entered) (n : ℕ) → length log ≡ n + 1 → length (listed log) ≡ n
-listed_length [] n long = absurd (omega (arith, long))
-listed_length (x ∷ xs) n long = omega (arith, long, length-map xs (λ (e : Entered). e.changes))
-
 -- the list of what was seen begins the list of what was reached, where there are as many
 pub whole_list : (known all both log : List Entered) → IsPrefix known both → IsPrefix all both → IsPrefix both log
     → length log ≡ length all → IsPrefix known all

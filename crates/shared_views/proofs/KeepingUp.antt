@@ -11,10 +11,6 @@ use Rattle.shared_views.specs.declared.bulletin.Announcement.{Announcement}
 use Rattle.shared_views.specs.declared.bulletin.Announcement.TheVariants as told
 use Rattle.shared_views.specs.Telling.{cells_of, IsTold, Tells, told_at, KeepsUp}
 
-other_place : (q : ℕ) (e : Entry) (past : List Entry) (b : Bool) → is_in kind.Resolve q e ≡ b → b ≡ false
-    → exception_resolved (e ∷ past) q ≡ exception_resolved past q
-other_place q e past b is off = ap (λ (b : Bool). if b then Some e.arg else exception_resolved past q) (is ∙ off)
-
 -- of a place that is resolved it was told
 pub told_there : (past : List Entry) (b : Bulletin) (p x : ℕ) → KeepsUp past b → p < length (cells_of b)
     → exception_resolved past p ≡ Some x → IsTold (cells_of b) p x (told_at b p)

@@ -53,11 +53,6 @@ module _ {M : Type 0} where
       (subst (All (IsBeside y)) (sym e) (beside y (subst (λ l. slice_get l 0 ≡ Some y) e (head_of y ((ys ++ x ∷ []) ++ more))))) in
       both_beside y.token.table_id y.token.me.0.terms x x other other
 
-  pub opened_view : (v w : HandView M) (x : Seat M) → v ≡ full_hand v.opened → Opened v x w → w ≡ full_hand w.opened
-  opened_view v w x is step =
-      step ∙ (ap (λ (y : HandView M). record y { opened = v.opened ++ x ∷ [] }) is
-      ∙ ap full_hand (sym (ap (λ (y : HandView M). y.opened) step)))
-
 module _ {M : Type 0} (relay : Relay M) where
   -- a hand that was cut off
   pub cut_hand : (v : HandView M) (hand : Hand M) (number : ℕ) → hand.number ≡ number → IsPassOf relay.queue hand.pass

@@ -125,9 +125,6 @@ module _ {M : Type 0} where
   others_idle views k v at all j u apart at' =
       let p = parts_le (λ (y : (HandView M)). y.parts) views k j v u (λ e. apart (sym e)) at at' in omega (arith, p, all)
 
-  first_stays : (opened : List (Seat M)) (x y : Seat M) (more : List (Seat M)) → IsOfTheirs (x ∷ more) y → IsOfTheirs (x ∷ opened) y
-  first_stays opened x y more one first at = one first at
-
   theirs_stay : (x z : Seat M) (xs : List (Seat M)) (queued : List (Seat M)) → AreOfTheirs (x ∷ xs) queued
       → AreOfTheirs (x ∷ (xs ++ z ∷ [])) queued
   theirs_stay x z xs [] all = tt

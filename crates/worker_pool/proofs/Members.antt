@@ -28,10 +28,6 @@ module _ {M : Type 0} where
       → IsAtWork relay (number_of worker.hand) worker
   by_own_number relay n worker at = subst (λ k. IsAtWork relay k worker) (sym at.numbered) at
 
-  -- by the relay and the number that were promised
-  pub as_promised : (relay other : Relay M) (n : ℕ) (worker : Worker M) → other ≡ relay → IsAtWork other n worker → IsAtWork relay n worker
-  as_promised relay other n worker same at = subst (λ r. IsAtWork r n worker) same at
-
   -- the number of a member that was started
   pub number_started : {H : Type 0} (relay : Relay M) (relay_of : H → Relay M) (f : H → ℕ) (n : ℕ) (r : Result H (Worker M))
       → IfOk r (λ h. (relay_of h ≡ relay) × (f h ≡ n)) → IfErr r (λ w. IsAtWork relay n w)

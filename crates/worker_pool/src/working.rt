@@ -84,7 +84,7 @@ fn wait_if_fruitless<M: Machine, R: Wait>(
 
 /// Takes seats and takes turns for them, until none is queued. A seat that waits goes back; one whose participant is over is kept.
 ///
-/// A worker that has found as many seats waiting as there are, while no entry was made, sleeps until there is one. By then each seat
+/// A worker that has found more seats waiting than there are, while no entry was made, sleeps until there is one. By then each seat
 /// that was queued has been taken since the last entry, by this worker or by one that doesn't sleep.
 pub fn work<M: Machine, G: Gate, R: Wait>(
     rt: &R,

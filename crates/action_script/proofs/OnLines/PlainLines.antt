@@ -85,10 +85,6 @@ cut_line s line words short cut =
     (le-ltb most_line_bytes (length line) short)
     ∙ ap (line_by_words s (list_all is_plain line)) cut
 
--- a line without words says nothing
-pub line_empty : (s : Section) (line : List ℕ) → length line ≤ most_line_bytes → words_of line ≡ [] → line_of s line ≡ Ok None
-line_empty s line short cut = cut_line s line [] short cut
-
 module _ (s : Section) (line first : List ℕ) (words : List (List ℕ)) (short : length line ≤ most_line_bytes)
     (cut : words_of line ≡ first ∷ words) where
   abbrev pub by_comment : Bool → Result (Option Said) ScriptCause
@@ -98,23 +94,10 @@ module _ (s : Section) (line first : List ℕ) (words : List (List ℕ)) (short 
   abbrev pub by_found : Option LineKind → Result (Option Said) ScriptCause
   by_found kind = if list_all is_plain line then by_kind words kind else Err cause.BadLine
 
-  -- nor does a comment
-  pub line_comment : begins_comment first ≡ true → line_of s line ≡ Ok None
-  line_comment comment = cut_line s line (first ∷ words) short cut ∙ ap by_comment comment
-
   -- any other line is judged by its kind
   pub line_found : (kind : Option LineKind) → begins_comment first ≡ false → kind_here s first (length words) ≡ kind
       → line_of s line ≡ by_found kind
   line_found kind spoken here = cut_line s line (first ∷ words) short cut ∙ ap by_comment spoken ∙ ap by_found here
-
-  -- one of no kind is a bad line, whatever bytes it has
-  pub line_unknown : begins_comment first ≡ false → kind_here s first (length words) ≡ None → line_of s line ≡ Err cause.BadLine
-  line_unknown spoken none = line_found None spoken none ∙ either (list_all is_plain line)
-    where
-      either : (b : Bool) → ◌≡◌ {A = Result (Option Said) ScriptCause} (if b then Err cause.BadLine else Err cause.BadLine)
-          (Err cause.BadLine)
-      either true = refl
-      either false = refl
 
 module _ (s : Section) (line : List ℕ) (kind : LineKind) (words : List (List ℕ)) (h : IsOfKind s line kind words) where
   abbrev pub asked : List Asked

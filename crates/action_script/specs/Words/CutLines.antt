@@ -37,8 +37,3 @@ words_of line = filled_of (slice_split is_blank line)
 abbrev pub begins_comment : List ℕ → Bool
 begins_comment [] = false
 begins_comment (b ∷ rest) = b == 35
-
--- an empty line says nothing, nor does a comment
-abbrev pub says_nothing : List (List ℕ) → Bool
-says_nothing [] = true
-says_nothing (word ∷ words) = begins_comment word

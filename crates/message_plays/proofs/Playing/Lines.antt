@@ -105,15 +105,6 @@ decisions_more plan past old new next n found before own agreed added =
           (sym all ∙ sym (zero-add (length before.decided))) ∙ sym (resolved_lines-push plan 0 before.decided found));
     }
 
-pub decisions_none : (plan : Plan) (past : List Event) (old : List ℕ) → AddsDecisions plan past old old 0
-decisions_none plan past old = record {
-  decided = [];
-  all = refl;
-  own = λ t is at. absurd cc;
-  agreed = λ t is at. absurd cc;
-  lines = sym (append-nil old);
-}
-
 -- what was decided is the least cover of everything, or nothing was raised
 pub decided_least : (order : CoverOrder) (count : ℕ) (past : List Event) (t : ℕ) (found : Option ℕ) → t < count → LegalPast order count past
     → (all_raised past ≢ [] → AllHaveDecided order count past)

@@ -91,13 +91,6 @@ own_has_raised past e at =
     raises_is (raises g) f here = refl
     raises_is (receives m) f here = absurd (nothing_in f here)
 
-raise_owned : (past : List LocalEvent) → has_raised past ≡ true → (e : ℕ) × Contains (own past) e
-raise_owned past has = let found = any_member is_raise past has in owned found.0 found.1 found.2
-  where
-    owned : (x : LocalEvent) → Contains past x → is_raise x ≡ true → (e : ℕ) × Contains (own past) e
-    owned (raises e) at is = (e, flat_map_from raised_at past (raises e) e at (first_in e []))
-    owned (receives m) at is = absurd cc
-
 greater_from : (g : ℕ) (x : LocalEvent) → is_greater g x ≡ true → (v : ℕ) × (e : ℕ) × (g < v) × (x ≡ receives (message.Raised v e))
 greater_from g (raises e) is = absurd cc
 greater_from g (receives (message.Raised v e)) is = (v, e, ltb-true g v is, refl)

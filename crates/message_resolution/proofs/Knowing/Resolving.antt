@@ -97,28 +97,6 @@ module _ (node : Known) where
       cover_is order (told (x ∷ past)) node.cover ordered (raised_told (x ∷ past) has) taken.cover
       ∙ sym (does_resolve order node.count node.me past x may (sym taken.resolved ∙ fresh))
 
-  pub resolves_none : IsResolutionOf node None → Resolves node node None
-  resolves_none found = record {
-    me = refl;
-    count = refl;
-    stands = λ order past x ordered taken.
-        let none : resolution order node.count node.me past x ≡ [] = sym (found order past x ordered taken) in
-        record {
-          member = taken.member;
-          met = taken.met;
-          state = taken.state;
-          members = taken.members;
-          heard = taken.heard;
-          cover = taken.cover;
-          greater = taken.greater;
-          resolved = taken.resolved ∙ sym (unresolved order node.count node.me past x none);
-          decided =
-              subst (λ (es : List ℕ). IsOneOf ((es ++ resolved_at x) ++ decisions order node.count node.me past) node.decided)
-              (sym none) taken.decided;
-        };
-    sends = λ order past x ordered taken. ap (λ es. map (λ e. message.Resolved node.me e) es) (found order past x ordered taken);
-  }
-
   pub resolves_some : (e : ℕ) → IsResolutionOf node (Some e)
       → Resolves node (record node { has_resolved = true; decided = Some e }) (Some (message.Resolved node.me e))
   resolves_some e found = record {

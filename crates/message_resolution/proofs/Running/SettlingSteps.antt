@@ -84,26 +84,6 @@ module _ (order : CoverOrder) (count : ℕ) where
       ];
     }
 
-  -- the next message begins where this one is done
-  pub up_to_next : (start past : List Event) (number : ℕ) → SettlesUpTo order count start past number count
-      → SettlesUpTo order count start past (number + 1) 0
-  up_to_next start past number upto = record {
-    rest = upto.rest;
-    calm = λ n u before now. elim before [
-      | inl less ↦ elim (cases_eq n number) [
-        | inl same ↦ upto.calm n u (inr (same, now.member)) now
-        | inr other ↦ upto.calm n u (inl (omega arith)) now
-      ]
-      | inr same ↦ absurd (omega (arith, same.1))
-    ];
-  }
-
-  pub up_to_none : (start : List Event) → SettlesUpTo order count start start 0 0
-  up_to_none start = record {
-    rest = λ final later. later;
-    calm = λ n u before now. elim before [ inl less ↦ absurd (omega arith) | inr same ↦ absurd (omega (arith, same.1)) ];
-  }
-
   -- past the last message nothing is due
   pub up_to_all : (start past : List Event) → LegalPast order count past → SettlesUpTo order count start past (2 * count) 0
       → Settles order count start past

@@ -1,5 +1,5 @@
 use Rattle.std.proofs.Common.{ℕ}
-use Rattle.message_plays.proofs.Playing.Lines.{own_of_plan, agreed_of_plan, decisions_more, decisions_none}
+use Rattle.message_plays.proofs.Playing.Lines.{own_of_plan, agreed_of_plan, decisions_more}
 use Rattle.message_plays.proofs.texts.write_decisions.Goals as goal
 
 pub loop-member-preserved : goal.loop-member-preserved

@@ -1,7 +1,7 @@
 use Rattle.std.proofs.Common.{sym, ◌∙◌, ap, length, length-append, ◌+◌, ◌∷◌, [], None, Some}
 use Rattle.shared_views.specs.declared.publications.Entered.{Entered}
 use Rattle.shared_views.specs.inner.Chronicles.{head_of, heir}
-use Rattle.shared_views.proofs.Chronicled.{enters, heir_further, listed_further}
+use Rattle.shared_views.proofs.Chronicled.{enters, heir_further}
 use Rattle.shared_views.proofs.publications.Head.enter.Goals as goal
 
 pub compare_exchange-requires : goal.compare_exchange-requires
