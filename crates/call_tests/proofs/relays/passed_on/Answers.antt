@@ -1,7 +1,7 @@
 use Rattle.std.proofs.Common.{◌≡◌, [], ◌∷◌, All, IfOk, arith, sym, subst}
 use Rattle.std.proofs.lemmas.List.Elements.{All-push}
 use Rattle.worker_pool.specs.Relays.{IsOfTheirs}
-use Rattle.pool_tests.proofs.relays.passed_on.Goals as goal
+use Rattle.call_tests.proofs.relays.passed_on.Goals as goal
 
 pub returns-clause-theirs : goal.returns-clause-theirs
 returns-clause-theirs g c =

@@ -1,6 +1,6 @@
 use Rattle.action_manager.specs.Managers.{table_of, terms_in}
 use Rattle.worker_pool.proofs.Pooled.{theirs_all}
-use Rattle.pool_tests.proofs.relays.seats_travel.Goals as goal
+use Rattle.call_tests.proofs.relays.seats_travel.Goals as goal
 
 pub close-requires : goal.close-requires
 close-requires g c =

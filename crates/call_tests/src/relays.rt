@@ -1,16 +1,12 @@
 ghost use Rattle.std.specs.Prelude.{◌≡◌, ◌<◌, [], ◌∷◌, ◌++◌, length, All, IfOk};
-ghost use Rattle.journal_replay.specs.Hall.{journal_in};
 ghost use Rattle.action_manager.specs.Managers.{IsSeatIn};
 ghost use Rattle.action_manager.specs.Seats.{participant_of};
 ghost use Rattle.worker_pool.specs.Relays.{AreBeside, IsOfTheirs};
 ghost use Rattle.worker_pool.specs.Hands.{IsHandOf, IsOpened, held_by, opened_in};
 
+use crate::machines::hall;
 use action_manager::{Closed, Manager, ManagerError, Opened, Seat};
-use action_script::lines::reader::read;
-use caa_base::outside::memory::SurePlant;
-use journal_replay::hall::PlainHall;
 use place_plan::rules::machine::Machine;
-use script_checker::compile::compile;
 use std::alloc::Global;
 use std::process::Abort;
 use std::sync::Wait;
@@ -20,20 +16,6 @@ use worker_pool::{Hand, HandsOut, Opening, Relay, RelayError};
 /// Ann and bob play an action together, in which neither has anything to do.
 const SCRIPT: &[u8] =
     b"participant ann\nparticipant bob\naction w\nroles r s\nend\nplay w ann bob\n";
-
-/// A machine that plays the script, by a device that refuses nothing.
-fn hall(alloc: Global) -> Result<PlainHall<SurePlant>, Fail>
-    ensures { IfOk result (λ hall. journal_in hall ≡ []) }
-{
-    let plan = match compile(alloc, &read(alloc, SCRIPT)?) {
-        Ok(plan) => plan,
-        Err(error) => return Err(Fail::from(error.cause)),
-    };
-    match PlainHall::open(alloc, plan, SurePlant::new()) {
-        Ok(hall) => Ok(hall),
-        Err(error) => Err(Fail::from(error.cause)),
-    }
-}
 
 /// A manager of a machine that has no entry yet, with its seats.
 fn managed<M: Machine + Drop, R: Wait>(
@@ -168,6 +150,6 @@ fn seats_travel<M: Machine + Drop, R: Wait + Abort>(
 
 #[test]
 fn relay_gives(rt: HostRuntime) -> Result<(), Fail> {
-    let hall = hall(rt.alloc())?;
+    let hall = hall(rt.alloc(), SCRIPT)?;
     seats_travel(&rt, rt.alloc(), hall)
 }
