@@ -327,6 +327,25 @@ def cells(program):
     compare("check of its script", program, ["check"], 0, cell_counts(2000), input=cell_script(2000).encode())
 
 
+def pools(program):
+    """Plays in threads whose order isn't fixed: what they leave in the objects is, and `audit` accepts their journals."""
+    with open(os.path.join(CASES, "ordinary_cycle")) as file:
+        cycle = file.read()
+    things = {"ordinary_cycle": ["object belt 2", "object arm 0", "object plate 0", "object done 1"],
+              "ten cycles of the cell": cell_summary(10).splitlines()[6:]}
+    for workers, name, script in (("1", "ordinary_cycle", cycle), ("16", "ten cycles of the cell", cell_script(10))):
+        for _ in range(5):
+            played = subprocess.run([program, "pool", workers], input=script.encode(), stdout=subprocess.PIPE)
+            lines_of = played.stdout.decode().splitlines()
+            entries = sum(line.split()[0] not in ("journal", "object", "outcome") for line in lines_of)
+            left = [line for line in lines_of if line.startswith("object ")]
+            right = played.returncode == 0 and left == things[name]
+            print(f"pool {workers} on {name}: {'as wanted' if right else f'status {played.returncode}, {left}'}")
+            if not right:
+                wrong.append(f"pool {workers} on {name}")
+            compare(f"audit of pool {workers}", program, ["audit"], 0, f"legal {entries}\n", input=script.encode() + played.stdout)
+
+
 def watched_run(program):
     """A run with a watch: what is seen before both plays have ended depends on when threads run."""
     def text(name):
@@ -373,6 +392,7 @@ scripts_at_limits(sys.argv[1])
 long_shifts(sys.argv[1])
 words_and_refusals(sys.argv[1])
 cells(sys.argv[1])
+pools(sys.argv[1])
 watched_run(sys.argv[1])
 statuses(sys.argv[1])
 sys.exit(1 if wrong else 0)

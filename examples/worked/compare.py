@@ -1,5 +1,6 @@
 """Audits journals that were worked out by hand, and the same with lines changed, and plays a script over a device that refuses
-puts; compares what the program answers. The same plays go through the program that asks both cores, where it is named.
+puts; compares what the program answers. Where the program that asks both cores is named, the same plays go through it, and each
+script of a worked journal by twenty seeds.
 
     python3 examples/worked/compare.py PROGRAM [BOTH_CORES]
 """
@@ -18,6 +19,7 @@ LEGAL = {
     "withdrawn": 15,
     "raised_while_undoing": 20,
     "three_levels": 27,
+    "two_siblings": 15,
 }
 
 
@@ -86,9 +88,18 @@ CHANGED = [
     ("three_levels", {12: None}, 12),
     # an exception is carried into a doomed place
     ("three_levels", {14: "leave 2 ann universal"}, 14),
+    # a cover that isn't the least of left and right
+    ("two_siblings", {6: "resolve 0 ann universal"}, 6),
+    # the exception of one of the two
+    ("two_siblings", {6: "resolve 0 ann left"}, 6),
+    # bob handles another exception than ann
+    ("two_siblings", {9: "handle 0 bob right"}, 9),
     # nothing was played
     ("withdrawn", {**all_but([16, 17, 18], 18), 17: "outcome 0 outer none"}, 1),
 ]
+
+# The seeds by which each script is played on both cores.
+SEEDS = [str(seed) for seed in range(1, 21)]
 
 # Bytes that are cut off the end of a journal, and the line that is named.
 CUT = [("two_watches", 1, 13), ("two_watches", 4, 13)]
@@ -167,7 +178,7 @@ def played(program, puts, entries, outer, inner, restores, value):
     text, status = answer_of(program, ["sim", "1"], script)
     lines = text.splitlines()
     found = (
-        sum(line.split()[0] not in ("journal", "object", "outcome") for line in lines),
+        entries_of(text),
         [line for line in lines if line.split()[0] in ("restore", "end", "object")],
         status,
     )
@@ -185,13 +196,24 @@ def played_on_both(both_cores, puts, entries, *_):
     return compare(f"both cores with the refused puts {puts}", answer_of(both_cores, ["1"], script), (f"same {entries} entries\n", 0))
 
 
+def entries_of(text):
+    return sum(line.split()[0] not in ("journal", "object", "outcome") for line in text.splitlines())
+
+
+def same_on_both(program, both_cores, name, seed):
+    script = "".join(line + "\n" for line in parts_of(name)[0])
+    entries = entries_of(answer_of(program, ["sim", seed], script)[0])
+    return compare(f"both cores on {name} with the seed {seed}", answer_of(both_cores, [seed], script), (f"same {entries} entries\n", 0))
+
+
 def main(program, *both_cores):
     wrong = sum(audited(program, name, {}, 0, None) for name in LEGAL)
     wrong += sum(audited(program, name, changes, 0, wanted) for name, changes, wanted in CHANGED)
     wrong += sum(audited(program, name, {}, cut, wanted) for name, cut, wanted in CUT)
     wrong += sum(played(program, *row) for row in REFUSED)
     wrong += sum(played_on_both(path, *row) for path in both_cores for row in REFUSED)
-    cases = len(LEGAL) + len(CHANGED) + len(CUT) + len(REFUSED) * (1 + len(both_cores))
+    wrong += sum(same_on_both(program, path, name, seed) for path in both_cores for name in LEGAL for seed in SEEDS)
+    cases = len(LEGAL) + len(CHANGED) + len(CUT) + len(REFUSED) + len(both_cores) * (len(REFUSED) + len(LEGAL) * len(SEEDS))
     print(f"worked journals: {cases - wrong} of {cases} as wanted")
     return 1 if wrong else 0
 
