@@ -1,5 +1,5 @@
 -- What an observer of a manager has read is committed in the manager's journal.
-use Rattle.std.proofs.Common.{◌≡◌, ℕ, List, length, refl, ap, subst, ◌∙◌, arith}
+use Rattle.std.proofs.Common.{ℕ, List, refl, ◌∙◌, arith}
 use mathlib.Core.List.{IsPrefix}
 use Rattle.caa_base.specs.declared.written.entry.Entry.{Entry}
 use Rattle.place_plan.specs.Plans.PlanValue.{Plan}

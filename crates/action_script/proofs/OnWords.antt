@@ -7,3 +7,4 @@ pub mod NamesCounted
 pub mod Numerals
 pub mod Inky
 pub mod JoinedAndCut
+pub mod LineStarts

@@ -1,5 +1,5 @@
 -- A script that was compiled twice.
-use Rattle.std.proofs.Common.{◌≡◌, Result, Ok, Err, subst}
+use Rattle.std.proofs.Common.{◌≡◌, Result, Ok, subst}
 use Rattle.action_script.specs.Forms.ScriptValue.{Script}
 use Rattle.place_plan.specs.Plans.PlanValue.{Plan}
 use Rattle.script_checker.specs.declared.check_error.CheckError.{CheckError}

@@ -20,7 +20,7 @@ use Rattle.journal_text.proofs.OnTexts.BadLines.{texts-differ, reads-back}
 use Rattle.caa_commands.specs.declared.fault.Refusal.{Refusal}
 use Rattle.caa_commands.specs.declared.finding.Finding.{Finding}
 use Rattle.caa_commands.specs.declared.finding.Finding.TheVariants as finding
-use Rattle.caa_commands.specs.Inputs.{script_lines, journal_part}
+use Rattle.action_script.specs.Words.JournalStarts.{script_lines, journal_part}
 use Rattle.caa_commands.specs.Judging.{wrong_look, IsLawful, IsUnlawful, IsWronglySeen, IsIllegalAt, HasTooManyEntries}
 use Rattle.caa_commands.specs.Served.{IsToFind, legal_journal, illegal_line, too_many_entries}
 

@@ -1,6 +1,5 @@
 mod Answers
 mod JudgedLines
-mod LineStarts
 mod NotRefused
 mod Reversed
 mod CallsServed

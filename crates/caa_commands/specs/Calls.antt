@@ -27,7 +27,8 @@ use Rattle.caa_commands.specs.declared.fault.Refusal.{Refusal}
 use Rattle.caa_commands.specs.Graphs.{IsGraphText, IsRefusedGraph}
 use Rattle.caa_commands.specs.Commands.{reads_input}
 use Rattle.caa_commands.specs.Findings.{status_of, finding_text, is_played, needs_memory}
-use Rattle.caa_commands.specs.Inputs.{most_bytes, script_in, journal_part}
+use Rattle.action_script.specs.Words.JournalStarts.{journal_part}
+use Rattle.caa_commands.specs.Inputs.{most_bytes, script_in}
 use Rattle.caa_commands.specs.Judging.{IsLawful, IsIllegal, HasTooManyEntries}
 use Rattle.caa_commands.specs.FailedPlays.{IsPlayed, has_failed_play}
 use Rattle.caa_commands.specs.Scripts.{IsThePlan, IsOnlyPlan, IsRefusedScript, IsRefusedLine}

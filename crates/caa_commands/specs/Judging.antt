@@ -12,7 +12,7 @@ use Rattle.caa_commands.specs.declared.fault.Fault.TheVariants as fault
 use Rattle.caa_commands.specs.declared.fault.Refusal.{Refusal}
 use Rattle.caa_commands.specs.declared.judging.Judgement.{Judgement}
 use Rattle.caa_commands.specs.declared.judging.Judgement.TheVariants as judgement
-use Rattle.caa_commands.specs.Inputs.{script_lines, journal_part}
+use Rattle.action_script.specs.Words.JournalStarts.{script_lines, journal_part}
 
 -- the number of the first wrong look; a text without looks has none
 abbrev pub wrong_look : Plan → List Entry → List Seen → Option ℕ

@@ -15,7 +15,8 @@ use Rattle.caa_commands.specs.declared.status.Status.{Status}
 use Rattle.caa_commands.specs.declared.status.Status.TheVariants as status
 use Rattle.caa_commands.specs.Commands.{reads_input}
 use Rattle.caa_commands.specs.Findings.{status_of, finding_text}
-use Rattle.caa_commands.specs.Inputs.{most_bytes, script_in, journal_part}
+use Rattle.action_script.specs.Words.JournalStarts.{journal_part}
+use Rattle.caa_commands.specs.Inputs.{most_bytes, script_in}
 use Rattle.caa_commands.specs.Judging.{IsLawful, IsIllegal, HasTooManyEntries}
 use Rattle.caa_commands.specs.Calls.{IsRefusedFor}
 use Rattle.caa_commands.specs.Graphs.{IsGraphText}

@@ -6,7 +6,6 @@ mod command;
 mod fault;
 mod finding;
 mod graphs;
-mod inputs;
 mod judging;
 mod playing;
 mod scripts;

@@ -38,7 +38,7 @@ pub struct Input<'a> {
     pub file: &'a [u8],
     pub bytes: &'a [u8],
     /// How many lines stand before the line `journal`.
-    pub script_lines: u32,
+    pub script_lines: u64,
 }
 
 // ---- what the rules allow
@@ -135,7 +135,7 @@ fn tell_line(input: &Input, line: u64, page: &mut Page) -> Result<(), OutOfMemor
 fn line_of(input: &Input, index: usize) -> u64 {
     (index as u64)
         .saturating_add(2)
-        .saturating_add(u64::from(input.script_lines))
+        .saturating_add(input.script_lines)
 }
 
 /// Tells that a journal isn't legal from an entry on, or stops there before it is complete.
@@ -172,7 +172,7 @@ fn tell_illegal(
 /// Tells of a line that it stands in no text of a journal here.
 fn tell_unread(alloc: Global, input: &Input, line: u64) -> Result<Vec<u8>, OutOfMemory> {
     let mut page = Page::new(alloc, &[]);
-    let number = line.saturating_add(u64::from(input.script_lines));
+    let number = line.saturating_add(input.script_lines);
     tell_line(input, number, &mut page)?;
     page.note(&[Piece::Text(
         "no journal of this script has this line here: a word is none of the script's, or too many, or a value or an outcome at the end isn't what follows from the entries",
@@ -183,7 +183,7 @@ fn tell_unread(alloc: Global, input: &Input, line: u64) -> Result<Vec<u8>, OutOf
 /// Tells that a journal has more entries than are read; this line has the first that is too many.
 fn tell_too_many(alloc: Global, input: &Input, line: u64) -> Result<Vec<u8>, OutOfMemory> {
     let mut page = Page::new(alloc, &[]);
-    let number = line.saturating_add(u64::from(input.script_lines));
+    let number = line.saturating_add(input.script_lines);
     tell_line(input, number, &mut page)?;
     page.note(&[
         Piece::Text("a journal may have "),
@@ -220,7 +220,8 @@ fn judge_looks(
     match first_wrong(alloc, plan, &journal, seens)? {
         None => Ok(Judged::Legal(journal)),
         Some(look) => {
-            let line = u64::from(input.script_lines)
+            let line = input
+                .script_lines
                 .saturating_add(2)
                 .saturating_add(journal.len())
                 .saturating_add(u64::from(plan.objects()))

@@ -7,6 +7,7 @@ ghost use Rattle.journal_text.specs.Watching.Looks.{AreOfPlan};
 
 use crate::judging::{Input, Judged, Reading, judge, read_journal};
 use crate::words::View;
+use action_script::words::journal_start::{JournalStart, find_journal};
 use caa_base::written::entry::OutOfMemory;
 use caa_base::written::journal::Journal;
 use journal_pictures::chart::chart;
@@ -17,7 +18,6 @@ use script_checker::own_names::has_own_names;
 use script_views::dot::dot;
 use script_views::explaining::{Seen, look};
 use script_views::page::{Page, Piece};
-use script_views::source::{JournalStart, find_journal};
 use script_views::table::tables;
 use std::alloc::Global;
 
@@ -143,7 +143,7 @@ fn show_behind(
         bytes,
         script_lines: start.lines,
     };
-    let text = bytes.get(start.bytes..).unwrap_or(&[]);
+    let text = bytes.get(start.place..).unwrap_or(&[]);
     match read_journal(alloc, plan, &input, text)? {
         Reading::Whole(journal, seens) => {
             show_journal(alloc, view, plan, &input, journal, &seens)
@@ -173,17 +173,22 @@ fn show_plan(
     }
 }
 
+/// Where the journal begins that stands behind a script, if one stands there.
+fn journal_behind(bytes: &[u8]) -> Option<JournalStart> {
+    Some(find_journal(bytes)).filter(|start| start.place < bytes.len())
+}
+
 /// The script of an input, without the journal that stands behind it.
 fn script_text(bytes: &[u8], start: Option<JournalStart>) -> &[u8] {
     match start {
-        Some(start) => bytes.get(..start.bytes).unwrap_or(bytes),
+        Some(start) => bytes.get(..start.place).unwrap_or(bytes),
         None => bytes,
     }
 }
 
 /// What a view shows of an input; `file` is what the input is called.
 pub fn show(alloc: Global, view: View, file: &[u8], bytes: &[u8]) -> Result<Shown, OutOfMemory> {
-    let start = find_journal(alloc, bytes)?;
+    let start = journal_behind(bytes);
     let (script, plan) = match look(alloc, file, script_text(bytes, start))? {
         Seen::Accepted(script, plan) => (script, plan),
         Seen::Refused(refusal) => return Ok(with_status(Status::Refused, refusal.text)),

@@ -1,11 +1,11 @@
 -- The names and lines of the cell make a script.
-use Rattle.std.proofs.Common.{◌≡◌, ℕ, zero, suc, ◌+◌, ◌≤◌, ◌<◌, ◌-◌, ◌^◌, ◌%◌, ◌==◌, ◌&&◌, nat_le, nat_lt, ℤ, pos, Bool, true, false, if◌then◌else◌, List, [], ◌∷◌, ◌++◌, length, map, refl, sym, ap, ◌∙◌, subst, arith}
+use Rattle.std.proofs.Common.{◌≡◌, ℕ, zero, suc, ◌+◌, ◌≤◌, ◌<◌, ◌-◌, ◌^◌, ◌%◌, ◌==◌, ◌&&◌, nat_le, nat_lt, ℤ, pos, Bool, true, false, if◌then◌else◌, List, [], ◌∷◌, ◌++◌, length, map, refl, sym, ap, ◌∙◌, arith}
 use Rattle.std.specs.List.{list_all, flat_map, range_with_len}
 use Rattle.action_script.specs.declared.forms.form.Form.{Form}
 use Rattle.action_script.specs.declared.forms.form.Form.TheVariants as form
 use Rattle.action_script.specs.declared.lines.kind.Section.TheVariants as section
 use Rattle.action_script.specs.Forms.Printing.{form_line, form_names, is_short, is_sound, lead_to_top, AreScript}
-use Rattle.action_script.specs.Words.NumberedNames.{is_among, with_name, with_names}
+use Rattle.action_script.specs.Words.NumberedNames.{is_among, with_names}
 use Rattle.cell_workload.specs.CellNames.{cell_names, arm, out, plate, scrap, table}
 use Rattle.cell_workload.specs.CellLines.{cell_lines}
 use Rattle.cell_workload.specs.CellScript.{cell_forms, most_cycles, play_line, played, players}

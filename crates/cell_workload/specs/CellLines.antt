@@ -1,5 +1,5 @@
 -- The script of the production cell, part by part.
-use Rattle.std.specs.Prelude.{ℕ, ℤ, pos, List, [], ◌∷◌, ◌++◌}
+use Rattle.std.specs.Prelude.{pos, List, [], ◌∷◌, ◌++◌}
 use Rattle.action_script.specs.declared.forms.form.Form.{Form}
 use Rattle.action_script.specs.declared.forms.form.Form.TheVariants as form
 use Rattle.cell_workload.specs.CellNames.{feeder, robot, press, table, arm, plate, out, scrap, jams, jam, arm_jam, press_jam, faces, lost_piece, cellgraph, piece_lost, load, give, take, forge, hold, stamp, forge_jam, plain, feed, carry, to_load, to_forge, jammed, lost}

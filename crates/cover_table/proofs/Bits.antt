@@ -1,7 +1,7 @@
 -- Bits of rows.
-use Rattle.std.proofs.Common.{sym, ◌∙◌, ap, nat_eq, false, ◌||◌, ◌≡◌, ℕ, ◌-◌, ◌^◌, ◌<◌, true, ◌⊎◌, inl, inr, bit_and, bit_or, arith}
+use Rattle.std.proofs.Common.{sym, ◌∙◌, ap, nat_eq, false, ◌||◌, ◌≡◌, ℕ, true, ◌⊎◌, inl, inr, bit_and, bit_or, arith}
 use Rattle.std.specs.Int.{bit_at}
-use Rattle.std.proofs.lemmas.Nat.Bits.{bit_at_and, bit_at_or, bit_at_ones, bit_at-lt, bit_at-zero}
+use Rattle.std.proofs.lemmas.Nat.Bits.{bit_at_and, bit_at_or, bit_at-lt, bit_at-zero}
 use Rattle.std.proofs.lemmas.Bool.{eqb-true, eq-eqb, cases_eq, cases_Bool, or_left, or_right, or_from, false_from_ne_true, both_ways}
 use Rattle.cover_table.specs.Cover.{has_bit}
 
@@ -68,10 +68,6 @@ had_from_right x y b h =
     let p = bit_at-lt x b in
     let q = bit_at-had y b h in
     had_from_one _ b (omega arith)
-
--- a row of ones has each bit
-pub had_in_ones : (width b : ℕ) → b < width → has_bit (2 ^ width - 1) b ≡ true
-had_in_ones width b h = had_from_one _ b (bit_at_ones width b h)
 
 -- a bit of one row or another
 pub has_bit-or : (x y b : ℕ) → has_bit (bit_or x y) b ≡ (has_bit x b || has_bit y b)

@@ -1,5 +1,5 @@
 -- Words are read as ascending numbers.
-use Rattle.std.proofs.Common.{◌≡◌, ℕ, ◌+◌, ◌<◌, ◌≤◌, nat_le, Bool, true, false, ◌&&◌, List, length, drop, get_or, Option, Some, None, Bor, refl, sym, ap, ◌∙◌, arith}
+use Rattle.std.proofs.Common.{◌≡◌, ℕ, ◌+◌, ◌<◌, ◌≤◌, nat_le, Bool, true, false, ◌&&◌, List, length, drop, get_or, Option, Some, None, Bor, sym, ap, ◌∙◌, arith}
 use Rattle.std.specs.Fn.{CalledAt}
 use Rattle.std.specs.Iterator.{Yields}
 use Rattle.std.specs.List.{slice_split}

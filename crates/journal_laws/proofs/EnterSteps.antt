@@ -4,14 +4,12 @@ use Rattle.std.specs.List.{list_all}
 use Rattle.std.proofs.lemmas.Bool.{and_parts, or_cases, or_left, or_right, eqb-true, eq-eqb, false≢true}
 use Rattle.place_plan.specs.declared.drafts.draft_rows.Step.{Step}
 use Rattle.place_plan.specs.declared.drafts.draft_rows.Step.TheVariants as step
-use Rattle.place_plan.specs.declared.drafts.draft_rows.Program.{Program}
 use Rattle.place_plan.specs.declared.drafts.draft_rows.HandlerRow.{HandlerRow}
 use Rattle.place_plan.specs.declared.drafts.draft_rows.RoleRow.{RoleRow}
 use Rattle.place_plan.specs.declared.drafts.draft_rows.NestRow.{NestRow}
 use Rattle.caa_base.specs.Written.Lists.{member, index_of, is_empty}
 use Rattle.caa_base.specs.inner.Lists.{Rises}
-use Rattle.place_plan.specs.Plans.Places.{idle, no_role, no_nest, handler_in}
-use Rattle.place_plan.specs.RulesOfJournals.Roles.{or_idle}
+use Rattle.place_plan.specs.Plans.Places.{no_role, no_nest}
 use Rattle.place_plan.specs.Drafts.DraftRules.{entered_by, filled_by, same_numbers, roles_enter, all_differ}
 use Rattle.caa_base.proofs.ListLemmas.{Rises-weaker, member_above, empty_is}
 use Rattle.place_plan.proofs.OnPlans.Casts.{member_at, one_index}

@@ -1,10 +1,11 @@
 //! How each entry is told.
 
-use crate::words::{carried_name, interface_name, internal_name, object_name, participant_name};
+use crate::words::{carried_name, interface_name, internal_name, participant_name};
 use caa_base::written::entry::{
     Entry, Exception, Kind, OutOfMemory, Outcome, Participant, Place, Verdict,
 };
 use caa_base::written::line::{push_number, push_value, push_word};
+use journal_text::texts::text_writer::object_name;
 use place_plan::plans::plan::Plan;
 use place_plan::rules::one_entry::{outcome_at, verdict_at};
 use std::alloc::Global;

@@ -1,5 +1,5 @@
 -- A device that is spoken to in lines, and what a call of it comes to.
-use Rattle.std.specs.Prelude.{◌≡◌, ◌≢◌, ◌⊎◌, ℕ, ℤ, true, List, length, Result, Ok, Err}
+use Rattle.std.specs.Prelude.{◌≡◌, ◌≢◌, ◌⊎◌, ℕ, ℤ, List, length, Result, Ok, Err}
 use Rattle.caa_base.specs.Written.Names.{name_at}
 use Rattle.caa_base.specs.declared.outside.source.Source.{Ghosts as SourceGhosts}
 use Rattle.caa_base.specs.declared.outside.sink.Sink.{Ghosts as SinkGhosts}
@@ -8,7 +8,7 @@ use Rattle.caa_base.specs.declared.outside.plant.PlantError.TheVariants as refus
 use Rattle.line_plant.specs.declared.hearing.Answer.TheVariants as answer
 use Rattle.line_plant.specs.declared.wire.Wire.{Wire}
 use Rattle.line_plant.specs.Lines.{lay_line, put_line}
-use Rattle.line_plant.specs.Wires.{WasAnswered, AskCame, IsOut}
+use Rattle.line_plant.specs.Wires.{WasAnswered, AskCame}
 
 -- a device: the names of its objects; the wire to it; how many objects were laid out; the calls of `put` since then, and the room
 -- for them; how many calls of `lay` and of `put` failed

@@ -1,5 +1,5 @@
 -- The text of a play by messages.
-use Rattle.std.specs.Prelude.{◌≡◌, ℕ, ◌<◌, List, [], ◌∷◌, ◌++◌, ◌+◌, length, slice_get, slice_index_or, reverse, Option, Some, None, codes, decimal}
+use Rattle.std.specs.Prelude.{◌≡◌, ℕ, List, [], ◌∷◌, ◌++◌, ◌+◌, length, slice_get, slice_index_or, reverse, Option, Some, None, codes, decimal}
 use Rattle.std.specs.List.{flat_map}
 use Rattle.caa_base.specs.Written.Lines.{line}
 use Rattle.place_plan.specs.Plans.PlanValue.{Plan}

@@ -1,10 +1,9 @@
 //! The lines of a text and the columns of its words.
 
 use crate::page::{Page, Piece};
-use action_script::words::cuts::{cut_line, is_blank, words_of};
+use action_script::words::cuts::{cut_line, is_blank};
 use caa_base::written::entry::OutOfMemory;
 use caa_base::written::limits::MOST_LINE_BYTES;
-use std::alloc::Global;
 
 /// How many bytes are shown of a line that is too long, and how many carets stand under a word at most.
 const MOST_SHOWN: usize = 60;
@@ -129,36 +128,4 @@ pub fn show_carets(
     }
     page.fill(b'^', width.max(1).min(MOST_SHOWN))?;
     page.say(&[Piece::Text("\n")])
-}
-
-/// Where the journal begins that stands behind a script: how many bytes and how many lines stand before its line `journal`.
-#[derive(Clone, Copy)]
-pub struct JournalStart {
-    pub bytes: usize,
-    pub lines: u32,
-}
-
-/// Whether a line has `journal` as its only word.
-fn is_journal_line(alloc: Global, line: &[u8]) -> Result<bool, OutOfMemory> {
-    let words = words_of(alloc, line)?;
-    Ok(words.len() == 1 && words.first().copied() == Some(b"journal".as_slice()))
-}
-
-/// Where the journal begins, if there is a line `journal`.
-pub fn find_journal(alloc: Global, text: &[u8]) -> Result<Option<JournalStart>, OutOfMemory> {
-    let mut rest = text;
-    for lines in 0..u32::MAX {
-        if rest.is_empty() {
-            break;
-        }
-        let (line, more) = cut_line(rest);
-        if is_journal_line(alloc, line)? {
-            return Ok(Some(JournalStart {
-                bytes: text.len().saturating_sub(rest.len()),
-                lines,
-            }));
-        }
-        rest = more;
-    }
-    Ok(None)
 }

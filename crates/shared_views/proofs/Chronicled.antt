@@ -1,12 +1,11 @@
 -- Each step on the list of publications keeps its rule, and only the pen of its last entry adds to it.
-use Rattle.std.proofs.Common.{◌≡◌, ◌≢◌, ℕ, zero, suc, ◌+◌, ◌<◌, ◌==◌, Bool, true, false, List, [], ◌∷◌, ◌++◌, length, map, refl, ap, sym, ◌∙◌, subst, arith, inl, length-append, append-nil, Option, Some, None, set, length-set, get_or-set_other}
+use Rattle.std.proofs.Common.{◌≡◌, ◌≢◌, ℕ, zero, suc, ◌+◌, ◌<◌, ◌==◌, Bool, true, false, List, [], ◌∷◌, ◌++◌, length, map, refl, ap, sym, ◌∙◌, subst, arith, inl, append-nil, Option, Some, None, set, length-set, get_or-set_other}
 use Rattle.std.proofs.lemmas.Bool.{false≢true, true≢false}
 use Rattle.std.proofs.lemmas.Bool.Decides.{nat_tests}
-use Rattle.std.proofs.lemmas.List.{map-append, length-map}
+use Rattle.std.proofs.lemmas.List.{map-append}
 use mathlib.Core.List.{IsPrefix}
 use prog.Atomic.{either}
-use Rattle.logbook.specs.Pages.{Cell, cell, Nib, Act, keeps, gives, adds, no_nib, may_write, step, Step, View, Moves, Goes}
-use Rattle.shared_views.specs.Publications.{Changes}
+use Rattle.logbook.specs.Pages.{Cell, cell, Nib, keeps, gives, adds, no_nib, may_write, step, View, Moves, Goes}
 use Rattle.shared_views.specs.declared.publications.Entered.{Entered}
 use Rattle.shared_views.specs.inner.Chronicles.{listed, heir, heir_after, IsHome, Came, IsKept, Opens, Readies, Enters, Counts}
 use Rattle.shared_views.proofs.Beginnings.{begins_further, whole_beginning, beginning_length}

@@ -1,10 +1,6 @@
 -- A bulletin goes on fitting the journal, entry by entry.
-use Rattle.std.proofs.Common.{◌≡◌, ◌≢◌, ℕ, ◌<◌, ◌==◌, ◌&&◌, Bool, true, false, List, ◌∷◌, length, get_or, set, Option, Some, if◌then◌else◌, refl, sym, ap, ◌∙◌, subst, arith, length-set, get_or-set_other, get_or-set_same, inl, inr}
-use Rattle.std.proofs.lemmas.Bool.{cases_order}
-use Rattle.std.proofs.lemmas.Bool.Decides.{nat_tests}
+use Rattle.std.proofs.Common.{◌≡◌, ℕ, ◌<◌, false, List, length, get_or, set, Some, ap, ◌∙◌, subst, arith, get_or-set_same}
 use Rattle.caa_base.specs.declared.written.entry.Entry.{Entry}
-use Rattle.caa_base.specs.declared.written.entry.Kind.TheVariants as kind
-use Rattle.place_plan.specs.RulesOfJournals.Entries.{is_of, is_in}
 use Rattle.place_plan.specs.RulesOfJournals.Raising.{exception_resolved}
 use Rattle.shared_views.specs.declared.bulletin.Bulletin.{Bulletin}
 use Rattle.shared_views.specs.declared.bulletin.Announcement.{Announcement}

@@ -6,36 +6,17 @@ use Rattle.place_plan.specs.declared.drafts.draft.Draft.{Draft}
 use Rattle.place_plan.specs.declared.drafts.draft_rows.ActionRow.{ActionRow}
 use Rattle.place_plan.specs.declared.drafts.draft_rows.PlaceRow.{PlaceRow}
 use Rattle.place_plan.specs.declared.drafts.draft_rows.PlayRow.{PlayRow}
-use Rattle.place_plan.specs.Plans.PlanValue.{Plan}
 use Rattle.place_plan.specs.Plans.Bound.{action_bound}
-use Rattle.place_plan.specs.Plans.Unfolding.{plan_of, unfold_at, plays_from, tops_from}
+use Rattle.place_plan.specs.Plans.Unfolding.{unfold_at, plays_from, tops_from}
 use Rattle.caa_base.specs.Written.Limits.{most_depth}
 use Rattle.place_plan.specs.Drafts.DraftRules.{broken_rule, depth_within}
 use Rattle.worked_journals.proofs.Notation.{plain_graph, universal, program, play, played, inner}
 use Rattle.worked_journals.proofs.ThreeLevels.{ann, bob}
-use Rattle.worked_journals.proofs.FirstPath as first_path
-use Rattle.worked_journals.proofs.OrdinaryUse as ordinary_use
-use Rattle.worked_journals.proofs.UndoAsked as undo_asked
-use Rattle.worked_journals.proofs.RestoreFails as restore_fails
 use Rattle.worked_journals.proofs.InnerCommitted as inner_committed
-use Rattle.worked_journals.proofs.InnerRestoreFails as inner_restore_fails
-use Rattle.worked_journals.proofs.TwoPlays as two_plays_one_object
 use Rattle.worked_journals.proofs.TwoSiblings as two_siblings
-use Rattle.worked_journals.proofs.SameExceptionTwice as same_exception_twice
-use Rattle.worked_journals.proofs.InformedAtExit as informed_at_exit
-use Rattle.worked_journals.proofs.ThirdPutFails as third_put_fails
-use Rattle.worked_journals.proofs.EndedNotAllLeft as ended_not_all_left
 use Rattle.worked_journals.proofs.ThreeLevels as three_levels
-use Rattle.worked_journals.proofs.Withdrawn as withdrawn
-use Rattle.worked_journals.proofs.RaisedWhileUndoing as raised_while_undoing
-use Rattle.worked_journals.proofs.PutFailsInHandler as put_fails_in_handler
-use Rattle.worked_journals.proofs.SaturatingAdd as saturating_add
-use Rattle.worked_journals.proofs.MixingNegative as mixing_negative
 use Rattle.worked_journals.proofs.TestsDecide as tests_decide
-use Rattle.worked_journals.proofs.TwoSignals as two_signals
-use Rattle.worked_journals.proofs.FailureHandled as failure_handled
 use Rattle.worked_journals.proofs.Alternates as alternates
-use Rattle.worked_journals.proofs.AlternateNotAfterFailure as alternate_not_after_failure
 
 -- ---- two uses side by side, and two plays: a place comes before what is nested in it, and a use is whole before the next begins
 

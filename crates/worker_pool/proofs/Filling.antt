@@ -6,7 +6,6 @@ use Rattle.action_manager.specs.declared.seat.Seat.{Seat}
 use Rattle.worker_pool.specs.declared.hand_view.HandView.{HandView}
 use Rattle.action_manager.specs.Seats.{IsBeside}
 use Rattle.worker_pool.specs.Relays.{AreBeside, IsOfTheirs}
-use Rattle.worker_pool.specs.inner.Steps.{full_hand, Opened}
 use Rattle.action_manager.proofs.Beside.{both_beside}
 use Rattle.crossbeam_queue.specs.Passes.{view, IsPassOf}
 use Rattle.worker_pool.specs.declared.hands.Hand.{Hand}

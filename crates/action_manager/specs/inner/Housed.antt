@@ -1,5 +1,5 @@
 -- When what lies in the slot is right.
-use Rattle.std.specs.Prelude.{◌≡◌, ℕ, List, length, reverse, vec_capacity}
+use Rattle.std.specs.Prelude.{◌≡◌, List, length, reverse, vec_capacity}
 use Rattle.caa_base.specs.declared.written.entry.Entry.{Entry}
 use Rattle.place_plan.specs.declared.rules.machine.Base.{Base}
 use Rattle.place_plan.specs.Plans.PlanValue.{Plan}

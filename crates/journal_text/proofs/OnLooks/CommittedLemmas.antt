@@ -1,14 +1,14 @@
 -- Lemmas on the way back over a journal that finds the values of one object by the plays that ended first.
-use Rattle.std.proofs.Common.{◌≡◌, ℕ, ℤ, pos, ◌<◌, ◌≤◌, ◌+◌, ◌-◌, ◌==◌, Bool, true, false, cond, not, ◌&&◌, ◌||◌, List, [], ◌∷◌, length, filter, take, drop, reverse, replicate, slice_index_or, get_or, add-one, nat_lt, nat_eq, zero, suc, refl, sym, ap, ◌∙◌, subst, inl, inr, ◌⊎◌, arith}
+use Rattle.std.proofs.Common.{◌≡◌, ℕ, ℤ, pos, ◌<◌, ◌≤◌, ◌+◌, ◌-◌, ◌==◌, Bool, true, false, cond, not, ◌&&◌, ◌||◌, List, [], ◌∷◌, length, filter, take, drop, reverse, slice_index_or, get_or, add-one, nat_lt, nat_eq, zero, suc, refl, sym, ap, ◌∙◌, subst, inl, inr, ◌⊎◌, arith}
 use Rattle.std.specs.HashSet.{HashSet, contains}
 use Rattle.std.proofs.lemmas.Bool.{cond-false, cond-true, or_cases, and_left, and_right, and_from, not_from_false, not_from_true, eqb-true, false≢true, false_from_ne_true, cases_lt, lt-ltb, le-ltb}
 use Rattle.std.specs.Ordering.{int_eq}
-use Rattle.std.proofs.lemmas.List.{get_or-replicate, length-replicate, take_more, take_all, reverse-append}
+use Rattle.std.proofs.lemmas.List.{take_more, take_all, reverse-append}
 use Rattle.std.proofs.Math.Seq.{drop-cons}
 use Rattle.caa_base.specs.declared.written.entry.Entry.{Entry}
 use Rattle.place_plan.specs.Plans.PlanValue.{Plan}
 use Rattle.caa_base.specs.Written.Lists.{member, index_of, last_or}
-use Rattle.place_plan.specs.Plans.Places.{around, top_of, is_within, initial_of}
+use Rattle.place_plan.specs.Plans.Places.{around, top_of, is_within}
 use Rattle.place_plan.specs.RulesOfJournals.Objects.{restores, writes, is_within_any, value_of, value_outside, places_restoring}
 use Rattle.place_plan.specs.RulesOfJournals.Journals.{plays_ended, committed_value}
 use Rattle.caa_base.proofs.ListLemmas.{one_more_each}

@@ -17,7 +17,7 @@ use Rattle.journal_text.specs.Watching.Looks.{Looks, AreInOrder, InOrderFrom, Ar
 use Rattle.journal_text.specs.Texts.Text.{seen_line, closing_lines, first_line, text_of}
 use Rattle.journal_text.specs.inner.Words.{seen_in}
 use Rattle.journal_text.specs.Texts.TextOfJournal.{lines_shared, HasText, IsText, HasTooMany, IsFirstBad, Refuses, Reads, ReadsBack, TextsDiffer}
-use Rattle.journal_text.specs.inner.TextSteps.{BeginsNoEntry, BeginsNoSeen, MayCome, EntriesRead, SeensRead, StopsEntries, RefusesAfter}
+use Rattle.journal_text.specs.inner.TextSteps.{BeginsNoEntry, BeginsNoSeen, MayCome, EntriesRead, SeensRead, RefusesAfter}
 use Rattle.journal_text.proofs.OnTexts.EntryLines.{seen_in-line, IsLine, seen_line-is}
 use Rattle.journal_text.proofs.OnTexts.ReadingLemmas.{Tells, entry_lines, EachFits, tail_of, tail-no-entry, entries-same, entries-front, entries-shared, front-longest, shared-line, shared-none, shared-nothing, shared-front, shared-no_front}
 

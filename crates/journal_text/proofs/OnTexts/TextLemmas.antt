@@ -1,13 +1,7 @@
 -- Lemmas on the text of a journal.
-use Rattle.std.proofs.Common.{◌≡◌, ℕ, ◌+◌, ◌==◌, true, false, if◌then◌else◌, List, ◌∷◌, ◌++◌, Some, arith, zero-add}
+use Rattle.std.proofs.Common.{◌≡◌, ℕ, ◌+◌, List, ◌++◌, zero-add}
 use Rattle.std.specs.List.{flat_map, range_with_len}
 use Rattle.std.proofs.lemmas.List.{flat_map_more}
-use Rattle.std.proofs.lemmas.Bool.Decides.{nat_tests}
-use Rattle.caa_base.specs.declared.written.entry.Entry.{Entry}
-use Rattle.caa_base.specs.declared.written.entry.Kind.TheVariants as kind
-use Rattle.place_plan.specs.RulesOfJournals.Entries.{is_of}
-use Rattle.place_plan.specs.RulesOfJournals.Whereabouts.{outcome_at}
-use Rattle.journal_text.specs.Texts.Text.{last_outcome}
 use Rattle.caa_base.proofs.ListLemmas.{range_more}
 
 -- the line of one number more

@@ -234,7 +234,7 @@ pub(crate) fn push_seen(text: &mut Vec<u8>, plan: &Plan, seen: &Seen) -> Result<
 }
 
 /// The name of an object, which is empty past the last one.
-pub(crate) fn object_name(plan: &Plan, object: Object) -> &[u8]
+pub fn object_name(plan: &Plan, object: Object) -> &[u8]
     ensures { result.now ≡ object_name plan.now object }
 {
     if object < plan.objects() {
@@ -244,8 +244,10 @@ pub(crate) fn object_name(plan: &Plan, object: Object) -> &[u8]
     }
 }
 
-/// Adds the name of an object and its value.
-fn push_object(
+/// Adds the name of an object and its value, each after a space.
+///
+/// Where memory is wanting, what the text had is still there, and a part of these words may stand behind it.
+pub fn push_object(
     text: &mut Vec<u8>,
     plan: &Plan,
     object: Object,
@@ -354,8 +356,10 @@ fn push_restore(text: &mut Vec<u8>, plan: &Plan, entry: &Entry) -> Result<(), Ou
     }
 }
 
-/// Adds the words of a verdict in a place.
-fn push_verdict(
+/// Adds the words of a verdict in a place, each after a space.
+///
+/// Where memory is wanting, what the text had is still there, and a part of these words may stand behind it.
+pub fn push_verdict(
     text: &mut Vec<u8>,
     plan: &Plan,
     place: Place,
@@ -373,8 +377,10 @@ fn push_verdict(
     }
 }
 
-/// Adds the words of an outcome of a place.
-fn push_outcome(
+/// Adds the words of an outcome of a place, each after a space.
+///
+/// Where memory is wanting, what the text had is still there, and a part of these words may stand behind it.
+pub fn push_outcome(
     text: &mut Vec<u8>,
     plan: &Plan,
     place: Place,

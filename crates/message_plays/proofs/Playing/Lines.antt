@@ -1,5 +1,5 @@
 -- The lines of a play, and its text.
-use Rattle.std.proofs.Common.{◌≡◌, ◌≢◌, ℕ, zero, suc, ◌+◌, ◌*◌, ◌<◌, List, [], ◌∷◌, ◌++◌, length, length-append, append_assoc, add-zero, zero-add, slice_get, take, Option, Some, None, reverse, codes, inl, inr, refl, sym, ◌∙◌, ap, subst, subst₂, Contains, arith}
+use Rattle.std.proofs.Common.{◌≡◌, ◌≢◌, ℕ, ◌+◌, ◌*◌, ◌<◌, List, [], ◌∷◌, ◌++◌, length, length-append, append_assoc, add-zero, zero-add, slice_get, take, Option, Some, None, reverse, codes, inl, inr, refl, sym, ◌∙◌, ap, subst, subst₂, Contains, arith}
 use Rattle.std.specs.Prelude.{IfSome}
 use Rattle.std.specs.List.{flat_map}
 use Rattle.std.proofs.lemmas.List.{append-nil, take_more, flat_map_more}

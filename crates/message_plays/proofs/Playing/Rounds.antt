@@ -1,5 +1,5 @@
 -- Turn after turn, and the raise after them.
-use Rattle.std.proofs.Common.{◌≡◌, ◌≢◌, ℕ, ◌+◌, ◌<◌, ◌/◌, true, false, List, [], ◌∷◌, length, Result, Ok, Err, ◌↔◌, refl, sym, ◌∙◌, ap, subst, add-one, Contains, arith}
+use Rattle.std.proofs.Common.{◌≡◌, ◌≢◌, ℕ, ◌+◌, ◌/◌, true, false, List, [], ◌∷◌, length, Result, Ok, Err, ◌↔◌, refl, sym, ◌∙◌, ap, subst, add-one, Contains, arith}
 use Rattle.std.specs.Prelude.{OnOk, IsErr}
 use Rattle.std.proofs.lemmas.Bool.{not_from_false, false_from_ne_true, false≢true}
 use Rattle.caa_base.specs.Written.Mixing.{state_after, next_state}

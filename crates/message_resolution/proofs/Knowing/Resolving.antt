@@ -11,7 +11,7 @@ use Rattle.message_resolution.specs.declared.node.state.State.TheVariants.{Raise
 use Rattle.message_resolution.specs.Members.LeastCover.{least_cover}
 use Rattle.message_resolution.specs.Members.LocalEvents.{LocalEvent, resolved_at, told, has_raised, has_heard}
 use Rattle.message_resolution.specs.Members.Answers.{has_heard_all, may_resolve, has_resolved, resolution, word, decisions}
-use Rattle.message_resolution.specs.Members.Nodes.{Known, IsCoverOf, IsOneOf, Meets, messages_of, listed}
+use Rattle.message_resolution.specs.Members.Nodes.{Known, IsCoverOf, Meets, messages_of, listed}
 use Rattle.message_resolution.specs.inner.TakingIn.{HasTakenIn, IsResolutionOf, Resolves, TakesIn, as_list}
 use Rattle.message_resolution.proofs.Containing.{first_in}
 use Rattle.message_resolution.proofs.Ranges.{all_of_answers}

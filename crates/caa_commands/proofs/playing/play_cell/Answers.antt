@@ -1,4 +1,4 @@
-use Rattle.std.proofs.Common.{◌≡◌, sym, subst, subst₂, inl}
+use Rattle.std.proofs.Common.{sym, subst, subst₂, inl}
 use Rattle.cell_workload.specs.Summary.{summary_text}
 use Rattle.caa_commands.specs.OutsideUse.{plant_use, left_of}
 use Rattle.caa_commands.specs.Calls.{EndsWith, IsSimulated}

@@ -1,4 +1,4 @@
-use Rattle.std.proofs.Common.{◌≡◌, [], sym, subst, subst₂, inl}
+use Rattle.std.proofs.Common.{[], sym, subst, subst₂, inl}
 use Rattle.caa_commands.specs.OutsideUse.{plant_use, left_of}
 use Rattle.caa_commands.specs.Calls.{EndsAs, IsSimulated}
 use Rattle.caa_commands.proofs.playing.simulate.Goals as goal

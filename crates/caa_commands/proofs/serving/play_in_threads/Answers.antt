@@ -1,4 +1,4 @@
-use Rattle.std.proofs.Common.{◌≡◌, inl, subst, sym}
+use Rattle.std.proofs.Common.{inl, subst, sym}
 use Rattle.caa_commands.specs.OutsideUse.{plant_use, left_of}
 use Rattle.caa_commands.specs.Calls.{PlanComesTo}
 use Rattle.caa_commands.specs.Scripts.{IsThePlan}

@@ -2,7 +2,6 @@ use Rattle.std.proofs.Common.{◌≡◌, ◌++◌, map, subst, sym, ap, ◌∙�
 use Rattle.std.specs.List.{range_with_len}
 use Rattle.action_script.specs.Forms.Printing.{AreScript}
 use Rattle.cell_workload.specs.CellNames.{cell_names}
-use Rattle.cell_workload.specs.CellLines.{cell_lines}
 use Rattle.cell_workload.specs.CellScript.{cell_forms, play_line}
 use Rattle.cell_workload.proofs.Whole.{are_script}
 use Rattle.cell_workload.proofs.script.cell.Goals as goal

@@ -1,4 +1,4 @@
-use Rattle.std.proofs.Common.{◌≡◌, reverse, subst, sym, ap, ◌∙◌, Some, None}
+use Rattle.std.proofs.Common.{reverse, subst, sym, ap, ◌∙◌, Some, None}
 use Rattle.place_plan.specs.RulesOfJournals.Journals.{LegalPast}
 use Rattle.place_plan.specs.RulesOfJournals.Machine.{Answers}
 use Rattle.place_plan.specs.RulesOfJournals.WellFormed.{IsWellFormed, AllWellFormed}

@@ -1,4 +1,4 @@
-use Rattle.std.proofs.Common.{◌≡◌, ◌/◌, ◌≤◌, length, refl, ap, sym, ◌∙◌, arith}
+use Rattle.std.proofs.Common.{◌≡◌, ◌/◌, length, refl, ap, sym, ◌∙◌, arith}
 use Rattle.caa_base.specs.Written.Mixing.{state_after, next_state}
 use Rattle.place_plan.proofs.OnPlans.ClosedPlan.{few_roles}
 use Rattle.message_plays.specs.Turns.{after_turns, with_turn}

@@ -1,4 +1,4 @@
-use Rattle.std.proofs.Common.{◌≡◌, ◌-◌, ◌<◌, ◌≤◌, length, ap, sym, ◌∙◌, arith}
+use Rattle.std.proofs.Common.{◌≡◌, ◌-◌, ◌<◌, length, ap, sym, ◌∙◌, arith}
 use Rattle.place_plan.proofs.OnPlans.ClosedPlan.{few_roles}
 use Rattle.message_plays.specs.Turns.{members, first_wish}
 use Rattle.message_plays.proofs.Playing.Wishes.{first_wish-none, first_wish-some, first_wish-end}

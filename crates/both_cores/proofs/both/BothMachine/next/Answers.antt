@@ -1,10 +1,6 @@
-use Rattle.std.proofs.Common.{◌≡◌, ◌∙◌, ℕ, List, Option, Some, None, true, false, true≢false, reverse, refl, sym, ap, subst}
+use Rattle.std.proofs.Common.{◌≡◌, ◌∙◌, ℕ, Option, Some, None, false, true≢false, reverse, refl, sym, ap, subst}
 use Rattle.std.specs.Prelude.{is_some}
-use Rattle.caa_base.specs.declared.written.entry.Entry.{Entry}
-use Rattle.caa_base.specs.Written.Mixing.{Worked}
-use Rattle.place_plan.specs.Plans.PlanValue.{Plan}
 use Rattle.place_plan.specs.RulesOfJournals.Machine.{Answers}
-use Rattle.place_plan.specs.declared.rules.machine.Answer.{Answer}
 use Rattle.journal_laws.specs.Laws.{Holds, AtMostOne}
 use Rattle.both_cores.specs.Compared.{PartAt}
 use Rattle.both_cores.proofs.Parting.{still_same, still_apart, now_apart, asked_alike}

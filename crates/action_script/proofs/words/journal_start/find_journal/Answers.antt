@@ -1,7 +1,7 @@
 use Rattle.std.proofs.Common.{◌≡◌, ◌+◌, ◌-◌, ℕ, List, length, sym, ap, ◌∙◌, arith}
-use Rattle.caa_commands.specs.Inputs.{after_lines, script_lines, journal_part}
-use Rattle.caa_commands.proofs.LineStarts.{after_dropped}
-use Rattle.caa_commands.proofs.inputs.find_journal.Goals as goal
+use Rattle.action_script.specs.Words.JournalStarts.{after_lines, script_lines, journal_part}
+use Rattle.action_script.proofs.OnWords.LineStarts.{after_dropped}
+use Rattle.action_script.proofs.words.journal_start.find_journal.Goals as goal
 
 -- what is left after the lines of the script is the text of the journal
 left_after : (bytes rest : List ℕ) (lines : ℕ) → lines ≡ script_lines bytes

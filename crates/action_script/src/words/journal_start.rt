@@ -1,13 +1,13 @@
-//! The input of an audit: a script, and the text of a journal after it.
+//! Where the text of a journal begins that stands behind a script.
 
 ghost use Rattle.std.specs.Prelude.{◌≡◌, ◌≤◌, ◌+◌, ◌-◌, ℕ, length, drop};
 ghost use Rattle.std.specs.List.{list_all};
 ghost use Rattle.action_script.specs.Words.CutLines.{is_blank};
-ghost use Rattle.caa_commands.specs.Inputs.{without_blanks, begins_journal, after_lines, script_lines, journal_part};
+ghost use Rattle.action_script.specs.Words.JournalStarts.{without_blanks, begins_journal, after_lines, script_lines, journal_part};
 
-use action_script::words::cuts::{cut_line, is_blank};
+use crate::words::cuts::{cut_line, is_blank};
 
-/// Where the text of the journal begins in an input.
+/// Where the text of a journal begins in an input.
 #[derive(Clone, Copy, Debug, PartialEq, Eq)]
 pub struct JournalStart {
     /// The number of bytes before it.

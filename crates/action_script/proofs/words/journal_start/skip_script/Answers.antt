@@ -1,8 +1,8 @@
 use Rattle.std.proofs.Common.{◌≡◌, ◌+◌, suc, false, cond, sym, ap, ◌∙◌, arith}
 use Rattle.action_script.specs.Words.CutLines.{lines_of}
-use Rattle.caa_commands.specs.Inputs.{lines_before, after_lines, is_journal_line, begins_journal}
-use Rattle.caa_commands.proofs.LineStarts.{after_feed}
-use Rattle.caa_commands.proofs.inputs.skip_script.Goals as goal
+use Rattle.action_script.specs.Words.JournalStarts.{lines_before, after_lines, is_journal_line, begins_journal}
+use Rattle.action_script.proofs.OnWords.LineStarts.{after_feed}
+use Rattle.action_script.proofs.words.journal_start.skip_script.Goals as goal
 
 pub loop-line-preserved : goal.loop-line-preserved
 loop-line-preserved c =

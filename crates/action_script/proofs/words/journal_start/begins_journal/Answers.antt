@@ -2,7 +2,7 @@ use Rattle.std.proofs.Common.{◌≡◌, ◌&&◌, take, drop, true, bytes_eq, c
 use Rattle.std.specs.List.{list_all}
 use Rattle.std.proofs.lemmas.List.{take_rest}
 use Rattle.action_script.specs.Words.CutLines.{is_blank}
-use Rattle.caa_commands.proofs.inputs.begins_journal.Goals as goal
+use Rattle.action_script.proofs.words.journal_start.begins_journal.Goals as goal
 
 pub returns-then-eq : goal.returns-then-eq
 returns-then-eq c =

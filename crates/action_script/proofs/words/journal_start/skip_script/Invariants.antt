@@ -1,7 +1,7 @@
 use Rattle.std.proofs.Common.{◌≡◌, ◌+◌, ◌≤◌, ℕ, length}
 use Rattle.action_script.specs.Words.CutLines.{lines_of}
-use Rattle.caa_commands.specs.Inputs.{lines_before, after_lines, script_lines}
-use Rattle.caa_commands.proofs.inputs.skip_script.Given as goal
+use Rattle.action_script.specs.Words.JournalStarts.{lines_before, after_lines, script_lines}
+use Rattle.action_script.proofs.words.journal_start.skip_script.Given as goal
 
 abbrev pub invariant-loop-line : goal.invariant-loop-line
 invariant-loop-line l = record {
