@@ -19,7 +19,7 @@ module _ (was_handed : ℕ → ℕ → ℕ → Type 0) where
   answer_handed plan old new t hint answer.NotYet h made = goes_nowhere (IsHandedOf was_handed t) old new h.0.kept
   answer_handed plan old new t hint answer.Over h made = goes_nowhere (IsHandedOf was_handed t) old new h.0.kept
 
-  -- the same of a step
+  -- a step, of whose entry the gate was told if it begins a handler
   pub step_handed : (plan : Plan) (old new : Journal) (t : ℕ) (hint : Option Worked) (a : Answer)
       → Steps plan old new t hint a → HandsMade was_handed a → TellsOwnHandlers was_handed t old new
   step_handed plan old new t hint a h made =

@@ -26,7 +26,7 @@ use Rattle.action_manager.specs.Publishing.{publications_of}
 use Rattle.action_manager.specs.PublishingLaw.{PublishingLaw}
 use Rattle.role_driver.specs.inner.Records.{was_read, ends_rise, is_record, is_news}
 use Rattle.role_driver.specs.declared.watcher.Watcher.{Watcher}
-use Rattle.role_driver.specs.inner.Watching.{Task, task_of}
+use Rattle.role_driver.specs.inner.Watchers.{Task, task_of}
 use Rattle.role_driver.specs.inner.Gathering.{HasPublished, with_last}
 
 -- ---- readings

@@ -10,11 +10,11 @@ use Rattle.role_driver.specs.Working.{GoesOnWith}
 abbrev pub IsHanded : (ℕ → ℕ → ℕ → Type 0) → Entry → Type 0
 IsHanded was_handed e = e.kind ≡ kind.Handle → was_handed e.by e.place e.arg
 
--- the same of an entry of t; of others it says nothing
+-- where the entry is a Handle of t, the gate was told of t, and of the place and the exception of the entry
 abbrev pub IsHandedOf : (ℕ → ℕ → ℕ → Type 0) → ℕ → Entry → Type 0
 IsHandedOf was_handed t e = e.by ≡ t → IsHanded was_handed e
 
--- the same of the entry that a step made, if it made one
+-- where a step made a Handle, the gate was told of its maker, its place and its exception
 abbrev pub HandsMade : (ℕ → ℕ → ℕ → Type 0) → Answer → Type 0
 HandsMade was_handed (answer.Did e) = IsHanded was_handed e
 HandsMade was_handed _ = Unit {0}

@@ -13,7 +13,7 @@ use Rattle.action_manager.specs.Stepping.{Steps}
 abbrev pub IsTold : (ℕ → ℕ → Type 0) → Entry → Type 0
 IsTold was_told e = e.kind ≡ kind.Work → was_told e.by e.place
 
--- the same of an entry of t; of others it says nothing
+-- where the entry is one of work that t did, the gate was told of t and of the entry's place
 abbrev pub IsToldOf : (ℕ → ℕ → Type 0) → ℕ → Entry → Type 0
 IsToldOf was_told t e = e.by ≡ t → IsTold was_told e
 

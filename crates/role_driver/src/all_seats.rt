@@ -5,7 +5,7 @@ ghost use Rattle.action_manager.specs.Publishing.{Publishes};
 ghost use Rattle.action_manager.specs.Managers.{plan_in, handed_in, book_in, IsSeatIn};
 ghost use Rattle.action_manager.specs.Seats.{participant_of, HaveAll};
 ghost use Rattle.role_driver.specs.SeatsDriven.{IsDone};
-ghost use Rattle.role_driver.specs.inner.Room.{HasRoomFor};
+ghost use Rattle.role_driver.specs.VectorRoom.{HasRoomFor};
 
 use crate::driving::drive;
 use action_manager::{Closed, Manager, Seat};

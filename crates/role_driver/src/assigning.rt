@@ -1,7 +1,7 @@
 ghost use Rattle.std.specs.Prelude.{◌≡◌, ◌<◌, All, length, map, replicate};
 ghost use Rattle.shared_views.specs.Committing.{placeless};
-ghost use Rattle.role_driver.specs.inner.Room.{HasRoomFor};
-ghost use Rattle.role_driver.specs.inner.Watching.{task_of};
+ghost use Rattle.role_driver.specs.VectorRoom.{HasRoomFor};
+ghost use Rattle.role_driver.specs.inner.Watchers.{task_of};
 ghost use Rattle.role_driver.specs.inner.WatchRooms.{task_with, observer_of};
 
 use crate::watch_room::Blank;

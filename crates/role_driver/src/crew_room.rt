@@ -1,6 +1,6 @@
 ghost use Rattle.std.specs.Prelude.{◌≡◌, length, IfOk};
 
-use crate::crew::Member;
+use crate::seat_crew::Member;
 use action_manager::Seat;
 use std::alloc::{AllocError, Global};
 use std::sync::atomic::AtomicBool;

@@ -3,7 +3,7 @@ ghost use Rattle.caa_base.specs.Written.Limits.{IsValue};
 ghost use Rattle.journal_text.specs.Watching.Looks.{AreOfPlan, last_watch};
 ghost use Rattle.journal_text.specs.Watching.Right.{first_wrong};
 ghost use Rattle.journal_text.specs.Texts.Text.{watched_object};
-ghost use Rattle.role_driver.specs.inner.Watching.{task_of};
+ghost use Rattle.role_driver.specs.inner.Watchers.{task_of};
 ghost use Rattle.role_driver.specs.inner.Gathering.{HasPublished, task_by, with_last, look_of, AreRightSoFar};
 
 use crate::watcher::Watcher;

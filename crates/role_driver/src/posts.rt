@@ -1,6 +1,6 @@
 ghost use Rattle.std.specs.Prelude.{◌≡◌, length, map};
-ghost use Rattle.role_driver.specs.inner.Room.{HasRoomFor};
-ghost use Rattle.role_driver.specs.inner.Watching.{task_of, task_at};
+ghost use Rattle.role_driver.specs.VectorRoom.{HasRoomFor};
+ghost use Rattle.role_driver.specs.inner.Watchers.{task_of, task_at};
 
 use crate::watcher::Watcher;
 use std::snapshot::Snapshot;
@@ -16,7 +16,7 @@ pub struct Returns {
 
 impl Promise<Watcher> for Returns {
     ghost use Rattle.std.specs.Prelude.{◌≡◌};
-    ghost use Rattle.role_driver.specs.inner.Watching.{task_of};
+    ghost use Rattle.role_driver.specs.inner.Watchers.{task_of};
 
     ghost kept_by = { λ p r. task_of r ≡ task_of p.watcher.value };
 }

@@ -10,18 +10,18 @@ ghost use Rattle.action_manager.specs.Publishing.{Publishes};
 ghost use Rattle.action_manager.specs.Managers.{plan_in, handed_in, IsSeatIn};
 ghost use Rattle.action_manager.specs.Seats.{participant_of};
 ghost use Rattle.role_driver.specs.inner.CrewRooms.{IsRoomForAll};
-ghost use Rattle.role_driver.specs.inner.Room.{HasRoomFor};
-ghost use Rattle.role_driver.specs.inner.Watching.{task_of};
+ghost use Rattle.role_driver.specs.VectorRoom.{HasRoomFor};
+ghost use Rattle.role_driver.specs.inner.Watchers.{task_of};
 ghost use Rattle.shared_views.specs.Committing.{placeless};
 ghost use Rattle.role_driver.specs.inner.WatchRooms.{IsRoomFor, observer_of};
 ghost use Rattle.role_driver.specs.inner.Gathering.{task_by};
 
 use crate::all_seats::{close_done, drive_each};
 use crate::assigning::watchers_for;
-use crate::crew::{Crew, drive_handed_back, join_all, start_all};
 use crate::crew_room::CrewRoom;
 use crate::gathering::gather;
 use crate::posts::{Watch, call_all_back, post_all, raise};
+use crate::seat_crew::{SeatCrew, drive_handed_back, join_all, start_all};
 use crate::watch_room::WatchRoom;
 use crate::watcher::Watcher;
 use action_manager::{Closed, Manager, ManagerError, Opened, Seat};
@@ -53,7 +53,7 @@ pub struct RunError<M> {
 fn drive_in_threads<M: Machine + Send, G: Gate + Sync, R: Threads + Wait + Sync>(
     rt: &R,
     manager: &Manager<M>,
-    crew: Crew<M>,
+    crew: SeatCrew<M>,
     handed_back: &[AtomicBool],
     watch: Watch,
     over: &[AtomicBool],
@@ -68,7 +68,7 @@ fn drive_in_threads<M: Machine + Send, G: Gate + Sync, R: Threads + Wait + Sync>
     ensures order { map participant_of result.0.items ≡ map participant_of crew.seats.items }
     ensures tasks { map task_of result.1.items ≡ map task_of watch.watchers.items }
 {
-    let Crew {
+    let SeatCrew {
         seats,
         members,
         back,
@@ -155,7 +155,7 @@ fn play_opened<M: Machine + Send, G: Gate + Sync, R: Threads + Wait + Sync>(
         seats,
         observers,
     } = opened;
-    let crew = Crew {
+    let crew = SeatCrew {
         seats,
         members: crew_room.members,
         back: crew_room.back,

@@ -7,7 +7,7 @@ use caa_base::written::entry::{Entry, Kind, Participant};
 use core_words::crew::{Crew, nobody};
 use place_plan::plans::plan::Plan;
 
-/// The others of a crew.
+/// A crew without this participant.
 fn without(crew: Crew, by: Participant) -> Crew
     ensures { (t : ℕ) → has_bit result t ≡ true → (has_bit crew t ≡ true) × ((by == t) ≡ false) }
 {

@@ -7,7 +7,7 @@ use std::sync::Wait;
 use std::sync::atomic::{AtomicBool, Ordering};
 use std::thread;
 
-/// Whether a reading is the first, or more plays had ended than at the last of these.
+/// Whether a reading is the first, or more plays had ended at it than at the last of these.
 fn is_news(seen: &[Reading], reading: Reading) -> bool
     ensures { result ≡ is_news seen.now reading }
 {
@@ -27,7 +27,7 @@ pub struct Watcher {
 impl Watcher {
     ghost use Rattle.shared_views.specs.Publications.{Begins};
     ghost use Rattle.shared_views.specs.Committing.{IsReading};
-    ghost use Rattle.role_driver.specs.inner.Watching.{task_of};
+    ghost use Rattle.role_driver.specs.inner.Watchers.{task_of};
     ghost use Rattle.role_driver.specs.inner.Gathering.{task_by};
 
     /// A watcher that has recorded nothing yet. It records no more than there is room for in the list, which is cleared.
@@ -45,7 +45,7 @@ impl Watcher {
 
     /// Takes a reading, and records it where it is the first or more plays have ended than at the last recorded one.
     ///
-    /// Where the reading is refused, nothing is recorded.
+    /// Where the reading is refused, or no room is left, nothing is recorded.
     fn look(&mut self)
         ensures { task_of self.new ≡ task_of self.old }
     {
@@ -78,8 +78,8 @@ impl Watcher {
         self.seen.as_slice()
     }
 
-    /// The reading after all publications of the writer: by the observer, once it was told of them, and by the writer where that
-    /// is refused.
+    /// The reading after all publications of the writer: by the observer, once it was told of them, and by the writer where the
+    /// observer's reading is refused or isn't after all of them.
     pub fn last_look(&mut self, writer: &mut CommittedWriter) -> Reading
         requires { task_of self.old ≡ task_by writer.old self.old.object }
         ensures task { task_of self.new ≡ task_of self.old }

@@ -9,7 +9,7 @@ use Rattle.crossbeam_queue.proofs.Lists.{at_set, at_snoc}
 use Rattle.action_manager.specs.declared.seat.Seat.{Seat}
 use Rattle.worker_pool.specs.declared.hand_view.HandView.{HandView}
 use Rattle.action_manager.specs.Seats.{participant_of, IsBeside}
-use Rattle.worker_pool.specs.Lists.{without}
+use Rattle.worker_pool.specs.SeatLists.{without}
 use Rattle.worker_pool.specs.Relays.{all_parts, weight_of, parts_in, IsAt, IsOfTheirs, AreOfTheirs, RelayRule, RuleHeldFor}
 use Rattle.worker_pool.specs.inner.Steps.{first_hand, left_hand, new_hand, both_hands, spent_hand, Opened, IsNoLonger, Took, DidPut, IsShort, AreAll}
 use Rattle.worker_pool.proofs.Weights.{total_set, part_le, parts_le, total_more, total_alone, ones, without_weighs}

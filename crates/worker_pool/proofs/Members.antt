@@ -8,7 +8,7 @@ use Rattle.worker_pool.specs.declared.hands.Relay.{Relay}
 use Rattle.worker_pool.specs.declared.worker.Worker.{Worker}
 use Rattle.worker_pool.specs.Relays.{weight_of}
 use Rattle.worker_pool.specs.Hands.{IsHandOf, IsOpened, held_by, number_of, opened_in, weight_by}
-use Rattle.worker_pool.specs.inner.Working.{IsAtWork, IsMember, number_by}
+use Rattle.worker_pool.specs.inner.Workers.{IsAtWork, IsMember, number_by}
 
 module _ {M : Type 0} where
   -- a worker that has taken nothing yet

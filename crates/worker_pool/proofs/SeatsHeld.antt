@@ -9,7 +9,7 @@ use Rattle.action_manager.specs.declared.seat.Seat.{Seat}
 use Rattle.action_manager.specs.declared.lock_view.Terms.{Terms}
 use Rattle.action_manager.specs.Seats.{IsSeatOf, participant_of}
 use Rattle.action_manager.proofs.Beside.{both_beside, beside_opened}
-use Rattle.worker_pool.specs.Lists.{without}
+use Rattle.worker_pool.specs.SeatLists.{without}
 use Rattle.worker_pool.specs.Relays.{IsOfTheirs, weight_of}
 use Rattle.worker_pool.proofs.Weights.{without_weighs, ones}
 

@@ -6,7 +6,7 @@ use native.Mathlib.Omega.{arith}
 use Rattle.std.specs.List.{sum_by}
 use Rattle.std.proofs.lemmas.List.Sums.{sum_by-cons, sum_by-append}
 use Rattle.std.proofs.lemmas.Bool.Decides.{eqb_tells}
-use Rattle.worker_pool.specs.Lists.{without}
+use Rattle.worker_pool.specs.SeatLists.{without}
 
 module _ {A : Type 0} (f : A → ℕ) where
   -- the weight after one change

@@ -1,4 +1,4 @@
-pub mod Lists
+pub mod SeatLists
 pub mod Relays
 pub mod Hands
 pub mod Played

@@ -1,14 +1,14 @@
 ghost use Rattle.std.specs.Prelude.{◌≡◌, ◌<◌, ◌≤◌, [], length};
 ghost use Rattle.crossbeam_queue.specs.Passes.{ruled_capacity};
 
-use crate::passing::{Line, LinePass};
+use crate::passing::{QueuePass, SeatQueue};
 use action_manager::Seat;
 use std::snapshot::Snapshot;
 
 /// A queue through which the seats of a manager travel.
 #[derive(Drop)]
 pub struct Relay<M> {
-    pub(crate) queue: Line<M>,
+    pub(crate) queue: SeatQueue<M>,
     pub(crate) hands: u32,
     pub(crate) opened: Snapshot<Vec<Seat<M>>>,
     ghost fits: { ruled_capacity queue ≡ length opened.value.items },
@@ -20,7 +20,7 @@ pub struct Relay<M> {
 ///
 /// Contracts see which participants' seats it holds: those that it took and didn't put back.
 pub struct Hand<M> {
-    pub(crate) pass: LinePass<M>,
+    pub(crate) pass: QueuePass<M>,
     pub(crate) number: u32,
     /// Empty; the last hand has room for all seats in it.
     pub(crate) spare: Vec<Seat<M>>,
@@ -50,7 +50,7 @@ impl<M> Hand<M> {
     }
 
     /// What it is made of.
-    pub(crate) fn into_parts(self) -> (LinePass<M>, u32, Vec<Seat<M>>)
+    pub(crate) fn into_parts(self) -> (QueuePass<M>, u32, Vec<Seat<M>>)
         ensures { result ≡ (self.pass, self.number, self.spare) }
     {
         let Hand {
@@ -73,7 +73,7 @@ pub struct Opening<M> {
     pub hands: Vec<Hand<M>>,
 }
 
-/// A hand isn't among those handed in: the least such number, and all as it was.
+/// A hand isn't among those handed in: the least number of such a hand, with the relay and the hands as they were.
 pub struct HandsOut<M> {
     pub relay: Relay<M>,
     pub hands: Vec<Hand<M>>,

@@ -97,8 +97,8 @@ impl<M> Join<HandView<M>> for Cut {
     ghost spent = { spent_hand };
 }
 
-/// The queue.
-pub type Line<M> = RuledArrayQueue<Seat<M>, HandView<M>, OnceEach<M>>;
+/// The queue that the seats of a relay travel through.
+pub type SeatQueue<M> = RuledArrayQueue<Seat<M>, HandView<M>, OnceEach<M>>;
 
 /// What a hand has of the queue.
-pub type LinePass<M> = Pass<Seat<M>, HandView<M>>;
+pub type QueuePass<M> = Pass<Seat<M>, HandView<M>>;

@@ -1,8 +1,8 @@
 ghost use Rattle.std.specs.Prelude.{◌≡◌, ◌<◌, ◌≤◌, [], length, All, IfOk, vec_capacity};
 
-use crate::crew::Member;
 use crate::relay_room::RelayRoom;
 use crate::worker::Workers;
+use crate::worker_crew::Member;
 use action_manager::Seat;
 use role_driver::lowered_flags;
 use std::alloc::{AllocError, Global};

@@ -3,13 +3,14 @@ ghost use Rattle.worker_pool.specs.declared.hands.Hand.{Hand as HandOf};
 ghost use Rattle.std.specs.List.{sum_by, range_with_len};
 ghost use Rattle.crossbeam_queue.specs.Passes.{view, IsPassOf, ruled_capacity};
 ghost use Rattle.action_manager.specs.Seats.{participant_of};
-ghost use Rattle.worker_pool.specs.Lists.{without};
+ghost use Rattle.role_driver.specs.VectorRoom.{HasRoomFor};
+ghost use Rattle.worker_pool.specs.SeatLists.{without};
 ghost use Rattle.worker_pool.specs.Relays.{weight_of, AreBeside, all_parts};
 ghost use Rattle.worker_pool.specs.Hands.{opened_in, hands_of, held_by, parts_by, weight_by, number_of, IsHandOf, IsOpened, WasEmptyFor, EachStandsOnce, has_hand, HaveAll, IsLeastMissing};
 ghost use Rattle.worker_pool.specs.inner.Steps.{first_hand, full_hand};
 
 use crate::hands::{Hand, HandsOut, Opening, Relay, RelayError};
-use crate::passing::{Counts, Cut, LinePass, Opens, Puts, Takes};
+use crate::passing::{Counts, Cut, Opens, Puts, QueuePass, Takes};
 use crate::relay_room::RelayRoom;
 use action_manager::Seat;
 use std::alloc::Global;
@@ -42,13 +43,13 @@ impl<M> Relay<M> {
         }
     }
 
-    /// Queues all seats.
+    /// Queues all seats, in order, and gives their vector back, which is empty.
     pub(crate) fn fill<R: Wait>(
         &self,
         rt: &R,
-        mut pass: LinePass<M>,
+        mut pass: QueuePass<M>,
         mut seats: Vec<Seat<M>>,
-    ) -> (LinePass<M>, Vec<Seat<M>>)
+    ) -> (QueuePass<M>, Vec<Seat<M>>)
         requires pass { IsPassOf self.now.queue pass × (view pass ≡ first_hand) }
         requires opened { self.now.opened.value.items ≡ seats.items }
         requires beside { AreBeside seats.items }
@@ -66,18 +67,18 @@ impl<M> Relay<M> {
         (pass, seats)
     }
 
-    /// Makes the hands, the last of which keeps the vector.
+    /// Makes the hands, the last of which keeps the vector in which the seats were.
     pub(crate) fn deal(
         &self,
         alloc: Global,
-        mut pass: LinePass<M>,
+        mut pass: QueuePass<M>,
         spare: Vec<Seat<M>>,
         mut hands: Vec<Hand<M>>,
     ) -> Vec<Hand<M>>
         requires pass { IsPassOf self.now.queue pass }
         requires view { view pass ≡ full_hand self.now.opened.value.items }
         requires spare { (spare.items ≡ []) × (length self.now.opened.value.items ≤ vec_capacity spare) }
-        requires room { (hands.items ≡ []) × (vec_capacity hands ≡ self.now.hands) }
+        requires room { HasRoomFor self.now.hands hands }
         ensures order { map number_of result.items ≡ range_with_len 0 self.now.hands }
         ensures hands { All (λ h. IsHandOf self.now h × (held_by h ≡ [])) result.items }
     {
@@ -207,7 +208,7 @@ impl<M> Relay<M> {
     }
 
     /// A pass takes in those of other hands.
-    fn gather(&self, pass: &mut LinePass<M>, mut others: Vec<Hand<M>>)
+    fn gather(&self, pass: &mut QueuePass<M>, mut others: Vec<Hand<M>>)
         requires pass { IsPassOf self.now.queue pass.old }
         requires opened { (view pass.old).opened ≡ self.now.opened.value.items }
         requires parts { 0 < (view pass.old).parts }
@@ -225,7 +226,7 @@ impl<M> Relay<M> {
     }
 
     /// Takes all seats that are queued.
-    fn empty<R: Wait>(self, rt: &R, mut pass: LinePass<M>, mut seats: Vec<Seat<M>>) -> Vec<Seat<M>>
+    fn empty<R: Wait>(self, rt: &R, mut pass: QueuePass<M>, mut seats: Vec<Seat<M>>) -> Vec<Seat<M>>
         requires pass { IsPassOf self.queue pass }
         requires opened { (view pass).opened ≡ self.opened.value.items }
         requires parts { all_parts ≤ (view pass).parts }

@@ -5,7 +5,7 @@ ghost use Rattle.worker_pool.specs.Hands.{opened_in, hands_of, held_by, number_o
 ghost use Rattle.worker_pool.specs.inner.Rooms.{IsRelayRoomFor};
 
 use crate::hands::{Opening, Relay};
-use crate::passing::Line;
+use crate::passing::SeatQueue;
 use crate::relay_room::RelayRoom;
 use action_manager::Seat;
 use std::alloc::{AllocError, Global};
@@ -19,7 +19,7 @@ impl<M> RelayRoom<M> {
         ensures { IfOk result (λ r. IsRelayRoomFor seats hands r) }
     {
         let room = Vec::with_capacity(alloc, hands as usize)?;
-        let (queue, pass) = Line::ruled(alloc, seats)?;
+        let (queue, pass) = SeatQueue::ruled(alloc, seats)?;
         Ok(RelayRoom {
             queue,
             pass,

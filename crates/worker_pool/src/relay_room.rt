@@ -1,12 +1,12 @@
 ghost use Rattle.std.specs.Prelude.{◌≡◌, []};
 
 use crate::hands::Hand;
-use crate::passing::{Line, LinePass};
+use crate::passing::{QueuePass, SeatQueue};
 
 /// All the memory that a relay needs.
 pub struct RelayRoom<M> {
-    pub queue: Line<M>,
-    pub pass: LinePass<M>,
+    pub queue: SeatQueue<M>,
+    pub pass: QueuePass<M>,
     pub hands: Vec<Hand<M>>,
     pub count: u32,
     pub ghost rests: { pass.me.1 ≡ [] },
@@ -27,7 +27,7 @@ impl<M> Drop for RelayRoom<M> {
 
 impl<M> RelayRoom<M> {
     /// What it is made of.
-    pub fn into_parts(self) -> (Line<M>, LinePass<M>, Vec<Hand<M>>, u32)
+    pub fn into_parts(self) -> (SeatQueue<M>, QueuePass<M>, Vec<Hand<M>>, u32)
         ensures { result ≡ (self.queue, self.pass, self.hands, self.count) }
     {
         let RelayRoom {

@@ -2,7 +2,7 @@ ghost use Rattle.std.specs.Prelude.{◌≡◌, All};
 ghost use Rattle.action_manager.specs.Managers.{IsSeatIn};
 ghost use Rattle.action_manager.specs.Seats.{participant_of};
 ghost use Rattle.worker_pool.specs.Hands.{number_of, opened_in};
-ghost use Rattle.worker_pool.specs.inner.Working.{IsAtWork};
+ghost use Rattle.worker_pool.specs.inner.Workers.{IsAtWork};
 
 use crate::hands::Relay;
 use crate::worker::Worker;
@@ -41,7 +41,7 @@ fn step_while_due<M: Machine, G: Gate, R: Wait>(
     unreachable!()
 }
 
-/// How many seats were found waiting, one after another, while the journal stayed as long as it is.
+/// How many seats were found waiting, one after another, that had all seen so many entries.
 #[derive(Drop)]
 struct Fruitless {
     seats: usize,
@@ -54,7 +54,7 @@ impl Fruitless {
         Fruitless { seats: 0, seen: 0 }
     }
 
-    /// One more waits, which has seen so many entries. Says how many it are now.
+    /// One more waits, which has seen so many entries. Says how many there are now.
     fn add(&mut self, seen: u64) -> usize {
         if seen != self.seen {
             self.seats = 0;
@@ -65,7 +65,7 @@ impl Fruitless {
     }
 }
 
-/// Waits past what a seat has seen that waits, once as many seats were found waiting as there are, while no entry was made.
+/// Waits past what a waiting seat has seen, once more seats were found waiting than there are, while no entry was made.
 fn wait_if_fruitless<M: Machine, R: Wait>(
     rt: &R,
     manager: &Manager<M>,

@@ -1,7 +1,7 @@
 -- What is made ready for the drivers of the seats before anything is played.
 use Rattle.std.specs.Prelude.{◌≡◌, ℕ, length}
 use Rattle.role_driver.specs.declared.crew_room.CrewRoom.{CrewRoom}
-use Rattle.role_driver.specs.inner.Room.{HasRoomFor}
+use Rattle.role_driver.specs.VectorRoom.{HasRoomFor}
 
 -- there is room for so many threads, for their seats when they come back and when they are over, and a flag for each
 pub record IsRoomForAll {M : Type 0} (count : ℕ) (r : CrewRoom M) : Type 0 where

@@ -11,7 +11,7 @@ use Rattle.journal_text.specs.Watching.Right.{first_wrong_from}
 use Rattle.shared_views.specs.Committing.{Committed}
 use Rattle.shared_views.specs.declared.observed.Reading.{Reading}
 use Rattle.action_manager.specs.Publishing.{publications_of}
-use Rattle.role_driver.specs.inner.Watching.{Task}
+use Rattle.role_driver.specs.inner.Watchers.{Task}
 
 -- the writer has published all that the plays of this complete past committed
 pub record HasPublished (plan : Plan) (past : List Entry) (w : Committed) : Type 0 where

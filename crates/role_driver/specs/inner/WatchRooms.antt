@@ -5,8 +5,8 @@ use Rattle.shared_views.specs.Committing.{Watching}
 use Rattle.action_manager.specs.declared.manager.Manager.{Manager}
 use Rattle.action_manager.specs.Managers.{plan_in, book_in}
 use Rattle.action_manager.specs.Publishing.{new_observer}
-use Rattle.role_driver.specs.inner.Room.{HasRoomFor}
-use Rattle.role_driver.specs.inner.Watching.{Task}
+use Rattle.role_driver.specs.VectorRoom.{HasRoomFor}
+use Rattle.role_driver.specs.inner.Watchers.{Task}
 use Rattle.role_driver.specs.declared.watch_room.WatchRoom.{WatchRoom}
 
 -- to watch an object by what this observer sees

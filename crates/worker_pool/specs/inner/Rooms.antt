@@ -1,6 +1,7 @@
 -- What is made ready before anything is played.
 use Rattle.std.specs.Prelude.{◌≡◌, ℕ, ◌<◌, ◌≤◌, Option, Some, None, [], length, vec_capacity, All}
 use Rattle.crossbeam_queue.specs.Passes.{view, IsPassOf, ruled_capacity}
+use Rattle.role_driver.specs.VectorRoom.{HasRoomFor}
 use Rattle.worker_pool.specs.declared.pool_room.PoolRoom.{PoolRoom}
 use Rattle.worker_pool.specs.declared.relay_room.RelayRoom.{RelayRoom}
 use Rattle.worker_pool.specs.inner.Steps.{first_hand}
@@ -10,7 +11,7 @@ pub record IsRelayRoomFor {M : Type 0} (seats count : ℕ) (r : RelayRoom M) : T
   pub long : ruled_capacity r.queue ≡ seats
   pub pass : IsPassOf r.queue r.pass × (view r.pass ≡ first_hand)
   pub counted : r.count ≡ count
-  pub hands : (r.hands.items ≡ []) × (vec_capacity r.hands ≡ count)
+  pub hands : HasRoomFor count r.hands
 
 -- there is a relay for so many seats, and for as many workers as it has hands there is room for what each of them keeps, for the
 -- members of the crew, and for the workers when they come back; and there is room for all seats when they are over
@@ -20,11 +21,11 @@ pub record IsRoomFor {M : Type 0} (seats : ℕ) (r : PoolRoom M) : Type 0 where
   pub relay : IsRelayRoomFor seats r.relay.count r.relay
   pub many : length r.kept.items ≡ r.relay.count
   pub kept : All (λ v. (v.items ≡ []) × (vec_capacity v ≡ seats)) r.kept.items
-  pub members : (r.members.items ≡ []) × (vec_capacity r.members ≡ r.relay.count)
+  pub members : HasRoomFor r.relay.count r.members
   pub flags : length r.handed_back.items ≡ r.relay.count
-  pub back_hands : (r.back.hands.items ≡ []) × (vec_capacity r.back.hands ≡ r.relay.count)
-  pub back_kept : (r.back.kept.items ≡ []) × (vec_capacity r.back.kept ≡ r.relay.count)
-  pub driven : (r.driven.items ≡ []) × (vec_capacity r.driven ≡ seats)
+  pub back_hands : HasRoomFor r.relay.count r.back.hands
+  pub back_kept : HasRoomFor r.relay.count r.back.kept
+  pub driven : HasRoomFor seats r.driven
 
 -- there is such room, where there is a participant
 abbrev pub IsRoomForAny : {M : Type 0} → ℕ → Option (PoolRoom M) → Type 0

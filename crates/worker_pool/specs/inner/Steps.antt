@@ -4,7 +4,7 @@ use Rattle.std.specs.List.{sum_by}
 use Rattle.action_manager.specs.declared.seat.Seat.{Seat}
 use Rattle.action_manager.specs.Seats.{participant_of}
 use Rattle.worker_pool.specs.declared.hand_view.HandView.{HandView}
-use Rattle.worker_pool.specs.Lists.{without}
+use Rattle.worker_pool.specs.SeatLists.{without}
 use Rattle.worker_pool.specs.Relays.{weight_of, IsOfTheirs}
 
 -- ---- views

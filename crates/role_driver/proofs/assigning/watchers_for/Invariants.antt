@@ -1,6 +1,6 @@
 use Rattle.std.proofs.Common.{◌≡◌, ◌+◌, ◌<◌, ◌++◌, All, length, map, replicate, vec_capacity, vec_len}
 use Rattle.shared_views.specs.Committing.{placeless}
-use Rattle.role_driver.specs.inner.Watching.{task_of}
+use Rattle.role_driver.specs.inner.Watchers.{task_of}
 use Rattle.role_driver.specs.inner.WatchRooms.{task_with, observer_of}
 use Rattle.role_driver.proofs.assigning.watchers_for.Given as goal
 

@@ -9,7 +9,7 @@ use Rattle.journal_text.specs.Texts.Text.{watched_object}
 use Rattle.journal_text.proofs.OnLooks.CommittedFits.{committed_fits}
 use Rattle.shared_views.specs.declared.observed.Reading.{Reading}
 use Rattle.action_manager.specs.PublishingLaw.{PublishingLaw}
-use Rattle.role_driver.specs.inner.Watching.{Task}
+use Rattle.role_driver.specs.inner.Watchers.{Task}
 use Rattle.role_driver.specs.inner.Gathering.{with_last, AreRightSoFar}
 use Rattle.role_driver.proofs.ReadingsKept.{are_good, row_fits}
 use Rattle.role_driver.proofs.RightSoFar.{next_watch}

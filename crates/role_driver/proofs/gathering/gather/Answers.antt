@@ -2,7 +2,7 @@ use Rattle.std.proofs.Common.{◌≡◌, ◌∙◌, length, reverse, ap, subst, 
 use Rattle.std.proofs.Math.Seq.{map-set_same}
 use Rattle.place_plan.specs.Plans.PlanValue.{Plan}
 use Rattle.journal_text.specs.Texts.Text.{watched_object}
-use Rattle.role_driver.specs.inner.Watching.{task_of}
+use Rattle.role_driver.specs.inner.Watchers.{task_of}
 use Rattle.role_driver.specs.inner.Gathering.{task_by, AreRightSoFar}
 use Rattle.role_driver.proofs.ReadingsKept.{task_among}
 use Rattle.role_driver.proofs.RightSoFar.{all_right}

@@ -1,5 +1,5 @@
 use Rattle.std.proofs.Common.{◌≡◌, ◌*◌, length, map, reverse, suc}
-use Rattle.role_driver.specs.inner.Watching.{task_of}
+use Rattle.role_driver.specs.inner.Watchers.{task_of}
 use Rattle.role_driver.specs.inner.Gathering.{task_by, AreRightSoFar}
 use Rattle.role_driver.proofs.gathering.gather.Given as goal
 

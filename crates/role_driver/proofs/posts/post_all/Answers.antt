@@ -1,5 +1,5 @@
 use Rattle.std.proofs.Common.{◌∙◌, ap, arith, length}
-use Rattle.role_driver.specs.inner.Watching.{task_of, task_at}
+use Rattle.role_driver.specs.inner.Watchers.{task_of, task_at}
 use Rattle.role_driver.proofs.Complete.{moved_on}
 use Rattle.role_driver.proofs.posts.post_all.Goals as goal
 

@@ -1,5 +1,5 @@
 use Rattle.std.proofs.Common.{◌≡◌, ◌++◌, ◌+◌, length, map, vec_capacity, vec_len}
-use Rattle.role_driver.specs.inner.Watching.{task_of, task_at}
+use Rattle.role_driver.specs.inner.Watchers.{task_of, task_at}
 use Rattle.role_driver.proofs.posts.post_all.Given as goal
 
 abbrev pub invariant-loop-watcher : goal.invariant-loop-watcher

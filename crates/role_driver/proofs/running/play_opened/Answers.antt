@@ -6,7 +6,7 @@ use Rattle.action_manager.specs.Seats.{participant_of}
 use Rattle.role_driver.proofs.Complete.{order_counts, order_has_all}
 use Rattle.role_driver.proofs.WatchTasks.{blanks_known, same_length, tasks_are}
 use Rattle.role_driver.specs.declared.watch_room.Blank.{Blank}
-use Rattle.role_driver.specs.inner.Watching.{task_of}
+use Rattle.role_driver.specs.inner.Watchers.{task_of}
 use Rattle.role_driver.specs.inner.WatchRooms.{task_with, observer_of}
 use Rattle.role_driver.proofs.running.play_opened.Goals as goal
 

@@ -1,5 +1,5 @@
 use Rattle.std.proofs.Common.{◌≡◌}
-use Rattle.role_driver.specs.inner.Watching.{task_of}
+use Rattle.role_driver.specs.inner.Watchers.{task_of}
 use Rattle.role_driver.proofs.watcher.Watcher.watch.Given as goal
 
 abbrev pub invariant-loop : goal.invariant-loop

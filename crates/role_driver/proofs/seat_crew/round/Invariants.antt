@@ -1,0 +1,13 @@
+use Rattle.std.proofs.Common.{◌≡◌, map, All, vec_len}
+use Rattle.role_driver.specs.inner.Crew.{IsMember, who_of}
+use Rattle.role_driver.proofs.seat_crew.round.Given as goal
+
+abbrev pub invariant-loop-index : goal.invariant-loop-index
+invariant-loop-index g l =
+    let base_of = g.M.Machine.base_of in
+    record {
+      long : l.index-end ≡ vec_len l.crew;
+      crew : All (λ r. IsMember base_of l.manager (λ h. h.promise.seat.value) r) l.crew.items;
+      order : map (λ r. who_of (λ h. h.promise.participant) r) l.crew.items ≡ map (λ r. who_of (λ h. h.promise.participant) r)
+          l.fn.crew.items;
+    }

@@ -1,0 +1,246 @@
+ghost use Rattle.std.specs.Prelude.{◌≡◌, length, map, reverse, true, All, IfOk, IfErr, IsTrue};
+ghost use Rattle.place_plan.specs.RulesOfJournals.Roles.{is_over};
+ghost use Rattle.role_driver.specs.Handling.{TellsOwnHandlers};
+ghost use Rattle.role_driver.specs.Working.{TellsOwnWork};
+ghost use Rattle.role_driver.specs.inner.Crew.{IsBack, IsMember, who_of};
+ghost use Rattle.action_manager.specs.Managers.{plan_in, IsSeatIn};
+ghost use Rattle.action_manager.specs.Seats.{participant_of, seen_by, IsBeside};
+ghost use Rattle.role_driver.specs.VectorRoom.{HasRoomFor};
+
+use crate::driving::{drive, take_whole_turn};
+use crate::flag::Flag;
+use crate::handling::HandlerGate;
+use action_manager::{Manager, Seat};
+use caa_base::outside::gate::Gate;
+use caa_base::written::entry::Participant;
+use place_plan::rules::machine::{Answer, Machine};
+use std::snapshot::Snapshot;
+use std::sync::Wait;
+use std::sync::atomic::AtomicBool;
+use std::thread;
+use std::thread::{Promise, PromisedHandle, Scope, Threads};
+
+/// A seat of this participant comes back, of the manager of the seat that went: driven to its end, or untouched, where the flag
+/// was seen raised.
+#[derive(Drop)]
+pub struct Belongs<M, F> {
+    pub seat: Snapshot<Seat<M>>,
+    pub participant: Participant,
+    pub handed_back: Snapshot<F>,
+}
+
+impl<M, F: Flag> Promise<Seat<M>> for Belongs<M, F> {
+    ghost use Rattle.std.specs.Prelude.{◌≡◌};
+    ghost use Rattle.action_manager.specs.Seats.{IsBeside, participant_of};
+    ghost use Rattle.role_driver.specs.inner.Crew.{IsBack};
+
+    ghost kept_by = { λ p r. IsBeside p.seat.value r × (participant_of r ≡ p.participant)
+        × IsBack (F.was_raised p.handed_back.value) p.seat.value r };
+}
+
+/// Drives a seat, unless it is handed back.
+#[tactic(auto, using(action_manager::proofs::Beside::both_beside))]
+fn drive_unless<M: Machine, G: Gate, R: Wait, F: Flag>(
+    rt: &R,
+    manager: &Manager<M>,
+    seat: Seat<M>,
+    handed_back: &F,
+    gate: &G,
+) -> Seat<M>
+    requires opened { IsSeatIn M.base_of manager.now seat }
+    ensures opened { IsSeatIn M.base_of manager.now result }
+    ensures beside { IsBeside seat result }
+    ensures same { participant_of result ≡ participant_of seat }
+    ensures back { IsBack (F.was_raised handed_back.now) seat result }
+{
+    if handed_back.is_raised() {
+        seat
+    } else {
+        drive(rt, manager, seat, gate)
+    }
+}
+
+/// A thread for a seat, or the seat where none can be started. Then its flag is raised, so that the seat isn't driven here.
+#[tactic(auto, using(action_manager::proofs::Beside::beside_opened))]
+pub fn start<'s, E, M: Machine + Send, G: Gate + Sync, R: Threads + Wait + Sync, F: Flag + Sync>(
+    scope: &'s Scope<'s, E>,
+    rt: &'s R,
+    manager: &'s Manager<M>,
+    seat: Seat<M>,
+    handed_back: &'s F,
+    gate: &'s G,
+) -> Result<PromisedHandle<Seat<M>, Belongs<M, F>>, Seat<M>>
+    requires opened { IsSeatIn M.base_of manager.now seat }
+    ensures ok { IfOk result (λ h.
+        IsSeatIn M.base_of manager.now h.promise.seat.value × (h.promise.participant ≡ participant_of seat)) }
+    ensures err { IfErr result (λ s. IsSeatIn M.base_of manager.now s × (participant_of s ≡ participant_of seat)) }
+{
+    let promise = Belongs {
+        seat: Snapshot::of(&seat),
+        participant: seat.participant(),
+        handed_back: Snapshot::of(handed_back),
+    };
+    match scope.spawn_with(
+        promise,
+        move || -> Seat<M>
+            requires { IsSeatIn M.base_of manager.now seat }
+            ensures { IsBeside seat result × (participant_of result ≡ participant_of seat)
+                × IsBack (F.was_raised handed_back.entry.now) seat result }
+        { drive_unless(rt, manager, seat, handed_back, gate) },
+    ) {
+        Ok(child) => Ok(child),
+        Err(refused) => {
+            handed_back.raise();
+            Err((refused.value)())
+        }
+    }
+}
+
+/// A thread that drives a seat, or the seat where none could be started.
+pub type Member<M> = Result<PromisedHandle<Seat<M>, Belongs<M, AtomicBool>>, Seat<M>>;
+
+/// Seats, with room for the members that drive them, and for the seats when they come back.
+pub struct SeatCrew<M> {
+    pub seats: Vec<Seat<M>>,
+    pub members: Vec<Member<M>>,
+    pub back: Vec<Seat<M>>,
+}
+
+/// Starts a thread for each seat.
+pub fn start_all<'s, E, M: Machine + Send, G: Gate + Sync, R: Threads + Wait + Sync>(
+    scope: &'s Scope<'s, E>,
+    rt: &'s R,
+    manager: &'s Manager<M>,
+    seats: Vec<Seat<M>>,
+    mut crew: Vec<Member<M>>,
+    handed_back: &'s [AtomicBool],
+    gate: &'s G,
+) -> Vec<Member<M>>
+    requires room { HasRoomFor (length seats.items) crew }
+    requires flags { length handed_back.now ≡ length seats.items }
+    requires opened { All (λ s. IsSeatIn M.base_of manager.now s) seats.items }
+    ensures crew { All (λ r. IsMember M.base_of manager.now (λ h. h.promise.seat.value) r) result.items }
+    ensures order { map (λ r. who_of (λ h. h.promise.participant) r) result.items ≡ map participant_of seats.items }
+{
+    for seat in seats {
+        let flag = &handed_back[crew.len()];
+        crew.push_reserved(start(scope, rt, manager, seat, flag, gate));
+    }
+    crew
+}
+
+/// One turn of a seat, with its mixing work, and whether its participant is over.
+pub fn go_on<M: Machine, G: Gate + HandlerGate, R: Wait>(
+    rt: &R,
+    manager: &Manager<M>,
+    seat: &mut Seat<M>,
+    gate: &G,
+) -> bool
+    requires opened { IsSeatIn M.base_of manager.now seat.old }
+    ensures opened { IsSeatIn M.base_of manager.now seat.new }
+    ensures same { participant_of seat.new ≡ participant_of seat.old }
+    ensures told { TellsOwnWork (G.was_told gate.now) (participant_of seat.old) (seen_by seat.old) (seen_by seat.new) }
+    ensures handed { TellsOwnHandlers (G.was_handed gate.now) (participant_of seat.old) (seen_by seat.old) (seen_by seat.new) }
+    ensures over { IsTrue result → is_over (plan_in manager.now) (reverse (seen_by seat.new)) (participant_of seat.old) ≡ true }
+{
+    match take_whole_turn(rt, manager, seat, gate) {
+        Answer::Over => true,
+        _ => false,
+    }
+}
+
+/// One turn of a member whose seat was handed back, and whether its participant is over. For a member with a thread nothing is
+/// done, and the answer is true.
+fn turn_of<M: Machine, G: Gate, R: Wait>(
+    rt: &R,
+    manager: &Manager<M>,
+    member: &mut Member<M>,
+    gate: &G,
+) -> bool
+    requires member { IsMember M.base_of manager.now (λ h. h.promise.seat.value) member.old }
+    ensures member { IsMember M.base_of manager.now (λ h. h.promise.seat.value) member.new }
+    ensures same { who_of (λ h. h.promise.participant) member.new ≡ who_of (λ h. h.promise.participant) member.old }
+{
+    match member {
+        Ok(_) => true,
+        Err(seat) => go_on(rt, manager, seat, gate),
+    }
+}
+
+/// One turn of each seat that was handed back, and whether all of these are over.
+fn round<M: Machine, G: Gate, R: Wait>(
+    rt: &R,
+    manager: &Manager<M>,
+    crew: &mut Vec<Member<M>>,
+    gate: &G,
+) -> bool
+    requires crew { All (λ r. IsMember M.base_of manager.now (λ h. h.promise.seat.value) r) crew.old.items }
+    ensures crew { All (λ r. IsMember M.base_of manager.now (λ h. h.promise.seat.value) r) crew.new.items }
+    ensures order { map (λ r. who_of (λ h. h.promise.participant) r) crew.new.items
+        ≡ map (λ r. who_of (λ h. h.promise.participant) r) crew.old.items }
+{
+    let mut over = true;
+    for index in 0..crew.len() {
+        let done = turn_of(rt, manager, &mut crew[index], gate);
+        over = over && done;
+    }
+    over
+}
+
+/// Takes turns for the seats that were handed back, round by round, until all of these are over.
+pub fn drive_handed_back<M: Machine, G: Gate, R: Wait>(
+    rt: &R,
+    manager: &Manager<M>,
+    crew: &mut Vec<Member<M>>,
+    gate: &G,
+)
+    requires crew { All (λ r. IsMember M.base_of manager.now (λ h. h.promise.seat.value) r) crew.old.items }
+    ensures crew { All (λ r. IsMember M.base_of manager.now (λ h. h.promise.seat.value) r) crew.new.items }
+    ensures order { map (λ r. who_of (λ h. h.promise.participant) r) crew.new.items
+        ≡ map (λ r. who_of (λ h. h.promise.participant) r) crew.old.items }
+{
+    for _ in rt.forever() {
+        if round(rt, manager, crew, gate) {
+            return;
+        }
+        thread::yield_now();
+    }
+    unreachable!()
+}
+
+/// The seat of a member, once its thread has ended, or, where it has none, once the seat was driven to its end.
+#[tactic(auto, using(action_manager::proofs::Beside::beside_opened))]
+fn join_one<M: Machine, G: Gate, R: Threads + Wait>(
+    rt: &R,
+    manager: &Manager<M>,
+    member: Member<M>,
+    gate: &G,
+) -> Seat<M>
+    requires member { IsMember M.base_of manager.now (λ h. h.promise.seat.value) member }
+    ensures opened { IsSeatIn M.base_of manager.now result }
+    ensures same { participant_of result ≡ who_of (λ h. h.promise.participant) member }
+{
+    match member {
+        Ok(child) => child.join(rt),
+        Err(seat) => drive(rt, manager, seat, gate),
+    }
+}
+
+/// The seats of all members, in order.
+pub fn join_all<M: Machine, G: Gate, R: Threads + Wait>(
+    rt: &R,
+    manager: &Manager<M>,
+    crew: Vec<Member<M>>,
+    mut seats: Vec<Seat<M>>,
+    gate: &G,
+) -> Vec<Seat<M>>
+    requires room { HasRoomFor (length crew.items) seats }
+    requires crew { All (λ r. IsMember M.base_of manager.now (λ h. h.promise.seat.value) r) crew.items }
+    ensures opened { All (λ s. IsSeatIn M.base_of manager.now s) result.items }
+    ensures order { map participant_of result.items ≡ map (λ r. who_of (λ h. h.promise.participant) r) crew.items }
+{
+    for member in crew {
+        seats.push_reserved(join_one(rt, manager, member, gate));
+    }
+    seats
+}
