@@ -37,7 +37,7 @@ use Rattle.object_versions.specs.declared.version.Version.{Version}
 use Rattle.object_versions.specs.inner.KeptVersions.{at as version_at, Stands as VersionsStand}
 use Rattle.action_core.specs.declared.stage.Stage.{Stage}
 use Rattle.action_core.specs.inner.Asked.{place_of, place_kept, is_kept_in, or_none, frame_kept, handled_kept}
-use Rattle.action_core.specs.inner.KeptStages.{at as stage_at, outcome_told, has_ended_by, is_undone_kept, StageOfEach}
+use Rattle.action_core.specs.inner.KeptStages.{at as stage_at, outcome_of_end, has_ended_by, is_undone_kept, StageOfEach}
 use Rattle.action_core.proofs.Entering.{same_first, entered_first}
 
 -- ---- tests over lists
@@ -144,16 +144,16 @@ no_next plan playable past t high =
 
 -- ---- how far places have come
 
-told_ended : (test : Entry → Bool) (past : List Entry) → is_some (outcome_told (newest test past)) ≡ list_any test past
-told_ended test [] = refl
-told_ended test (e ∷ past) = by_test (test e) (told_ended test past)
+ended_as_any : (test : Entry → Bool) (past : List Entry) → is_some (outcome_of_end (newest test past)) ≡ list_any test past
+ended_as_any test [] = refl
+ended_as_any test (e ∷ past) = by_test (test e) (ended_as_any test past)
   where
-    by_test : (b : Bool) → is_some (outcome_told (newest test past)) ≡ list_any test past
-        → is_some (outcome_told (cond b (Some e) (newest test past))) ≡ (b || list_any test past)
+    by_test : (b : Bool) → is_some (outcome_of_end (newest test past)) ≡ list_any test past
+        → is_some (outcome_of_end (cond b (Some e) (newest test past))) ≡ (b || list_any test past)
     by_test true h = refl
     by_test false h = h
 
-undone_told : (o : Option Entry) → is_undone_kept (outcome_told o) ≡ is_undone o
+undone_told : (o : Option Entry) → is_undone_kept (outcome_of_end o) ≡ is_undone o
 undone_told None = refl
 undone_told (Some e) = by_marks (e.mark == 0) (e.mark == 1) (e.mark == 2) (e.mark == 3) refl refl refl
   where
@@ -177,7 +177,7 @@ undone_told (Some e) = by_marks (e.mark == 0) (e.mark == 1) (e.mark == 2) (e.mar
 
 module _ (plan : Plan) (past : List Entry) (stages : List Stage) (s : StageOfEach plan past stages) where
   pub ended_right : (p : ℕ) → has_ended_by stages p ≡ has_ended past p
-  ended_right p = ap (λ (o : Option Outcome). is_some o) (s.each p).ended ∙ told_ended (is_in kind.End p) past
+  ended_right p = ap (λ (o : Option Outcome). is_some o) (s.each p).ended ∙ ended_as_any (is_in kind.End p) past
 
   pub silence_right : (p : ℕ)
       → (is_undone_kept (stage_at stages p).ended && not (is_none (next_alternate plan p))) ≡ is_left_in_silence plan past p

@@ -7,7 +7,7 @@ use Rattle.place_plan.specs.Plans.PlanValue.{Plan}
 use Rattle.place_plan.specs.RulesOfJournals.Entries.{is_of, is_in, newest}
 use Rattle.place_plan.specs.RulesOfJournals.Whereabouts.{outcome_at}
 use Rattle.action_core.specs.declared.stage.Stage.{Stage}
-use Rattle.action_core.specs.inner.KeptStages.{unstarted, at, outcome_told, IsStageOf, StageOfEach}
+use Rattle.action_core.specs.inner.KeptStages.{unstarted, at, outcome_of_end, IsStageOf, StageOfEach}
 
 -- a test of the kind, in the place of the entry and elsewhere
 
@@ -15,18 +15,18 @@ here : (b c x : Bool) → c ≡ true → (b || x) ≡ ((b && c) || x)
 here true c x h = rw h refl
 here false c x h = refl
 
-told_here : (b c : Bool) (e : Entry) (o : Option Entry) → c ≡ true
-    → cond b (Some (outcome_at e)) (outcome_told o) ≡ outcome_told (cond (b && c) (Some e) o)
-told_here true c e o h = rw h refl
-told_here false c e o h = refl
+ended_here : (b c : Bool) (e : Entry) (o : Option Entry) → c ≡ true
+    → cond b (Some (outcome_at e)) (outcome_of_end o) ≡ outcome_of_end (cond (b && c) (Some e) o)
+ended_here true c e o h = rw h refl
+ended_here false c e o h = refl
 
 apart : (b c x : Bool) → c ≡ false → x ≡ ((b && c) || x)
 apart true c x h = rw h refl
 apart false c x h = refl
 
-told_apart : (b c : Bool) (e : Entry) (o : Option Entry) → c ≡ false → outcome_told o ≡ outcome_told (cond (b && c) (Some e) o)
-told_apart true c e o h = rw h refl
-told_apart false c e o h = refl
+ended_apart : (b c : Bool) (e : Entry) (o : Option Entry) → c ≡ false → outcome_of_end o ≡ outcome_of_end (cond (b && c) (Some e) o)
+ended_apart true c e o h = rw h refl
+ended_apart false c e o h = refl
 
 pub stage_keeps : (plan : Plan) (past : List Entry) (e : Entry) (old : List Stage) (row : Stage) → e.place < length old
     → row.started ≡ (is_of kind.Start e || (at old e.place).started) → row.undoing ≡
@@ -43,7 +43,7 @@ stage_keeps plan past e old row l started undoing ended s = record {
         subst (IsStageOf (e ∷ past) q) (sym kept) (record {
           started = (s.each q).started ∙ apart (is_of kind.Start e) (e.place == q) _ other;
           undoing = (s.each q).undoing ∙ apart (is_of kind.Undo e) (e.place == q) _ other;
-          ended = (s.each q).ended ∙ told_apart (is_of kind.End e) (e.place == q) e (newest (is_in kind.End q) past) other;
+          ended = (s.each q).ended ∙ ended_apart (is_of kind.End e) (e.place == q) e (newest (is_in kind.End q) past) other;
         })
   ];
 }
@@ -61,5 +61,5 @@ stage_keeps plan past e old row l started undoing ended s = record {
           ∙ here (is_of kind.Undo e) (e.place == e.place) _ self;
       ended =
           ended ∙ ap (cond (is_of kind.End e) (Some (outcome_at e))) (s.each e.place).ended
-          ∙ told_here (is_of kind.End e) (e.place == e.place) e (newest (is_in kind.End e.place) past) self;
+          ∙ ended_here (is_of kind.End e) (e.place == e.place) e (newest (is_in kind.End e.place) past) self;
     })

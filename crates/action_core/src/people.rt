@@ -46,6 +46,7 @@ fn turn_after(plan: &Plan, entry: &Entry, turn: u32) -> u32
     match entry.kind {
         Kind::Arrive => match plan.parent(entry.place) {
             None => {
+                // The plays of a plan are fewer than 2 ^ 32, so the next number is one too.
                 let _ = plan.plays();
                 turn_from(plan, entry.by, turn + 1)
             }
@@ -55,7 +56,7 @@ fn turn_after(plan: &Plan, entry: &Entry, turn: u32) -> u32
     }
 }
 
-/// Whether a put of the maker of an entry was refused in its handler, with the entry.
+/// Whether a put of the maker of an entry was refused since it last began a handler, with the entry.
 fn refused_after(entry: &Entry, refused: bool) -> bool
     ensures { result ≡ refused_after entry.now refused }
 {
@@ -73,7 +74,7 @@ const NOBODY: Person = Person {
 };
 
 impl People {
-    /// Nobody has arrived anywhere.
+    /// Nobody has arrived anywhere. At `Err` no memory was found.
     pub fn open(alloc: Global, plan: &Plan) -> Result<People, OutOfMemory>
         ensures { IfOk result (λ people. PersonOfEach plan.now [] people) }
     {

@@ -20,7 +20,8 @@ fn note_raising(endings: &mut Endings, plan: &Plan, journal: &[Entry], entry: &E
     ensures { EndingsStand plan.now (entry.now ∷ reverse journal.now) endings.new }
 {
     plan.is_closed();
-    let _ = (journal.len(), entry.mark);
+    // The contract alone speaks of the journal and of the entry.
+    let _ = (journal, entry);
     if !endings.is_raised(place) {
         endings.doom(plan, place);
         endings.clear(place);

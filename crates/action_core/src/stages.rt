@@ -58,7 +58,7 @@ fn stage_after(entry: &Entry, stage: Stage) -> Stage
 }
 
 impl Stages {
-    /// No place has started.
+    /// No place has started. At `Err` no memory was found.
     pub fn open(alloc: Global, plan: &Plan) -> Result<Stages, OutOfMemory>
         ensures { IfOk result (λ stages. StageOfEach plan.now [] stages) }
     {

@@ -47,7 +47,7 @@ impl Model for Tables {
 }
 
 impl Tables {
-    /// The tables of no entries.
+    /// The tables of no entries. At `Err` no memory was found.
     pub fn open(alloc: Global, plan: &Plan) -> Result<Tables, OutOfMemory>
         ensures { IfOk result (λ tables. IsKeptOf plan.now [] tables) }
     {

@@ -7,5 +7,6 @@ pub mod audit;
 mod duty;
 pub mod hall;
 pub mod look_back;
+pub mod programs;
 pub mod records;
 pub mod rule;

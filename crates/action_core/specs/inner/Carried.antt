@@ -12,6 +12,6 @@ name_mapped plan p None = None
 name_mapped plan p (Some x) = Some (map_signal plan p x)
 
 -- what an outcome of p means in the place round it, where there is one
-abbrev pub told_mapped : Plan → ℕ → Option Entry → Option Outcome → Option ℕ
-told_mapped plan p abort None = None
-told_mapped plan p abort (Some o) = mapped_by_outcome plan p abort o
+abbrev pub mapped_if_ended : Plan → ℕ → Option Entry → Option Outcome → Option ℕ
+mapped_if_ended plan p abort None = None
+mapped_if_ended plan p abort (Some o) = mapped_by_outcome plan p abort o

@@ -18,15 +18,15 @@ abbrev pub at : List Stage → ℕ → Stage
 at stages p = slice_index_or stages p unstarted
 
 -- the outcome that an End says, where there is one
-abbrev pub outcome_told : Option Entry → Option Outcome
-outcome_told None = None
-outcome_told (Some e) = Some (outcome_at e)
+abbrev pub outcome_of_end : Option Entry → Option Outcome
+outcome_of_end None = None
+outcome_of_end (Some e) = Some (outcome_at e)
 
 -- the stage is that of p by the past
 pub record IsStageOf (past : List Entry) (p : ℕ) (stage : Stage) : Type 0 where
   pub started : stage.started ≡ has_started past p
   pub undoing : stage.undoing ≡ is_undoing past p
-  pub ended : stage.ended ≡ outcome_told (newest (is_in kind.End p) past)
+  pub ended : stage.ended ≡ outcome_of_end (newest (is_in kind.End p) past)
 
 -- the stages are those of all places by the past
 pub record StageOfEach (plan : Plan) (past : List Entry) (stages : List Stage) : Type 0 where

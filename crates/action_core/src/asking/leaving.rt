@@ -8,7 +8,7 @@ ghost use Rattle.place_plan.specs.RulesOfJournals.Whereabouts.{is_left_in_silenc
 ghost use Rattle.place_plan.specs.RulesOfJournals.Rules.{abort_mapped, mapped_by_outcome, is_deaf, exception_carried};
 ghost use Rattle.action_endings.specs.inner.KeptEndings.{name_in, Stands as EndingsStand};
 ghost use Rattle.action_core.specs.inner.KeptStages.{StageOfEach};
-ghost use Rattle.action_core.specs.inner.Carried.{name_mapped, told_mapped};
+ghost use Rattle.action_core.specs.inner.Carried.{name_mapped, mapped_if_ended};
 
 use crate::asking::whereabouts::is_left_in_silence;
 use crate::stages::Stages;
@@ -69,8 +69,8 @@ fn mapped_by_outcome(
     }
 }
 
-/// The same of an outcome that may not be there.
-fn told_mapped(
+/// What the outcome of a place means for a participant in the place round it; nothing where it hasn't ended.
+fn mapped_if_ended(
     endings: &Endings,
     plan: &Plan,
     place: Place,
@@ -79,7 +79,7 @@ fn told_mapped(
 ) -> Option<Exception>
     requires { member by (roles_of plan.now place) ≡ true }
     ensures { (past : List EntryValue) → EndingsStand plan.now past endings.now
-        → result ≡ told_mapped plan.now place (newest (is_by kind.Abort place by) past) outcome }
+        → result ≡ mapped_if_ended plan.now place (newest (is_by kind.Abort place by) past) outcome }
 {
     match outcome {
         Some(outcome) => mapped_by_outcome(endings, plan, place, by, outcome),
@@ -130,6 +130,6 @@ pub fn exception_carried(
     if is_quiet(stages, endings, plan, place) {
         None
     } else {
-        told_mapped(endings, plan, place, by, stages.stage(place).ended)
+        mapped_if_ended(endings, plan, place, by, stages.stage(place).ended)
     }
 }

@@ -19,11 +19,12 @@ pub fn holds(versions: &Versions, plan: &Plan, place: Place, object: Object) -> 
     ensures { (past : List EntryValue) → VersionsStand plan.now past versions.now
         → result ≡ same_option (holder_of plan.now past object) (Some place) }
 {
-    let _ = plan.objects();
+    // The contract alone speaks of the plan.
+    let _ = plan;
     is_held_by(versions, object, Some(place))
 }
 
-/// Whether a place holds an object, or nobody does.
+/// Whether an object is held by just this place, or by nobody where there is none.
 fn is_held_by(versions: &Versions, object: Object, holder: Option<Place>) -> bool
     requires { object < length versions.now }
     ensures { result ≡ same_option (at versions.now object).holder holder }
@@ -31,7 +32,7 @@ fn is_held_by(versions: &Versions, object: Object, holder: Option<Place>) -> boo
     versions.holder(object) == holder
 }
 
-/// The same; nobody holds an object that isn't there.
+/// Whether an object is held by just this place, or by nobody where there is none. Nobody holds an object that isn't there.
 fn is_with(versions: &Versions, plan: &Plan, object: Object, holder: Option<Place>) -> bool
     requires { length versions.now ≡ length plan.now.objects }
     ensures { result ≡ same_option (at versions.now object).holder holder }
@@ -43,7 +44,7 @@ fn is_with(versions: &Versions, plan: &Plan, object: Object, holder: Option<Plac
     }
 }
 
-/// Whether a place, or nobody, holds each object of another.
+/// Whether each object of a place is held by just this other, or by nobody where there is none.
 fn all_are_with(versions: &Versions, plan: &Plan, place: Place, holder: Option<Place>) -> bool
     requires { length versions.now ≡ length plan.now.objects }
     ensures { result ≡ list_all (λ o. same_option (at versions.now o).holder holder) (objects_of plan.now place) }
@@ -69,7 +70,8 @@ pub fn value_at(versions: &Versions, plan: &Plan, object: Object) -> i64
     requires known { object < length plan.now.objects }
     ensures { (past : List EntryValue) → VersionsStand plan.now past versions.now → result ≡ value_of plan.now past object }
 {
-    let _ = plan.objects();
+    // The contract alone speaks of the plan.
+    let _ = plan;
     versions.value(object)
 }
 

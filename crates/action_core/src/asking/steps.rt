@@ -1,8 +1,8 @@
-ghost use Rattle.std.specs.Prelude.{◌≡◌, ◌<◌, List, Option, option_copied, Some, None, true, slice_get, IfSome};
+ghost use Rattle.std.specs.Prelude.{◌≡◌, List, option_copied, Some, true};
 ghost use Rattle.caa_base.specs.declared.written.entry.Entry.{Entry as EntryValue};
 ghost use Rattle.place_plan.specs.RulesOfJournals.Whereabouts.{inside};
 ghost use Rattle.place_plan.specs.RulesOfJournals.Raising.{has_handled, exception_resolved};
-ghost use Rattle.place_plan.specs.RulesOfJournals.Roles.{register, or_idle, program_in, program_of, next_step, was_refused_in_handler};
+ghost use Rattle.place_plan.specs.RulesOfJournals.Roles.{register, or_idle, program_of, next_step, was_refused_in_handler};
 ghost use Rattle.place_plan.specs.RulesOfJournals.Journals.{LegalPast};
 ghost use Rattle.role_states.specs.inner.Standing.{StandsFor as FramesStand};
 ghost use Rattle.resolution_core.specs.inner.Standing.{StandsFor as RecoveriesStand};
@@ -11,6 +11,7 @@ ghost use Rattle.action_core.specs.inner.KeptPeople.{PersonOfEach};
 
 use crate::people::People;
 use caa_base::written::entry::{Exception, Participant, Place};
+use journal_replay::programs::{program_in, step_at};
 use place_plan::drafts::draft_rows::{Program, Step};
 use place_plan::plans::plan::Plan;
 use resolution_core::Resolver;
@@ -41,6 +42,7 @@ pub fn register(frames: &Frames, plan: &Plan, place: Place, by: Participant) -> 
         → inside plan.now past by ≡ Some place → result ≡ register plan.now past place by }
 {
     plan.is_closed();
+    // The contract alone speaks of the place.
     let _ = place;
     frame_kept(frames, by).register
 }
@@ -51,6 +53,7 @@ pub fn has_handled(frames: &Frames, plan: &Plan, place: Place, by: Participant) 
         → inside plan.now past by ≡ Some place → result ≡ has_handled past place by }
 {
     plan.is_closed();
+    // The contract alone speaks of the place.
     let _ = place;
     frame_kept(frames, by).handling
 }
@@ -62,6 +65,7 @@ pub fn was_refused_in_handler(people: &People, plan: &Plan, place: Place, by: Pa
         → result ≡ was_refused_in_handler past place by }
 {
     plan.is_closed();
+    // The contract alone speaks of the place.
     let _ = place;
     people.person(by).refused
 }
@@ -74,22 +78,6 @@ fn handled_kept(resolver: &Resolver, frame: Frame, place: Place) -> Option<Excep
         resolver.resolved(place)
     } else {
         None
-    }
-}
-
-/// The body of a participant in a place, or its handler for the exception that it handles, if it has one.
-fn program_in(
-    plan: &Plan,
-    place: Place,
-    by: Participant,
-    handled: Option<Exception>,
-) -> Option<&Program>
-    ensures { or_idle (option_copied result) ≡ program_in plan.now place by handled }
-{
-    let role = plan.role_of(place, by)?;
-    match handled {
-        Some(exception) => plan.handler(place, role, exception),
-        None => Some(plan.body(place, role)),
     }
 }
 
@@ -110,20 +98,6 @@ pub fn program_of<'a>(
     program_in(plan, place, by, handled_kept(resolver, frame, place))
 }
 
-/// The step at a position of the program that a participant goes through in a place.
-fn step_at(
-    plan: &Plan,
-    place: Place,
-    by: Participant,
-    handled: Option<Exception>,
-    position: u32,
-) -> Option<Step>
-    ensures { result ≡ slice_get (program_in plan.now place by handled).steps position }
-{
-    let program = program_in(plan, place, by, handled)?;
-    program.steps.as_slice().get(position as usize).copied()
-}
-
 /// The next step of a participant in the place that it is in, and its register there.
 pub fn step_and_register(
     frames: &Frames,
@@ -140,6 +114,6 @@ pub fn step_and_register(
     plan.is_closed();
     let frame = frame_kept(frames, by);
     let handled = handled_kept(resolver, frame, place);
-    let step = step_at(plan, place, by, handled, frame.position);
+    let step = step_at(plan, place, by, handled, frame.position as usize);
     (step, frame.register)
 }

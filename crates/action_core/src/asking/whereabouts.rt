@@ -115,7 +115,7 @@ pub fn is_over(frames: &Frames, people: &People, plan: &Plan, by: Participant) -
     is_neither(innermost, next)
 }
 
-/// Whether a place has ended.
+/// Whether a place has ended, by what is kept of it.
 #[inline(always)]
 fn has_ended_by(stages: &Stages, place: Place) -> bool
     ensures { result ≡ has_ended_by stages.now place }
@@ -128,7 +128,8 @@ fn has_ended_by(stages: &Stages, place: Place) -> bool
 pub fn has_started(stages: &Stages, plan: &Plan, place: Place) -> bool
     ensures { (past : List EntryValue) → StageOfEach plan.now past stages.now → result ≡ has_started past place }
 {
-    let _ = plan.places();
+    // The contract alone speaks of the plan.
+    let _ = plan;
     stages.stage(place).started
 }
 
@@ -137,7 +138,8 @@ pub fn has_started(stages: &Stages, plan: &Plan, place: Place) -> bool
 pub fn is_undoing(stages: &Stages, plan: &Plan, place: Place) -> bool
     ensures { (past : List EntryValue) → StageOfEach plan.now past stages.now → result ≡ is_undoing past place }
 {
-    let _ = plan.places();
+    // The contract alone speaks of the plan.
+    let _ = plan;
     stages.stage(place).undoing
 }
 
@@ -146,7 +148,8 @@ pub fn is_undoing(stages: &Stages, plan: &Plan, place: Place) -> bool
 pub fn has_ended(stages: &Stages, plan: &Plan, place: Place) -> bool
     ensures { (past : List EntryValue) → StageOfEach plan.now past stages.now → result ≡ has_ended past place }
 {
-    let _ = plan.places();
+    // The contract alone speaks of the plan.
+    let _ = plan;
     has_ended_by(stages, place)
 }
 
@@ -172,7 +175,7 @@ pub fn is_left_in_silence(stages: &Stages, plan: &Plan, place: Place) -> bool
     is_silent(stages, plan, place)
 }
 
-/// The same, by what is kept.
+/// Whether a place is left in silence, by what is kept of it.
 fn is_silent(stages: &Stages, plan: &Plan, place: Place) -> bool
     ensures { result ≡ (is_undone_kept (stage_at stages.now place).ended && not (is_none (next_alternate plan.now place))) }
 {
@@ -205,6 +208,7 @@ pub fn place_entered(
         → result ≡ first_not (λ p. has_by kind.Arrive past p by) (alternates_of plan.now place nest) }
 {
     plan.is_closed();
+    // The contract alone speaks of the participant.
     let _ = by;
     first_lasting(stages, plan, place, nest)
 }
