@@ -1,6 +1,7 @@
 """Audits journals that were worked out by hand, and the same with lines changed, and plays a script over a device that refuses
 puts; compares what the program answers. Where the program that asks both cores is named, the same plays go through it, and each
-script of a worked journal by twenty seeds.
+script of a worked journal by twenty seeds. It also follows each worked journal and that of each of these plays, and strays from
+each journal with an entry that may not come, just at that entry.
 
     python3 examples/worked/compare.py PROGRAM [BOTH_CORES]
 """
@@ -47,6 +48,8 @@ CHANGED = [
     ("two_watches", {13: "outcome 0 look none"}, 13),
     ("two_watches", {13: "outcome 0 looks commit"}, 13),
     ("two_watches", all_but([], 13), 1),
+    # nobody has this name
+    ("informed_at_exit", {1: "arrive 0 cid"}, 1),
     # the text comes before the entries
     ("two_watches", {6: "verdict 0 ann done", 7: "read 0 ann x 5"}, 6),
     ("two_watches", {6: "verdict 0 ann done", 7: "read 0 ann x 5", 11: "object x 3"}, 11),
@@ -61,9 +64,10 @@ CHANGED = [
     ("two_watches", {14: "seen x 01 5"}, 14),
     ("two_watches", {14: "seen z 1 5"}, 14),
     ("two_watches", {14: ""}, 14),
-    # ---- entries that may not come
-    # nobody has this name
-    ("informed_at_exit", {1: "arrive 0 cid"}, 1),
+]
+
+# The same, with entries that may not come where they stand, though the text is one of a journal.
+FORBIDDEN = [
     # another value than the step's
     ("informed_at_exit", {4: "write 0 ann x 2", 18: "object x 2"}, 4),
     # the value before the write
@@ -162,20 +166,33 @@ def compare(what, found, wanted):
     return 0
 
 
-def audited(program, name, changes, cut, wanted):
+def spoiled(name, changes):
     script, journal = parts_of(name)
-    text = "".join(line + "\n" for line in script + with_changes(journal, changes))
+    return "".join(line + "\n" for line in script + with_changes(journal, changes))
+
+
+def audited(program, name, changes, cut, wanted):
+    text = spoiled(name, changes)
     found = answer_of(program, ["audit"], text[: len(text) - cut])
     if wanted is None:
         answer = (f"legal {LEGAL[name]}\n", 0)
     else:
-        answer = (f"illegal {len(script) + 1 + wanted}\n", 7)
+        answer = (f"illegal {len(parts_of(name)[0]) + 1 + wanted}\n", 7)
     return compare(f"audit of {name} with {changes}, {cut} cut", found, answer)
 
 
+# Entries are counted from 0, and the line `journal` stands before them.
+def followed(both_cores, name, changes, wanted):
+    answer = (f"follows {LEGAL[name]} entries\n", 0) if wanted is None else (f"strays at entry {wanted - 1}\n", 7)
+    return compare(f"both cores along {name} with {changes}", answer_of(both_cores, ["follow"], spoiled(name, changes)), answer)
+
+
+def undone(puts):
+    return UNDONE.format(drills="".join(f"drill x {put}\n" for put in puts))
+
+
 def played(program, puts, entries, outer, inner, restores, value):
-    script = UNDONE.format(drills="".join(f"drill x {put}\n" for put in puts))
-    text, status = answer_of(program, ["sim", "1"], script)
+    text, status = answer_of(program, ["sim", "1"], undone(puts))
     lines = text.splitlines()
     found = (
         entries_of(text),
@@ -191,9 +208,12 @@ def played(program, puts, entries, outer, inner, restores, value):
     return compare(f"sim with the refused puts {puts}", found, wanted)
 
 
-def played_on_both(both_cores, puts, entries, *_):
-    script = UNDONE.format(drills="".join(f"drill x {put}\n" for put in puts))
-    return compare(f"both cores with the refused puts {puts}", answer_of(both_cores, ["1"], script), (f"same {entries} entries\n", 0))
+def played_on_both(program, both_cores, puts, entries, *_):
+    script = undone(puts)
+    journal = answer_of(program, ["sim", "1"], script)[0]
+    found = (answer_of(both_cores, ["1"], script), answer_of(both_cores, ["follow"], script + journal))
+    wanted = ((f"same {entries} entries\n", 0), (f"follows {entries} entries\n", 0))
+    return compare(f"both cores with the refused puts {puts}", found, wanted)
 
 
 def entries_of(text):
@@ -207,14 +227,16 @@ def same_on_both(program, both_cores, name, seed):
 
 
 def main(program, *both_cores):
-    wrong = sum(audited(program, name, {}, 0, None) for name in LEGAL)
-    wrong += sum(audited(program, name, changes, 0, wanted) for name, changes, wanted in CHANGED)
-    wrong += sum(audited(program, name, {}, cut, wanted) for name, cut, wanted in CUT)
-    wrong += sum(played(program, *row) for row in REFUSED)
-    wrong += sum(played_on_both(path, *row) for path in both_cores for row in REFUSED)
-    wrong += sum(same_on_both(program, path, name, seed) for path in both_cores for name in LEGAL for seed in SEEDS)
-    cases = len(LEGAL) + len(CHANGED) + len(CUT) + len(REFUSED) + len(both_cores) * (len(REFUSED) + len(LEGAL) * len(SEEDS))
-    print(f"worked journals: {cases - wrong} of {cases} as wanted")
+    legal = [(name, {}, None) for name in LEGAL]
+    answers = [audited(program, name, changes, 0, wanted) for name, changes, wanted in legal + CHANGED + FORBIDDEN]
+    answers += [audited(program, name, {}, cut, wanted) for name, cut, wanted in CUT]
+    answers += [played(program, *row) for row in REFUSED]
+    for path in both_cores:
+        answers += [played_on_both(program, path, *row) for row in REFUSED]
+        answers += [same_on_both(program, path, name, seed) for name in LEGAL for seed in SEEDS]
+        answers += [followed(path, *row) for row in legal + FORBIDDEN]
+    wrong = sum(answers)
+    print(f"worked journals: {len(answers) - wrong} of {len(answers)} as wanted")
     return 1 if wrong else 0
 
 

@@ -64,7 +64,8 @@ pub fn play_in_rounds<M: Machine, K: Sink>(
     line: &mut Vec<u8>,
     sink: &mut K,
 ) -> Result<(), Failed> {
-    for _ in 0..u64::MAX {
+    // As long as somebody isn't over, each round makes an entry, and a journal has no more of them than the plan's bound.
+    for _ in 0..machine.plan().bound() {
         if machine.complete() {
             break;
         }
