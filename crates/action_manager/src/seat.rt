@@ -6,6 +6,7 @@ use crate::turns::Token;
 use caa_base::written::entry::Participant;
 use shared_views::{Announcement, NoteRefused, PlaceNote};
 use std::mem;
+use thiserror::Error;
 
 /// The right of one participant to take turns. It may go to another thread.
 pub struct Seat<M> {
@@ -35,11 +36,13 @@ impl<M> Drop for Seat<M> {
 }
 
 /// Why a seat has no note to give.
-#[derive(Debug, Drop)]
+#[derive(Debug, Drop, Error)]
 pub enum NoNote {
     /// It made no step, its last one wasn't a Resolve or a Handle, or that note was taken.
+    #[error("no note is due")]
     NotDue,
     /// The cell of the place refused the announcement.
+    #[error("{0}")]
     Refused(NoteRefused),
 }
 

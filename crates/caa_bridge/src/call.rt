@@ -12,21 +12,21 @@ pub struct Call<'a> {
 /// The call of these words: `sim SEED SCRIPT JOURNAL` or `run SCRIPT JOURNAL`, with two different paths.
 pub fn call_of(words: &[String]) -> Option<Call<'_>> {
     let (way, _) = words.split_first()?;
-    let command = match way.as_str() {
+    let command_words = match way.as_str() {
         "sim" => 2,
         "run" => 1,
         _ => return None,
     };
-    if words.len() != command + 2 {
+    if words.len() != command_words + 2 {
         return None;
     }
-    let script = words[command].as_str();
-    let journal = words[command + 1].as_str();
+    let script = words[command_words].as_str();
+    let journal = words[command_words + 1].as_str();
     if script == journal {
         return None;
     }
     Some(Call {
-        command: &words[..command],
+        command: &words[..command_words],
         script,
         journal,
     })

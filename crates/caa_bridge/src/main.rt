@@ -6,6 +6,7 @@ mod call;
 use crate::call::{Call, call_of};
 use action_script::lines::reader::read;
 use action_script::script_error::ScriptCause;
+use action_script::words::call_words::call_words;
 use caa_base::outside::gate::EmptyGate;
 use caa_base::outside::memory::SureSource;
 use caa_base::outside::standard::{StdSink, StdSource};
@@ -18,24 +19,14 @@ use line_plant::names::object_names;
 use line_plant::plant::LinePlant;
 use script_checker::check_error::CheckCause;
 use script_checker::compile::compile;
-use std::alloc::{AllocError, Global};
+use std::alloc::Global;
 use std::fs::File;
 use std::io::{BufWriter, ErrorKind, Stdin, Stdout};
 use std::process::ExitCode;
-use std::rt::Env;
-use std::{env, fs, io};
+use std::{fs, io};
 
 /// The device that answers on standard input what it is asked on standard output.
 type Device = LinePlant<StdSource<Stdin>, FlushedSink<BufWriter<Stdout>>>;
-
-/// The words that follow the program's name. Words that are no text are none of ours, and so none are given.
-fn words_of(rt: &(impl Env + AllocGlobal)) -> Result<Vec<String>, AllocError> {
-    match env::args(rt) {
-        Ok(words) => words.skip(1).collect(rt.alloc()),
-        Err(error) if error.kind() == ErrorKind::OutOfMemory => Err(AllocError),
-        Err(_) => Ok(Vec::new(rt.alloc())),
-    }
-}
 
 /// The names of the objects of the script that these bytes spell; none where there is no such script, which is then not played.
 fn names_in(alloc: Global, bytes: &[u8]) -> Result<Vec<Name>, OutOfMemory> {
@@ -73,11 +64,12 @@ fn files_of(rt: &HostRuntime, call: &Call<'_>) -> Result<(Vec<u8>, File), Status
     };
     match fs::create(rt, call.journal) {
         Ok(journal) => Ok((script, journal)),
+        Err(error) if error.kind() == ErrorKind::OutOfMemory => Err(Status::OutOfMemory),
         Err(_) => Err(Status::SinkFault),
     }
 }
 
-/// All that a call needs beside its words.
+/// All that a call needs besides its words.
 fn parts_of(rt: &HostRuntime, call: &Call<'_>) -> Result<(SureSource, File, Device), Status> {
     let (script, journal) = files_of(rt, call)?;
     let device = device_for(rt, script.as_slice())?;
@@ -96,7 +88,7 @@ fn tell_usage(rt: &HostRuntime) -> ExitCode {
 }
 
 fn main(rt: HostRuntime) -> ExitCode {
-    let Ok(words) = words_of(&rt) else {
+    let Ok(words) = call_words(&rt) else {
         return ExitCode::from(Status::OutOfMemory as u8);
     };
     let Some(call) = call_of(words.as_slice()) else {

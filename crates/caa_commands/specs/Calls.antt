@@ -34,7 +34,7 @@ use Rattle.caa_commands.specs.FailedPlays.{IsPlayed, has_failed_play}
 use Rattle.caa_commands.specs.Scripts.{IsThePlan, IsOnlyPlan, IsRefusedScript, IsRefusedLine}
 use Rattle.caa_commands.specs.OutsideUse.{SourceUse, SinkUse, Left, Call, IsIdle, IsUnplayed}
 
--- ---- a command that is served over the plan of a script that is read; `check` only tells how large that is, `graph` needs none, and
+-- a command that is served over the plan of a script that is read; `check` only tells how large that is, `graph` needs none, and
 -- `cell` reads none
 abbrev pub NeedsPlan : Command → Type 0
 NeedsPlan command.Check = ⊥
@@ -42,7 +42,7 @@ NeedsPlan (command.Graph most) = ⊥
 NeedsPlan (command.Cell cycles) = ⊥
 NeedsPlan _ = Unit {0}
 
--- what each command comes to over a plan
+-- ---- what each command comes to over a plan
 
 -- `check` tells how large the plan is, and does nothing else
 abbrev pub CheckComesTo : {P : Type 0} → Plan → Finding → Left P → Type 0
@@ -119,7 +119,7 @@ AuditComesTo plan bytes (finding.Refused refusal) left = HasTooManyEntries plan 
 AuditComesTo plan bytes finding.OutOfMemory left = IsIdle left
 AuditComesTo plan bytes _ left = ⊥
 
--- what each command comes to over a plan
+-- what the command comes to over this plan, where these are all bytes that were read; `graph` and `cell` aren't served over one
 abbrev pub PlanComesTo : {P : Type 0} → Command → Plan → List ℕ → Finding → Left P → Type 0
 PlanComesTo command.Check plan bytes found left = CheckComesTo plan found left
 PlanComesTo (command.Sim seed) plan bytes found left = SimComesTo plan seed found left
@@ -162,7 +162,7 @@ InputComesTo command bytes found left =
 
 -- ---- what `cell` comes to, for which nothing is read
 
--- script clause: this is the plan of the cell's script, which has no other
+-- input clause: this is the plan of the cell's script, which has no other
 pub record IsWorked {P : Type 0} (cycles : ℕ) (found : Finding) (left : Left P) : Type 0 where
   pub plan : Plan
   pub script : IsOnlyPlan (cell_script cycles) plan

@@ -39,7 +39,7 @@ IsWithinRange (command.Pool workers) = (1 ≤ workers) × (workers ≤ most_work
 IsWithinRange (command.Cell cycles) = (1 ≤ cycles) × (cycles ≤ most_cycles)
 IsWithinRange _ = Unit {0}
 
--- nothing more
+-- this command, where no word stands behind its own
 abbrev pub alone : Command → List (List ℕ) → Option Command
 alone command [] = Some command
 alone command (word ∷ words) = None

@@ -1,4 +1,4 @@
--- What a play leaves.
+-- When a play has failed, and what is said of a plan that was played to its end.
 use Rattle.std.specs.Prelude.{◌≡◌, ◌+◌, ◌-◌, ◌^◌, ◌<◌, ◌==◌, Bool, ◌&&◌, List, reverse, IfSome, is_none}
 use Rattle.std.specs.List.{list_any}
 use Rattle.caa_base.specs.declared.written.entry.Entry.{Entry}

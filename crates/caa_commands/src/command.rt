@@ -47,7 +47,7 @@ fn number_alone(least: u32, most: u32, words: &[String]) -> Option<u32>
     }
 }
 
-/// A command that has no words after it.
+/// This command, where no word stands behind its own.
 fn alone(command: Command, words: &[String]) -> Option<Command>
     ensures { result ≡ alone command (map string_bytes words.now) }
 {

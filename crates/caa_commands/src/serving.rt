@@ -56,7 +56,7 @@ fn make_graph<P: Plant>(alloc: Global, bytes: &[u8], most: u32, plant: P) -> Dec
     }
 }
 
-/// Judges the journal that stands after the script, which has so many lines.
+/// Judges the journal that stands after the script in these bytes, which are all that was read.
 fn judge_after<P: Plant>(alloc: Global, plan: &Plan, bytes: &[u8], plant: P) -> Decision<P>
     requires { is_well_named plan.now ≡ true }
     ensures { AuditComesTo plan.now bytes.now result.finding
@@ -99,8 +99,8 @@ fn agree<P: Plant>(alloc: Global, plan: &Plan, seed: u32, plant: P) -> Decision<
     Decision::idle(alloc, finding, plant)
 }
 
-/// Serves a command over a plan, and over all bytes that were read. It is none that needs threads, nor `check` or `graph`, which
-/// need no plan.
+/// Serves a command over a plan, and over all bytes that were read. It is none that needs threads, nor `check`, which only tells
+/// how large the plan is, nor `graph`, which needs none, nor `cell`, which reads no script.
 fn serve_plan<P: Plant>(
     alloc: Global,
     command: Command,
@@ -140,7 +140,7 @@ fn script_in(command: Command, bytes: &[u8]) -> &[u8]
     }
 }
 
-/// Serves a command that needs a plan over the bytes that were read.
+/// Serves a command that needs a plan, and no threads, over the bytes that were read.
 fn serve_script<P: Plant>(alloc: Global, command: Command, bytes: &[u8], plant: P) -> Decision<P>
     requires range { IsWithinRange command }
     requires quiet { without_threads (Some command) ≡ Some command }
@@ -155,7 +155,7 @@ fn serve_script<P: Plant>(alloc: Global, command: Command, bytes: &[u8], plant: 
     }
 }
 
-/// Serves a command over the bytes that were read.
+/// Serves a command that reads its input, and needs no threads, over the bytes that were read.
 fn serve<P: Plant>(alloc: Global, command: Command, bytes: &[u8], plant: P) -> Decision<P>
     requires range { IsWithinRange command }
     requires quiet { without_threads (Some command) ≡ Some command }
@@ -188,7 +188,7 @@ fn most_bytes(command: Command) -> u64
     }
 }
 
-/// What a reading came to that didn't come to its end.
+/// What a call comes to whose input wasn't read to its end.
 fn unread(error: ReadError) -> Finding
     ensures { result ≡ unread_finding error }
 {
@@ -230,7 +230,7 @@ pub fn decide<S: Source, P: Plant>(
     }
 }
 
-/// Plays the script that was read in threads. It need not return.
+/// Plays in threads the script among the bytes that were read. It need not return.
 fn play_in_threads<P: Plant + Send, G: Gate + Sync, R: Threads + Wait + Sync>(
     rt: &R,
     alloc: Global,

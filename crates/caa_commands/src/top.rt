@@ -71,14 +71,15 @@ fn tell<K: Sink, P: Plant>(alloc: Global, decision: Decision<P>, sink: &mut K) -
 ///
 /// `check` reads a script and tells how large its plan is. `sim SEED`, with a seed from 0 to 2147483647, plays it to its end in
 /// the order that the seed gives and writes the text of the journal. `audit` reads a script and the text of a journal after it,
-/// and tells whether the journal is legal and complete. `messages SEED`, with such a seed too, reads a script, lets the roles of
-/// its first play agree by messages, and writes what happened and what each has resolved. `cell N`, with a number from 1 to 2000,
-/// reads nothing: it plays the script of a production cell that works for N cycles, as `sim` plays one by the seed N, and writes the
-/// summary of the journal. Things are tried in this order: the words (`Usage`); the reading (`SourceFault`, or `Refused` where it is
-/// too long); the script (`Refused`); for `audit` the journal (`Refused` past its most entries, or `Illegal`); for `sim` and `cell`
-/// that the device is laid out (`PlantFault`), and the play (`SomeFailed` where a play failed); and the writing. Where not all of the
-/// text is written, the status is `SinkFault`, and a part of the text was written. At `OutOfMemory` nothing was written; it never
-/// comes for wrong words.
+/// and tells whether the journal is legal and complete. `graph K`, with K from 1 to 7, reads a script of primitives and writes the
+/// script of the graph of their sets of at most K members. `messages SEED`, with such a seed too, reads a script, lets the roles of
+/// its first play agree by messages, and writes what happened and what each has resolved. `cell N`, with N from 1 to 2000, reads
+/// nothing: it plays the script of a production cell that works for N cycles, as `sim` plays one by the seed N, and writes the
+/// summary of the journal. Things are tried in this order: the words (`Usage`); the reading (`SourceFault`, or `Refused` where the
+/// input is too long); the script (`Refused`); for `audit` the journal (`Refused` past its most entries, or `Illegal`); for `sim` and
+/// `cell` that the device is laid out (`PlantFault`), and the play (`SomeFailed` where a play failed); and the writing. Where not all
+/// of the text is written, the status is `SinkFault`, and a part of the text was written. At `OutOfMemory` nothing was written; it
+/// never comes for wrong words.
 ///
 /// The journal that is handed back is the played one, wherever the script was played; for `audit` at `Done` the one that was
 /// read; and else empty. The device is as it was for `check`, `audit`, `graph` and `messages`, and wherever nothing was tried beyond
@@ -117,9 +118,10 @@ pub fn top_quiet<S: Source, K: Sink, P: Plant>(
 /// Serves `run` and `pool`, from a source to a sink, over a device. It need not return, so all other words are for [`top_quiet`].
 ///
 /// `run` reads a script and plays it to its end, each participant in a thread of its own, which calls the gate before each piece
-/// of work, and writes the text of the journal with what was seen. `pool W`, with 1 to 16 workers, plays it by so many workers, each
-/// in a thread of its own, who take the seats of participants by turns and call the gate in the same way; nobody watches. Things
-/// are tried in the same order as for `sim`, and what is handed back is the same.
+/// of work. When the play is over, it writes the text of the journal with what was seen. `pool W`, with W from 1 to 16, reads a script
+/// and plays it to its end by W workers, each in a thread of its own, who take the seats of participants by turns and call the gate
+/// in the same way. It writes the text of the journal too, and nobody watches. Things are tried in the same order as for `sim`, and
+/// what is handed back is the same.
 pub fn top<S: Source, K: Sink, P: Plant + Send, G: Gate + Sync, R: Threads + Wait + Sync>(
     rt: &R,
     alloc: Global,
@@ -136,8 +138,7 @@ pub fn top<S: Source, K: Sink, P: Plant + Send, G: Gate + Sync, R: Threads + Wai
         (sink_use ⟦<K as Sink>⟧ sink.old sink.new)
         result.status }
 
-    // Where nothing outside fails, what can be served is served, an audit tells what is to be found, and what is to be refused is
-    // refused; or memory was wanting.
+    // Where nothing outside fails, what can be served is served, and what is to be refused is refused; or memory was wanting.
     ensures completeness { MissesNothing
         (call_over ⟦<S as Source>⟧ ⟦<P as Plant>⟧ (command_of (map string_bytes words.now))
         source.old source.new plant result.plant result.journal.entries)

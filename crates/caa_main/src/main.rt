@@ -1,31 +1,19 @@
 //! The program `caa`: it checks and plays scripts of coordinated atomic actions, prints their journals and judges them.
 #![tactic(auto)]
 
+use action_script::words::call_words::call_words;
 use caa_base::outside::gate::EmptyGate;
 use caa_base::outside::memory::MemPlant;
 use caa_base::outside::standard::{StdSink, StdSource};
-use caa_commands::status::Status;
+pub use caa_commands::status::{Ended, Status};
 pub use caa_commands::top::{asks_for_threads, top, top_quiet};
-use std::alloc::AllocError;
-use std::env;
-use std::io::ErrorKind;
 use std::process::ExitCode;
-use std::rt::Env;
 
 /// The exit status where no memory is found for the words.
 const OUT_OF_MEMORY: u8 = Status::OutOfMemory as u8;
 
-/// The words that follow the program's name. Words that are no text are none of ours, and so none are given.
-fn words_of(rt: &(impl Env + AllocGlobal)) -> Result<Vec<String>, AllocError> {
-    match env::args(rt) {
-        Ok(words) => words.skip(1).collect(rt.alloc()),
-        Err(error) if error.kind() == ErrorKind::OutOfMemory => Err(AllocError),
-        Err(_) => Ok(Vec::new(rt.alloc())),
-    }
-}
-
 fn main(rt: HostRuntime) -> ExitCode {
-    let Ok(words) = words_of(&rt) else {
+    let Ok(words) = call_words(&rt) else {
         return ExitCode::from(OUT_OF_MEMORY);
     };
     let mut source = StdSource::new(rt.stdin());

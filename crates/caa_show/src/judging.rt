@@ -169,38 +169,44 @@ fn tell_illegal(
 
 // ---- a text that is no journal
 
-/// Tells of a line that it stands in no text of a journal here.
-fn tell_unread(alloc: Global, input: &Input, line: u64) -> Result<Vec<u8>, OutOfMemory> {
+/// Tells of a line of the whole input that it is at fault, and why.
+fn tell_fault(
+    alloc: Global,
+    input: &Input,
+    line: u64,
+    why: &[Piece],
+) -> Result<Vec<u8>, OutOfMemory> {
     let mut page = Page::new(alloc, &[]);
-    let number = line.saturating_add(input.script_lines);
-    tell_line(input, number, &mut page)?;
-    page.note(&[Piece::Text(
-        "no journal of this script has this line here: a word is none of the script's, or too many, or a value or an outcome at the end isn't what follows from the entries",
-    )])?;
+    tell_line(input, line, &mut page)?;
+    page.note(why)?;
     Ok(page.into_text())
 }
 
-/// Tells that a journal has more entries than are read; this line has the first that is too many.
+/// Tells of a line that it stands in no text of a journal here. It is counted from the line `journal` on.
+fn tell_unread(alloc: Global, input: &Input, line: u64) -> Result<Vec<u8>, OutOfMemory> {
+    let why = [Piece::Text(
+        "no journal of this script has this line here: a word is none of the script's, or too many, or a value or an outcome at the end isn't what follows from the entries",
+    )];
+    tell_fault(alloc, input, line.saturating_add(input.script_lines), &why)
+}
+
+/// Tells that a journal has more entries than are read. This line, counted from the line `journal` on, has the first that is too
+/// many.
 fn tell_too_many(alloc: Global, input: &Input, line: u64) -> Result<Vec<u8>, OutOfMemory> {
-    let mut page = Page::new(alloc, &[]);
-    let number = line.saturating_add(input.script_lines);
-    tell_line(input, number, &mut page)?;
-    page.note(&[
+    let why = [
         Piece::Text("a journal may have "),
         Piece::Number(MOST_AUDITED),
         Piece::Text(" entries, and this is one more"),
-    ])?;
-    Ok(page.into_text())
+    ];
+    tell_fault(alloc, input, line.saturating_add(input.script_lines), &why)
 }
 
-/// Tells that a look is wrong.
+/// Tells that a look is wrong, which stands in this line of the whole input.
 fn tell_look(alloc: Global, input: &Input, line: u64) -> Result<Vec<u8>, OutOfMemory> {
-    let mut page = Page::new(alloc, &[]);
-    tell_line(input, line, &mut page)?;
-    page.note(&[Piece::Text(
+    let why = [Piece::Text(
         "this isn't the value that the object had once so many plays had ended, or a look is missing here",
-    )])?;
-    Ok(page.into_text())
+    )];
+    tell_fault(alloc, input, line, &why)
 }
 
 /// Judges the looks beside a legal and complete journal.

@@ -7,31 +7,24 @@ mod words;
 
 use crate::showing::{Shown, Status, show};
 use crate::words::{USAGE, View, asked};
+use action_script::words::call_words::call_words;
 use caa_base::outside::reading::{ReadError, read_all, write_all};
 use caa_base::outside::standard::{StdSink, StdSource};
 use caa_base::written::limits::MOST_AUDIT_BYTES;
-use std::alloc::{AllocError, Global};
+use std::alloc::Global;
+use std::fs;
 use std::io::ErrorKind;
 use std::process::ExitCode;
-use std::rt::{Env, Files};
-use std::{env, fs};
+use std::rt::Files;
 
 /// What the input is called where it is no file.
 const STANDARD_INPUT: &str = "<stdin>";
-
-/// The words that follow the program's name. Words that are no text are none of ours, and so none are given.
-fn words_of(rt: &(impl Env + AllocGlobal)) -> Result<Vec<String>, AllocError> {
-    match env::args(rt) {
-        Ok(words) => words.skip(1).collect(rt.alloc()),
-        Err(error) if error.kind() == ErrorKind::OutOfMemory => Err(AllocError),
-        Err(_) => Ok(Vec::new(rt.alloc())),
-    }
-}
 
 /// All bytes of a file.
 fn read_file(rt: &(impl Files + AllocGlobal), path: &str) -> Result<Vec<u8>, ReadError> {
     match fs::open(rt, path) {
         Ok(file) => read_all(rt.alloc(), &mut StdSource::new(file), MOST_AUDIT_BYTES),
+        Err(error) if error.kind() == ErrorKind::OutOfMemory => Err(ReadError::OutOfMemory),
         Err(_) => Err(ReadError::Fault),
     }
 }
@@ -74,7 +67,7 @@ fn serve(rt: &HostRuntime, words: &[String]) -> Shown {
 }
 
 fn main(rt: HostRuntime) -> ExitCode {
-    let Ok(words) = words_of(&rt) else {
+    let Ok(words) = call_words(&rt) else {
         return ExitCode::from(Status::OutOfMemory as u8);
     };
     let shown = serve(&rt, words.as_slice());

@@ -24,21 +24,16 @@ pub const USAGE: &[u8] =
 
 /// The view of a word.
 fn view_of(word: &str) -> Option<View> {
-    if word == "explain" {
-        Some(View::Explain)
-    } else if word == "table" {
-        Some(View::Table)
-    } else if word == "graph" {
-        Some(View::Graph)
-    } else if word == "chart" {
-        Some(View::Chart {
+    match word {
+        "explain" => Some(View::Explain),
+        "table" => Some(View::Table),
+        "graph" => Some(View::Graph),
+        "chart" => Some(View::Chart {
             first: 0,
             count: u64::MAX,
-        })
-    } else if word == "story" {
-        Some(View::Story)
-    } else {
-        None
+        }),
+        "story" => Some(View::Story),
+        _ => None,
     }
 }
 

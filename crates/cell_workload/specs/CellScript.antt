@@ -12,7 +12,7 @@ use Rattle.cell_workload.specs.CellLines.{cell_lines}
 abbrev pub most_cycles : ℕ
 most_cycles = 2000
 
--- what is played: each tenth cycle is lost, each fifth of the others is jammed, and in the rest all goes well
+-- what is played: each fifth cycle is jammed, each tenth is lost instead, and in the rest all goes well
 abbrev pub played : Bool → Bool → ℕ
 played tenth fifth = if tenth then lost else (if fifth then jammed else plain)
 

@@ -100,7 +100,7 @@ pub fn plain(alloc: Global) -> Result<Vec<Form>, OutOfMemory>
     Ok(forms)
 }
 
-/// A cycle whose piece is lost.
+/// A cycle in which arm and press jam at once, so that its piece is scrap.
 pub fn jammed(alloc: Global) -> Result<Vec<Form>, OutOfMemory>
     ensures { IfOk result (λ forms. forms.items ≡ jammed_lines) }
 {
@@ -129,7 +129,7 @@ pub fn jammed(alloc: Global) -> Result<Vec<Form>, OutOfMemory>
     Ok(forms)
 }
 
-/// A cycle that is undone.
+/// A cycle that is undone once its piece is on the arm.
 pub fn lost(alloc: Global) -> Result<Vec<Form>, OutOfMemory>
     ensures { IfOk result (λ forms. forms.items ≡ lost_lines) }
 {

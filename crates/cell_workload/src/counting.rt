@@ -42,7 +42,7 @@ fn push_counted(text: &mut Vec<u8>, word: &[u8], count: u64) -> Result<(), OutOf
     end_line(text)
 }
 
-/// Adds a line for each outcome, with how many places ended so.
+/// Adds a line for each outcome, with how many places ended so. The outcomes have the marks 0 to 4, in this order.
 fn push_endings(text: &mut Vec<u8>, entries: &[Entry]) -> Result<(), OutOfMemory>
     ensures { OnOk result (text.new.items ≡ text.old.items ++ ending_lines entries.now) }
 {
@@ -54,7 +54,7 @@ fn push_endings(text: &mut Vec<u8>, entries: &[Entry]) -> Result<(), OutOfMemory
 }
 
 /// The summary of a journal of a cell that worked for so many cycles: how many places ended with each outcome, and the value that
-/// each object has after the journal. Want of memory is the only refusal.
+/// each object has after the journal. At `Err` no memory was found.
 pub fn summary(
     alloc: Global,
     plan: &Plan,

@@ -15,7 +15,7 @@ use std::alloc::Global;
 /// How many cycles a cell has at most.
 pub const MOST_CYCLES: u32 = 2000;
 
-/// Which action a cycle plays: each tenth one is lost, and each fifth of the others is jammed.
+/// Which action a cycle plays: each fifth cycle is jammed, and each tenth is lost instead.
 fn action_of_cycle(cycle: u32) -> u32
     ensures { result ≡ played (cycle % 10 == 0) (cycle % 5 == 0) }
 {
@@ -66,9 +66,8 @@ fn cell_lines(alloc: Global) -> Result<Vec<Form>, OutOfMemory>
 
 /// The script of a production cell that works for so many cycles, from 1 to `MOST_CYCLES`.
 ///
-/// A feeder, a robot and a press play one cycle after another. In most a piece is loaded, formed and counted. In each tenth cycle the
-/// press asks for undo, and in each fifth of the others arm and press jam at once, so that the piece is scrap. Want of memory is the
-/// only refusal.
+/// A feeder, a robot and a press play one cycle after another. In most a piece is loaded, formed and counted. In each fifth cycle arm
+/// and press jam at once, so that the piece is scrap; in each tenth the press asks for undo instead. At `Err` no memory was found.
 pub fn cell(alloc: Global, cycles: u32) -> Result<Script, OutOfMemory>
     requires some { 0 < cycles }
     requires few { cycles ≤ most_cycles }

@@ -3,6 +3,7 @@ ghost use Rattle.std.specs.Prelude.{◌≡◌};
 use caa_base::written::entry::Place;
 use once_cell::race::Note;
 use std::marker::Model;
+use thiserror::Error;
 
 /// What its owner has learnt of the cell of one place: nothing, or the exception that stands there for good.
 ///
@@ -22,7 +23,8 @@ impl Model for PlaceNote {
 }
 
 /// The cell of a place refused what was to be announced. This crate alone makes one.
-#[derive(Clone, Copy, Debug, PartialEq, Eq)]
+#[derive(Clone, Copy, Debug, PartialEq, Eq, Error)]
+#[error("the cell of place {place} refused what was to be announced")]
 pub struct NoteRefused {
     place: Place,
 }

@@ -3,6 +3,7 @@ ghost use Rattle.shared_views.specs.Committing.{IsReading, WasRead};
 
 use crate::publications::Publications;
 use caa_base::written::entry::Object;
+use thiserror::Error;
 
 /// What is read of an object: after how many publications, and its value after them.
 #[derive(Clone, Copy, Debug, PartialEq, Eq)]
@@ -13,7 +14,8 @@ pub struct Reading {
 
 /// No reading was had: `left_right` gave the observer no place, didn't let it enter, or showed a board older than what the
 /// observer was told of. This crate alone makes one.
-#[derive(Debug, Drop, PartialEq, Eq)]
+#[derive(Debug, Drop, PartialEq, Eq, Error)]
+#[error("no reading was had")]
 pub struct ReadRefused {
     seal: (),
 }
