@@ -12,7 +12,9 @@ from rules import Action, Play, Role, lines, said
 
 SEED = 2147483647
 MOST_AUDITED = 1_000_000
-CASES = os.path.join(os.path.dirname(os.path.abspath(__file__)), "..", "cases")
+EXAMPLES = os.path.join(os.path.dirname(os.path.abspath(__file__)), "..")
+CASES = os.path.join(EXAMPLES, "cases")
+WORKED = os.path.join(EXAMPLES, "worked")
 
 # ---- a script of about 100,000 bytes with each kind of line
 
@@ -188,6 +190,11 @@ def exceptions(count):
     return ["graph g"] + [f"exception {name}" for name in names] + [f"cover {a} {b}" for a, b in zip(names, names[1:])] + ["end"]
 
 
+def without_covers(count):
+    """A graph of so many exceptions, `universal` not among them, which covers each of them and is the only one that does."""
+    return ["graph g"] + [f"exception e{n}" for n in range(count)] + ["end"]
+
+
 def limits():
     """Scripts at a limit and past it, with the status and the text of `check`."""
     middle = own_bound(256) + 256 * own_bound(0)
@@ -198,6 +205,8 @@ def limits():
         ("32 uses at each of eight levels", deep, 4, f"refused {len(deep)} 19 limit\n"),
         ("a bound of 999,908", works(3731), 0, f"ok participants 1 objects 0 places 3731 bound {3731 * own_bound(256)}\n"),
         ("one play more", works(3732), 4, f"refused {len(works(3732))} 20 journal-bound\n"),
+        ("a graph of 64 without covers", without_covers(63), 0, "ok participants 0 objects 0 places 0 bound 0\n"),
+        ("a graph of 65 without covers", without_covers(64), 0, "ok participants 0 objects 0 places 0 bound 0\n"),
         ("a graph of 128", exceptions(127), 0, "ok participants 0 objects 0 places 0 bound 0\n"),
         ("one exception more", exceptions(128), 4, "refused 129 19 limit\n"),
     ]
@@ -328,12 +337,17 @@ def cells(program):
 
 
 def pools(program):
-    """Plays in threads whose order isn't fixed: what they leave in the objects is, and `audit` accepts their journals."""
+    """Plays in threads whose order isn't fixed: what they leave in the objects is, and `audit` accepts their journals. Of the two
+    siblings both have raised before anything is resolved, whatever the order, and so each writes what its handler says."""
     with open(os.path.join(CASES, "ordinary_cycle")) as file:
         cycle = file.read()
+    with open(os.path.join(WORKED, "two_siblings")) as file:
+        siblings = file.read().partition("journal\n")[0]
     things = {"ordinary_cycle": ["object belt 2", "object arm 0", "object plate 0", "object done 1"],
+              "two_siblings": ["object x 1", "object y 2"],
               "ten cycles of the cell": cell_summary(10).splitlines()[6:]}
-    for workers, name, script in (("1", "ordinary_cycle", cycle), ("16", "ten cycles of the cell", cell_script(10))):
+    scripts = (("1", "ordinary_cycle", cycle), ("1", "two_siblings", siblings), ("16", "ten cycles of the cell", cell_script(10)))
+    for workers, name, script in scripts:
         for _ in range(5):
             played = subprocess.run([program, "pool", workers], input=script.encode(), stdout=subprocess.PIPE)
             lines_of = played.stdout.decode().splitlines()

@@ -1,7 +1,7 @@
-"""Audits journals that were worked out by hand, and the same with lines changed, and plays a script over a device that refuses
-puts; compares what the program answers. Where the program that asks both cores is named, the same plays go through it, and each
-script of a worked journal by twenty seeds. It also follows each worked journal and that of each of these plays, and strays from
-each journal with an entry that may not come, just at that entry.
+"""Audits journals that were worked out by hand, and the same with lines changed, checks scripts that are cut behind each of their
+lines, and plays a script over a device that refuses puts; compares what the program answers. Where the program that asks both
+cores is named, the same plays go through it, and each script of a worked journal by twenty seeds. It also follows each worked
+journal and that of each of these plays, and strays from each journal with an entry that may not come, just at that entry.
 
     python3 examples/worked/compare.py PROGRAM [BOTH_CORES]
 """
@@ -108,6 +108,21 @@ SEEDS = [str(seed) for seed in range(1, 21)]
 # Bytes that are cut off the end of a journal, and the line that is named.
 CUT = [("two_watches", 1, 13), ("two_watches", 4, 13)]
 
+# Scripts that are cut behind each of their lines. Behind the lines that are named a cut ends at the top, with so many participants,
+# objects and places, and this bound; everywhere else it ends inside a block, and the line that would come next is refused.
+# The two places of the first have 2 * (8 + 2) + 1 + 4 and 2 * (8 + 1) + 1 + 4 entries at most, and the three of the second
+# 2 * (8 + 1) + 1 + 4, and twice 1 * (8 + 1) + 1 + 4.
+CUT_SCRIPTS = {
+    "ended_not_all_left": {
+        0: (0, 0, 0, 0), 1: (1, 0, 0, 0), 2: (2, 0, 0, 0), 3: (2, 1, 0, 0),
+        6: (2, 1, 0, 0), 12: (2, 1, 0, 0), 25: (2, 1, 0, 0), 26: (2, 1, 2, 25 + 23),
+    },
+    "three_levels": {
+        0: (0, 0, 0, 0), 1: (1, 0, 0, 0), 2: (2, 0, 0, 0), 3: (2, 1, 0, 0),
+        10: (2, 1, 0, 0), 13: (2, 1, 0, 0), 21: (2, 1, 0, 0), 30: (2, 1, 0, 0), 43: (2, 1, 0, 0), 44: (2, 1, 3, 23 + 14 + 14),
+    },
+}
+
 # The inner action puts 5 into x, which is 1, and the outer one asks for undo.
 UNDONE = """participant ann
 object x 1
@@ -187,6 +202,16 @@ def followed(both_cores, name, changes, wanted):
     return compare(f"both cores along {name} with {changes}", answer_of(both_cores, ["follow"], spoiled(name, changes)), answer)
 
 
+def checked(program, name, kept):
+    text = "".join(line + "\n" for line in parts_of(name)[0][:kept])
+    counts = CUT_SCRIPTS[name].get(kept)
+    if counts is None:
+        answer = (f"refused {kept + 1} 1 bad-line\n", 4)
+    else:
+        answer = ("ok participants {} objects {} places {} bound {}\n".format(*counts), 0)
+    return compare(f"check of {name}, cut behind line {kept}", answer_of(program, ["check"], text), answer)
+
+
 def undone(puts):
     return UNDONE.format(drills="".join(f"drill x {put}\n" for put in puts))
 
@@ -230,6 +255,7 @@ def main(program, *both_cores):
     legal = [(name, {}, None) for name in LEGAL]
     answers = [audited(program, name, changes, 0, wanted) for name, changes, wanted in legal + CHANGED + FORBIDDEN]
     answers += [audited(program, name, {}, cut, wanted) for name, cut, wanted in CUT]
+    answers += [checked(program, name, kept) for name in CUT_SCRIPTS for kept in range(len(parts_of(name)[0]) + 1)]
     answers += [played(program, *row) for row in REFUSED]
     for path in both_cores:
         answers += [played_on_both(program, path, *row) for row in REFUSED]

@@ -63,3 +63,11 @@ fn a_graph_tells_its_order_and_so_does_its_copy(rt: HostRuntime) {
         assert_eq!(rt; graph.least(&[1, 0]), 0);
     }
 }
+
+#[test]
+fn one_pair_among_65_exceptions_is_sound(rt: HostRuntime) {
+    let graph = Graph::build(rt.alloc(), 65, &[(1, 64)]).expect(&rt, "a sound graph");
+    assert_eq!(rt; graph.count(), 65);
+    assert_eq!(rt; graph.least(&[64, 1]), 1);
+    assert_eq!(rt; graph.least(&[64, 2]), 0);
+}

@@ -1,5 +1,5 @@
 //! The tests of whole calls, over public calls: machines that are driven in threads and by pools of workers, the relay through which
-//! seats travel to them, and the top calls of the program.
+//! seats travel to them, a graph of sets, and the top calls of the program.
 #![tactic(auto)]
 
 #[cfg(test)]
@@ -14,3 +14,5 @@ mod pools;
 mod relays;
 #[cfg(test)]
 mod top_calls;
+#[cfg(test)]
+mod unions;

@@ -3,9 +3,11 @@ use caa_base::outside::memory::{MemPlant, MemSink, MemSource};
 use caa_base::outside::one_byte::{OneByteSink, OneByteSource};
 use caa_base::outside::sink::Sink;
 use caa_base::outside::source::Source;
-use caa_commands::status::Status;
+use caa_base::written::entry::Entry;
+use caa_commands::status::{Ended, Status};
 use caa_commands::top::top_quiet;
 use std::alloc::Global;
+use std::process::Abort;
 use std::test::Fail;
 
 const SCRIPT: &[u8] =
@@ -15,58 +17,85 @@ const SCRIPT: &[u8] =
 const TEXT: &[u8] =
     b"journal\narrive 0 ann\narrive 0 bob\nstart 0 bob\nwrite 0 bob y 7\nverdict 0 bob done\nread 0 ann x 5\nwrite 0 ann x 6\nverdict 0 ann done\nend 0 ann commit\nleave 0 ann\nleave 0 bob\nobject x 6\nobject y 7\noutcome 0 swap commit\n";
 
-/// How `sim 1` ends, and how many entries are handed back.
+/// What `sim 1` comes to.
 fn sim<S: Source, K: Sink>(
     alloc: Global,
     source: &mut S,
     sink: &mut K,
     plant: MemPlant,
-) -> Result<(Status, u64), Fail> {
+) -> Result<Ended<MemPlant>, Fail> {
     let words = words_of(alloc, &["sim", "1"])?;
-    let ended = top_quiet(alloc, words.as_slice(), source, sink, plant);
-    Ok((ended.status, ended.journal.len()))
+    Ok(top_quiet(alloc, words.as_slice(), source, sink, plant))
 }
 
 #[test]
-fn faults_are_told(rt: HostRuntime) -> Result<(), Fail> {
+fn a_plant_that_refuses_is_told(rt: HostRuntime) -> Result<(), Fail> {
     let alloc = rt.alloc();
     let mut source = MemSource::new(alloc, SCRIPT, &[])?;
     let mut sink = MemSink::new(alloc, 1000, &[])?;
     let ended = sim(alloc, &mut source, &mut sink, MemPlant::new(true))?;
-    assert_eq!(rt; ended, (Status::PlantFault, 0));
+    assert_eq!(rt; ended.status, Status::PlantFault);
+    assert!(rt; ended.journal.is_empty());
     assert_eq!(rt; sink.bytes(), b"fault plant\n".as_slice());
+    Ok(())
+}
 
+/// Of a source that gives a byte at a time, the read with this number fails.
+fn source_fails_at(rt: &impl Abort, alloc: Global, failing: u64) -> Result<(), Fail> {
+    let mut source = OneByteSource::new(alloc, SCRIPT, &[failing])?;
+    let mut sink = MemSink::new(alloc, 1000, &[])?;
+    let ended = sim(alloc, &mut source, &mut sink, MemPlant::new(false))?;
+    assert_eq!(rt; ended.status, Status::SourceFault);
+    assert!(rt; ended.journal.is_empty());
+    assert_eq!(rt; sink.bytes(), b"fault source\n".as_slice());
+    Ok(())
+}
+
+#[test]
+fn what_is_not_read_whole_is_a_source_fault(rt: HostRuntime) -> Result<(), Fail> {
     // The last of these reads is the one that would find the end.
     let bytes = SCRIPT.len() as u64;
-    for failing in [1, 2, 100, bytes, bytes + 1] {
-        let mut source = OneByteSource::new(alloc, SCRIPT, &[failing])?;
-        let mut sink = MemSink::new(alloc, 1000, &[])?;
-        let ended = sim(alloc, &mut source, &mut sink, MemPlant::new(false))?;
-        assert_eq!(rt; ended, (Status::SourceFault, 0));
-        assert_eq!(rt; sink.bytes(), b"fault source\n".as_slice());
+    for failing in 1..bytes + 2 {
+        source_fails_at(&rt, rt.alloc(), failing)?;
     }
+    Ok(())
+}
+
+/// Of a sink that takes a byte at a time, the write with this number fails; the play was this one.
+fn sink_fails_at(
+    rt: &impl Abort,
+    alloc: Global,
+    failing: u64,
+    status: Status,
+    play: &[Entry],
+) -> Result<(), Fail> {
+    let mut source = MemSource::new(alloc, SCRIPT, &[])?;
+    let mut sink = OneByteSink::new(alloc, 1000, &[failing])?;
+    let ended = sim(alloc, &mut source, &mut sink, MemPlant::new(false))?;
+    assert_eq!(rt; ended.status, status);
+    assert_eq!(rt; ended.journal.as_slice(), play);
+    assert_eq!(rt; sink.bytes().len() as u64 + 1, failing);
+    assert!(rt; TEXT.starts_with(sink.bytes()));
     Ok(())
 }
 
 #[test]
 fn what_is_not_written_whole_is_a_sink_fault(rt: HostRuntime) -> Result<(), Fail> {
     let alloc = rt.alloc();
+    let mut source = OneByteSource::new(alloc, SCRIPT, &[])?;
+    let mut sink = MemSink::new(alloc, 1000, &[])?;
+    let whole = sim(alloc, &mut source, &mut sink, MemPlant::new(false))?;
+    assert_eq!(rt; whole.status, Status::Done);
+    assert_eq!(rt; sink.bytes(), TEXT);
+    let play = whole.journal.as_slice();
+    assert_eq!(rt; play.len(), 11);
+
     let bytes = TEXT.len() as u64;
-    for (failing, status) in [
-        (1, Status::SinkFault),
-        (2, Status::SinkFault),
-        (100, Status::SinkFault),
-        (bytes, Status::SinkFault),
-        (bytes + 1, Status::Done),
-    ] {
-        let mut source = OneByteSource::new(alloc, SCRIPT, &[])?;
-        let mut sink = OneByteSink::new(alloc, 1000, &[failing])?;
-        let ended = sim(alloc, &mut source, &mut sink, MemPlant::new(false))?;
-        assert_eq!(rt; ended, (status, 11));
-        assert_eq!(rt; sink.bytes().len() as u64 + 1, failing);
-        assert!(rt; TEXT.starts_with(sink.bytes()));
+    for failing in 1..bytes + 1 {
+        sink_fails_at(&rt, alloc, failing, Status::SinkFault, play)?;
     }
-    Ok(())
+    // Nothing is left to write once the text is whole.
+    sink_fails_at(&rt, alloc, bytes + 1, Status::Done, play)
 }
 
 #[test]
