@@ -21,7 +21,8 @@ fn note_raising(endings: &mut Endings, plan: &Plan, journal: &[Entry], entry: &E
 {
     plan.is_closed();
     // The contract alone speaks of the journal and of the entry.
-    let _ = (journal, entry);
+    let _ = journal;
+    let _ = entry;
     if !endings.is_raised(place) {
         endings.doom(plan, place);
         endings.clear(place);
