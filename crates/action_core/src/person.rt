@@ -1,5 +1,5 @@
 /// What is kept of a participant besides its frames.
-#[derive(Clone, Copy, Debug, PartialEq, Eq)]
+#[derive(Clone, Copy)]
 pub struct Person {
     /// The number of its next play among all plays: the first with a role of it in which it has not arrived.
     pub turn: u32,

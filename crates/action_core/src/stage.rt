@@ -1,7 +1,7 @@
 use caa_base::written::entry::Outcome;
 
 /// How far a place has come.
-#[derive(Clone, Copy, Debug, PartialEq, Eq)]
+#[derive(Clone, Copy)]
 pub struct Stage {
     pub started: bool,
     /// It is undone, or was.

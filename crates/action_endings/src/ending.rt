@@ -3,7 +3,7 @@ use caa_base::written::limits::MOST_ROLES;
 use core_words::crew::Crew;
 
 /// How far a place has come to its end.
-#[derive(Clone, Copy, Debug, PartialEq, Eq)]
+#[derive(Clone, Copy)]
 pub struct Ending {
     /// Who has given a verdict that counts.
     pub given: Crew,

@@ -4,7 +4,7 @@ ghost use Rattle.action_endings.specs.inner.KeptEndings.{verdict_said, SignalsBe
 use caa_base::written::entry::Verdict;
 
 /// A verdict in two bytes: the number of an exception takes no more than one, since a graph has few.
-#[derive(Clone, Copy, Debug, PartialEq, Eq)]
+#[derive(Clone, Copy)]
 pub enum Said {
     Done,
     Signal(u8),

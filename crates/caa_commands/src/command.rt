@@ -14,7 +14,7 @@ const MOST_MEMBERS: u32 = 7;
 const MOST_WORKERS: u32 = 16;
 
 /// A command line that is served.
-#[derive(Clone, Copy, Debug, PartialEq, Eq)]
+#[derive(Clone, Copy)]
 pub enum Command {
     /// Checks a script, and tells the numbers of its plan.
     Check,

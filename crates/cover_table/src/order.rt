@@ -13,7 +13,7 @@ pub const MOST_EXCEPTIONS: usize = 128;
 ///
 /// Only the first `count` rows tell something, and only by their first `count` bits; `N` is the
 /// room that there is for rows.
-#[derive(Clone, Copy, Debug, PartialEq, Eq)]
+#[derive(Clone, Copy)]
 pub struct Order<const N: usize> {
     pub count: u32,
     pub rows: [Row; N],

@@ -6,7 +6,7 @@ use action_script::forms::script::Script;
 use std::alloc::{AllocError, Global};
 
 /// What may stand next in a script of primitive exceptions.
-#[derive(Clone, Copy, Debug, PartialEq, Eq)]
+#[derive(Clone, Copy)]
 pub enum Stage {
     /// The line of the graph.
     Graph,

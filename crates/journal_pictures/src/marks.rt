@@ -11,7 +11,7 @@ use std::alloc::Global;
 pub const MOST_ROWS: u64 = 5_000;
 
 /// An entry in a picture.
-#[derive(Clone, Copy, Debug, PartialEq, Eq)]
+#[derive(Clone, Copy)]
 pub struct Mark {
     /// The lane in which it stands, counted from 0 on the left: each participant has one, in the order of their numbers.
     pub lane: u32,

@@ -5,7 +5,7 @@ use place_plan::plans::plan::Plan;
 use std::alloc::Global;
 
 /// What a participant does.
-#[derive(Clone, Copy, PartialEq, Eq)]
+#[derive(Clone, Copy)]
 pub enum Doing {
     /// It is in no place.
     Away,

@@ -14,7 +14,7 @@ use std::alloc::Global;
 const MOST_THINGS: u32 = 6;
 
 /// What a sentence is about.
-#[derive(Clone, Copy, PartialEq, Eq)]
+#[derive(Clone, Copy)]
 enum Matter {
     Coming,
     Working,

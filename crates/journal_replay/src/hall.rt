@@ -57,7 +57,7 @@ impl From<PlantError> for OpenCause {
 }
 
 /// A refused opening, with the plant that was handed in.
-#[derive(Debug, Drop)]
+#[derive(Drop)]
 pub struct OpenError<P> {
     pub cause: OpenCause,
     /// The plant that was handed in. Nothing is said of its values once it was asked to be laid out.

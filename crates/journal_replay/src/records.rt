@@ -20,7 +20,7 @@ use place_plan::plans::plan::Plan;
 use std::alloc::Global;
 
 /// How far a place has come.
-#[derive(Clone, Copy, Debug, PartialEq, Eq)]
+#[derive(Clone, Copy)]
 pub struct Course {
     pub has_started: bool,
     pub has_ended: bool,

@@ -6,7 +6,7 @@ ghost use Rattle.line_plant.specs.Answers.{Heard, IsNotNext};
 use caa_base::outside::source::Source;
 
 /// What a device answers to a line.
-#[derive(Clone, Copy, Debug, PartialEq, Eq)]
+#[derive(Clone, Copy)]
 pub enum Answer {
     /// It did what was asked: the line `well`.
     Well,

@@ -7,7 +7,7 @@ use caa_base::outside::sink::Sink;
 use caa_base::outside::source::Source;
 
 /// Where a device answers, where it is asked, and whether an answer was lost.
-#[derive(Debug, Drop)]
+#[derive(Drop)]
 pub struct Wire<S, K> {
     pub answers: S,
     pub commands: K,

@@ -2,7 +2,7 @@ use caa_base::written::entry::Place;
 use caa_base::written::limits::MOST_DEPTH;
 
 /// What is kept of an object.
-#[derive(Clone, Copy, Debug, PartialEq, Eq)]
+#[derive(Clone, Copy)]
 pub struct Version {
     pub value: i64,
     /// The innermost live place that uses the object.

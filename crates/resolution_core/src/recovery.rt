@@ -2,7 +2,7 @@ use caa_base::written::entry::Exception;
 use core_words::crew::Crew;
 
 /// How far a place has come in recovering together.
-#[derive(Clone, Copy, Debug, PartialEq, Eq)]
+#[derive(Clone, Copy)]
 pub struct Recovery {
     /// Who is halted there.
     pub halted: Crew,

@@ -1,7 +1,7 @@
 use caa_base::written::entry::Place;
 
 /// How far a participant has come in a place.
-#[derive(Clone, Copy, Debug, PartialEq, Eq)]
+#[derive(Clone, Copy)]
 pub struct Frame {
     pub place: Place,
     /// How many steps it has made there, since its handler began where it has one.

@@ -12,7 +12,7 @@ use place_plan::drafts::object_list::ObjectList;
 use std::alloc::Global;
 
 /// What may come out of a nested use, to be carried out of it as an exception of the action around it.
-#[derive(Clone, Copy, Debug, PartialEq, Eq)]
+#[derive(Clone, Copy)]
 pub enum Outcome {
     /// An exception, by its number in the graph of those that the use tells outside.
     Exception(u32),

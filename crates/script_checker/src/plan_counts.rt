@@ -1,5 +1,5 @@
 /// How large a plan is.
-#[derive(Clone, Copy, Debug, PartialEq, Eq)]
+#[derive(Clone, Copy)]
 pub struct PlanCounts {
     pub participants: u32,
     pub objects: u32,

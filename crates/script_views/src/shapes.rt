@@ -7,7 +7,7 @@ use caa_base::written::entry::OutOfMemory;
 use std::alloc::Global;
 
 /// Where a line is that is read.
-#[derive(Clone, Copy, PartialEq)]
+#[derive(Clone, Copy)]
 pub enum Section {
     /// Outside all graphs and actions.
     Top,
@@ -19,7 +19,7 @@ pub enum Section {
 }
 
 /// Where lines of a kind may stand.
-#[derive(Clone, Copy, PartialEq)]
+#[derive(Clone, Copy)]
 pub enum Stand {
     /// Outside all graphs and actions.
     Top,
@@ -34,7 +34,7 @@ pub enum Stand {
 }
 
 /// What a word after the first is asked to be.
-#[derive(Clone, Copy, PartialEq)]
+#[derive(Clone, Copy)]
 pub enum Part {
     Name,
     Value,

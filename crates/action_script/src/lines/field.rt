@@ -1,7 +1,7 @@
 use caa_base::written::entry::Test;
 
 /// What a word of a line is asked to be.
-#[derive(Clone, Copy, Debug, PartialEq, Eq)]
+#[derive(Clone, Copy)]
 pub enum Part {
     /// A name.
     Name,
@@ -16,7 +16,7 @@ pub enum Part {
 }
 
 /// What a word of a line says.
-#[derive(Clone, Copy, Debug)]
+#[derive(Clone, Copy)]
 pub enum Field {
     /// The name of this number.
     Name(u32),

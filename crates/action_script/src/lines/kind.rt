@@ -6,7 +6,7 @@ use crate::lines::field::Part::{Count, Name, Rounds, Test, Value};
 use std::marker::Model;
 
 /// Where the reader of a script is.
-#[derive(Clone, Copy, Debug, PartialEq, Eq)]
+#[derive(Clone, Copy)]
 pub enum Section {
     /// Outside all graphs and actions.
     Top,
@@ -56,7 +56,7 @@ impl Section {
 }
 
 /// Which kind of line a line is, by its first word and the number of its words.
-#[derive(Clone, Copy, Debug)]
+#[derive(Clone, Copy)]
 pub enum LineKind {
     /// A participant is declared.
     Participant,
@@ -167,7 +167,7 @@ pub const KINDS: [LineKind; 34] = [
 ];
 
 /// Where a line may stand.
-#[derive(Clone, Copy, Debug)]
+#[derive(Clone, Copy)]
 pub enum Place {
     /// Outside all graphs and actions.
     Top,

@@ -8,7 +8,7 @@ ghost use Rattle.action_script.specs.Words.JournalStarts.{without_blanks, begins
 use crate::words::cuts::{cut_line, is_blank};
 
 /// Where the text of a journal begins in an input.
-#[derive(Clone, Copy, Debug, PartialEq, Eq)]
+#[derive(Clone, Copy)]
 pub struct JournalStart {
     /// The number of bytes before it.
     pub place: usize,

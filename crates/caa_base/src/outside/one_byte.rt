@@ -13,7 +13,7 @@ use std::alloc::Global;
 use std::marker::Model;
 
 /// A source of bytes in memory that gives one byte a call.
-#[derive(Debug, Drop)]
+#[derive(Drop)]
 pub struct OneByteSource {
     source: MemSource,
 }
@@ -68,7 +68,7 @@ impl Source for OneByteSource {
 }
 
 /// A sink in memory that takes one byte a call.
-#[derive(Debug, Drop)]
+#[derive(Drop)]
 pub struct OneByteSink {
     sink: MemSink,
 }

@@ -11,7 +11,7 @@ use std::marker::Model;
 /// A stream that is read as a source, such as standard input. It tells nothing of its bytes.
 ///
 /// It is seen as the number of the reads that failed.
-#[derive(Debug, Drop)]
+#[derive(Drop)]
 pub struct StdSource<R> {
     stream: R,
     faults: u64,
@@ -61,7 +61,7 @@ impl<R: Read> Source for StdSource<R> {
 /// A stream that is written as a sink, such as standard output. It tells nothing of its bytes.
 ///
 /// It is seen as the number of the writes that failed.
-#[derive(Debug, Drop)]
+#[derive(Drop)]
 pub struct StdSink<W> {
     stream: W,
     faults: u64,

@@ -109,7 +109,7 @@ impl Verdict {
 }
 
 /// A comparison of a register with a number.
-#[derive(Clone, Copy, Debug, PartialEq, Eq)]
+#[derive(Clone, Copy)]
 pub enum Test {
     Below,
     Above,
@@ -160,7 +160,7 @@ impl Outcome {
 }
 
 /// The device refuses the put of this object that is the `nth` one, counted from 1.
-#[derive(Clone, Copy, Debug, PartialEq, Eq)]
+#[derive(Clone, Copy)]
 pub struct Drill {
     pub object: Object,
     pub nth: u32,

@@ -7,7 +7,7 @@ use std::marker::Model;
 ///
 /// Mixing stands for what a role computes. The state begins at a number modulo 2^31, and a round makes `1103515245 * state + 12345`
 /// of it, modulo 2^31.
-#[derive(Debug, Drop)]
+#[derive(Drop)]
 pub struct WorkDone {
     from: i64,
     rounds: u32,

@@ -1,7 +1,7 @@
 use caa_base::written::entry::Exception;
 
 /// How far a member is with what was raised.
-#[derive(Clone, Copy, Debug, PartialEq, Eq)]
+#[derive(Clone, Copy)]
 pub enum State {
     /// It raised nothing, and was told of nothing that was raised.
     Normal,

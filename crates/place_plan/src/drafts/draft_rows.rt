@@ -10,7 +10,7 @@ use exception_graph::Graph;
 use std::alloc::Global;
 
 /// A step of a role.
-#[derive(Clone, Copy, Debug, PartialEq, Eq)]
+#[derive(Clone, Copy)]
 pub enum Step {
     /// The register becomes the value of the object.
     Read(Object),
@@ -47,7 +47,7 @@ pub struct HandlerRow {
 }
 
 /// The exception that a role names when its place is aborted.
-#[derive(Clone, Copy, Debug, PartialEq, Eq)]
+#[derive(Clone, Copy)]
 pub enum AbortRow {
     /// None.
     Never,

@@ -14,7 +14,7 @@ use crate::plans::tables::{Table, counted_sum, number_at};
 use caa_base::written::limits::{MOST_ACTIONS, MOST_DEPTH};
 
 /// How much a draft unfolds into.
-#[derive(Clone, Copy, Debug, PartialEq, Eq)]
+#[derive(Clone, Copy)]
 pub struct Size {
     /// How many places the plan has, as far as they are counted: no further than `MOST_COUNTED`.
     pub places: u64,

@@ -6,7 +6,7 @@ use std::alloc::Global;
 use std::marker::Model;
 
 /// Which puts are to be refused, and how many of each object were tried.
-#[derive(Debug, Drop)]
+#[derive(Drop)]
 pub struct Drills {
     drills: Vec<Drill>,
     tries: Vec<u64>,

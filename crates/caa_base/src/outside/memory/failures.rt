@@ -10,7 +10,7 @@ use std::marker::Model;
 /// Which calls are to fail, by their numbers from 1, and how many came and failed so far.
 ///
 /// Both counts stop at their last number, which stands for all calls after it too.
-#[derive(Debug, Drop)]
+#[derive(Drop)]
 pub struct Failures {
     at: Vec<u64>,
     calls: u64,

@@ -5,7 +5,7 @@ use std::alloc::Global;
 use std::marker::Model;
 
 /// What a plant in memory keeps from when it is laid out: the values, the puts, and room for more.
-#[derive(Debug, Drop)]
+#[derive(Drop)]
 pub struct Laid {
     values: Vec<i64>,
     puts: Vec<(Object, i64)>,

@@ -12,7 +12,7 @@ use std::alloc::Global;
 use std::marker::Model;
 
 /// A plant in memory, whose calls fail where that was asked for.
-#[derive(Debug, Drop)]
+#[derive(Drop)]
 pub struct MemPlant {
     plant: SurePlant,
     drills: Option<Drills>,

@@ -9,7 +9,7 @@ use std::alloc::Global;
 use std::marker::Model;
 
 /// A source of bytes in memory, whose reads fail where that was asked for.
-#[derive(Debug, Drop)]
+#[derive(Drop)]
 pub struct MemSource {
     source: SureSource,
     failures: Failures,

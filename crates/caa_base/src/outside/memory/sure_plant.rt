@@ -9,7 +9,7 @@ use std::alloc::Global;
 use std::marker::Model;
 
 /// A plant in memory that never fails.
-#[derive(Debug, Default, Drop)]
+#[derive(Default, Drop)]
 pub struct SurePlant {
     laid: Option<Laid>,
     calls: u64,

@@ -9,7 +9,7 @@ use std::alloc::Global;
 use std::marker::Model;
 
 /// A sink in memory that fails only where it is full.
-#[derive(Debug, Drop)]
+#[derive(Drop)]
 pub struct SureSink {
     bytes: Vec<u8>,
     room: u64,
