@@ -31,6 +31,13 @@ signal_with order sound plan p t x m ts row cover h fit former least =
     subst (λ (xs : List ℕ). IsCoverOf order (xs ++ signals_kept plan p row ts) (Some m)) (sym h)
     (refl, joined_more order sound x m cover (signals_kept plan p row ts) fit former least)
 
+-- a role that signals nothing leaves the cover as it is
+pub signal_without : (order : CoverOrder) (plan : Plan) (p t : ℕ) (ts : List ℕ) (row : Ending) (cover : Option ℕ)
+    → [] ≡ signal_in (given_kept plan p t row) → IsCoverOf order (signals_kept plan p row ts) cover
+    → IsCoverOf order (signals_kept plan p row (t ∷ ts)) cover
+signal_without order plan p t ts row cover h former =
+    subst (λ (xs : List ℕ). IsCoverOf order (xs ++ signals_kept plan p row ts) cover) h former
+
 -- ---- undo
 
 undone_right : (failed aborted : Bool) (o : Outcome)

@@ -1,6 +1,6 @@
-use Rattle.std.proofs.Common.{◌≡◌, ◌∙◌, ◌+◌, ◌-◌, ◌<◌, true, ◌∷◌, Some, drop, get_or, ap, sym, subst, arith}
+use Rattle.std.proofs.Common.{◌≡◌, ◌∙◌, ◌+◌, ◌-◌, ◌<◌, true, ◌∷◌, Some, length, drop, get_or, ap, sym, subst, arith}
 use Rattle.std.specs.List.{All}
-use Rattle.std.proofs.lemmas.List.{drop_more}
+use Rattle.std.proofs.lemmas.List.{drop_all, drop_more}
 use Rattle.cover_table.specs.Cover.{CoverOrder, IsLeastCover, IsSound}
 use Rattle.core_words.specs.Joining.{as_list, IsCoverOf}
 use Rattle.caa_base.specs.Written.Lists.{member}
@@ -8,7 +8,7 @@ use Rattle.place_plan.specs.Plans.Places.{roles_of, interface_of}
 use Rattle.place_plan.proofs.OnPlans.Casts.{member_at}
 use Rattle.action_endings.specs.inner.KeptEndings.{at}
 use Rattle.action_endings.specs.inner.ChangedEndings.{signals_kept}
-use Rattle.action_endings.proofs.Concluding.{signal_with, signal_known, fit_after, cover_known}
+use Rattle.action_endings.proofs.Concluding.{signal_with, signal_without, signal_known, fit_after, cover_known}
 use Rattle.action_endings.proofs.endings.Endings.joined_signals.Goals as goal
 
 pub signalled_by-requires : goal.signalled_by-requires
@@ -63,6 +63,26 @@ loop-index-preserved-in-Some c =
     (fit_after (λ x. x < order.count) plan p row c.loop-index.index roles all) c.loop-index.invariant
     (subst (λ (o : CoverOrder). IsLeastCover o (c.in-Some.exception ∷ as_list c.loop-index.cover) c.joined.result)
     c.interface-graph.ensures c.joined.ensures))
+
+pub loop-index-init : goal.loop-index-init
+loop-index-init c =
+    let row = at c.args.self.now c.args.place in
+    let roles = c.roles_of-roles.result.now in
+    ap (signals_kept c.args.plan.now c.args.place row) (drop_all (length roles) roles (omega arith))
+
+pub loop-index-preserved : goal.loop-index-preserved
+loop-index-preserved c =
+    let plan = c.args.plan.now in
+    let p = c.args.place in
+    let row = at c.args.self.now p in
+    let order = interface_of plan p in
+    let roles = c.roles_of-roles.result.now in
+    let i = c.loop-index.index - 1 in
+    let t = get_or roles i 0 in
+    let next : i + 1 ≡ c.loop-index.index = omega arith in
+    let front : drop i roles ≡ t ∷ drop c.loop-index.index roles = drop_more roles i 0 (omega arith) ∙ ap (λ j. t ∷ drop j roles) next in
+    subst (λ ts. IsCoverOf order (signals_kept plan p row ts) c.loop-index.cover) (sym front)
+    (signal_without order plan p t (drop c.loop-index.index roles) row c.loop-index.cover c.in_default.ensures c.loop-index.invariant)
 
 pub returns : goal.returns
 returns c =
