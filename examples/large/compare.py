@@ -198,11 +198,16 @@ def without_covers(count):
 def limits():
     """Scripts at a limit and past it, with the status and the text of `check`."""
     middle = own_bound(256) + 256 * own_bound(0)
-    past_places, deep = places(256), levels(8, 32)
+    past_places, deep, nine = places(256), levels(8, 32), levels(9, 1)
+    everybody = [f"participant p{n}" for n in range(64)]
     return [
         ("65,536 places", places(255), 0, f"ok participants 1 objects 0 places 65536 bound {own_bound(255) + 255 * middle}\n"),
         ("one use more", past_places, 4, f"refused {len(past_places)} 19 limit\n"),
         ("32 uses at each of eight levels", deep, 4, f"refused {len(deep)} 19 limit\n"),
+        ("eight levels", levels(8, 1), 0, f"ok participants 1 objects 0 places 8 bound {own_bound(0) + 7 * own_bound(1)}\n"),
+        ("nine levels", nine, 4, f"refused {nine.index('nest n0 a8 r') + 1} 18 too-deep\n"),
+        ("64 participants", everybody, 0, "ok participants 64 objects 0 places 0 bound 0\n"),
+        ("one participant more", everybody + ["participant q"], 4, "refused 65 19 limit\n"),
         ("a bound of 999,908", works(3731), 0, f"ok participants 1 objects 0 places 3731 bound {3731 * own_bound(256)}\n"),
         ("one play more", works(3732), 4, f"refused {len(works(3732))} 20 journal-bound\n"),
         ("a graph of 64 without covers", without_covers(63), 0, "ok participants 0 objects 0 places 0 bound 0\n"),
@@ -210,6 +215,35 @@ def limits():
         ("a graph of 128", exceptions(127), 0, "ok participants 0 objects 0 places 0 bound 0\n"),
         ("one exception more", exceptions(128), 4, "refused 129 19 limit\n"),
     ]
+
+
+# ---- graphs of many sizes
+
+SIZES = (8, 9, 16, 17, 32, 33, 64, 65, 128)
+
+
+def duo(size):
+    """A graph of so many exceptions, `universal` among them: below `top` a chain, and beside it a pair with a cover of its own. Two
+    roles raise the pair."""
+    chain = ["top"] + [f"link{n}" for n in range(size - 5)]
+    covers = [*zip(chain, chain[1:]), ("top", "both"), ("both", "left"), ("both", "right")]
+    graph = [f"exception {name}" for name in chain + ["both", "left", "right"]] + [f"cover {a} {b}" for a, b in covers]
+    roles = [line for name in ("left", "right") for line in (f"body {name}", f"raise {name}", f"handler {name} both")]
+    return [f"graph g{size}", *graph, "end", f"action a{size}", f"internal g{size}", "roles left right", *roles, "end"]
+
+
+def graphs_of_many_sizes(program):
+    """Whoever resolves a place resolves it to the cover of the pair, and not to `top`."""
+    script = ["participant ann", "participant bob"] + [line for size in SIZES for line in duo(size)]
+    script += [f"play a{size} ann bob" for size in SIZES]
+    for seed in ("1", "2", "3"):
+        played = subprocess.run([program, "sim", seed], input=lines(script).encode(), stdout=subprocess.PIPE)
+        resolved = [line.split() for line in played.stdout.decode().splitlines() if line.startswith("resolve ")]
+        found = [(int(place), exception) for _, place, _, exception in resolved]
+        right = played.returncode == 0 and found == [(place, "both") for place in range(len(SIZES))]
+        print(f"sim {seed} over graphs of {SIZES}: {'as wanted' if right else f'status {played.returncode}, {found}'}")
+        if not right:
+            wrong.append("graphs of many sizes")
 
 
 # ---- the production cell
@@ -274,7 +308,79 @@ def refusals():
         (["participant ann", "action w", "end"], "refused 3 14 role-unfilled\n"),
         (rivals, "refused 13 13 no-least a b\n"),
         (["graph f", "exception a", "end", "graph g", "exception a", "cover a universal", "end"], "refused 7 12 cycle universal\n"),
+        (ring_and_rivals(), "refused 14 12 cycle e\n"),
+        (["graph g", "exception e", "end", "action a", "internal g", "roles r", "handler r e", "done", "handler r e", "end"], "refused 9 11 twice\n"),
+        (["action a", "roles r", "end", "action b", "roles r", "nest n a r r", "end"], "refused 6 14 role-unfilled\n"),
+        (["action a", "roles r", "end", "action b", "roles r", "nest n a r", "end"], "refused 7 16 nest-order\n"),
+        (["object x 1", "action a", "roles r", "body r", "read x", "use x", "end"], "refused 5 17 object-not-held\n"),
     ]
+
+
+def ring_and_rivals():
+    """A graph of which two exceptions have no least cover, and in which two others stand above one another."""
+    covers = [("c", "a"), ("c", "b"), ("d", "a"), ("d", "b"), ("f", "e"), ("e", "f")]
+    return ["graph g"] + [f"exception {name}" for name in "cdabef"] + [f"cover {a} {b}" for a, b in covers] + ["end"]
+
+
+# Texts with a line that can't be read, the number of that line, and what it is refused for.
+UNREADABLE = [
+    # words that begin no line of their block, and lines with too many or too few words
+    (b"action w\nenter a\nend\n", 2, "1 bad-line"),
+    (b"action w\nhandler a e\nenter n\n", 3, "1 bad-line"),
+    (b"cover a b\n", 1, "1 bad-line"),
+    (b"end\n", 1, "1 bad-line"),
+    (b"Object x 5\n", 1, "1 bad-line"),
+    (b"participant\n", 1, "1 bad-line"),
+    (b"participant ann bob\n", 1, "1 bad-line"),
+    (b"play w\n", 1, "1 bad-line"),
+    (b"action w\nnest n w\n", 2, "1 bad-line"),
+    (b"action w\nabort a below 5\n", 2, "1 bad-line"),
+    # a word that should be a test, or a name, and is none
+    (b"action w\nbody a\ncheck under x 2\n", 3, "1 bad-line"),
+    (b"action w\nbody 1\ncheck under x 2\n", 2, "3 bad-name"),
+    # bytes that no line may have
+    (b"object x 5\nobject y\x7f 5\n", 2, "1 bad-line"),
+    (b"participant a\x80\n", 1, "1 bad-line"),
+    (b"participant 9a \x00\n", 1, "1 bad-line"),
+    # numbers that are none, and numbers out of range
+    (b"object x -1000000000001\n", 1, "2 bad-number"),
+    (b"object x -0\n", 1, "2 bad-number"),
+    (b"object x 05\n", 1, "2 bad-number"),
+    (b"object x +5\n", 1, "2 bad-number"),
+    (b"object x -\n", 1, "2 bad-number"),
+    (b"object x 18446744073709551616\n", 1, "2 bad-number"),
+    (b"drill x 0\n", 1, "2 bad-number"),
+    (b"drill x 1000001\n", 1, "2 bad-number"),
+    (b"action w\nbody a\nwork -1\n", 3, "2 bad-number"),
+    (b"action w\nbody a\nwork 1000001\n", 3, "2 bad-number"),
+    (b"action w\nabort a below x 9\n", 2, "2 bad-number"),
+    # names that are none, and the leftmost of two words that don't fit
+    (b"participant _a\n", 1, "3 bad-name"),
+    (b"participant a.b\n", 1, "3 bad-name"),
+    (b"participant a23456789012345678901234567890123\n", 1, "3 bad-name"),
+    (b"object 9 9a\n", 1, "3 bad-name"),
+    (b"object x 9a\nobject 9a 5\n", 1, "2 bad-number"),
+    # texts that end inside a block
+    (b"graph g\n", 2, "1 bad-line"),
+    (b"graph g\nexception e\n", 3, "1 bad-line"),
+    (b"action w\nroles a\n", 3, "1 bad-line"),
+    (b"action w\nroles a\nbody a\n", 4, "1 bad-line"),
+    (b"action w\nroles a\nbody a\nend\nplay w ann\naction v", 7, "1 bad-line"),
+    # too many bytes in a line, be it a comment or blanks, and in a script
+    (b"object x 5\n#" + b"c" * 16_384, 2, "4 too-long"),
+    (b"object x 5" + b" " * 16_375, 1, "4 too-long"),
+    (b"\n" * 1_048_577, 0, "4 too-long"),
+]
+
+# Texts that are read, and how many participants and objects they have.
+READABLE = [
+    (b"", 0, 0),
+    (b"# c\n participant\tann\r\n\nobject x 5", 1, 1),
+    (b"#\x00\x80\xff\n \t\r\n\n  # \x7f\nobject x 5\n", 0, 1),
+    (b"# " + b"c" * 16_382, 0, 0),
+    (b"object x 5" + b" " * 16_374, 0, 1),
+    (b"\n" * 1_048_576, 0, 0),
+]
 
 
 # ---- comparing
@@ -324,6 +430,11 @@ def words_and_refusals(program):
     for script, line in refusals():
         compare(f"check: {line.strip()}", program, ["check"], 4, line, input=lines(script).encode())
         compare(f"audit: {line.strip()}", program, ["audit"], 4, line, input=(lines(script) + "journal\n").encode())
+    for text, line, cause in UNREADABLE:
+        compare(f"check: {text[:50]}, refused at {line}", program, ["check"], 4, f"refused {line} {cause}\n", input=text)
+    for text, participants, objects in READABLE:
+        counts = f"ok participants {participants} objects {objects} places 0 bound 0\n"
+        compare(f"check: {text[:50]}, read", program, ["check"], 0, counts, input=text)
 
 
 def cells(program):
@@ -403,6 +514,7 @@ def statuses(program):
 
 large_inputs(sys.argv[1])
 scripts_at_limits(sys.argv[1])
+graphs_of_many_sizes(sys.argv[1])
 long_shifts(sys.argv[1])
 words_and_refusals(sys.argv[1])
 cells(sys.argv[1])

@@ -1,11 +1,12 @@
-//! The tests of entries, names, the outside, tables of least covers, graphs and agreement by messages, over public calls.
+//! The tests of sources and sinks that fail, of the texts of errors, and of agreement by messages over a network that loses them, over
+//! public calls.
 #![tactic(auto)]
 
 #[cfg(test)]
-mod base;
+mod errors;
 #[cfg(test)]
-mod covers;
+mod network;
 #[cfg(test)]
-mod graphs;
+mod reading;
 #[cfg(test)]
-mod messages;
+mod standard;

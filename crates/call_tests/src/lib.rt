@@ -1,18 +1,10 @@
-//! The tests of whole calls, over public calls: machines that are driven in threads and by pools of workers, the relay through which
-//! seats travel to them, a graph of sets, and the top calls of the program.
+//! The tests of the top calls of the program: plays in threads of their own and in pools, over a gate that sees who works, and sources
+//! and sinks that fail.
 #![tactic(auto)]
 
 #[cfg(test)]
 mod calls;
 #[cfg(test)]
-mod driving;
-#[cfg(test)]
-mod machines;
-#[cfg(test)]
 mod pools;
 #[cfg(test)]
-mod relays;
-#[cfg(test)]
 mod top_calls;
-#[cfg(test)]
-mod unions;

@@ -28,18 +28,6 @@ fn sim<S: Source, K: Sink>(
     Ok(top_quiet(alloc, words.as_slice(), source, sink, plant))
 }
 
-#[test]
-fn a_plant_that_refuses_is_told(rt: HostRuntime) -> Result<(), Fail> {
-    let alloc = rt.alloc();
-    let mut source = MemSource::new(alloc, SCRIPT, &[])?;
-    let mut sink = MemSink::new(alloc, 1000, &[])?;
-    let ended = sim(alloc, &mut source, &mut sink, MemPlant::new(true))?;
-    assert_eq!(rt; ended.status, Status::PlantFault);
-    assert!(rt; ended.journal.is_empty());
-    assert_eq!(rt; sink.bytes(), b"fault plant\n".as_slice());
-    Ok(())
-}
-
 /// Of a source that gives a byte at a time, the read with this number fails.
 fn source_fails_at(rt: &impl Abort, alloc: Global, failing: u64) -> Result<(), Fail> {
     let mut source = OneByteSource::new(alloc, SCRIPT, &[failing])?;

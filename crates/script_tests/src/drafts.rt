@@ -1,3 +1,0 @@
-mod chains;
-mod plans;
-mod uses;

@@ -1,0 +1,202 @@
+//! Machines that are played to their end, and what seats and observers of one manager are told.
+
+ghost use Rattle.std.specs.Prelude.{◌≡◌, [], All, IfOk};
+ghost use Rattle.place_plan.specs.Plans.Places.{initials_of};
+ghost use Rattle.action_manager.specs.Managers.{IsSeatIn, book_in};
+
+use crate::machines::hall;
+use action_manager::{Closed, Manager, ManagerError, Opened, Seat};
+use caa_base::outside::gate::{EmptyGate, Gate};
+use caa_base::written::entry::{Exception, Kind, Participant, Place};
+use place_plan::rules::machine::{Answer, Machine};
+use role_driver::finish::finish;
+use role_driver::go_on;
+use shared_views::{Observer, Reading};
+use std::alloc::Global;
+use std::process::Abort;
+use std::sync::Wait;
+use std::sync::atomic::{AtomicU64, Ordering};
+use std::test::Fail;
+
+/// Ann reads x, and bob works for two rounds, which is one play of ten entries.
+const LOOK: &[u8] =
+    b"participant ann\nparticipant bob\nobject x 5\naction look\nuse x\nroles a b\nbody a\nread x\nbody b\nwork 2\nend\nplay look ann bob\n";
+
+/// Ann adds 1 to x, which is 0 at first, and in a play of his own bob does so too.
+const TWO_PLAYS: &[u8] =
+    b"participant ann\nparticipant bob\nobject x 0\naction w\nuse x\nroles r\nbody r\nread x\nadd x 1\nend\nplay w ann\nplay w bob\n";
+
+/// Ann raises `left`, and bob `right`. Both stand below `mid`, for which both have a handler.
+const TWO_SIBLINGS: &[u8] =
+    b"participant ann\nparticipant bob\ngraph g\nexception mid\nexception left\nexception right\ncover mid left\ncover mid right\nend\naction duo\ninternal g\nroles a b\nbody a\nraise left\nhandler a mid\nbody b\nraise right\nhandler b mid\nend\nplay duo ann bob\n";
+
+/// The number of `mid`.
+const MID: Exception = 1;
+
+/// A gate that counts the calls for the participant 1 in the place 0, and all others as 1,000 each.
+#[derive(Drop)]
+struct Count {
+    calls: AtomicU64,
+}
+
+impl Gate for Count {
+    fn work(&self, by: Participant, place: Place) {
+        let call = if by == 1 && place == 0 { 1 } else { 1000 };
+        self.calls.fetch_add(call, Ordering::SeqCst);
+    }
+}
+
+#[test]
+fn finish_calls_the_gate(rt: HostRuntime) -> Result<(), Fail> {
+    let gate = Count {
+        calls: AtomicU64::new(0),
+    };
+    let machine = finish(hall(rt.alloc(), LOOK)?, &gate);
+    assert!(rt; machine.complete());
+    assert_eq!(rt; machine.journal_len(), 10);
+    assert_eq!(rt; gate.calls.load(Ordering::SeqCst), 1);
+    Ok(())
+}
+
+/// A manager of a machine that has no entry yet, with its seats and with one observer.
+fn opened<M: Machine + Drop, R: Wait + Abort>(
+    rt: &R,
+    alloc: Global,
+    machine: M,
+) -> Result<(Manager<M>, Vec<Seat<M>>, Observer), Fail>
+    requires none { M.journal_of machine ≡ [] }
+    ensures seats { IfOk result (λ o. All (λ s. IsSeatIn M.base_of o.0 s) o.1.items) }
+    ensures initials { IfOk result (λ o. o.2.initials ≡ initials_of (M.plan_of machine)) }
+    ensures ours { IfOk result (λ o. o.2.known.book ≡ book_in o.0) }
+{
+    match Manager::open(rt, alloc, machine, 1) {
+        Ok(
+            Opened {
+                manager,
+                seats,
+                mut observers,
+            },
+        ) => match observers.pop() {
+            Some(observer) => Ok((manager, seats, observer)),
+            None => panic!(rt; "no observer"),
+        },
+        Err(ManagerError { machine: _ }) => Err(Fail::from("no memory")),
+    }
+}
+
+/// What a manager gives back that is closed with all its seats.
+fn closed<M: Machine, R: Abort>(rt: &R, manager: Manager<M>, seats: Vec<Seat<M>>) -> Closed<M>
+    requires opened { All (λ s. IsSeatIn M.base_of manager s) seats.items }
+    ensures ours { result.writer.publications.book ≡ book_in manager }
+{
+    match manager.close(seats) {
+        Ok(closed) => closed,
+        Err(_missing) => panic!(rt; "a seat is missing"),
+    }
+}
+
+/// One turn of each seat, with its mixing work.
+fn go_round<M: Machine, R: Wait>(rt: &R, manager: &Manager<M>, seats: &mut Vec<Seat<M>>)
+    requires { All (λ s. IsSeatIn M.base_of manager.now s) seats.old.items }
+    ensures { All (λ s. IsSeatIn M.base_of manager.now s) seats.new.items }
+{
+    for index in 0..seats.len() {
+        go_on(rt, manager, &mut seats[index], &EmptyGate);
+    }
+}
+
+/// So many rounds.
+fn go_rounds<M: Machine, R: Wait>(
+    rt: &R,
+    manager: &Manager<M>,
+    seats: &mut Vec<Seat<M>>,
+    count: u32,
+)
+    requires { All (λ s. IsSeatIn M.base_of manager.now s) seats.old.items }
+    ensures { All (λ s. IsSeatIn M.base_of manager.now s) seats.new.items }
+{
+    for _ in 0..count {
+        go_round(rt, manager, seats);
+    }
+}
+
+#[test]
+fn observer_reads_plays(rt: HostRuntime) -> Result<(), Fail> {
+    let hall = hall(rt.alloc(), TWO_PLAYS)?;
+    assert_eq!(rt; hall.plan().objects(), 1);
+    let (manager, mut seats, mut observer) = opened(&rt, rt.alloc(), hall)?;
+    assert_eq!(rt; observer.read(0), Ok(Reading { ends: 0, value: 0 }));
+    go_rounds(&rt, &manager, &mut seats, 20);
+    let Closed {
+        machine,
+        mut writer,
+        stale,
+    } = closed(&rt, manager, seats);
+    observer.learn(writer.tell());
+    let last = observer.read(0);
+    writer.end(&rt);
+    assert!(rt; machine.complete() && !stale);
+    assert_eq!(rt; last, Ok(Reading { ends: 2, value: 2 }));
+    Ok(())
+}
+
+/// The kind of the entry that a turn made, if it made one, and the exception that the note of this turn gives, if there is one.
+type TurnNote = Option<(Kind, Option<Exception>)>;
+
+/// One turn of a seat, and what is noted of it.
+fn noted<M: Machine, R: Wait>(rt: &R, manager: &Manager<M>, seat: &mut Seat<M>) -> TurnNote
+    requires { IsSeatIn M.base_of manager.now seat.old }
+    ensures { IsSeatIn M.base_of manager.now seat.new }
+{
+    let Answer::Did(entry) = manager.step(rt, seat, None) else {
+        return None;
+    };
+    let known = match seat.take_note() {
+        Ok(mut note) => manager.cells().resolved(&mut note),
+        Err(_) => None,
+    };
+    Some((entry.kind, known))
+}
+
+/// The same for the seat at this index; nothing where there is none.
+fn noted_at<M: Machine, R: Wait>(
+    rt: &R,
+    manager: &Manager<M>,
+    seats: &mut Vec<Seat<M>>,
+    index: usize,
+) -> TurnNote
+    requires { All (λ s. IsSeatIn M.base_of manager.now s) seats.old.items }
+    ensures { All (λ s. IsSeatIn M.base_of manager.now s) seats.new.items }
+{
+    if index < seats.len() {
+        noted(rt, manager, &mut seats[index])
+    } else {
+        None
+    }
+}
+
+#[test]
+fn notes_handed_out(rt: HostRuntime) -> Result<(), Fail> {
+    let hall = hall(rt.alloc(), TWO_SIBLINGS)?;
+    let (manager, mut seats, _observer) = opened(&rt, rt.alloc(), hall)?;
+    for (index, kind, exception) in [
+        (0, Kind::Arrive, None),
+        (1, Kind::Arrive, None),
+        (1, Kind::Start, None),
+        (1, Kind::Raise, None),
+        (0, Kind::Raise, None),
+        (1, Kind::Resolve, Some(MID)),
+        (0, Kind::Handle, Some(MID)),
+        (1, Kind::Handle, Some(MID)),
+    ] {
+        let noted = noted_at(&rt, &manager, &mut seats, index);
+        assert_eq!(rt; noted, Some((kind, exception)));
+    }
+    let Closed {
+        machine: _,
+        writer,
+        stale: _,
+    } = closed(&rt, manager, seats);
+    writer.end(&rt);
+    Ok(())
+}
