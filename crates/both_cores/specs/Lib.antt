@@ -1,1 +1,1 @@
-pub mod Compared
+pub mod Parting

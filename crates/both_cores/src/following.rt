@@ -14,9 +14,18 @@ use place_plan::plans::plan::Plan;
 use place_plan::rules::machine::{Answer, Machine};
 use std::alloc::Global;
 
+/// Where a machine strays from a journal.
+#[derive(Clone, Copy)]
+pub struct Stray {
+    /// How many entries it makes as the journal has them.
+    pub entry: u64,
+    /// What it answers where the next one should come; or nothing, where the journal ends there and somebody isn't over.
+    pub answer: Option<Answer>,
+}
+
 /// The journal whose text these bytes are; what was seen beside it is left out. A plan whose names don't tell its parts apart is
 /// refused, since it has no texts that can be read; that of a script always has such names.
-fn journal_in(alloc: Global, plan: &Plan, text: &[u8]) -> Result<Journal, Status>
+pub fn journal_in(alloc: Global, plan: &Plan, text: &[u8]) -> Result<Journal, Status>
     ensures { IfOk result (λ journal. AllWellFormed plan.now journal.entries) }
 {
     if !is_well_named(plan) {
@@ -41,39 +50,40 @@ fn answer_to<M: Machine>(machine: &mut M, by: Participant) -> Answer
     }
 }
 
-/// Whether a machine, asked for the entry of its maker, makes just this one.
-fn makes<M: Machine>(machine: &mut M, entry: &Entry) -> bool
+/// What a machine answers in place of this entry, as its maker is asked for it; nothing where it makes just this one.
+fn other_answer<M: Machine>(machine: &mut M, entry: &Entry) -> Option<Answer>
     requires { IsWellFormed (M.plan_of machine.old) entry.now }
     ensures { M.plan_of machine.new ≡ M.plan_of machine.old }
 {
-    answer_to(machine, entry.by) == Answer::Did(*entry)
+    let answer = answer_to(machine, entry.by);
+    if answer == Answer::Did(*entry) {
+        None
+    } else {
+        Some(answer)
+    }
 }
 
-/// The index of the first of these entries that a machine doesn't make, asked for them in order; or their number, where it makes
-/// all and somebody isn't over.
-fn first_strange<M: Machine>(machine: &mut M, entries: &[Entry]) -> Option<u64>
+/// Where a machine strays from these entries, asked for them in order: at the first that it doesn't make, or behind the last one,
+/// where somebody isn't over then. It strays nowhere where the journal is legal and complete, and the device answers as it says.
+pub fn first_stray<M: Machine>(machine: &mut M, entries: &[Entry]) -> Option<Stray>
     requires { AllWellFormed (M.plan_of machine.old) entries.now }
+    ensures { M.plan_of machine.new ≡ M.plan_of machine.old }
 {
     for (index, entry) in entries.iter().enumerate() {
-        if !makes(machine, entry) {
-            return Some(index as u64);
+        let answer = other_answer(machine, entry);
+        if answer.is_some() {
+            return Some(Stray {
+                entry: index as u64,
+                answer,
+            });
         }
     }
     if machine.complete() {
         None
     } else {
-        Some(entries.len() as u64)
+        Some(Stray {
+            entry: entries.len() as u64,
+            answer: None,
+        })
     }
-}
-
-/// Where a machine strays from the journal whose text these bytes are: at the first entry that it doesn't make, or behind the last
-/// one, where somebody isn't over then. It strays nowhere where the journal is legal and complete, and the device answers as it
-/// says.
-pub fn follow<M: Machine>(
-    alloc: Global,
-    machine: &mut M,
-    text: &[u8],
-) -> Result<Option<u64>, Status> {
-    let journal = journal_in(alloc, machine.plan(), text)?;
-    Ok(first_strange(machine, journal.as_slice()))
 }
