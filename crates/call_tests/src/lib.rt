@@ -13,6 +13,8 @@ mod pools;
 #[cfg(test)]
 mod relays;
 #[cfg(test)]
+mod sleepers;
+#[cfg(test)]
 mod top_calls;
 #[cfg(test)]
 mod unions;
