@@ -1,4 +1,4 @@
-use Rattle.std.proofs.Common.{◌≡◌, ◌∙◌, sym, subst, None}
+use Rattle.std.proofs.Common.{◌∙◌, sym, subst, None}
 use Rattle.place_plan.specs.Plans.PlanValue.{Plan}
 use Rattle.place_plan.specs.RulesOfJournals.Machine.{Answers}
 use Rattle.action_manager.proofs.Answering.{ended_there, went_on}

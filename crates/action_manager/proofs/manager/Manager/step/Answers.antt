@@ -1,9 +1,8 @@
-use Rattle.std.proofs.Common.{rules, ◌<◌, ◌≤◌, ◌+◌, ◌^◌, ℕ, ◌∙◌, ◌≡◌, ap, sym, subst, arith, length, reverse}
+use Rattle.std.proofs.Common.{rules, ◌<◌, ◌^◌, ℕ, ◌∙◌, ◌≡◌, ap, sym, subst, arith, length, reverse}
 use Rattle.action_manager.specs.OwnEntries.{Journal, Grows, entries_by}
 use Rattle.place_plan.specs.Plans.PlanValue.{Plan}
 use Rattle.place_plan.specs.RulesOfJournals.Journals.{LegalPast}
 use Rattle.action_manager.specs.Stepping.{AnswersTurn, GrowsWithout, Steps}
-use Rattle.action_manager.specs.Seats.{seen_by}
 use Rattle.action_manager.proofs.Answering.{few_own, turn_grows, turn_lengthens, turn_makes}
 use Rattle.action_manager.proofs.manager.Manager.step.Goals as goal
 
