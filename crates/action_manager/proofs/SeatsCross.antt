@@ -18,7 +18,7 @@ use Rattle.action_manager.specs.contracts.housed.HousedHome.TheImpl as home
 use Rattle.action_manager.specs.contracts.seat.Seat as seat
 use Rattle.action_manager.specs.contracts.lock_view.View as view
 use Rattle.action_manager.specs.contracts.manager.Manager as manager
-use Rattle.action_manager.proofs.handed.Handed.TheSendSync as handed_crosses
+use Rattle.action_manager.proofs.door.Door.TheSendSync as door_crosses
 use Rattle.action_manager.proofs.lock.Lock.TheSendSync as lock_crosses
 
 publishing_send : IsSend (Struct (shape publishing.the_type))
@@ -44,11 +44,11 @@ module _ (M : RattleType) (s : IsSend M) where
   pub manager_sync : (g : machine.Ghosts M.Denot) → IsSync (Struct (shape (manager.the_type M g)))
   manager_sync g = struct_sync (shape (manager.the_type M g)) (
     lock_crosses.the_field_sync (housed.the_row M) (home.ghosts M g home.no_dict) housed_row_send,
-    (search sendable, (cells_cross.the_sync, (handed_crosses.the_field_sync, tt))),
+    (search sendable, (cells_cross.the_sync, (door_crosses.the_field_sync, tt))),
   )
 
   pub manager_send : (g : machine.Ghosts M.Denot) → IsSend (Struct (shape (manager.the_type M g)))
   manager_send g = struct_send (shape (manager.the_type M g)) (
     lock_crosses.the_field_send (housed.the_row M) (home.ghosts M g home.no_dict) housed_row_send,
-    (search sendable, (cells_cross.the_send, (handed_crosses.the_field_send, tt))),
+    (search sendable, (cells_cross.the_send, (door_crosses.the_field_send, tt))),
   )

@@ -1,13 +1,16 @@
 -- What a seat's turns tell its owner.
-use Rattle.std.specs.Prelude.{◌≡◌, ℕ, true, false, List, [], Option}
+use Rattle.std.specs.Prelude.{◌≡◌, ℕ, Bool, true, false, List, [], Option, None}
 use mathlib.Core.List.{IsPrefix}
 use Rattle.atomic_table.specs.Table.{Me}
 use Rattle.caa_base.specs.Written.Mixing.{Worked}
+use Rattle.caa_base.specs.declared.written.entry.Kind.TheVariants as kind
 use Rattle.logbook.specs.Pages.{Book}
 use Rattle.place_plan.specs.Plans.PlanValue.{Plan}
 use Rattle.place_plan.specs.RulesOfJournals.Journals.{IsLegal}
 use Rattle.place_plan.specs.RulesOfJournals.Machine.{Answers}
+use Rattle.place_plan.specs.RulesOfJournals.Entries.{is_of}
 use Rattle.place_plan.specs.declared.rules.machine.Answer.{Answer}
+use Rattle.place_plan.specs.declared.rules.machine.Answer.TheVariants as answer
 use Rattle.place_plan.specs.declared.rules.machine.Base.{Base}
 use Rattle.action_manager.specs.declared.lock_view.Terms.{Terms}
 use Rattle.action_manager.specs.declared.lock_view.View.{View}
@@ -43,13 +46,32 @@ pub record GrowsWithout (old new : Journal) (t : ℕ) : Type 0 where
   pub begins : IsPrefix old new
   pub alone : entries_by t new ≡ entries_by t old
 
--- what a step of t answers, with what its seat had seen and has seen: the answer is that of the machine on a journal that begins
--- with what was seen and has no further entry of t, and what is seen now is the journal that the machine then left
+-- the answer is the entry of a work
+abbrev pub did_work : Answer → Bool
+did_work (answer.Did e) = is_of kind.Work e
+did_work _ = false
+
+-- what comes after a first answer in the same turn of t: where a work was entered, the machine's next answer, without further work
+-- that is brought; else nothing
+abbrev pub AnswersOn : Plan → Journal → Journal → ℕ → Answer → Answer → Bool → Type 0
+AnswersOn plan mid new t first answer true = Answers plan mid new t None answer
+AnswersOn plan mid new t first answer false = (new ≡ mid) × (answer ≡ first)
+
+-- what a turn of t answers on the journal `old`, and the journal that it leaves: the entry of the work that it brings, if that may
+-- come, and then the machine's answer
+pub record AnswersTurn (plan : Plan) (old new : Journal) (t : ℕ) (hint : Option Worked) (answer : Answer) : Type 0 where
+  pub first : Answer
+  pub mid : Journal
+  pub answers : Answers plan old mid t hint first
+  pub further : AnswersOn plan mid new t first answer (did_work first)
+
+-- what a step of t answers, with what its seat had seen and has seen: the answer is that of a turn on a journal that begins with
+-- what was seen and has no further entry of t, and what is seen now is the journal that the turn left
 pub record Steps (plan : Plan) (old new : Journal) (t : ℕ) (hint : Option Worked) (answer : Answer) : Type 0 where
   pub before : Journal
   pub grown : GrowsWithout old before t
   pub legal_before : IsLegal plan before
-  pub answers : Answers plan before new t hint answer
+  pub turn : AnswersTurn plan before new t hint answer
   pub legal : IsLegal plan new
 
 -- a turn of t that makes no entry: a legal journal was seen, which begins with what had been seen

@@ -1,11 +1,14 @@
 ghost use Rattle.std.specs.Prelude.{◌≡◌, ◌<◌, length};
 ghost use Rattle.place_plan.specs.RulesOfJournals.Machine.{Answers};
 ghost use Rattle.shared_views.specs.Telling.{cells_of};
+ghost use Rattle.action_manager.specs.Stepping.{did_work, AnswersTurn};
 
 use crate::home::Home;
 use crate::publishing::Publishing;
-use caa_base::written::entry::Participant;
+use crate::sleepers::unwoken;
+use caa_base::written::entry::{Kind, Participant};
 use caa_base::written::work::WorkDone;
+use core_words::crew::{Crew, with};
 use journal_laws::is_well_formed;
 use place_plan::rules::machine::{Answer, Machine};
 use shared_views::{Announcement, Bulletin, CommittedWriter, ResolutionCells};
@@ -79,5 +82,60 @@ impl<M: Machine> Housed<M> {
             _ => Announcement::Nothing,
         };
         (answer, told)
+    }
+
+    /// One turn of a participant: its next entry, and where that is the work that it brings, the one after it in the same turn.
+    pub fn turn<R: Wait>(
+        &mut self,
+        rt: &R,
+        cells: &ResolutionCells,
+        by: Participant,
+        hint: Option<WorkDone>,
+    ) -> (Answer, Announcement)
+        requires who { by < length (M.plan_of self.old.machine).participants }
+        requires ours { cells_of self.old.bulletin ≡ cells.now }
+        requires kept { IsKept M.plan_of M.journal_of self.old }
+        ensures plan { M.plan_of self.new.machine ≡ M.plan_of self.old.machine }
+        ensures base { M.base_of self.new.machine ≡ M.base_of self.old.machine }
+        ensures cells { cells_of self.new.bulletin ≡ cells_of self.old.bulletin }
+        ensures book { book_of self.new.publishing ≡ book_of self.old.publishing }
+        ensures kept { IsKept M.plan_of M.journal_of self.new }
+        ensures answer { AnswersTurn (M.plan_of self.old.machine) (M.journal_of self.old.machine) (M.journal_of self.new.machine)
+            by hint result.0 }
+        ensures told { TellsAfter cells.now result.0 result.1 }
+    {
+        let (first, told) = self.next(rt, cells, by, hint);
+        if is_work(first) {
+            self.next(rt, cells, by, None)
+        } else {
+            (first, told)
+        }
+    }
+}
+
+impl<M: Machine> Housed<M> {
+    /// Who of a crew sleeps on after an answer to a participant: all whom its entry doesn't wake, and it, where it has none now.
+    pub fn asleep_after(&self, by: Participant, answer: Answer, asleep: Crew) -> Crew
+        requires { by < length (M.plan_of self.now.machine).participants }
+    {
+        self.machine.plan().is_closed();
+        match answer {
+            Answer::Did(entry) => unwoken(self.machine.plan(), &entry, asleep),
+            Answer::NotYet => with(asleep, by),
+            Answer::Work { .. } | Answer::Over => asleep,
+        }
+    }
+}
+
+/// Whether an answer is the entry of a work.
+fn is_work(answer: Answer) -> bool
+    ensures { result ≡ did_work answer }
+{
+    match answer {
+        Answer::Did(entry) => match entry.kind {
+            Kind::Work => true,
+            _ => false,
+        },
+        _ => false,
     }
 }

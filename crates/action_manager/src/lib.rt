@@ -2,7 +2,7 @@
 #![tactic(auto)]
 
 mod crossing;
-mod handed;
+mod door;
 mod home;
 mod housed;
 mod lock;
@@ -11,9 +11,11 @@ mod manager;
 mod publishing;
 mod publishing_law;
 mod seat;
+mod sleepers;
 mod turns;
 
 pub use crossing::crosses_threads;
 pub use manager::{Closed, Manager, ManagerError, Opened, StillOut};
 pub use publishing_law::{publishes_committed, readings_are_committed};
 pub use seat::{NoNote, Seat};
+pub use sleepers::unwoken;

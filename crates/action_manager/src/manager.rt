@@ -14,7 +14,7 @@ ghost use Rattle.action_manager.specs.inner.Housed.{IsKept, IsRight};
 ghost use Rattle.action_manager.specs.Tidings.{TellsAfter};
 ghost use Rattle.action_manager.specs.Seats.{IsNewSeat, participant_of, seen_by, told_to, stand, has_seat, HaveAll, IsLeastMissing, Accounts};
 
-use crate::handed::Handed;
+use crate::door::{Door, Sleeper};
 use crate::housed::Housed;
 use crate::lock::Lock;
 use crate::publishing::Publishing;
@@ -34,7 +34,7 @@ pub struct Manager<M: Machine> {
     lock: Lock<Housed<M>>,
     participants: u32,
     cells: ResolutionCells,
-    handed: Handed,
+    door: Door,
     ghost counted: { participants ≡ length (plan_at lock).participants },
     ghost named: { cells ≡ cells_of (home_at lock).bulletin },
 }
@@ -139,6 +139,7 @@ impl<M: Machine> Manager<M> {
         alloc: Global,
         home: Housed<M>,
         cells: ResolutionCells,
+        door: Door,
     ) -> Result<(Manager<M>, Token<Housed<M>>), ManagerError<M>>
         requires cells { cells ≡ cells_of home.bulletin }
         requires kept { IsKept M.plan_of M.journal_of home }
@@ -157,7 +158,7 @@ impl<M: Machine> Manager<M> {
                     lock,
                     participants,
                     cells,
-                    handed: Handed::new(),
+                    door,
                 },
                 making,
             )),
@@ -258,6 +259,9 @@ impl<M: Machine> Manager<M> {
         let Ok((cells, bulletin)) = fresh_cells(alloc, machine.plan()) else {
             return Err(ManagerError { machine });
         };
+        let Ok(door) = Door::new(alloc, participants) else {
+            return Err(ManagerError { machine });
+        };
         let Ok((publishing, observers)) = Publishing::open(rt, alloc, machine.plan(), observers)
         else {
             return Err(ManagerError { machine });
@@ -267,7 +271,7 @@ impl<M: Machine> Manager<M> {
             bulletin,
             publishing,
         };
-        match Manager::set_up(rt, alloc, home, cells) {
+        match Manager::set_up(rt, alloc, home, cells, door) {
             Ok((manager, making)) => {
                 let seats = manager.make_seats(making, room, counts, seen);
                 Ok(Opened {
@@ -287,7 +291,8 @@ impl<M: Machine> Manager<M> {
         &self.cells
     }
 
-    /// One turn of the seat's participant: the machine's answer, on a journal that goes on from what the seat had seen.
+    /// One turn of the seat's participant: the machine's answer, on a journal that goes on from what the seat had seen. Where the
+    /// work that it brings is entered, that is the answer after that entry.
     ///
     /// The seat has then seen the journal that the machine left. After a Resolve or a Handle it has the note of that place, to be
     /// taken. Where the turn ended a play, it also published its values, by the allocator that `open` was given. The entry stands
@@ -299,20 +304,22 @@ impl<M: Machine> Manager<M> {
         ensures turn { Steps (plan_in self.now) (seen_by seat.old) (seen_by seat.new) (participant_of seat.old) hint result }
         ensures told { TellsAfter (cells_in self.now) result (told_to seat.new) }
     {
+        let mut waiting = self.door.enter(rt);
         let (ticket, mut home) = self.lock.begin(rt, &mut seat.token);
-        let (answer, told) = home.next(rt, &self.cells, seat.participant, hint);
+        let was = home.machine.journal_len();
+        let (answer, told) = home.turn(rt, &self.cells, seat.participant, hint);
         let seen = home.machine.journal_len();
+        let asleep = home.asleep_after(seat.participant, answer, waiting.asleep());
         self.lock.hand_on(&mut seat.token, ticket, home);
+        seat.made += seen - was;
         seat.seen = seen;
         seat.told = told;
-        if let Answer::Did(_) = answer {
-            seat.made += 1;
-        }
-        self.handed.tell(rt, seen);
+        self.door.tell(&mut waiting, seen, asleep);
         answer
     }
 
-    /// Brings what the seat has seen up to date, in a turn without an entry, and says whether there was more to see.
+    /// Brings what the seat has seen up to date, in a turn without an entry, and says whether there was more to see. Whoever calls it
+    /// stands in the door.
     fn look<R: Wait>(&self, rt: &R, seat: &mut Seat<M>) -> bool
         requires opened { IsSeatIn M.base_of self.now seat.old }
         ensures opened { IsSeatIn M.base_of self.now seat.new }
@@ -338,6 +345,7 @@ impl<M: Machine> Manager<M> {
         ensures turn { Looks (plan_in self.now) (seen_by seat.old) (seen_by seat.new) (participant_of seat.old) }
         ensures begins { IsPrefix observer.now.known.list (publications_of (plan_in self.now) (reverse (seen_by seat.new))) }
     {
+        let _waiting = self.door.enter(rt);
         let (ticket, mut home) = self.lock.begin(rt, &mut seat.token);
         let seen = home.machine.journal_len();
         home.publishing.covers(observer);
@@ -345,10 +353,8 @@ impl<M: Machine> Manager<M> {
         seat.seen = seen;
     }
 
-    /// Waits until the journal is longer than what the seat has seen, by entries of others alone. Then the seat has seen it.
-    ///
-    /// It need not return.
-    pub fn wait_past<R: Wait>(&self, rt: &R, seat: &mut Seat<M>)
+    /// Sleeps until somebody was woken, and looks, until there is more to see.
+    fn sleep<R: Wait>(&self, rt: &R, seat: &mut Seat<M>, sleeper: Sleeper)
         requires opened { IsSeatIn M.base_of self.now seat.old }
         ensures opened { IsSeatIn M.base_of self.now seat.new }
         ensures same { (participant_of seat.new ≡ participant_of seat.old) × (told_to seat.new ≡ told_to seat.old) }
@@ -356,12 +362,36 @@ impl<M: Machine> Manager<M> {
         ensures longer { length (seen_by seat.old) < length (seen_by seat.new) }
     {
         for _ in rt.forever() {
-            self.handed.wait_past(rt, seat.seen);
+            let _waiting = self.door.enter_woken(rt, sleeper, seat.seen);
             if self.look(rt, seat) {
                 return;
             }
         }
         unreachable!()
+    }
+
+    /// Waits until the journal is longer than what the seat has seen, by entries of others alone. Then the seat has seen it.
+    ///
+    /// It sleeps until one of those entries may give the seat's participant an entry. It need not return.
+    pub fn wait_past<R: Wait>(&self, rt: &R, seat: &mut Seat<M>)
+        requires opened { IsSeatIn M.base_of self.now seat.old }
+        ensures opened { IsSeatIn M.base_of self.now seat.new }
+        ensures same { (participant_of seat.new ≡ participant_of seat.old) × (told_to seat.new ≡ told_to seat.old) }
+        ensures turn { Looks (plan_in self.now) (seen_by seat.old) (seen_by seat.new) (participant_of seat.old) }
+        ensures longer { length (seen_by seat.old) < length (seen_by seat.new) }
+    {
+        self.sleep(rt, seat, Sleeper::Participant(seat.participant));
+    }
+
+    /// The same for whoever takes turns for several seats: it sleeps until an entry may give an entry to anybody who had none.
+    pub fn wait_past_any<R: Wait>(&self, rt: &R, seat: &mut Seat<M>)
+        requires opened { IsSeatIn M.base_of self.now seat.old }
+        ensures opened { IsSeatIn M.base_of self.now seat.new }
+        ensures same { (participant_of seat.new ≡ participant_of seat.old) × (told_to seat.new ≡ told_to seat.old) }
+        ensures turn { Looks (plan_in self.now) (seen_by seat.old) (seen_by seat.new) (participant_of seat.old) }
+        ensures longer { length (seen_by seat.old) < length (seen_by seat.new) }
+    {
+        self.sleep(rt, seat, Sleeper::Worker);
     }
 
     /// The least participant that has no seat in the list.
@@ -437,7 +467,7 @@ impl<M: Machine> Manager<M> {
             lock,
             participants: _,
             cells: _,
-            handed: _,
+            door: _,
         } = self;
         lock.close_with(kept)
     }
@@ -452,7 +482,7 @@ impl<M: Machine> Manager<M> {
             lock,
             participants: _,
             cells: _,
-            handed: _,
+            door: _,
         } = self;
         lock.close()
     }

@@ -7,4 +7,6 @@ mod calls;
 #[cfg(test)]
 mod pools;
 #[cfg(test)]
+mod sleepers;
+#[cfg(test)]
 mod top_calls;

@@ -5,14 +5,14 @@ use Rattle.std.proofs.lemmas.Bool.{eq-eqb, false≢true}
 use Rattle.caa_base.specs.Written.Mixing.{Worked}
 use Rattle.caa_base.specs.declared.written.entry.Entry.{Entry}
 use Rattle.place_plan.specs.Plans.PlanValue.{Plan}
+use Rattle.place_plan.specs.RulesOfJournals.Roles.{is_over, register}
 use Rattle.place_plan.specs.RulesOfJournals.Rules.{MayFollow}
-use Rattle.place_plan.specs.RulesOfJournals.Machine.{Answers, Did, work_entry}
+use Rattle.place_plan.specs.RulesOfJournals.Machine.{Answers, AsksForWork, Did, work_entry}
 use Rattle.place_plan.specs.declared.rules.machine.Answer.{Answer}
 use Rattle.place_plan.specs.declared.rules.machine.Answer.TheVariants as answer
 use Rattle.action_manager.specs.OwnEntries.{Journal, entries_by}
-use Rattle.action_manager.specs.Stepping.{GrowsWithout, Steps}
-use Rattle.role_driver.specs.Working.{asks_for_work, IsTold, IsToldOf, GoesOnWith, TellsWork, TellsOwnWork}
-use Rattle.shared_views.proofs.Beginnings.{begins_further}
+use Rattle.action_manager.specs.Stepping.{GrowsWithout, Steps, did_work, AnswersOn, AnswersTurn}
+use Rattle.role_driver.specs.Working.{asks_for_work, AsksStill, IsTold, IsToldOf, GoesOnWith, TellsWork, TellsOwnWork}
 use Rattle.role_driver.proofs.SameWork.{none_added, work_place, work_stays}
 
 all_both : (P : Entry → Type 0) (xs ys : List Entry) → AllByRecursion P xs → AllByRecursion P ys → AllByRecursion P (xs ++ ys)
@@ -43,6 +43,17 @@ answered P plan old new t hint (answer.Did e) h each = goes_one P old new e h.ad
 answered P plan old new t hint (answer.Work p rounds from) h each = goes_nowhere P old new h.kept
 answered P plan old new t hint answer.NotYet h each = goes_nowhere P old new h.0.kept
 answered P plan old new t hint answer.Over h each = goes_nowhere P old new h.0.kept
+
+-- what a turn adds: the entry of its first answer, and that of what the machine answers then
+pub turned : (P : Entry → Type 0) (plan : Plan) (old new : Journal) (t : ℕ) (hint : Option Worked) (a : Answer)
+    → (h : AnswersTurn plan old new t hint a) → ((e : Entry) → Did plan old h.mid t hint e → P e)
+    → ((e : Entry) → Did plan h.mid new t None e → P e) → GoesOnWith P old new
+turned P plan old new t hint a h one two =
+    goes_further P old h.mid new (answered P plan old h.mid t hint h.first h.answers one) (by (did_work h.first) h.further)
+  where
+    by : (more : Bool) → AnswersOn plan h.mid new t h.first a more → GoesOnWith P h.mid new
+    by true k = answered P plan h.mid new t None a k two
+    by false k = goes_nowhere P h.mid new k.0
 
 -- a journal that stays has no more of anybody
 stays : (old : Journal) (t : ℕ) → GrowsWithout old old t
@@ -81,7 +92,8 @@ module _ (was_told : ℕ → ℕ → Type 0) where
   pub step_told : (plan : Plan) (old new : Journal) (t : ℕ) (a : Answer) → Steps plan old new t None a → TellsOwnWork was_told t old new
   step_told plan old new t a h =
       goes_further (IsToldOf was_told t) old h.before new (others_go_on old h.before t h.grown)
-      (answered (IsToldOf was_told t) plan h.before new t None a h.answers (λ e did own. no_work plan h.before new t e did))
+      (turned (IsToldOf was_told t) plan h.before new t None a h.turn (λ e did own. no_work plan h.before h.turn.mid t e did)
+      (λ e did own. no_work plan h.turn.mid new t e did))
 
   -- where work was asked for, and the gate was told of its place, it was told of the work
   work_is_told : (plan : Plan) (old before new : Journal) (t p k : ℕ) (from : ℤ) (hint : Option Worked)
@@ -99,39 +111,67 @@ module _ (was_told : ℕ → ℕ → Type 0) where
       goes_further (IsTold was_told) old mid new (goes_nowhere (IsTold was_told) old mid first.kept)
       (answered (IsTold was_told) plan mid new t hint a second (work_is_told plan mid mid new t p k from hint asked told (stays mid t)))
 
-  -- a step after which work was asked for, and then one with a hint
-  pub work_told : (plan : Plan) (old mid new : Journal) (t p k : ℕ) (from : ℤ) (hint : Option Worked) (a : Answer)
-      → Steps plan old mid t None (answer.Work p k from) → was_told t p → Steps plan mid new t hint a → TellsOwnWork was_told t old new
-  work_told plan old mid new t p k from hint a first told second =
-      let asked = subst (λ xs. MayFollow plan (reverse xs) (work_entry p t k from)) (sym first.answers.kept) first.answers.may in
-      let mine = work_is_told plan mid second.before new t p k from hint asked told second.grown in
-      let both =
-      goes_further (IsToldOf was_told t) mid second.before new (others_go_on mid second.before t second.grown)
-      (answered (IsToldOf was_told t) plan second.before new t hint a second.answers (λ e did own. mine e did)) in
-      goes_further (IsToldOf was_told t) old mid new (step_told plan old mid t (answer.Work p k from) first) both
+  -- a step that brings the work that was asked for
+  pub work_told : (plan : Plan) (seen new : Journal) (t p k : ℕ) (from : ℤ) (hint : Option Worked) (a : Answer)
+      → AsksForWork plan seen seen t None p k from → was_told t p → Steps plan seen new t hint a → TellsOwnWork was_told t seen new
+  work_told plan seen new t p k from hint a asked told h =
+      let mine = work_is_told plan seen h.before h.turn.mid t p k from hint asked.may told h.grown in
+      goes_further (IsToldOf was_told t) seen h.before new (others_go_on seen h.before t h.grown)
+      (turned (IsToldOf was_told t) plan h.before new t hint a h.turn (λ e did own. mine e did)
+      (λ e did own. no_work plan h.turn.mid new t e did))
 
--- two steps, of which the first made no entry, are one
-grows_further : (old mid new : Journal) (t : ℕ) → GrowsWithout old mid t → GrowsWithout mid new t → GrowsWithout old new t
-grows_further old mid new t h k = record { begins = begins_further old mid new h.begins k.begins; alone = k.alone ∙ h.alone }
-
-pub one_step : (plan : Plan) (old mid new : Journal) (t p k : ℕ) (from : ℤ) (hint : Option Worked) (a : Answer)
-    → Steps plan old mid t None (answer.Work p k from) → Steps plan mid new t hint a → Steps plan old new t hint a
-one_step plan old mid new t p k from hint a first second = record {
-  before = second.before;
-  grown =
-      grows_further old mid second.before t
-      (subst (λ j. GrowsWithout old j t) (sym first.answers.kept) first.grown) second.grown;
-  legal_before = second.legal_before;
-  answers = second.answers;
-  legal = second.legal;
+-- work that is asked for may be asked for again where nothing was brought
+still : (plan : Plan) (old new : Journal) (t p k : ℕ) (from : ℤ) (hint : Option Worked)
+    → AsksForWork plan old new t hint p k from → AsksForWork plan new new t None p k from
+still plan old new t p k from hint h = record {
+  kept = refl;
+  may = subst (λ j. MayFollow plan (reverse j) (work_entry p t k from)) (sym h.kept) h.may;
+  start = h.start ∙ ap (λ j. register plan (reverse j) p t) (sym h.kept);
+  unfit = λ no. no;
 }
 
--- where t was asked for work and did it, it isn't asked again
-pub asked_once : (plan : Plan) (old mid new : Journal) (t p k q j : ℕ) (from begin : ℤ) (work : Worked)
-    → Steps plan old mid t None (answer.Work p k from) → Steps plan mid new t (Some work) (answer.Work q j begin)
-    → work.rounds ≡ k → work.from ≡ from → ⊥
-asked_once plan old mid new t p k q j from begin work first second rounds starts =
-    work_stays plan first.before mid second.before new t p k q j from begin work first.answers second.grown second.answers rounds starts
+-- the work that a step asks for is asked for on the journal that the seat then has seen
+pub asks_still : (plan : Plan) (old new : Journal) (t : ℕ) (hint : Option Worked) (a : Answer)
+    → Steps plan old new t hint a → AsksStill plan new t a
+asks_still plan old new t hint (answer.Did e) h = tt
+asks_still plan old new t hint answer.NotYet h = tt
+asks_still plan old new t hint answer.Over h = tt
+asks_still plan old new t hint (answer.Work q j begin) h = by (did_work h.turn.first) h.turn.further
+  where
+    by : (more : Bool) → AnswersOn plan h.turn.mid new t h.turn.first (answer.Work q j begin) more
+        → AsksForWork plan new new t None q j begin
+    by true k = still plan h.turn.mid new t q j begin None k
+    by false k =
+        let asked : AsksForWork plan h.before h.turn.mid t hint q j begin =
+        subst (λ x. Answers plan h.before h.turn.mid t hint x) (sym k.1) h.turn.answers in
+        subst (λ x. AsksForWork plan x x t None q j begin) (sym k.0) (still plan h.before h.turn.mid t q j begin hint asked)
+
+-- a participant whose step answers that it is over is so in what its seat then has seen
+pub over_seen : (plan : Plan) (old new : Journal) (t : ℕ) (hint : Option Worked) (a : Answer) → a ≡ answer.Over
+    → Steps plan old new t hint a → is_over plan (reverse new) t ≡ true
+over_seen plan old new t hint a is h = by (did_work h.turn.first) h.turn.further
+  where
+    by : (more : Bool) → AnswersOn plan h.turn.mid new t h.turn.first a more → is_over plan (reverse new) t ≡ true
+    by true k =
+        let o : Answers plan h.turn.mid new t None answer.Over = subst (λ x. Answers plan h.turn.mid new t None x) is k in
+        ap (λ j. is_over plan (reverse j) t) o.0.kept ∙ o.1
+    by false k =
+        let o : Answers plan h.before h.turn.mid t hint answer.Over =
+        subst (λ x. Answers plan h.before h.turn.mid t hint x) (sym k.1 ∙ is) h.turn.answers in
+        ap (λ j. is_over plan (reverse j) t) (k.0 ∙ o.0.kept) ∙ o.1
+
+-- where t was asked for work and did it, it isn't asked for it again
+pub not_again : (plan : Plan) (seen new : Journal) (t p k : ℕ) (from : ℤ) (work : Worked) (a : Answer)
+    → AsksForWork plan seen seen t None p k from → work.rounds ≡ k → work.from ≡ from
+    → (h : Steps plan seen new t (Some work) a) → asks_for_work h.turn.first ≡ false
+not_again plan seen new t p k from work a asked rounds starts h = by h.turn.first h.turn.answers
+  where
+    by : (first : Answer) → Answers plan h.before h.turn.mid t (Some work) first → asks_for_work first ≡ false
+    by (answer.Did e) k = refl
+    by (answer.Work q j begin) second =
+        absurd (work_stays plan seen seen h.before h.turn.mid t p k q j from begin work asked h.grown second rounds starts)
+    by answer.NotYet k = refl
+    by answer.Over k = refl
 
 -- an answer that isn't of work asks for none
 pub not_asking : (a : Answer) → ((p k : ℕ) (from : ℤ) → a ≡ answer.Work p k from → ⊥) → asks_for_work a ≡ false

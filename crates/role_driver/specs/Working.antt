@@ -1,10 +1,11 @@
--- What a gate was told of the mixing work in a journal, and a turn that has its work done.
-use Rattle.std.specs.Prelude.{◌≡◌, ℕ, Bool, true, false, List, ◌++◌, Option}
+-- What a gate was told of the mixing work in a journal, and a turn that brings the work that was asked for.
+use Rattle.std.specs.Prelude.{◌≡◌, ℕ, Bool, true, false, List, ◌++◌, Option, None}
 use Rattle.std.specs.List.{AllByRecursion}
 use Rattle.caa_base.specs.Written.Mixing.{Worked}
 use Rattle.caa_base.specs.declared.written.entry.Entry.{Entry}
 use Rattle.caa_base.specs.declared.written.entry.Kind.TheVariants as kind
 use Rattle.place_plan.specs.Plans.PlanValue.{Plan}
+use Rattle.place_plan.specs.RulesOfJournals.Machine.{AsksForWork}
 use Rattle.place_plan.specs.declared.rules.machine.Answer.{Answer}
 use Rattle.place_plan.specs.declared.rules.machine.Answer.TheVariants as answer
 use Rattle.action_manager.specs.Stepping.{Steps}
@@ -36,8 +37,13 @@ abbrev pub asks_for_work : Answer → Bool
 asks_for_work (answer.Work p rounds from) = true
 asks_for_work _ = false
 
--- what a whole turn of t comes to: the answer of a step, and not that there is work, since that was done
-pub record TakesWholeTurn (plan : Plan) (old new : List Entry) (t : ℕ) (answer : Answer) : Type 0 where
+-- where an answer to t asks for work, the machine would ask for it on the journal that was seen
+abbrev pub AsksStill : Plan → List Entry → ℕ → Answer → Type 0
+AsksStill plan seen t (answer.Work p rounds from) = AsksForWork plan seen seen t None p rounds from
+AsksStill plan seen t _ = Unit {0}
+
+-- what a turn of t comes to after an answer: a step, in which the work that was asked for isn't asked for again, since it was done
+pub record TurnsAfter (plan : Plan) (old new : List Entry) (t : ℕ) (asked answer : Answer) : Type 0 where
   pub hint : Option Worked
   pub steps : Steps plan old new t hint answer
-  pub done : asks_for_work answer ≡ false
+  pub done : asks_for_work asked ≡ true → asks_for_work steps.turn.first ≡ false

@@ -10,7 +10,7 @@ ghost use Rattle.action_manager.specs.Seats.{participant_of, seen_by, told_to};
 ghost use Rattle.action_manager.specs.Stepping.{Steps};
 ghost use Rattle.action_manager.specs.Tidings.{TellsAfter};
 ghost use Rattle.role_driver.specs.Handling.{HandsMade, TellsOwnHandlers};
-ghost use Rattle.role_driver.specs.Working.{TakesWholeTurn, TellsOwnWork};
+ghost use Rattle.role_driver.specs.Working.{AsksStill, TurnsAfter, TellsOwnWork};
 
 use crate::handling::HandlerGate;
 use crate::mixing::mix;
@@ -80,35 +80,36 @@ fn step_and_tell<M: Machine, G: HandlerGate, R: Wait>(
     answer
 }
 
-/// One turn of a seat with its mixing work, so it never answers that there is work.
+/// The turn of a seat that comes after an answer. Where work was asked for, it is mixed before the turn, and brought.
 ///
-/// Before the mixing it calls the gate, and after a Handle it tells the gate of the handler that begins.
-pub fn take_whole_turn<M: Machine, G: Gate + HandlerGate, R: Wait>(
+/// Before the mixing it calls the gate, and after a Handle it tells the gate of the handler that begins. After an answer that
+/// doesn't ask for work nothing is mixed: a seat begins with NotYet.
+pub fn turn_after<M: Machine, G: Gate + HandlerGate, R: Wait>(
     rt: &R,
     manager: &Manager<M>,
     seat: &mut Seat<M>,
+    asked: Answer,
     gate: &G,
 ) -> Answer
     requires opened { IsSeatIn M.base_of manager.now seat.old }
+    requires asked { AsksStill (plan_in manager.now) (seen_by seat.old) (participant_of seat.old) asked }
     ensures opened { IsSeatIn M.base_of manager.now seat.new }
     ensures same { participant_of seat.new ≡ participant_of seat.old }
-    ensures turn { TakesWholeTurn (plan_in manager.now) (seen_by seat.old) (seen_by seat.new) (participant_of seat.old) result }
+    ensures turn { TurnsAfter (plan_in manager.now) (seen_by seat.old) (seen_by seat.new) (participant_of seat.old) asked result }
+    ensures asks { AsksStill (plan_in manager.now) (seen_by seat.new) (participant_of seat.old) result }
     ensures told { TellsOwnWork (G.was_told gate.now) (participant_of seat.old) (seen_by seat.old) (seen_by seat.new) }
     ensures handed { TellsOwnHandlers (G.was_handed gate.now) (participant_of seat.old) (seen_by seat.old) (seen_by seat.new) }
 {
-    match step_and_tell(rt, manager, seat, None, gate) {
+    match asked {
         Answer::Work {
             place,
             rounds,
             from,
         } => {
             let done = mix(gate, seat.participant(), place, from, rounds);
-            match step_and_tell(rt, manager, seat, Some(done), gate) {
-                Answer::Work { .. } => unreachable!(),
-                answer => answer,
-            }
+            step_and_tell(rt, manager, seat, Some(done), gate)
         }
-        answer => answer,
+        _ => step_and_tell(rt, manager, seat, None, gate),
     }
 }
 
@@ -131,12 +132,13 @@ pub fn drive<M: Machine, G: Gate + HandlerGate, R: Wait>(
     ensures told { TellsOwnWork (G.was_told gate.now) (participant_of seat) (seen_by seat) (seen_by result) }
     ensures handed { TellsOwnHandlers (G.was_handed gate.now) (participant_of seat) (seen_by seat) (seen_by result) }
 {
+    let mut answer = Answer::NotYet;
     for _ in rt.forever() {
-        match take_whole_turn(rt, manager, &mut seat, gate) {
-            Answer::Did(_) => {}
+        answer = turn_after(rt, manager, &mut seat, answer, gate);
+        match answer {
+            Answer::Did(_) | Answer::Work { .. } => {}
             Answer::NotYet => manager.wait_past(rt, &mut seat),
             Answer::Over => return seat,
-            Answer::Work { .. } => unreachable!(),
         }
     }
     unreachable!()

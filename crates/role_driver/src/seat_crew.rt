@@ -7,7 +7,7 @@ ghost use Rattle.action_manager.specs.Managers.{plan_in, IsSeatIn};
 ghost use Rattle.action_manager.specs.Seats.{participant_of, seen_by, IsBeside};
 ghost use Rattle.role_driver.specs.VectorRoom.{HasRoomFor};
 
-use crate::driving::{drive, take_whole_turn};
+use crate::driving::{drive, turn_after};
 use crate::flag::Flag;
 use crate::handling::HandlerGate;
 use action_manager::{Manager, Seat};
@@ -129,7 +129,7 @@ pub fn start_all<'s, E, M: Machine + Send, G: Gate + Sync, R: Threads + Wait + S
     crew
 }
 
-/// One turn of a seat, with its mixing work, and whether its participant is over.
+/// One turn of a seat, and where it asks for work, a second one that brings it; and whether its participant is over.
 pub fn go_on<M: Machine, G: Gate + HandlerGate, R: Wait>(
     rt: &R,
     manager: &Manager<M>,
@@ -143,7 +143,12 @@ pub fn go_on<M: Machine, G: Gate + HandlerGate, R: Wait>(
     ensures handed { TellsOwnHandlers (G.was_handed gate.now) (participant_of seat.old) (seen_by seat.old) (seen_by seat.new) }
     ensures over { IsTrue result → is_over (plan_in manager.now) (reverse (seen_by seat.new)) (participant_of seat.old) ≡ true }
 {
-    match take_whole_turn(rt, manager, seat, gate) {
+    let answer = turn_after(rt, manager, seat, Answer::NotYet, gate);
+    match answer {
+        Answer::Work { .. } => {
+            turn_after(rt, manager, seat, answer, gate);
+            false
+        }
         Answer::Over => true,
         _ => false,
     }

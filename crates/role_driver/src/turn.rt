@@ -5,7 +5,7 @@ ghost use Rattle.role_driver.specs.Working.{TellsWork};
 ghost use Rattle.role_driver.specs.inner.Sleeping.{AllSleep};
 
 use crate::mixing::mix;
-use crate::sleepers::unwoken;
+use action_manager::unwoken;
 use caa_base::outside::gate::Gate;
 use caa_base::written::entry::{Entry, Participant};
 use core_words::crew::{Crew, is_in, with};

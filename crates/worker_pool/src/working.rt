@@ -9,7 +9,7 @@ use crate::worker::Worker;
 use action_manager::{Manager, Seat};
 use caa_base::outside::gate::Gate;
 use place_plan::rules::machine::{Answer, Machine};
-use role_driver::driving::take_whole_turn;
+use role_driver::driving::turn_after;
 use std::sync::Wait;
 
 /// What became of a seat for now.
@@ -31,8 +31,10 @@ fn step_while_due<M: Machine, G: Gate, R: Wait>(
     ensures opened { IsSeatIn M.base_of manager.now seat.new }
     ensures same { participant_of seat.new ≡ participant_of seat.old }
 {
+    let mut answer = Answer::NotYet;
     for _ in rt.forever() {
-        match take_whole_turn(rt, manager, seat, gate) {
+        answer = turn_after(rt, manager, seat, answer, gate);
+        match answer {
             Answer::Did(_) | Answer::Work { .. } => {}
             Answer::NotYet => return Rest::Waits,
             Answer::Over => return Rest::Over,
@@ -78,7 +80,7 @@ fn wait_if_fruitless<M: Machine, R: Wait>(
     ensures same { participant_of seat.new ≡ participant_of seat.old }
 {
     if fruitless.add(seat.seen()) > relay.seats() {
-        manager.wait_past(rt, seat);
+        manager.wait_past_any(rt, seat);
     }
 }
 

@@ -1,12 +1,18 @@
-use Rattle.std.proofs.Common.{rules, ◌∙◌, subst}
+use Rattle.std.proofs.Common.{◌≡◌, rules, true, reverse, ◌∙◌, subst, sym}
+use Rattle.place_plan.specs.RulesOfJournals.Roles.{is_over}
 use Rattle.action_manager.specs.Seats.{participant_of, seen_by}
 use Rattle.action_manager.specs.Stepping.{Looks}
 use Rattle.action_manager.specs.Managers.{plan_in}
 use Rattle.role_driver.specs.Handling.{TellsOwnHandlers}
-use Rattle.role_driver.specs.Working.{IsToldOf, TellsOwnWork}
+use Rattle.role_driver.specs.Working.{AsksStill, IsToldOf, TellsOwnWork}
 use Rattle.role_driver.proofs.Handed.{handed_further, others_handed}
-use Rattle.role_driver.proofs.Told.{goes_further, others_go_on}
+use Rattle.role_driver.proofs.Told.{goes_further, others_go_on, over_seen}
 use Rattle.role_driver.proofs.driving.drive.Goals as goal
+
+pub turn_after-requires-clause-asked : goal.turn_after-requires-clause-asked
+turn_after-requires-clause-asked g c =
+    let inv = c.loop.invariant in
+    subst (λ t. AsksStill (plan_in c.args.manager.now) (seen_by c.loop.seat) t c.loop.answer) (sym inv.same) inv.asks
 
 pub loop-preserved : goal.loop-preserved
 loop-preserved g c =
@@ -15,12 +21,12 @@ loop-preserved g c =
     let who = participant_of c.args.seat in
     let old = seen_by c.args.seat in
     let here = seen_by c.loop.seat in
-    let mid = seen_by c.take_whole_turn.new.seat in
+    let mid = seen_by c.turn_after.new.seat in
     let new = seen_by c.wait_past.new.seat in
-    let own = c.take_whole_turn.ensures.same ∙ inv.same in
-    let turn = subst (λ t. TellsOwnWork was_told t here mid) inv.same c.take_whole_turn.ensures.told in
+    let own = c.turn_after.ensures.same ∙ inv.same in
+    let turn = subst (λ t. TellsOwnWork was_told t here mid) inv.same c.turn_after.ensures.told in
     let was_handed = g.G.HandlerGate.was_handed c.args.gate.now in
-    let handlers = subst (λ t. TellsOwnHandlers was_handed t here mid) inv.same c.take_whole_turn.ensures.handed in
+    let handlers = subst (λ t. TellsOwnHandlers was_handed t here mid) inv.same c.turn_after.ensures.handed in
     let looks = subst (λ t. Looks (plan_in c.args.manager.now) mid new t) own c.wait_past.ensures.turn in
     let told =
     goes_further (IsToldOf was_told who) old mid new
@@ -34,6 +40,7 @@ loop-preserved g c =
       seen = (told.more, told.goes_on);
       told = told;
       handed = handed;
+      asks = tt;
       goes = search rules;
     }
 
@@ -45,16 +52,17 @@ loop-preserved-in-Did g c =
     let who = participant_of c.args.seat in
     let old = seen_by c.args.seat in
     let here = seen_by c.loop.seat in
-    let mid = seen_by c.take_whole_turn.new.seat in
-    let turn = subst (λ t. TellsOwnWork was_told t here mid) inv.same c.take_whole_turn.ensures.told in
-    let handlers = subst (λ t. TellsOwnHandlers was_handed t here mid) inv.same c.take_whole_turn.ensures.handed in
+    let mid = seen_by c.turn_after.new.seat in
+    let turn = subst (λ t. TellsOwnWork was_told t here mid) inv.same c.turn_after.ensures.told in
+    let handlers = subst (λ t. TellsOwnHandlers was_handed t here mid) inv.same c.turn_after.ensures.handed in
     let told = goes_further (IsToldOf was_told who) old here mid inv.told turn in
     record {
-      opened = c.take_whole_turn.ensures.opened;
-      same = c.take_whole_turn.ensures.same ∙ inv.same;
+      opened = c.turn_after.ensures.opened;
+      same = c.turn_after.ensures.same ∙ inv.same;
       seen = (told.more, told.goes_on);
       told = told;
       handed = handed_further was_handed who old here mid inv.handed handlers;
+      asks = subst (λ t. AsksStill (plan_in c.args.manager.now) mid t c.turn_after.result) inv.same c.turn_after.ensures.asks;
       goes = search rules;
     }
 
@@ -63,8 +71,8 @@ returns-in-Over-clause-told g c =
     let inv = c.loop.invariant in
     let was_told = g.G.Gate.was_told c.args.gate.now in
     let here = seen_by c.loop.seat in
-    let mid = seen_by c.take_whole_turn.new.seat in
-    let turn = subst (λ t. TellsOwnWork was_told t here mid) inv.same c.take_whole_turn.ensures.told in
+    let mid = seen_by c.turn_after.new.seat in
+    let turn = subst (λ t. TellsOwnWork was_told t here mid) inv.same c.turn_after.ensures.told in
     goes_further (IsToldOf was_told (participant_of c.args.seat)) (seen_by c.args.seat) here mid inv.told turn
 
 pub returns-in-Over-clause-handed : goal.returns-in-Over-clause-handed
@@ -72,6 +80,15 @@ returns-in-Over-clause-handed g c =
     let inv = c.loop.invariant in
     let was_handed = g.G.HandlerGate.was_handed c.args.gate.now in
     let here = seen_by c.loop.seat in
-    let mid = seen_by c.take_whole_turn.new.seat in
-    let handlers = subst (λ t. TellsOwnHandlers was_handed t here mid) inv.same c.take_whole_turn.ensures.handed in
+    let mid = seen_by c.turn_after.new.seat in
+    let handlers = subst (λ t. TellsOwnHandlers was_handed t here mid) inv.same c.turn_after.ensures.handed in
     handed_further was_handed (participant_of c.args.seat) (seen_by c.args.seat) here mid inv.handed handlers
+
+pub returns-in-Over-clause-over : goal.returns-in-Over-clause-over
+returns-in-Over-clause-over g c =
+    let turn = c.turn_after.ensures.turn in
+    let plan = plan_in c.args.manager.now in
+    let here = seen_by c.loop.seat in
+    let mid = seen_by c.turn_after.new.seat in
+    subst (λ t. is_over plan (reverse mid) t ≡ true) c.loop.invariant.same
+    (over_seen plan here mid (participant_of c.loop.seat) turn.hint c.turn_after.result c.in-Over.is turn.steps)

@@ -1,9 +1,9 @@
 use Rattle.std.proofs.Common.{◌≡◌}
 use mathlib.Core.List.{IsPrefix}
-use Rattle.action_manager.specs.Managers.{IsSeatIn}
+use Rattle.action_manager.specs.Managers.{plan_in, IsSeatIn}
 use Rattle.action_manager.specs.Seats.{participant_of, seen_by}
 use Rattle.role_driver.specs.Handling.{TellsOwnHandlers}
-use Rattle.role_driver.specs.Working.{TellsOwnWork}
+use Rattle.role_driver.specs.Working.{AsksStill, TellsOwnWork}
 use Rattle.role_driver.proofs.driving.drive.Given as goal
 
 abbrev pub invariant-loop : goal.invariant-loop
@@ -14,5 +14,6 @@ invariant-loop g l = record {
   told : TellsOwnWork (g.G.Gate.was_told l.gate) (participant_of l.initial.seat) (seen_by l.initial.seat) (seen_by l.seat);
   handed :
       TellsOwnHandlers (g.G.HandlerGate.was_handed l.gate) (participant_of l.initial.seat) (seen_by l.initial.seat) (seen_by l.seat);
+  asks : AsksStill (plan_in l.manager) (seen_by l.seat) (participant_of l.initial.seat) l.answer;
   goes : (goal.iterator-loop g).can_next l.iterator' × (goal.iterator-loop g).is_finite l.iterator';
 }

@@ -1,7 +1,7 @@
 use Rattle.std.proofs.Common.{◌≡◌, ℕ, true, false, take}
 use Rattle.cover_table.specs.Cover.{has_bit}
 use Rattle.caa_base.specs.Written.Lists.{member}
-use Rattle.role_driver.proofs.sleepers.without_all.Given as goal
+use Rattle.action_manager.proofs.sleepers.without_all.Given as goal
 
 abbrev pub invariant-loop-by : goal.invariant-loop-by
 invariant-loop-by l = record {

@@ -4,7 +4,7 @@ use Rattle.std.proofs.lemmas.Bool.{cases_eq, ne_eqb, both_ways}
 use Rattle.std.proofs.lemmas.Nat.Bits.{bit_at_clear_same, bit_at_above}
 use Rattle.cover_table.specs.Cover.{has_bit}
 use Rattle.cover_table.proofs.Bits.{had_in_both}
-use Rattle.role_driver.proofs.sleepers.without.Goals as goal
+use Rattle.action_manager.proofs.sleepers.without.Goals as goal
 
 pub returns-then-by-lt-BITS : goal.returns-then-by-lt-BITS
 returns-then-by-lt-BITS c = λ t had.

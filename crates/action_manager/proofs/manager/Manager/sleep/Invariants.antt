@@ -2,7 +2,7 @@ use Rattle.std.proofs.Common.{◌≡◌}
 use Rattle.action_manager.specs.Stepping.{GrowsWithout}
 use Rattle.action_manager.specs.Managers.{table_of, terms_in}
 use Rattle.action_manager.specs.Seats.{IsSeatOf, participant_of, seen_by, told_to}
-use Rattle.action_manager.proofs.manager.Manager.wait_past.Given as goal
+use Rattle.action_manager.proofs.manager.Manager.sleep.Given as goal
 
 abbrev pub invariant-loop : goal.invariant-loop
 invariant-loop g l = record {

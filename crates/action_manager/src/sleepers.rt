@@ -30,7 +30,7 @@ fn without_all(crew: Crew, roles: &[Participant]) -> Crew
 }
 
 /// Those of a sleeping crew whom an entry doesn't wake.
-pub(crate) fn unwoken(plan: &Plan, entry: &Entry, crew: Crew) -> Crew
+pub fn unwoken(plan: &Plan, entry: &Entry, crew: Crew) -> Crew
     ensures { (t : ℕ) → has_bit result t ≡ true → (has_bit crew t ≡ true) × (wakes plan.now entry.now t ≡ false) }
 {
     match entry.kind {
