@@ -18,10 +18,12 @@ fn rows(alloc: Global, numbers: &[u32]) -> Result<Rows<u32>, OutOfMemory>
 pub fn load(alloc: Global) -> Result<Vec<Form>, OutOfMemory>
     ensures { IfOk result (λ forms. forms.items ≡ load_lines) }
 {
+    let uses = rows(alloc, &[TABLE, ARM])?;
+    let roles = rows(alloc, &[GIVE, TAKE])?;
     let forms = vec![in alloc;
         Form::Action(LOAD),
-        Form::Uses(rows(alloc, &[TABLE, ARM])?),
-        Form::Roles(rows(alloc, &[GIVE, TAKE])?),
+        Form::Uses(uses),
+        Form::Roles(roles),
         Form::Body(GIVE),
         Form::PutStep(TABLE, 1),
         Form::Body(TAKE),
@@ -35,10 +37,12 @@ pub fn load(alloc: Global) -> Result<Vec<Form>, OutOfMemory>
 pub fn forge(alloc: Global) -> Result<Vec<Form>, OutOfMemory>
     ensures { IfOk result (λ forms. forms.items ≡ forge_lines) }
 {
+    let uses = rows(alloc, &[ARM, PLATE, OUT])?;
+    let roles = rows(alloc, &[HOLD, STAMP])?;
     let forms = vec![in alloc;
         Form::Action(FORGE),
-        Form::Uses(rows(alloc, &[ARM, PLATE, OUT])?),
-        Form::Roles(rows(alloc, &[HOLD, STAMP])?),
+        Form::Uses(uses),
+        Form::Roles(roles),
         Form::Body(HOLD),
         Form::PutStep(ARM, 0),
         Form::Body(STAMP),
@@ -55,12 +59,14 @@ pub fn forge(alloc: Global) -> Result<Vec<Form>, OutOfMemory>
 pub fn forge_jam(alloc: Global) -> Result<Vec<Form>, OutOfMemory>
     ensures { IfOk result (λ forms. forms.items ≡ forge_jam_lines) }
 {
+    let uses = rows(alloc, &[ARM, PLATE, SCRAP])?;
+    let roles = rows(alloc, &[HOLD, STAMP])?;
     let forms = vec![in alloc;
         Form::Action(FORGE_JAM),
         Form::Internal(JAMS),
         Form::Interface(FACES),
-        Form::Uses(rows(alloc, &[ARM, PLATE, SCRAP])?),
-        Form::Roles(rows(alloc, &[HOLD, STAMP])?),
+        Form::Uses(uses),
+        Form::Roles(roles),
         Form::Body(HOLD),
         Form::RaiseStep(ARM_JAM),
         Form::Body(STAMP),
@@ -80,12 +86,16 @@ pub fn forge_jam(alloc: Global) -> Result<Vec<Form>, OutOfMemory>
 pub fn plain(alloc: Global) -> Result<Vec<Form>, OutOfMemory>
     ensures { IfOk result (λ forms. forms.items ≡ plain_lines) }
 {
+    let uses = rows(alloc, &[TABLE, ARM, PLATE, OUT, SCRAP])?;
+    let roles = rows(alloc, &[FEED, CARRY, PRESS])?;
+    let loaders = rows(alloc, &[FEED, CARRY])?;
+    let forgers = rows(alloc, &[CARRY, PRESS])?;
     let forms = vec![in alloc;
         Form::Action(PLAIN),
-        Form::Uses(rows(alloc, &[TABLE, ARM, PLATE, OUT, SCRAP])?),
-        Form::Roles(rows(alloc, &[FEED, CARRY, PRESS])?),
-        Form::Nest(TO_LOAD, LOAD, rows(alloc, &[FEED, CARRY])?),
-        Form::Nest(TO_FORGE, FORGE, rows(alloc, &[CARRY, PRESS])?),
+        Form::Uses(uses),
+        Form::Roles(roles),
+        Form::Nest(TO_LOAD, LOAD, loaders),
+        Form::Nest(TO_FORGE, FORGE, forgers),
         Form::Body(FEED),
         Form::EnterStep(TO_LOAD),
         Form::PutStep(TABLE, 0),
@@ -104,13 +114,17 @@ pub fn plain(alloc: Global) -> Result<Vec<Form>, OutOfMemory>
 pub fn jammed(alloc: Global) -> Result<Vec<Form>, OutOfMemory>
     ensures { IfOk result (λ forms. forms.items ≡ jammed_lines) }
 {
+    let uses = rows(alloc, &[TABLE, ARM, PLATE, OUT, SCRAP])?;
+    let roles = rows(alloc, &[FEED, CARRY, PRESS])?;
+    let loaders = rows(alloc, &[FEED, CARRY])?;
+    let forgers = rows(alloc, &[CARRY, PRESS])?;
     let forms = vec![in alloc;
         Form::Action(JAMMED),
         Form::Internal(CELLGRAPH),
-        Form::Uses(rows(alloc, &[TABLE, ARM, PLATE, OUT, SCRAP])?),
-        Form::Roles(rows(alloc, &[FEED, CARRY, PRESS])?),
-        Form::Nest(TO_LOAD, LOAD, rows(alloc, &[FEED, CARRY])?),
-        Form::Nest(TO_FORGE, FORGE_JAM, rows(alloc, &[CARRY, PRESS])?),
+        Form::Uses(uses),
+        Form::Roles(roles),
+        Form::Nest(TO_LOAD, LOAD, loaders),
+        Form::Nest(TO_FORGE, FORGE_JAM, forgers),
         Form::Map(TO_FORGE, LOST_PIECE, PIECE_LOST),
         Form::Body(FEED),
         Form::EnterStep(TO_LOAD),
@@ -133,11 +147,14 @@ pub fn jammed(alloc: Global) -> Result<Vec<Form>, OutOfMemory>
 pub fn lost(alloc: Global) -> Result<Vec<Form>, OutOfMemory>
     ensures { IfOk result (λ forms. forms.items ≡ lost_lines) }
 {
+    let uses = rows(alloc, &[TABLE, ARM, PLATE, OUT, SCRAP])?;
+    let roles = rows(alloc, &[FEED, CARRY, PRESS])?;
+    let loaders = rows(alloc, &[FEED, CARRY])?;
     let forms = vec![in alloc;
         Form::Action(LOST),
-        Form::Uses(rows(alloc, &[TABLE, ARM, PLATE, OUT, SCRAP])?),
-        Form::Roles(rows(alloc, &[FEED, CARRY, PRESS])?),
-        Form::Nest(TO_LOAD, LOAD, rows(alloc, &[FEED, CARRY])?),
+        Form::Uses(uses),
+        Form::Roles(roles),
+        Form::Nest(TO_LOAD, LOAD, loaders),
         Form::Body(FEED),
         Form::EnterStep(TO_LOAD),
         Form::Body(CARRY),

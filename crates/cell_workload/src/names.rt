@@ -1,4 +1,4 @@
-ghost use Rattle.std.specs.Prelude.{◌≡◌, IfOk};
+ghost use Rattle.std.specs.Prelude.{◌≡◌, map, IfOk};
 ghost use Rattle.cell_workload.specs.CellNames.{cell_names};
 
 use caa_base::written::entry::OutOfMemory;
@@ -66,41 +66,54 @@ pub const JAMMED: u32 = 28;
 
 pub const LOST: u32 = 29;
 
+/// Names of these texts.
+fn names_of(alloc: Global, texts: &[&[u8]]) -> Result<Vec<Name>, OutOfMemory>
+    ensures { IfOk result (λ names. names.items ≡ map (λ text. text.now) texts.now) }
+{
+    let mut names = Vec::new(alloc);
+    for text in texts {
+        names.push(Name::from_bytes(alloc, *text)?)?;
+    }
+    Ok(names)
+}
+
 /// The names of the script, in the order of their numbers.
 pub fn cell_names(alloc: Global) -> Result<Vec<Name>, OutOfMemory>
     ensures { IfOk result (λ names. names.items ≡ cell_names) }
 {
-    let names = vec![in alloc;
-        Name::from_bytes(alloc, b"feeder")?,
-        Name::from_bytes(alloc, b"robot")?,
-        Name::from_bytes(alloc, b"press")?,
-        Name::from_bytes(alloc, b"table")?,
-        Name::from_bytes(alloc, b"arm")?,
-        Name::from_bytes(alloc, b"plate")?,
-        Name::from_bytes(alloc, b"out")?,
-        Name::from_bytes(alloc, b"scrap")?,
-        Name::from_bytes(alloc, b"jams")?,
-        Name::from_bytes(alloc, b"jam")?,
-        Name::from_bytes(alloc, b"arm_jam")?,
-        Name::from_bytes(alloc, b"press_jam")?,
-        Name::from_bytes(alloc, b"faces")?,
-        Name::from_bytes(alloc, b"lost_piece")?,
-        Name::from_bytes(alloc, b"cellgraph")?,
-        Name::from_bytes(alloc, b"piece_lost")?,
-        Name::from_bytes(alloc, b"load")?,
-        Name::from_bytes(alloc, b"give")?,
-        Name::from_bytes(alloc, b"take")?,
-        Name::from_bytes(alloc, b"forge")?,
-        Name::from_bytes(alloc, b"hold")?,
-        Name::from_bytes(alloc, b"stamp")?,
-        Name::from_bytes(alloc, b"forge_jam")?,
-        Name::from_bytes(alloc, b"plain")?,
-        Name::from_bytes(alloc, b"feed")?,
-        Name::from_bytes(alloc, b"carry")?,
-        Name::from_bytes(alloc, b"l")?,
-        Name::from_bytes(alloc, b"f")?,
-        Name::from_bytes(alloc, b"jammed")?,
-        Name::from_bytes(alloc, b"lost")?,
-    ]?;
-    Ok(names)
+    names_of(
+        alloc,
+        &[
+            b"feeder",
+            b"robot",
+            b"press",
+            b"table",
+            b"arm",
+            b"plate",
+            b"out",
+            b"scrap",
+            b"jams",
+            b"jam",
+            b"arm_jam",
+            b"press_jam",
+            b"faces",
+            b"lost_piece",
+            b"cellgraph",
+            b"piece_lost",
+            b"load",
+            b"give",
+            b"take",
+            b"forge",
+            b"hold",
+            b"stamp",
+            b"forge_jam",
+            b"plain",
+            b"feed",
+            b"carry",
+            b"l",
+            b"f",
+            b"jammed",
+            b"lost",
+        ],
+    )
 }
