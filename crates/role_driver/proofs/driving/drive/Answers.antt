@@ -9,8 +9,8 @@ use Rattle.role_driver.proofs.Handed.{handed_further, others_handed}
 use Rattle.role_driver.proofs.Told.{goes_further, others_go_on, over_seen}
 use Rattle.role_driver.proofs.driving.drive.Goals as goal
 
-pub turn_after-requires-clause-asked : goal.turn_after-requires-clause-asked
-turn_after-requires-clause-asked g c =
+pub turn_after-answer-requires-clause-asked : goal.turn_after-answer-requires-clause-asked
+turn_after-answer-requires-clause-asked g c =
     let inv = c.loop.invariant in
     subst (λ t. AsksStill (plan_in c.args.manager.now) (seen_by c.loop.seat) t c.loop.answer) (sym inv.same) inv.asks
 
@@ -21,12 +21,12 @@ loop-preserved g c =
     let who = participant_of c.args.seat in
     let old = seen_by c.args.seat in
     let here = seen_by c.loop.seat in
-    let mid = seen_by c.turn_after.new.seat in
+    let mid = seen_by c.turn_after-answer.new.seat in
     let new = seen_by c.wait_past.new.seat in
-    let own = c.turn_after.ensures.same ∙ inv.same in
-    let turn = subst (λ t. TellsOwnWork was_told t here mid) inv.same c.turn_after.ensures.told in
+    let own = c.turn_after-answer.ensures.same ∙ inv.same in
+    let turn = subst (λ t. TellsOwnWork was_told t here mid) inv.same c.turn_after-answer.ensures.told in
     let was_handed = g.G.HandlerGate.was_handed c.args.gate.now in
-    let handlers = subst (λ t. TellsOwnHandlers was_handed t here mid) inv.same c.turn_after.ensures.handed in
+    let handlers = subst (λ t. TellsOwnHandlers was_handed t here mid) inv.same c.turn_after-answer.ensures.handed in
     let looks = subst (λ t. Looks (plan_in c.args.manager.now) mid new t) own c.wait_past.ensures.turn in
     let told =
     goes_further (IsToldOf was_told who) old mid new
@@ -40,7 +40,7 @@ loop-preserved g c =
       seen = (told.more, told.goes_on);
       told = told;
       handed = handed;
-      asks = tt;
+      asks = subst (AsksStill (plan_in c.args.manager.now) new who) (sym c.in-NotYet.is) tt;
       goes = search rules;
     }
 
@@ -52,17 +52,17 @@ loop-preserved-in-Did g c =
     let who = participant_of c.args.seat in
     let old = seen_by c.args.seat in
     let here = seen_by c.loop.seat in
-    let mid = seen_by c.turn_after.new.seat in
-    let turn = subst (λ t. TellsOwnWork was_told t here mid) inv.same c.turn_after.ensures.told in
-    let handlers = subst (λ t. TellsOwnHandlers was_handed t here mid) inv.same c.turn_after.ensures.handed in
+    let mid = seen_by c.turn_after-answer.new.seat in
+    let turn = subst (λ t. TellsOwnWork was_told t here mid) inv.same c.turn_after-answer.ensures.told in
+    let handlers = subst (λ t. TellsOwnHandlers was_handed t here mid) inv.same c.turn_after-answer.ensures.handed in
     let told = goes_further (IsToldOf was_told who) old here mid inv.told turn in
     record {
-      opened = c.turn_after.ensures.opened;
-      same = c.turn_after.ensures.same ∙ inv.same;
+      opened = c.turn_after-answer.ensures.opened;
+      same = c.turn_after-answer.ensures.same ∙ inv.same;
       seen = (told.more, told.goes_on);
       told = told;
       handed = handed_further was_handed who old here mid inv.handed handlers;
-      asks = subst (λ t. AsksStill (plan_in c.args.manager.now) mid t c.turn_after.result) inv.same c.turn_after.ensures.asks;
+      asks = subst (λ t. AsksStill (plan_in c.args.manager.now) mid t c.turn_after-answer.result) inv.same c.turn_after-answer.ensures.asks;
       goes = search rules;
     }
 
@@ -71,8 +71,8 @@ returns-in-Over-clause-told g c =
     let inv = c.loop.invariant in
     let was_told = g.G.Gate.was_told c.args.gate.now in
     let here = seen_by c.loop.seat in
-    let mid = seen_by c.turn_after.new.seat in
-    let turn = subst (λ t. TellsOwnWork was_told t here mid) inv.same c.turn_after.ensures.told in
+    let mid = seen_by c.turn_after-answer.new.seat in
+    let turn = subst (λ t. TellsOwnWork was_told t here mid) inv.same c.turn_after-answer.ensures.told in
     goes_further (IsToldOf was_told (participant_of c.args.seat)) (seen_by c.args.seat) here mid inv.told turn
 
 pub returns-in-Over-clause-handed : goal.returns-in-Over-clause-handed
@@ -80,15 +80,15 @@ returns-in-Over-clause-handed g c =
     let inv = c.loop.invariant in
     let was_handed = g.G.HandlerGate.was_handed c.args.gate.now in
     let here = seen_by c.loop.seat in
-    let mid = seen_by c.turn_after.new.seat in
-    let handlers = subst (λ t. TellsOwnHandlers was_handed t here mid) inv.same c.turn_after.ensures.handed in
+    let mid = seen_by c.turn_after-answer.new.seat in
+    let handlers = subst (λ t. TellsOwnHandlers was_handed t here mid) inv.same c.turn_after-answer.ensures.handed in
     handed_further was_handed (participant_of c.args.seat) (seen_by c.args.seat) here mid inv.handed handlers
 
 pub returns-in-Over-clause-over : goal.returns-in-Over-clause-over
 returns-in-Over-clause-over g c =
-    let turn = c.turn_after.ensures.turn in
+    let turn = c.turn_after-answer.ensures.turn in
     let plan = plan_in c.args.manager.now in
     let here = seen_by c.loop.seat in
-    let mid = seen_by c.turn_after.new.seat in
+    let mid = seen_by c.turn_after-answer.new.seat in
     subst (λ t. is_over plan (reverse mid) t ≡ true) c.loop.invariant.same
-    (over_seen plan here mid (participant_of c.loop.seat) turn.hint c.turn_after.result c.in-Over.is turn.steps)
+    (over_seen plan here mid (participant_of c.loop.seat) turn.hint c.turn_after-answer.result c.in-Over.is turn.steps)

@@ -3,7 +3,6 @@ use Rattle.std.proofs.lemmas.Bool.{false≢true}
 use Rattle.std.proofs.lemmas.Int.{ints}
 use Rattle.action_manager.specs.Managers.{plan_in}
 use Rattle.action_manager.specs.Seats.{participant_of, seen_by}
-use Rattle.action_manager.specs.Stepping.{Steps}
 use Rattle.place_plan.specs.RulesOfJournals.Machine.{AsksForWork}
 use Rattle.role_driver.specs.Working.{AsksStill}
 use Rattle.role_driver.proofs.Told.{asks_still, not_again, not_asking, step_told, work_told}
