@@ -24,6 +24,15 @@ pub record Taken (names : List (List ℕ)) (lines : List Line) (n : ℕ) (s : So
   pub declared : s ≡ declared_after names (nothing_yet names) (take n lines)
   pub rows : AreRowsOf names s.declared.graphs made
 
+-- before the first line
+pub none_taken : (script : Script) (names : List (List ℕ)) (lines : List Line) (s : SoFar) (rows : List GraphRow) → names ≡ script.names
+    → s ≡ nothing_yet script.names → AreRowsOf script.names s.declared.graphs rows → Taken names lines 0 s rows
+none_taken script names lines s rows en begun r = record {
+  accepted = tt;
+  declared = begun ∙ ap nothing_yet (sym en);
+  rows = subst (λ (names : List (List ℕ)). AreRowsOf names s.declared.graphs rows) (sym en) r;
+}
+
 accepted_push : (names : List (List ℕ)) (s : SoFar) (lines : List Line) (line : Line) → AreAccepted names s lines
     → IsAccepted (declared_after names s lines) line.form → AreAccepted names s (lines ++ line ∷ [])
 accepted_push names s [] line h a = (a, tt)

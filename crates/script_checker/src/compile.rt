@@ -5,7 +5,6 @@ ghost use Rattle.script_checker.specs.After.{after};
 ghost use Rattle.script_checker.specs.Compiled.{IsLeastCause, IsAccepted, AreRowsOf, IsDeclared, BreaksNoRule, IsFirstRefused, IsAnswer};
 ghost use Rattle.script_checker.specs.PlanSizes.{counts_so_far, HasCounts};
 ghost use Rattle.script_checker.specs.PlaySizes.{CountsUnfolding};
-ghost use Rattle.script_checker.specs.inner.Rows.{parted};
 ghost use Rattle.script_checker.specs.declared.check_error.CheckCause.TheVariants as cause;
 
 use crate::action::program::settle;
@@ -18,8 +17,6 @@ use action_script::forms::form::Form;
 use action_script::forms::script::Script;
 use caa_base::written::entry::OutOfMemory;
 use caa_base::written::name::Name;
-use caa_base::written::rows::Rows;
-use place_plan::drafts::draft::Draft;
 use place_plan::drafts::draft_rows::GraphRow;
 use place_plan::plans::plan::Plan;
 use std::alloc::Global;
@@ -42,21 +39,6 @@ fn take(
     match form {
         Form::End => end(alloc, so_far, rows, names),
         _ => say(alloc, so_far, names, form),
-    }
-}
-
-/// The draft of what a script declares.
-fn draft_of(declared: Declared, rows: Vec<GraphRow>) -> Draft
-    ensures { result ≡ parted declared rows.items }
-{
-    Draft {
-        participants: Rows::from_vec(declared.participant_rows.into_vec()),
-        objects: Rows::from_vec(declared.object_rows.into_vec()),
-        graphs: Rows::from_vec(rows),
-        actions: Rows::from_vec(declared.actions.into_vec()),
-        plays: Rows::from_vec(declared.plays.into_vec()),
-        drills: Rows::from_vec(declared.drills.into_vec()),
-        watches: Rows::from_vec(declared.watches.into_vec()),
     }
 }
 
@@ -95,27 +77,43 @@ pub fn counts_unfolding(script: &Script)
     script.are_script();
 }
 
-/// What the lines of a script declare, with the rows of its graphs; or its first line that is refused, with its least cause.
-fn declare(alloc: Global, script: &Script) -> Result<(Declared, Vec<GraphRow>), CheckError>
-    ensures declared { IfOk result (λ made. IsDeclared script.now made.0 made.1.items) }
+/// Takes all lines of a script, up to the first that is refused. After an error both are of no more use.
+fn take_all(
+    alloc: Global,
+    so_far: &mut SoFar,
+    rows: &mut Vec<GraphRow>,
+    script: &Script,
+) -> Result<(), CheckError>
+    requires begun { so_far.old ≡ nothing_yet script.now.names }
+    requires rows { AreRowsOf script.now.names so_far.old.declared.graphs rows.old.items }
+    ensures declared { OnOk result (IsDeclared script.now so_far.new.declared rows.new.items) }
     ensures refused { IfErr result (λ e. e.cause ≢ cause.OutOfMemory → IsFirstRefused script.now e) }
 {
     let names = script.names();
-    let Ok(mut so_far) = SoFar::new(alloc, script) else {
-        return Err(wanting());
-    };
-    let Ok(mut rows) = plain_rows(alloc, names) else {
-        return Err(wanting());
-    };
     for line in script.lines() {
-        if let Err(cause) = take(alloc, &mut so_far, &mut rows, names, &line.form) {
+        if let Err(cause) = take(alloc, so_far, rows, names, &line.form) {
             return Err(CheckError {
                 line: line.number,
                 cause,
             });
         }
     }
-    Ok((so_far.declared, rows))
+    Ok(())
+}
+
+/// What the lines of a script declare, with the rows of its graphs; or its first line that is refused, with its least cause.
+fn declare(alloc: Global, script: &Script) -> Result<(Declared, Vec<GraphRow>), CheckError>
+    ensures declared { IfOk result (λ made. IsDeclared script.now made.0 made.1.items) }
+    ensures refused { IfErr result (λ e. e.cause ≢ cause.OutOfMemory → IsFirstRefused script.now e) }
+{
+    let Ok(mut rows) = plain_rows(alloc, script.names()) else {
+        return Err(wanting());
+    };
+    let Ok(mut so_far) = SoFar::new(alloc, script) else {
+        return Err(wanting());
+    };
+    take_all(alloc, &mut so_far, &mut rows, script)?;
+    Ok((so_far.end(), rows))
 }
 
 /// How large the plan is of what is declared.
@@ -156,7 +154,7 @@ pub fn compile(alloc: Global, script: &Script) -> Result<Plan, CheckError>
         Ok(made) => made,
         Err(error) => return Err(error),
     };
-    match Plan::of_sound(alloc, draft_of(declared, rows)) {
+    match Plan::of_sound(alloc, declared.into_draft(rows)) {
         Ok(plan) => Ok(plan),
         Err(OutOfMemory) => Err(wanting()),
     }

@@ -1,6 +1,7 @@
 //! What the lines of a script up to some line have declared, by the numbers of names in the script.
 
 ghost use Rattle.std.specs.Prelude.{◌≡◌, IfOk};
+ghost use Rattle.script_checker.specs.inner.Rows.{parted};
 ghost use Rattle.script_checker.specs.DeclaredSoFar.{plain_graph, nothing_declared, nothing_yet};
 
 use crate::drill_list::DrillList;
@@ -11,11 +12,11 @@ use crate::table::Table;
 use action_script::forms::script::Script;
 use caa_base::written::name::Name;
 use caa_base::written::rows::Rows;
-use place_plan::drafts::draft_rows::{ActionRow, ObjectRow, PlayRow};
+use place_plan::drafts::draft::Draft;
+use place_plan::drafts::draft_rows::{ActionRow, GraphRow, ObjectRow, PlayRow};
 use std::alloc::{AllocError, Global};
 
 /// What is declared outside the block that is open; lines at the top and the ends of blocks alone add to it.
-#[derive(Drop)]
 pub struct Declared {
     /// The number of the name `universal`; where the script has no such name, it is no name's.
     pub universal: u32,
@@ -44,6 +45,32 @@ pub struct Declared {
     pub watches: Table<u32>,
 }
 
+/// A drop by a call of its own: what is checked of code with many ways out past such a value would have each part of it dropped on
+/// each of them.
+impl Drop for Declared {
+    fn drop(self) {
+        let Declared {
+            universal: _universal,
+            participants: _participants,
+            objects: _objects,
+            graph_names: _graph_names,
+            action_names: _action_names,
+            participant_rows: _participant_rows,
+            object_rows: _object_rows,
+            graphs: _graphs,
+            actions: _actions,
+            depths: _depths,
+            places: _places,
+            bounds: _bounds,
+            plays: _plays,
+            all_places: _all_places,
+            whole_bound: _whole_bound,
+            drills: _drills,
+            watches: _watches,
+        } = self;
+    }
+}
+
 /// Where a line stands, with what the lines before it in the same block have said.
 #[derive(Drop)]
 pub enum Block {
@@ -68,6 +95,42 @@ fn plain_graph(alloc: Global, universal: u32) -> Result<DeclaredGraph, AllocErro
 {
     let graph = OpenGraph::begun(alloc, universal)?;
     Ok(graph.end())
+}
+
+impl Declared {
+    /// The draft of what is declared, with these rows of its graphs.
+    pub fn into_draft(self, rows: Vec<GraphRow>) -> Draft
+        ensures { result ≡ parted self rows.items }
+    {
+        let Declared {
+            universal: _universal,
+            participants: _participants,
+            objects: _objects,
+            graph_names: _graph_names,
+            action_names: _action_names,
+            participant_rows,
+            object_rows,
+            graphs: _graphs,
+            actions,
+            depths: _depths,
+            places: _places,
+            bounds: _bounds,
+            plays,
+            all_places: _all_places,
+            whole_bound: _whole_bound,
+            drills,
+            watches,
+        } = self;
+        Draft {
+            participants: Rows::from_vec(participant_rows.into_vec()),
+            objects: Rows::from_vec(object_rows.into_vec()),
+            graphs: Rows::from_vec(rows),
+            actions: Rows::from_vec(actions.into_vec()),
+            plays: Rows::from_vec(plays.into_vec()),
+            drills: Rows::from_vec(drills.into_vec()),
+            watches: Rows::from_vec(watches.into_vec()),
+        }
+    }
 }
 
 /// Nothing but the plain graph.
@@ -107,5 +170,12 @@ impl SoFar {
             declared,
             block: Block::Top,
         })
+    }
+
+    /// What is declared, once no line follows.
+    pub fn end(self) -> Declared
+        ensures { result ≡ self.declared }
+    {
+        self.declared
     }
 }

@@ -1,7 +1,8 @@
 //! A line that ends no block: whether it is refused, and what it adds to the block that is open.
 
 ghost use Rattle.std.specs.Prelude.{◌≡◌, ◌≢◌, false, OnOk, IfOk, IfErr};
-ghost use Rattle.script_checker.specs.After.{with_said};
+ghost use Rattle.script_checker.specs.After.{said_at_top, with_said};
+ghost use Rattle.script_checker.specs.AtTop.{twice_at_top};
 ghost use Rattle.script_checker.specs.Causes.{is_unknown, is_twice, is_past_limit};
 ghost use Rattle.script_checker.specs.Compiled.{IsLeast, HasNone};
 ghost use Rattle.script_checker.specs.inner.Chosen.{first_cause, is_end};
@@ -29,6 +30,22 @@ fn first_cause(alloc: Global, so_far: &SoFar, form: &Form) -> Result<Option<Chec
     }
 }
 
+/// Adds what a line at the top says that isn't refused, and begins the block that it begins.
+fn add_at_top(
+    alloc: Global,
+    so_far: &mut SoFar,
+    names: &[Name],
+    form: &Form,
+) -> Result<(), OutOfMemory>
+    requires { twice_at_top so_far.old.declared form.now ≡ false }
+    ensures { OnOk result (so_far.new ≡ said_at_top names.now so_far.old.declared form.now) }
+{
+    let block = top::block_begun(alloc, &so_far.declared, form)?;
+    top::declare(alloc, &mut so_far.declared, names, form)?;
+    so_far.block = block;
+    Ok(())
+}
+
 /// Adds what a line says that isn't refused.
 fn add(alloc: Global, so_far: &mut SoFar, names: &[Name], form: &Form) -> Result<(), OutOfMemory>
     requires same { is_end form.now ≡ false }
@@ -37,17 +54,11 @@ fn add(alloc: Global, so_far: &mut SoFar, names: &[Name], form: &Form) -> Result
     requires few { is_past_limit so_far.old.declared so_far.old.block form.now ≡ false }
     ensures { OnOk result (so_far.new ≡ with_said names.now so_far.old form.now) }
 {
-    let declared = &mut so_far.declared;
     match &mut so_far.block {
-        Block::Top => {
-            let block = top::block_begun(alloc, declared, form)?;
-            top::declare(alloc, declared, names, form)?;
-            so_far.block = block;
-        }
-        Block::Graph(open) => graph::add(open, form)?,
-        Block::Action(open) => adding::add(alloc, declared, names, open, form)?,
+        Block::Top => add_at_top(alloc, so_far, names, form),
+        Block::Graph(open) => Ok(graph::add(open, form)?),
+        Block::Action(open) => adding::add(alloc, &so_far.declared, names, open, form),
     }
-    Ok(())
 }
 
 /// Takes a line that ends no block, where it has no cause to be refused.
