@@ -35,7 +35,7 @@ pub fn in_threads<G: Gate + Sync, R: Threads + Wait + Sync>(
     let words = words_of(alloc, words)?;
     let words = words.as_slice();
     let mut source = MemSource::new(alloc, script, &[])?;
-    let mut sink = MemSink::new(alloc, 1000, &[])?;
+    let mut sink = MemSink::new(alloc, 4000, &[])?;
     let plant = MemPlant::new(false);
     if !asks_for_threads(words) {
         return Err(Fail::from("the words ask for no threads"));
