@@ -6,3 +6,4 @@ pub mod PrintedLines
 pub mod ReadsBack
 pub mod WellRead
 pub mod Named
+pub mod Sorted

@@ -2,3 +2,4 @@
 pub mod LineForms
 pub mod ScriptValue
 pub mod Printing
+pub mod Uses

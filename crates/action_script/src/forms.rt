@@ -3,3 +3,4 @@
 pub mod form;
 pub mod printer;
 pub mod script;
+pub mod uses;

@@ -55,7 +55,7 @@ named_within names n h = by (nat_le (length names) n) refl
 
 -- the word of a field is what its part asks for
 pub field_word-part : (names : List (List ℕ)) (p : Part) (f : Field) → fits_part names p f ≡ true → is_part p (field_word names f) ≡ true
-field_word-part names part.Name (field.Name n) h = h
+field_word-part names (part.Name naming) (field.Name n) h = h
 field_word-part names part.Value (field.Value v) h = ap is_some (value_of-decimal v h)
 field_word-part names part.Count (field.Count k) h =
     let p = and_parts (nat_le 1 k) _ h in
@@ -69,7 +69,7 @@ field_word-part names _ _ h = cc
 -- and says that field
 pub field_by-word : (names : List (List ℕ)) (p : Part) (f : Field) → AreNumbered names → fits_part names p f ≡ true
     → field_by names p (field_word names f) ≡ f
-field_by-word names part.Name (field.Name n) numbered h = ap field.Name (numbered n (named_within names n h))
+field_by-word names (part.Name naming) (field.Name n) numbered h = ap field.Name (numbered n (named_within names n h))
 field_by-word names part.Value (field.Value v) numbered h = ap (λ o. field.Value (unwrap_or o (pos 0))) (value_of-decimal v h)
 field_by-word names part.Count (field.Count k) numbered h =
     let p = and_parts (nat_le 1 k) _ h in
@@ -114,7 +114,7 @@ test_field names word (Some t) e h = record { fits = refl; written = test_of-som
 
 pub field_by-is : (names : List (List ℕ)) (p : Part) (word : List ℕ) → is_part p word ≡ true
     → (is_name_part p ≡ true → is_among names word ≡ true) → IsFieldOf names p word (field_by names p word)
-field_by-is names part.Name word h named =
+field_by-is names (part.Name naming) word h named =
     let own = name-number names word (named refl) in
     record { fits = subst (λ w. is_name w ≡ true) (sym own) h; written = own }
 field_by-is names part.Value word h named = value_field names word (value_of word) refl h

@@ -4,6 +4,7 @@ use Rattle.std.specs.List.{list_all}
 use Rattle.std.proofs.lemmas.Bool.{and_parts}
 use Rattle.action_script.specs.declared.lines.field.Part.{Part}
 use Rattle.action_script.specs.declared.lines.field.Part.TheVariants as part
+use Rattle.action_script.specs.declared.lines.sort.Naming.TheVariants as naming
 use Rattle.action_script.specs.declared.lines.field.Field.{Field}
 use Rattle.action_script.specs.declared.lines.field.Field.TheVariants as field
 use Rattle.action_script.specs.declared.forms.form.Form.{Form}
@@ -17,7 +18,7 @@ use Rattle.action_script.proofs.OnForms.Fits.{named_within}
 
 field_below : (names : List (List ℕ)) (p : Part) (f : Field) (fields : List Field) → fits_part names p f ≡ true
     → AreBelow (length names) (numbers_in fields) → AreBelow (length names) (numbers_in (f ∷ fields))
-field_below names part.Name (field.Name n) fields h rest = (named_within names n h, rest)
+field_below names (part.Name naming) (field.Name n) fields h rest = (named_within names n h, rest)
 field_below names _ (field.Name n) fields h rest = cc
 field_below names p (field.Value v) fields h rest = rest
 field_below names p (field.Count k) fields h rest = rest
@@ -27,8 +28,8 @@ fields_below : (names : List (List ℕ)) (parts : List Part) (fields : List Fiel
     → AreBelow (length names) (numbers_in fields)
 fields_below names parts [] h = tt
 fields_below names [] (f ∷ fields) h =
-    let p = and_parts (fits_part names part.Name f) _ h in
-    field_below names part.Name f fields p.0 (fields_below names [] fields p.1)
+    let p = and_parts (fits_part names (part.Name naming.Further) f) _ h in
+    field_below names (part.Name naming.Further) f fields p.0 (fields_below names [] fields p.1)
 fields_below names (r ∷ parts) (f ∷ fields) h =
     let p = and_parts (fits_part names r f) _ h in
     field_below names r f fields p.0 (fields_below names parts fields p.1)

@@ -7,6 +7,7 @@ use Rattle.std.proofs.lemmas.List.{length-map}
 use Rattle.action_script.specs.declared.script_error.ScriptCause.TheVariants as cause
 use Rattle.action_script.specs.declared.lines.field.Part.{Part}
 use Rattle.action_script.specs.declared.lines.field.Part.TheVariants as part
+use Rattle.action_script.specs.declared.lines.sort.Naming.TheVariants as naming
 use Rattle.action_script.specs.declared.lines.field.Field.{Field}
 use Rattle.action_script.specs.declared.forms.form.Form.{Form}
 use Rattle.action_script.specs.declared.lines.kind.Section.{Section}
@@ -47,8 +48,8 @@ pub say_fields : (names : List (List ℕ)) (parts : List Part) (fields : List Fi
     → SayFields names parts fields
 say_fields names parts [] numbered h = record { said = refl; right = refl; words = tt }
 say_fields names [] (f ∷ fields) numbered h =
-    let p = and_parts (fits_part names part.Name f) _ h in
-    let q = say_one names part.Name [] f fields numbered p.0 (say_fields names [] fields numbered p.1) in
+    let p = and_parts (fits_part names (part.Name naming.Further) f) _ h in
+    let q = say_one names (part.Name naming.Further) [] f fields numbered p.0 (say_fields names [] fields numbered p.1) in
     record { said = q.0; right = q.1; words = q.2 }
 say_fields names (r ∷ parts) (f ∷ fields) numbered h =
     let p = and_parts (fits_part names r f) _ h in

@@ -5,13 +5,16 @@ use Rattle.std.proofs.lemmas.Bool.Decides.{nat_tests}
 use Rattle.std.proofs.lemmas.List.{append_assoc}
 use Rattle.action_script.specs.declared.lines.field.Part.{Part}
 use Rattle.action_script.specs.declared.lines.field.Part.TheVariants as part
+use Rattle.action_script.specs.declared.lines.sort.Sort.TheVariants as sort
+use Rattle.action_script.specs.declared.lines.sort.Naming.{Naming}
+use Rattle.action_script.specs.declared.lines.sort.Naming.TheVariants as naming
 use Rattle.action_script.specs.declared.lines.field.Field.{Field}
 use Rattle.action_script.specs.declared.lines.field.Field.TheVariants as field
 use Rattle.action_script.specs.declared.forms.form.Form.{Form}
 use Rattle.action_script.specs.declared.forms.form.Form.TheVariants as form
 use Rattle.action_script.specs.declared.lines.kind.LineKind.{LineKind}
 use Rattle.action_script.specs.declared.lines.kind.LineKind.TheVariants as kind
-use Rattle.action_script.specs.Lines.Kinds.{parts_of, may_go_on, takes}
+use Rattle.action_script.specs.Lines.Kinds.{new, used, parts_of, may_go_on, takes}
 use Rattle.action_script.specs.Forms.LineForms.{kind_of, fields_of, form_by, name_in, value_in, count_in, test_in}
 use Rattle.action_script.specs.Forms.Printing.{fits_part, all_fit}
 
@@ -32,14 +35,14 @@ form_by-own _ = refl
 
 -- the field that a part asks for, by what stands there
 abbrev made : Part → Option Field → Field
-made part.Name o = field.Name (name_in o)
+made (part.Name naming) o = field.Name (name_in o)
 made part.Value o = field.Value (value_in o)
 made part.Count o = field.Count (count_in o)
 made part.Rounds o = field.Count (count_in o)
 made part.Test o = field.Test (test_in o)
 
 made_own : (names : List (List ℕ)) (p : Part) (f : Field) → fits_part names p f ≡ true → made p (Some f) ≡ f
-made_own names part.Name (field.Name n) h = refl
+made_own names (part.Name naming) (field.Name n) h = refl
 made_own names part.Value (field.Value v) h = refl
 made_own names part.Count (field.Count k) h = refl
 made_own names part.Rounds (field.Count k) h = refl
@@ -78,14 +81,14 @@ all_names : (names : List (List ℕ)) (fields : List Field) → all_fit names []
     → map field.Name (map (λ f. name_in (Some f)) fields) ≡ fields
 all_names names [] h = refl
 all_names names (field.Name n ∷ fields) h =
-    let p = and_parts (fits_part names part.Name (field.Name n)) _ h in
+    let p = and_parts (fits_part names (part.Name naming.Further) (field.Name n)) _ h in
     ap (λ l. field.Name n ∷ l) (all_names names fields p.1)
 all_names names (_ ∷ fields) h = cc
 
-some_names : (names : List (List ℕ)) (fields : List Field) → all_fit names (part.Name ∷ []) fields ≡ true
+some_names : (names : List (List ℕ)) (for_this : Naming) (fields : List Field) → all_fit names (part.Name for_this ∷ []) fields ≡ true
     → map field.Name (map (λ f. name_in (Some f)) fields) ≡ fields
-some_names names [] h = refl
-some_names names (f ∷ fields) h = all_names names (f ∷ fields) h
+some_names names for_this [] h = refl
+some_names names for_this (f ∷ fields) h = all_names names (f ∷ fields) h
 
 -- a kind and fields are those of the form that they make
 pub record MakesForm (k : LineKind) (fields : List Field) : Type 0 where
@@ -106,14 +109,18 @@ fields_made _ fields h = refl
 fields_with_more : (names : List (List ℕ)) (k : LineKind) (fields : List Field) → may_go_on k ≡ true
     → all_fit names (parts_of k) fields ≡ true → nat_le (length (parts_of k)) (length fields) ≡ true → fields_of (form_by k fields) ≡ fields
 fields_with_more names kind.Play (f ∷ fields) go h l =
-    let p = and_parts (fits_part names part.Name f) _ h in
-    ap₂ (λ x l. x ∷ l) (made_own names part.Name f p.0) (some_names names fields p.1)
-fields_with_more names kind.Use fields go h l = some_names names fields h
-fields_with_more names kind.Roles fields go h l = some_names names fields h
+    let action = used sort.Action in
+    let p = and_parts (fits_part names action f) _ h in
+    ap₂ (λ x l. x ∷ l) (made_own names action f p.0) (some_names names (naming.Used sort.Participant) fields p.1)
+fields_with_more names kind.Use fields go h l = some_names names (naming.Used sort.Object) fields h
+fields_with_more names kind.Roles fields go h l = some_names names (naming.New sort.Role) fields h
 fields_with_more names kind.Nest (f ∷ g ∷ fields) go h l =
-    let p = and_parts (fits_part names part.Name f) _ h in
-    let q = and_parts (fits_part names part.Name g) _ p.1 in
-    ap₂ (λ x l. x ∷ l) (made_own names part.Name f p.0) (ap₂ (λ x l. x ∷ l) (made_own names part.Name g q.0) (some_names names fields q.1))
+    let nest = new sort.Nest in
+    let action = used sort.Action in
+    let p = and_parts (fits_part names nest f) _ h in
+    let q = and_parts (fits_part names action g) _ p.1 in
+    ap₂ (λ x l. x ∷ l) (made_own names nest f p.0)
+    (ap₂ (λ x l. x ∷ l) (made_own names action g q.0) (some_names names (naming.Used sort.Role) fields q.1))
 fields_with_more names _ fields go h l = cc
 
 equal_length : (n m : ℕ) → (n == m) ≡ true → n ≡ m

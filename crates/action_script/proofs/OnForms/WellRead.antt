@@ -9,6 +9,7 @@ use Rattle.action_script.specs.declared.script_error.ScriptCause.TheVariants as 
 use Rattle.action_script.specs.declared.script_error.ScriptError.{ScriptError}
 use Rattle.action_script.specs.declared.lines.field.Part.{Part}
 use Rattle.action_script.specs.declared.lines.field.Part.TheVariants as part
+use Rattle.action_script.specs.declared.lines.sort.Naming.TheVariants as naming
 use Rattle.action_script.specs.declared.forms.form.Form.{Form}
 use Rattle.action_script.specs.declared.lines.kind.Section.{Section}
 use Rattle.action_script.specs.declared.lines.kind.Section.TheVariants as section
@@ -83,7 +84,7 @@ right_checked asked h = by_tests (list_all (λ a. not (is_wrong_test a)) asked) 
 among_first : (test : List ℕ → Bool) (p : Part) (word : List ℕ) (asked : List Asked)
     → list_all test (names_of (record { part = p; word = word } ∷ asked)) ≡ true → (is_name_part p ≡ true → test word ≡ true)
     × (list_all test (names_of asked) ≡ true)
-among_first test part.Name word asked h = let p = and_parts (test word) _ h in ((λ _. p.0), p.1)
+among_first test (part.Name naming) word asked h = let p = and_parts (test word) _ h in ((λ _. p.0), p.1)
 among_first test part.Value word asked h = ((λ e. cc), h)
 among_first test part.Count word asked h = ((λ e. cc), h)
 among_first test part.Rounds word asked h = ((λ e. cc), h)
@@ -97,9 +98,9 @@ are_fields : (names : List (List ℕ)) (parts : List Part) (words : List (List �
     → list_all (is_among names) (names_of (asked_of parts words)) ≡ true → AreFields names parts words
 are_fields names parts [] right among = record { fits = refl; written = refl }
 are_fields names [] (word ∷ words) right among =
-    let p = and_parts (is_part part.Name word) _ right in
-    let q = among_first (is_among names) part.Name word (asked_of [] words) among in
-    let one = field_by-is names part.Name word p.0 q.0 in
+    let p = and_parts (is_part (part.Name naming.Further) word) _ right in
+    let q = among_first (is_among names) (part.Name naming.Further) word (asked_of [] words) among in
+    let one = field_by-is names (part.Name naming.Further) word p.0 q.0 in
     let rest = are_fields names [] words p.1 q.1 in
     record { fits = rw (one.fits, rest.fits) refl; written = (λ j. one.written j ∷ rest.written j) }
 are_fields names (r ∷ parts) (word ∷ words) right among =

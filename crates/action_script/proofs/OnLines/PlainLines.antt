@@ -8,6 +8,7 @@ use Rattle.action_script.specs.declared.script_error.ScriptCause.{ScriptCause}
 use Rattle.action_script.specs.declared.script_error.ScriptCause.TheVariants as cause
 use Rattle.action_script.specs.declared.lines.field.Part.{Part}
 use Rattle.action_script.specs.declared.lines.field.Part.TheVariants as part
+use Rattle.action_script.specs.declared.lines.sort.Naming.TheVariants as naming
 use Rattle.action_script.specs.declared.lines.kind.Section.{Section}
 use Rattle.action_script.specs.declared.lines.kind.LineKind.{LineKind}
 use Rattle.action_script.specs.Lines.Asked.{Asked, Said}
@@ -60,8 +61,8 @@ word_plain word h = each_byte is_plain inky_plain word h.inky
 right_plain : (parts : List Part) (words : List (List ℕ)) → list_all is_right (asked_of parts words) ≡ true → are_plain words ≡ true
 right_plain parts [] h = refl
 right_plain [] (word ∷ words) h =
-    let p = and_parts (is_part part.Name word) _ h in
-    rw (word_plain word (right_word part.Name word p.0), right_plain [] words p.1) refl
+    let p = and_parts (is_part (part.Name naming.Further) word) _ h in
+    rw (word_plain word (right_word (part.Name naming.Further) word p.0), right_plain [] words p.1) refl
 right_plain (one ∷ parts) (word ∷ words) h =
     let p = and_parts (is_part one word) _ h in
     rw (word_plain word (right_word one word p.0), right_plain parts words p.1) refl

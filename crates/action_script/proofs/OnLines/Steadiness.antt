@@ -7,6 +7,7 @@ use Rattle.std.proofs.lemmas.List.Folds.{list_all-append}
 use Rattle.std.proofs.Math.Seq.{drop-cons, drop-nil, take-suc}
 use Rattle.action_script.specs.declared.lines.field.Part.{Part}
 use Rattle.action_script.specs.declared.lines.field.Part.TheVariants as part
+use Rattle.action_script.specs.declared.lines.sort.Naming.TheVariants as naming
 use Rattle.action_script.specs.declared.lines.field.Field.{Field}
 use Rattle.action_script.specs.declared.lines.field.Field.TheVariants as field
 use Rattle.action_script.specs.declared.forms.script.Line.{Line}
@@ -122,7 +123,7 @@ are_named-script_names lines =
 -- what a word says stays, where its name is among the names
 field_by-with_names : (names words : List (List ℕ)) (p : Part) (word : List ℕ) → (is_name_part p ≡ true → is_among names word ≡ true)
     → field_by (with_names names words) p word ≡ field_by names p word
-field_by-with_names names words part.Name word h = ap field.Name (number_in-with_names names words word (h refl))
+field_by-with_names names words (part.Name naming) word h = ap field.Name (number_in-with_names names words word (h refl))
 field_by-with_names names words part.Value word h = refl
 field_by-with_names names words part.Count word h = refl
 field_by-with_names names words part.Rounds word h = refl
@@ -141,7 +142,7 @@ asked_at (one ∷ parts) (first ∷ words) (suc i) none d within = asked_at part
 
 -- from a place on, it comes before those behind it
 names_from : (words : List (Bor (List ℕ))) (i : ℕ) (none : Bor (List ℕ)) → i < length words
-    → asked_of [] (map (λ w. w.now) (drop i words)) ≡ record { part = part.Name; word = (get_or words i none).now }
+    → asked_of [] (map (λ w. w.now) (drop i words)) ≡ record { part = part.Name naming.Further; word = (get_or words i none).now }
     ∷ asked_of [] (map (λ w. w.now) (drop (suc i) words))
 names_from [] i none within = absurd (omega (arith, within))
 names_from (first ∷ words) zero none within = refl
@@ -155,7 +156,7 @@ pub asked_from : (parts : List Part) (words : List (Bor (List ℕ))) (i : ℕ) (
     } ∷ asked_of (drop (suc i) parts) (map (λ w. w.now) (drop (suc i) words))
 asked_from parts [] i none within = absurd (omega (arith, within))
 asked_from [] words i none within =
-    let word : Asked = record { part = part.Name; word = (get_or words i none).now } in
+    let word : Asked = record { part = part.Name naming.Further; word = (get_or words i none).now } in
     ap (λ p. asked_of p (map (λ w. w.now) (drop i words))) (drop-nil i) ∙ names_from words i none within ∙ ap
     (λ p. word ∷ asked_of p (map (λ w. w.now) (drop (suc i) words))) (sym (drop-nil (suc i)))
 asked_from (one ∷ parts) (first ∷ words) zero none within = refl

@@ -133,7 +133,7 @@ test_is_word word None e h = cc
 test_is_word word (Some t) e h = subst IsWord (test_of-some word t e) (test_inky t)
 
 pub right_word : (p : Part) (word : List ℕ) → is_part p word ≡ true → IsWord word
-right_word part.Name word h = name_word word h
+right_word (part.Name naming) word h = name_word word h
 right_word part.Value word h = value_word word h
 right_word part.Count word h = count_word word (count_of word) refl h
 right_word part.Rounds word h = rounds_word word (rounds_of word) refl h

@@ -4,6 +4,7 @@ use Rattle.std.specs.List.{list_all, flat_map}
 use Rattle.std.specs.Fmt.{signed_decimal}
 use Rattle.action_script.specs.declared.lines.field.Part.{Part}
 use Rattle.action_script.specs.declared.lines.field.Part.TheVariants as part
+use Rattle.action_script.specs.declared.lines.sort.Naming.TheVariants as naming
 use Rattle.action_script.specs.declared.lines.field.Field.{Field}
 use Rattle.action_script.specs.declared.lines.field.Field.TheVariants as field
 use Rattle.action_script.specs.declared.forms.form.Form.{Form}
@@ -50,7 +51,7 @@ text_of script = flat_map (line_text script.names) script.lines
 
 -- a field is what this part asks for: a name by the grammar, or a number in its range
 abbrev pub fits_part : List (List ℕ) → Part → Field → Bool
-fits_part names part.Name (field.Name n) = is_name (name_at names n)
+fits_part names (part.Name naming) (field.Name n) = is_name (name_at names n)
 fits_part names part.Value (field.Value v) = is_value v
 fits_part names part.Count (field.Count k) = nat_le 1 k && nat_le k most_count
 fits_part names part.Rounds (field.Count k) = nat_le k most_count
@@ -60,7 +61,7 @@ fits_part names _ _ = false
 -- fields are what these parts ask for, one after the other; where the parts end, names go on
 abbrev pub all_fit : List (List ℕ) → List Part → List Field → Bool
 all_fit names parts [] = true
-all_fit names [] (f ∷ fields) = fits_part names part.Name f && all_fit names [] fields
+all_fit names [] (f ∷ fields) = fits_part names (part.Name naming.Further) f && all_fit names [] fields
 all_fit names (p ∷ parts) (f ∷ fields) = fits_part names p f && all_fit names parts fields
 
 -- a form has as many fields as its kind takes, so its list isn't empty, and they are what is asked for

@@ -3,10 +3,13 @@
 use Rattle.std.specs.Prelude.{ℕ, ◌==◌, nat_le, if◌then◌else◌, Bool, true, false, not, List, [], ◌∷◌, Option, Some, None, unwrap_or, length, codes}
 use Rattle.action_script.specs.declared.lines.field.Part.{Part}
 use Rattle.action_script.specs.declared.lines.field.Part.TheVariants as part
+use Rattle.action_script.specs.declared.lines.sort.Sort.{Sort}
+use Rattle.action_script.specs.declared.lines.sort.Sort.TheVariants as sort
+use Rattle.action_script.specs.declared.lines.sort.Naming.TheVariants as naming
 use Rattle.action_script.specs.declared.lines.kind.Section.{Section}
 use Rattle.action_script.specs.declared.lines.kind.Section.TheVariants as section
-use Rattle.action_script.specs.declared.lines.kind.Place.{Place}
-use Rattle.action_script.specs.declared.lines.kind.Place.TheVariants as place
+use Rattle.action_script.specs.declared.lines.kind.Stand.{Stand}
+use Rattle.action_script.specs.declared.lines.kind.Stand.TheVariants as stand
 use Rattle.action_script.specs.declared.lines.kind.LineKind.{LineKind}
 use Rattle.action_script.specs.declared.lines.kind.LineKind.TheVariants as kind
 
@@ -41,13 +44,13 @@ in_body section.Body = true
 in_body _ = false
 
 -- at a place where lines may stand
-abbrev pub is_at : Place → Section → Bool
-is_at place.Top s = at_top s
-is_at place.Graph s = in_graph s
-is_at place.Action s = in_action s
-is_at place.Program s = in_program s
-is_at place.Body s = in_body s
-is_at place.Block s = not (at_top s)
+abbrev pub is_at : Stand → Section → Bool
+is_at stand.Top s = at_top s
+is_at stand.Graph s = in_graph s
+is_at stand.Action s = in_action s
+is_at stand.Program s = in_program s
+is_at stand.Body s = in_body s
+is_at stand.Block s = not (at_top s)
 
 -- ---- the table of the kinds
 
@@ -57,48 +60,58 @@ pub record KindRow : Type 0 where
   pub word : List ℕ
   pub parts : List Part
   pub goes_on : Bool
-  pub place : Place
+  pub stand : Stand
   pub leads_to : Option Section
 
-abbrev pub row : List ℕ → List Part → Bool → Place → Option Section → KindRow
-row word parts goes_on place leads_to = record { word = word; parts = parts; goes_on = goes_on; place = place; leads_to = leads_to }
+abbrev pub row : List ℕ → List Part → Bool → Stand → Option Section → KindRow
+row word parts goes_on stand leads_to = record { word = word; parts = parts; goes_on = goes_on; stand = stand; leads_to = leads_to }
+
+-- a name that the line declares as this, one that was declared as this, and one that the nested use named first tells outside
+abbrev pub new : Sort → Part
+new s = part.Name (naming.New s)
+
+abbrev pub used : Sort → Part
+used s = part.Name (naming.Used s)
+
+abbrev pub told : Part
+told = part.Name naming.ToldOutside
 
 -- the row of each kind
 abbrev pub row_of : LineKind → KindRow
-row_of kind.Participant = row (codes "participant") (part.Name ∷ []) false place.Top None
-row_of kind.Object = row (codes "object") (part.Name ∷ part.Value ∷ []) false place.Top None
-row_of kind.Drill = row (codes "drill") (part.Name ∷ part.Count ∷ []) false place.Top None
-row_of kind.Watch = row (codes "watch") (part.Name ∷ []) false place.Top None
-row_of kind.Graph = row (codes "graph") (part.Name ∷ []) false place.Top (Some section.Graph)
-row_of kind.Action = row (codes "action") (part.Name ∷ []) false place.Top (Some section.Action)
-row_of kind.Play = row (codes "play") (part.Name ∷ part.Name ∷ []) true place.Top None
-row_of kind.Exception = row (codes "exception") (part.Name ∷ []) false place.Graph None
-row_of kind.Cover = row (codes "cover") (part.Name ∷ part.Name ∷ []) false place.Graph None
-row_of kind.End = row (codes "end") [] false place.Block (Some section.Top)
-row_of kind.Internal = row (codes "internal") (part.Name ∷ []) false place.Action (Some section.Action)
-row_of kind.Interface = row (codes "interface") (part.Name ∷ []) false place.Action (Some section.Action)
-row_of kind.Fault = row (codes "fault") (part.Name ∷ []) false place.Action (Some section.Action)
-row_of kind.Use = row (codes "use") (part.Name ∷ []) true place.Action (Some section.Action)
-row_of kind.Roles = row (codes "roles") (part.Name ∷ []) true place.Action (Some section.Action)
-row_of kind.Nest = row (codes "nest") (part.Name ∷ part.Name ∷ part.Name ∷ []) true place.Action (Some section.Action)
-row_of kind.Map = row (codes "map") (part.Name ∷ part.Name ∷ part.Name ∷ []) false place.Action (Some section.Action)
-row_of kind.MapUndo = row (codes "mapundo") (part.Name ∷ part.Name ∷ []) false place.Action (Some section.Action)
-row_of kind.MapFailure = row (codes "mapfailure") (part.Name ∷ part.Name ∷ []) false place.Action (Some section.Action)
-row_of kind.Alternate = row (codes "alternate") (part.Name ∷ part.Name ∷ []) false place.Action (Some section.Action)
-row_of kind.Abort = row (codes "abort") (part.Name ∷ part.Name ∷ []) false place.Action (Some section.Action)
-row_of kind.AbortTest = row (codes "abort") (part.Name ∷ part.Test ∷ part.Value ∷ part.Name ∷ []) false place.Action (Some section.Action)
-row_of kind.Body = row (codes "body") (part.Name ∷ []) false place.Action (Some section.Body)
-row_of kind.Handler = row (codes "handler") (part.Name ∷ part.Name ∷ []) false place.Action (Some section.Handler)
-row_of kind.Read = row (codes "read") (part.Name ∷ []) false place.Program None
-row_of kind.Put = row (codes "put") (part.Name ∷ part.Value ∷ []) false place.Program None
-row_of kind.Add = row (codes "add") (part.Name ∷ part.Value ∷ []) false place.Program None
-row_of kind.Work = row (codes "work") (part.Rounds ∷ []) false place.Program None
-row_of kind.Check = row (codes "check") (part.Test ∷ part.Value ∷ part.Name ∷ []) false place.Program None
-row_of kind.Raise = row (codes "raise") (part.Name ∷ []) false place.Program None
-row_of kind.Enter = row (codes "enter") (part.Name ∷ []) false place.Body None
-row_of kind.Done = row (codes "done") [] false place.Program (Some section.Action)
-row_of kind.Signal = row (codes "signal") (part.Name ∷ []) false place.Program (Some section.Action)
-row_of kind.Undo = row (codes "undo") [] false place.Program (Some section.Action)
+row_of kind.Participant = row (codes "participant") (new sort.Participant ∷ []) false stand.Top None
+row_of kind.Object = row (codes "object") (new sort.Object ∷ part.Value ∷ []) false stand.Top None
+row_of kind.Drill = row (codes "drill") (used sort.Object ∷ part.Count ∷ []) false stand.Top None
+row_of kind.Watch = row (codes "watch") (used sort.Object ∷ []) false stand.Top None
+row_of kind.Graph = row (codes "graph") (new sort.Graph ∷ []) false stand.Top (Some section.Graph)
+row_of kind.Action = row (codes "action") (new sort.Action ∷ []) false stand.Top (Some section.Action)
+row_of kind.Play = row (codes "play") (used sort.Action ∷ used sort.Participant ∷ []) true stand.Top None
+row_of kind.Exception = row (codes "exception") (new sort.Own ∷ []) false stand.Graph None
+row_of kind.Cover = row (codes "cover") (used sort.Own ∷ used sort.Own ∷ []) false stand.Graph None
+row_of kind.End = row (codes "end") [] false stand.Block (Some section.Top)
+row_of kind.Internal = row (codes "internal") (used sort.Graph ∷ []) false stand.Action (Some section.Action)
+row_of kind.Interface = row (codes "interface") (used sort.Graph ∷ []) false stand.Action (Some section.Action)
+row_of kind.Fault = row (codes "fault") (used sort.Inner ∷ []) false stand.Action (Some section.Action)
+row_of kind.Use = row (codes "use") (used sort.Object ∷ []) true stand.Action (Some section.Action)
+row_of kind.Roles = row (codes "roles") (new sort.Role ∷ []) true stand.Action (Some section.Action)
+row_of kind.Nest = row (codes "nest") (new sort.Nest ∷ used sort.Action ∷ used sort.Role ∷ []) true stand.Action (Some section.Action)
+row_of kind.Map = row (codes "map") (used sort.Nest ∷ told ∷ used sort.Inner ∷ []) false stand.Action (Some section.Action)
+row_of kind.MapUndo = row (codes "mapundo") (used sort.Nest ∷ used sort.Inner ∷ []) false stand.Action (Some section.Action)
+row_of kind.MapFailure = row (codes "mapfailure") (used sort.Nest ∷ used sort.Inner ∷ []) false stand.Action (Some section.Action)
+row_of kind.Alternate = row (codes "alternate") (used sort.Nest ∷ used sort.Action ∷ []) false stand.Action (Some section.Action)
+row_of kind.Abort = row (codes "abort") (used sort.Role ∷ used sort.Outer ∷ []) false stand.Action (Some section.Action)
+row_of kind.AbortTest = row (codes "abort") (used sort.Role ∷ part.Test ∷ part.Value ∷ used sort.Outer ∷ []) false stand.Action (Some section.Action)
+row_of kind.Body = row (codes "body") (used sort.Role ∷ []) false stand.Action (Some section.Body)
+row_of kind.Handler = row (codes "handler") (used sort.Role ∷ used sort.Inner ∷ []) false stand.Action (Some section.Handler)
+row_of kind.Read = row (codes "read") (used sort.Object ∷ []) false stand.Program None
+row_of kind.Put = row (codes "put") (used sort.Object ∷ part.Value ∷ []) false stand.Program None
+row_of kind.Add = row (codes "add") (used sort.Object ∷ part.Value ∷ []) false stand.Program None
+row_of kind.Work = row (codes "work") (part.Rounds ∷ []) false stand.Program None
+row_of kind.Check = row (codes "check") (part.Test ∷ part.Value ∷ used sort.Inner ∷ []) false stand.Program None
+row_of kind.Raise = row (codes "raise") (used sort.Inner ∷ []) false stand.Program None
+row_of kind.Enter = row (codes "enter") (used sort.Nest ∷ []) false stand.Body None
+row_of kind.Done = row (codes "done") [] false stand.Program (Some section.Action)
+row_of kind.Signal = row (codes "signal") (used sort.Outer ∷ []) false stand.Program (Some section.Action)
+row_of kind.Undo = row (codes "undo") [] false stand.Program (Some section.Action)
 
 -- the word that begins a line
 abbrev pub word_of : LineKind → List ℕ
@@ -118,7 +131,7 @@ takes kind count = if may_go_on kind then nat_le (length (parts_of kind)) count 
 
 -- the line may stand where the reader is
 abbrev pub stands_in : LineKind → Section → Bool
-stands_in kind s = is_at (row_of kind).place s
+stands_in kind s = is_at (row_of kind).stand s
 
 -- where the reader is after the line
 abbrev pub goes_to : LineKind → Section → Section

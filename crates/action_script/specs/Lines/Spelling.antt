@@ -7,6 +7,7 @@ use Rattle.action_script.specs.declared.script_error.ScriptCause.TheVariants as 
 use Rattle.action_script.specs.declared.script_error.ScriptError.{ScriptError}
 use Rattle.action_script.specs.declared.lines.field.Part.{Part}
 use Rattle.action_script.specs.declared.lines.field.Part.TheVariants as part
+use Rattle.action_script.specs.declared.lines.sort.Naming.TheVariants as naming
 use Rattle.action_script.specs.declared.lines.field.Field.{Field}
 use Rattle.action_script.specs.declared.lines.field.Field.TheVariants as field
 use Rattle.action_script.specs.declared.lines.kind.Section.{Section}
@@ -28,12 +29,12 @@ use Rattle.action_script.specs.Forms.ScriptValue.{Script}
 -- what each word of a line is asked to be; where the parts end, names go on
 abbrev pub asked_of : List Part → List (List ℕ) → List Asked
 asked_of parts [] = []
-asked_of [] (word ∷ words) = record { part = part.Name; word = word } ∷ asked_of [] words
+asked_of [] (word ∷ words) = record { part = part.Name naming.Further; word = word } ∷ asked_of [] words
 asked_of (p ∷ parts) (word ∷ words) = record { part = p; word = word } ∷ asked_of parts words
 
 -- a word is what this part asks for
 abbrev pub is_part : Part → List ℕ → Bool
-is_part part.Name word = is_name word
+is_part (part.Name naming) word = is_name word
 is_part part.Value word = is_some (value_of word)
 is_part part.Count word = is_some (count_of word)
 is_part part.Rounds word = is_some (rounds_of word)
@@ -54,7 +55,7 @@ is_wrong_test a = is_test a.part && not (is_right a)
 
 -- the fault of a word that isn't what this part asks for
 abbrev pub cause_of : Part → ScriptCause
-cause_of part.Name = cause.BadName
+cause_of (part.Name naming) = cause.BadName
 cause_of part.Value = cause.BadNumber
 cause_of part.Count = cause.BadNumber
 cause_of part.Rounds = cause.BadNumber
@@ -62,7 +63,7 @@ cause_of part.Test = cause.BadLine
 
 -- what a word says that is what this part asks for, by the names of the script
 abbrev pub field_by : List (List ℕ) → Part → List ℕ → Field
-field_by names part.Name word = field.Name (number_in names word)
+field_by names (part.Name naming) word = field.Name (number_in names word)
 field_by names part.Value word = field.Value (unwrap_or (value_of word) (pos 0))
 field_by names part.Count word = field.Count (unwrap_or (count_of word) 0)
 field_by names part.Rounds word = field.Count (unwrap_or (rounds_of word) 0)
@@ -74,7 +75,7 @@ field_of names a = field_by names a.part a.word
 
 -- the part asks for a name
 abbrev pub is_name_part : Part → Bool
-is_name_part part.Name = true
+is_name_part (part.Name naming) = true
 is_name_part _ = false
 
 -- the words that are asked to be names

@@ -6,6 +6,7 @@ ghost use Rattle.action_script.specs.inner.OneLine.{part_at};
 ghost use Rattle.action_script.specs.declared.script_error.ScriptCause.TheVariants as cause;
 
 use crate::lines::field::{Field, Part};
+use crate::lines::sort::Naming;
 use crate::script_error::ScriptCause;
 use crate::words::names::NameTable;
 use crate::words::word::{count_of, rounds_of, test_of, value_of};
@@ -34,7 +35,7 @@ fn is_part(part: Part, word: &[u8]) -> bool
     ensures { result ≡ is_part part word.now }
 {
     match part {
-        Part::Name => is_name(word),
+        Part::Name(_) => is_name(word),
         Part::Value => value_of(word).is_some(),
         Part::Count => count_of(word).is_some(),
         Part::Rounds => rounds_of(word).is_some(),
@@ -46,7 +47,10 @@ fn is_part(part: Part, word: &[u8]) -> bool
 fn part_at(parts: &[Part], index: usize) -> Part
     ensures { result ≡ part_at parts.now index }
 {
-    parts.get(index).copied().unwrap_or(Part::Name)
+    parts
+        .get(index)
+        .copied()
+        .unwrap_or(Part::Name(Naming::Further))
 }
 
 /// What a word says, if it is what a part asks for. A name is added to those of the script.
@@ -63,7 +67,7 @@ fn take_field<'a>(
     ensures refused { IfErr result (λ e. e ≡ cause.OutOfMemory) }
 {
     Ok(match part {
-        Part::Name => names.take(word)?.map(Field::Name),
+        Part::Name(_) => names.take(word)?.map(Field::Name),
         Part::Value => value_of(word).map(Field::Value),
         Part::Count => count_of(word).map(Field::Count),
         Part::Rounds => rounds_of(word).map(Field::Count),
@@ -82,7 +86,7 @@ fn cause_of(part: Part) -> ScriptCause
     ensures { result ≡ cause_of part }
 {
     match part {
-        Part::Name => ScriptCause::BadName,
+        Part::Name(_) => ScriptCause::BadName,
         Part::Value | Part::Count | Part::Rounds => ScriptCause::BadNumber,
         Part::Test => ScriptCause::BadLine,
     }

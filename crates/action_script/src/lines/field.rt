@@ -1,10 +1,11 @@
+use crate::lines::sort::Naming;
 use caa_base::written::entry::Test;
 
 /// What a word of a line is asked to be.
 #[derive(Clone, Copy)]
 pub enum Part {
-    /// A name.
-    Name,
+    /// A name, and what it is for.
+    Name(Naming),
     /// A number between `MOST_VALUE` below 0 and `MOST_VALUE` above.
     Value,
     /// A number from 1 to `MOST_COUNT`.

@@ -3,6 +3,8 @@ ghost use Rattle.action_script.specs.Lines.Kinds.{row, row_of, word_of, parts_of
 
 use crate::lines::field::Part;
 use crate::lines::field::Part::{Count, Name, Rounds, Test, Value};
+use crate::lines::sort::Naming::{New, ToldOutside, Used};
+use crate::lines::sort::Sort;
 use std::marker::Model;
 
 /// Where the reader of a script is.
@@ -168,7 +170,7 @@ pub const KINDS: [LineKind; 34] = [
 
 /// Where a line may stand.
 #[derive(Clone, Copy)]
-pub enum Place {
+pub enum Stand {
     /// Outside all graphs and actions.
     Top,
     /// In a graph.
@@ -183,18 +185,18 @@ pub enum Place {
     Block,
 }
 
-impl Place {
+impl Stand {
     /// Whether the reader is there.
     fn is_at(self, section: Section) -> bool
         ensures { result ≡ is_at self section }
     {
         match self {
-            Place::Top => section.at_top(),
-            Place::Graph => section.in_graph(),
-            Place::Action => section.in_action(),
-            Place::Program => section.in_program(),
-            Place::Body => section.in_body(),
-            Place::Block => !section.at_top(),
+            Stand::Top => section.at_top(),
+            Stand::Graph => section.in_graph(),
+            Stand::Action => section.in_action(),
+            Stand::Program => section.in_program(),
+            Stand::Body => section.in_body(),
+            Stand::Block => !section.at_top(),
         }
     }
 }
@@ -209,7 +211,7 @@ struct KindRow {
     /// Whether further names may follow.
     goes_on: bool,
     /// Where the line may stand.
-    place: Place,
+    stand: Stand,
     /// Where the reader is after it; none where it stays where it was.
     leads_to: Option<Section>,
 }
@@ -219,23 +221,23 @@ impl Model for KindRow {
 
     ghost Value = { Row };
 
-    ghost view = { λ r. record { word = r.word.now; parts = r.parts.now; goes_on = r.goes_on; place = r.place; leads_to = r.leads_to } };
+    ghost view = { λ r. record { word = r.word.now; parts = r.parts.now; goes_on = r.goes_on; stand = r.stand; leads_to = r.leads_to } };
 }
 
 /// The row of a kind whose lines have just these words.
 fn row(
     word: &'static [u8],
     parts: &'static [Part],
-    place: Place,
+    stand: Stand,
     leads_to: Option<Section>,
 ) -> KindRow
-    ensures { result ≡ row word.now parts.now false place leads_to }
+    ensures { result ≡ row word.now parts.now false stand leads_to }
 {
     KindRow {
         word,
         parts,
         goes_on: false,
-        place,
+        stand,
         leads_to,
     }
 }
@@ -244,16 +246,16 @@ fn row(
 fn row_with_more(
     word: &'static [u8],
     parts: &'static [Part],
-    place: Place,
+    stand: Stand,
     leads_to: Option<Section>,
 ) -> KindRow
-    ensures { result ≡ row word.now parts.now true place leads_to }
+    ensures { result ≡ row word.now parts.now true stand leads_to }
 {
     KindRow {
         word,
         parts,
         goes_on: true,
-        place,
+        stand,
         leads_to,
     }
 }
@@ -264,85 +266,173 @@ impl LineKind {
         ensures { result ≡ row_of self }
     {
         match self {
-            LineKind::Participant => row(b"participant", &[Name], Place::Top, None),
-            LineKind::Object => row(b"object", &[Name, Value], Place::Top, None),
-            LineKind::Drill => row(b"drill", &[Name, Count], Place::Top, None),
-            LineKind::Watch => row(b"watch", &[Name], Place::Top, None),
-            LineKind::Graph => row(b"graph", &[Name], Place::Top, Some(Section::Graph)),
-            LineKind::Action => row(b"action", &[Name], Place::Top, Some(Section::Action)),
-            LineKind::Play => row_with_more(b"play", &[Name, Name], Place::Top, None),
-            LineKind::Exception => row(b"exception", &[Name], Place::Graph, None),
-            LineKind::Cover => row(b"cover", &[Name, Name], Place::Graph, None),
-            LineKind::End => row(b"end", &[], Place::Block, Some(Section::Top)),
-            LineKind::Internal => row(b"internal", &[Name], Place::Action, Some(Section::Action)),
-            LineKind::Interface => row(b"interface", &[Name], Place::Action, Some(Section::Action)),
-            LineKind::Fault => row(b"fault", &[Name], Place::Action, Some(Section::Action)),
-            LineKind::Use => row_with_more(b"use", &[Name], Place::Action, Some(Section::Action)),
+            LineKind::Participant => row(
+                b"participant",
+                &[Name(New(Sort::Participant))],
+                Stand::Top,
+                None,
+            ),
+            LineKind::Object => row(
+                b"object",
+                &[Name(New(Sort::Object)), Value],
+                Stand::Top,
+                None,
+            ),
+            LineKind::Drill => row(
+                b"drill",
+                &[Name(Used(Sort::Object)), Count],
+                Stand::Top,
+                None,
+            ),
+            LineKind::Watch => row(b"watch", &[Name(Used(Sort::Object))], Stand::Top, None),
+            LineKind::Graph => row(
+                b"graph",
+                &[Name(New(Sort::Graph))],
+                Stand::Top,
+                Some(Section::Graph),
+            ),
+            LineKind::Action => row(
+                b"action",
+                &[Name(New(Sort::Action))],
+                Stand::Top,
+                Some(Section::Action),
+            ),
+            LineKind::Play => row_with_more(
+                b"play",
+                &[Name(Used(Sort::Action)), Name(Used(Sort::Participant))],
+                Stand::Top,
+                None,
+            ),
+            LineKind::Exception => row(b"exception", &[Name(New(Sort::Own))], Stand::Graph, None),
+            LineKind::Cover => row(
+                b"cover",
+                &[Name(Used(Sort::Own)), Name(Used(Sort::Own))],
+                Stand::Graph,
+                None,
+            ),
+            LineKind::End => row(b"end", &[], Stand::Block, Some(Section::Top)),
+            LineKind::Internal => row(
+                b"internal",
+                &[Name(Used(Sort::Graph))],
+                Stand::Action,
+                Some(Section::Action),
+            ),
+            LineKind::Interface => row(
+                b"interface",
+                &[Name(Used(Sort::Graph))],
+                Stand::Action,
+                Some(Section::Action),
+            ),
+            LineKind::Fault => row(
+                b"fault",
+                &[Name(Used(Sort::Inner))],
+                Stand::Action,
+                Some(Section::Action),
+            ),
+            LineKind::Use => row_with_more(
+                b"use",
+                &[Name(Used(Sort::Object))],
+                Stand::Action,
+                Some(Section::Action),
+            ),
             LineKind::Roles => row_with_more(
                 b"roles",
-                &[Name],
-                Place::Action,
+                &[Name(New(Sort::Role))],
+                Stand::Action,
                 Some(Section::Action),
             ),
             LineKind::Nest => row_with_more(
                 b"nest",
-                &[Name, Name, Name],
-                Place::Action,
+                &[
+                    Name(New(Sort::Nest)),
+                    Name(Used(Sort::Action)),
+                    Name(Used(Sort::Role)),
+                ],
+                Stand::Action,
                 Some(Section::Action),
             ),
             LineKind::Map => row(
                 b"map",
-                &[Name, Name, Name],
-                Place::Action,
+                &[
+                    Name(Used(Sort::Nest)),
+                    Name(ToldOutside),
+                    Name(Used(Sort::Inner)),
+                ],
+                Stand::Action,
                 Some(Section::Action),
             ),
             LineKind::MapUndo => row(
                 b"mapundo",
-                &[Name, Name],
-                Place::Action,
+                &[Name(Used(Sort::Nest)), Name(Used(Sort::Inner))],
+                Stand::Action,
                 Some(Section::Action),
             ),
             LineKind::MapFailure => row(
                 b"mapfailure",
-                &[Name, Name],
-                Place::Action,
+                &[Name(Used(Sort::Nest)), Name(Used(Sort::Inner))],
+                Stand::Action,
                 Some(Section::Action),
             ),
             LineKind::Alternate => row(
                 b"alternate",
-                &[Name, Name],
-                Place::Action,
+                &[Name(Used(Sort::Nest)), Name(Used(Sort::Action))],
+                Stand::Action,
                 Some(Section::Action),
             ),
             LineKind::Abort => row(
                 b"abort",
-                &[Name, Name],
-                Place::Action,
+                &[Name(Used(Sort::Role)), Name(Used(Sort::Outer))],
+                Stand::Action,
                 Some(Section::Action),
             ),
             LineKind::AbortTest => row(
                 b"abort",
-                &[Name, Test, Value, Name],
-                Place::Action,
+                &[Name(Used(Sort::Role)), Test, Value, Name(Used(Sort::Outer))],
+                Stand::Action,
                 Some(Section::Action),
             ),
-            LineKind::Body => row(b"body", &[Name], Place::Action, Some(Section::Body)),
+            LineKind::Body => row(
+                b"body",
+                &[Name(Used(Sort::Role))],
+                Stand::Action,
+                Some(Section::Body),
+            ),
             LineKind::Handler => row(
                 b"handler",
-                &[Name, Name],
-                Place::Action,
+                &[Name(Used(Sort::Role)), Name(Used(Sort::Inner))],
+                Stand::Action,
                 Some(Section::Handler),
             ),
-            LineKind::Read => row(b"read", &[Name], Place::Program, None),
-            LineKind::Put => row(b"put", &[Name, Value], Place::Program, None),
-            LineKind::Add => row(b"add", &[Name, Value], Place::Program, None),
-            LineKind::Work => row(b"work", &[Rounds], Place::Program, None),
-            LineKind::Check => row(b"check", &[Test, Value, Name], Place::Program, None),
-            LineKind::Raise => row(b"raise", &[Name], Place::Program, None),
-            LineKind::Enter => row(b"enter", &[Name], Place::Body, None),
-            LineKind::Done => row(b"done", &[], Place::Program, Some(Section::Action)),
-            LineKind::Signal => row(b"signal", &[Name], Place::Program, Some(Section::Action)),
-            LineKind::Undo => row(b"undo", &[], Place::Program, Some(Section::Action)),
+            LineKind::Read => row(b"read", &[Name(Used(Sort::Object))], Stand::Program, None),
+            LineKind::Put => row(
+                b"put",
+                &[Name(Used(Sort::Object)), Value],
+                Stand::Program,
+                None,
+            ),
+            LineKind::Add => row(
+                b"add",
+                &[Name(Used(Sort::Object)), Value],
+                Stand::Program,
+                None,
+            ),
+            LineKind::Work => row(b"work", &[Rounds], Stand::Program, None),
+            LineKind::Check => row(
+                b"check",
+                &[Test, Value, Name(Used(Sort::Inner))],
+                Stand::Program,
+                None,
+            ),
+            LineKind::Raise => row(b"raise", &[Name(Used(Sort::Inner))], Stand::Program, None),
+            LineKind::Enter => row(b"enter", &[Name(Used(Sort::Nest))], Stand::Body, None),
+            LineKind::Done => row(b"done", &[], Stand::Program, Some(Section::Action)),
+            LineKind::Signal => row(
+                b"signal",
+                &[Name(Used(Sort::Outer))],
+                Stand::Program,
+                Some(Section::Action),
+            ),
+            LineKind::Undo => row(b"undo", &[], Stand::Program, Some(Section::Action)),
         }
     }
 
@@ -376,7 +466,7 @@ impl LineKind {
     pub fn stands_in(self, section: Section) -> bool
         ensures { result ≡ stands_in self section }
     {
-        self.row().place.is_at(section)
+        self.row().stand.is_at(section)
     }
 
     /// Where the reader is after the line.
