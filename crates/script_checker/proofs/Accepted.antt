@@ -16,9 +16,10 @@ use Rattle.script_checker.specs.declared.declared.Block.TheVariants as block
 use Rattle.script_checker.specs.declared.open_graph.DeclaredGraph.{DeclaredGraph}
 use Rattle.script_checker.specs.declared.open_action.OpenAction.{OpenAction}
 use Rattle.script_checker.specs.declared.open_action.OpenProgram.{OpenProgram}
-use Rattle.script_checker.specs.AtTop.{unknown_at_top, twice_at_top, unfilled_at_top, filled_twice_at_top, past_limit_at_top, past_bound_at_top, declared_with, block_begun}
+use Rattle.script_checker.specs.AtTop.{twice_at_top, unfilled_at_top, filled_twice_at_top, past_limit_at_top, past_bound_at_top, declared_with, block_begun}
 use Rattle.script_checker.specs.InGraph.{twice_in_graph, graph_with}
-use Rattle.script_checker.specs.InAction.{goes_on, closed, closed_if, action_with, unknown_in_action, twice_in_action, unfilled_in_action, filled_twice_in_action, enters_otherwise_in_action, not_held_in_action, too_deep_in_action, past_limit_in_action, other_face_in_action}
+use Rattle.script_checker.specs.InAction.{goes_on, closed, closed_if, action_with, twice_in_action, unfilled_in_action, filled_twice_in_action, enters_otherwise_in_action, not_held_in_action, too_deep_in_action, past_limit_in_action, other_face_in_action}
+use Rattle.script_checker.specs.Causes.{is_unknown}
 use Rattle.script_checker.specs.After.{ended, said_in, settled_block, after}
 use Rattle.script_checker.specs.Compiled.{HasNone, declared_after, AreAccepted}
 
@@ -28,8 +29,8 @@ abbrev pub NoneAtTop : Declared → Form → Type 0
 NoneAtTop d f = HasNone (record { declared = d; block = block.Top }) f
 
 module _ (d : Declared) (f : Form) (none : NoneAtTop d f) where
-  pub known_at_top : unknown_at_top d f ≡ false
-  known_at_top = false_from_ne_true (unknown_at_top d f) (λ e. none cause.Unknown e)
+  pub known_at_top : is_unknown d block.Top f ≡ false
+  known_at_top = false_from_ne_true (is_unknown d block.Top f) (λ e. none cause.Unknown e)
 
   pub once_at_top : twice_at_top d f ≡ false
   once_at_top = false_from_ne_true (twice_at_top d f) (λ e. none cause.Twice e)
@@ -60,8 +61,8 @@ abbrev pub NoneInAction : Declared → OpenAction → Form → Type 0
 NoneInAction d a f = HasNone (record { declared = d; block = block.Action a }) f
 
 module _ (d : Declared) (a : OpenAction) (f : Form) (none : NoneInAction d a f) where
-  pub known : unknown_in_action d a f ≡ false
-  known = false_from_ne_true (unknown_in_action d a f) (λ e. none cause.Unknown e)
+  pub known : is_unknown d (block.Action a) f ≡ false
+  known = false_from_ne_true (is_unknown d (block.Action a) f) (λ e. none cause.Unknown e)
 
   pub once : twice_in_action d a f ≡ false
   once = false_from_ne_true (twice_in_action d a f) (λ e. none cause.Twice e)

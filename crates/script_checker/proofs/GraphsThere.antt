@@ -20,6 +20,7 @@ use Rattle.script_checker.specs.InGraph.{graph_with}
 use Rattle.script_checker.specs.InAction.{closed_if, action_with}
 use Rattle.script_checker.specs.After.{ended}
 use Rattle.caa_base.proofs.ListLemmas.{at_row}
+use Rattle.script_checker.proofs.KnownNames.{one_known}
 use Rattle.script_checker.proofs.Accepted.{IsKept, NoneInAction, known}
 use Rattle.script_checker.proofs.ListsChange.{all_push}
 use Rattle.script_checker.proofs.CountsKept.{open_graphs}
@@ -81,8 +82,8 @@ module _ (names : List (List ℕ)) (d : Declared) where
 
   acts_there : (a : OpenAction) (f : Form) → NoneInAction d a f → GraphsThere d (block.Action a)
       → OpenThere d (block.Action (action_with names d a f))
-  acts_there a (form.Internal graph) none h = (named_there a graph (not-false _ (known d a (form.Internal graph) none)) h, h.begun.1)
-  acts_there a (form.Interface graph) none h = (h.begun.0, named_there a graph (not-false _ (known d a (form.Interface graph) none)) h)
+  acts_there a (form.Internal graph) none h = (named_there a graph (one_known (is_among d.graph_names graph) (known d a (form.Internal graph) none)) h, h.begun.1)
+  acts_there a (form.Interface graph) none h = (h.begun.0, named_there a graph (one_known (is_among d.graph_names graph) (known d a (form.Interface graph) none)) h)
   acts_there a form.DoneLine none h = closed_there d a _ a.program h.begun
   acts_there a (form.SignalLine x) none h = closed_there d a _ a.program h.begun
   acts_there a form.UndoLine none h = closed_there d a _ a.program h.begun

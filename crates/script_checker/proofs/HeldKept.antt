@@ -29,9 +29,10 @@ use Rattle.script_checker.specs.AtTop.{is_action, declared_with, block_begun}
 use Rattle.script_checker.specs.InAction.{closed_if, steps_of, with_step, begun_program, with_program, idle_role, with_abort, with_nest, action_with, row_of}
 use Rattle.script_checker.specs.After.{ended}
 use Rattle.caa_base.proofs.ListLemmas.{all_imply, empty_is}
+use Rattle.script_checker.proofs.KnownNames.{two_known, then_known}
 use Rattle.script_checker.proofs.Accepted.{IsKept, NoneInAction, known, once, held}
 use Rattle.script_checker.proofs.ListsChange.{all_push, all_change, all_set, all_mapped, all_rows}
-use Rattle.script_checker.proofs.NestTests.{neither, below_more, one_longer, acts_same}
+use Rattle.script_checker.proofs.NestTests.{below_more, one_longer, acts_same}
 
 abbrev all_members : List ℕ → ActionRow → Bool
 all_members objects action = list_all (λ o. member o objects) action.objects
@@ -176,7 +177,7 @@ module _ (names : List (List ℕ)) (d : Declared) (a : OpenAction) (h : OpenHeld
         holds_nests = h.holds_nests;
       }
   says_held (form.Nest nest action roles) none =
-      let there = neither (is_action d action) (list_all (is_among a.roles) roles) (known d a (form.Nest nest action roles) none) in
+      let there = then_known (is_action d action) (list_all (is_among a.roles) roles) (known d a (form.Nest nest action roles) none) in
       let m = not-false _ (held d a (form.Nest nest action roles) none) in
       record {
         steps_held = h.steps_held;
@@ -188,7 +189,7 @@ module _ (names : List (List ℕ)) (d : Declared) (a : OpenAction) (h : OpenHeld
   says_held (form.MapUndo nest x) none = other_nest nest _ (λ k. k)
   says_held (form.MapFailure nest x) none = other_nest nest _ (λ k. k)
   says_held (form.Alternate nest action) none =
-      let there = neither (is_among a.nest_names nest) (is_action d action) (known d a (form.Alternate nest action) none) in
+      let there = two_known (is_among a.nest_names nest) (is_action d action) (known d a (form.Alternate nest action) none) in
       let m = not-false _ (held d a (form.Alternate nest action) none) in
       let row = (nest_of a nest).row in
       other_nest nest _ (λ k.

@@ -11,6 +11,7 @@ pub mod GraphsKept
 pub mod GraphsThere
 pub mod HandlersKept
 pub mod HeldKept
+pub mod KnownNames
 pub mod ListsChange
 pub mod MapsKept
 pub mod NamesKept
@@ -24,6 +25,7 @@ pub mod PartsNamed
 pub mod PlayLines
 pub mod PlaysKept
 pub mod RangesKept
+pub mod SameUnknown
 pub mod SizesTold
 pub mod Stands
 pub mod Taking

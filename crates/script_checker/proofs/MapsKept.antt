@@ -24,9 +24,10 @@ use Rattle.script_checker.specs.AtTop.{is_action, declared_with, block_begun}
 use Rattle.script_checker.specs.InAction.{closed_if, with_nest, action_with, row_of}
 use Rattle.script_checker.specs.After.{ended}
 use Rattle.caa_base.proofs.ListLemmas.{at_row}
+use Rattle.script_checker.proofs.KnownNames.{then_known}
 use Rattle.script_checker.proofs.Accepted.{IsKept, NoneInAction, known}
 use Rattle.script_checker.proofs.ListsChange.{all_push, all_set, all_rows}
-use Rattle.script_checker.proofs.NestTests.{neither, same_action}
+use Rattle.script_checker.proofs.NestTests.{same_action}
 use Rattle.script_checker.proofs.RangesKept.{AreInRange, action_right, ranges_kept, in_range_at_first}
 
 -- by the count of exceptions of each graph, and the graph of the exceptions that each action tells outside
@@ -142,7 +143,7 @@ module _ (names : List (List ℕ)) (d : Declared) where
   acts_maps a (form.Nest nest action roles) none ranges count face b h =
       let there =
       ltb-true _ _
-      (neither (is_action d action) (list_all (is_among a.roles) roles) (known d a (form.Nest nest action roles) none)).0 in
+      (then_known (is_action d action) (list_all (is_among a.roles) roles) (known d a (form.Nest nest action roles) none)).0 in
       let outside = (action_of d action).interface in
       let n : length (replicate (length (exceptions_at d.graphs outside)) 0) ≡ count (face (index_of action d.action_names)) =
       length-replicate (length (exceptions_at d.graphs outside)) 0 ∙ sym

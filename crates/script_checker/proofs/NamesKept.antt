@@ -28,6 +28,7 @@ use Rattle.script_checker.specs.InGraph.{graph_with}
 use Rattle.script_checker.specs.After.{ended}
 use Rattle.script_checker.specs.Compiled.{exception_name, declared_after, IsRowOf, AreRowsOf, IsPlanOf}
 use Rattle.place_plan.specs.Plans.OwnNames.{AreOwnNames, NamesExceptions, HasOwnNames}
+use Rattle.script_checker.proofs.KnownNames.{one_known}
 use Rattle.script_checker.proofs.Accepted.{IsKept, NoneAtTop, NoneInGraph, known_at_top, once_at_top, once_in_graph, holds_after}
 use Rattle.script_checker.proofs.GraphRows.{found}
 
@@ -190,7 +191,7 @@ module _ (names : List (List ℕ)) (numbered : AreNumbered names) where
     h.0,
     h.1,
     h.2,
-    watches_push d.objects d.watches n (not-false (is_among d.objects n) (known_at_top d (form.Watch n) none))
+    watches_push d.objects d.watches n (one_known (is_among d.objects n) (known_at_top d (form.Watch n) none))
         (once_at_top d (form.Watch n) none) h.3,
   )
   begins_stand d f sound none h = h

@@ -13,6 +13,7 @@ use Rattle.script_checker.specs.declared.open_graph.DeclaredGraph.{DeclaredGraph
 use Rattle.script_checker.specs.Numbers.{is_among}
 use Rattle.script_checker.specs.DeclaredSoFar.{nest_of, action_of}
 use Rattle.script_checker.specs.AtTop.{is_action}
+use Rattle.script_checker.proofs.KnownNames.{two_known, then_known}
 use Rattle.script_checker.proofs.Accepted.{known, filled, differing, faced}
 use Rattle.caa_base.proofs.ListLemmas.{all_imply}
 use Rattle.script_checker.proofs.ListsChange.{all_push}
@@ -104,13 +105,13 @@ one_longer actions more = let n : length (actions ++ more ∷ []) ≡ length act
 pub there_test : IsNestTest uses_there
 there_test = record {
   nested = λ names d a nest action roles none.
-      let k = neither (is_action d action) (list_all (is_among a.roles) roles) (known d a (form.Nest nest action roles) none) in
+      let k = then_known (is_action d action) (list_all (is_among a.roles) roles) (known d a (form.Nest nest action roles) none) in
       rw k.0 refl;
   mapped = λ actions graphs row i x h. h;
   undone = λ actions graphs row x h. h;
   failed = λ actions graphs row x h. h;
   alternated = λ d a nest action none h.
-      let k = neither (is_among a.nest_names nest) (is_action d action) (known d a (form.Alternate nest action) none) in
+      let k = two_known (is_among a.nest_names nest) (is_action d action) (known d a (form.Alternate nest action) none) in
       all_push (λ a. nat_lt a (length d.actions)) (nest_of a nest).row.actions _ h k.1;
   one_action = λ actions graphs action row h. below_more (length actions) _ row.actions (one_longer actions action) h;
   one_graph = λ actions graphs graph row h. h;
@@ -132,7 +133,7 @@ eqb_turn a b h = eq-eqb b a (sym (eqb-true a b h))
 pub filled_test : IsNestTest uses_filled
 filled_test = record {
   nested = λ names d a nest action roles none.
-      let k = neither (is_action d action) (list_all (is_among a.roles) roles) (known d a (form.Nest nest action roles) none) in
+      let k = then_known (is_action d action) (list_all (is_among a.roles) roles) (known d a (form.Nest nest action roles) none) in
       let apart : all_differ (map (λ r. index_of r a.roles) roles) ≡ true =
       differ_mapped a.roles roles (not-false _ (differing d a (form.Nest nest action roles) none)) k.1 in
       let f : (length (map (λ r. index_of r a.roles) roles) == length (action_of d action).roles) ≡ true =
@@ -144,7 +145,7 @@ filled_test = record {
   failed = λ actions graphs row x h. h;
   alternated = λ d a nest action none h.
       let row = (nest_of a nest).row in
-      let k = neither (is_among a.nest_names nest) (is_action d action) (known d a (form.Alternate nest action) none) in
+      let k = two_known (is_among a.nest_names nest) (is_action d action) (known d a (form.Alternate nest action) none) in
       let p = and_parts (all_below (length d.actions) row.actions) _ h in
       let q = and_parts (all_differ row.roles) _ p.1 in
       let f =
@@ -208,13 +209,13 @@ one_face_longer actions action (b ∷ acts) h =
 pub faced_test : IsNestTest uses_faced
 faced_test = record {
   nested = λ names d a nest action roles none.
-      let k = neither (is_action d action) (list_all (is_among a.roles) roles) (known d a (form.Nest nest action roles) none) in
+      let k = then_known (is_action d action) (list_all (is_among a.roles) roles) (known d a (form.Nest nest action roles) none) in
       rw (k.0, eq-eqb (action_of d action).interface (action_of d action).interface refl) refl;
   mapped = λ actions graphs row i x h. h;
   undone = λ actions graphs row x h. h;
   failed = λ actions graphs row x h. h;
   alternated = λ d a nest action none h.
-      let k = neither (is_among a.nest_names nest) (is_action d action) (known d a (form.Alternate nest action) none) in
+      let k = two_known (is_among a.nest_names nest) (is_action d action) (known d a (form.Alternate nest action) none) in
       one_face_more d.actions (nest_of a nest).row.actions (index_of action d.action_names) k.1
       (not-false _ (faced d a (form.Alternate nest action) none)) h;
   one_action = λ actions graphs action row h. one_face_longer actions action row.actions h;

@@ -24,7 +24,8 @@ use Rattle.script_checker.specs.declared.declared.Declared.{Declared}
 use Rattle.script_checker.specs.declared.declared.Block.{Block}
 use Rattle.script_checker.specs.declared.declared.Block.TheVariants as block
 use Rattle.script_checker.specs.DeclaredSoFar.{nothing_yet}
-use Rattle.script_checker.specs.AtTop.{unknown_at_top, unfilled_at_top, filled_twice_at_top, play_row, declared_with}
+use Rattle.script_checker.specs.AtTop.{unfilled_at_top, filled_twice_at_top, play_row, declared_with}
+use Rattle.script_checker.specs.Causes.{is_unknown}
 use Rattle.script_checker.specs.After.{settled_block, settled, with_said}
 use Rattle.script_checker.specs.Compiled.{HasNoneBelow, declared_after, AreAccepted, IsDraftOf}
 use Rattle.script_checker.specs.PlaySizes.{AreSizesOf, CountsUnfolding}
@@ -75,7 +76,7 @@ module _ (names : List (List ℕ)) (d : Declared) (action : ℕ) (who : List ℕ
   }
 
   module _ (b : Block) (few : AreCountsFew d b) (deep : AreShallow d b) (weights : AreWeighed d b)
-      (before : KeepsParts (without_play d draft)) (known : unknown_at_top d (form.Play action who) ≡ false)
+      (before : KeepsParts (without_play d draft)) (known : is_unknown d block.Top (form.Play action who) ≡ false)
       (filled : unfilled_at_top d (form.Play action who) ≡ false) (apart : filled_twice_at_top (form.Play action who) ≡ false) where
     right : list_all (play_right (length draft.participants) draft.actions) draft.plays ≡ true
     right =
@@ -141,7 +142,7 @@ module _ (names : List (List ℕ)) (lines : List Line) (lead : lead_to_top secti
       sized names last action who draft drafted (declared_after names (nothing_yet names) lines).block
       (counts names lines sound accepted some without) (shallow names lines sound accepted some without)
       (weighed names lines sound accepted some without) (keeps_parts names lines sound accepted some without)
-      (false_from_ne_true (unknown_at_top last play) (λ h. none cause.Unknown (omega arith) h))
+      (false_from_ne_true (is_unknown last block.Top play) (λ h. none cause.Unknown (omega arith) h))
       (false_from_ne_true (unfilled_at_top last play) (λ h. none cause.RoleUnfilled (omega arith) h))
       (false_from_ne_true (filled_twice_at_top play) (λ h. none cause.RoleTwice (omega arith) h))
 

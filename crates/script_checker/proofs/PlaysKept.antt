@@ -16,13 +16,15 @@ use Rattle.script_checker.specs.declared.declared.Block.{Block}
 use Rattle.script_checker.specs.declared.declared.Block.TheVariants as block
 use Rattle.script_checker.specs.Numbers.{is_among}
 use Rattle.script_checker.specs.DeclaredSoFar.{action_of}
-use Rattle.script_checker.specs.AtTop.{is_action, unknown_at_top, unfilled_at_top, filled_twice_at_top, play_row, declared_with}
+use Rattle.script_checker.specs.AtTop.{is_action, unfilled_at_top, filled_twice_at_top, play_row, declared_with}
 use Rattle.script_checker.specs.InAction.{row_of}
+use Rattle.script_checker.specs.Causes.{is_unknown}
 use Rattle.script_checker.specs.After.{ended}
 use Rattle.caa_base.proofs.ListLemmas.{all_imply}
+use Rattle.script_checker.proofs.KnownNames.{then_known}
 use Rattle.script_checker.proofs.Accepted.{IsKept, NoneAtTop, known_at_top, filled_at_top, differing_at_top}
 use Rattle.script_checker.proofs.ListsChange.{all_push}
-use Rattle.script_checker.proofs.NestTests.{neither, eqb_turn, differ_mapped, below_more, one_longer, same_action, numbers_below}
+use Rattle.script_checker.proofs.NestTests.{eqb_turn, differ_mapped, below_more, one_longer, same_action, numbers_below}
 
 -- by so many participants, and these actions
 abbrev pub play_right : ℕ → List ActionRow → PlayRow → Bool
@@ -53,11 +55,11 @@ more_actions n actions action play h =
 
 module _ (names : List (List ℕ)) (d : Declared) where
   -- one play more, whatever its sizes are
-  pub said_play : (action : ℕ) (who : List ℕ) → unknown_at_top d (form.Play action who) ≡ false
+  pub said_play : (action : ℕ) (who : List ℕ) → is_unknown d block.Top (form.Play action who) ≡ false
       → unfilled_at_top d (form.Play action who) ≡ false → filled_twice_at_top (form.Play action who) ≡ false
       → play_right (length d.participants) d.actions (play_row d action who) ≡ true
   said_play action who here full apart =
-      let k = neither (is_action d action) (list_all (is_among d.participants) who) here in
+      let k = then_known (is_action d action) (list_all (is_among d.participants) who) here in
       let different : all_differ (map (λ p. index_of p d.participants) who) ≡ true =
       differ_mapped d.participants who (not-false _ apart) k.1 in
       let f : (length (map (λ p. index_of p d.participants) who) == length (action_of d action).roles) ≡ true =

@@ -34,10 +34,11 @@ use Rattle.script_checker.specs.AtTop.{is_action, declared_with, block_begun}
 use Rattle.script_checker.specs.InAction.{closed_if, steps_of, with_step, begun_program, with_program, idle_role, with_abort, with_nest, action_with, row_of}
 use Rattle.script_checker.specs.After.{ended}
 use Rattle.caa_base.proofs.ListLemmas.{empty_is}
+use Rattle.script_checker.proofs.KnownNames.{one_known, two_known, then_known, last_known}
 use Rattle.script_checker.proofs.Accepted.{IsKept, NoneAtTop, NoneInAction, known_at_top, known, once}
 use Rattle.script_checker.proofs.ListsChange.{all_push, all_change, all_set, all_mapped, all_rows}
 use Rattle.script_checker.proofs.ChosenNumbers.{either, rises}
-use Rattle.script_checker.proofs.NestTests.{neither, still_below, numbers_below}
+use Rattle.script_checker.proofs.NestTests.{still_below, numbers_below}
 use Rattle.script_checker.proofs.GraphsKept.{first_alone}
 use Rattle.script_checker.proofs.GraphsThere.{has_exception, some_exception, named_there, GraphsThere, there_kept, there_at_first}
 use Rattle.script_checker.proofs.PartsFit.{ActionsFit, fits_kept}
@@ -323,7 +324,7 @@ module _ (names : List (List ℕ)) (d : Declared) (a : OpenAction) (now : Graphs
   says_open (form.Internal graph) sound none = λ c b.
       let few =
       said_graph d.graphs a.internal (graph_number d graph) now.plain now.filled (once d a (form.Internal graph) none)
-      (named_there names d a graph (not-false _ (known d a (form.Internal graph) none)) now) in
+      (named_there names d a graph (one_known (is_among d.graph_names graph) (known d a (form.Internal graph) none)) now) in
       let m : length (exceptions_at d.graphs (graph_number d graph)) ≤ c.internal = b.of_inner in
       h c
       (record {
@@ -337,7 +338,7 @@ module _ (names : List (List ℕ)) (d : Declared) (a : OpenAction) (now : Graphs
   says_open (form.Interface graph) sound none = λ c b.
       let few =
       said_graph d.graphs a.interface (graph_number d graph) now.plain now.filled (once d a (form.Interface graph) none)
-      (named_there names d a graph (not-false _ (known d a (form.Interface graph) none)) now) in
+      (named_there names d a graph (one_known (is_among d.graph_names graph) (known d a (form.Interface graph) none)) now) in
       let m : length (exceptions_at d.graphs (graph_number d graph)) ≤ c.interface = b.of_outer in
       h c
       (record {
@@ -353,7 +354,7 @@ module _ (names : List (List ℕ)) (d : Declared) (a : OpenAction) (now : Graphs
         k.0,
         k.1,
         k.2,
-        still_below (index_of x (inner d a)) (length (inner d a)) c.internal (not-false _ (known d a (form.Fault x) none))
+        still_below (index_of x (inner d a)) (length (inner d a)) c.internal (one_known (is_among (inner d a) x) (known d a (form.Fault x) none))
             b.of_inner,
         k.4,
         k.5,
@@ -373,7 +374,7 @@ module _ (names : List (List ℕ)) (d : Declared) (a : OpenAction) (now : Graphs
       (k.0, k.1, k.2, k.3, all_mapped (role_in_range c.objects c.internal c.interface) (idle_role names) roles (λ name. refl), k.5)
   says_open (form.Nest nest action roles) sound none = λ c b.
       let k = h c b in
-      let among = neither (is_action d action) (list_all (is_among a.roles) roles) (known d a (form.Nest nest action roles) none) in
+      let among = then_known (is_action d action) (list_all (is_among a.roles) roles) (known d a (form.Nest nest action roles) none) in
       let some = some_exception d.graphs (unwrap_or a.internal 0) now.filled now.begun.0 in
       let one : nat_lt 0 c.internal ≡ true = lt-ltb 0 c.internal (omega (arith, b.of_inner)) in (
         k.0,
@@ -389,70 +390,70 @@ module _ (names : List (List ℕ)) (d : Declared) (a : OpenAction) (now : Graphs
       )
   says_open (form.Map nest lower upper) sound none =
       let among =
-      (neither (is_among (face d a nest) lower) (is_among (inner d a) upper)
-      (or_parts (not (is_among a.nest_names nest)) _ (known d a (form.Map nest lower upper) none)).1).1 in
+      last_known (is_among a.nest_names nest) (is_among (face d a nest) lower) (is_among (inner d a) upper)
+      (known d a (form.Map nest lower upper) none) in
       nest_changes d a h nest _
       (λ c b. mapped_right c (nest_of a nest).row (index_of lower (face d a nest)) (index_of upper (inner d a))
       (still_below (index_of upper (inner d a)) (length (inner d a)) c.internal among b.of_inner))
   says_open (form.MapUndo nest x) sound none =
-      let among = (neither (is_among a.nest_names nest) (is_among (inner d a) x) (known d a (form.MapUndo nest x) none)).1 in
+      let among = (two_known (is_among a.nest_names nest) (is_among (inner d a) x) (known d a (form.MapUndo nest x) none)).1 in
       nest_changes d a h nest _
       (λ c b. undone_right c (nest_of a nest).row (index_of x (inner d a))
       (still_below (index_of x (inner d a)) (length (inner d a)) c.internal among b.of_inner))
   says_open (form.MapFailure nest x) sound none =
-      let among = (neither (is_among a.nest_names nest) (is_among (inner d a) x) (known d a (form.MapFailure nest x) none)).1 in
+      let among = (two_known (is_among a.nest_names nest) (is_among (inner d a) x) (known d a (form.MapFailure nest x) none)).1 in
       nest_changes d a h nest _
       (λ c b. failed_right c (nest_of a nest).row (index_of x (inner d a))
       (still_below (index_of x (inner d a)) (length (inner d a)) c.internal among b.of_inner))
   says_open (form.Alternate nest action) sound none =
-      let among = (neither (is_among a.nest_names nest) (is_action d action) (known d a (form.Alternate nest action) none)).1 in
+      let among = (two_known (is_among a.nest_names nest) (is_action d action) (known d a (form.Alternate nest action) none)).1 in
       nest_changes d a h nest _
       (λ c b. alternated_right c (nest_of a nest).row (index_of action d.action_names)
       (still_below (index_of action d.action_names) (length d.actions) c.actions among b.of_actions))
   says_open (form.Abort role x) sound none =
-      let among = (neither (is_among a.roles role) (is_among (outer d a) x) (known d a (form.Abort role x) none)).1 in
+      let among = (two_known (is_among a.roles role) (is_among (outer d a) x) (known d a (form.Abort role x) none)).1 in
       abort_said d a h role (abort.Always (index_of x (outer d a)))
       (λ c b. still_below (index_of x (outer d a)) (length (outer d a)) c.interface among b.of_outer)
   says_open (form.AbortTest role t v x) sound none =
-      let among = (neither (is_among a.roles role) (is_among (outer d a) x) (known d a (form.AbortTest role t v x) none)).1 in
+      let among = (two_known (is_among a.roles role) (is_among (outer d a) x) (known d a (form.AbortTest role t v x) none)).1 in
       let w = value_second _ v _ (parts_sound names (form.AbortTest role t v x) sound) in
       abort_said d a h role (abort.Where t v (index_of x (outer d a)))
       (λ c b. and_from _ _ w (still_below (index_of x (outer d a)) (length (outer d a)) c.interface among b.of_outer))
   says_open (form.Body role) sound none =
       opened d a h (begun_program (index_of role a.roles) None) (a.bodies ++ index_of role a.roles ∷ []) refl (λ c b. refl)
   says_open (form.Handler role x) sound none =
-      let among = (neither (is_among a.roles role) (is_among (inner d a) x) (known d a (form.Handler role x) none)).1 in
+      let among = (two_known (is_among a.roles role) (is_among (inner d a) x) (known d a (form.Handler role x) none)).1 in
       opened d a h (begun_program (index_of role a.roles) (Some (index_of x (inner d a)))) a.bodies refl
       (λ c b. still_below (index_of x (inner d a)) (length (inner d a)) c.internal among b.of_inner)
   says_open (form.ReadStep object) sound none =
-      let among = not-false _ (known d a (form.ReadStep object) none) in
+      let among = one_known (is_among d.objects object) (known d a (form.ReadStep object) none) in
       step_more d a h (step.Read (index_of object d.objects))
       (λ c b. still_below (index_of object d.objects) (length d.objects) c.objects among b.of_objects)
   says_open (form.PutStep object v) sound none =
-      let among = not-false _ (known d a (form.PutStep object v) none) in
+      let among = one_known (is_among d.objects object) (known d a (form.PutStep object v) none) in
       let w = value_second _ v _ (parts_sound names (form.PutStep object v) sound) in
       step_more d a h (step.Put (index_of object d.objects) v)
       (λ c b. and_from _ _ (still_below (index_of object d.objects) (length d.objects) c.objects among b.of_objects) w)
   says_open (form.AddStep object v) sound none =
-      let among = not-false _ (known d a (form.AddStep object v) none) in
+      let among = one_known (is_among d.objects object) (known d a (form.AddStep object v) none) in
       let w = value_second _ v _ (parts_sound names (form.AddStep object v) sound) in
       step_more d a h (step.Add (index_of object d.objects) v)
       (λ c b. and_from _ _ (still_below (index_of object d.objects) (length d.objects) c.objects among b.of_objects) w)
   says_open (form.WorkStep k) sound none =
       step_more d a h (step.Work k) (λ c b. rounds_alone k (parts_sound names (form.WorkStep k) sound))
   says_open (form.CheckStep t v x) sound none =
-      let among = not-false _ (known d a (form.CheckStep t v x) none) in
+      let among = one_known (is_among (inner d a) x) (known d a (form.CheckStep t v x) none) in
       let w = value_first v _ (parts_sound names (form.CheckStep t v x) sound) in
       step_more d a h (step.Check t v (index_of x (inner d a)))
       (λ c b. and_from _ _ w (still_below (index_of x (inner d a)) (length (inner d a)) c.internal among b.of_inner))
   says_open (form.RaiseStep x) sound none =
-      let among = not-false _ (known d a (form.RaiseStep x) none) in
+      let among = one_known (is_among (inner d a) x) (known d a (form.RaiseStep x) none) in
       step_more d a h (step.Raise (index_of x (inner d a)))
       (λ c b. still_below (index_of x (inner d a)) (length (inner d a)) c.internal among b.of_inner)
   says_open (form.EnterStep nest) sound none = step_more d a h (step.Enter (index_of nest a.nest_names)) (λ c b. refl)
   says_open form.DoneLine sound none = closed_right d a verdict.Done (λ c b. refl) h
   says_open (form.SignalLine x) sound none =
-      let among = not-false _ (known d a (form.SignalLine x) none) in
+      let among = one_known (is_among (outer d a) x) (known d a (form.SignalLine x) none) in
       closed_right d a (verdict.Signal (index_of x (outer d a)))
       (λ c b. still_below (index_of x (outer d a)) (length (outer d a)) c.interface among b.of_outer) h
   says_open form.UndoLine sound none = closed_right d a verdict.Undo (λ c b. refl) h
@@ -546,7 +547,7 @@ module _ (names : List (List ℕ)) (d : Declared) where
         watched = λ many l. h.watched many (omega (arith, l));
       }
   says_outside (form.Drill object nth) sound none h =
-      let a = not-false _ (known_at_top d (form.Drill object nth) none) in
+      let a = one_known (is_among d.objects object) (known_at_top d (form.Drill object nth) none) in
       record {
         valued = h.valued;
         drilled =
@@ -555,7 +556,7 @@ module _ (names : List (List ℕ)) (d : Declared) where
         watched = h.watched;
       }
   says_outside (form.Watch object) sound none h =
-      let a = not-false _ (known_at_top d (form.Watch object) none) in
+      let a = one_known (is_among d.objects object) (known_at_top d (form.Watch object) none) in
       record {
         valued = h.valued;
         drilled = h.drilled;

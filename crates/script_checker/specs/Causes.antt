@@ -1,8 +1,11 @@
 -- The causes for which a line is refused, by what the lines before it declare and by the block that it stands in.
-use Rattle.std.specs.Prelude.{◌≡◌, Bool, true, false, length}
+use Rattle.std.specs.Prelude.{◌≡◌, ℕ, Bool, true, false, not, length}
 use Rattle.exception_graph.specs.Chains.{IsFirstInCycle, IsFirstUnjoined}
+use Rattle.action_script.specs.declared.lines.sort.Sort.{Sort}
+use Rattle.action_script.specs.declared.lines.sort.Sort.TheVariants as sort
 use Rattle.action_script.specs.declared.forms.form.Form.{Form}
 use Rattle.action_script.specs.declared.forms.form.Form.TheVariants as form
+use Rattle.action_script.specs.Forms.Uses.{are_declared}
 use Rattle.script_checker.specs.declared.check_error.CheckCause.{CheckCause}
 use Rattle.script_checker.specs.declared.check_error.CheckCause.TheVariants as cause
 use Rattle.script_checker.specs.declared.declared.SoFar.{SoFar}
@@ -11,17 +14,41 @@ use Rattle.script_checker.specs.declared.declared.Block.{Block}
 use Rattle.script_checker.specs.declared.declared.Block.TheVariants as block
 use Rattle.script_checker.specs.declared.open_graph.DeclaredGraph.{DeclaredGraph}
 use Rattle.script_checker.specs.declared.open_action.OpenAction.{OpenAction}
-use Rattle.script_checker.specs.AtTop.{unknown_at_top, twice_at_top, unfilled_at_top, filled_twice_at_top, past_limit_at_top, past_bound_at_top}
-use Rattle.script_checker.specs.InGraph.{unknown_in_graph, twice_in_graph, past_limit_in_graph}
-use Rattle.script_checker.specs.InAction.{unknown_in_action, twice_in_action, unfilled_in_action, filled_twice_in_action, enters_otherwise_in_action, not_held_in_action, too_deep_in_action, past_limit_in_action, other_face_in_action}
+use Rattle.script_checker.specs.Numbers.{is_among}
+use Rattle.script_checker.specs.DeclaredSoFar.{inner, outer, face}
+use Rattle.script_checker.specs.AtTop.{is_action, twice_at_top, unfilled_at_top, filled_twice_at_top, past_limit_at_top, past_bound_at_top}
+use Rattle.script_checker.specs.InGraph.{twice_in_graph, past_limit_in_graph}
+use Rattle.script_checker.specs.InAction.{twice_in_action, unfilled_in_action, filled_twice_in_action, enters_otherwise_in_action, not_held_in_action, too_deep_in_action, past_limit_in_action, other_face_in_action}
+
+-- ---- names
+
+-- a test of the graph that the line stands in, and one of the action
+abbrev pub in_graph : (DeclaredGraph → Bool) → Block → Bool
+in_graph test (block.Graph g) = test g
+in_graph test _ = false
+
+abbrev pub in_action : (OpenAction → Bool) → Block → Bool
+in_action test (block.Action a) = test a
+in_action test _ = false
+
+-- a name is declared as this
+abbrev pub is_declared : Declared → Block → Sort → ℕ → Bool
+is_declared d b sort.Participant name = is_among d.participants name
+is_declared d b sort.Object name = is_among d.objects name
+is_declared d b sort.Graph name = is_among d.graph_names name
+is_declared d b sort.Action name = is_action d name
+is_declared d b sort.Role name = in_action (λ a. is_among a.roles name) b
+is_declared d b sort.Nest name = in_action (λ a. is_among a.nest_names name) b
+is_declared d b sort.Own name = in_graph (λ g. is_among g.exceptions name) b
+is_declared d b sort.Inner name = in_action (λ a. is_among (inner d a) name) b
+is_declared d b sort.Outer name = in_action (λ a. is_among (outer d a) name) b
+is_declared d b (sort.Told nest) name = in_action (λ a. is_among (face d a nest) name) b
+
+-- a name that the line uses isn't declared as it has to be
+abbrev pub is_unknown : Declared → Block → Form → Bool
+is_unknown d b f = not (are_declared (is_declared d b) f)
 
 -- ---- tests that each block has
-
--- a name that the line uses isn't declared
-abbrev pub is_unknown : Declared → Block → Form → Bool
-is_unknown d block.Top f = unknown_at_top d f
-is_unknown d (block.Graph g) f = unknown_in_graph g f
-is_unknown d (block.Action a) f = unknown_in_action d a f
 
 -- the line declares or says again what was declared or said
 abbrev pub is_twice : Declared → Block → Form → Bool
@@ -55,11 +82,6 @@ fills_twice (block.Action a) f = filled_twice_in_action f
 abbrev pub is_past_bound : Declared → Block → Form → Bool
 is_past_bound d block.Top f = past_bound_at_top d f
 is_past_bound d _ f = false
-
--- a test of the action that the line stands in
-abbrev pub in_action : (OpenAction → Bool) → Block → Bool
-in_action test (block.Action a) = test a
-in_action test _ = false
 
 -- the line ends a graph of which this holds
 abbrev pub EndsGraph : (DeclaredGraph → Type 0) → Block → Form → Type 0

@@ -100,14 +100,19 @@ fn row_of(alloc: Global, names: &[Name], action: OpenAction) -> Result<ActionRow
     ensures row { IfOk result (λ row. row ≡ row_of names.now action) }
     ensures few { IfOk result (λ row. length row.roles ≤ most_roles) }
 {
-    let nests = nest_rows(alloc, action.nests.into_vec())?;
+    let name = name_row(alloc, names, action.name)?;
+    let internal = action.internal.unwrap_or(0);
+    let interface = action.interface.unwrap_or(0);
+    let fault = action.fault.unwrap_or(0);
+    let (objects, roles, nests) = action.into_parts();
+    let nests = nest_rows(alloc, nests)?;
     Ok(ActionRow {
-        name: name_row(alloc, names, action.name)?,
-        internal: action.internal.unwrap_or(0),
-        interface: action.interface.unwrap_or(0),
-        fault: action.fault.unwrap_or(0),
-        objects: action.uses,
-        roles: action.role_rows.into_rows(),
+        name,
+        internal,
+        interface,
+        fault,
+        objects,
+        roles: roles.into_rows(),
         nests: Rows::from_vec(nests),
     })
 }

@@ -9,6 +9,7 @@ mod drill_list;
 mod ending;
 mod graph;
 mod lookups;
+mod naming;
 mod number_list;
 pub mod one_plan;
 mod open_action;

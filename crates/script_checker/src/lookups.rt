@@ -1,7 +1,6 @@
 //! What the names of a line mean where it stands.
 
 ghost use Rattle.std.specs.Prelude.{◌≡◌, ◌≤◌, length, map, slice_index_or, IfOk, IfSome, IfNone};
-ghost use Rattle.std.specs.List.{list_all};
 ghost use Rattle.caa_base.specs.Written.Lists.{index_of};
 ghost use Rattle.caa_base.specs.Written.Names.{name_at};
 ghost use Rattle.place_plan.specs.Drafts.DraftRules.{all_differ};
@@ -26,13 +25,6 @@ pub(crate) fn name_row(alloc: Global, names: &[Name], number: u32) -> Result<Nam
     ensures { IfOk result (λ name. name ≡ name_at names.now number) }
 {
     Name::from_bytes(alloc, name_at(names, number))
-}
-
-/// Whether each of some names is among those.
-pub(crate) fn are_among(names: &NumberList, some: &[u32]) -> bool
-    ensures { result ≡ list_all (is_among names.now) some.now }
-{
-    some.iter().all(|name| names.contains(*name))
 }
 
 /// Whether no number stands twice in a list. A long one is gone over once, with a table of those that were met.

@@ -43,7 +43,6 @@ pub struct OpenProgram {
 }
 
 /// An action that is being declared.
-#[derive(Drop)]
 pub struct OpenAction {
     /// Its name, by its number in the script.
     pub name: u32,
@@ -62,6 +61,25 @@ pub struct OpenAction {
     pub nests: Table<OpenNest>,
     /// The body or handler that the next line stands in.
     pub program: Option<OpenProgram>,
+}
+
+/// A drop by a call of its own, as `Declared` has one: what is checked of code with ways out past such a value is shorter.
+impl Drop for OpenAction {
+    fn drop(self) {
+        let OpenAction {
+            name: _name,
+            internal: _internal,
+            interface: _interface,
+            fault: _fault,
+            uses: _uses,
+            roles: _roles,
+            role_rows: _role_rows,
+            bodies: _bodies,
+            nest_names: _nest_names,
+            nests: _nests,
+            program: _program,
+        } = self;
+    }
 }
 
 impl OpenNest {
@@ -109,5 +127,27 @@ impl OpenAction {
             nests: Table::new(alloc),
             program: None,
         }
+    }
+
+    /// Its objects, its roles and its nested uses, once no line follows.
+    pub fn into_parts(self) -> (ObjectList, RoleList, Vec<OpenNest>)
+        ensures objects { result.0 ≡ self.uses }
+        ensures roles { result.1 ≡ self.role_rows }
+        ensures nests { result.2.items ≡ self.nests }
+    {
+        let OpenAction {
+            name: _name,
+            internal: _internal,
+            interface: _interface,
+            fault: _fault,
+            uses,
+            roles: _roles,
+            role_rows,
+            bodies: _bodies,
+            nest_names: _nest_names,
+            nests,
+            program: _program,
+        } = self;
+        (uses, role_rows, nests.into_vec())
     }
 }

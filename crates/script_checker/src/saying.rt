@@ -5,7 +5,7 @@ ghost use Rattle.script_checker.specs.After.{said_at_top, with_said};
 ghost use Rattle.script_checker.specs.AtTop.{twice_at_top};
 ghost use Rattle.script_checker.specs.Causes.{is_unknown, is_twice, is_past_limit};
 ghost use Rattle.script_checker.specs.Compiled.{IsLeast, HasNone};
-ghost use Rattle.script_checker.specs.inner.Chosen.{first_cause, is_end};
+ghost use Rattle.script_checker.specs.inner.Chosen.{later_cause, first_cause, is_end};
 ghost use Rattle.script_checker.specs.declared.check_error.CheckCause.TheVariants as cause;
 
 use crate::action::{adding, causes};
@@ -13,21 +13,33 @@ use crate::check_error::CheckCause;
 use crate::declared::{Block, SoFar};
 use crate::{graph, top};
 use action_script::forms::form::Form;
+use action_script::forms::uses::are_declared;
 use caa_base::written::entry::OutOfMemory;
 use caa_base::written::name::Name;
 use std::alloc::{AllocError, Global};
+
+/// The first cause of a line whose names are declared.
+fn later_cause(alloc: Global, so_far: &SoFar, form: &Form) -> Result<Option<CheckCause>, AllocError>
+    requires { is_end form.now ≡ false }
+    ensures { IfOk result (λ cause. cause ≡ later_cause so_far.now.declared so_far.now.block form.now) }
+{
+    let declared = &so_far.declared;
+    match &so_far.block {
+        Block::Top => top::later_cause(alloc, declared, form),
+        Block::Graph(open) => Ok(graph::later_cause(open, form)),
+        Block::Action(open) => causes::later_cause(alloc, declared, open, form),
+    }
+}
 
 /// The first cause of a line.
 fn first_cause(alloc: Global, so_far: &SoFar, form: &Form) -> Result<Option<CheckCause>, AllocError>
     requires { is_end form.now ≡ false }
     ensures { IfOk result (λ cause. cause ≡ first_cause so_far.now.declared so_far.now.block form.now) }
 {
-    let declared = &so_far.declared;
-    match &so_far.block {
-        Block::Top => top::first_cause(alloc, declared, form),
-        Block::Graph(open) => Ok(graph::first_cause(open, form)),
-        Block::Action(open) => causes::first_cause(alloc, declared, open, form),
+    if !are_declared(so_far, form) {
+        return Ok(Some(CheckCause::Unknown));
     }
+    later_cause(alloc, so_far, form)
 }
 
 /// Adds what a line at the top says that isn't refused, and begins the block that it begins.
@@ -56,7 +68,7 @@ fn add(alloc: Global, so_far: &mut SoFar, names: &[Name], form: &Form) -> Result
 {
     match &mut so_far.block {
         Block::Top => add_at_top(alloc, so_far, names, form),
-        Block::Graph(open) => Ok(graph::add(open, form)?),
+        Block::Graph(open) => Ok(graph::add(&so_far.declared, open, form)?),
         Block::Action(open) => adding::add(alloc, &so_far.declared, names, open, form),
     }
 }

@@ -3,13 +3,13 @@
 ghost use Rattle.std.specs.Prelude.{◌≡◌, false, Some, None, OnOk, IfOk};
 ghost use Rattle.std.specs.List.{list_any};
 ghost use Rattle.caa_base.specs.Written.Lists.{index_of};
-ghost use Rattle.script_checker.specs.AtTop.{unknown_at_top, twice_at_top, unfilled_at_top, filled_twice_at_top, places_with, past_limit_at_top, bound_with, past_bound_at_top, declared_with, block_begun};
+ghost use Rattle.script_checker.specs.AtTop.{twice_at_top, unfilled_at_top, filled_twice_at_top, places_with, past_limit_at_top, bound_with, past_bound_at_top, declared_with, block_begun};
 ghost use Rattle.script_checker.specs.declared.declared.Block.TheVariants as block;
-ghost use Rattle.script_checker.specs.inner.Chosen.{first_cause};
+ghost use Rattle.script_checker.specs.inner.Chosen.{later_cause};
 
 use crate::check_error::CheckCause;
 use crate::declared::{Block, Declared};
-use crate::lookups::{all_differ, are_among, is_action, is_filled_by, name_row, places_of};
+use crate::lookups::{all_differ, is_filled_by, name_row, places_of};
 use crate::open_action::OpenAction;
 use crate::open_graph::OpenGraph;
 use action_script::forms::form::Form;
@@ -25,19 +25,6 @@ use place_plan::plans::tables::{counted_sum, number_at};
 use std::alloc::{AllocError, Global};
 
 // ---- causes
-
-/// Whether the line uses a name that isn't declared.
-fn is_unknown(declared: &Declared, form: &Form) -> bool
-    ensures { result ≡ unknown_at_top declared.now form.now }
-{
-    match form {
-        Form::Drill(object, _) | Form::Watch(object) => !declared.objects.contains(*object),
-        Form::Play(action, who) => {
-            !is_action(declared, *action) || !are_among(&declared.participants, who.as_slice())
-        }
-        _ => false,
-    }
-}
 
 /// Whether the line declares what was declared.
 fn is_twice(declared: &Declared, form: &Form) -> bool
@@ -127,17 +114,15 @@ fn is_past_bound(declared: &Declared, form: &Form) -> bool
     }
 }
 
-/// The first cause of a line.
-pub(crate) fn first_cause(
+/// The first cause of a line whose names are declared.
+pub(crate) fn later_cause(
     alloc: Global,
     declared: &Declared,
     form: &Form,
 ) -> Result<Option<CheckCause>, AllocError>
-    ensures { IfOk result (λ cause. cause ≡ first_cause declared.now block.Top form.now) }
+    ensures { IfOk result (λ cause. cause ≡ later_cause declared.now block.Top form.now) }
 {
-    if is_unknown(declared, form) {
-        Ok(Some(CheckCause::Unknown))
-    } else if is_twice(declared, form) {
+    if is_twice(declared, form) {
         Ok(Some(CheckCause::Twice))
     } else if is_unfilled(declared, form) {
         Ok(Some(CheckCause::RoleUnfilled))

@@ -28,10 +28,13 @@ part_cause d b f =
     (cause_if (in_action (λ a. enters_otherwise_in_action a f) b) cause.NestOrder
     (cause_if (in_action (λ a. not_held_in_action d a f) b) cause.ObjectNotHeld (size_cause d b f))))
 
+-- of those that a known name doesn't tell
+abbrev pub later_cause : Declared → Block → Form → Option CheckCause
+later_cause d b f = cause_if (is_twice d b f) cause.Twice (part_cause d b f)
+
 -- of all but those of a graph
 abbrev pub first_cause : Declared → Block → Form → Option CheckCause
-first_cause d b f =
-    cause_if (is_unknown d b f) cause.Unknown (cause_if (is_twice d b f) cause.Twice (part_cause d b f))
+first_cause d b f = cause_if (is_unknown d b f) cause.Unknown (later_cause d b f)
 
 -- the line ends a block
 abbrev pub is_end : Form → Bool

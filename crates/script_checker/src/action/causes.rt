@@ -6,70 +6,21 @@ ghost use Rattle.caa_base.specs.Written.Limits.{most_steps};
 ghost use Rattle.caa_base.specs.Written.Lists.{member, index_of};
 ghost use Rattle.place_plan.specs.Plans.Weights.{at};
 ghost use Rattle.script_checker.specs.DeclaredSoFar.{inner, nest_of, role_of};
-ghost use Rattle.script_checker.specs.InAction.{unknown_in_action, is_mapped, is_said, handles, twice_in_action, unfilled_in_action, filled_twice_in_action, holds, holds_all, not_held_in_action, is_deepest, too_deep_in_action, steps_of, step_of, past_limit_in_action, other_face_in_action};
+ghost use Rattle.script_checker.specs.InAction.{is_mapped, is_said, handles, twice_in_action, unfilled_in_action, filled_twice_in_action, holds, holds_all, not_held_in_action, is_deepest, too_deep_in_action, steps_of, step_of, past_limit_in_action, other_face_in_action};
 ghost use Rattle.script_checker.specs.declared.declared.Block.TheVariants as block;
-ghost use Rattle.script_checker.specs.inner.Chosen.{size_cause, part_cause, first_cause, is_end};
+ghost use Rattle.script_checker.specs.inner.Chosen.{size_cause, part_cause, later_cause, is_end};
 
-use super::named::{face_of, inner_number, is_inner, is_outer, nest_of, role_of};
+use super::named::{face_of, inner_number, nest_of, role_of};
 use super::program::step_of;
 use crate::check_error::CheckCause;
 use crate::declared::Declared;
-use crate::lookups::{
-    action_of, all_differ, are_among, exception_in, has_exception, is_action, is_filled_by,
-};
+use crate::lookups::{action_of, all_differ, exception_in, is_filled_by};
 use crate::open_action::{OpenAction, OpenNest, Outcome};
 use action_script::forms::form::Form;
 use caa_base::written::limits::{MOST_ALTERNATES, MOST_DEPTH, MOST_NESTS, MOST_ROLES, MOST_STEPS};
 use place_plan::drafts::draft_rows::{AbortRow, HandlerRow};
 use place_plan::plans::tables::number_at;
 use std::alloc::{AllocError, Global};
-
-// ---- a name that isn't declared
-
-/// Whether a nested use has these exceptions below and above.
-fn is_mapping(declared: &Declared, action: &OpenAction, nest: u32, lower: u32, upper: u32) -> bool
-    ensures { result ≡ not (unknown_in_action declared.now action.now (Form.Map nest lower upper)) }
-{
-    action.nest_names.contains(nest)
-        && has_exception(declared, face_of(declared, action, nest), lower)
-        && is_inner(declared, action, upper)
-}
-
-/// Whether the line uses a name that isn't declared.
-fn is_unknown(declared: &Declared, action: &OpenAction, form: &Form) -> bool
-    ensures { result ≡ unknown_in_action declared.now action.now form.now }
-{
-    match form {
-        Form::Internal(graph) | Form::Interface(graph) => !declared.graph_names.contains(*graph),
-        Form::Fault(exception) | Form::CheckStep(_, _, exception) | Form::RaiseStep(exception) => {
-            !is_inner(declared, action, *exception)
-        }
-        Form::Uses(objects) => !are_among(&declared.objects, objects.as_slice()),
-        Form::Nest(_, nested, roles) => {
-            !is_action(declared, *nested) || !are_among(&action.roles, roles.as_slice())
-        }
-        Form::Map(nest, lower, upper) => !is_mapping(declared, action, *nest, *lower, *upper),
-        Form::MapUndo(nest, exception) | Form::MapFailure(nest, exception) => {
-            !action.nest_names.contains(*nest) || !is_inner(declared, action, *exception)
-        }
-        Form::Alternate(nest, nested) => {
-            !action.nest_names.contains(*nest) || !is_action(declared, *nested)
-        }
-        Form::Abort(role, exception) | Form::AbortTest(role, _, _, exception) => {
-            !action.roles.contains(*role) || !is_outer(declared, action, *exception)
-        }
-        Form::Body(role) => !action.roles.contains(*role),
-        Form::Handler(role, exception) => {
-            !action.roles.contains(*role) || !is_inner(declared, action, *exception)
-        }
-        Form::ReadStep(object) | Form::PutStep(object, _) | Form::AddStep(object, _) => {
-            !declared.objects.contains(*object)
-        }
-        Form::EnterStep(nest) => !action.nest_names.contains(*nest),
-        Form::SignalLine(exception) => !is_outer(declared, action, *exception),
-        _ => false,
-    }
-}
 
 // ---- what was said already
 
@@ -341,19 +292,17 @@ fn part_cause(
     }
 }
 
-/// The first cause of a line that doesn't end the action.
-pub(crate) fn first_cause(
+/// The first cause of a line that doesn't end the action, where its names are declared.
+pub(crate) fn later_cause(
     alloc: Global,
     declared: &Declared,
     action: &OpenAction,
     form: &Form,
 ) -> Result<Option<CheckCause>, AllocError>
     requires { is_end form.now ≡ false }
-    ensures { IfOk result (λ cause. cause ≡ first_cause declared.now (block.Action action.now) form.now) }
+    ensures { IfOk result (λ cause. cause ≡ later_cause declared.now (block.Action action.now) form.now) }
 {
-    if is_unknown(declared, action, form) {
-        Ok(Some(CheckCause::Unknown))
-    } else if is_twice(alloc, declared, action, form)? {
+    if is_twice(alloc, declared, action, form)? {
         Ok(Some(CheckCause::Twice))
     } else {
         part_cause(alloc, declared, action, form)

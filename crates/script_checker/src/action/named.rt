@@ -12,35 +12,35 @@ use crate::open_action::{OpenAction, OpenNest};
 use place_plan::drafts::draft_rows::RoleRow;
 
 /// The number of an exception that may be raised in the action.
-pub(super) fn inner_number(declared: &Declared, action: &OpenAction, name: u32) -> u32
+pub(crate) fn inner_number(declared: &Declared, action: &OpenAction, name: u32) -> u32
     ensures { result ≡ index_of name (inner declared.now action.now) }
 {
     exception_in(declared, action.internal.unwrap_or(0), name)
 }
 
 /// Whether an exception may be raised in the action.
-pub(super) fn is_inner(declared: &Declared, action: &OpenAction, name: u32) -> bool
+pub(crate) fn is_inner(declared: &Declared, action: &OpenAction, name: u32) -> bool
     ensures { result ≡ is_among (inner declared.now action.now) name }
 {
     has_exception(declared, action.internal.unwrap_or(0), name)
 }
 
 /// The number of an exception that the action may tell outside.
-pub(super) fn outer_number(declared: &Declared, action: &OpenAction, name: u32) -> u32
+pub(crate) fn outer_number(declared: &Declared, action: &OpenAction, name: u32) -> u32
     ensures { result ≡ index_of name (outer declared.now action.now) }
 {
     exception_in(declared, action.interface.unwrap_or(0), name)
 }
 
 /// Whether the action may tell an exception outside.
-pub(super) fn is_outer(declared: &Declared, action: &OpenAction, name: u32) -> bool
+pub(crate) fn is_outer(declared: &Declared, action: &OpenAction, name: u32) -> bool
     ensures { result ≡ is_among (outer declared.now action.now) name }
 {
     has_exception(declared, action.interface.unwrap_or(0), name)
 }
 
 /// A nested use.
-pub(super) fn nest_of(action: &OpenAction, name: u32) -> Option<&OpenNest>
+pub(crate) fn nest_of(action: &OpenAction, name: u32) -> Option<&OpenNest>
     ensures found { IfSome result (λ nest. nest.now ≡ nest_of action.now name) }
     ensures missing { IfNone result (nest_of action.now name ≡ begun_nest no_nest) }
 {
@@ -49,7 +49,7 @@ pub(super) fn nest_of(action: &OpenAction, name: u32) -> Option<&OpenNest>
 }
 
 /// A role.
-pub(super) fn role_of(action: &OpenAction, name: u32) -> Option<&RoleRow>
+pub(crate) fn role_of(action: &OpenAction, name: u32) -> Option<&RoleRow>
     ensures found { IfSome result (λ row. row.now ≡ role_of action.now name) }
     ensures missing { IfNone result (role_of action.now name ≡ no_role) }
 {
@@ -78,7 +78,7 @@ fn first_action(action: &OpenAction, nest: u32) -> u32
 }
 
 /// The graph of the exceptions that the actions of a nested use tell outside.
-pub(super) fn face_of(declared: &Declared, action: &OpenAction, nest: u32) -> u32
+pub(crate) fn face_of(declared: &Declared, action: &OpenAction, nest: u32) -> u32
     ensures { result ≡ face_of declared.now action.now nest }
 {
     let first = first_action(action, nest) as usize;
