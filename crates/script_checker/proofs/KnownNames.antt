@@ -1,6 +1,5 @@
 -- Where each name that a line uses is declared, each by itself is.
-use Rattle.std.proofs.Common.{◌≡◌, Bool, true, false, not, ◌&&◌, refl, sym}
-use Rattle.std.proofs.lemmas.Bool.{and_parts, not-false}
+use Rattle.std.proofs.Common.{◌≡◌, Bool, true, false, not, ◌&&◌, refl}
 
 -- one name
 pub one_known : (a : Bool) → not ((a && true) && true) ≡ false → a ≡ true

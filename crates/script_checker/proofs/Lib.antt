@@ -25,7 +25,6 @@ pub mod PartsNamed
 pub mod PlayLines
 pub mod PlaysKept
 pub mod RangesKept
-pub mod SameUnknown
 pub mod SizesTold
 pub mod Stands
 pub mod Taking

@@ -1,6 +1,6 @@
 -- What a line at the top, outside graphs and actions, is refused for, and what it declares.
-use Rattle.std.specs.Prelude.{ℕ, ◌+◌, ◌==◌, nat_lt, nat_le, Bool, false, not, ◌||◌, List, [], ◌∷◌, ◌++◌, map, length}
-use Rattle.std.specs.List.{list_all, list_any}
+use Rattle.std.specs.Prelude.{ℕ, ◌+◌, ◌==◌, nat_lt, nat_le, Bool, false, not, List, [], ◌∷◌, ◌++◌, map, length}
+use Rattle.std.specs.List.{list_any}
 use Rattle.place_plan.specs.declared.drafts.draft_rows.PlayRow.{PlayRow}
 use Rattle.place_plan.specs.Drafts.DraftRules.{all_differ}
 use Rattle.place_plan.specs.Plans.Weights.{counted, at}
@@ -20,13 +20,6 @@ use Rattle.script_checker.specs.DeclaredSoFar.{plain_graph, named, action_of}
 -- once its block has ended, an action may be named
 abbrev pub is_action : Declared → ℕ → Bool
 is_action d name = nat_lt (index_of name d.action_names) (length d.actions)
-
--- a name of the line is declared nowhere above it
-abbrev pub unknown_at_top : Declared → Form → Bool
-unknown_at_top d (form.Drill object nth) = not (is_among d.objects object)
-unknown_at_top d (form.Watch object) = not (is_among d.objects object)
-unknown_at_top d (form.Play action who) = not (is_action d action) || not (list_all (is_among d.participants) who)
-unknown_at_top d _ = false
 
 -- what it declares was declared
 abbrev pub twice_at_top : Declared → Form → Bool

@@ -28,7 +28,7 @@ use Rattle.script_checker.specs.declared.open_action.Outcome.{Outcome}
 use Rattle.script_checker.specs.declared.open_action.Outcome.TheVariants as outcome
 use Rattle.script_checker.specs.Numbers.{is_among, chosen_from}
 use Rattle.script_checker.specs.DeclaredSoFar.{begun_nest, graph_number, exceptions_at, inner, outer, face, face_of, action_of, nest_of, nest_rows, role_of}
-use Rattle.script_checker.specs.AtTop.{is_action, is_filled_by}
+use Rattle.script_checker.specs.AtTop.{is_filled_by}
 
 -- ---- bodies and handlers
 
@@ -90,34 +90,6 @@ closed_if a (Some p) verdict = record a {
 -- the body or handler that is being declared, if any, has ended with this verdict
 abbrev pub closed : OpenAction → Verdict → OpenAction
 closed a verdict = closed_if a a.program verdict
-
--- ---- causes: a name that the line uses isn't declared
-
--- a name of the line is declared nowhere above it
-abbrev pub unknown_in_action : Declared → OpenAction → Form → Bool
-unknown_in_action d a (form.Internal graph) = not (is_among d.graph_names graph)
-unknown_in_action d a (form.Interface graph) = not (is_among d.graph_names graph)
-unknown_in_action d a (form.Fault exception) = not (is_among (inner d a) exception)
-unknown_in_action d a (form.Uses objects) = not (list_all (is_among d.objects) objects)
-unknown_in_action d a (form.Nest nest action roles) = not (is_action d action) || not (list_all (is_among a.roles) roles)
-unknown_in_action d a (form.Map nest lower upper) =
-    not (is_among a.nest_names nest) || (not (is_among (face d a nest) lower) || not (is_among (inner d a) upper))
-unknown_in_action d a (form.MapUndo nest exception) = not (is_among a.nest_names nest) || not (is_among (inner d a) exception)
-unknown_in_action d a (form.MapFailure nest exception) = not (is_among a.nest_names nest) || not (is_among (inner d a) exception)
-unknown_in_action d a (form.Alternate nest action) = not (is_among a.nest_names nest) || not (is_action d action)
-unknown_in_action d a (form.Abort role exception) = not (is_among a.roles role) || not (is_among (outer d a) exception)
-unknown_in_action d a (form.AbortTest role test value exception) =
-    not (is_among a.roles role) || not (is_among (outer d a) exception)
-unknown_in_action d a (form.Body role) = not (is_among a.roles role)
-unknown_in_action d a (form.Handler role exception) = not (is_among a.roles role) || not (is_among (inner d a) exception)
-unknown_in_action d a (form.ReadStep object) = not (is_among d.objects object)
-unknown_in_action d a (form.PutStep object value) = not (is_among d.objects object)
-unknown_in_action d a (form.AddStep object value) = not (is_among d.objects object)
-unknown_in_action d a (form.CheckStep test value exception) = not (is_among (inner d a) exception)
-unknown_in_action d a (form.RaiseStep exception) = not (is_among (inner d a) exception)
-unknown_in_action d a (form.EnterStep nest) = not (is_among a.nest_names nest)
-unknown_in_action d a (form.SignalLine exception) = not (is_among (outer d a) exception)
-unknown_in_action d a _ = false
 
 -- ---- the line says again what was said already
 

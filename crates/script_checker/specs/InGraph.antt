@@ -1,16 +1,11 @@
 -- What a line in a graph is refused for, and what it adds to the graph.
-use Rattle.std.specs.Prelude.{nat_le, Bool, false, not, ◌||◌, [], ◌∷◌, ◌++◌, length}
+use Rattle.std.specs.Prelude.{nat_le, Bool, false, [], ◌∷◌, ◌++◌, length}
 use Rattle.cover_table.specs.Cover.{most_exceptions}
 use Rattle.caa_base.specs.Written.Lists.{index_of}
 use Rattle.action_script.specs.declared.forms.form.Form.{Form}
 use Rattle.action_script.specs.declared.forms.form.Form.TheVariants as form
 use Rattle.script_checker.specs.declared.open_graph.DeclaredGraph.{DeclaredGraph}
 use Rattle.script_checker.specs.Numbers.{is_among}
-
--- an exception of the line isn't in the graph
-abbrev pub unknown_in_graph : DeclaredGraph → Form → Bool
-unknown_in_graph g (form.Cover upper lower) = not (is_among g.exceptions upper) || not (is_among g.exceptions lower)
-unknown_in_graph g _ = false
 
 -- the graph has the exception already
 abbrev pub twice_in_graph : DeclaredGraph → Form → Bool

@@ -48,11 +48,7 @@ pub(crate) fn later_cause(graph: &OpenGraph, form: &Form) -> Option<CheckCause>
 
 /// Adds what a line says that isn't refused.
 #[tactic(auto, using(crate::proofs::KnownNames::two_known))]
-pub(crate) fn add(
-    declared: &Declared,
-    graph: &mut OpenGraph,
-    form: &Form,
-) -> Result<(), AllocError>
+pub(crate) fn add(declared: &Declared, graph: &mut OpenGraph, form: &Form) -> Result<(), AllocError>
     requires known { is_unknown declared.now (block.Graph graph.old) form.now ≡ false }
     requires once { twice_in_graph graph.old form.now ≡ false }
     requires few { past_limit_in_graph graph.old form.now ≡ false }
