@@ -19,8 +19,9 @@ use Rattle.place_plan.specs.Plans.OwnNames.{AreOwnNames, NamesParts, HasOwnParts
 use Rattle.place_plan.specs.Drafts.DraftRules.{all_differ}
 use Rattle.action_script.specs.declared.forms.form.Form.{Form}
 use Rattle.action_script.specs.declared.forms.form.Form.TheVariants as form
-use Rattle.action_script.specs.declared.lines.field.Part.TheVariants as part
 use Rattle.action_script.specs.declared.lines.field.Field.TheVariants as field
+use Rattle.action_script.specs.declared.lines.sort.Sort.TheVariants as sort
+use Rattle.action_script.specs.Lines.Kinds.{new}
 use Rattle.action_script.specs.Words.NumberedNames.{number_in}
 use Rattle.action_script.specs.Forms.ScriptValue.{Script}
 use Rattle.action_script.specs.Forms.Printing.{all_fit, is_sound, forms_of, form_names, AreScript}
@@ -98,7 +99,7 @@ module _ (names : List (List ℕ)) where
       let parts = and_parts (is_name (name_at names x)) (all_fit names [] (map field.Name xs)) h in
       All-cons (λ n. is_name (name_at names n) ≡ true) x xs parts.0 (rest_spelled xs parts.1)
 
-  all_spelled : (xs : List ℕ) → all_fit names (part.Name ∷ []) (map field.Name xs) ≡ true → All (λ n. is_name (name_at names n) ≡ true) xs
+  all_spelled : (xs : List ℕ) → all_fit names (new sort.Role ∷ []) (map field.Name xs) ≡ true → All (λ n. is_name (name_at names n) ≡ true) xs
   all_spelled [] h = All-nil (λ n. is_name (name_at names n) ≡ true)
   all_spelled (x ∷ xs) h =
       let parts = and_parts (is_name (name_at names x)) (all_fit names [] (map field.Name xs)) h in
