@@ -9,6 +9,7 @@ import os
 import sys
 
 MOST = 1_000_000_000_000
+STEPS = ("read", "put", "add", "work", "check", "raise", "enter", "done", "signal", "undo")
 TESTS = {"below": lambda a, b: a < b, "above": lambda a, b: a > b, "equal": lambda a, b: a == b}
 
 
@@ -82,8 +83,10 @@ class Script:
                 block.nests[rest[0]]["failure"] = rest[1]
             elif word == "abort":
                 block.aborts[rest[0]] = rest[1:]
-            elif word not in ("end", "watch"):
+            elif word in STEPS:
                 steps.append([word, *rest])
+            elif word not in ("end", "watch"):
+                sys.exit(f"no line of a script begins with {word}")
         self.places = []
         self.plays = []
         for action, *who in plays:

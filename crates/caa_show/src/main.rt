@@ -6,11 +6,12 @@ mod showing;
 mod words;
 
 use crate::showing::{Shown, Status, show};
-use crate::words::{USAGE, View, asked};
+use crate::words::{USAGE, View, asked, asks_for_line_table};
 use action_script::words::call_words::call_words;
 use caa_base::outside::reading::{ReadError, read_all, write_all};
 use caa_base::outside::standard::{StdSink, StdSource};
 use caa_base::written::limits::MOST_AUDIT_BYTES;
+use script_views::line_table::line_table;
 use std::alloc::Global;
 use std::fs;
 use std::io::ErrorKind;
@@ -53,9 +54,23 @@ fn show_read(alloc: Global, view: View, file: &str, read: Result<Vec<u8>, ReadEr
     }
 }
 
+/// The table of the kinds of lines.
+fn show_line_table(alloc: Global) -> Shown {
+    match line_table(alloc) {
+        Ok(text) => Shown {
+            status: Status::Done,
+            text,
+        },
+        Err(_) => told(alloc, Status::OutOfMemory, b""),
+    }
+}
+
 /// What the words come to.
 fn serve(rt: &HostRuntime, words: &[String]) -> Shown {
     let alloc = rt.alloc();
+    if asks_for_line_table(words) {
+        return show_line_table(alloc);
+    }
     match asked(words) {
         None => told(alloc, Status::Usage, USAGE),
         Some((view, Some(file))) => show_read(alloc, view, file, read_file(rt, file)),

@@ -15,6 +15,7 @@ use journal_pictures::story::story;
 use journal_text::looks::seens::Seens;
 use place_plan::plans::plan::Plan;
 use script_checker::own_names::has_own_names;
+use script_views::characters::tell_nothing;
 use script_views::dot::dot;
 use script_views::explaining::{Seen, look};
 use script_views::page::{Page, Piece};
@@ -173,6 +174,13 @@ fn show_plan(
     }
 }
 
+/// What is told of a script in which no line says anything.
+fn says_nothing(alloc: Global, text: &[u8]) -> Result<Shown, OutOfMemory> {
+    let mut page = Page::new(alloc, &[]);
+    tell_nothing(&mut page, text)?;
+    Ok(with_status(Status::Done, page.into_text()))
+}
+
 /// Where the journal begins that stands behind a script, if one stands there.
 fn journal_behind(bytes: &[u8]) -> Option<JournalStart> {
     Some(find_journal(bytes)).filter(|start| start.place < bytes.len())
@@ -193,6 +201,9 @@ pub fn show(alloc: Global, view: View, file: &[u8], bytes: &[u8]) -> Result<Show
         Seen::Accepted(script, plan) => (script, plan),
         Seen::Refused(refusal) => return Ok(with_status(Status::Refused, refusal.text)),
     };
+    if script.is_empty() && start.is_none() && matches!(view, View::Explain) {
+        return says_nothing(alloc, bytes);
+    }
     match view {
         View::Table => Ok(with_status(Status::Done, tables(alloc, &script)?)),
         View::Graph => Ok(with_status(Status::Done, dot(alloc, &script)?)),

@@ -20,7 +20,7 @@ pub enum View {
 
 /// The usage line.
 pub const USAGE: &[u8] =
-    b"usage: explain [FILE] | table [FILE] | graph [FILE] | chart [FILE [FIRST COUNT]] | story [FILE]\n";
+    b"usage: explain [FILE] | table [FILE] | graph [FILE] | chart [FILE [FIRST COUNT]] | story [FILE] | lines\n";
 
 /// The view of a word.
 fn view_of(word: &str) -> Option<View> {
@@ -48,6 +48,11 @@ fn part_of(view: &str, first: &str, count: &str) -> Option<View> {
         first: first.checked_sub(1)?,
         count,
     })
+}
+
+/// Whether the table of the kinds of lines is asked for, which needs no input.
+pub fn asks_for_line_table(words: &[String]) -> bool {
+    matches!(words, [view] if view.as_str() == "lines")
 }
 
 /// What is asked for: a view, and the file that is read; none for standard input.

@@ -156,7 +156,7 @@ fn tell_cause(
     notes: &mut Page,
 ) -> Result<usize, OutOfMemory> {
     match cause {
-        CheckCause::Unknown => tell_unknown(scene, form, notes),
+        CheckCause::Unknown => tell_unknown(scene, notes),
         CheckCause::Twice => tell_twice(scene, form, notes),
         CheckCause::Cycle { at } => tell_cycle(scene, at, notes),
         CheckCause::NoLeast { a, b } => tell_no_least(scene, a, b, notes),

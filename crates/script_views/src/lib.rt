@@ -1,10 +1,12 @@
 //! What an engineer is told of a script: why it is refused, who handles what, and its graphs as pictures.
 #![tactic(auto)]
 
+pub mod characters;
 mod covers;
 pub mod dot;
 pub mod explaining;
 mod graph_faults;
+pub mod line_table;
 mod looking;
 mod misread;
 pub mod page;

@@ -1,12 +1,18 @@
 //! A line that can't be read.
 
+use crate::characters::{has_returns_alone, push_character};
 use crate::looking::{block_name, first_line};
 use crate::page::{Page, Piece};
 use crate::scene::Scene;
-use crate::shapes::{Part, SHAPES, Section, Shape, Stand, section_after, section_phrase};
+use crate::shapes::{
+    MANUAL, in_steps, part_at, push_written, section_after, section_of, section_phrase, stand_of,
+    stand_phrase,
+};
 use crate::source::{column_of, line_at, show_line};
 use action_script::forms::form::Form;
 use action_script::forms::script::Line;
+use action_script::lines::field::Part;
+use action_script::lines::kind::{LineKind, Section, Stand};
 use action_script::script_error::ScriptCause;
 use action_script::words::cuts::{is_blank, words_of};
 use action_script::words::word::{count_of, rounds_of, test_of, value_of};
@@ -37,6 +43,37 @@ fn verdict_before(block: &[Line]) -> Option<u32> {
     }
 }
 
+/// The line that opened the last block which has ended, and the line that ended it.
+fn last_ended(before: &[Line]) -> Option<(u32, u32)> {
+    let mut opening = None;
+    let mut found = None;
+    for line in before {
+        match (&line.form, opening) {
+            (Form::Graph(_) | Form::Action(_), _) => opening = Some(line.number),
+            (Form::End, Some(first)) => found = Some((first, line.number)),
+            _ => {}
+        }
+    }
+    found
+}
+
+/// The line that began the last steps of an open action which have ended, and the line that ended them.
+fn last_steps(block: &[Line]) -> Option<(u32, u32)> {
+    let mut section = Section::Top;
+    let mut first = 0;
+    let mut found = None;
+    for line in block {
+        let next = section_of(section, &line.form);
+        if in_steps(next) && matches!(&line.form, Form::Body(_) | Form::Handler(_, _)) {
+            first = line.number;
+        } else if in_steps(section) && !in_steps(next) {
+            found = Some((first, line.number));
+        }
+        section = next;
+    }
+    found
+}
+
 /// Tells where the line stands.
 fn tell_section(scene: &Scene, section: Section, notes: &mut Page) -> Result<(), OutOfMemory> {
     let Some(name) = block_name(scene.block) else {
@@ -54,49 +91,35 @@ fn tell_section(scene: &Scene, section: Section, notes: &mut Page) -> Result<(),
 // ---- words that begin a line
 
 /// The first kind of lines that begin with this word.
-fn shape_of(word: &[u8]) -> Option<Shape> {
-    SHAPES
-        .iter()
-        .copied()
-        .find(|shape| shape.word().as_bytes() == word)
-}
-
-/// Whether a line of a kind may have so many words after the first.
-fn takes(scene: &Scene, shape: Shape, count: usize) -> Result<bool, OutOfMemory> {
-    let least = shape.parts(scene.alloc)?.len();
-    Ok(count == least || (shape.goes_on() && count > least))
+fn kind_of(word: &[u8]) -> Option<LineKind> {
+    MANUAL.iter().copied().find(|kind| kind.word() == word)
 }
 
 /// The kind of lines that begin with this word and have so many more.
-fn shape_with(scene: &Scene, word: &[u8], count: usize) -> Result<Option<Shape>, OutOfMemory> {
-    for shape in &SHAPES {
-        if shape.word().as_bytes() == word && takes(scene, *shape, count)? {
-            return Ok(Some(*shape));
-        }
-    }
-    Ok(None)
+pub fn kind_with(word: &[u8], count: usize) -> Option<LineKind> {
+    MANUAL
+        .iter()
+        .copied()
+        .find(|kind| kind.word() == word && kind.takes(count))
 }
 
 /// Tells how a line of a kind is written.
-fn tell_written(shape: Shape, notes: &mut Page) -> Result<(), OutOfMemory> {
-    let gap = if shape.after().is_empty() { "" } else { " " };
-    notes.note(&[
-        Piece::Text("it is written: "),
-        Piece::Text(shape.word()),
-        Piece::Text(gap),
-        Piece::Text(shape.after()),
-    ])
+fn tell_written(kind: LineKind, notes: &mut Page) -> Result<(), OutOfMemory> {
+    notes.say(&[Piece::Text("  = it is written: ")])?;
+    push_written(notes, kind)?;
+    notes.say(&[Piece::Text("\n")])
 }
 
 /// Tells which words may begin a line here.
 fn tell_beginnings(section: Section, notes: &mut Page) -> Result<(), OutOfMemory> {
     notes.say(&[Piece::Text("  = a line here begins with")])?;
-    let mut last = "";
-    for shape in &SHAPES {
-        if shape.stands().has(section) && shape.word() != last {
-            notes.say(&[Piece::Text(" "), Piece::Text(shape.word())])?;
+    let mut last: &[u8] = &[];
+    for kind in &MANUAL {
+        let word = kind.word();
+        if kind.stands_in(section) && word != last {
+            notes.say(&[Piece::Text(" "), Piece::Word(word)])?;
         }
-        last = shape.word();
+        last = word;
     }
     notes.say(&[Piece::Text("\n")])
 }
@@ -117,6 +140,38 @@ fn tell_no_kind(
     tell_beginnings(section, notes)
 }
 
+/// Tells which `end` closed what was open, where a line stands at the top that can't stand there.
+fn tell_ended(scene: &Scene, notes: &mut Page) -> Result<(), OutOfMemory> {
+    let Some((first, last)) = last_ended(scene.before) else {
+        return notes.note(&[Piece::Text(
+            "no graph and no action is open here: is an `end` above too many, or is its beginning missing?",
+        )]);
+    };
+    notes.note(&[
+        Piece::Text("the `end` of line "),
+        Piece::Number(u64::from(last)),
+        Piece::Text(" has closed what line "),
+        Piece::Number(u64::from(first)),
+        Piece::Text(" opens: does it stand too early, or is a beginning missing?"),
+    ])
+}
+
+/// Tells which line ended the steps, where a step stands behind them.
+fn tell_steps_ended(scene: &Scene, notes: &mut Page) -> Result<(), OutOfMemory> {
+    let Some((first, last)) = last_steps(scene.block) else {
+        return notes.note(&[Piece::Text(
+            "steps follow a `body` or `handler` line, and go on until another line of the action comes",
+        )]);
+    };
+    notes.note(&[
+        Piece::Text("line "),
+        Piece::Number(u64::from(last)),
+        Piece::Text(" has closed the steps that line "),
+        Piece::Number(u64::from(first)),
+        Piece::Text(" begins: they go on until another line of the action comes"),
+    ])
+}
+
 /// Tells what may be missing above a line that can't stand where it stands.
 fn tell_missing(
     scene: &Scene,
@@ -124,28 +179,24 @@ fn tell_missing(
     section: Section,
     notes: &mut Page,
 ) -> Result<(), OutOfMemory> {
-    if section == Section::Top {
-        return notes.note(&[Piece::Text(
-            "no graph and no action is open here: is an `end` above too many, or is its beginning missing?",
-        )]);
+    if section.at_top() {
+        return tell_ended(scene, notes);
     }
-    if stands == Stand::Top || section == Section::Graph {
+    if matches!(stands, Stand::Top) || matches!(section, Section::Graph) {
         return notes.note(&[
             Piece::Text("is an `end` missing above, for line "),
             Piece::Number(u64::from(first_line(scene.block))),
             Piece::Text("?"),
         ]);
     }
-    if section == Section::Action {
+    if matches!(section, Section::Action) {
         return match verdict_before(scene.block) {
             Some(line) => notes.note(&[
                 Piece::Text("the verdict of line "),
                 Piece::Number(u64::from(line)),
                 Piece::Text(" has closed the steps: a verdict stands behind the last step"),
             ]),
-            None => notes.note(&[Piece::Text(
-                "steps follow a `body` or `handler` line, and go on until another line of the action comes",
-            )]),
+            None => tell_steps_ended(scene, notes),
         };
     }
     Ok(())
@@ -154,18 +205,19 @@ fn tell_missing(
 /// Tells that a line can't stand where it stands.
 fn tell_misplaced(
     scene: &Scene,
-    shape: Shape,
+    kind: LineKind,
     section: Section,
     notes: &mut Page,
 ) -> Result<(), OutOfMemory> {
+    let stands = stand_of(kind);
     notes.note(&[
         Piece::Text("`"),
-        Piece::Text(shape.word()),
+        Piece::Word(kind.word()),
         Piece::Text("` stands "),
-        Piece::Text(shape.stands().phrase()),
+        Piece::Text(stand_phrase(stands)),
     ])?;
     tell_section(scene, section, notes)?;
-    tell_missing(scene, shape.stands(), section, notes)
+    tell_missing(scene, stands, section, notes)
 }
 
 /// The first word that begins as a comment does.
@@ -179,13 +231,8 @@ fn comment_word(words: &[&[u8]]) -> Option<usize> {
 }
 
 /// Tells that a line has too few or too many words.
-fn tell_word_count(
-    scene: &Scene,
-    shape: Shape,
-    words: &[&[u8]],
-    notes: &mut Page,
-) -> Result<Spot, OutOfMemory> {
-    let least = shape.parts(scene.alloc)?.len().saturating_add(1);
+fn tell_word_count(kind: LineKind, words: &[&[u8]], notes: &mut Page) -> Result<Spot, OutOfMemory> {
+    let least = kind.parts().len().saturating_add(1);
     let amount = if words.len() < least {
         " words, which are too few"
     } else {
@@ -196,8 +243,8 @@ fn tell_word_count(
         Piece::Number(words.len() as u64),
         Piece::Text(amount),
     ])?;
-    for other in &SHAPES {
-        if other.word() == shape.word() {
+    for other in &MANUAL {
+        if other.word() == kind.word() {
             tell_written(*other, notes)?;
         }
     }
@@ -213,7 +260,7 @@ fn tell_word_count(
 /// Whether a word is what it is asked to be.
 fn is_part(part: Part, word: &[u8]) -> bool {
     match part {
-        Part::Name => is_name(word),
+        Part::Name(_) => is_name(word),
         Part::Value => value_of(word).is_some(),
         Part::Count => count_of(word).is_some(),
         Part::Rounds => rounds_of(word).is_some(),
@@ -222,11 +269,11 @@ fn is_part(part: Part, word: &[u8]) -> bool {
 }
 
 /// The first word of a line that isn't what it is asked to be; only a test, where tests are asked for.
-fn first_wrong(parts: &[Part], words: &[&[u8]], tests: bool) -> Option<usize> {
+fn first_wrong(kind: LineKind, words: &[&[u8]], tests: bool) -> Option<usize> {
     for (index, word) in words.iter().enumerate() {
         if index > 0 {
-            let part = parts.get(index - 1).copied().unwrap_or(Part::Name);
-            if (part == Part::Test || !tests) && !is_part(part, word) {
+            let part = part_at(kind, index - 1);
+            if (matches!(part, Part::Test) || !tests) && !is_part(part, word) {
                 return Some(index);
             }
         }
@@ -342,36 +389,27 @@ fn tell_no_name(word: &[u8], notes: &mut Page) -> Result<(), OutOfMemory> {
 
 /// Tells a word that isn't what it is asked to be.
 fn tell_wrong_word(
-    shape: Shape,
+    kind: LineKind,
     part: Part,
     word: &[u8],
     notes: &mut Page,
 ) -> Result<(), OutOfMemory> {
     match part {
-        Part::Name => tell_no_name(word, notes)?,
+        Part::Name(_) => tell_no_name(word, notes)?,
         Part::Test => tell_no_test(word, notes)?,
         Part::Value | Part::Count | Part::Rounds => tell_no_number(part, word, notes)?,
     }
-    tell_written(shape, notes)
+    tell_written(kind, notes)
 }
 
 /// Tells the word of a line that isn't what it is asked to be.
-fn tell_wrong(
-    scene: &Scene,
-    shape: Shape,
-    words: &[&[u8]],
-    notes: &mut Page,
-) -> Result<Spot, OutOfMemory> {
-    let parts = shape.parts(scene.alloc)?;
-    let Some(index) = first_wrong(&parts, words, true).or(first_wrong(&parts, words, false)) else {
+fn tell_wrong(kind: LineKind, words: &[&[u8]], notes: &mut Page) -> Result<Spot, OutOfMemory> {
+    let Some(index) = first_wrong(kind, words, true).or(first_wrong(kind, words, false)) else {
         return Ok(Spot::Word(0));
     };
-    let part = parts
-        .get(index.saturating_sub(1))
-        .copied()
-        .unwrap_or(Part::Name);
+    let part = part_at(kind, index.saturating_sub(1));
     let word = words.get(index).copied().unwrap_or(&[]);
-    tell_wrong_word(shape, part, word, notes)?;
+    tell_wrong_word(kind, part, word, notes)?;
     Ok(Spot::Word(index))
 }
 
@@ -405,11 +443,9 @@ fn tell_odd_byte(
         notes.note(&[Piece::Text("is the text written in UTF-16? Save it as ASCII or UTF-8")])?;
         return Ok(Spot::Byte(index));
     }
-    notes.note(&[
-        Piece::Text("the byte "),
-        Piece::Number(u64::from(byte)),
-        Piece::Text(" may stand in comments alone: other lines are written in ASCII"),
-    ])?;
+    let line = line_at(scene.text, scene.number);
+    push_character(notes, line.get(index..).unwrap_or(&[]))?;
+    notes.say(&[Piece::Text(" may stand in comments alone: other lines are written in ASCII\n")])?;
     notes.note(&[Piece::Text(
         "a name has letters without accents, digits, _ and -; a comment has # as the first byte of its line",
     )])?;
@@ -441,17 +477,17 @@ fn tell_words(scene: &Scene, words: &[&[u8]], notes: &mut Page) -> Result<Spot, 
     let Some((word, more)) = words.split_first() else {
         return tell_open_end(scene, notes);
     };
-    let Some(first) = shape_of(word) else {
+    let Some(first) = kind_of(word) else {
         tell_no_kind(scene, word, section, notes)?;
         return Ok(Spot::Word(0));
     };
-    if !first.stands().has(section) {
+    if !first.stands_in(section) {
         tell_misplaced(scene, first, section, notes)?;
         return Ok(Spot::Word(0));
     }
-    match shape_with(scene, word, more.len())? {
-        Some(shape) => tell_wrong(scene, shape, words, notes),
-        None => tell_word_count(scene, first, words, notes),
+    match kind_with(word, more.len()) {
+        Some(kind) => tell_wrong(kind, words, notes),
+        None => tell_word_count(first, words, notes),
     }
 }
 
@@ -472,6 +508,14 @@ fn tell_too_long(scene: &Scene, line: &[u8], notes: &mut Page) -> Result<Spot, O
     Ok(Spot::Word(0))
 }
 
+/// Tells that the lines of a text end with carriage returns alone.
+fn tell_returns(notes: &mut Page) -> Result<Spot, OutOfMemory> {
+    notes.note(&[Piece::Text(
+        "the text has carriage returns and no line feed, so all of it is one line: save it with line feeds",
+    )])?;
+    Ok(Spot::Word(0))
+}
+
 /// Tells why a line can't be read, and where the carets stand under it.
 pub fn tell_misread(
     scene: &Scene,
@@ -481,6 +525,9 @@ pub fn tell_misread(
     let line = line_at(scene.text, scene.number);
     if cause == ScriptCause::TooLong {
         return tell_too_long(scene, line, notes);
+    }
+    if has_returns_alone(scene.text) {
+        return tell_returns(notes);
     }
     if let Some((index, byte)) = first_odd_byte(line) {
         return tell_odd_byte(scene, index, byte, notes);

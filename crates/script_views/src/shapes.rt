@@ -1,114 +1,60 @@
-//! What each kind of line looks like, and where it stands.
+//! What each kind of line looks like in words, and where it stands.
 
+use crate::page::{Page, Piece};
 use action_script::forms::form::Form;
 use action_script::forms::script::Line;
-use action_script::words::cuts::words_of;
+use action_script::lines::field::Part;
+use action_script::lines::kind::{LineKind, Section, Stand};
+use action_script::lines::sort::{Naming, Sort};
 use caa_base::written::entry::OutOfMemory;
-use std::alloc::Global;
 
-/// Where a line is that is read.
-#[derive(Clone, Copy)]
-pub enum Section {
-    /// Outside all graphs and actions.
-    Top,
-    Graph,
-    /// In an action, outside its bodies and handlers.
-    Action,
-    Body,
-    Handler,
-}
-
-/// Where lines of a kind may stand.
-#[derive(Clone, Copy)]
-pub enum Stand {
-    /// Outside all graphs and actions.
-    Top,
-    Graph,
-    /// In an action, be it in a body or a handler or not.
-    Action,
-    /// In a body or a handler.
-    Steps,
-    Body,
-    /// In a graph or an action.
-    Block,
-}
-
-/// What a word after the first is asked to be.
-#[derive(Clone, Copy)]
-pub enum Part {
-    Name,
-    Value,
-    Count,
-    Rounds,
-    Test,
-}
-
-/// A kind of lines: the word that begins them; what stands after it, as the manual writes it, where two dots say that further names
-/// may follow; and where they stand.
-#[derive(Clone, Copy)]
-pub struct Shape(&'static str, &'static str, Stand);
-
-/// All kinds of lines.
-pub const SHAPES: [Shape; 34] = [
-    Shape("participant", "NAME", Stand::Top),
-    Shape("object", "NAME VALUE", Stand::Top),
-    Shape("graph", "NAME", Stand::Top),
-    Shape("action", "NAME", Stand::Top),
-    Shape("play", "ACTION PARTICIPANT ..", Stand::Top),
-    Shape("drill", "OBJECT COUNT", Stand::Top),
-    Shape("watch", "OBJECT", Stand::Top),
-    Shape("exception", "NAME", Stand::Graph),
-    Shape("cover", "UPPER LOWER", Stand::Graph),
-    Shape("end", "", Stand::Block),
-    Shape("use", "OBJECT ..", Stand::Action),
-    Shape("roles", "ROLE ..", Stand::Action),
-    Shape("internal", "GRAPH", Stand::Action),
-    Shape("interface", "GRAPH", Stand::Action),
-    Shape("fault", "EXCEPTION", Stand::Action),
-    Shape("body", "ROLE", Stand::Action),
-    Shape("handler", "ROLE EXCEPTION", Stand::Action),
-    Shape("nest", "NAME ACTION ROLE ..", Stand::Action),
-    Shape("alternate", "NEST ACTION", Stand::Action),
-    Shape("map", "NEST LOWER UPPER", Stand::Action),
-    Shape("mapundo", "NEST EXCEPTION", Stand::Action),
-    Shape("mapfailure", "NEST EXCEPTION", Stand::Action),
-    Shape("abort", "ROLE EXCEPTION", Stand::Action),
-    Shape("abort", "ROLE TEST VALUE EXCEPTION", Stand::Action),
-    Shape("read", "OBJECT", Stand::Steps),
-    Shape("put", "OBJECT VALUE", Stand::Steps),
-    Shape("add", "OBJECT VALUE", Stand::Steps),
-    Shape("work", "ROUNDS", Stand::Steps),
-    Shape("check", "TEST VALUE EXCEPTION", Stand::Steps),
-    Shape("raise", "EXCEPTION", Stand::Steps),
-    Shape("enter", "NEST", Stand::Body),
-    Shape("done", "", Stand::Steps),
-    Shape("signal", "EXCEPTION", Stand::Steps),
-    Shape("undo", "", Stand::Steps),
+/// All kinds of lines, in the order of the manual.
+pub const MANUAL: [LineKind; 34] = [
+    LineKind::Participant,
+    LineKind::Object,
+    LineKind::Graph,
+    LineKind::Action,
+    LineKind::Play,
+    LineKind::Drill,
+    LineKind::Watch,
+    LineKind::Exception,
+    LineKind::Cover,
+    LineKind::End,
+    LineKind::Use,
+    LineKind::Roles,
+    LineKind::Internal,
+    LineKind::Interface,
+    LineKind::Fault,
+    LineKind::Body,
+    LineKind::Handler,
+    LineKind::Nest,
+    LineKind::Alternate,
+    LineKind::Map,
+    LineKind::MapUndo,
+    LineKind::MapFailure,
+    LineKind::Abort,
+    LineKind::AbortTest,
+    LineKind::Read,
+    LineKind::Put,
+    LineKind::Add,
+    LineKind::Work,
+    LineKind::Check,
+    LineKind::Raise,
+    LineKind::Enter,
+    LineKind::Done,
+    LineKind::Signal,
+    LineKind::Undo,
 ];
 
-impl Stand {
-    /// Whether a line in this section stands there.
-    pub fn has(self, section: Section) -> bool {
-        match self {
-            Stand::Top => section == Section::Top,
-            Stand::Graph => section == Section::Graph,
-            Stand::Action => section != Section::Top && section != Section::Graph,
-            Stand::Steps => section == Section::Body || section == Section::Handler,
-            Stand::Body => section == Section::Body,
-            Stand::Block => section != Section::Top,
-        }
-    }
-
-    /// Where that is, in words.
-    pub fn phrase(self) -> &'static str {
-        match self {
-            Stand::Top => "at the top, outside graphs and actions",
-            Stand::Graph => "in a graph",
-            Stand::Action => "in an action",
-            Stand::Steps => "in a body or a handler of an action",
-            Stand::Body => "in a body of an action",
-            Stand::Block => "at the end of a graph or an action",
-        }
+/// Where lines that stand there are, in words.
+pub fn stand_phrase(stand: Stand) -> &'static str {
+    match stand {
+        Stand::Top => "at the top, outside graphs and actions",
+        Stand::Graph => "in a graph",
+        Stand::Action => "in an action",
+        Stand::Program => "in a body or a handler of an action",
+        Stand::Body => "in a body of an action",
+        Stand::Block => "at the end of a graph or an action",
     }
 }
 
@@ -123,8 +69,13 @@ pub fn section_phrase(section: Section) -> &'static str {
     }
 }
 
+/// Whether a section is a body or a handler.
+pub fn in_steps(section: Section) -> bool {
+    matches!(section, Section::Body | Section::Handler)
+}
+
 /// Where the next line stands after one that says this.
-fn section_of(section: Section, form: &Form) -> Section {
+pub fn section_of(section: Section, form: &Form) -> Section {
     match form {
         Form::Graph(_) => Section::Graph,
         Form::Body(_) => Section::Body,
@@ -151,50 +102,85 @@ pub fn section_after(block: &[Line]) -> Section {
     section
 }
 
-/// What a word of the manual asks for.
-fn part_of(word: &[u8]) -> Part {
-    if word == b"VALUE".as_slice() {
-        Part::Value
-    } else if word == b"COUNT".as_slice() {
-        Part::Count
-    } else if word == b"ROUNDS".as_slice() {
-        Part::Rounds
-    } else if word == b"TEST".as_slice() {
-        Part::Test
+/// Where lines of a kind stand.
+pub fn stand_of(kind: LineKind) -> Stand {
+    if kind.stands_in(Section::Top) {
+        Stand::Top
+    } else if kind.stands_in(Section::Graph) && kind.stands_in(Section::Action) {
+        Stand::Block
+    } else if kind.stands_in(Section::Graph) {
+        Stand::Graph
+    } else if kind.stands_in(Section::Action) {
+        Stand::Action
+    } else if kind.stands_in(Section::Handler) {
+        Stand::Program
     } else {
-        Part::Name
+        Stand::Body
     }
 }
 
-impl Shape {
-    /// The word that begins the line.
-    pub fn word(&self) -> &'static str {
-        self.0
-    }
+/// Whether further names may follow the words of a line of a kind.
+pub fn goes_on(kind: LineKind) -> bool {
+    kind.takes(kind.parts().len().saturating_add(1))
+}
 
-    /// What stands after it.
-    pub fn after(&self) -> &'static str {
-        self.1
-    }
+/// What a word after the first is asked to be, where so many stand between.
+pub fn part_at(kind: LineKind, index: usize) -> Part {
+    kind.parts()
+        .get(index)
+        .copied()
+        .unwrap_or(Part::Name(Naming::Further))
+}
 
-    /// Where the line stands.
-    pub fn stands(&self) -> Stand {
-        self.2
-    }
+// ---- how the manual writes a line
 
-    /// Whether further names may follow.
-    pub fn goes_on(&self) -> bool {
-        self.1.ends_with('.')
+/// What the manual calls a name that is declared as this, where so many words stand between it and the first.
+fn sort_word(kind: LineKind, index: usize, sort: Sort) -> &'static str {
+    match sort {
+        Sort::Participant => "PARTICIPANT",
+        Sort::Object => "OBJECT",
+        Sort::Graph => "GRAPH",
+        Sort::Action => "ACTION",
+        Sort::Role => "ROLE",
+        Sort::Nest => "NEST",
+        Sort::Own if index > 0 => "LOWER",
+        Sort::Own => "UPPER",
+        Sort::Inner if matches!(kind, LineKind::Map) => "UPPER",
+        Sort::Inner | Sort::Outer => "EXCEPTION",
+        Sort::Told(_) => "LOWER",
     }
+}
 
-    /// What the words after the first are asked to be; where names may go on, these are the fewest.
-    pub fn parts(&self, alloc: Global) -> Result<Vec<Part>, OutOfMemory> {
-        let mut parts = Vec::new(alloc);
-        for word in words_of(alloc, self.1.as_bytes())? {
-            if word.first() != Some(&b'.') {
-                parts.push(part_of(word))?;
-            }
-        }
-        Ok(parts)
+/// What the manual calls a name.
+fn naming_word(kind: LineKind, index: usize, naming: Naming) -> &'static str {
+    match naming {
+        Naming::New(Sort::Role) => "ROLE",
+        Naming::New(_) => "NAME",
+        Naming::Used(sort) => sort_word(kind, index, sort),
+        Naming::ToldOutside => "LOWER",
+        Naming::Further => "..",
     }
+}
+
+/// What the manual calls a word after the first, where so many stand between.
+pub fn part_word(kind: LineKind, index: usize) -> &'static str {
+    match part_at(kind, index) {
+        Part::Name(naming) => naming_word(kind, index, naming),
+        Part::Value => "VALUE",
+        Part::Count => "COUNT",
+        Part::Rounds => "ROUNDS",
+        Part::Test => "TEST",
+    }
+}
+
+/// Adds how a line of a kind is written.
+pub fn push_written(page: &mut Page, kind: LineKind) -> Result<(), OutOfMemory> {
+    page.say(&[Piece::Word(kind.word())])?;
+    for index in 0..kind.parts().len() {
+        page.say(&[Piece::Text(" "), Piece::Text(part_word(kind, index))])?;
+    }
+    if goes_on(kind) {
+        page.say(&[Piece::Text(" ..")])?;
+    }
+    Ok(())
 }

@@ -4,150 +4,61 @@ use crate::looking::{
     action_block, block_name, exceptions_of, first_line, graph_block, interface_line, interface_of,
     internal_line, internal_of, nested_action, roles_of,
 };
+use crate::misread::kind_with;
 use crate::page::{Page, Piece};
 use crate::scene::Scene;
+use crate::shapes::part_at;
+use crate::source::line_at;
 use action_script::forms::form::Form;
 use action_script::forms::script::Line;
+use action_script::lines::field::Part;
+use action_script::lines::kind::LineKind;
+use action_script::lines::sort::{Naming, Sort};
+use action_script::words::cuts::words_of;
 use caa_base::written::entry::OutOfMemory;
-use caa_base::written::limits::MOST_LINE_BYTES;
 use std::alloc::Global;
 
 /// How many names are listed at most.
 const MOST_CHOICES: usize = 40;
 
-/// What a name of a line is asked to be.
-#[derive(Clone, Copy, PartialEq)]
-enum Asked {
-    Participant,
-    Object,
-    Graph,
-    /// An action that has ended.
-    Action,
-    /// A role of the open action.
-    Role,
-    /// A nested use of the open action.
-    Nest,
-    /// An exception of the open graph.
-    Own,
-    /// An exception of the internal graph of the open action.
-    Internal,
-    /// An exception of its interface graph.
-    Interface,
-    /// An exception that the actions of this nested use tell outside.
-    Told(u32),
-}
-
-/// A name that a line uses, and what it is asked to be.
+/// A name that a line uses, and what it has to be declared as.
 #[derive(Clone, Copy)]
 struct NameUse {
     name: u32,
-    asked: Asked,
+    sort: Sort,
+}
+
+/// A name that isn't declared as it has to be: the number of its word in the line, and the names that would do.
+#[derive(Drop)]
+struct Unknown {
+    word: usize,
+    wanted: NameUse,
+    fitting: Vec<u32>,
 }
 
 // ---- which names a line uses
 
-/// A use at one place of a line, where that is the word that is asked for.
-fn at(word: usize, place: usize, name: u32, asked: Asked) -> Option<NameUse> {
-    if word == place {
-        Some(NameUse { name, asked })
-    } else {
-        None
+/// What a name that is for this has to be declared as, in a line that names this nested use first; one that the line declares, as
+/// nothing.
+fn sort_used(naming: Naming, nest: u32) -> Option<Sort> {
+    match naming {
+        Naming::Used(sort) => Some(sort),
+        Naming::ToldOutside => Some(Sort::Told(nest)),
+        Naming::New(_) | Naming::Further => None,
     }
-}
-
-/// A use in a list that goes on from a place of a line.
-fn among(word: usize, first: usize, names: &[u32], asked: Asked) -> Option<NameUse> {
-    if word < first {
-        return None;
-    }
-    let name = names.get(word - first)?;
-    Some(NameUse { name: *name, asked })
-}
-
-/// The name that a line at the top or in a graph uses as this word of it.
-fn use_outside(form: &Form, word: usize) -> Option<NameUse> {
-    match form {
-        Form::Drill(object, _) | Form::Watch(object) => at(word, 1, *object, Asked::Object),
-        Form::Play(action, who) => at(word, 1, *action, Asked::Action).or(among(
-            word,
-            2,
-            who.as_slice(),
-            Asked::Participant,
-        )),
-        Form::Cover(upper, lower) => {
-            at(word, 1, *upper, Asked::Own).or(at(word, 2, *lower, Asked::Own))
-        }
-        _ => None,
-    }
-}
-
-/// The name that a line of an action uses as this word of it, outside bodies and handlers.
-fn use_in_action(form: &Form, word: usize) -> Option<NameUse> {
-    match form {
-        Form::Internal(graph) | Form::Interface(graph) => at(word, 1, *graph, Asked::Graph),
-        Form::Fault(exception) => at(word, 1, *exception, Asked::Internal),
-        Form::Uses(objects) => among(word, 1, objects.as_slice(), Asked::Object),
-        Form::Nest(_, action, roles) => at(word, 2, *action, Asked::Action).or(among(
-            word,
-            3,
-            roles.as_slice(),
-            Asked::Role,
-        )),
-        Form::Map(nest, lower, upper) => at(word, 1, *nest, Asked::Nest)
-            .or(at(word, 2, *lower, Asked::Told(*nest)))
-            .or(at(word, 3, *upper, Asked::Internal)),
-        Form::MapUndo(nest, exception) | Form::MapFailure(nest, exception) => {
-            at(word, 1, *nest, Asked::Nest).or(at(word, 2, *exception, Asked::Internal))
-        }
-        Form::Alternate(nest, action) => {
-            at(word, 1, *nest, Asked::Nest).or(at(word, 2, *action, Asked::Action))
-        }
-        Form::Abort(role, exception) => {
-            at(word, 1, *role, Asked::Role).or(at(word, 2, *exception, Asked::Interface))
-        }
-        Form::AbortTest(role, _, _, exception) => {
-            at(word, 1, *role, Asked::Role).or(at(word, 4, *exception, Asked::Interface))
-        }
-        _ => None,
-    }
-}
-
-/// The name that a line of a body or a handler uses as this word of it.
-fn use_in_steps(form: &Form, word: usize) -> Option<NameUse> {
-    match form {
-        Form::Body(role) => at(word, 1, *role, Asked::Role),
-        Form::Handler(role, exception) => {
-            at(word, 1, *role, Asked::Role).or(at(word, 2, *exception, Asked::Internal))
-        }
-        Form::ReadStep(object) | Form::PutStep(object, _) | Form::AddStep(object, _) => {
-            at(word, 1, *object, Asked::Object)
-        }
-        Form::CheckStep(_, _, exception) => at(word, 3, *exception, Asked::Internal),
-        Form::RaiseStep(exception) => at(word, 1, *exception, Asked::Internal),
-        Form::EnterStep(nest) => at(word, 1, *nest, Asked::Nest),
-        Form::SignalLine(exception) => at(word, 1, *exception, Asked::Interface),
-        _ => None,
-    }
-}
-
-/// The name that a line uses as this word of it.
-fn use_at(form: &Form, word: usize) -> Option<NameUse> {
-    use_outside(form, word)
-        .or(use_in_action(form, word))
-        .or(use_in_steps(form, word))
 }
 
 // ---- which names would do
 
 /// The name that a line declares as what is asked for, lists of roles aside.
-fn declared_as(form: &Form, asked: Asked) -> Option<u32> {
-    match (form, asked) {
-        (Form::Participant(name), Asked::Participant) => Some(*name),
-        (Form::Object(name, _), Asked::Object) => Some(*name),
-        (Form::Graph(name), Asked::Graph) => Some(*name),
-        (Form::Action(name), Asked::Action) => Some(*name),
-        (Form::Nest(name, _, _), Asked::Nest) => Some(*name),
-        (Form::Exception(name), Asked::Own) => Some(*name),
+fn declared_as(form: &Form, sort: Sort) -> Option<u32> {
+    match (form, sort) {
+        (Form::Participant(name), Sort::Participant) => Some(*name),
+        (Form::Object(name, _), Sort::Object) => Some(*name),
+        (Form::Graph(name), Sort::Graph) => Some(*name),
+        (Form::Action(name), Sort::Action) => Some(*name),
+        (Form::Nest(name, _, _), Sort::Nest) => Some(*name),
+        (Form::Exception(name), Sort::Own) => Some(*name),
         _ => None,
     }
 }
@@ -156,12 +67,12 @@ fn declared_as(form: &Form, asked: Asked) -> Option<u32> {
 fn declared_in(
     alloc: Global,
     lines: &[Line],
-    asked: Asked,
+    sort: Sort,
     open: Option<u32>,
 ) -> Result<Vec<u32>, OutOfMemory> {
     let mut names = Vec::new(alloc);
     for line in lines {
-        if let Some(name) = declared_as(&line.form, asked) {
+        if let Some(name) = declared_as(&line.form, sort) {
             if open != Some(name) {
                 names.push(name)?;
             }
@@ -171,11 +82,11 @@ fn declared_in(
 }
 
 /// The graph of the exceptions that are asked for, where one is named.
-fn graph_asked(scene: &Scene, asked: Asked) -> Option<u32> {
-    match asked {
-        Asked::Internal => internal_of(scene.block),
-        Asked::Interface => interface_of(scene.block),
-        Asked::Told(nest) => {
+fn graph_asked(scene: &Scene, sort: Sort) -> Option<u32> {
+    match sort {
+        Sort::Inner => internal_of(scene.block),
+        Sort::Outer => interface_of(scene.block),
+        Sort::Told(nest) => {
             let action = nested_action(scene.block, nest)?;
             interface_of(action_block(scene.before, action))
         }
@@ -191,17 +102,17 @@ fn with_universal(scene: &Scene, block: &[Line]) -> Result<Vec<u32>, OutOfMemory
 }
 
 /// The names that would do.
-fn choices(scene: &Scene, asked: Asked) -> Result<Vec<u32>, OutOfMemory> {
-    match asked {
-        Asked::Participant | Asked::Object | Asked::Graph => {
-            declared_in(scene.alloc, scene.before, asked, None)
+fn choices(scene: &Scene, sort: Sort) -> Result<Vec<u32>, OutOfMemory> {
+    match sort {
+        Sort::Participant | Sort::Object | Sort::Graph => {
+            declared_in(scene.alloc, scene.before, sort, None)
         }
-        Asked::Action => declared_in(scene.alloc, scene.before, asked, block_name(scene.block)),
-        Asked::Nest => declared_in(scene.alloc, scene.block, asked, None),
-        Asked::Role => Ok(Vec::from_slice(scene.alloc, roles_of(scene.block))?),
-        Asked::Own => with_universal(scene, scene.block),
-        Asked::Internal | Asked::Interface | Asked::Told(_) => {
-            match graph_asked(scene, asked) {
+        Sort::Action => declared_in(scene.alloc, scene.before, sort, block_name(scene.block)),
+        Sort::Nest => declared_in(scene.alloc, scene.block, sort, None),
+        Sort::Role => Ok(Vec::from_slice(scene.alloc, roles_of(scene.block))?),
+        Sort::Own => with_universal(scene, scene.block),
+        Sort::Inner | Sort::Outer | Sort::Told(_) => {
+            match graph_asked(scene, sort) {
                 Some(graph) => with_universal(scene, graph_block(scene.before, graph)),
                 None => with_universal(scene, &[]),
             }
@@ -209,34 +120,73 @@ fn choices(scene: &Scene, asked: Asked) -> Result<Vec<u32>, OutOfMemory> {
     }
 }
 
-/// The first word of a line that is a name which isn't declared as it has to be.
-fn first_unknown(scene: &Scene, form: &Form) -> Result<Option<(usize, NameUse)>, OutOfMemory> {
-    for word in 1..MOST_LINE_BYTES {
-        match use_at(form, word) {
-            Some(wanted) => {
-                if !choices(scene, wanted.asked)?.contains(&wanted.name) {
-                    return Ok(Some((word, wanted)));
+/// The number of a name, or how many names there are.
+fn number_of(scene: &Scene, word: &[u8]) -> u32 {
+    let mut number = 0u32;
+    for name in scene.names {
+        if name.bytes() == word {
+            return number;
+        }
+        number = number.saturating_add(1);
+    }
+    number
+}
+
+/// The first of some words of a line, all but its first one, that is a name which isn't declared as it has to be.
+fn first_among(
+    scene: &Scene,
+    kind: LineKind,
+    words: &[&[u8]],
+) -> Result<Option<Unknown>, OutOfMemory> {
+    let nest = number_of(scene, words.first().copied().unwrap_or(&[]));
+    let mut sort = None;
+    let mut fitting = Vec::new(scene.alloc);
+    for (index, word) in words.iter().enumerate() {
+        match part_at(kind, index) {
+            Part::Name(Naming::Further) => {}
+            Part::Name(naming) => {
+                sort = sort_used(naming, nest);
+                if let Some(sort) = sort {
+                    fitting = choices(scene, sort)?;
                 }
             }
-            None => {
-                if word > 4 {
-                    break;
-                }
+            Part::Value | Part::Count | Part::Rounds | Part::Test => sort = None,
+        }
+        let name = number_of(scene, word);
+        if let Some(sort) = sort {
+            if !fitting.contains(&name) {
+                return Ok(Some(Unknown {
+                    word: index.saturating_add(1),
+                    wanted: NameUse { name, sort },
+                    fitting,
+                }));
             }
         }
     }
     Ok(None)
 }
 
+/// The first word of the line that is a name which isn't declared as it has to be.
+fn first_unknown(scene: &Scene) -> Result<Option<Unknown>, OutOfMemory> {
+    let words = words_of(scene.alloc, line_at(scene.text, scene.number))?;
+    let Some((first, more)) = words.split_first() else {
+        return Ok(None);
+    };
+    match kind_with(first, more.len()) {
+        Some(kind) => first_among(scene, kind, more),
+        None => Ok(None),
+    }
+}
+
 // ---- what is told
 
 /// The line that names the graph which is asked for, where it stands below.
-fn graph_line_below(scene: &Scene, asked: Asked) -> Option<u32> {
+fn graph_line_below(scene: &Scene, sort: Sort) -> Option<u32> {
     let action = block_name(scene.block)?;
     let block = action_block(scene.lines, action);
-    match asked {
-        Asked::Internal => internal_line(block),
-        Asked::Interface => interface_line(block),
+    match sort {
+        Sort::Inner => internal_line(block),
+        Sort::Outer => interface_line(block),
         _ => None,
     }
 }
@@ -245,7 +195,7 @@ fn graph_line_below(scene: &Scene, asked: Asked) -> Option<u32> {
 fn tell_no_graph(
     scene: &Scene,
     notes: &mut Page,
-    asked: Asked,
+    sort: Sort,
     whose: &'static str,
     owner: u32,
 ) -> Result<(), OutOfMemory> {
@@ -255,7 +205,7 @@ fn tell_no_graph(
         Piece::Named(owner),
         Piece::Text(", for which no graph is named above: so it has universal alone"),
     ])?;
-    match graph_line_below(scene, asked) {
+    match graph_line_below(scene, sort) {
         Some(line) => notes.note(&[
             Piece::Text("line "),
             Piece::Number(u64::from(line)),
@@ -273,8 +223,8 @@ fn tell_graph(
     whose: &'static str,
     owner: u32,
 ) -> Result<(), OutOfMemory> {
-    let Some(graph) = graph_asked(scene, wanted.asked) else {
-        return tell_no_graph(scene, notes, wanted.asked, whose, owner);
+    let Some(graph) = graph_asked(scene, wanted.sort) else {
+        return tell_no_graph(scene, notes, wanted.sort, whose, owner);
     };
     notes.note(&[
         Piece::Text("`"),
@@ -320,15 +270,15 @@ fn tell_top(notes: &mut Page, name: u32, kind: &'static str) -> Result<(), OutOf
 fn tell_wanted(scene: &Scene, notes: &mut Page, wanted: NameUse) -> Result<(), OutOfMemory> {
     let name = wanted.name;
     let owner = block_name(scene.block).unwrap_or(scene.universal);
-    match wanted.asked {
-        Asked::Participant => tell_top(notes, name, "participant that is declared"),
-        Asked::Object => tell_top(notes, name, "object that is declared"),
-        Asked::Graph => tell_top(notes, name, "graph that is declared"),
-        Asked::Action => tell_top(notes, name, "action that has ended"),
-        Asked::Role => tell_kind(notes, name, "role of the action ", owner),
-        Asked::Nest => tell_kind(notes, name, "nested use of the action ", owner),
-        Asked::Own => tell_kind(notes, name, "exception of the graph ", owner),
-        Asked::Internal => {
+    match wanted.sort {
+        Sort::Participant => tell_top(notes, name, "participant that is declared"),
+        Sort::Object => tell_top(notes, name, "object that is declared"),
+        Sort::Graph => tell_top(notes, name, "graph that is declared"),
+        Sort::Action => tell_top(notes, name, "action that has ended"),
+        Sort::Role => tell_kind(notes, name, "role of the action ", owner),
+        Sort::Nest => tell_kind(notes, name, "nested use of the action ", owner),
+        Sort::Own => tell_kind(notes, name, "exception of the graph ", owner),
+        Sort::Inner => {
             tell_graph(
                 scene,
                 notes,
@@ -337,7 +287,7 @@ fn tell_wanted(scene: &Scene, notes: &mut Page, wanted: NameUse) -> Result<(), O
                 owner,
             )
         }
-        Asked::Interface => {
+        Sort::Outer => {
             tell_graph(
                 scene,
                 notes,
@@ -346,7 +296,7 @@ fn tell_wanted(scene: &Scene, notes: &mut Page, wanted: NameUse) -> Result<(), O
                 owner,
             )
         }
-        Asked::Told(nest) => {
+        Sort::Told(nest) => {
             let nested = nested_action(scene.block, nest).unwrap_or(owner);
             tell_graph(
                 scene,
@@ -360,17 +310,16 @@ fn tell_wanted(scene: &Scene, notes: &mut Page, wanted: NameUse) -> Result<(), O
 }
 
 /// Tells which names would do.
-fn tell_choices(scene: &Scene, notes: &mut Page, asked: Asked) -> Result<(), OutOfMemory> {
-    let names = choices(scene, asked)?;
+fn tell_choices(notes: &mut Page, sort: Sort, names: &[u32]) -> Result<(), OutOfMemory> {
     if names.is_empty() {
-        return match asked {
-            Asked::Role => notes.note(&[Piece::Text(
+        return match sort {
+            Sort::Role => notes.note(&[Piece::Text(
                 "no `roles` line stands above this line in the action, so it has no roles",
             )]),
             _ => notes.note(&[Piece::Text("above this line there is none")]),
         };
     }
-    let first = names.get(..MOST_CHOICES).unwrap_or(&names);
+    let first = names.get(..MOST_CHOICES).unwrap_or(names);
     let more = names.len().saturating_sub(MOST_CHOICES);
     if more == 0 {
         return notes.note(&[Piece::Text("here may stand: "), Piece::List(first)]);
@@ -450,21 +399,22 @@ fn tell_elsewhere(scene: &Scene, notes: &mut Page, name: u32) -> Result<(), OutO
     Ok(())
 }
 
-/// Tells which name of a line isn't declared above, and gives the number of its word in the line.
-pub fn tell_unknown(scene: &Scene, form: &Form, notes: &mut Page) -> Result<usize, OutOfMemory> {
-    let Some((word, wanted)) = first_unknown(scene, form)? else {
+/// Tells which name of the line isn't declared above, and gives the number of its word in the line.
+pub fn tell_unknown(scene: &Scene, notes: &mut Page) -> Result<usize, OutOfMemory> {
+    let Some(unknown) = first_unknown(scene)? else {
         return Ok(0);
     };
+    let wanted = unknown.wanted;
     tell_wanted(scene, notes, wanted)?;
-    tell_choices(scene, notes, wanted.asked)?;
+    tell_choices(notes, wanted.sort, &unknown.fitting)?;
     tell_elsewhere(scene, notes, wanted.name)?;
-    if let Asked::Told(_) = wanted.asked {
+    if let Sort::Told(_) = wanted.sort {
         notes.note(&[Piece::Text(
             "`map NEST LOWER UPPER`: LOWER is what the nested action tells outside, and UPPER what is raised for it here",
         )])?;
     }
-    if wanted.asked == Asked::Action && block_name(scene.block) == Some(wanted.name) {
+    if matches!(wanted.sort, Sort::Action) && block_name(scene.block) == Some(wanted.name) {
         notes.note(&[Piece::Text("that action is still open here, and none nests itself")])?;
     }
-    Ok(word)
+    Ok(unknown.word)
 }
