@@ -1,5 +1,5 @@
 -- All that a device was ever asked for, as a journal grows.
-use Rattle.std.proofs.Common.{◌≡◌, ◌∙◌, ℕ, ◌+◌, ◌-◌, true, false, List, [], ◌∷◌, ◌++◌, filter, length, map, take, Option, Some, None, refl, ap, sym, arith, length-append}
+use Rattle.std.proofs.Common.{◌≡◌, ◌∙◌, ◌-◌, true, false, List, [], ◌∷◌, ◌++◌, filter, length, map, take, Option, Some, None, refl, ap, sym, arith, length-append}
 use Rattle.std.proofs.Math.Seq.{take-append_seam}
 use Rattle.std.proofs.lemmas.List.{append_assoc, map-append}
 use Rattle.caa_base.specs.Outside.PlantState.{after_asked}
