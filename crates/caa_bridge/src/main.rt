@@ -84,19 +84,19 @@ fn tell_usage(rt: &HostRuntime) -> ExitCode {
     let _ = eprintln!(rt;
         "usage: caa_bridge sim SEED SCRIPT JOURNAL | caa_bridge run SCRIPT JOURNAL"
     );
-    ExitCode::from(Status::Usage as u8)
+    ExitCode::from(Status::Usage.code())
 }
 
 fn main(rt: HostRuntime) -> ExitCode {
     let Ok(words) = call_words(&rt) else {
-        return ExitCode::from(Status::OutOfMemory as u8);
+        return ExitCode::from(Status::OutOfMemory.code());
     };
     let Some(call) = call_of(words.as_slice()) else {
         return tell_usage(&rt);
     };
     let (mut source, journal, device) = match parts_of(&rt, &call) {
         Ok(parts) => parts,
-        Err(status) => return ExitCode::from(status as u8),
+        Err(status) => return ExitCode::from(status.code()),
     };
     let mut sink = StdSink::new(journal);
     let words = call.command;
@@ -113,5 +113,5 @@ fn main(rt: HostRuntime) -> ExitCode {
     } else {
         top_quiet(rt.alloc(), words, &mut source, &mut sink, device)
     };
-    ExitCode::from(ended.status as u8)
+    ExitCode::from(ended.status.code())
 }

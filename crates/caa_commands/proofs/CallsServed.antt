@@ -36,6 +36,7 @@ use Rattle.caa_base.proofs.Counting.{counted_up-rose}
 use Rattle.caa_commands.proofs.NotRefused.{plan_not_refused}
 use Rattle.caa_commands.proofs.PlansOfScripts.{plan_short, plan_tells}
 use Rattle.caa_commands.proofs.FoundAlone.{found_alone}
+use Rattle.caa_commands.proofs.Spared.{answer_spared}
 
 -- ---- what was read
 
@@ -159,18 +160,18 @@ ended_served plan journal printed (finding.Illegal line) h = elim h [ ]
 ended_served plan journal printed (finding.Printed text) h = elim h [ ]
 
 -- where the device could be laid out, a play that didn't begin found no memory
-begun_served : {P : Type 0} (found : Finding) (left : Left P)
-    → (Rose left.plant.lay_faults_before left.plant.lay_faults_after → ⊥) → DoesNotBegin found left → WasServed (status_of found)
-begun_served finding.PlantFault left laid h = absurd (laid (counted_up-rose _ _ h.0))
-begun_served finding.OutOfMemory left laid h = inr (inr refl)
-begun_served finding.Usage left laid h = elim h [ ]
-begun_served finding.SourceFault left laid h = elim h [ ]
-begun_served (finding.Refused refusal) left laid h = elim h [ ]
-begun_served (finding.Checked counts) left laid h = elim h [ ]
-begun_served (finding.Played failed text) left laid h = elim h [ ]
-begun_served (finding.Legal entries) left laid h = elim h [ ]
-begun_served (finding.Illegal line) left laid h = elim h [ ]
-begun_served (finding.Printed text) left laid h = elim h [ ]
+begun_served : {P : Type 0} (plan : Plan) (found : Finding) (left : Left P)
+    → (Rose left.plant.lay_faults_before left.plant.lay_faults_after → ⊥) → DoesNotBegin plan found left → WasServed (status_of found)
+begun_served plan finding.PlantFault left laid h = absurd (laid (counted_up-rose _ _ h.0))
+begun_served plan finding.OutOfMemory left laid h = inr (inr refl)
+begun_served plan finding.Usage left laid h = elim h [ ]
+begun_served plan finding.SourceFault left laid h = elim h [ ]
+begun_served plan (finding.Refused refusal) left laid h = elim h [ ]
+begun_served plan (finding.Checked counts) left laid h = elim h [ ]
+begun_served plan (finding.Played failed text) left laid h = elim h [ ]
+begun_served plan (finding.Legal entries) left laid h = elim h [ ]
+begun_served plan (finding.Illegal line) left laid h = elim h [ ]
+begun_served plan (finding.Printed text) left laid h = elim h [ ]
 
 checked_served : {P : Type 0} (plan : Plan) (found : Finding) (left : Left P) → CheckComesTo plan found left → WasServed (status_of found)
 checked_served plan (finding.Checked counts) left h = inl refl
@@ -208,13 +209,13 @@ plan_served (command.Cell cycles) plan bytes found left other laid h = elim othe
 plan_served command.Check plan bytes found left other laid h = checked_served plan found left h
 plan_served (command.Sim seed) plan bytes found left other laid (inl played) =
     ended_served plan left.journal (text_of_journal plan left.journal []) found played.1
-plan_served (command.Sim seed) plan bytes found left other laid (inr unopened) = begun_served found left laid unopened
+plan_served (command.Sim seed) plan bytes found left other laid (inr unopened) = begun_served plan found left laid unopened
 plan_served command.Run plan bytes found left other laid (inl played) =
     ended_served plan left.journal (text_of_journal plan left.journal played.seens) found played.ends
-plan_served command.Run plan bytes found left other laid (inr unopened) = begun_served found left laid unopened
+plan_served command.Run plan bytes found left other laid (inr unopened) = begun_served plan found left laid unopened
 plan_served (command.Pool workers) plan bytes found left other laid (inl played) =
     ended_served plan left.journal (text_of_journal plan left.journal []) found played.ends
-plan_served (command.Pool workers) plan bytes found left other laid (inr unopened) = begun_served found left laid unopened
+plan_served (command.Pool workers) plan bytes found left other laid (inr unopened) = begun_served plan found left laid unopened
 plan_served (command.Messages seed) plan bytes found left other laid h = printed_served (IsPlayedByMessages plan seed) found left h
 
 -- a command other than `graph` is refused for what its script is refused for
@@ -459,7 +460,7 @@ worked_served : {P : Type 0} (cycles : ℕ) (found : Finding) (left : Left P)
     → (Rose left.plant.lay_faults_before left.plant.lay_faults_after → ⊥) → IsWorked cycles found left → WasServed (status_of found)
 worked_served cycles found left laid w = elim w.comes [
   | inl played ↦ ended_served w.plan left.journal (summary_text w.plan left.journal cycles) found played.1
-  | inr unopened ↦ begun_served found left laid unopened
+  | inr unopened ↦ begun_served w.plan found left laid unopened
 ]
 
 -- a cell whose script has a plan isn't turned away
@@ -596,4 +597,5 @@ complete call sink answer a =
           (λ found. answer_audited call sink found answer a);
       refused = answer_refused call sink answer a;
       unworked = answer_unworked call sink answer a;
+      spared = answer_spared call sink answer a;
     }

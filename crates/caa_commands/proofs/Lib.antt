@@ -6,3 +6,5 @@ mod CallsServed
 mod ToldCalls
 mod PlansOfScripts
 mod FoundAlone
+mod PlayedHistory
+mod Spared

@@ -66,10 +66,10 @@ abbrev pub EndsAs : Plan → List Entry → List Seen → Finding → Type 0
 EndsAs plan journal seens found = EndsWith plan journal (text_of plan journal seens) found
 
 -- no play began: the device refused once to be laid out, or no memory was found and it refused nothing
-abbrev pub DoesNotBegin : {P : Type 0} → Finding → Left P → Type 0
-DoesNotBegin finding.PlantFault left = (left.plant.lay_faults_after ≡ counted_up left.plant.lay_faults_before) × IsUnplayed left
-DoesNotBegin finding.OutOfMemory left = (left.plant.lay_faults_after ≡ left.plant.lay_faults_before) × IsUnplayed left
-DoesNotBegin _ left = ⊥
+abbrev pub DoesNotBegin : {P : Type 0} → Plan → Finding → Left P → Type 0
+DoesNotBegin plan finding.PlantFault left = (left.plant.lay_faults_after ≡ counted_up left.plant.lay_faults_before) × IsUnplayed plan left
+DoesNotBegin plan finding.OutOfMemory left = (left.plant.lay_faults_after ≡ left.plant.lay_faults_before) × IsUnplayed plan left
+DoesNotBegin plan _ left = ⊥
 
 -- the plan is played by the schedule of the seed
 pub record IsSimulated {P : Type 0} (plan : Plan) (seed : ℕ) (left : Left P) : Type 0 where
@@ -78,12 +78,12 @@ pub record IsSimulated {P : Type 0} (plan : Plan) (seed : ℕ) (left : Left P) :
 
 -- `sim` plays so, and nobody watches; or no play begins
 abbrev pub SimComesTo : {P : Type 0} → Plan → ℕ → Finding → Left P → Type 0
-SimComesTo plan seed found left = (IsSimulated plan seed left × EndsAs plan left.journal [] found) ⊎ DoesNotBegin found left
+SimComesTo plan seed found left = (IsSimulated plan seed left × EndsAs plan left.journal [] found) ⊎ DoesNotBegin plan found left
 
 -- `cell` plays so too, by the number of its cycles, and tells the summary of the journal; or no play begins
 abbrev pub CellComesTo : {P : Type 0} → Plan → ℕ → Finding → Left P → Type 0
 CellComesTo plan cycles found left =
-    (IsSimulated plan cycles left × EndsWith plan left.journal (summary_text plan left.journal cycles) found) ⊎ DoesNotBegin found left
+    (IsSimulated plan cycles left × EndsWith plan left.journal (summary_text plan left.journal cycles) found) ⊎ DoesNotBegin plan found left
 
 -- `run` plays the plan in threads, and what is told of its watches is right (observer clause)
 pub record IsRun {P : Type 0} (plan : Plan) (found : Finding) (left : Left P) : Type 0 where
@@ -94,7 +94,7 @@ pub record IsRun {P : Type 0} (plan : Plan) (found : Finding) (left : Left P) : 
 
 -- `run` plays, or no play begins
 abbrev pub RunComesTo : {P : Type 0} → Plan → Finding → Left P → Type 0
-RunComesTo plan found left = IsRun plan found left ⊎ DoesNotBegin found left
+RunComesTo plan found left = IsRun plan found left ⊎ DoesNotBegin plan found left
 
 -- `pool` plays the plan by workers, and nobody watches
 pub record IsPooled {P : Type 0} (plan : Plan) (found : Finding) (left : Left P) : Type 0 where
@@ -103,7 +103,7 @@ pub record IsPooled {P : Type 0} (plan : Plan) (found : Finding) (left : Left P)
 
 -- `pool` plays, or no play begins
 abbrev pub PoolComesTo : {P : Type 0} → Plan → Finding → Left P → Type 0
-PoolComesTo plan found left = IsPooled plan found left ⊎ DoesNotBegin found left
+PoolComesTo plan found left = IsPooled plan found left ⊎ DoesNotBegin plan found left
 
 -- the journal that was read is legal and complete, has so many entries, and is handed back
 pub record IsLegalInput {P : Type 0} (plan : Plan) (bytes : List ℕ) (entries : ℕ) (left : Left P) : Type 0 where

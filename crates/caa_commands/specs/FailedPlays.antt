@@ -10,7 +10,7 @@ use Rattle.place_plan.specs.Plans.Places.{parent}
 use Rattle.place_plan.specs.RulesOfJournals.Entries.{is_of}
 use Rattle.place_plan.specs.RulesOfJournals.Journals.{IsLegal, IsComplete, faults_in}
 use Rattle.journal_laws.specs.Laws.{KeepsLaws}
-use Rattle.journal_replay.specs.Device.{HasValues, HasDrills}
+use Rattle.journal_replay.specs.Device.{attempts_in, history_after, HasValues, HasDrills}
 use Rattle.caa_commands.specs.OutsideUse.{Left, TellsAsBefore}
 
 -- the entry ends a play as failed
@@ -29,6 +29,12 @@ pub record IsPlayed {P : Type 0} (plan : Plan) (left : Left P) : Type 0 where
   pub laws : KeepsLaws plan (reverse left.journal)
   -- fault law: the device's count rose by one for each put and restore that was refused, unless it stands at its end
   pub faults : left.plant.faults_after < 2 ^ 64 - 1 → left.plant.faults_after ≡ left.plant.faults_before + faults_in left.journal
+  -- it was asked once for each put and restore of the journal, and refused no laying out
+  pub calls : left.plant.calls_after ≡ attempts_in left.journal
+  pub laid : left.plant.lay_faults_after ≡ left.plant.lay_faults_before
+  -- history clause: where the device tells all that it was ever asked for, that is one laying out more, then what the journal asks, in
+  -- order, and nothing else
+  pub history : left.plant.history ≡ history_after plan left.journal left.plant.history_before
   -- device clause: where the device tells its values and puts, they are those of the journal
   pub device : IfSome left.plant.state (HasValues plan left.journal)
   -- drill clause: where it tells its drills and tries, the refused puts are just those that were drilled

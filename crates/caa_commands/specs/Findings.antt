@@ -90,6 +90,26 @@ status_of (finding.Legal entries) = status.Done
 status_of (finding.Illegal line) = status.Illegal
 status_of finding.OutOfMemory = status.OutOfMemory
 
+-- the answer tells of something outside that failed: a read, a write, a laying out, or an undo that was refused
+abbrev pub tells_fault : Status → Bool
+tells_fault status.SourceFault = true
+tells_fault status.SinkFault = true
+tells_fault status.PlantFault = true
+tells_fault status.SomeFailed = true
+tells_fault _ = false
+
+-- the number of a status, with which the program ends
+abbrev pub code_of : Status → ℕ
+code_of status.Done = 0
+code_of status.SomeFailed = 1
+code_of status.Usage = 2
+code_of status.SourceFault = 3
+code_of status.Refused = 4
+code_of status.SinkFault = 5
+code_of status.PlantFault = 6
+code_of status.Illegal = 7
+code_of status.OutOfMemory = 8
+
 -- the script was played to its end
 abbrev pub is_played : Finding → Bool
 is_played (finding.Played failed text) = true

@@ -1,5 +1,8 @@
 -- How a call of the program used the source, the sink and the device that it was handed.
 use Rattle.std.specs.Prelude.{◌≡◌, ◌⊎◌, ℕ, List, [], Option, is_some}
+use Rattle.caa_base.specs.declared.outside.plant.Asked.{Asked}
+use Rattle.place_plan.specs.Plans.PlanValue.{Plan}
+use Rattle.journal_replay.specs.Device.{WasOnlyLaid}
 use Rattle.caa_base.specs.Outside.PlantState.{PlantState, Drilling}
 use Rattle.caa_base.specs.declared.written.entry.Entry.{Entry}
 use Rattle.caa_base.specs.declared.outside.source.Source.{Ghosts as SourceGhosts}
@@ -39,8 +42,8 @@ sink_use ghosts before after = record {
   faults_after = ghosts.faults after;
 }
 
--- a device before and now; its values and puts, and its drills and tries, where it tells them, before and now; how often it was
--- asked, how often it refused that, and how often it refused to be laid out, before and now
+-- a device before and now; its values and puts, its drills and tries, and all that it was ever asked for, where it tells them,
+-- before and now; how often it was asked, how often it refused that, and how often it refused to be laid out, before and now
 pub record PlantUse (P : Type 0) : Type 0 where
   pub before : P
   pub after : P
@@ -48,6 +51,8 @@ pub record PlantUse (P : Type 0) : Type 0 where
   pub state : Option PlantState
   pub drilling_before : Option Drilling
   pub drilling : Option Drilling
+  pub history_before : Option (List Asked)
+  pub history : Option (List Asked)
   pub calls_before : ℕ
   pub calls_after : ℕ
   pub faults_before : ℕ
@@ -64,6 +69,8 @@ plant_use ghosts before after = record {
   state = ghosts.state after;
   drilling_before = ghosts.drilling before;
   drilling = ghosts.drilling after;
+  history_before = ghosts.history before;
+  history = ghosts.history after;
   calls_before = ghosts.calls before;
   calls_after = ghosts.calls after;
   faults_before = ghosts.faults before;
@@ -111,9 +118,10 @@ pub record IsIdle {P : Type 0} (left : Left P) : Type 0 where
 abbrev pub IsUnasked : {P : Type 0} → PlantUse P → Type 0
 IsUnasked plant = (plant.calls_after ≡ 0) ⊎ (plant.calls_after ≡ plant.calls_before)
 
--- nothing was played, and the device was asked for no put, and so refused none
-pub record IsUnplayed {P : Type 0} (left : Left P) : Type 0 where
+-- nothing was played, and the device was asked for no put, and so refused none; it was asked once at most to be laid out, for the plan
+pub record IsUnplayed {P : Type 0} (plan : Plan) (left : Left P) : Type 0 where
   pub unplayed : left.journal ≡ []
+  pub asked : WasOnlyLaid plan left.plant.history_before left.plant.history
   pub unasked : IsUnasked left.plant
   pub unrefused : left.plant.faults_after ≡ left.plant.faults_before
   pub tells : TellsAsBefore left.plant

@@ -1,9 +1,10 @@
 -- Which calls are served, and which are turned away, where no read and no write fails.
-use Rattle.std.specs.Prelude.{◌≡◌, ◌⊎◌, ℕ, ◌<◌, ◌≤◌, true, List, length, Some}
+use Rattle.std.specs.Prelude.{◌≡◌, ◌⊎◌, ℕ, ◌<◌, ◌≤◌, true, false, List, length, Some}
 use Rattle.std.specs.Io.KnownBytes.{append_known}
 use Rattle.caa_base.specs.Outside.Counts.{Rose}
 use Rattle.caa_base.specs.declared.written.entry.Entry.{Entry}
 use Rattle.place_plan.specs.Plans.PlanValue.{Plan}
+use Rattle.place_plan.specs.RulesOfJournals.Journals.{faults_in}
 use Rattle.script_checker.specs.Compiled.{IsPlanOf}
 use Rattle.cell_workload.specs.CellScript.{cell_script}
 use Rattle.caa_commands.specs.declared.command.Command.{Command}
@@ -14,7 +15,7 @@ use Rattle.caa_commands.specs.declared.finding.Finding.TheVariants as finding
 use Rattle.caa_commands.specs.declared.status.Status.{Status}
 use Rattle.caa_commands.specs.declared.status.Status.TheVariants as status
 use Rattle.caa_commands.specs.Commands.{reads_input}
-use Rattle.caa_commands.specs.Findings.{status_of, finding_text}
+use Rattle.caa_commands.specs.Findings.{status_of, finding_text, tells_fault}
 use Rattle.action_script.specs.Words.JournalStarts.{journal_part}
 use Rattle.caa_commands.specs.Inputs.{most_bytes, script_in}
 use Rattle.caa_commands.specs.Judging.{IsLawful, IsIllegal, HasTooManyEntries}
@@ -139,9 +140,23 @@ pub record IsRefusable {P : Type 0} (call : Call P) (sink : SinkUse) : Type 0 wh
 abbrev pub WasRefused : Status → Type 0
 WasRefused answer = (answer ≡ status.Refused) ⊎ (answer ≡ status.OutOfMemory)
 
+-- ---- where nothing outside fails
+
+-- no count of failed reads, writes, layings out and puts rose
+pub record NothingFailed {P : Type 0} (call : Call P) (sink : SinkUse) : Type 0 where
+  pub read : Rose call.source.faults_before call.source.faults_after → ⊥
+  pub written : Rose sink.faults_before sink.faults_after → ⊥
+  pub laid : Rose call.left.plant.lay_faults_before call.left.plant.lay_faults_after → ⊥
+  pub put : Rose call.left.plant.faults_before call.left.plant.faults_after → ⊥
+
+-- the answer tells of no fault, and the journal that is handed back has no refused put or restore, but for one that `audit` read
+pub record IsSpared {P : Type 0} (call : Call P) (answer : Status) : Type 0 where
+  pub answered : tells_fault answer ≡ false
+  pub played : (call.asked ≡ Some command.Audit) ⊎ (faults_in call.left.journal ≡ 0)
+
 -- ---- all
 
--- what can be served is served, what is to be found is told, and what is to be refused is refused
+-- what can be served is served, what is to be found is told, what is to be refused is refused, and no fault is told where none came
 pub record MissesNothing {P : Type 0} (call : Call P) (sink : SinkUse) (answer : Status) : Type 0 where
   pub served : IsServable call sink → WasServed answer
   pub worked : IsWorkable call sink → WasServed answer
@@ -149,3 +164,4 @@ pub record MissesNothing {P : Type 0} (call : Call P) (sink : SinkUse) (answer :
   pub audited : (found : Finding) → IsAuditable call sink found → WasTold found sink answer
   pub refused : IsRefusable call sink → WasRefused answer
   pub unworked : IsUnworkable call sink → WasRefused answer
+  pub spared : NothingFailed call sink → IsSpared call answer

@@ -5,7 +5,7 @@ ghost use Rattle.place_plan.specs.RulesOfJournals.WellFormed.{AllWellFormed};
 ghost use Rattle.journal_text.specs.Watching.Looks.{AreOfPlan};
 ghost use Rattle.journal_text.specs.Texts.Naming.{is_well_named};
 ghost use Rattle.journal_replay.specs.Hall.{plan_in, plant_in, journal_in, base_in};
-ghost use Rattle.journal_replay.specs.Device.{attempts_in};
+ghost use Rattle.journal_replay.specs.Device.{attempts_in, history_after};
 ghost use Rattle.caa_commands.specs.declared.finding.Finding.{Finding};
 ghost use Rattle.caa_commands.specs.FailedPlays.{is_failed_play, has_failed_play};
 ghost use Rattle.caa_commands.specs.OutsideUse.{plant_use, left_of, IsIdle};
@@ -76,13 +76,15 @@ fn has_failed_play(plan: &Plan, journal: &Journal) -> bool
 fn open<P: Plant>(alloc: Global, plan: Plan, plant: P) -> Result<Hall<P>, Decision<P>>
     ensures plan { IfOk result (λ hall. plan_in hall ≡ plan) }
     ensures journal { IfOk result (λ hall. journal_in hall ≡ []) }
+    ensures history { IfOk result (λ hall. (base_in hall).history ≡ P.history plant) }
     ensures base { IfOk result (λ hall. (base_in hall).faults ≡ P.faults plant) }
+    ensures lay_base { IfOk result (λ hall. (base_in hall).lay_faults ≡ P.lay_faults plant) }
     ensures tells_state { IfOk result (λ hall. (base_in hall).tells_values ≡ is_some (P.state plant)) }
     ensures tells_drilling { IfOk result (λ hall. (base_in hall).tells_drills ≡ is_some (P.drilling plant)) }
     ensures count { IfOk result (λ hall. P.faults (plant_in hall) ≡ P.faults plant) }
     ensures lay_count { IfOk result (λ hall. P.lay_faults (plant_in hall) ≡ P.lay_faults plant) }
     ensures refused { IfErr result (λ decision.
-        DoesNotBegin decision.finding (left_of (plant_use ⟦<P as Plant>⟧ plant decision.plant) decision.journal.entries)) }
+        DoesNotBegin plan decision.finding (left_of (plant_use ⟦<P as Plant>⟧ plant decision.plant) decision.journal.entries)) }
 {
     match Hall::open(alloc, plan, plant) {
         Ok(hall) => Ok(hall),
@@ -156,7 +158,7 @@ fn play_by_seed<P: Plant>(
         IsSimulated plan seed (left_of (plant_use ⟦<P as Plant>⟧ plant played.1) played.2.entries)) }
     ensures entries { IfOk result (λ played. AllWellFormed played.0 played.2.entries) }
     ensures refused { IfErr result (λ decision.
-        DoesNotBegin decision.finding (left_of (plant_use ⟦<P as Plant>⟧ plant decision.plant) decision.journal.entries)) }
+        DoesNotBegin plan decision.finding (left_of (plant_use ⟦<P as Plant>⟧ plant decision.plant) decision.journal.entries)) }
 {
     keeps_laws(&plan);
     is_well_formed(&plan);
@@ -200,6 +202,8 @@ fn unplayed<P: Plant>(hall: Hall<P>) -> Decision<P>
     ensures plant { result.plant ≡ plant_in hall }
     ensures journal { result.journal.entries ≡ journal_in hall }
     ensures calls { P.calls result.plant ≡ attempts_in (journal_in hall) }
+    ensures lay_faults { P.lay_faults result.plant ≡ (base_in hall).lay_faults }
+    ensures history { P.history result.plant ≡ history_after (plan_in hall) (journal_in hall) (base_in hall).history }
     ensures tells_state { is_some (P.state result.plant) ≡ (base_in hall).tells_values }
     ensures tells_drilling { is_some (P.drilling result.plant) ≡ (base_in hall).tells_drills }
 {

@@ -9,12 +9,9 @@ pub use caa_commands::status::{Ended, Status};
 pub use caa_commands::top::{asks_for_threads, top, top_quiet};
 use std::process::ExitCode;
 
-/// The exit status where no memory is found for the words.
-const OUT_OF_MEMORY: u8 = Status::OutOfMemory as u8;
-
 fn main(rt: HostRuntime) -> ExitCode {
     let Ok(words) = call_words(&rt) else {
-        return ExitCode::from(OUT_OF_MEMORY);
+        return ExitCode::from(Status::OutOfMemory.code());
     };
     let mut source = StdSource::new(rt.stdin());
     let mut sink = StdSink::new(rt.stdout());
@@ -33,5 +30,5 @@ fn main(rt: HostRuntime) -> ExitCode {
     } else {
         top_quiet(rt.alloc(), words, &mut source, &mut sink, plant)
     };
-    ExitCode::from(ended.status as u8)
+    ExitCode::from(ended.status.code())
 }

@@ -26,7 +26,7 @@ use Rattle.journal_laws.proofs.Holding.{live_uses, holds_within}
 use Rattle.journal_laws.proofs.Raised.{and_more}
 use Rattle.journal_laws.proofs.InnerFirst.{legal_rest, started_filled}
 use Rattle.journal_laws.proofs.Tried.{count_next, tries}
-use Rattle.journal_laws.proofs.Outcome.{outcomes, counted_any, undone_marks, agreed_mark, below_two}
+use Rattle.journal_laws.proofs.Outcome.{outcomes, counted_any, undone_marks, agreed_mark, zero_or_one}
 use Rattle.journal_laws.proofs.Makers.{put_going}
 use Rattle.journal_laws.proofs.Over.{over_outside}
 use Rattle.journal_laws.proofs.Exit.{end_row}
@@ -272,7 +272,7 @@ module _ (plan : Plan) (playable : IsPlayable plan) where
   kept_whole : (past : List Entry) (q : ℕ) (f : Option Entry) → LegalPast plan past → newest (is_in kind.End q) past ≡ f
       → is_kept_mark f ≡ true → has kind.Restore past q ≡ false
   kept_whole past q None legal w k = absurd (false≢true k)
-  kept_whole past q (Some f) legal w k = (outcomes plan past legal q f w).kept (below_two f.mark k)
+  kept_whole past q (Some f) legal w k = (outcomes plan past legal q f w).kept (zero_or_one f.mark k)
 
   -- a write is kept as long as no later restore undoes it
   kept_or_undone : (past : List Entry) (o : ℕ) → LegalPast plan past → AllOver plan past

@@ -9,6 +9,7 @@ pub mod Newest
 pub mod Raised
 pub mod Frozen
 pub mod Said
+pub mod Stop
 pub mod Resolution
 pub mod LeastOf
 pub mod Recovering

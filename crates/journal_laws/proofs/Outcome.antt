@@ -94,13 +94,13 @@ pub agreed_mark : (plan : Plan) (e : Entry) (xs : List ℕ) → SignalsLeast pla
 agreed_mark plan e [] h = rw h.0 (omega arith)
 agreed_mark plan e (x ∷ xs) h = rw h.0 (omega arith)
 
+-- a mark is 0 or 1, as a test tells
+pub zero_or_one : (mark : ℕ) → (mark == 0) || (mark == 1) ≡ true → (mark ≡ 0) ⊎ (mark ≡ 1)
+zero_or_one mark h =
+    elim (or_cases (mark == 0) (mark == 1) h) [ inl x ↦ inl (eqb-true mark 0 x) | inr x ↦ inr (eqb-true mark 1 x) ]
+
 pub below_two : (mark : ℕ) → (mark == 0) || (mark == 1) ≡ true → mark < 2
-below_two mark h =
-    elim (or_cases (mark == 0) (mark == 1) h) [
-      | inl x ↦ omega (arith, eqb-true mark 0 x)
-      | inr x ↦ omega
-          (arith, eqb-true mark 1 x)
-    ]
+below_two mark h = elim (zero_or_one mark h) [ inl x ↦ omega (arith, x) | inr x ↦ omega (arith, x) ]
 
 -- an entry that restores nothing in p leaves its restores as they are
 fits_on : (plan : Plan) (past : List Entry) (e : Entry) (p mark : ℕ) → is_in kind.Restore p e ≡ false

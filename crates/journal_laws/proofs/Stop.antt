@@ -1,16 +1,15 @@
 -- Stop law: who works where something is raised is in its handler, and handlers begin once all have stopped.
-use Rattle.std.proofs.Common.{◌≡◌, ℕ, ◌==◌, Bool, true, false, not, cond, ◌&&◌, ◌||◌, List, [], ◌∷◌, ◌++◌, Some, None, refl, sym, subst, inl, inr}
-use Rattle.std.proofs.lemmas.Bool.{and_parts, or_cases, or_right, eqb-true, false≢true, both_ways, cases_Bool}
+use Rattle.std.proofs.Common.{◌≡◌, ℕ, ◌==◌, Bool, true, false, not, cond, ◌&&◌, List, [], ◌∷◌, Some, refl, sym, subst, inl, inr}
+use Rattle.std.proofs.lemmas.Bool.{and_parts, or_cases, or_right, eqb-true, false≢true}
 use Rattle.caa_base.specs.declared.written.entry.Entry.{Entry}
 use Rattle.caa_base.specs.declared.written.entry.Kind.{Kind}
 use Rattle.caa_base.specs.declared.written.entry.Kind.TheVariants as kind
 use Rattle.place_plan.specs.Plans.PlanValue.{Plan}
 use Rattle.caa_base.specs.Written.Lists.{member}
-use Rattle.place_plan.specs.Plans.Places.{around, is_within, roles_of}
+use Rattle.place_plan.specs.Plans.Places.{around, roles_of}
 use Rattle.place_plan.specs.RulesOfJournals.Entries.{is_of, is_in}
-use Rattle.place_plan.specs.RulesOfJournals.Raising.{is_raised, is_doomed, is_calm, is_hot, is_halted, all_are_halted, has_handled, newest_arg, exception_resolved}
-use Rattle.place_plan.specs.RulesOfJournals.Whereabouts.{is_going}
-use Rattle.place_plan.specs.RulesOfJournals.Roles.{is_able, has_given, is_in_handler, is_handling, was_refused_in_handler}
+use Rattle.place_plan.specs.RulesOfJournals.Raising.{is_raised, is_doomed, is_calm, is_hot, is_halted, all_are_halted, has_handled, exception_resolved}
+use Rattle.place_plan.specs.RulesOfJournals.Roles.{is_able, has_given, is_in_handler, is_handling}
 use Rattle.place_plan.specs.RulesOfJournals.Rules.{Row, MayHandle, MayResolve}
 use Rattle.place_plan.specs.RulesOfJournals.Journals.{LegalPast}
 use Rattle.place_plan.proofs.OnJournals.EntryKinds.{of_kind}

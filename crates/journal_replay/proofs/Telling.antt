@@ -1,6 +1,7 @@
 -- A device that tells its values or its drills goes on telling them.
-use Rattle.std.proofs.Common.{◌≡◌, ℕ, ℤ, Bool, Option, Some, None, is_some, refl}
+use Rattle.std.proofs.Common.{◌≡◌, ℕ, ℤ, Bool, List, Option, Some, None, is_some, refl}
 use Rattle.caa_base.specs.Outside.PlantState.{PlantState, Drilling, after_put, after_try}
+use Rattle.caa_base.specs.declared.outside.plant.Asked.{Asked}
 use Rattle.place_plan.specs.declared.rules.machine.Base.{Base}
 
 pub put_tells : (known : Option PlantState) (o : ℕ) (v : ℤ) → is_some (after_put known o v) ≡ is_some known
@@ -14,7 +15,10 @@ try_tells (Some d) o = refl
 pub ruleset goes_on_telling = (put_tells, try_tells)
 
 -- a base by its parts
-pub base_same : (faults other : ℕ) (values values' drills drills' : Bool) → faults ≡ other → values ≡ values' → drills ≡ drills'
-    → ◌≡◌ {A = Base} (record { faults = faults; tells_values = values; tells_drills = drills })
-    (record { faults = other; tells_values = values'; tells_drills = drills' })
-base_same faults other values values' drills drills' e f g = (λ i. record { faults = e i; tells_values = f i; tells_drills = g i })
+pub base_same : (history history' : Option (List Asked)) (faults lays lays' : ℕ) (values values' drills drills' : Bool)
+    → history ≡ history' → lays ≡ lays' → values ≡ values' → drills ≡ drills'
+    → ◌≡◌ {A = Base}
+    (record { history = history; faults = faults; lay_faults = lays; tells_values = values; tells_drills = drills })
+    (record { history = history'; faults = faults; lay_faults = lays'; tells_values = values'; tells_drills = drills' })
+base_same history history' faults lays lays' values values' drills drills' h l v d =
+    (λ i. record { history = h i; faults = faults; lay_faults = l i; tells_values = v i; tells_drills = d i })

@@ -1,4 +1,4 @@
-ghost use Rattle.std.specs.Prelude.{◌≡◌, ◌<◌, ◌≤◌, ◌+◌, ◌-◌, ◌^◌, ◌∷◌, ◌++◌, [], length, reverse, true, false, is_some, IfOk, IfErr, IfSome, OnOk, OnErr, IsTrue, ◌↔◌, ◌⊎◌, if◌then◌else◌};
+ghost use Rattle.std.specs.Prelude.{◌≡◌, ◌<◌, ◌≤◌, ◌+◌, ◌-◌, ◌^◌, ◌∷◌, ◌++◌, [], length, reverse, true, false, not, is_some, is_ok, IfOk, IfErr, IfSome, OnOk, OnErr, IsTrue, ◌↔◌, ◌⊎◌, if◌then◌else◌};
 ghost use Rattle.caa_base.specs.Outside.Counts.{CountsFault};
 ghost use Rattle.place_plan.specs.Plans.Bound.{bound};
 ghost use Rattle.place_plan.specs.RulesOfJournals.Rules.{MayFollow};
@@ -6,9 +6,10 @@ ghost use Rattle.place_plan.specs.RulesOfJournals.Journals.{LegalPast, IsLegal, 
 ghost use Rattle.place_plan.specs.RulesOfJournals.Machine.{Answers, made_fault};
 ghost use Rattle.place_plan.specs.RulesOfJournals.Attempts.{is_attempt};
 ghost use Rattle.place_plan.proofs.OnJournals.LegalProp.{LegalPast-prop};
-ghost use Rattle.journal_replay.specs.Device.{HasValues, HasDrills, attempts_in};
+ghost use Rattle.journal_replay.specs.Device.{HasValues, HasDrills, attempts_in, history_after, laying, WasOnlyLaid};
 ghost use Rattle.journal_replay.specs.inner.DeviceOfHall.{FitsJournal};
-ghost use Rattle.caa_base.specs.Outside.PlantState.{is_refused, is_drilled, after_put, after_try};
+ghost use Rattle.caa_base.specs.declared.outside.plant.Asked.TheVariants as asked;
+ghost use Rattle.caa_base.specs.Outside.PlantState.{is_refused, is_drilled, after_put, after_try, after_asked};
 ghost use Rattle.journal_replay.specs.Opening.{is_plant_fault};
 ghost use Rattle.std.proofs.Math.Nat.{le_of_eq};
 ghost use Rattle.std.proofs.Common.{sym};
@@ -78,6 +79,7 @@ pub struct Played<P: Plant, R: Records> {
     ghost room: { bound plan ≤ journal.room },
     ghost stands: { R.stand_for records plan (reverse journal.entries) } by { R.one_way records plan (reverse journal.entries) },
     ghost device: { FitsJournal plan base journal.entries (record {
+      history = P.history plant;
       faults = P.faults plant;
       calls = P.calls plant;
       room = P.room plant;
@@ -105,6 +107,7 @@ fn drills_of(alloc: Global, plan: &Plan) -> Result<Vec<Drill>, OutOfMemory>
 /// that a journal of the plan can have.
 fn lay_out<P: Plant>(alloc: Global, plan: &Plan, plant: &mut P) -> Result<(), PlantError>
     ensures laid { OnOk result (FitsJournal plan.now (P.faults plant.old) [] (record {
+      history = P.history plant.new;
       faults = P.faults plant.new;
       calls = P.calls plant.new;
       room = P.room plant.new;
@@ -112,6 +115,8 @@ fn lay_out<P: Plant>(alloc: Global, plan: &Plan, plant: &mut P) -> Result<(), Pl
       state = P.state plant.new;
       drilling = P.drilling plant.new;
     })) }
+    ensures history { OnOk result (P.history plant.new ≡ history_after plan.now [] (P.history plant.old)) }
+    ensures asked { OnErr result (WasOnlyLaid plan.now (P.history plant.old) (P.history plant.new)) }
     ensures unasked { OnErr result (P.calls plant.new ≡ P.calls plant.old) }
     ensures tells_state { is_some (P.state plant.new) ≡ is_some (P.state plant.old) }
     ensures tells_drilling { is_some (P.drilling plant.new) ≡ is_some (P.drilling plant.old) }
@@ -144,6 +149,8 @@ fn answer_of<P: Plant>(plant: &mut P, well: Entry, fault: Entry) -> Entry
     ensures either { (result ≡ well) ⊎ (result ≡ fault) }
     ensures state { P.state plant.new ≡ (if is_fault result then P.state plant.old else after_put (P.state plant.old) well.arg well.value) }
     ensures drilling { P.drilling plant.new ≡ after_try (P.drilling plant.old) well.arg }
+    ensures history { P.history plant.new ≡ after_asked (P.history plant.old) (asked.Put well.arg well.value (not (is_fault result))) }
+    ensures lay_faults { P.lay_faults plant.new ≡ P.lay_faults plant.old }
     ensures tells_state { is_some (P.state plant.new) ≡ is_some (P.state plant.old) }
     ensures tells_drilling { is_some (P.drilling plant.new) ≡ is_some (P.drilling plant.old) }
     ensures drilled { IfSome (P.drilling plant.old) (λ d. is_fault result ≡ is_drilled d well.arg) }
@@ -171,18 +178,22 @@ impl<P: Plant, R: Records> Played<P, R> {
     /// A machine at the beginning of a plan, over a plant.
     ///
     /// All its memory is taken here: the journal has room for as many entries as the plan allows, the records are opened, and the
-    /// plant is laid out with the initial values, the plan's drills and room for as many puts. `PlantFault` comes only where the plant refused to be
-    /// laid out, and its count of that rose. Both errors hand the plant back, which was asked for no put.
+    /// plant is laid out with the initial values, the plan's drills and room for as many puts. `PlantFault` comes only where the plant
+    /// refused to be laid out, and its count of that rose. Both errors hand the plant back, which was asked for no put, and at most
+    /// once to be laid out.
     pub fn open(alloc: Global, plan: Plan, plant: P) -> Result<Played<P, R>, OpenError<P>>
         ensures plan { IfOk result (λ hall. plan_in hall ≡ plan) }
         ensures journal { IfOk result (λ hall. journal_in hall ≡ []) }
+        ensures history { IfOk result (λ hall. (base_in hall).history ≡ P.history plant) }
         ensures base { IfOk result (λ hall. (base_in hall).faults ≡ P.faults plant) }
+        ensures lay_base { IfOk result (λ hall. (base_in hall).lay_faults ≡ P.lay_faults plant) }
         ensures count { IfOk result (λ hall. P.faults (plant_in hall) ≡ P.faults plant) }
         ensures lay_count { IfOk result (λ hall. P.lay_faults (plant_in hall) ≡ P.lay_faults plant) }
         ensures state { IfOk result (λ hall. is_some (P.state (plant_in hall)) ≡ is_some (P.state plant)) }
         ensures drilling { IfOk result (λ hall. is_some (P.drilling (plant_in hall)) ≡ is_some (P.drilling plant)) }
         ensures room { IfOk result (λ hall. room_in hall ≡ bound plan) }
         ensures cause { IfErr result (λ error. CountsFault (is_plant_fault error.cause) (P.lay_faults plant) (P.lay_faults error.plant)) }
+        ensures asked { IfErr result (λ error. WasOnlyLaid plan (P.history plant) (P.history error.plant)) }
         ensures kept { IfErr result (λ error. P.faults error.plant ≡ P.faults plant) }
         ensures kept_state { IfErr result (λ error. is_some (P.state error.plant) ≡ is_some (P.state plant)) }
         ensures kept_drilling { IfErr result (λ error. is_some (P.drilling error.plant) ≡ is_some (P.drilling plant)) }
@@ -216,7 +227,8 @@ impl<P: Plant, R: Records> Played<P, R> {
 
     /// The plan, the plant and the journal, which is legal for the plan. It takes no memory.
     ///
-    /// The plant was asked as often since it was laid out as the journal has writes, refused puts and restores. It has counted
+    /// The plant was asked as often since it was laid out as the journal has writes, refused puts and restores. Where it tells all
+    /// that it was ever asked for, that is what it was asked for before, one laying out, and what the journal asks, in order. It has counted
     /// one fault more for each refused put and restore of the journal, as long as its count doesn't stand at its end. Where it
     /// tells its values they are those by the journal, and where it tells its drills it refused just what they name.
     pub fn into_parts(self) -> (Plan, P, Journal)
@@ -225,7 +237,9 @@ impl<P: Plant, R: Records> Played<P, R> {
         ensures journal { result.2.entries ≡ journal_in self }
         ensures legal { IsLegal result.0 result.2.entries }
         ensures faults { P.faults result.1 < 2 ^ 64 - 1 → P.faults result.1 ≡ (base_in self).faults + faults_in result.2.entries }
+        ensures lay_faults { P.lay_faults result.1 ≡ (base_in self).lay_faults }
         ensures calls { P.calls result.1 ≡ attempts_in result.2.entries }
+        ensures history { P.history result.1 ≡ history_after result.0 result.2.entries (base_in self).history }
         ensures state { IfSome (P.state result.1) (HasValues result.0 result.2.entries) }
         ensures drilling { IfSome (P.drilling result.1) (HasDrills result.0 result.2.entries) }
         ensures tells_state { is_some (P.state result.1) ≡ (base_in self).tells_values }

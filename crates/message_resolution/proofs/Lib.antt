@@ -5,3 +5,4 @@ pub mod WorkedRows
 pub mod Knowing
 pub mod Coming
 pub mod Running
+pub mod Repeated

@@ -3,3 +3,4 @@ pub mod LeastCover
 pub mod LocalEvents
 pub mod Answers
 pub mod Nodes
+pub mod Repeated

@@ -5,9 +5,9 @@
 mod node;
 mod world;
 
-pub use node::Node;
 pub use node::message::Message;
 pub use node::sent::Sent;
 pub use node::state::State;
+pub use node::{Node, delivered_again};
 pub use world::event::Event;
 pub use world::{NotLegal, World};

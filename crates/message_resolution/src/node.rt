@@ -1,8 +1,10 @@
-ghost use Rattle.std.specs.Prelude.{◌≡◌, ◌≢◌, ◌<◌, ◌≤◌, ◌++◌, ◌∷◌, ◌||◌, nat_lt, [], ℕ, List, length, slice_set, All, IfOk, IfNone, MatchOption};
+ghost use Rattle.std.specs.Prelude.{◌≡◌, ◌≢◌, ◌<◌, ◌≤◌, ◌++◌, ◌∷◌, ◌||◌, nat_lt, [], ℕ, List, length, slice_set, All, Contains, IfOk, IfNone, MatchOption};
 ghost use Rattle.std.specs.Option.{ForSome};
 ghost use Rattle.std.specs.List.{list_all};
 ghost use Rattle.cover_table.specs.Cover.{CoverOrder, IsLeastCover};
-ghost use Rattle.message_resolution.specs.Members.LocalEvents.{raises, receives};
+ghost use Rattle.message_resolution.specs.Members.LocalEvents.{LocalEvent, raises, receives};
+ghost use Rattle.message_resolution.specs.Members.Repeated.{ChangesNothing};
+ghost use Rattle.message_resolution.specs.declared.node.message.Message.{Message as AnyMessage};
 ghost use Rattle.message_resolution.specs.Members.Nodes.{IsCoverOf, IsMessage, IsNodeOf, Meets, StandsFor, messages_of, listed, most_members, sender_of};
 ghost use Rattle.message_resolution.specs.inner.TakingIn.{IsResolutionOf, Resolves, Suspends, TakesIn};
 
@@ -256,3 +258,10 @@ impl Node {
         }
     }
 }
+
+/// A law: a message that is delivered to a member once more changes nothing. The member sends nothing in answer, and whatever it
+/// meets later, it sends and decides what it would have without.
+pub fn delivered_again(_graph: &Graph)
+    ensures { (count me : ℕ) (m : AnyMessage) (past : List LocalEvent) → Contains past (receives m)
+        → ChangesNothing _graph.now count me m past }
+{}

@@ -2,13 +2,15 @@
 use Rattle.std.specs.Prelude.{◌≡◌, ℕ, ◌+◌, ◌-◌, ◌^◌, ◌<◌, ◌≤◌, List, length, Option, Some}
 use Rattle.caa_base.specs.declared.written.entry.Entry.{Entry}
 use Rattle.caa_base.specs.Outside.PlantState.{PlantState, Drilling}
+use Rattle.caa_base.specs.declared.outside.plant.Asked.{Asked}
 use Rattle.place_plan.specs.Plans.PlanValue.{Plan}
 use Rattle.place_plan.specs.Plans.Bound.{bound}
 use Rattle.place_plan.specs.RulesOfJournals.Journals.{faults_in}
-use Rattle.journal_replay.specs.Device.{attempts_in, HasValues, HasDrills}
+use Rattle.journal_replay.specs.Device.{attempts_in, history_after, history_before, HasValues, HasDrills}
 
--- a device, seen as its count of faults, its calls, its room for calls, its objects, and what it tells
+-- a device, seen as what it was ever asked for, its count of faults, its calls, its room for calls, its objects, and what it tells
 pub record Device : Type 0 where
+  pub history : Option (List Asked)
   pub faults : ℕ
   pub calls : ℕ
   pub room : ℕ
@@ -22,6 +24,7 @@ IsCounted base count journal = count < 2 ^ 64 - 1 → count ≡ base + faults_in
 
 -- the device was asked what the journal says, and nothing else
 pub record FitsJournal (plan : Plan) (base : ℕ) (journal : List Entry) (device : Device) : Type 0 where
+  pub history : device.history ≡ history_after plan journal (history_before journal device.history)
   pub begun : base ≤ device.faults
   pub counted : IsCounted base device.faults journal
   pub calls : device.calls ≡ attempts_in journal

@@ -3,6 +3,7 @@ use Rattle.place_plan.specs.RulesOfJournals.Journals.{IsLegal, IsComplete, fault
 use Rattle.place_plan.specs.declared.rules.machine.Base.{Base}
 use Rattle.journal_replay.specs.Device.{HasValues, HasDrills}
 use Rattle.role_driver.specs.Schedule.{GrewBy, first_of_seed}
+use Rattle.caa_commands.proofs.PlayedHistory.{went_on}
 use Rattle.caa_commands.proofs.Reversed.{all_well_formed}
 use Rattle.caa_commands.proofs.playing.play_by_seed.Goals as goal
 
@@ -29,6 +30,9 @@ returns-clause-played g c =
         complete = subst₂ IsComplete opened.plan (sym parts.journal) c.sim.ensures.complete;
         laws = c.keeps_laws.ensures (reverse journal) legal;
         faults = λ l. parts.faults l ∙ ap (λ b. b + faults_in journal) (ap (λ (b : Base). b.faults) c.sim.ensures.base ∙ opened.base);
+        calls = parts.calls;
+        laid = parts.lay_faults ∙ ap (λ (b : Base). b.lay_faults) c.sim.ensures.base ∙ opened.lay_base;
+        history = went_on plan _ journal _ _ _ parts.history same (ap (λ (b : Base). b.history) c.sim.ensures.base ∙ opened.history);
         device = subst (λ p. IfSome (g.P.Plant.state plant) (HasValues p journal)) same parts.state;
         drills = subst (λ p. IfSome (g.P.Plant.drilling plant) (HasDrills p journal)) same parts.drilling;
         tells = record {

@@ -5,6 +5,7 @@ use Rattle.journal_replay.specs.Device.{HasValues, HasDrills}
 use Rattle.caa_commands.specs.FailedPlays.{IsPlayed}
 use Rattle.caa_commands.specs.OutsideUse.{plant_use, left_of}
 use Rattle.caa_commands.specs.Calls.{EndsAs}
+use Rattle.caa_commands.proofs.PlayedHistory.{went_on}
 use Rattle.caa_commands.proofs.Reversed.{all_well_formed}
 use Rattle.caa_commands.proofs.playing.pool_plan.Goals as goal
 
@@ -31,6 +32,9 @@ returns g c =
       complete = subst₂ IsComplete opened.plan (sym parts.journal) pooled.complete;
       laws = c.keeps_laws.ensures (reverse journal) legal;
       faults = λ l. parts.faults l ∙ ap (λ b. b + faults_in journal) (ap (λ (b : Base). b.faults) pooled.base ∙ opened.base);
+      calls = parts.calls;
+      laid = parts.lay_faults ∙ ap (λ (b : Base). b.lay_faults) pooled.base ∙ opened.lay_base;
+      history = went_on plan _ journal _ _ _ parts.history same (ap (λ (b : Base). b.history) pooled.base ∙ opened.history);
       device = subst (λ p. IfSome (g.P.Plant.state plant) (HasValues p journal)) same parts.state;
       drills = subst (λ p. IfSome (g.P.Plant.drilling plant) (HasDrills p journal)) same parts.drilling;
       tells = record {

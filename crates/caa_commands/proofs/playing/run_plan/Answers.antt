@@ -11,6 +11,7 @@ use Rattle.caa_commands.specs.Findings.{is_played}
 use Rattle.caa_commands.specs.FailedPlays.{IsPlayed}
 use Rattle.caa_commands.specs.OutsideUse.{Left, plant_use, left_of}
 use Rattle.caa_commands.specs.Calls.{EndsAs, RunComesTo}
+use Rattle.caa_commands.proofs.PlayedHistory.{went_on}
 use Rattle.caa_commands.proofs.Reversed.{all_well_formed}
 use Rattle.caa_commands.proofs.playing.run_plan.Goals as goal
 
@@ -51,6 +52,9 @@ returns g c =
       complete = subst₂ IsComplete opened.plan (sym parts.journal) ran.complete;
       laws = c.keeps_laws.ensures (reverse journal) legal;
       faults = λ l. parts.faults l ∙ ap (λ b. b + faults_in journal) (ap (λ (b : Base). b.faults) ran.base ∙ opened.base);
+      calls = parts.calls;
+      laid = parts.lay_faults ∙ ap (λ (b : Base). b.lay_faults) ran.base ∙ opened.lay_base;
+      history = went_on plan _ journal _ _ _ parts.history same (ap (λ (b : Base). b.history) ran.base ∙ opened.history);
       device = subst (λ p. IfSome (g.P.Plant.state plant) (HasValues p journal)) same parts.state;
       drills = subst (λ p. IfSome (g.P.Plant.drilling plant) (HasDrills p journal)) same parts.drilling;
       tells = record {
