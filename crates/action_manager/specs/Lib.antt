@@ -7,4 +7,5 @@ pub mod Openings
 pub mod Managers
 pub mod Publishing
 pub mod PublishingLaw
+pub mod Waking
 pub mod inner

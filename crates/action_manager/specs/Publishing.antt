@@ -8,7 +8,7 @@ use Rattle.place_plan.specs.Plans.Places.{objects_of, initials_of}
 use Rattle.place_plan.specs.RulesOfJournals.Objects.{value_of}
 use Rattle.place_plan.specs.RulesOfJournals.Journals.{ends_play}
 use Rattle.shared_views.specs.Publications.{Changes}
-use Rattle.shared_views.specs.Committing.{Committed, Watching}
+use Rattle.shared_views.specs.Committing.{Committed, Watching, unplaced}
 use Rattle.action_manager.specs.declared.publishing.Publishing.{Publishing}
 
 -- the objects of p, each with its value after this past

@@ -1,3 +1,4 @@
+use crate::news::News;
 use caa_base::written::entry::Participant;
 use core_words::crew::{Crew, is_in, nobody};
 use std::alloc::{AllocError, Global};
@@ -32,7 +33,8 @@ pub enum Sleeper {
 /// by the turn whose entry wakes it.
 ///
 /// No promise rests on the door, and no contract speaks of it. Turns are kept apart by their tickets, and the machine isn't behind
-/// the door: with the guard taken out of `step` every proof stands. The door is where those sleep who would only look.
+/// the door: where `step` takes the mutex only once its turn is over, every proof stands. The door is where those sleep who would
+/// only look.
 ///
 /// Nobody is forgotten. Whether there is something for a sleeper is asked, and its sleep begins, under the mutex, and each turn
 /// enters there whom its entry wakes. Who isn't woken has no entry: that is the law of sleepers (`sleeps_on`).
@@ -41,6 +43,7 @@ pub struct Door {
     waiting: Mutex<Waiting>,
     bells: Vec<Condvar>,
     stir: Condvar,
+    news: News,
 }
 
 impl Door {
@@ -58,7 +61,13 @@ impl Door {
             }),
             bells,
             stir: Condvar::new(),
+            news: News::new(),
         })
+    }
+
+    /// Where those sleep who only read what plays commit. They don't stand in the door.
+    pub fn news(&self) -> &News {
+        &self.news
     }
 
     /// Takes the mutex, which is let go with the guard.

@@ -1,7 +1,9 @@
-ghost use Rattle.std.specs.Prelude.{◌≡◌, ◌<◌, length};
+ghost use Rattle.std.specs.Prelude.{◌≡◌, ◌<◌, ℕ, true, length};
+ghost use Rattle.cover_table.specs.Cover.{has_bit};
 ghost use Rattle.place_plan.specs.RulesOfJournals.Machine.{Answers};
 ghost use Rattle.shared_views.specs.Telling.{cells_of};
 ghost use Rattle.action_manager.specs.Stepping.{did_work, AnswersTurn};
+ghost use Rattle.action_manager.specs.Waking.{did_end, SleepsOn};
 
 use crate::home::Home;
 use crate::publishing::Publishing;
@@ -11,6 +13,7 @@ use caa_base::written::work::WorkDone;
 use core_words::crew::{Crew, with};
 use journal_laws::is_well_formed;
 use place_plan::rules::machine::{Answer, Machine};
+use place_plan::rules::one_entry::ends_play;
 use shared_views::{Announcement, Bulletin, CommittedWriter, ResolutionCells};
 use std::sync::Wait;
 
@@ -114,9 +117,20 @@ impl<M: Machine> Housed<M> {
 }
 
 impl<M: Machine> Housed<M> {
+    /// Whether an answer is the entry that ended a play.
+    pub fn ended_play(&self, answer: Answer) -> bool
+        ensures { result ≡ did_end (M.plan_of self.now.machine) answer }
+    {
+        match answer {
+            Answer::Did(entry) => ends_play(self.machine.plan(), &entry),
+            _ => false,
+        }
+    }
+
     /// Who of a crew sleeps on after an answer to a participant: all whom its entry doesn't wake, and it, where it has none now.
     pub fn asleep_after(&self, by: Participant, answer: Answer, asleep: Crew) -> Crew
         requires { by < length (M.plan_of self.now.machine).participants }
+        ensures { (t : ℕ) → has_bit result t ≡ true → SleepsOn (M.plan_of self.now.machine) by answer asleep t }
     {
         self.machine.plan().is_closed();
         match answer {

@@ -8,6 +8,7 @@ mod housed;
 mod lock;
 mod lock_view;
 mod manager;
+mod news;
 mod publishing;
 mod publishing_law;
 mod seat;
@@ -16,6 +17,7 @@ mod turns;
 
 pub use crossing::crosses_threads;
 pub use manager::{Closed, Manager, ManagerError, Opened, StillOut};
+pub use news::News;
 pub use publishing_law::{publishes_committed, readings_are_committed};
 pub use seat::{NoNote, Seat};
 pub use sleepers::unwoken;

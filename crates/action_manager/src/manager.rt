@@ -17,6 +17,7 @@ ghost use Rattle.action_manager.specs.Seats.{IsNewSeat, participant_of, seen_by,
 use crate::door::{Door, Sleeper};
 use crate::housed::Housed;
 use crate::lock::Lock;
+use crate::news::News;
 use crate::publishing::Publishing;
 use crate::seat::Seat;
 use crate::turns::Token;
@@ -291,6 +292,11 @@ impl<M: Machine> Manager<M> {
         &self.cells
     }
 
+    /// Where readers of committed values sleep until a play more has ended.
+    pub fn news(&self) -> &News {
+        self.door.news()
+    }
+
     /// One turn of the seat's participant: the machine's answer, on a journal that goes on from what the seat had seen. Where the
     /// work that it brings is entered, that is the answer after that entry.
     ///
@@ -309,12 +315,16 @@ impl<M: Machine> Manager<M> {
         let was = home.machine.journal_len();
         let (answer, told) = home.turn(rt, &self.cells, seat.participant, hint);
         let seen = home.machine.journal_len();
+        let ended = home.ended_play(answer);
         let asleep = home.asleep_after(seat.participant, answer, waiting.asleep());
         self.lock.hand_on(&mut seat.token, ticket, home);
         seat.made += seen - was;
         seat.seen = seen;
         seat.told = told;
         self.door.tell(&mut waiting, seen, asleep);
+        if ended {
+            self.news().tell(rt);
+        }
         answer
     }
 

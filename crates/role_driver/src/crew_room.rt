@@ -1,5 +1,6 @@
-ghost use Rattle.std.specs.Prelude.{◌≡◌, length, IfOk};
+ghost use Rattle.std.specs.Prelude.{IfOk};
 
+use crate::flag::lowered_flags;
 use crate::seat_crew::Member;
 use action_manager::Seat;
 use std::alloc::{AllocError, Global};
@@ -12,17 +13,6 @@ pub struct CrewRoom<M> {
     pub back: Vec<Seat<M>>,
     pub driven: Vec<Seat<M>>,
     pub handed_back: Vec<AtomicBool>,
-}
-
-/// Flags that aren't raised.
-pub fn lowered_flags(alloc: Global, count: usize) -> Result<Vec<AtomicBool>, AllocError>
-    ensures { IfOk result (λ flags. length flags.items ≡ count) }
-{
-    let mut flags = Vec::new(alloc);
-    for _made in 0..count {
-        flags.push(AtomicBool::new(false))?;
-    }
-    Ok(flags)
 }
 
 impl<M> CrewRoom<M> {

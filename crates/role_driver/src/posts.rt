@@ -1,14 +1,15 @@
 ghost use Rattle.std.specs.Prelude.{◌≡◌, length, map};
 ghost use Rattle.role_driver.specs.VectorRoom.{HasRoomFor};
-ghost use Rattle.role_driver.specs.inner.Watchers.{task_of, task_at};
+ghost use Rattle.role_driver.specs.inner.Watchers.{task_of, task_at, HasLooked};
 
 use crate::watcher::Watcher;
+use action_manager::News;
 use std::snapshot::Snapshot;
 use std::sync::Wait;
 use std::sync::atomic::{AtomicBool, Ordering};
 use std::thread::{Promise, PromisedHandle, Scope, Threads};
 
-/// The watcher comes back, with the task that it had.
+/// The watcher comes back, with the task that it had, and has looked.
 #[derive(Drop)]
 pub struct Returns {
     pub watcher: Snapshot<Watcher>,
@@ -16,9 +17,9 @@ pub struct Returns {
 
 impl Promise<Watcher> for Returns {
     ghost use Rattle.std.specs.Prelude.{◌≡◌};
-    ghost use Rattle.role_driver.specs.inner.Watchers.{task_of};
+    ghost use Rattle.role_driver.specs.inner.Watchers.{task_of, HasLooked};
 
-    ghost kept_by = { λ p r. task_of r ≡ task_of p.watcher.value };
+    ghost kept_by = { λ p r. (task_of r ≡ task_of p.watcher.value) × HasLooked r };
 }
 
 /// A thread that a watcher looks in, or the watcher where none could be started.
@@ -31,11 +32,12 @@ pub struct Watch {
     pub back: Vec<Watcher>,
 }
 
-/// Starts a thread in which a watcher looks until the flag is raised. Where none can be started, the watcher comes back.
+/// Starts a thread in which a watcher looks until the flag is raised. Where none can be started, the watcher looks once and comes back.
 fn post<'s, E, R: Threads + Wait + Sync>(
     scope: &'s Scope<'s, E>,
     rt: &'s R,
     watcher: Watcher,
+    news: &'s News,
     over: &'s AtomicBool,
 ) -> Post
     ensures { task_at (λ h. h.promise.watcher.value) result ≡ task_of watcher }
@@ -46,8 +48,8 @@ fn post<'s, E, R: Threads + Wait + Sync>(
     match scope.spawn_with(
         promise,
         move || -> Watcher
-            ensures { task_of result ≡ task_of watcher }
-        { watcher.watch(rt, over) },
+            ensures { (task_of result ≡ task_of watcher) × HasLooked result }
+        { watcher.watch(rt, news, over) },
     ) {
         Ok(child) => Ok(child),
         Err(refused) => {
@@ -63,6 +65,7 @@ pub fn post_all<'s, E, R: Threads + Wait + Sync>(
     rt: &'s R,
     watchers: Vec<Watcher>,
     mut posts: Vec<Post>,
+    news: &'s News,
     over: &'s [AtomicBool],
 ) -> Vec<Post>
     requires room { HasRoomFor (length watchers.items) posts }
@@ -71,16 +74,17 @@ pub fn post_all<'s, E, R: Threads + Wait + Sync>(
 {
     for watcher in watchers {
         let flag = &over[posts.len()];
-        posts.push_reserved(post(scope, rt, watcher, flag));
+        posts.push_reserved(post(scope, rt, watcher, news, flag));
     }
     posts
 }
 
-/// Raises all flags.
-pub fn raise(flags: &[AtomicBool]) {
+/// Raises all flags, and wakes the watchers, which look at them.
+pub fn raise<R: Wait>(rt: &R, news: &News, flags: &[AtomicBool]) {
     for flag in flags {
         flag.store(true, Ordering::SeqCst);
     }
+    news.call(rt);
 }
 
 /// The watcher of a post, once its thread has ended.

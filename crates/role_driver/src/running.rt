@@ -91,11 +91,12 @@ fn drive_in_threads<M: Machine + Send, G: Gate + Sync, R: Threads + Wait + Sync>
             ensures order { map participant_of result.0.items ≡ map participant_of seats.items }
             ensures tasks { map task_of result.1.items ≡ map task_of watchers.items }
         {
-            let posts = post_all(scope, rt, watchers, posts, over);
+            let news = manager.news();
+            let posts = post_all(scope, rt, watchers, posts, news, over);
             let mut members = start_all(scope, rt, manager, seats, members, handed_back, gate);
             drive_handed_back(rt, manager, &mut members, gate);
             let seats = join_all(rt, manager, members, back, gate);
-            raise(over);
+            raise(rt, news, over);
             (seats, call_all_back(rt, posts, called))
         },
     )
@@ -202,7 +203,7 @@ fn play_opened<M: Machine + Send, G: Gate + Sync, R: Threads + Wait + Sync>(
 /// In its journal nothing may be resolved yet, and no play may have ended. The machine that comes back has a legal and complete
 /// journal, which goes on from the old one; its plan and base are as they were. With it comes what was seen, right looks of that
 /// journal, or the refusal of a publication for which no memory was found. The caller itself takes the turns of participants for
-/// whom no thread can be started, round by round; a watcher without a thread looks once, at the end. At `Err` no memory was found
+/// whom no thread can be started, round by round; a watcher without a thread looks before the play and at its end. At `Err` no memory was found
 /// before the first entry, and the machine is as it was. It need not return.
 pub fn run<M: Machine + Send, G: Gate + Sync, R: Threads + Wait + Sync>(
     rt: &R,

@@ -1,8 +1,9 @@
-ghost use Rattle.std.specs.Prelude.{◌≡◌, length, map, reverse, true, All, IfOk, IfErr, IsTrue};
+ghost use Rattle.std.specs.Prelude.{◌≡◌, ◌<◌, ℕ, length, map, reverse, true, All, IfOk, IfErr, IsTrue};
 ghost use Rattle.place_plan.specs.RulesOfJournals.Roles.{is_over};
 ghost use Rattle.role_driver.specs.Handling.{TellsOwnHandlers};
 ghost use Rattle.role_driver.specs.Working.{TellsOwnWork};
-ghost use Rattle.role_driver.specs.inner.Crew.{IsBack, IsMember, who_of};
+ghost use Rattle.role_driver.specs.inner.Crew.{IsBack, IsMember, IsProgressOf, who_of};
+ghost use Rattle.place_plan.specs.declared.rules.machine.Answer.TheVariants as answer;
 ghost use Rattle.action_manager.specs.Managers.{plan_in, IsSeatIn};
 ghost use Rattle.action_manager.specs.Seats.{participant_of, seen_by, IsBeside};
 ghost use Rattle.role_driver.specs.VectorRoom.{HasRoomFor};
@@ -17,7 +18,6 @@ use place_plan::rules::machine::{Answer, Machine};
 use std::snapshot::Snapshot;
 use std::sync::Wait;
 use std::sync::atomic::AtomicBool;
-use std::thread;
 use std::thread::{Promise, PromisedHandle, Scope, Threads};
 
 /// A seat of this participant comes back, of the manager of the seat that went: driven to its end, or untouched, where the flag
@@ -52,6 +52,7 @@ fn drive_unless<M: Machine, G: Gate, R: Wait, F: Flag>(
     ensures beside { IsBeside seat result }
     ensures same { participant_of result ≡ participant_of seat }
     ensures back { IsBack (F.was_raised handed_back.now) seat result }
+    ensures told { TellsOwnWork (G.was_told gate.now) (participant_of seat) (seen_by seat) (seen_by result) }
 {
     if handed_back.is_raised() {
         seat
@@ -85,7 +86,8 @@ pub fn start<'s, E, M: Machine + Send, G: Gate + Sync, R: Threads + Wait + Sync,
         move || -> Seat<M>
             requires { IsSeatIn M.base_of manager.now seat }
             ensures { IsBeside seat result × (participant_of result ≡ participant_of seat)
-                × IsBack (F.was_raised handed_back.entry.now) seat result }
+                × IsBack (F.was_raised handed_back.entry.now) seat result
+                × TellsOwnWork (G.was_told gate.entry.now) (participant_of seat) (seen_by seat) (seen_by result) }
         { drive_unless(rt, manager, seat, handed_back, gate) },
     ) {
         Ok(child) => Ok(child),
@@ -129,70 +131,124 @@ pub fn start_all<'s, E, M: Machine + Send, G: Gate + Sync, R: Threads + Wait + S
     crew
 }
 
-/// One turn of a seat, and where it asks for work, a second one that brings it; and whether its participant is over.
+/// One turn of a seat, and where it asks for work, a second one that brings it. Gives the answer of the last turn.
 pub fn go_on<M: Machine, G: Gate + HandlerGate, R: Wait>(
     rt: &R,
     manager: &Manager<M>,
     seat: &mut Seat<M>,
     gate: &G,
-) -> bool
+) -> Answer
     requires opened { IsSeatIn M.base_of manager.now seat.old }
     ensures opened { IsSeatIn M.base_of manager.now seat.new }
     ensures same { participant_of seat.new ≡ participant_of seat.old }
     ensures told { TellsOwnWork (G.was_told gate.now) (participant_of seat.old) (seen_by seat.old) (seen_by seat.new) }
     ensures handed { TellsOwnHandlers (G.was_handed gate.now) (participant_of seat.old) (seen_by seat.old) (seen_by seat.new) }
-    ensures over { IsTrue result → is_over (plan_in manager.now) (reverse (seen_by seat.new)) (participant_of seat.old) ≡ true }
+    ensures over { result ≡ answer.Over → is_over (plan_in manager.now) (reverse (seen_by seat.new)) (participant_of seat.old) ≡ true }
 {
     let answer = turn_after(rt, manager, seat, Answer::NotYet, gate);
     match answer {
-        Answer::Work { .. } => {
-            turn_after(rt, manager, seat, answer, gate);
-            false
-        }
-        Answer::Over => true,
-        _ => false,
+        Answer::Work { .. } => turn_after(rt, manager, seat, answer, gate),
+        _ => answer,
     }
 }
 
-/// One turn of a member whose seat was handed back, and whether its participant is over. For a member with a thread nothing is
-/// done, and the answer is true.
+/// One turn of a member whose seat was handed back, and its answer. For a member with a thread nothing is done, as for a seat whose
+/// participant is over.
 fn turn_of<M: Machine, G: Gate, R: Wait>(
     rt: &R,
     manager: &Manager<M>,
     member: &mut Member<M>,
     gate: &G,
-) -> bool
+) -> Answer
     requires member { IsMember M.base_of manager.now (λ h. h.promise.seat.value) member.old }
     ensures member { IsMember M.base_of manager.now (λ h. h.promise.seat.value) member.new }
     ensures same { who_of (λ h. h.promise.participant) member.new ≡ who_of (λ h. h.promise.participant) member.old }
 {
     match member {
-        Ok(_) => true,
+        Ok(_) => Answer::Over,
         Err(seat) => go_on(rt, manager, seat, gate),
     }
 }
 
-/// One turn of each seat that was handed back, and whether all of these are over.
+/// What a round of turns came to.
+#[derive(Clone, Copy)]
+enum Progress {
+    /// All participants are over.
+    Over,
+    /// Somebody made an entry.
+    WentOn,
+    /// Nobody made one. The first who isn't over stands at this index.
+    Waits(usize),
+}
+
+impl Progress {
+    /// What it came to with one answer more, of the seat at this index.
+    fn with(self, answer: Answer, index: usize) -> Progress
+        ensures { (count : ℕ) → IsProgressOf index self → index < count → IsProgressOf count result }
+    {
+        match answer {
+            Answer::Over => self,
+            Answer::Did(_) | Answer::Work { .. } => Progress::WentOn,
+            Answer::NotYet => match self {
+                Progress::Over => Progress::Waits(index),
+                _ => self,
+            },
+        }
+    }
+}
+
+/// One turn of each seat that was handed back, and what these came to.
 fn round<M: Machine, G: Gate, R: Wait>(
     rt: &R,
     manager: &Manager<M>,
     crew: &mut Vec<Member<M>>,
     gate: &G,
-) -> bool
+) -> Progress
+    requires crew { All (λ r. IsMember M.base_of manager.now (λ h. h.promise.seat.value) r) crew.old.items }
+    ensures crew { All (λ r. IsMember M.base_of manager.now (λ h. h.promise.seat.value) r) crew.new.items }
+    ensures order { map (λ r. who_of (λ h. h.promise.participant) r) crew.new.items
+        ≡ map (λ r. who_of (λ h. h.promise.participant) r) crew.old.items }
+    ensures progress { IsProgressOf (length crew.new.items) result }
+{
+    let mut progress = Progress::Over;
+    for index in 0..crew.len() {
+        let answer = turn_of(rt, manager, &mut crew[index], gate);
+        progress = progress.with(answer, index);
+    }
+    progress
+}
+
+/// Waits past what a member has seen whose seat was handed back, until an entry may give an entry to anybody who had none.
+fn wait_with<M: Machine, R: Wait>(rt: &R, manager: &Manager<M>, member: &mut Member<M>)
+    requires member { IsMember M.base_of manager.now (λ h. h.promise.seat.value) member.old }
+    ensures member { IsMember M.base_of manager.now (λ h. h.promise.seat.value) member.new }
+    ensures same { who_of (λ h. h.promise.participant) member.new ≡ who_of (λ h. h.promise.participant) member.old }
+{
+    if let Err(seat) = member {
+        manager.wait_past_any(rt, seat);
+    }
+}
+
+/// The same for the member at this index.
+fn wait_at<M: Machine, R: Wait>(
+    rt: &R,
+    manager: &Manager<M>,
+    crew: &mut Vec<Member<M>>,
+    index: usize,
+)
+    requires index { index < length crew.old.items }
     requires crew { All (λ r. IsMember M.base_of manager.now (λ h. h.promise.seat.value) r) crew.old.items }
     ensures crew { All (λ r. IsMember M.base_of manager.now (λ h. h.promise.seat.value) r) crew.new.items }
     ensures order { map (λ r. who_of (λ h. h.promise.participant) r) crew.new.items
         ≡ map (λ r. who_of (λ h. h.promise.participant) r) crew.old.items }
 {
-    let mut over = true;
-    for index in 0..crew.len() {
-        let done = turn_of(rt, manager, &mut crew[index], gate);
-        over = over && done;
-    }
-    over
+    wait_with(rt, manager, &mut crew[index]);
 }
 
 /// Takes turns for the seats that were handed back, round by round, until all of these are over.
+///
+/// Where a round brings no entry, it sleeps with the seat that was asked first: whom an entry wakes after that seat had seen the
+/// journal may be any of them.
 pub fn drive_handed_back<M: Machine, G: Gate, R: Wait>(
     rt: &R,
     manager: &Manager<M>,
@@ -205,10 +261,11 @@ pub fn drive_handed_back<M: Machine, G: Gate, R: Wait>(
         ≡ map (λ r. who_of (λ h. h.promise.participant) r) crew.old.items }
 {
     for _ in rt.forever() {
-        if round(rt, manager, crew, gate) {
-            return;
+        match round(rt, manager, crew, gate) {
+            Progress::Over => return,
+            Progress::WentOn => {}
+            Progress::Waits(index) => wait_at(rt, manager, crew, index),
         }
-        thread::yield_now();
     }
     unreachable!()
 }

@@ -1,6 +1,6 @@
 ghost use Rattle.std.specs.Prelude.{◌≡◌, IfOk};
 
-use crate::crew_room::lowered_flags;
+use crate::flag::lowered_flags;
 use crate::posts::Post;
 use crate::watcher::Watcher;
 use caa_base::written::entry::{Object, OutOfMemory};

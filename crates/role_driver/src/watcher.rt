@@ -1,11 +1,11 @@
 ghost use Rattle.std.specs.Prelude.{◌≡◌, ◌<◌, true, nat_lt, length};
 ghost use Rattle.role_driver.specs.inner.Records.{is_record, is_news};
 
+use action_manager::News;
 use caa_base::written::entry::Object;
-use shared_views::{CommittedWriter, Observer, Reading};
+use shared_views::{CommittedWriter, Observer, ReadRefused, Reading};
 use std::sync::Wait;
 use std::sync::atomic::{AtomicBool, Ordering};
-use std::thread;
 
 /// Whether a reading is the first, or more plays had ended at it than at the last of these.
 fn is_news(seen: &[Reading], reading: Reading) -> bool
@@ -20,6 +20,8 @@ pub struct Watcher {
     object: Object,
     observer: Observer,
     seen: Vec<Reading>,
+    /// The refusal of the last look, if that was refused.
+    refused: Option<ReadRefused>,
     ghost known: { nat_lt object (length observer.initials) ≡ true },
     ghost right: { is_record observer.initials observer.known object seen.items ≡ true },
 }
@@ -27,7 +29,7 @@ pub struct Watcher {
 impl Watcher {
     ghost use Rattle.shared_views.specs.Publications.{Begins};
     ghost use Rattle.shared_views.specs.Committing.{IsReading};
-    ghost use Rattle.role_driver.specs.inner.Watchers.{task_of};
+    ghost use Rattle.role_driver.specs.inner.Watchers.{task_of, HasLooked};
     ghost use Rattle.role_driver.specs.inner.Gathering.{task_by};
 
     /// A watcher that has recorded nothing yet. It records no more than there is room for in the list, which is cleared.
@@ -40,6 +42,7 @@ impl Watcher {
             object,
             observer,
             seen,
+            refused: None,
         }
     }
 
@@ -47,25 +50,34 @@ impl Watcher {
     ///
     /// Where the reading is refused, or no room is left, nothing is recorded.
     fn look(&mut self)
-        ensures { task_of self.new ≡ task_of self.old }
+        ensures task { task_of self.new ≡ task_of self.old }
+        ensures looked { HasLooked self.new }
     {
-        if let Ok(reading) = self.observer.read(self.object) {
-            if is_news(self.seen.as_slice(), reading) && self.seen.len() < self.seen.capacity() {
-                self.seen.push_reserved(reading);
+        match self.observer.read(self.object) {
+            Ok(reading) => {
+                self.refused = None;
+                if is_news(self.seen.as_slice(), reading)
+                    && self.seen.len() < self.seen.capacity()
+                {
+                    self.seen.push_reserved(reading);
+                }
             }
+            Err(refused) => self.refused = Some(refused),
         }
     }
 
-    /// Looks again and again until the flag is raised. It need not return.
-    pub fn watch<R: Wait>(mut self, rt: &R, over: &AtomicBool) -> Watcher
-        ensures { task_of result ≡ task_of self }
+    /// Looks, and again each time that plays have ended, until the flag is raised. In between it sleeps. It need not return.
+    pub fn watch<R: Wait>(mut self, rt: &R, news: &News, over: &AtomicBool) -> Watcher
+        ensures task { task_of result ≡ task_of self }
+        ensures looked { HasLooked result }
     {
+        let mut ends = 0;
         for _ in rt.forever() {
+            self.look();
             if over.load(Ordering::SeqCst) {
                 return self;
             }
-            self.look();
-            thread::yield_now();
+            ends = news.wait_past(rt, ends, over);
         }
         unreachable!()
     }

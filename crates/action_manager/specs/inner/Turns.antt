@@ -1,5 +1,5 @@
 -- The rule of the turn lock, and what its steps tell.
-use Rattle.std.specs.Prelude.{◌≡◌, ◌⊎◌, ℕ, ◌+◌, ◌<◌, ◌≤◌, ◌==◌, Bool, true, false, List, [], ◌∷◌, ◌++◌, length, slice_index, Option, Some, MatchBool}
+use Rattle.std.specs.Prelude.{◌≡◌, ◌⊎◌, ℕ, ◌+◌, ◌<◌, ◌≤◌, ◌==◌, Bool, true, false, List, [], ◌∷◌, ◌++◌, length, slice_index, Option, Some, None, MatchBool}
 use mathlib.Core.Option.{some}
 use mathlib.Core.List.{IsPrefix}
 use lib.ListN.{get_elem?}
@@ -36,7 +36,7 @@ no_plan = record { participants = []; objects = []; graphs = []; actions = []; p
 
 -- a base of nothing
 abbrev pub no_base : Base
-no_base = record { faults = 0; tells_values = false; tells_drills = false }
+no_base = record { history = None; faults = 0; lay_faults = 0; tells_values = false; tells_drills = false }
 
 -- a list of publications that names nothing
 abbrev pub no_book : Book

@@ -1,5 +1,5 @@
 -- The threads that drive seats to their end.
-use Rattle.std.specs.Prelude.{◌≡◌, ◌⊎◌, ℕ, true, reverse, Result, Ok, Err}
+use Rattle.std.specs.Prelude.{◌≡◌, ◌<◌, ◌⊎◌, ℕ, true, reverse, Result, Ok, Err}
 use Rattle.place_plan.specs.Plans.PlanValue.{Plan}
 use Rattle.place_plan.specs.declared.rules.machine.Base.{Base}
 use Rattle.place_plan.specs.RulesOfJournals.Roles.{is_over}
@@ -7,6 +7,8 @@ use Rattle.action_manager.specs.Managers.{IsSeatIn}
 use Rattle.action_manager.specs.Seats.{participant_of, seen_by, token_of}
 use Rattle.action_manager.specs.declared.manager.Manager.{Manager}
 use Rattle.action_manager.specs.declared.seat.Seat.{Seat}
+use Rattle.role_driver.specs.declared.seat_crew.Progress.{Progress}
+use Rattle.role_driver.specs.declared.seat_crew.Progress.TheVariants as progress
 
 -- the plan of the machine at which the seat takes turns
 abbrev pub plan_at : {M : Type 0} → Seat M → Plan
@@ -26,3 +28,8 @@ IsMember base_of manager seat_of (Err seat) = IsSeatIn base_of manager seat
 abbrev pub who_of : {M H : Type 0} → (H → ℕ) → Result H (Seat M) → ℕ
 who_of f (Ok thread) = f thread
 who_of f (Err seat) = participant_of seat
+
+-- what a round of the first so many came to: where all wait who aren't over, the first of these is one of them
+abbrev pub IsProgressOf : ℕ → Progress → Type 0
+IsProgressOf count (progress.Waits index) = index < count
+IsProgressOf count _ = Unit {0}

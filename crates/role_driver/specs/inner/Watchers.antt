@@ -1,6 +1,7 @@
 -- Watchers, and the threads that they look in.
-use Rattle.std.specs.Prelude.{ℕ, ℤ, List, Result, Ok, Err}
+use Rattle.std.specs.Prelude.{ℕ, ℤ, List, Result, Ok, Err, IfNone, MatchOption}
 use Rattle.logbook.specs.Pages.{Book}
+use Rattle.shared_views.specs.Publications.{Begins}
 use Rattle.role_driver.specs.declared.watcher.Watcher.{Watcher}
 
 -- what a watcher is to watch: an object, by its initial values and by one list of publications
@@ -17,3 +18,7 @@ task_of w = record { object = w.object; initials = w.observer.initials; book = w
 abbrev pub task_at : {H : Type 0} → (H → Watcher) → Result H Watcher → Task
 task_at watcher_of (Ok thread) = task_of (watcher_of thread)
 task_at watcher_of (Err watcher) = task_of watcher
+
+-- the last look of the watcher was refused, or it knows what the board of committed values showed then
+abbrev pub HasLooked : Watcher → Type 0
+HasLooked w = IfNone w.refused (MatchOption w.observer.shown ⊥ (λ k. Begins k w.observer.known))

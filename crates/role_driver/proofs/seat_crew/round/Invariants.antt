@@ -1,5 +1,5 @@
 use Rattle.std.proofs.Common.{◌≡◌, map, All, vec_len}
-use Rattle.role_driver.specs.inner.Crew.{IsMember, who_of}
+use Rattle.role_driver.specs.inner.Crew.{IsMember, IsProgressOf, who_of}
 use Rattle.role_driver.proofs.seat_crew.round.Given as goal
 
 abbrev pub invariant-loop-index : goal.invariant-loop-index
@@ -10,4 +10,5 @@ invariant-loop-index g l =
       crew : All (λ r. IsMember base_of l.manager (λ h. h.promise.seat.value) r) l.crew.items;
       order : map (λ r. who_of (λ h. h.promise.participant) r) l.crew.items ≡ map (λ r. who_of (λ h. h.promise.participant) r)
           l.fn.crew.items;
+      progress : IsProgressOf l.index l.progress;
     }
