@@ -1,8 +1,9 @@
 #!/usr/bin/env python3
 """Plays a script by the rules of docs/journal.md and the schedule of a seed of docs/program.md, and prints the journal. It looks back
 over the list of entries for each question, as the rules do, was written from these two pages, and shares nothing with the program.
-It expects a script that `check` accepts, and is slow: a second for some hundred entries. With no seed it compares the examples that
-are played by `sim`, and those of `cell`, whose script is that of the example shift_of_a_cell, with as many plays as there are cycles.
+It expects a script that `check` accepts, and is slow: a second for some hundred entries. With no seed it compares the examples and
+idioms that are played by `sim`, and those of `cell`, whose script is that of the example shift_of_a_cell, with as many plays as
+there are cycles.
 
     python3 -B examples/play_by_rules.py [SEED < SCRIPT]"""
 import os
@@ -419,19 +420,20 @@ def main():
     if sys.argv[1:]:
         sys.stdout.write(journal_of(sys.stdin.read(), int(sys.argv[1])))
         return
-    cases = os.path.join(os.path.dirname(os.path.abspath(__file__)), "cases")
+    examples = os.path.dirname(os.path.abspath(__file__))
     names, wrong = [], []
-    shift = text_of(f"{cases}/shift_of_a_cell")
-    for file in sorted(os.listdir(cases)):
-        name, ending = os.path.splitext(file)
-        words = text_of(f"{cases}/{file}").split() if ending == ".args" else []
-        if words[:1] in (["sim"], ["cell"]) and words[1].isdigit():
-            names.append(name)
-            number = int(words[1])
-            text = summary_of(shift, number) if words[0] == "cell" else journal_of(text_of(f"{cases}/{name}"), number)
-            if text != text_of(f"{cases}/{name}.stdout"):
-                wrong.append(name)
-                print(f"{name}: the rules give another text")
+    shift = text_of(f"{examples}/cases/shift_of_a_cell")
+    for folder in (f"{examples}/cases", f"{examples}/idioms"):
+        for file in sorted(os.listdir(folder)):
+            name, ending = os.path.splitext(file)
+            words = text_of(f"{folder}/{file}").split() if ending == ".args" else []
+            if words[:1] in (["sim"], ["cell"]) and words[1].isdigit():
+                names.append(name)
+                number = int(words[1])
+                text = summary_of(shift, number) if words[0] == "cell" else journal_of(text_of(f"{folder}/{name}"), number)
+                if text != text_of(f"{folder}/{name}.stdout"):
+                    wrong.append(name)
+                    print(f"{name}: the rules give another text")
     print(f"{len(names)} plays by the rules, {len(wrong)} differ")
     sys.exit(bool(wrong))
 

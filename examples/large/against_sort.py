@@ -4,6 +4,9 @@
 
 Both are called in turn, 21 times each, in the locale C.UTF-8; the least time of each is told, with their ratio, and the same for
 half of the script, which tells how the time grows.
+
+Seen last, with all other work stopped: 19 milliseconds for 984,854 bytes, where `sort` took 16, and 10 where it took 8 for half of
+them. Figures differ from machine to machine and from day to day.
 """
 
 import os

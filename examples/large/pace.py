@@ -3,6 +3,9 @@
     python3 examples/large/pace.py PROGRAM
 
 Each call is made 7 times. The least time is told, less that of `check` for the same script, and what that is for each entry.
+
+Seen last, on four processors: an entry of `sim` took 188 nanoseconds in 52,200 entries and 206 in 522,000, one of `audit` 208 and 198;
+with sixteen participants one of `sim` took 372, one of `pool 4` 814 and one of `run` 2,077.
 """
 
 import subprocess
