@@ -41,4 +41,4 @@ book_of p = p.writer.publications.book
 
 -- an observer of the objects of a plan, which knows of this list and of no publication in it; its place aside
 abbrev pub new_observer : Plan → Book → Watching
-new_observer plan book = record { initials = initials_of plan; known = record { book = book; list = [] }; is_placed = false }
+new_observer plan book = unplaced (initials_of plan) (record { book = book; list = [] })

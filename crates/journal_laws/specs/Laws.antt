@@ -5,12 +5,15 @@ use Rattle.cover_table.specs.Cover.{IsLeastCover}
 use Rattle.caa_base.specs.declared.written.entry.Entry.{Entry}
 use Rattle.caa_base.specs.declared.written.entry.Kind.{Kind}
 use Rattle.caa_base.specs.declared.written.entry.Kind.TheVariants as kind
+use Rattle.caa_base.specs.declared.written.entry.Outcome.TheVariants as outcome
+use Rattle.caa_base.specs.declared.written.entry.Verdict.TheVariants as verdict
 use Rattle.place_plan.specs.Plans.PlanValue.{Plan}
 use Rattle.caa_base.specs.Written.Lists.{member}
+use Rattle.caa_base.specs.Written.Marks.{mark_of, verdict_mark}
 use Rattle.place_plan.specs.Plans.Places.{around, parent, is_within, roles_of, uses, initial_of, internal_of, handler_of}
 use Rattle.place_plan.specs.RulesOfJournals.Entries.{is_of, is_in, is_by, has, has_by, newest}
 use Rattle.place_plan.specs.RulesOfJournals.Whereabouts.{inside, stays, is_live, has_ended, has_started}
-use Rattle.place_plan.specs.RulesOfJournals.Raising.{exceptions_raised, is_raised, exception_resolved}
+use Rattle.place_plan.specs.RulesOfJournals.Raising.{exceptions_raised, is_raised, has_handled, all_are_halted, exception_resolved}
 use Rattle.place_plan.specs.RulesOfJournals.Objects.{holder_of, value_of, writes, has_failed}
 use Rattle.place_plan.specs.RulesOfJournals.Rules.{MayFollow}
 use Rattle.place_plan.specs.RulesOfJournals.Journals.{LegalPast, AllOver, HasNoEntry, is_put, plays_ended, committed_value}
@@ -97,6 +100,26 @@ SleepsOn plan past =
     (e : Entry) (t : ℕ) → MayFollow plan past e → (e.by == t) ≡ false → wakes plan e t ≡ false
     → HasNoEntry plan past t → HasNoEntry plan (e ∷ past) t
 
+-- ---- stop law
+
+-- the kinds of entry by which a role works, or asks the device to change something, in its body or its handler
+abbrev pub takes_step : Kind → Bool
+takes_step kind.Read = true
+takes_step kind.Work = true
+takes_step kind.Write = true
+takes_step kind.PutFault = true
+takes_step kind.Check = true
+takes_step _ = false
+
+-- nobody goes on with ordinary work once something is raised, and no recovery begins before all have stopped
+pub record StopLaw (plan : Plan) (past : List Entry) : Type 0 where
+  -- once something is raised in p, whoever takes a step in p or inside it takes it in p, and in its handler
+  pub stopped : (p : ℕ) (later before : List Entry) (e : Entry) → Splits past later e before → is_raised plan before p ≡ true
+      → is_within plan e.place p ≡ true → takes_step e.kind ≡ true → (e.place ≡ p) × (has_handled before p e.by ≡ true)
+  -- no handler begins in p before each role of p has stopped
+  pub together : (p : ℕ) (later before : List Entry) (e : Entry) → Splits past later e before → is_in kind.Handle p e ≡ true
+      → all_are_halted plan before p ≡ true
+
 -- ---- resolution law
 
 -- whoever handles something in p handles the least cover of whatever the journal raises there; all handle the same
@@ -113,7 +136,7 @@ pub record AskedForUndo (past : List Entry) (p t : ℕ) : Type 0 where
   pub before : List Entry
   pub stands : Splits past later entry before
   pub own : is_by kind.Verdict p t entry ≡ true
-  pub undo : entry.mark ≡ 2
+  pub undo : entry.mark ≡ (verdict_mark verdict.Undo).0
   pub resolution : has kind.Resolve before p ≡ true
 
 -- t handled x in p, or asked for undo since there is nothing in its role to handle it
@@ -161,10 +184,10 @@ is_restore p o mark e = is_in kind.Restore p e && ((e.arg == o) && (e.mark == ma
 -- what the restores of p are, by the mark of its End: none after a commit or a signal; each object restored after an undo or an
 -- abort; each object tried once, and one refused, after a failure
 pub record RestoresFit (plan : Plan) (past : List Entry) (p mark : ℕ) : Type 0 where
-  pub kept : mark < 2 → has kind.Restore past p ≡ false
-  pub undone : (mark ≡ 2) ⊎ (mark ≡ 3) → (o : ℕ) → uses plan p o ≡ true → list_any (is_restore p o 0) past ≡ true
-  pub tried : mark ≡ 4 → (o : ℕ) → uses plan p o ≡ true → count_by (is_restore p o 0) past + count_by (is_restore p o 1) past ≡ 1
-  pub refused : mark ≡ 4 → has_failed past p ≡ true
+  pub kept : (mark ≡ mark_of outcome.Commit) ⊎ (mark ≡ mark_of (outcome.Signal 0)) → has kind.Restore past p ≡ false
+  pub undone : (mark ≡ mark_of outcome.Undone) ⊎ (mark ≡ mark_of outcome.Aborted) → (o : ℕ) → uses plan p o ≡ true → list_any (is_restore p o 0) past ≡ true
+  pub tried : mark ≡ mark_of outcome.Failed → (o : ℕ) → uses plan p o ≡ true → count_by (is_restore p o 0) past + count_by (is_restore p o 1) past ≡ 1
+  pub refused : mark ≡ mark_of outcome.Failed → has_failed past p ≡ true
 
 -- the restores of a place that has ended are what its End says
 abbrev pub OutcomeLaw : Plan → List Entry → Type 0
@@ -175,7 +198,7 @@ OutcomeLaw plan past = (p : ℕ) (e : Entry) → newest (is_in kind.End p) past 
 -- the End of a place, where it has one, is a commit or a signal
 abbrev pub is_kept_mark : Option Entry → Bool
 is_kept_mark None = false
-is_kept_mark (Some e) = (e.mark == 0) || (e.mark == 1)
+is_kept_mark (Some e) = (e.mark == mark_of outcome.Commit) || (e.mark == mark_of (outcome.Signal 0))
 
 -- p and each place round it ended by commit or signal
 abbrev pub is_kept : Plan → List Entry → ℕ → Bool
@@ -252,8 +275,9 @@ pub record CommitLaw (plan : Plan) (past : List Entry) : Type 0 where
 
 -- ---- all laws of one journal
 
--- six of the laws at once
+-- seven of the laws at once
 pub record KeepsLaws (plan : Plan) (past : List Entry) : Type 0 where
+  pub stops : StopLaw plan past
   pub resolution : ResolutionLaw plan past
   pub exits : ExitLaw plan past
   pub outcomes : OutcomeLaw plan past

@@ -1,5 +1,5 @@
 -- Each step on the board keeps its rule, and a publication leaves it right.
-use Rattle.std.proofs.Common.{◌≡◌, ◌≢◌, ℕ, zero, suc, suc-le-suc, ◌<◌, ◌==◌, ℤ, true, false, List, [], ◌∷◌, ◌++◌, length, set, get_or, fold, All, Option, Some, None, IfSome, if◌then◌else◌, refl, sym, ap, ◌∙◌, subst, inl, inr, ⊎_elim, arith, length-set, get_or-set_other, get_or-set_same, replicate, Result, Ok, Err, IsOk, MatchResult, true≢false}
+use Rattle.std.proofs.Common.{◌≡◌, ◌≢◌, ◌+◌, ℕ, zero, suc, suc-le-suc, ◌<◌, ◌==◌, ℤ, true, false, List, [], ◌∷◌, ◌++◌, length, set, get_or, fold, All, Option, Some, None, IfSome, if◌then◌else◌, refl, sym, ap, ◌∙◌, subst, inl, inr, ⊎_elim, arith, length-set, get_or-set_other, get_or-set_same, replicate, Result, Ok, Err, IsOk, MatchResult, true≢false}
 use Rattle.std.proofs.lemmas.Bool.{cases_order}
 use Rattle.std.proofs.lemmas.Bool.Decides.{nat_tests}
 use Rattle.std.proofs.lemmas.List.Sums.{fold-append}
@@ -31,7 +31,7 @@ each_fits : (before after : Known) (views : List View) (seat : ℕ) (w : View) �
 each_fits before after views seat w more mine others j u e = ⊎_elim (λ (t : (j ≡ seat) × (w ≡ u)). subst (Fits after) t.1 mine)
     (λ (t : (j ≢ seat) × (get_elem? views j ≡ some u)). some_on before after u.known more (others j u t.1)) (at_set views seat j w u e)
 
-pub admits : Admits Keeps (record { known = None })
+pub admits : Admits Keeps (record { known = None; looks = 0 })
 admits x views k = record {
   right = k.right;
   each = λ j u e. ⊎_elim (k.each j u) (λ same. subst (Fits x.publications) same tt) (at_snoc views _ u j e);
@@ -40,10 +40,10 @@ admits x views k = record {
 pub moves : (seat : ℕ) (v : View) (x y : Board) → IsRight y → Begins x.publications y.publications → TurnsAt Keeps seat v x y Sees
 moves seat v x y right more views k at =
     let all : Known = y.publications in
-    let w : View = record { known = Some all } in (
+    let w : View = record { known = Some all; looks = v.looks + 1 } in (
       w,
       record { right = right; each = each_fits x.publications all views seat w more (known_itself all) k.each },
-      record { right = right; all = refl; more = some_on x.publications all v.known more (k.each seat v at) },
+      record { right = right; all = refl; more = some_on x.publications all v.known more (k.each seat v at); looks = refl },
     )
 
 -- a look changes nothing
@@ -60,18 +60,18 @@ forks seat v x views k at =
           (λ same. subst (Fits x.publications) same mine) (at_snoc (set views seat v) v u j e);
     }
 
-pub merges : (seat : ℕ) (v : View) (other : ℕ) (w : View) → Merges Keeps seat v other w w (record { known = None })
+pub merges : (seat : ℕ) (v : View) (other : ℕ) (w : View) → Merges Keeps seat v other w (record { known = w.known; looks = v.looks }) (record { known = None; looks = 0 })
 merges seat v other w x views k at apart there =
     let all : Known = x.publications in
     let its : Fits all w =
-    ⊎_elim (λ (t : (other ≡ seat) × (w ≡ w)). absurd (apart t.0))
+    ⊎_elim (λ (t : (other ≡ seat) × (record { known = w.known; looks = v.looks } ≡ w)). absurd (apart t.0))
     (λ (t : (other ≢ seat) × (get_elem? views other ≡ some w)). k.each other w t.1)
-    (at_set views seat other w w there) in
+    (at_set views seat other (record { known = w.known; looks = v.looks }) w there) in
     record {
       right = k.right;
       each =
-          each_fits all all (set views seat w) other (record { known = None }) (known_itself all) tt
-          (each_fits all all views seat w (known_itself all) its k.each);
+          each_fits all all (set views seat (record { known = w.known; looks = v.looks })) other (record { known = None; looks = 0 }) (known_itself all) tt
+          (each_fits all all views seat (record { known = w.known; looks = v.looks }) (known_itself all) its k.each);
     }
 
 -- one change of an object that the row has

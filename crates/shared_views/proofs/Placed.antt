@@ -1,8 +1,8 @@
 -- Observers that are given places.
-use Rattle.std.proofs.Common.{◌≡◌, ℕ, ℤ, zero, suc, suc-le-suc, ◌<◌, false, List, [], ◌∷◌, length, map, get_or, replicate, All, refl, ap, ◌∙◌, arith}
+use Rattle.std.proofs.Common.{◌≡◌, ℕ, ℤ, zero, suc, suc-le-suc, ◌<◌, List, [], ◌∷◌, length, map, get_or, replicate, All, refl, ap, ◌∙◌, arith}
 use Rattle.logbook.specs.Pages.{Book}
 use Rattle.shared_views.specs.Publications.{Known}
-use Rattle.shared_views.specs.Committing.{Watching, placeless}
+use Rattle.shared_views.specs.Committing.{Watching, placeless, unplaced}
 
 -- the list of an observer, where those of all were this one before some got places
 pub book_at : (b : Book) (now was : List Watching) (i : ℕ) (d : Watching) → map placeless now ≡ map placeless was
@@ -20,10 +20,10 @@ all_placeless (suc n) o = ap (λ os. placeless o ∷ os) (all_placeless n o)
 
 -- so many observers that were alike before some got places are still alike but for these
 pub still_alike : (n : ℕ) (now was : List Watching) (a b : List ℤ) (k l : Known) → map placeless now ≡ map placeless was
-    → was ≡ replicate n (record { initials = a; known = k; is_placed = false }) → a ≡ b → k ≡ l
-    → map placeless now ≡ replicate n (record { initials = b; known = l; is_placed = false })
+    → was ≡ replicate n (unplaced a k) → a ≡ b → k ≡ l
+    → map placeless now ≡ replicate n (unplaced b l)
 still_alike n now was a b k l same all initials known =
-    let first : Watching = record { initials = a; known = k; is_placed = false } in
-    let one : first ≡ record { initials = b; known = l; is_placed = false } =
-    λ i. record { initials = initials i; known = known i; is_placed = false } in
+    let first : Watching = unplaced a k in
+    let one : first ≡ unplaced b l =
+    λ i. unplaced (initials i) (known i) in
     same ∙ (ap (map placeless) all ∙ (all_placeless n first ∙ ap (replicate n) one))

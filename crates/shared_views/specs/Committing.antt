@@ -1,5 +1,5 @@
 -- What contracts see of a committed writer and of its observers.
-use Rattle.std.specs.Prelude.{◌≡◌, ◌⊎◌, ◌≤◌, ℕ, ℤ, Bool, false, List, [], ◌∷◌, ◌++◌, length, take}
+use Rattle.std.specs.Prelude.{◌≡◌, ◌⊎◌, ◌≤◌, ℕ, ℤ, Bool, false, List, [], ◌∷◌, ◌++◌, length, take, Option, None}
 use Rattle.shared_views.specs.Publications.{Changes, Known, value_after}
 use Rattle.shared_views.specs.declared.observed.Reading.{Reading}
 
@@ -11,19 +11,26 @@ pub record Committed : Type 0 where
   pub is_stale : Bool
   pub entered : Known
 
--- an observer: the initial values, the publications that it has seen or was told of, and whether it has a place at the board
+-- an observer: the initial values, the publications that it has seen or was told of, whether it has a place at the board, how
+-- often it looked at the board from there, and what the board showed at the last of these looks
 pub record Watching : Type 0 where
   pub initials : List ℤ
   pub known : Known
   pub is_placed : Bool
+  pub looks : ℕ
+  pub shown : Option Known
+
+-- an observer with these first values that knows these publications, has no place, and hasn't looked
+abbrev pub unplaced : List ℤ → Known → Watching
+unplaced initials known = record { initials = initials; known = known; is_placed = false; looks = 0; shown = None }
 
 -- an observer that knows just what the writer has published, and has no place
 abbrev pub watching : Committed → Watching
-watching w = record { initials = w.initials; known = w.publications; is_placed = false }
+watching w = unplaced w.initials w.publications
 
 -- the observer, its place aside
 abbrev pub placeless : Watching → Watching
-placeless o = record { initials = o.initials; known = o.known; is_placed = false }
+placeless o = unplaced o.initials o.known
 
 -- nothing was entered in the list, or these changes were, after all that stood in it
 abbrev pub MayEnter : Known → Changes → Known → Type 0

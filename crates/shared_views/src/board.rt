@@ -20,6 +20,7 @@ pub struct Board {
 /// The publications that a reader knows of, if any. No value of it is made.
 pub struct View {
     pub known: Option<Publications>,
+    pub looks: u64,
 }
 
 impl Board {
@@ -102,7 +103,7 @@ impl Protocol<Board, View> for Published {
 
     ghost holds = { Keeps };
 
-    ghost first = { record { known = None } };
+    ghost first = { record { known = None; looks = 0 } };
 }
 
 /// What a reader sees, and what the writer shows.
@@ -126,7 +127,7 @@ impl Split<View> for Tells {
 impl Join<View> for Tells {
     ghost use Rattle.std.specs.Prelude.{None};
 
-    ghost both = { λ v w. w };
+    ghost both = { λ v w. record { known = w.known; looks = v.looks } };
 
-    ghost spent = { record { known = None } };
+    ghost spent = { record { known = None; looks = 0 } };
 }

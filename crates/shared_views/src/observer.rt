@@ -1,8 +1,8 @@
-ghost use Rattle.std.specs.Prelude.{◌≡◌, ◌<◌, ◌⊎◌, false, IsTrue, length, replicate, Some, IfSome, IfNone, IfOk, IfErr};
+ghost use Rattle.std.specs.Prelude.{◌≡◌, ◌<◌, ◌+◌, ◌⊎◌, IsTrue, length, replicate, Some, IfSome, IfNone, IfOk, IfErr, OnOk, MatchOption};
 ghost use Rattle.left_right.specs.Sides.{view};
 ghost use Rattle.shared_views.specs.inner.Boards.{IsRight};
 ghost use Rattle.shared_views.specs.Publications.{Begins};
-ghost use Rattle.shared_views.specs.Committing.{Watching, IsReading};
+ghost use Rattle.shared_views.specs.Committing.{Watching, IsReading, unplaced};
 
 use crate::board::{Board, Looks, Published, Tells, View};
 use crate::observed::{ReadRefused, Reading};
@@ -44,7 +44,7 @@ impl Observer {
         initials: &[i64],
         publications: &Publications,
     ) -> Result<Observer, OutOfMemory>
-        ensures { IfOk result (λ o. o ≡ record { initials = initials.now; known = publications.now; is_placed = false }) }
+        ensures { IfOk result (λ o. o ≡ unplaced initials.now publications.now) }
     {
         let mut copy = Vec::new(alloc);
         copy.extend_from_slice(initials)?;
@@ -62,8 +62,7 @@ impl Observer {
         publications: &Publications,
         count: u32,
     ) -> Result<Vec<Observer>, OutOfMemory>
-        ensures { IfOk result (λ v.
-            v.items ≡ replicate count (record { initials = initials.now; known = publications.now; is_placed = false })) }
+        ensures { IfOk result (λ v. v.items ≡ replicate count (unplaced initials.now publications.now)) }
     {
         let mut observers = Vec::new(alloc);
         for _ in 0..count {
@@ -87,9 +86,10 @@ impl Observer {
         }
     }
 
-    /// The value of an object after all publications that the observer then knows of, which are no fewer than before.
+    /// The value of an object after all publications that the observer then knows of, which are no fewer than before, nor than the
+    /// board showed at a look within this call.
     ///
-    /// A refusal leaves the observer as it was, and an observer without a place is always refused.
+    /// A refusal leaves what the observer knows as it was, and an observer without a place is always refused.
     pub fn read(&mut self, object: Object) -> Result<Reading, ReadRefused>
         requires object { object < length self.old.initials }
         ensures initials { self.new.initials ≡ self.old.initials }
@@ -97,7 +97,9 @@ impl Observer {
         ensures placed { IfOk result (λ _. IsTrue self.old.is_placed) }
         ensures known { Begins self.old.known self.new.known }
         ensures read { IfOk result (λ r. IsReading self.new.initials self.new.known object r) }
-        ensures refused { IfErr result (λ _. self.new ≡ self.old) }
+        ensures refused { IfErr result (λ _. self.new.known ≡ self.old.known) }
+        ensures looked { OnOk result (self.new.looks ≡ self.old.looks + 1) }
+        ensures fresh { OnOk result (MatchOption self.new.shown ⊥ (λ k. Begins k self.new.known)) }
     {
         let Some(reader) = self.reader.take() else {
             return Err(ReadRefused::new());
@@ -124,6 +126,8 @@ impl Observer {
         ensures known { Begins self.old.known self.new.known }
         ensures some { IfSome result (λ r. IsReading self.new.initials self.new.known object r) }
         ensures none { IfNone result (self.new ≡ self.old) }
+        ensures reader { (self.new.looks ≡ self.old.looks) × (self.new.shown ≡ self.old.shown) }
+        ensures all { IfSome result (λ _. Begins board.now.publications self.new.known) }
     {
         if board.publications.ends() < self.known.ends() {
             return None;

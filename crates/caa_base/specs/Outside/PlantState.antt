@@ -1,8 +1,9 @@
--- What a plant is seen as: its values and puts, and its drills and tries.
+-- What a plant is seen as: its values and puts, its drills and tries, and all that it was ever asked for.
 use Rattle.std.specs.Prelude.{ℕ, ℤ, ◌+◌, Bool, true, false, ◌==◌, ◌&&◌, List, [], ◌∷◌, ◌++◌, replicate, slice_index, slice_set, Option, Result, Ok, Err}
 use Rattle.std.specs.List.{list_any}
 use Rattle.std.specs.Option.{option_map}
 use Rattle.caa_base.specs.declared.written.entry.Drill.{Drill}
+use Rattle.caa_base.specs.declared.outside.plant.Asked.{Asked}
 use Rattle.caa_base.specs.declared.outside.plant.PlantError.{PlantError}
 use Rattle.caa_base.specs.declared.outside.plant.PlantError.TheVariants.{Failed, OutOfMemory}
 
@@ -44,6 +45,10 @@ after_try known object = option_map (λ d. record { drills = d.drills; tries = s
 -- a drill refuses the next try of an object
 abbrev pub is_drilled : Drilling → ℕ → Bool
 is_drilled drilling object = has_drill drilling.drills object (next_try drilling object)
+
+-- all that a plant was ever asked for, where it is known, after it was asked for one thing more
+abbrev pub after_asked : Option (List Asked) → Asked → Option (List Asked)
+after_asked known asked = option_map (λ before. before ++ asked ∷ []) known
 
 -- a plant refused to be laid out
 abbrev pub is_refused : {T : Type 0} → Result T PlantError → Bool

@@ -1,9 +1,12 @@
-ghost use Rattle.std.specs.Prelude.{◌≡◌, ◌<◌, ◌+◌, ℕ, Option, None, length, is_some, is_err, IfSome, OnOk, OnErr};
+ghost use Rattle.std.specs.Prelude.{◌≡◌, ◌<◌, ◌+◌, ℕ, List, Option, None, length, is_some, is_ok, is_err, IfSome, OnOk, OnErr};
 ghost use Rattle.caa_base.specs.Outside.Counts.{CountsFault};
-ghost use Rattle.caa_base.specs.Outside.PlantState.{PlantState, Drilling, after_lay, after_put, after_drills, after_try, is_drilled, is_refused};
+ghost use Rattle.caa_base.specs.Outside.PlantState.{PlantState, Drilling, after_lay, after_put, after_drills, after_try, after_asked, is_drilled, is_refused};
+ghost use Rattle.caa_base.specs.declared.outside.plant.Asked.{Asked as WasAsked};
+ghost use Rattle.caa_base.specs.declared.outside.plant.Asked.TheVariants as asked;
 
 use crate::written::entry::{Drill, Failed, Object, OutOfMemory};
 use std::alloc::Global;
+use std::collections::LinkedList;
 use thiserror::Error;
 
 /// Why a plant couldn't be laid out.
@@ -27,6 +30,24 @@ impl From<OutOfMemory> for PlantError {
     }
 }
 
+/// What a device was asked for, and whether it did it. Contracts speak of it; no value of it is made.
+#[derive(Drop)]
+pub enum Asked {
+    /// To be laid out with these values and drills, and with room for so many puts.
+    Laid {
+        values: LinkedList<i64>,
+        drills: LinkedList<Drill>,
+        puts: u64,
+        done: bool,
+    },
+    /// To bring an object to a value.
+    Put {
+        object: Object,
+        value: i64,
+        done: bool,
+    },
+}
+
 /// The device that keeps the values of the objects.
 pub trait Plant {
     /// How many calls of `lay` failed; the count stops at its last number.
@@ -40,6 +61,9 @@ pub trait Plant {
 
     /// The drills, and how many puts of each object were tried, where the plant tells them.
     ghost drilling: { Self → Option Drilling } = { λ _. None };
+
+    /// All that it was ever asked for, the oldest first, where the plant tells it. Nothing sets it back.
+    ghost history: { Self → Option (List WasAsked) } = { λ _. None };
 
     /// How many calls of `put` came since the plant was laid out.
     ghost calls: { Self → ℕ };
@@ -68,6 +92,7 @@ pub trait Plant {
         ensures room { OnOk result (room self.new ≡ puts) }
         ensures objects { OnOk result (objects self.new ≡ length values.now) }
         ensures refused { OnErr result (calls self.new ≡ calls self.old) }
+        ensures history { history self.new ≡ after_asked (history self.old) (asked.Laid values.now drills.now puts (is_ok result)) }
         ensures tells_state { is_some (state self.new) ≡ is_some (state self.old) }
         ensures tells_drilling { is_some (drilling self.new) ≡ is_some (drilling self.old) }
         ensures count { CountsFault (is_refused result) (lay_faults self.old) (lay_faults self.new) }
@@ -84,6 +109,7 @@ pub trait Plant {
         ensures failed { OnErr result (state self.new ≡ state self.old) }
         ensures drilled { IfSome (drilling self.old) (λ d. is_err result ≡ is_drilled d object) }
         ensures drilling { drilling self.new ≡ after_try (drilling self.old) object }
+        ensures history { history self.new ≡ after_asked (history self.old) (asked.Put object value (is_ok result)) }
         ensures calls { calls self.new ≡ calls self.old + 1 }
         ensures room { room self.new ≡ room self.old }
         ensures objects { objects self.new ≡ objects self.old }

@@ -9,8 +9,10 @@ ghost use Rattle.caa_base.specs.Outside.Counts.{CountsFault};
 ghost use Rattle.place_plan.specs.RulesOfJournals.Machine.{Answers, made_fault};
 
 use crate::plans::plan::Plan;
+use caa_base::outside::plant::Asked;
 use caa_base::written::entry::{Entry, Object, Participant, Place};
 use caa_base::written::work::WorkDone;
+use std::collections::LinkedList;
 
 /// What a machine answers to a participant.
 #[derive(Clone, Copy, Debug, PartialEq, Eq)]
@@ -32,8 +34,12 @@ pub enum Answer {
 /// What stands before a play, and stays as it is. Contracts speak of it; no value of it is made.
 #[derive(Drop)]
 pub struct Base {
+    /// All that the device had been asked for before it was laid out for the play, where it tells that.
+    pub history: Option<LinkedList<Asked>>,
     /// How many faults the device had counted before the play.
     pub faults: u64,
+    /// How often the device had refused to be laid out.
+    pub lay_faults: u64,
     /// Whether the device tells its values.
     pub tells_values: bool,
     /// Whether the device tells its drills.
@@ -42,8 +48,8 @@ pub struct Base {
 
 /// A plan that is played entry by entry.
 ///
-/// Contracts see its plan, its journal, its base and a count of the device's faults. The base is that count as it stood before the
-/// play, and whether the device tells its values and its drills. The journal is legal at all times. The plan and the base stay as
+/// Contracts see its plan, its journal, its base and a count of the device's faults. The base is what the device had been asked for
+/// before the play, its counts as they stood then, and whether it tells its values and its drills. The journal is legal at all times. The plan and the base stay as
 /// they are, so what the device told before it goes on telling. The count goes up by one as a refused put or restore is entered,
 /// unless it stands at its end, and at no other time. No call takes memory.
 pub trait Machine {

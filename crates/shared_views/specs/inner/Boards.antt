@@ -1,5 +1,5 @@
 -- What the board that observers read shows, and what each of its readers knows of it.
-use Rattle.std.specs.Prelude.{◌≡◌, ◌<◌, ℕ, ℤ, All, List, [], ◌∷◌, ◌++◌, length, fold, Option, Some, None, IfSome, slice_index_or, slice_set}
+use Rattle.std.specs.Prelude.{◌≡◌, ◌+◌, ◌<◌, ℕ, ℤ, All, List, [], ◌∷◌, ◌++◌, length, fold, Option, Some, None, IfSome, slice_index_or, slice_set}
 use mathlib.Core.Option.{some}
 use lib.ListN.{get_elem?}
 use Rattle.shared_views.specs.Publications.{Known, Begins, last_given}
@@ -41,6 +41,7 @@ pub record Sees (v : View) (before after : Board) (w : View) : Type 0 where
   pub right : IsRight after
   pub all : w.known ≡ Some after.publications
   pub more : Fits after.publications v
+  pub looks : w.looks ≡ v.looks + 1
 
 -- the publication is of objects that the board has, and goes on from what it shows
 pub record Follows (b : Board) (p : Publication) : Type 0 where

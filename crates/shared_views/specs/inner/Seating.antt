@@ -1,5 +1,7 @@
 -- The writer and the readers of the board, as their owners keep them.
-use Rattle.std.specs.Prelude.{◌≡◌, [], false, length, drop, Option, Some, None, is_some, IfSome}
+use Rattle.std.specs.Prelude.{◌≡◌, ℕ, [], false, length, drop, Option, Some, None, is_some, IfSome}
+use Rattle.std.specs.Option.{option_map}
+use Rattle.shared_views.specs.declared.board.View.{View}
 use Rattle.logbook.specs.Pages.{Book}
 use Rattle.left_right.specs.Sides.{view}
 use Rattle.shared_views.specs.Publications.{Known}
@@ -27,9 +29,25 @@ pub record IsInOrder (w : WriterInside) : Type 0 where
   pub idle : is_some w.refused ≡ false → drop w.writer.behind w.writer.log.items ≡ []
   pub whole : is_some w.refused ≡ false → w.head ≡ w.writer.desk.shown.value.publications
 
+-- how often was looked at the board
+abbrev pub looks_of : Option View → ℕ
+looks_of None = 0
+looks_of (Some v) = v.looks
+
+-- what the board showed at the last look
+abbrev pub shown_of : Option View → Option Known
+shown_of None = None
+shown_of (Some v) = v.known
+
 -- what contracts see of an observer
 abbrev pub watching_view : ObserverInside → Watching
-watching_view o = record { initials = o.initials.items; known = o.known; is_placed = is_some o.reader }
+watching_view o = record {
+  initials = o.initials.items;
+  known = o.known;
+  is_placed = is_some o.reader;
+  looks = looks_of (option_map (λ r. view r.place) o.reader);
+  shown = shown_of (option_map (λ r. view r.place) o.reader);
+}
 
 -- what is known is of this book
 abbrev pub IsOfBook : Book → Option Known → Type 0

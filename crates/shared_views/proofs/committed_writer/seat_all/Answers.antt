@@ -1,6 +1,6 @@
-use Rattle.std.proofs.Common.{◌≡◌, ◌<◌, false, ap, arith, length, length-set, sym, ◌∙◌}
+use Rattle.std.proofs.Common.{◌≡◌, ◌<◌, ap, arith, length, length-set, sym, ◌∙◌}
 use Rattle.std.proofs.Math.Seq.{map-set_same}
-use Rattle.shared_views.specs.Committing.{placeless}
+use Rattle.shared_views.specs.Committing.{placeless, unplaced}
 use Rattle.shared_views.proofs.Placed.{book_at}
 use Rattle.shared_views.proofs.committed_writer.seat_all.Goals as goal
 
@@ -19,7 +19,7 @@ loop-index-preserved c =
     let inv = c.loop-index.invariant in let it = c.index_mut.result.now in let placed = c.take_place.new.self in
     let items = c.loop-index.observers.items in let told = c.take_place.ensures in
     let alike : placeless placed ≡ placeless it =
-    λ i. record { initials = told.same.0 i; known = told.same.1 i; is_placed = false } in
+    λ i. unplaced (told.same.0 i) (told.same.1 i) in
     record {
       many = length-set items c.loop-index.index placed ∙ inv.many;
       same =

@@ -1,5 +1,6 @@
-use Rattle.std.proofs.Common.{◌≡◌, false, replicate}
+use Rattle.std.proofs.Common.{◌≡◌, replicate}
+use Rattle.shared_views.specs.Committing.{unplaced}
 use Rattle.shared_views.proofs.observer.Observer.all_apart.Given as goal
 
 abbrev pub invariant-loop : goal.invariant-loop
-invariant-loop l = l.observers.items ≡ replicate l.counter (record { initials = l.initials; known = l.publications; is_placed = false })
+invariant-loop l = l.observers.items ≡ replicate l.counter (unplaced l.initials l.publications)
