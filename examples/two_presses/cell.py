@@ -73,7 +73,7 @@ class Blank:
 class Cell:
     """Where everything stands, and what a put does to it."""
 
-    def __init__(self, blanks=5, faults=None):
+    def __init__(self, blanks=4, faults=None):
         self.blanks = [Blank(number) for number in range(1, blanks + 1)]
         self.faults = faults or Faults()
         self.stands = dict(DRIVES)

@@ -1,11 +1,13 @@
 #!/usr/bin/env python3
-"""Lets the cell of cell.py follow a journal, which stands on standard input, and watches over the rules of safety.
+"""Lets the cell of cell.py follow a journal behind its script, from standard input, and watches over the rules of safety.
 
-    caa sim 1 < examples/two_presses/five_blanks | python3 -B examples/two_presses/follow.py
+    caa sim 1 < four_blanks > journal
+    cat four_blanks journal | python3 -B follow.py
 
 What the journal says was put is done at the cell; what it says was refused isn't. So this needs no device that answers, and refusals
 are those of the script's `drill` lines. At the first stroke that breaks a rule it tells the line of the journal, and ends with the
-status of that rule, 11 for the first to 16 for the sixth; else it tells where the blanks are.
+status of that rule, 11 for the first to 16 for the sixth; else it tells where the blanks are. With another status than these and 0
+there was no journal.
 """
 import sys
 
@@ -20,16 +22,19 @@ def put_by(words):
 
 
 def main():
+    lines = [line.split() or [""] for line in sys.stdin]
+    start = lines.index(["journal"])
     cell, puts = Cell(), 0
-    for number, line in enumerate(sys.stdin, 1):
-        put = put_by(line.split() or [""])
+    cell.lay({words[1]: int(words[2]) for words in lines[:start] if words[0] == "object"})
+    for number, words in enumerate(lines[start:], 1):
+        put = put_by(words)
         if not put:
             continue
         puts += 1
         try:
             cell.put(*put)
         except RuleBroken as broken:
-            print(f"line {number}, {line.strip()}: {broken}")
+            print(f"line {number} of the journal, {' '.join(words)}: {broken}")
             return broken.rule
     for line in cell.told():
         print(line)

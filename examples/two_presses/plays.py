@@ -1,5 +1,5 @@
 #!/usr/bin/env python3
-"""Plays five_blanks over the cell of cell.py, with faults and without, and prints how each fault ends.
+"""Plays four_blanks over the cell of cell.py, with faults and without, and prints how each fault ends.
 
     python3 -B examples/two_presses/plays.py CAA_BRIDGE CAA [--sim 1000] [--run 200] [--jobs 2]
 
@@ -24,9 +24,9 @@ from faults import KINDS, LOST_BY, Faults, drawn
 from wire import answer
 
 HERE = os.path.dirname(os.path.abspath(__file__))
-SCRIPT = os.path.join(HERE, "five_blanks")
+SCRIPT = os.path.join(HERE, "four_blanks")
 MISTAKES = os.path.join(HERE, "mistakes")
-BLANKS = 5
+BLANKS = 4
 SECONDS = 300
 
 # The lines of the book that say where a blank is, and the places of the cell.
@@ -129,9 +129,120 @@ def seen(bridge, caa, wish):
         verdict, lines = audited(caa, SCRIPT, journal), lines_of(journal)
     values = values_told(lines)
     unnoticed, wrong = accounts(values, cell)
-    wrong = None if verdict.startswith("legal") else f"audit says {verdict}" or differs(values, cell) or wrong
+    wrong = (None if verdict.startswith("legal") else f"audit says {verdict}") or differs(values, cell) or wrong
     places = collections.Counter(it.place for it in cell.blanks)
     inside = BLANKS - places["outside"] - places["delivered"] - places["lost"]
     refused = sum(words[0] == "putfault" or words[-1] == "failed" and words[0] == "restore" for words in lines)
     told = signals_told(lines, SCRIPT)
     return Seen(wish, wrong, places["delivered"], places["lost"], unnoticed, inside, told, len(lines), refused)
+
+
+def wishes(plays, words_of):
+    """What is to be played: without a fault, with each kind of fault in turn, by chance, and with each pair of kinds in turn."""
+    chance = random.Random(plays)
+    pairs = list(itertools.combinations(KINDS, 2))
+    chance.shuffle(pairs)
+    none, by_chance = max(1, plays // 20), plays // 20
+    single = max(len(KINDS), plays // 3) if plays >= 2 * len(KINDS) else plays // 3
+    for number in range(plays):
+        seed = number + 1
+        if number < none:
+            group, kinds = "none", ()
+        elif number < none + single:
+            kinds = (KINDS[(number - none) % len(KINDS)],)
+            group = kinds[0]
+        elif number < none + single + by_chance:
+            group, kinds = "by chance", ()
+        else:
+            group, kinds = "two faults", pairs[(number - none - single - by_chance) % len(pairs)]
+        blank = chance.randint(1, BLANKS)
+        faults = [drawn(kind, chance, blank if chance.random() < 0.7 else chance.randint(1, BLANKS)) for kind in kinds]
+        yield Wish(group, words_of(seed), faults, 2 if group == "by chance" else 0, seed)
+
+
+def spread(numbers):
+    """The least and the greatest of some numbers."""
+    least, most = min(numbers), max(numbers)
+    return str(least) if least == most else f"{least}-{most}"
+
+
+def table(all_seen):
+    """The lines of the table that says how each fault ends."""
+    groups = {}
+    for it in all_seen:
+        groups.setdefault(it.wish.group, []).append(it)
+    order = ["none", *KINDS, "two faults", "by chance"]
+    yield f"{'fault':18} {'plays':>5} {'all out':>7} {'delivered':>9} {'lost':>5} {'inside':>6}  what the plays told"
+    for group in sorted(groups, key=order.index):
+        them = groups[group]
+        told = collections.Counter(word for it in them for word in it.told)
+        whole = sum(it.delivered + it.lost == BLANKS for it in them)
+        words = ", ".join(f"{word} {count}" for word, count in told.most_common())
+        delivered, lost, inside = (spread([getattr(it, what) for it in them]) for what in ("delivered", "lost", "inside"))
+        yield f"{group:18} {len(them):5} {whole:7} {delivered:>9} {lost:>5} {inside:>6}  {words or '-'}"
+
+
+def bitten(bridge, script):
+    """By which seeds a script with a mistake breaks its rule, what was broken first, and what else went wrong."""
+    rule = next(int(line.split()[2].rstrip(".")) for line in open(script, encoding="ascii")) + TURN - 1
+    seeds, first, wrong = [], None, None
+    for seed in range(1, 11):
+        with tempfile.TemporaryDirectory() as folder:
+            _, broken = played(bridge, ["sim", str(seed)], script, os.path.join(folder, "journal"), Cell(BLANKS))
+        if broken and broken.rule != rule:
+            wrong = f"{broken}"
+        elif broken:
+            seeds.append(seed)
+            first = first or broken
+    return seeds, first, wrong or (None if seeds else f"rule {rule - TURN + 1} was never broken")
+
+
+def tell_mistakes(bridge):
+    """Plays each script with a mistake, tells what it broke, and gives how many didn't do what they should."""
+    faults, rules = 0, set()
+    for name in sorted(os.listdir(MISTAKES)):
+        seeds, first, wrong = bitten(bridge, os.path.join(MISTAKES, name))
+        faults += wrong is not None
+        if first:
+            rules.add(first.rule)
+        print(f"{name}: {wrong or f'{first} ({len(seeds)} of 10 seeds)'}")
+    for rule in RULES.keys() - rules:
+        print(f"no mistake breaks rule {rule - TURN + 1}")
+    return faults + len(RULES.keys() - rules)
+
+
+def tell_plays(title, all_seen):
+    """Tells how plays ended, and gives how many weren't as they should be."""
+    print(f"{title}: {len(all_seen)} plays, {sum(it.entries for it in all_seen)} lines of journals, {sum(it.refused for it in all_seen)} refused puts")
+    print("\n".join(table(all_seen)))
+    wrong = [it for it in all_seen if it.wrong]
+    for it in wrong:
+        print(f"WRONG: {' '.join(it.wish.words)}, faults {it.wish.faults}, chance {it.wish.chance}, seed {it.wish.seed}: {it.wrong}")
+    return len(wrong)
+
+
+def look(job):
+    return seen(*job)
+
+
+def main():
+    parser = argparse.ArgumentParser(description=__doc__.splitlines()[0])
+    parser.add_argument("bridge", metavar="CAA_BRIDGE")
+    parser.add_argument("caa", metavar="CAA")
+    parser.add_argument("--sim", type=int, default=1000, help="plays by the schedule of a seed (default: %(default)s)")
+    parser.add_argument("--run", type=int, default=200, help="plays in threads (default: %(default)s)")
+    parser.add_argument("--jobs", type=int, default=2, help="plays at the same time (default: %(default)s)")
+    words = parser.parse_args()
+    bridge, caa = map(os.path.abspath, (words.bridge, words.caa))
+    wrong = 0
+    with multiprocessing.Pool(words.jobs) as pool:
+        for title, plays, words_of in (("sim", words.sim, lambda seed: ["sim", str(seed)]), ("run", words.run, lambda _: ["run"])):
+            jobs = [(bridge, caa, wish) for wish in wishes(plays, words_of)]
+            wrong += tell_plays(title, pool.map(look, jobs, chunksize=1)) if jobs else 0
+    wrong += tell_mistakes(bridge)
+    print("no rule of safety is broken, each journal is legal, each blank is accounted for" if not wrong else f"{wrong} not as they should be")
+    return 1 if wrong else 0
+
+
+if __name__ == "__main__":
+    sys.exit(main())

@@ -24,7 +24,7 @@ def answer(cell, line):
 
 def main():
     parser = argparse.ArgumentParser(description=__doc__.splitlines()[0])
-    parser.add_argument("--blanks", type=int, default=5, help="how many blanks wait outside (default: %(default)s)")
+    parser.add_argument("--blanks", type=int, default=4, help="how many blanks wait outside (default: %(default)s)")
     parser.add_argument("--fault", action="append", default=[], metavar="KIND:NAME@NUMBER", help="a fault (see faults.py)")
     parser.add_argument("--drawn", type=int, default=0, metavar="COUNT", help="how many more faults are drawn by the seed")
     parser.add_argument("--chance", type=float, default=0, metavar="PERCENT", help="how many of 100 strokes fail by chance")
