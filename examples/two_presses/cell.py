@@ -36,7 +36,7 @@ DRIVES = {
     "light_in": 0,
     "light_out": 0,
 }
-SENSORS = ("table_switch", "table_eye", "arm_1_feels", "arm_2_feels")
+SENSORS = ("table_switch_says", "table_eye_says", "arm_1_says", "arm_2_says")
 
 # Heights of the table: at the feed belt, clear of it, and at the arm. A table is turned to the belt (0) or to the robot (1).
 AT_BELT, IS_CLEAR, AT_ARM = 0, 1, 2
@@ -77,7 +77,7 @@ class Cell:
         self.blanks = [Blank(number) for number in range(1, blanks + 1)]
         self.faults = faults or Faults()
         self.stands = dict(DRIVES)
-        self.book = {}
+        self.book, self.halfway = {}, set()
         self.switch_says = None
 
     def lay(self, values):
@@ -108,6 +108,7 @@ class Cell:
         if fault and fault != STOPS:
             return False
         if fault == STOPS:
+            self.halfway.add(name)
             value = at + (value - at) * HALFWAY
         getattr(self, name.removesuffix("_1").removesuffix("_2"))(name, at, value)
         self.stands[name] = value
@@ -230,11 +231,11 @@ class Cell:
     def sees(self, sensor):
         """Whether a sensor says yes. The switch of the table is asked whether it says where the table is, the eye whether a blank is
         there, and an arm whether it holds one."""
-        if sensor == "table_switch":
+        if sensor == "table_switch_says":
             return self.switch_says == self.table_stands()
-        if sensor == "table_eye":
-            return not self.faults.is_stuck(sensor) and self.blank_at("table") is not None
-        return self.blank_at(sensor.replace("_feels", "")) is not None
+        if sensor == "table_eye_says":
+            return not self.faults.is_stuck("table_eye") and self.blank_at("table") is not None
+        return self.blank_at(sensor.removesuffix("_says")) is not None
 
     def told(self):
         """A line for each blank: where it is at the end."""

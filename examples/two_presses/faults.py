@@ -33,9 +33,9 @@ WITH_BLANK = {"table_height": 3, "table_angle": 1, "table_switch": 2}
 
 def drawn(kind, chance, blank):
     """A fault of this kind that comes while this blank, counted from 1, is on its way."""
-    name = kind.split(":")[1]
-    strokes = STROKES.get(name, 1)
-    stroke = WITH_BLANK.get(name, chance.randint(1, max(1, int(strokes))))
+    how, name = kind.split(":")
+    strokes = 1 if how == "lost" else STROKES.get(name, 1)
+    stroke = 1 if how == "lost" else WITH_BLANK.get(name, chance.randint(1, max(1, int(strokes))))
     return f"{kind}@{int((blank - 1) * strokes) + stroke}"
 
 

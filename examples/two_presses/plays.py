@@ -19,7 +19,7 @@ import sys
 import tempfile
 import threading
 
-from cell import DRIVES, RULES, TURN, Cell, RuleBroken
+from cell import RULES, TURN, Cell, RuleBroken
 from faults import KINDS, LOST_BY, Faults, drawn
 from wire import answer
 
@@ -95,7 +95,7 @@ def differs(values, cell):
     """Where the values of a journal aren't those of the cell; a drive that stopped halfway stands nowhere that it was told to."""
     for name, value in values.items():
         has = cell.stands.get(name, cell.book.get(name, value))
-        if has != value and not (name in DRIVES and has != int(has)):
+        if has != value and name not in cell.halfway:
             return f"the journal tells {name} {value}, and the cell has {has}"
     return None
 
