@@ -143,13 +143,13 @@ def wishes(plays, words_of):
     pairs = list(itertools.combinations(KINDS, 2))
     chance.shuffle(pairs)
     none, by_chance = max(1, plays // 20), plays // 20
-    single = max(len(KINDS), plays // 3) if plays >= 2 * len(KINDS) else plays // 3
+    single = min(max(len(KINDS), plays // 3), plays - none)
     for number in range(plays):
         seed = number + 1
         if number < none:
             group, kinds = "none", ()
         elif number < none + single:
-            kinds = (KINDS[(number - none) % len(KINDS)],)
+            kinds = (KINDS[(number - none) * 7 % len(KINDS)],)
             group = kinds[0]
         elif number < none + single + by_chance:
             group, kinds = "by chance", ()
