@@ -1,8 +1,8 @@
 """A production cell with two presses, as bodies that have places, make strokes, and can meet.
 
-A feed belt, a table that rises and turns, a robot with two arms, two presses and a deposit belt. An object of a script that has a
-machine's name is that machine's drive, magnet, light or sensor; each other object is a line in the cell's book, which no machine
-hears of. Each stroke is watched: the first one that breaks a rule of safety stops the cell.
+A feed belt, a table that rises and turns, a robot with two arms, two presses and a deposit belt. An object of a script that
+has a machine's name is that machine's drive, magnet, light or sensor; each other object is a line in the cell's book, which no
+machine hears of. Each stroke is watched: the first one that breaks a rule of safety stops the cell.
 """
 from faults import STOPS, Faults
 
@@ -11,7 +11,7 @@ TURN, PRESS, TABLE, PILE, DROP, CLEAR = range(11, 17)
 RULES = {
     TURN: "the robot turns only with both arms in",
     PRESS: "an arm goes only into a press that stands open for it, and no press moves with an arm in it",
-    TABLE: "table and robot don't meet: the table stands still while an arm is over it, and no arm goes out into a table on its way",
+    TABLE: "the table stands still while an arm is over it, and no arm goes out into a table on its way",
     PILE: "no blank is laid on a blank",
     DROP: "no blank is dropped outside",
     CLEAR: "the table turns, and stands turned, only where it is clear of the feed belt",
@@ -41,8 +41,8 @@ SENSORS = ("table_switch_says", "table_eye_says", "arm_1_says", "arm_2_says")
 # Heights of the table: at the feed belt, clear of it, and at the arm. A table is turned to the belt (0) or to the robot (1).
 AT_BELT, IS_CLEAR, AT_ARM = 0, 1, 2
 
-# What an arm points at when the robot stands at an angle in degrees, and where a press stands open for that arm: in the middle, to be
-# loaded by the first arm, or at the bottom, to be emptied by the second. At the top it is closed.
+# What an arm points at when the robot stands at an angle in degrees, and where a press stands open for that arm: in the middle,
+# to be loaded by the first arm, or at the bottom, to be emptied by the second. At the top it is closed.
 OPEN = {"arm_1": 1, "arm_2": 0}
 CLOSED = 2
 POINTS = {
@@ -229,8 +229,8 @@ class Cell:
         return place
 
     def sees(self, sensor):
-        """Whether a sensor says yes. The switch of the table is asked whether it says where the table is, the eye whether a blank is
-        there, and an arm whether it holds one."""
+        """Whether a sensor says yes. The switch of the table is asked whether it says where the table is, the eye whether a blank
+        is there, and an arm whether it holds one."""
         if sensor == "table_switch_says":
             return self.switch_says == self.table_stands()
         if sensor == "table_eye_says":

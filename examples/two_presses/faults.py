@@ -18,14 +18,16 @@ OTHERS = ("grip_1", "grip_2", "feed_belt", "deposit_belt")
 BELTS = ("feed_belt", "deposit_belt")
 LOST_BY = {"table": ("table_height", "table_angle"), "arm_1": ("robot_turn",), "arm_2": ("robot_turn",)}
 
-# How many strokes each drive makes for a blank where all goes well, and which of them may be the one that fails. The table's drives
-# fail in what they do with a blank on it more often than not, since that is where several of its faults can meet.
+# All that can fail, and how.
 KINDS = (
     [f"{kind}:{name}" for name in MOTORS for kind in ("once", "jam", "stop")]
     + [f"{kind}:{name}" for name in OTHERS for kind in ("once", "jam")]
     + ["stuck:table_switch", "stuck:table_eye"]
     + [f"lost:{name}" for name in LOST_BY]
 )
+
+# About how many strokes each drive makes for a blank. The table's drives are let fail while they bring a blank up, since that is
+# where several faults can meet: in the stroke of this number among those for the blank.
 STROKES = {"table_height": 4, "table_angle": 2, "robot_turn": 4, "arm_1": 4, "arm_2": 4, "grip_1": 2, "grip_2": 2}
 STROKES |= {"press_1": 1.5, "press_2": 1.5, "table_switch": 6}
 WITH_BLANK = {"table_height": 3, "table_angle": 1, "table_switch": 2}
@@ -59,7 +61,7 @@ class Faults:
         return number >= self.begin.get((kind, name), number + 1)
 
     def of_stroke(self, name, value):
-        """What becomes of a stroke; nothing where it is made. Lights don't fail, and a belt is made ready again without a stroke."""
+        """What becomes of a stroke; nothing where it is made. Lights don't fail, and a belt is made ready without a stroke."""
         if name in self.dead:
             return self.dead[name]
         if name not in MOTORS + OTHERS or (name in BELTS and value == 0):

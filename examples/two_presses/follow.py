@@ -4,10 +4,9 @@
     caa sim 1 < four_blanks > journal
     cat four_blanks journal | python3 -B follow.py
 
-What the journal says was put is done at the cell; what it says was refused isn't. So this needs no device that answers, and refusals
-are those of the script's `drill` lines. At the first stroke that breaks a rule it tells the line of the journal, and ends with the
-status of that rule, 11 for the first to 16 for the sixth; else it tells where the blanks are. With another status than these and 0
-there was no journal.
+What the journal says was put is done at the cell; what it says was refused isn't. So this needs no device that answers, and
+refusals are those of the script's `drill` lines. At the first stroke that breaks a rule it tells the line of the journal, and ends
+with the status of that rule, 11 for the first to 16 for the sixth; else it tells where the blanks are.
 """
 import sys
 
@@ -23,6 +22,9 @@ def put_by(words):
 
 def main():
     lines = [line.split() or [""] for line in sys.stdin]
+    if ["journal"] not in lines:
+        print("there is no journal behind the script")
+        return 1
     start = lines.index(["journal"])
     cell, puts = Cell(), 0
     cell.lay({words[1]: int(words[2]) for words in lines[:start] if words[0] == "object"})

@@ -144,17 +144,11 @@ def wishes(plays, words_of):
     chance.shuffle(pairs)
     none, by_chance = max(1, plays // 20), plays // 20
     single = min(max(len(KINDS), plays // 3), plays - none)
-    for number in range(plays):
-        seed = number + 1
-        if number < none:
-            group, kinds = "none", ()
-        elif number < none + single:
-            kinds = (KINDS[(number - none) * 7 % len(KINDS)],)
-            group = kinds[0]
-        elif number < none + single + by_chance:
-            group, kinds = "by chance", ()
-        else:
-            group, kinds = "two faults", pairs[(number - none - single - by_chance) % len(pairs)]
+    those = [("none", ())] * none
+    those += [(kind, (kind,)) for kind in (KINDS[number * 7 % len(KINDS)] for number in range(single))]
+    those += [("by chance", ())] * by_chance
+    those += [("two faults", pairs[number % len(pairs)]) for number in range(plays)]
+    for seed, (group, kinds) in enumerate(those[:plays], 1):
         blank = chance.randint(1, BLANKS)
         faults = [drawn(kind, chance, blank if chance.random() < 0.7 else chance.randint(1, BLANKS)) for kind in kinds]
         yield Wish(group, words_of(seed), faults, 2 if group == "by chance" else 0, seed)
@@ -213,16 +207,28 @@ def tell_mistakes(bridge):
 
 def tell_plays(title, all_seen):
     """Tells how plays ended, and gives how many weren't as they should be."""
-    print(f"{title}: {len(all_seen)} plays, {sum(it.entries for it in all_seen)} lines of journals, {sum(it.refused for it in all_seen)} refused puts")
-    print("\n".join(table(all_seen)))
+    entries, refused = (sum(getattr(it, what) for it in all_seen) for what in ("entries", "refused"))
+    print(f"{title}: {len(all_seen)} plays, {entries} lines of journals, {refused} refused puts")
+    print("\n".join(table(all_seen)), flush=True)
     wrong = [it for it in all_seen if it.wrong]
     for it in wrong:
-        print(f"WRONG: {' '.join(it.wish.words)}, faults {it.wish.faults}, chance {it.wish.chance}, seed {it.wish.seed}: {it.wrong}")
+        wish = it.wish
+        print(f"WRONG: {' '.join(wish.words)}, faults {wish.faults}, chance {wish.chance}, seed {wish.seed}: {it.wrong}")
     return len(wrong)
 
 
 def look(job):
     return seen(*job)
+
+
+def play_all(pool, title, jobs):
+    """Makes all plays of a kind, and says on standard error how far it is."""
+    all_seen = []
+    for it in pool.imap(look, jobs):
+        all_seen.append(it)
+        if len(all_seen) % 50 == 0:
+            print(f"{title}: {len(all_seen)} of {len(jobs)} plays", file=sys.stderr, flush=True)
+    return tell_plays(title, all_seen) if jobs else 0
 
 
 def main():
@@ -236,11 +242,14 @@ def main():
     bridge, caa = map(os.path.abspath, (words.bridge, words.caa))
     wrong = 0
     with multiprocessing.Pool(words.jobs) as pool:
-        for title, plays, words_of in (("sim", words.sim, lambda seed: ["sim", str(seed)]), ("run", words.run, lambda _: ["run"])):
-            jobs = [(bridge, caa, wish) for wish in wishes(plays, words_of)]
-            wrong += tell_plays(title, pool.map(look, jobs, chunksize=1)) if jobs else 0
+        for title, plays, words_of in (
+            ("sim", words.sim, lambda seed: ["sim", str(seed)]),
+            ("run", words.run, lambda _: ["run"]),
+        ):
+            wrong += play_all(pool, title, [(bridge, caa, wish) for wish in wishes(plays, words_of)])
     wrong += tell_mistakes(bridge)
-    print("no rule of safety is broken, each journal is legal, each blank is accounted for" if not wrong else f"{wrong} not as they should be")
+    rest = "no rule of safety is broken, each journal is legal, and each blank is accounted for"
+    print(f"{wrong} not as they should be" if wrong else rest)
     return 1 if wrong else 0
 
 

@@ -1,8 +1,8 @@
 #!/usr/bin/env python3
 """The cell of cell.py as a program: it answers on standard output the lines by which caa_bridge asks it on standard input.
 
-At the end of its input it tells on standard error where each blank is. Where a stroke breaks a rule of safety it tells which and how
-in place of an answer, and ends with the status of that rule, 11 for the first to 16 for the sixth.
+At the end of its input it tells on standard error where each blank is. Where a stroke breaks a rule of safety it tells there which
+and how, doesn't answer, and ends with the status of that rule, 11 for the first to 16 for the sixth.
 """
 import argparse
 import random
