@@ -26,8 +26,8 @@ KINDS = (
     + [f"lost:{name}" for name in LOST_BY]
 )
 
-# About how many strokes each drive makes for a blank. The table's drives are let fail while they bring a blank up, since that is
-# where several faults can meet: in the stroke of this number among those for the blank.
+# About how many strokes each drive makes for a blank. The table's drives are let fail every other time while they bring a blank up,
+# since that is where several faults can meet: in the stroke of this number among those for the blank.
 STROKES = {"table_height": 4, "table_angle": 2, "robot_turn": 4, "arm_1": 4, "arm_2": 4, "grip_1": 2, "grip_2": 2}
 STROKES |= {"press_1": 1.5, "press_2": 1.5, "table_switch": 6}
 WITH_BLANK = {"table_height": 3, "table_angle": 1, "table_switch": 2}
@@ -37,7 +37,9 @@ def drawn(kind, chance, blank):
     """A fault of this kind that comes while this blank, counted from 1, is on its way."""
     how, name = kind.split(":")
     strokes = 1 if how == "lost" else STROKES.get(name, 1)
-    stroke = 1 if how == "lost" else WITH_BLANK.get(name, chance.randint(1, max(1, int(strokes))))
+    stroke = chance.randint(1, max(1, int(strokes)))
+    if how != "lost" and chance.random() < 0.5:
+        stroke = WITH_BLANK.get(name, stroke)
     return f"{kind}@{int((blank - 1) * strokes) + stroke}"
 
 
