@@ -1,6 +1,7 @@
 ghost use Rattle.std.specs.Prelude.{◌≡◌, All};
 ghost use Rattle.action_manager.specs.Managers.{IsSeatIn};
-ghost use Rattle.action_manager.specs.Seats.{participant_of};
+ghost use Rattle.action_manager.specs.Seats.{participant_of, seen_by};
+ghost use Rattle.role_driver.specs.Working.{TellsOwnWork};
 ghost use Rattle.worker_pool.specs.Hands.{number_of, opened_in};
 ghost use Rattle.worker_pool.specs.inner.Workers.{IsAtWork};
 
@@ -30,6 +31,7 @@ fn step_while_due<M: Machine, G: Gate, R: Wait>(
     requires opened { IsSeatIn M.base_of manager.now seat.old }
     ensures opened { IsSeatIn M.base_of manager.now seat.new }
     ensures same { participant_of seat.new ≡ participant_of seat.old }
+    ensures told { TellsOwnWork (G.was_told gate.now) (participant_of seat.old) (seen_by seat.old) (seen_by seat.new) }
 {
     let mut answer = Answer::NotYet;
     for _ in rt.forever() {
