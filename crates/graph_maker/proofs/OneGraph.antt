@@ -1,5 +1,5 @@
 -- A script of one graph is accepted where its exceptions differ, its pairs are of them, and its order has no fault.
-use Rattle.std.proofs.Common.{◌≡◌, ℕ, ◌+◌, ◌<◌, nat_lt, nat_le, Bool, true, false, not, ◌||◌, List, [], ◌∷◌, ◌++◌, length, map, slice_index, codes, refl, sym, ap, ◌∙◌, subst}
+use Rattle.std.proofs.Common.{◌≡◌, ℕ, ◌+◌, ◌<◌, nat_lt, nat_le, Bool, true, false, not, ◌&&◌, List, [], ◌∷◌, ◌++◌, length, map, slice_index, codes, refl, sym, ap, ◌∙◌, subst}
 use Rattle.std.proofs.lemmas.Bool.{both_ways, lt-leb, lt-ltb}
 use Rattle.std.proofs.lemmas.List.{append_assoc, append-nil}
 use Rattle.caa_base.specs.Written.Lists.{index_of}
@@ -71,14 +71,14 @@ exception_fine d g x new room cause.JournalBound h = cc
 exception_fine d g x new room cause.AlternateFace h = cc
 exception_fine d g x new room cause.OutOfMemory h = h
 
-neither : (a b : Bool) → a ≡ true → b ≡ true → (not a || not b) ≡ false
-neither a b one other = ap (λ c. not c || not b) one ∙ ap not other
+both_known : (a b : Bool) → a ≡ true → b ≡ true → not ((a && true) && ((b && true) && true)) ≡ false
+both_known a b one other = ap (λ c. not ((c && true) && ((b && true) && true))) one ∙ ap (λ c. not ((c && true) && true)) other
 
 cover_fine : (d : Declared) (g : DeclaredGraph) (x y : ℕ) → is_among g.exceptions x ≡ true → is_among g.exceptions y ≡ true
     → IsAccepted (in_graph d g) (form.Cover x y)
 cover_fine d g x y here there cause.Unknown h =
-    both_ways (not (is_among g.exceptions x) || not (is_among g.exceptions y))
-    (neither (is_among g.exceptions x) (is_among g.exceptions y) here there) h
+    both_ways (not ((is_among g.exceptions x && true) && ((is_among g.exceptions y && true) && true)))
+    (both_known (is_among g.exceptions x) (is_among g.exceptions y) here there) h
 cover_fine d g x y here there cause.Twice h = cc
 cover_fine d g x y here there (cause.Cycle at) h = h
 cover_fine d g x y here there (cause.NoLeast a b) h = h
