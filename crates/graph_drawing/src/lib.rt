@@ -3,3 +3,4 @@
 
 pub mod edges;
 pub mod layers;
+pub mod spots;

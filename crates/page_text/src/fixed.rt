@@ -76,10 +76,10 @@ const list = (box, count, draw) => { const all = box.querySelector('.all'); let 
   box.addEventListener('scroll', show); window.addEventListener('resize', show); return { show, reach }; };
 let now = 0, state = at(0), before = state, rows = null; const folded = new Set();
 const size = () => rows ? rows.length : ENTRIES.length, entry = r => rows ? rows[r] : r, row_of = k => rows ? rows.findLastIndex(it => it <= k) : k;
-const standing = c => [c[3] == 0 ? 'is through' : c[3] == 1 ? 'may: ' + c[4].trim() : c[3] == 2 ? 'may: ' + c[4].trim() + '\\nor, where the device refuses: ' + c[5].trim() : waits(c), c[3] == 3];
+const standing = c => [c[3] == 0 ? 'is through' : c[3] < 3 ? 'may: ' + c[4].map(line => line.trim()).join('\\nor, where the device refuses: ') : waits(c), c[3] > 2];
 const names = all => all.map(p => WHO[p]).join(', ') || 'nobody';
-const things = all => all.map(([o, n]) => OBJECTS[o][0] + ', held by ' + (n ? 'place ' + place(n) : 'nobody')).join('; ');
-const waits = c => ['waits until all have come: ' + names(c[5]), 'waits for ' + things(c[6]), 'waits until all are halted: ' + names(c[5]), 'waits for the verdicts of ' + names(c[5]), 'waits until all give up: ' + names(c[5]), 'waits for ' + things(c[6])][c[4]];
+const things = all => all.flatMap((o, k) => k % 2 ? [] : [OBJECTS[o][0] + ', held by ' + (all[k + 1] ? 'place ' + place(all[k + 1]) : 'nobody')]).join('; ') || 'its objects';
+const waits = c => { const lack = c[3] - 3; return lack == 1 || lack == 5 ? 'waits for ' + things(c[5]) : ['waits until all are there: ', '', 'waits until all are told, or raise something: ', 'waits for the verdicts of ', 'waits until all give up: ', '', 'waits'][lack] + (lack < 6 ? names(c[5]) : ''); };
 // The script, with the lines lit at which somebody stands.
 const script = list($('script'), () => SCRIPT.length, k => { const line = text(SCRIPT[k]), here = state.who.filter(c => c[2] == k + 1), row = make('div', here.length ? ENTRIES.length && now && here.some(c => WHO[c[0]] == words(now - 1)[2]) ? 'now' : 'stands' : '');
   row.append(make('span', 'no', String(k + 1))); let from = 0; for (const [n, column, width, why] of FAULTS) if (n == k + 1) { row.append(line.slice(from, column - 1), make('u', '', line.slice(column - 1, column - 1 + width) || ' ', why)); from = column - 1 + width; }
@@ -88,7 +88,7 @@ const script = list($('script'), () => SCRIPT.length, k => { const line = text(S
 const wide = p => Math.max(24, WHO[p].length + 4) + 'ch', SIGNS = { arrive: '>', withdraw: '<', start: 'S', read: 'r', work: '*', write: 'w', check: '?', putfault: '!', raise: 'R', inform: 'i', resolve: '=', handle: 'H', verdict: 'V', abort: 'A', undo: 'U', restore: 'b', end: 'E', leave: '<' };
 let drawn = null;
 const lane = (p, k, w) => { const c = drawn.who[p], e = make('span', 'lane'); e.style.width = wide(p); rounds(c[1]).forEach((n, d) => { const b = make('span', 'place', '', 'place ' + place(n)); b.style.left = 1 + 3 * (rounds(c[1]).length - 1 - d) + 'px'; b.style.right = b.style.left; e.append(b); });
-  if (c[1]) e.append(make('span', 'does ' + (c[3] == 3 ? 'waits' : c[2] && sections[c[2] - 1] || 'may'), '', standing(c)[0]));
+  if (c[1]) e.append(make('span', 'does ' + (c[3] > 2 ? 'waits' : c[2] && sections[c[2] - 1] || 'may'), '', standing(c)[0]));
   if (WHO[p] == w[2]) { const last = w[0] == 'end' ? w[3] : w[0] == 'restore' ? w[5] : ''; e.append(make('span', `sign ${w[0]} ${last}`, last == 'failed' ? '\\u2717' : last == 'undone' ? 'U' : last == 'aborted' ? 'A' : SIGNS[w[0]], w.join(' ')), make('span', '', w[0] == 'arrive' || w[0] == 'start' ? `${w[0]} ${place(+w[1] + 1)}` : w.toSpliced(1, 2).join(' '))); } return e; };
 const journal = list($('journal'), size, (r, first) => { const k = entry(r), w = words(k), row = make('div', k == now - 1 ? 'now' : ''); row.dataset.entry = k + 1; if (first || rows) drawn = at(k + 1); else take(drawn, k);
   row.append(make('span', 'no', String(k + 1))); const n = +w[1] + 1; if (w[0] == 'start' || folded.has(n)) { const b = make('span', 'fold', folded.has(n) ? '+' : '-', (folded.has(n) ? 'show' : 'fold') + ' what is done in place ' + place(n)); b.onclick = e => { e.stopPropagation(); folded.has(n) ? folded.delete(n) : folded.add(n); sift(); }; row.append(b); } else row.append(' ');
