@@ -1,0 +1,2 @@
+pub mod LayersLemmas
+pub mod SpotsLemmas
