@@ -207,8 +207,9 @@ def tell_mistakes(bridge):
 
 def tell_plays(title, all_seen):
     """Tells how plays ended, and gives how many weren't as they should be."""
-    entries, refused = (sum(getattr(it, what) for it in all_seen) for what in ("entries", "refused"))
+    entries, refused, unnoticed = (sum(getattr(it, what) for it in all_seen) for what in ("entries", "refused", "unnoticed"))
     print(f"{title}: {len(all_seen)} plays, {entries} lines of journals, {refused} refused puts")
+    print(f"{unnoticed} blanks were lost from where the book still has them, since nothing came to feel for them")
     print("\n".join(table(all_seen)), flush=True)
     wrong = [it for it in all_seen if it.wrong]
     for it in wrong:
