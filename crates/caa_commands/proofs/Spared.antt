@@ -1,5 +1,5 @@
 -- Where nothing outside fails, no fault is told, and no play has a refused put.
-use Rattle.std.proofs.Common.{◌≡◌, ◌∙◌, ◌⊎◌, ℕ, zero, suc, ◌+◌, ◌-◌, ◌^◌, ◌<◌, ◌==◌, Bool, true, false, ◌&&◌, ◌||◌, List, [], ◌∷◌, ◌++◌, filter, length, reverse, Option, Some, refl, sym, ap, subst, inl, inr, arith, MatchBool}
+use Rattle.std.proofs.Common.{◌≡◌, ◌∙◌, ◌⊎◌, ℕ, zero, suc, ◌+◌, ◌-◌, ◌^◌, ◌<◌, ◌==◌, Bool, true, false, cond, ◌&&◌, ◌||◌, List, [], ◌∷◌, filter, length, reverse, Some, refl, sym, ap, subst, inl, inr, arith, MatchBool}
 use Rattle.std.specs.List.{list_any}
 use Rattle.std.proofs.lemmas.Bool.{and_parts, and_from, or_cases, or_left, or_right, false≢true, eqb-true}
 use Rattle.std.proofs.lemmas.List.{reverse-append}
@@ -28,7 +28,7 @@ use Rattle.caa_commands.specs.declared.finding.Finding.TheVariants as finding
 use Rattle.caa_commands.specs.declared.status.Status.{Status}
 use Rattle.caa_commands.specs.Findings.{status_of, tells_fault}
 use Rattle.caa_commands.specs.FailedPlays.{is_failed_play, has_failed_play, IsPlayed}
-use Rattle.caa_commands.specs.OutsideUse.{SinkUse, Left, Call, IsIdle}
+use Rattle.caa_commands.specs.OutsideUse.{SinkUse, Left, Call}
 use Rattle.caa_commands.specs.Calls.{CheckComesTo, Prints, EndsWith, DoesNotBegin, AuditComesTo, PlanComesTo, InputComesTo, IsNotServed, CellComesTo, IsNotWorked, HasStopped, unread_finding, CameTo, with_journal, Tells, Answers}
 use Rattle.caa_commands.specs.Served.{NothingFailed, IsSpared}
 
@@ -219,14 +219,15 @@ module _ {P : Type 0} (call : Call P) (sink : SinkUse) (nothing : NothingFailed 
 pub answer_spared : {P : Type 0} (call : Call P) (sink : SinkUse) (answer : Status) → Answers call sink answer
     → NothingFailed call sink → IsSpared call answer
 answer_spared call sink answer a nothing = by a.tells
+    (came_quiet (with_journal call a.journal) sink
+    (record { read = nothing.read; written = nothing.written; laid = nothing.laid; put = nothing.put }) a.finding a.came)
   where
-    found = came_quiet (with_journal call a.journal) sink
-        (record { read = nothing.read; written = nothing.written; laid = nothing.laid; put = nothing.put }) a.finding a.came
-
-    by : Tells a.finding a.journal call.left.journal sink answer → IsSpared call answer
-    by (inl whole) = record {
+    by : Tells a.finding a.journal call.left.journal sink answer
+        → (tells_fault (status_of a.finding) ≡ false) × ((call.asked ≡ Some command.Audit) ⊎ (faults_in a.journal ≡ 0))
+        → IsSpared call answer
+    by (inl whole) found = record {
       answered = ap tells_fault whole.answered ∙ found.0;
       played = elim found.1 [ inl audit ↦ inl audit | inr none ↦ inr (ap faults_in whole.kept ∙ none) ];
     }
-    by (inr (inl cut)) = absurd (nothing.written (counted_up-rose _ _ cut.cause))
-    by (inr (inr lost)) = record { answered = ap tells_fault lost.answered; played = inr (ap faults_in lost.kept) }
+    by (inr (inl cut)) found = absurd (nothing.written (counted_up-rose _ _ cut.cause))
+    by (inr (inr lost)) found = record { answered = ap tells_fault lost.answered; played = inr (ap faults_in lost.kept) }

@@ -1,11 +1,12 @@
-use Rattle.std.proofs.Common.{◌≡◌, ◌+◌, [], reverse, sym, ap, ◌∙◌, subst, subst₂, inl, IfSome}
+use Rattle.std.proofs.Common.{◌≡◌, ◌+◌, [], reverse, sym, ap, ◌∙◌, subst, subst₂, inl, inr, IfSome}
 use Rattle.place_plan.specs.RulesOfJournals.Journals.{IsLegal, IsComplete, faults_in}
 use Rattle.place_plan.specs.declared.rules.machine.Base.{Base}
-use Rattle.journal_replay.specs.Device.{HasValues, HasDrills}
+use Rattle.journal_replay.specs.Device.{attempts_in, HasValues, HasDrills}
+use Rattle.journal_replay.specs.Hall.{plan_in, plant_in, journal_in, base_in}
 use Rattle.caa_commands.specs.FailedPlays.{IsPlayed}
 use Rattle.caa_commands.specs.OutsideUse.{plant_use, left_of}
 use Rattle.caa_commands.specs.Calls.{EndsAs}
-use Rattle.caa_commands.proofs.PlayedHistory.{went_on}
+use Rattle.caa_commands.proofs.PlayedHistory.{went_on, only_laid, nothing_played}
 use Rattle.caa_commands.proofs.Reversed.{all_well_formed}
 use Rattle.caa_commands.proofs.playing.pool_plan.Goals as goal
 
@@ -47,3 +48,26 @@ returns g c =
       played = subst₂ (λ q j. IsPlayed plan (left_of (plant_use g.P.Plant c.args.plant q) j)) (sym told.plant) (sym told.journal) played;
       ends = subst (λ j. EndsAs plan j [] finding) (sym told.journal) seen;
     })
+
+pub returns-in-Err-pool : goal.returns-in-Err-pool
+returns-in-Err-pool g c =
+    let opened = c.in-Ok.ensures in
+    let same = c.in-Err-pool.ensures.refused in
+    let left = c.unplayed.ensures in
+    let none = ap journal_in same ∙ opened.journal in
+    inr
+    (nothing_played c.args.plan c.unplayed.result.finding
+    (left_of (plant_use g.P.Plant c.args.plant c.unplayed.result.plant) c.unplayed.result.journal.entries) left.finding
+    (left.lay_faults ∙ ap (λ h. (base_in h).lay_faults) same ∙ opened.lay_base)
+    (record {
+      unplayed = left.journal ∙ none;
+      asked =
+          only_laid c.args.plan _ _ _ _ _ left.history (ap plan_in same ∙ opened.plan) none
+          (ap (λ h. (base_in h).history) same ∙ opened.history);
+      unasked = inl (left.calls ∙ ap attempts_in none);
+      unrefused = ap g.P.Plant.faults left.plant ∙ ap (λ h. g.P.Plant.faults (plant_in h)) same ∙ opened.count;
+      tells = record {
+        values = left.tells_state ∙ ap (λ h. (base_in h).tells_values) same ∙ opened.tells_state;
+        drills = left.tells_drilling ∙ ap (λ h. (base_in h).tells_drills) same ∙ opened.tells_drilling;
+      };
+    }))

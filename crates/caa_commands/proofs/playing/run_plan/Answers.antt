@@ -1,17 +1,18 @@
-use Rattle.std.proofs.Common.{◌≡◌, ◌+◌, true, false, [], reverse, sym, ap, ◌∙◌, subst, subst₂, inl, Option, Some, None, IfSome, IfNone}
+use Rattle.std.proofs.Common.{◌≡◌, ◌+◌, true, false, [], reverse, sym, ap, ◌∙◌, subst, subst₂, inl, inr, Option, Some, None, IfSome, IfNone}
 use Rattle.place_plan.specs.RulesOfJournals.Journals.{IsLegal, IsComplete, faults_in}
 use Rattle.place_plan.specs.declared.rules.machine.Base.{Base}
 use Rattle.place_plan.specs.Plans.PlanValue.{Plan}
-use Rattle.journal_text.specs.Watching.Looks.{Looks}
+use Rattle.journal_text.specs.Watching.Looks.{Looks, AreOfPlan}
 use Rattle.journal_text.specs.Watching.Right.{first_wrong}
-use Rattle.journal_replay.specs.Device.{HasValues, HasDrills}
+use Rattle.journal_replay.specs.Device.{attempts_in, HasValues, HasDrills}
+use Rattle.journal_replay.specs.Hall.{plan_in, plant_in, journal_in, base_in}
 use Rattle.caa_commands.specs.declared.finding.Finding.{Finding}
 use Rattle.caa_commands.specs.declared.finding.Finding.TheVariants as finding
 use Rattle.caa_commands.specs.Findings.{is_played}
 use Rattle.caa_commands.specs.FailedPlays.{IsPlayed}
 use Rattle.caa_commands.specs.OutsideUse.{Left, plant_use, left_of}
 use Rattle.caa_commands.specs.Calls.{EndsAs, RunComesTo}
-use Rattle.caa_commands.proofs.PlayedHistory.{went_on}
+use Rattle.caa_commands.proofs.PlayedHistory.{went_on, only_laid, nothing_played}
 use Rattle.caa_commands.proofs.Reversed.{all_well_formed}
 use Rattle.caa_commands.proofs.playing.run_plan.Goals as goal
 
@@ -66,3 +67,31 @@ returns g c =
     let ends = subst (λ p. IfSome seens (λ s. EndsAs p journal s.seens finding)) same told.ends in
     subst₂ (λ q j. RunComesTo plan finding (left_of (plant_use g.P.Plant c.args.plant q) j)) (sym told.plant) (sym told.journal)
     (comes plan (left_of (plant_use g.P.Plant c.args.plant plant) journal) finding seens played right ends told.refused)
+
+pub returns-in-Err-run : goal.returns-in-Err-run
+returns-in-Err-run g c =
+    let opened = c.in-Ok.ensures in
+    let same = c.in-Err-run.ensures.refused in
+    let left = c.unplayed.ensures in
+    let none = ap journal_in same ∙ opened.journal in
+    inr
+    (nothing_played c.args.plan c.unplayed.result.finding
+    (left_of (plant_use g.P.Plant c.args.plant c.unplayed.result.plant) c.unplayed.result.journal.entries) left.finding
+    (left.lay_faults ∙ ap (λ h. (base_in h).lay_faults) same ∙ opened.lay_base)
+    (record {
+      unplayed = left.journal ∙ none;
+      asked =
+          only_laid c.args.plan _ _ _ _ _ left.history (ap plan_in same ∙ opened.plan) none
+          (ap (λ h. (base_in h).history) same ∙ opened.history);
+      unasked = inl (left.calls ∙ ap attempts_in none);
+      unrefused = ap g.P.Plant.faults left.plant ∙ ap (λ h. g.P.Plant.faults (plant_in h)) same ∙ opened.count;
+      tells = record {
+        values = left.tells_state ∙ ap (λ h. (base_in h).tells_values) same ∙ opened.tells_state;
+        drills = left.tells_drilling ∙ ap (λ h. (base_in h).tells_drills) same ∙ opened.tells_drilling;
+      };
+    }))
+
+pub ended_in_threads-requires-clause-watches : goal.ended_in_threads-requires-clause-watches
+ended_in_threads-requires-clause-watches g c =
+    let ran = c.in-Ok-run.ensures in
+    subst (λ p. IfSome c.in-Ok-run.finished.seens (λ s. AreOfPlan p s.seens)) (sym (c.into_parts-plan.ensures.plan ∙ ran.plan)) ran.of_plan
