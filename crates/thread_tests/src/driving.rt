@@ -11,12 +11,14 @@ use caa_base::written::entry::{Exception, Kind, Participant, Place};
 use place_plan::rules::machine::{Answer, Machine};
 use role_driver::finish::finish;
 use role_driver::go_on;
+use role_driver::running::{Finished, RunError, run};
 use shared_views::{Observer, Reading};
 use std::alloc::Global;
 use std::process::Abort;
 use std::sync::Wait;
-use std::sync::atomic::{AtomicU64, Ordering};
+use std::sync::atomic::{AtomicBool, AtomicU64, Ordering};
 use std::test::Fail;
+use worker_pool::pool;
 
 /// Ann reads x, and bob works for two rounds, which is one play of ten entries.
 const LOOK: &[u8] =
@@ -55,6 +57,35 @@ fn finish_calls_the_gate(rt: HostRuntime) -> Result<(), Fail> {
     assert!(rt; machine.complete());
     assert_eq!(rt; machine.journal_len(), 10);
     assert_eq!(rt; gate.calls.load(Ordering::SeqCst), 1);
+    Ok(())
+}
+
+/// How a play in threads ended.
+fn ended<M: Drop>(played: Result<Finished<M>, RunError<M>>) -> Result<(), Fail> {
+    match played {
+        Ok(
+            Finished {
+                machine: _,
+                seens: _,
+                refused: _,
+            },
+        ) => Ok(()),
+        Err(RunError { machine: _ }) => Err(Fail::from("no memory")),
+    }
+}
+
+/// The gate is told once of bob's work. With one worker the play ends only where it lets go the seat of ann, who waits for bob.
+#[test]
+fn threads_call_the_gate(rt: HostRuntime) -> Result<(), Fail> {
+    let gate = Count {
+        calls: AtomicU64::new(0),
+    };
+    ended(run(&rt, rt.alloc(), hall(rt.alloc(), LOOK)?, &gate))?;
+    assert_eq!(rt; gate.calls.load(Ordering::SeqCst), 1);
+    for workers in 1..3 {
+        ended(pool(&rt, rt.alloc(), hall(rt.alloc(), LOOK)?, workers, &gate))?;
+        assert_eq!(rt; gate.calls.load(Ordering::SeqCst), u64::from(workers) + 1);
+    }
     Ok(())
 }
 
@@ -127,6 +158,7 @@ fn observer_reads_plays(rt: HostRuntime) -> Result<(), Fail> {
     let (manager, mut seats, mut observer) = opened(&rt, rt.alloc(), hall)?;
     assert_eq!(rt; observer.read(0), Ok(Reading { ends: 0, value: 0 }));
     go_rounds(&rt, &manager, &mut seats, 20);
+    let told = manager.news().wait_past(&rt, 1, &AtomicBool::new(false));
     let Closed {
         machine,
         mut writer,
@@ -137,6 +169,7 @@ fn observer_reads_plays(rt: HostRuntime) -> Result<(), Fail> {
     writer.end(&rt);
     assert!(rt; machine.complete() && !stale);
     assert_eq!(rt; last, Ok(Reading { ends: 2, value: 2 }));
+    assert_eq!(rt; told, 2);
     Ok(())
 }
 

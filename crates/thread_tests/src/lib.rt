@@ -10,3 +10,5 @@ mod machines;
 mod relays;
 #[cfg(test)]
 mod views;
+#[cfg(test)]
+mod watching;
