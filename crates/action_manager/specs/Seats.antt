@@ -35,7 +35,7 @@ pub record IsSeatOf {M : Type 0} (table : TableId) (terms : Terms) (seat : Seat 
   pub rests : IsAtRest terms seat.token.me
   pub known : seat.participant < length terms.plan.participants
 
--- the second seat is of the manager of the first one, on the same terms, and at rest
+-- the two seats are of one manager, and the second one isn't in the middle of a turn
 abbrev pub IsBeside : {M : Type 0} → Seat M → Seat M → Type 0
 IsBeside first second = IsSeatOf first.token.table_id first.token.me.0.terms second
 

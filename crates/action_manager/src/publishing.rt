@@ -1,3 +1,7 @@
+//! The list of what a play changes has room for the objects of any place, which is taken when the manager is opened. Where a
+//! publication finds no memory the entry stays made, the view is stale, and what was published before stays a beginning of what
+//! all ended plays would have published.
+
 ghost use Rattle.std.specs.Prelude.{◌≡◌, ◌<◌, [], ◌∷◌, List, length, map, reverse, replicate, IfOk, vec_capacity};
 ghost use Rattle.caa_base.specs.declared.written.entry.Entry.{Entry as JournalEntry};
 ghost use Rattle.place_plan.specs.Plans.Places.{initials_of};

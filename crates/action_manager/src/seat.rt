@@ -1,3 +1,6 @@
+//! The token of a seat names the type of what lies in the slot, and a token can be dropped only where such a thing could be. A
+//! writer can't be dropped: it is ended. So a seat that is let go turns its token into a badge, which names no slot.
+
 ghost use Rattle.std.specs.Prelude.{◌≡◌, [], length};
 ghost use Rattle.action_manager.specs.OwnEntries.{entries_by};
 

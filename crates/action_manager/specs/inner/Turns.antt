@@ -110,7 +110,7 @@ module _ {M : Type 0} (terms : Terms) (its_journal : Journal) (Right : Terms →
     pub later : Later made (journal_of machine)
     pub each : (j : ℕ) (v : View) → IsAt s.views j v → (v.has_book ≡ false) × Fits (journal_of machine) v
 
-  -- one view has the turn, and the slot is out
+  -- one view has the turn, and the machine isn't in the slot
   pub record Out (made : ℕ) (s : State (Option M) View) : Type 0 where
     pub holder : ℕ
     pub view : View
