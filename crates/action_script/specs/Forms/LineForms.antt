@@ -14,6 +14,7 @@ pub record Wording : Type 0 where
   pub kind : LineKind
   pub fields : List Field
 
+-- the wording of each form
 abbrev pub wording_of : Form → Wording
 wording_of (form.Participant n) = record { kind = kind.Participant; fields = field.Name n ∷ [] }
 wording_of (form.Object n v) = record { kind = kind.Object; fields = field.Name n ∷ field.Value v ∷ [] }

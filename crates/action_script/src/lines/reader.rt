@@ -1,3 +1,8 @@
+//! The words of a line are taken as they come: a word that is right is turned at once into what it says, and a name goes to the
+//! table of names, before the words behind it are looked at. Where one of these is wrong the script is refused, and the table goes
+//! with it. Only there are the words listed, and the bytes of the line looked through, to find the fault that the definition tells
+//! first. Words that are right have no bytes that a line may not have, and what parts them has none either.
+
 ghost use Rattle.std.specs.Prelude.{◌≡◌, ◌≢◌, ◌+◌, ◌-◌, ◌<◌, ◌≤◌, ◌^◌, [], length, map, Some, Ok, Err, IfOk, IfErr, OnOk};
 ghost use Rattle.caa_base.specs.Written.Limits.{most_script_bytes};
 ghost use Rattle.action_script.specs.Words.CutLines.{lines_of};

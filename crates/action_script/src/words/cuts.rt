@@ -1,4 +1,6 @@
 //! What parts lines from lines, and words from words.
+//!
+//! What parts lines and words is found by `memchr`. What stands before it is cut off, and the search goes on behind it.
 
 ghost use Rattle.std.specs.Prelude.{◌≡◌, ◌<◌, ◌≤◌, ◌+◌, ◌==◌, [], ◌∷◌, ◌++◌, length, drop, map, IfOk, OnOk};
 ghost use Rattle.std.specs.List.{position_or_len};
