@@ -1,3 +1,7 @@
+//! A plant may show its values, its drills, both or neither: a real device knows its values and has no drills. So they are two
+//! separate meanings, and a contract that needs the values doesn't ask for the drills. Calls are counted exactly, since a plant
+//! has room for fewer than 2^64 puts.
+
 ghost use Rattle.std.specs.Prelude.{◌≡◌, ◌<◌, ◌+◌, ℕ, List, Option, None, length, is_some, is_ok, is_err, IfSome, OnOk, OnErr};
 ghost use Rattle.caa_base.specs.Outside.Counts.{CountsFault};
 ghost use Rattle.caa_base.specs.Outside.PlantState.{PlantState, Drilling, after_lay, after_put, after_drills, after_try, after_asked, is_drilled, is_refused};

@@ -1,3 +1,7 @@
+//! A sink may tell how many bytes it can hold at all, and no write changes that number. A caller that knows a sink by its trait
+//! alone knows only what the trait keeps; without this one no such caller could say that a sink in memory with enough room refuses
+//! no write.
+
 ghost use Rattle.std.specs.Prelude.{◌≡◌, ◌<◌, ◌≤◌, ℕ, List, Option, None, length, take, is_err, IfOk, OnErr};
 ghost use Rattle.std.specs.Io.KnownBytes.{append_known};
 ghost use Rattle.caa_base.specs.Outside.Counts.{CountsFault};
