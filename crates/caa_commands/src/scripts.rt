@@ -1,4 +1,7 @@
 //! The plan that a script has by its bytes, or the fault for which it is refused.
+//!
+//! The error of a check has the numbers of exceptions alone. For their names the lines of a refused script are gone over once more
+//! (`exception_at`), whose definition says the names in the words of the script; nobody has to know for it what the checks keep.
 
 ghost use Rattle.std.specs.Prelude.{◌≡◌, true, [], Ok, IfOk, IfErr, OnOk};
 ghost use Rattle.action_script.specs.Lines.Spelling.{reading_of};
