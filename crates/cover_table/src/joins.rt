@@ -1,3 +1,12 @@
+//! A table turns its rows round first, so that each exception has the row of those that cover it. What covers two exceptions is
+//! the common part of two rows, and their least cover is the one whose own row that is.
+//!
+//! Where one of the two covers the other it is found at once. Else the row with as many bits as the common part is tried first: in
+//! an order no other can be right, so a search through all rows comes only where there is no least cover. Most exceptions have one
+//! other next above them, with the same covers but themselves. Where that one has the lesser number its row of least covers is
+//! copied, but for what the exception covers itself. Pairs are joined one by one for the rest. No guess needs a proof, since each
+//! is tried: that the answer is right is proved, that it comes quickly is measured.
+
 ghost use Rattle.std.specs.Prelude.{◌≡◌, ◌<◌, ◌≤◌, ◌↔◌, ℕ, ◌∷◌, [], length, slice_index, if◌then◌else◌, IfOk, IfErr, OnOk, IsErrOf, All};
 ghost use Rattle.cover_table.specs.Cover.{covers, has_bit, most_exceptions, order_of, IsLeastCover, IsOrder, IsSound, IsFirstWithoutLeast};
 ghost use Rattle.cover_table.specs.inner.Uppers.{FailsAt, IsJoin};

@@ -1,3 +1,7 @@
+//! A table that knows its size when it runs is one of five, and where such a choice stands it takes the room of the largest, 18
+//! KB, though the table of eight numbers has 200 bytes. A script may have 256 graphs, most of them small, so a graph keeps one of
+//! five boxes.
+
 ghost use Rattle.std.specs.Prelude.{◌≡◌, ◌<◌, ◌≤◌, ◌↔◌, ℕ, ◌∷◌, [], length, All, IfOk, IfErr, OnOk, IsErrOf};
 ghost use Rattle.cover_table.specs.Cover.{covers, order_of, order_of_rows, IsLeastCover, IsOrder, IsSound, IsFirstWithoutLeast, most_exceptions};
 ghost use Rattle.cover_table.specs.SizedTables.{least_size, LacksTable};
