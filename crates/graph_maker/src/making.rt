@@ -1,3 +1,6 @@
+//! A graph may have the name of one of its exceptions, since graphs and exceptions are different kinds. So the numbers of names
+//! are found by looking for each word among the distinct ones, and not by counting.
+
 ghost use Rattle.std.specs.Prelude.{◌≡◌, ◌<◌, ◌≤◌, ◌+◌, ◌∷◌, ◌++◌, codes, drop, length, map, None, IfOk};
 ghost use Rattle.caa_base.specs.Written.Names.{name_at};
 ghost use Rattle.graph_maker.specs.SetNames.{set_name};

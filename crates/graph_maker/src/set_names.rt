@@ -1,3 +1,6 @@
+//! Whether an exception's name is a made one is told by the name itself: its numbers are read, and have to ascend. A table of made
+//! names wouldn't do, since the rule holds for scripts with far too many primitives for a table too.
+
 ghost use Rattle.std.specs.Prelude.{◌≡◌, ◌<◌, ◌++◌, OnOk, IfOk};
 ghost use Rattle.graph_maker.specs.SetNames.{are_members, dashed, is_made_name, set_name};
 
