@@ -15,6 +15,8 @@ use Rattle.caa_base.specs.Written.Limits.{IsValue}
 abbrev pub LeadsInside : Plan → ℕ → ℕ → ℕ → Type 0
 LeadsInside plan p t q = (around plan q ≡ p ∷ around plan p) × (member t (roles_of plan q) ≡ true)
 
+-- places form a tree: each comes after those round it, who has a role in one has one in each round it, and an enter step leads
+-- its maker into a place right inside, where it has a role
 pub record IsTree (plan : Plan) : Type 0 where
   -- a place is numbered after the places round it
   pub above : (p q : ℕ) → member q (around plan p) ≡ true → q < p
@@ -28,6 +30,8 @@ pub record IsTree (plan : Plan) : Type 0 where
   pub enters : (p t : ℕ) (x : Option ℕ) (n k : ℕ) → slice_get (program_in plan p t x).steps n ≡ Some (step.Enter k)
       → (q : ℕ) → member q (alternates_of plan p k) ≡ true → LeadsInside plan p t q
 
+-- what the laws are proved of: such a tree, whose uses each role enters once and in order, whose objects are those of the places
+-- inside too, whose numbers are in range and whose graphs are sound. Each closed plan is so
 pub record IsPlayable (plan : Plan) : Type 0 where
   pub tree : IsTree plan
   -- plays: they rise, each place with nothing round it and a role is one, they have roles, and who plays is a participant

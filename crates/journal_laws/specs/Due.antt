@@ -28,7 +28,7 @@ use Rattle.journal_laws.specs.Laws.{as_taken}
 abbrev pub says : Kind → ℕ → ℕ → ℕ → ℤ → Entry
 says k p t arg value = record { kind = k; place = p; by = t; arg = arg; mark = 0; value = value }
 
--- an entry of t in p that says nothing further
+-- an entry of t in p whose further fields are 0
 abbrev pub plainly : Kind → ℕ → ℕ → Entry
 plainly k p t = says k p t 0 (pos 0)
 
