@@ -1,6 +1,12 @@
 //! What the definitions say of a journal, each asked by going over its entries.
 //!
 //! A journal stands here as its entries, the oldest first; the definitions look back from the newest.
+//!
+//! Questions that go together share one pass: how far a place has come, and which step a participant comes to, with which
+//! register. Where one entry decides, the scan begins at the newest and stops there. Much of what is asked of a place is asked of
+//! the entries from its newest arrival on: a place starts once all its roles have arrived, and in a legal journal nothing of it
+//! stands before that. What was raised in it is gathered from the whole journal, when it is resolved. A participant comes to its
+//! plays in their order, so the next one is the first after the last that it came to.
 
 ghost use Rattle.std.specs.Prelude.{refl};
 

@@ -43,7 +43,7 @@ fn says(kind: Kind, place: Place, by: Participant, arg: u32, value: i64) -> Entr
     }
 }
 
-/// An entry that says nothing further.
+/// An entry whose further fields are 0.
 fn plainly(kind: Kind, place: Place, by: Participant) -> Entry
     ensures { result ≡ plainly kind place by }
 {
