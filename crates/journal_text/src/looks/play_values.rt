@@ -1,4 +1,10 @@
 //! The values that an object has by the plays that ended first.
+//!
+//! What a look has to show depends on how many plays had ended. One pass over the journal, from its newest entry back, gives the
+//! values by the first 0, 1, 2 and so on of the plays that ended: a write that no later restore undoes gives the value for all
+//! those numbers that have its own play among them and have no value yet. Whether it is undone is told by the entries of its own
+//! play, since a place and those round it belong to one play. A journal that isn't legal may have any places, so restores and
+//! ended plays stand in tables by hash.
 
 ghost use Rattle.std.specs.Prelude.{◌≡◌, ◌<◌, ◌&&◌, ◌||◌, pos, ℕ, nat_eq, nat_lt, not, suc, length, reverse, replicate, slice_index_or, if◌then◌else◌, IfOk, OnOk};
 ghost use Rattle.std.specs.List.{list_any};

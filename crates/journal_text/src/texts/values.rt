@@ -1,3 +1,7 @@
+//! The values of the object lines come from one pass over the journal, from its newest entry back, with a table that says for each
+//! object and each place whether the object was restored there later: a byte for each pair, at most 16 MB, taken only while a text
+//! is written or read.
+
 ghost use Rattle.std.specs.Prelude.{◌≡◌, ◌<◌, ◌*◌, [], length, reverse, replicate, false, IfOk};
 ghost use Rattle.std.specs.List.{list_any};
 ghost use Rattle.place_plan.specs.Plans.Places.{around};
