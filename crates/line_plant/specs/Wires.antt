@@ -33,12 +33,12 @@ pub record WasCutOff {S K : Type 0} (sinks : SinkGhosts K) (before after : Wire 
   pub unheard : after.answers ≡ before.answers
   pub broken : after.is_broken ≡ true
 
--- an answer was lost before, so nothing was sent or heard
+-- the wire was broken before, by a lost answer or a failed write, so nothing was sent or heard
 pub record IsOut {S K : Type 0} (before after : Wire S K) : Type 0 where
   pub cause : before.is_broken ≡ true
   pub kept : after ≡ before
 
--- the answer is lost, since the line was cut off, or the wire is out
+-- nothing was awaited: the line was cut off by a failed write, or the wire was broken before. The answer counts as lost
 abbrev pub IsUnasked : {S K : Type 0} → SinkGhosts K → Wire S K → Wire S K → List ℕ → Answer → Type 0
 IsUnasked sinks before after text Well = ⊥
 IsUnasked sinks before after text Failed = ⊥

@@ -1,3 +1,8 @@
+//! An answer is read byte by byte, never further than its line feed: no byte of the next one is taken early, and no line that is
+//! too long is kept. A line is made whole before it is written, so that it goes out in one piece. The memory for the line of a put
+//! is taken as the device is laid out: the line of `lay` names each object, so with 20 bytes more, the most that a value has, its
+//! memory holds the line of any put. So a put wants no memory, and has no free answer.
+
 ghost use Rattle.std.specs.Prelude.{◌≡◌, ◌<◌, ◌≤◌, ◌+◌, length, None, false, if◌then◌else◌, OnOk, OnErr, vec_capacity};
 ghost use Rattle.caa_base.specs.Outside.Counts.{counted_up, faults_after};
 ghost use Rattle.caa_base.specs.Outside.PlantState.{is_refused};
