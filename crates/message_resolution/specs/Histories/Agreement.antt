@@ -15,6 +15,7 @@ pub record StaysAgreed (order : CoverOrder) (count : ℕ) (past later : List Eve
   pub raised : all_raised (later ++ past) ≡ all_raised past
   pub agreed : IsAgreed order count (later ++ past) e
 
+-- e is agreed, and stays so whatever legally comes later
 abbrev pub IsAgreedForGood : CoverOrder → ℕ → List Event → ℕ → Type 0
 IsAgreedForGood order count past e =
     (later : List Event) → LegalPast order count (later ++ past) → StaysAgreed order count past later e

@@ -18,7 +18,7 @@ abbrev pub member_of : Event → ℕ
 member_of (Raise by exception) = by
 member_of (Deliver to number) = to
 
--- what its member meets: a message goes by its number among those that were sent
+-- what its member meets: a message goes by its number among those that were sent, the oldest of which is 0
 abbrev pub met_at : List Message → Event → Option LocalEvent
 met_at messages (Raise by exception) = Some (raises exception)
 met_at messages (Deliver to number) = option_map (λ m. receives m) (slice_get messages number)

@@ -24,6 +24,7 @@ abbrev pub IsInRange : CoverOrder → ℕ → Event → Type 0
 IsInRange order count (Raise by exception) = (by < count) × (exception < order.count)
 IsInRange order count (Deliver to number) = to < count
 
+-- the event is in range, and legal after this past
 pub record MayCome (order : CoverOrder) (count : ℕ) (past : List Event) (e : Event) : Type 0 where
   pub in_range : IsInRange order count e
   pub legal : is_legal_event (course_of order count past) e ≡ true
