@@ -26,7 +26,7 @@ use Rattle.place_plan.specs.RulesOfJournals.Roles.{register, program_of, next_st
 
 -- ---- what an entry says
 
--- the entry says nothing further
+-- beside its kind, place and maker the entry says nothing: its three further fields are 0
 pub record IsPlain (e : Entry) : Type 0 where
   pub arg : e.arg ≡ 0
   pub mark : e.mark ≡ 0

@@ -1,3 +1,11 @@
+//! The rules of a draft are asked in the order of their numbers, and memory is taken only once all of them hold. A few lines can
+//! unfold into billions of places, so places and bound are counted before anything is unfolded. That all actions of a use have one
+//! interface graph is asked last.
+//!
+//! A draft may have tens of thousands of plays. That nobody plays two roles is asked by comparing each participant with those
+//! behind it, since at most sixteen play one action. A play that nests nothing takes over its participants as they stand in the
+//! draft; where it nests others they are copied, since the places inside are filled from them.
+
 ghost use Rattle.std.specs.Prelude.{◌≡◌, None, Some, IfOk, IfSome, MatchOption, MatchResult, is_some};
 ghost use Rattle.place_plan.specs.Plans.Bound.{bound};
 ghost use Rattle.place_plan.specs.Plans.Unfolding.{plan_of};

@@ -1,4 +1,6 @@
 //! Lists of objects.
+//!
+//! A draft may name objects that aren't there, of any number. A list with such a number has no bits, and is gone through.
 
 ghost use Rattle.std.specs.Prelude.{◌≡◌, ◌↔◌, [], length, IfSome, IsTrue};
 ghost use Rattle.std.specs.List.{list_all};

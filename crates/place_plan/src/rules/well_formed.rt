@@ -35,7 +35,7 @@ fn fields_fit(plan: &Plan, entry: &Entry) -> bool
     }
 }
 
-/// Whether an entry says nothing further.
+/// Whether an entry says nothing beside its kind, place and maker: its three further fields are 0.
 fn is_plain(entry: &Entry) -> bool
     ensures { IsTrue result ↔ IsPlain entry.now }
 {
