@@ -44,6 +44,7 @@ said_in names d block.Top f = said_at_top names d f
 said_in names d (block.Graph g) f = said_in_graph d g f
 said_in names d (block.Action a) f = said_in_action names d a f
 
+-- what is declared, and what is open, after what a line says
 abbrev pub with_said : List (List ℕ) → SoFar → Form → SoFar
 with_said names s f = said_in names s.declared s.block f
 
@@ -52,7 +53,8 @@ abbrev pub settled_block : Bool → Block → Block
 settled_block false (block.Action a) = block.Action (closed a verdict.Done)
 settled_block goes_on b = b
 
--- what is declared when a line comes
+-- what is declared when a line comes, and is checked by: where no verdict line ended a body or a handler, it has ended before a line
+-- that is no step. So a handler that was just declared counts for a second one
 abbrev pub settled : SoFar → Form → SoFar
 settled s f = record s { block = settled_block (goes_on f) s.block }
 

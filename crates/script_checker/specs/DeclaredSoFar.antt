@@ -79,11 +79,12 @@ graph_number d name = index_of name d.graph_names + 1
 abbrev pub exceptions_at : List DeclaredGraph → ℕ → List ℕ
 exceptions_at graphs g = (slice_index_or graphs g no_graph).exceptions
 
--- the exceptions that may be raised in the action that is being declared, as far as its graph was said
+-- the exceptions that may be raised in the open action: those of its `internal` graph, or `universal` alone where no line above has
+-- named one
 abbrev pub inner : Declared → OpenAction → List ℕ
 inner d a = exceptions_at d.graphs (unwrap_or a.internal 0)
 
--- and those that it may tell outside
+-- those that it may tell outside: of its `interface` graph, in the same way
 abbrev pub outer : Declared → OpenAction → List ℕ
 outer d a = exceptions_at d.graphs (unwrap_or a.interface 0)
 

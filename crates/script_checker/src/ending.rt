@@ -1,4 +1,10 @@
 //! The end of a block: whether the graph or the action is refused, and what is declared with it.
+//!
+//! An `end` line is checked while it is taken: the graph's order, or the action's row, is made of what was open, and is refused or
+//! declared. So no order and no row is made twice, and the tests of all other lines only read.
+//!
+//! At the end of each action its depth, its places and its bound are counted from those of the actions before it, and each play
+//! adds its action's. So a `play` line costs no more than its own words, where `unfolded` would go over all actions again.
 
 ghost use Rattle.std.specs.Prelude.{◌≡◌, ◌≢◌, ◌≤◌, length, map, OnOk, IfOk, IfErr};
 ghost use Rattle.caa_base.specs.Written.Limits.{most_roles};

@@ -1,3 +1,9 @@
+//! Names of a kind stand in an index set, in the order of their declarations. Lists that can't grow long are looked through
+//! instead: the handlers of a role, the watches, the bodies of an action. For the objects of a `use` line the declared objects are
+//! gone along, and those taken that the line has, as the definition does. Whether a name stands twice in a line is asked without
+//! memory up to sixteen names, and else by a table for that line alone. So two tests of a line can find no memory; their answer is
+//! that of any want of memory, never a cause.
+
 ghost use Rattle.std.specs.Prelude.{◌≡◌, ◌≤◌, ◌++◌, ◌∷◌, [], false, true, length, OnOk, OnErr, IfOk};
 ghost use Rattle.caa_base.specs.Written.Lists.{member, index_of, is_empty};
 ghost use Rattle.place_plan.specs.Drafts.DraftRules.{all_differ};
