@@ -18,7 +18,7 @@ pub struct Scene<'a> {
     pub names: &'a [Name],
     /// The number of the name `universal`, or how many names there are.
     pub universal: u32,
-    /// All lines that say something, as far as they were read.
+    /// All lines that say something; of a text that can't be read, those before its first fault.
     pub lines: &'a [Line],
     /// Those before the line.
     pub before: &'a [Line],
