@@ -10,7 +10,8 @@ with_first set = 1 + 2 * set
 abbrev pub without_first : ℕ → ℕ
 without_first set = 2 * set
 
--- the sets of so many of the primitives from 1 to n, those with the least members first
+-- the sets of so many of the primitives from 1 to n, those with the least members first: all that have primitive 1, then the rest.
+-- Nobody has to believe this: `AreNumbered` says what comes of it
 abbrev pub choose : ℕ → ℕ → List ℕ
 choose n zero = 0 ∷ []
 choose zero (suc size) = []
@@ -21,7 +22,8 @@ abbrev pub sets : ℕ → ℕ → List ℕ
 sets n zero = []
 sets n (suc most) = sets n most ++ choose n (suc most)
 
--- what each exception stands for, by its number: universal, which is 0, for no set, and then each for one set
+-- what each exception stands for, by its number: universal, which is 0, for no set, and then each for one set.
+-- Of three primitives and two members at most: universal, {1}, {2}, {3}, {1, 2}, {1, 3}, {2, 3}
 abbrev pub table : ℕ → ℕ → List ℕ
 table n most = 0 ∷ sets n most
 
