@@ -1,3 +1,7 @@
+//! The call of `left_right` that publishes takes its writer by value, and a committed writer has it behind a reference:
+//! `replace_with` of the library `core` lends it. That a list which was just made isn't open yet no contract of `logbook` says; so
+//! `Head::open` compares a word, and answers as where no memory is found if it were.
+
 ghost use Rattle.std.specs.Prelude.{◌≡◌, ◌<◌, ◌∷◌, ◌++◌, [], true, false, All, length, map, replicate, drop, None, Some, IfOk, OnOk, MatchResult};
 ghost use Rattle.left_right.specs.Sides.{view};
 ghost use Rattle.shared_views.specs.inner.Boards.{IsRight, Follows};

@@ -1,3 +1,6 @@
+//! The rule of the board doesn't know what a writer told. So `read` compares two numbers, and refuses a board with fewer
+//! publications than the observer knows of. It meets none as long as `left_right` shows what was published last.
+
 ghost use Rattle.std.specs.Prelude.{◌≡◌, ◌<◌, ◌+◌, ◌⊎◌, IsTrue, length, replicate, Some, IfSome, IfNone, IfOk, IfErr, OnOk, MatchOption};
 ghost use Rattle.left_right.specs.Sides.{view};
 ghost use Rattle.shared_views.specs.inner.Boards.{IsRight};
