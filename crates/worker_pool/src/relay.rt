@@ -1,3 +1,12 @@
+//! What was opened can't be named by the rule of the queue, which is a constant, so each hand knows it. Each hand has a part of
+//! seventeen, or some, and only who has all parts may open a further seat; so what the hands know stays one. Who has all parts
+//! again, once every hand is joined, knows that no other hand holds anything. There are at most sixteen workers; the seventeenth
+//! part is for a hand of the caller's own.
+//!
+//! The seats that are left come back in the vector in which they were handed in. It lies with the hand of the greatest number, and
+//! not in the relay: what threads share may have no vector of seats, since a seat may go from thread to thread but may not be
+//! shared.
+
 ghost use Rattle.std.specs.Prelude.{◌≡◌, ◌<◌, ◌≤◌, ◌+◌, ◌-◌, ◌↔◌, ℕ, List, [], ◌∷◌, ◌++◌, length, map, All, Contains, IfOk, IfErr, OnOk, IfSome, IfNone, vec_capacity, slice_index_or};
 ghost use Rattle.worker_pool.specs.declared.hands.Hand.{Hand as HandOf};
 ghost use Rattle.std.specs.List.{sum_by, range_with_len};

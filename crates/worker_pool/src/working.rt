@@ -1,3 +1,8 @@
+//! A worker that finds the queue empty ends. Then each seat that is left is with another worker, and each has one at most. A
+//! worker sleeps only once it has found more seats waiting than were opened, without an entry in between: each queued seat was
+//! then taken by it, or by a worker that is awake. So whoever makes the next entry is with a worker that is awake. No contract
+//! speaks of any of this.
+
 ghost use Rattle.std.specs.Prelude.{◌≡◌, All};
 ghost use Rattle.action_manager.specs.Managers.{IsSeatIn};
 ghost use Rattle.action_manager.specs.Seats.{participant_of, seen_by};
