@@ -1,4 +1,10 @@
 //! What stands in a picture beside its marks.
+//!
+//! Which shapes there are no contract says: a definition of them would be the code again, and whether a picture is clear can only
+//! be seen. A place's box has a piece in each lane of its roles, from where the participant arrives to where it leaves. Boxes from
+//! the first arrival to the last leave lay over one another where a place begins for some while others are still in the one
+//! before. Pieces of lanes side by side are drawn as one. Waiting and boxes are known from the whole journal, so a part shows them
+//! as the whole does. One place alone can't be asked for: without the entries of others nobody would see for whom its roles wait.
 
 /// A part of the picture that is no mark. Lengths are pixels, counted from the left and from the top.
 #[derive(Drop)]
