@@ -159,7 +159,11 @@ fn answer_of<P: Plant>(plant: &mut P, well: Entry, fault: Entry) -> Entry
     ensures objects { P.objects plant.new ≡ P.objects plant.old }
     ensures count { CountsFault (is_fault result) (P.faults plant.old) (P.faults plant.new) }
 {
-    match plant.put(well.arg, well.value) {
+    let answer = match well.kind {
+        Kind::Restore => plant.restore(well.arg, well.value),
+        _ => plant.put(well.arg, well.value),
+    };
+    match answer {
         Ok(()) => well,
         Err(Failed) => fault,
     }

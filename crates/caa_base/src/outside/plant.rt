@@ -120,6 +120,25 @@ pub trait Plant {
         ensures count { CountsFault (is_err result) (faults self.old) (faults self.new) }
         ensures lay_faults { lay_faults self.new ≡ lay_faults self.old };
 
+    /// The same put, by which an action that is undone brings an object back. A device that takes an undo in another way than a
+    /// step, more slowly or with its drives at half power, writes this call; any other is put.
+    fn restore(&mut self, object: Object, value: i64) -> Result<(), Failed>
+        requires room { calls self.old < room self.old }
+        requires laid { object < objects self.old }
+        ensures done { OnOk result (state self.new ≡ after_put (state self.old) object value) }
+        ensures failed { OnErr result (state self.new ≡ state self.old) }
+        ensures drilled { IfSome (drilling self.old) (λ d. is_err result ≡ is_drilled d object) }
+        ensures drilling { drilling self.new ≡ after_try (drilling self.old) object }
+        ensures history { history self.new ≡ after_asked (history self.old) (asked.Put object value (is_ok result)) }
+        ensures calls { calls self.new ≡ calls self.old + 1 }
+        ensures room { room self.new ≡ room self.old }
+        ensures objects { objects self.new ≡ objects self.old }
+        ensures count { CountsFault (is_err result) (faults self.old) (faults self.new) }
+        ensures lay_faults { lay_faults self.new ≡ lay_faults self.old }
+    {
+        self.put(object, value)
+    }
+
     /// How many calls of `lay` failed so far.
     fn lay_faults(&self) -> u64
         ensures { result ≡ lay_faults self.now };
