@@ -2,11 +2,12 @@
 use Rattle.std.specs.Prelude.{◌≡◌, ℕ, ℤ, pos, ◌+ℤ◌, Bool, true, not, ◌&&◌, ◌||◌, if◌then◌else◌, List, [], ◌∷◌, Option, Some, None, is_none}
 use Rattle.std.specs.List.{list_all, range_with_len}
 use Rattle.cover_table.specs.Cover.{CoverOrder, covers, covers_each}
-use Rattle.caa_base.specs.Written.Marks.{verdict_mark}
+use Rattle.caa_base.specs.Written.Marks.{verdict_mark, mark_of, no_mark, naming_mark, refused_mark}
 use Rattle.caa_base.specs.Written.Mixing.{mix}
 use Rattle.caa_base.specs.declared.written.entry.Entry.{Entry}
 use Rattle.caa_base.specs.declared.written.entry.Kind.{Kind}
 use Rattle.caa_base.specs.declared.written.entry.Kind.TheVariants as kind
+use Rattle.caa_base.specs.declared.written.entry.Outcome.TheVariants as outcome
 use Rattle.caa_base.specs.declared.written.entry.Verdict.{Verdict}
 use Rattle.caa_base.specs.declared.written.entry.Verdict.TheVariants as verdict
 use Rattle.place_plan.specs.declared.drafts.draft_rows.Step.{Step}
@@ -24,9 +25,9 @@ use Rattle.journal_laws.specs.Laws.{as_taken}
 
 -- ---- what an entry says
 
--- an entry of t in p that says this, with mark 0
+-- an entry of t in p that says this, without a mark
 abbrev pub says : Kind → ℕ → ℕ → ℕ → ℤ → Entry
-says k p t arg value = record { kind = k; place = p; by = t; arg = arg; mark = 0; value = value }
+says k p t arg value = record { kind = k; place = p; by = t; arg = arg; mark = no_mark; value = value }
 
 -- an entry of t in p whose further fields are 0
 abbrev pub plainly : Kind → ℕ → ℕ → Entry
@@ -39,7 +40,7 @@ marked k p t mark arg = record { kind = k; place = p; by = t; arg = arg; mark = 
 -- an entry of t in p that names an exception, or none
 abbrev pub naming : Kind → ℕ → ℕ → Option ℕ → Entry
 naming k p t None = plainly k p t
-naming k p t (Some x) = marked k p t 1 x
+naming k p t (Some x) = marked k p t naming_mark x
 
 -- the entry of t in p that says this verdict
 abbrev pub verdict_entry : ℕ → ℕ → Verdict → Entry
@@ -86,7 +87,7 @@ due_doomed plan past p t =
 -- the End of a signal
 abbrev pub due_signal : ℕ → ℕ → Option ℕ → Option Entry
 due_signal p t None = None
-due_signal p t (Some x) = Some (marked kind.End p t 1 x)
+due_signal p t (Some x) = Some (marked kind.End p t (mark_of (outcome.Signal 0)) x)
 
 -- the End of p by what its roles signalled: a commit if they signalled nothing, else a signal of the least cover
 abbrev pub due_end : Plan → ℕ → ℕ → List ℕ → Option Entry
@@ -123,7 +124,7 @@ due_forward plan past p t s = due_step plan past p t s
 
 -- a step of the body that raises does so
 abbrev pub due_body : Plan → List Entry → ℕ → ℕ → Option ℕ → Option Entry
-due_body plan past p t (Some x) = Some (marked kind.Raise p t 0 x)
+due_body plan past p t (Some x) = Some (marked kind.Raise p t no_mark x)
 due_body plan past p t None = due_forward plan past p t (next_step plan past p t)
 
 -- a handler that is broken off asks for undo
@@ -134,7 +135,7 @@ due_handler plan past p t =
 -- a role with a handler for x begins it; any other one asks for undo
 abbrev pub due_answer : Plan → ℕ → ℕ → ℕ → Option Entry
 due_answer plan p t x =
-    if is_none (handler_of plan p t x) then Some (verdict_entry p t verdict.Undo) else Some (marked kind.Handle p t 0 x)
+    if is_none (handler_of plan p t x) then Some (verdict_entry p t verdict.Undo) else Some (marked kind.Handle p t no_mark x)
 
 -- in a place for which x is resolved: first the handlers, then what their verdicts come to
 abbrev pub due_resolved : Plan → List Entry → ℕ → ℕ → ℕ → Option Entry
@@ -146,7 +147,7 @@ due_resolved plan past p t x =
 -- the Resolve of an exception
 abbrev pub due_resolve : ℕ → ℕ → Option ℕ → Option Entry
 due_resolve p t None = None
-due_resolve p t (Some x) = Some (marked kind.Resolve p t 0 x)
+due_resolve p t (Some x) = Some (marked kind.Resolve p t no_mark x)
 
 -- who is halted goes on once something is resolved; to begin with, all have to be halted, and then somebody resolves
 abbrev pub due_halted : Plan → List Entry → ℕ → ℕ → Option ℕ → Option Entry
@@ -156,7 +157,7 @@ due_halted plan past p t None =
 
 -- who isn't halted raises what its next step raises, or is informed
 abbrev pub due_running : ℕ → ℕ → Option ℕ → Option Entry
-due_running p t (Some x) = Some (marked kind.Raise p t 0 x)
+due_running p t (Some x) = Some (marked kind.Raise p t no_mark x)
 due_running p t None = Some (plainly kind.Inform p t)
 
 -- in a place where something was raised
@@ -199,7 +200,7 @@ due_of plan past t = due_at plan past t (inside plan past t)
 -- the entry, where the device refuses what it asks
 abbrev pub as_refused : Kind → Entry → Entry
 as_refused kind.Write e = record e { kind = kind.PutFault }
-as_refused kind.Restore e = record e { mark = 1 }
+as_refused kind.Restore e = record e { mark = refused_mark }
 as_refused _ e = e
 
 -- what is computed for a participant is all that the rules let it do, as the device answers

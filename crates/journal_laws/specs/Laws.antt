@@ -9,7 +9,7 @@ use Rattle.caa_base.specs.declared.written.entry.Outcome.TheVariants as outcome
 use Rattle.caa_base.specs.declared.written.entry.Verdict.TheVariants as verdict
 use Rattle.place_plan.specs.Plans.PlanValue.{Plan}
 use Rattle.caa_base.specs.Written.Lists.{member}
-use Rattle.caa_base.specs.Written.Marks.{mark_of, verdict_mark}
+use Rattle.caa_base.specs.Written.Marks.{mark_of, verdict_mark, taken_mark, refused_mark}
 use Rattle.place_plan.specs.Plans.Places.{around, parent, is_within, roles_of, uses, initial_of, internal_of, handler_of}
 use Rattle.place_plan.specs.RulesOfJournals.Entries.{is_of, is_in, is_by, has, has_by, newest}
 use Rattle.place_plan.specs.RulesOfJournals.Whereabouts.{inside, stays, is_live, has_ended, has_started}
@@ -47,7 +47,7 @@ HolderIsInnermost plan past =
 -- the entry, as if the device had taken its put
 abbrev pub as_taken : Kind → Entry → Entry
 as_taken kind.PutFault e = record e { kind = kind.Write }
-as_taken kind.Restore e = record e { mark = 0 }
+as_taken kind.Restore e = record e { mark = taken_mark }
 as_taken _ e = e
 
 -- two entries that a participant could make next differ only in what the device answers
@@ -185,8 +185,8 @@ is_restore p o mark e = is_in kind.Restore p e && ((e.arg == o) && (e.mark == ma
 -- abort; each object tried once, and one refused, after a failure
 pub record RestoresFit (plan : Plan) (past : List Entry) (p mark : ℕ) : Type 0 where
   pub kept : (mark ≡ mark_of outcome.Commit) ⊎ (mark ≡ mark_of (outcome.Signal 0)) → has kind.Restore past p ≡ false
-  pub undone : (mark ≡ mark_of outcome.Undone) ⊎ (mark ≡ mark_of outcome.Aborted) → (o : ℕ) → uses plan p o ≡ true → list_any (is_restore p o 0) past ≡ true
-  pub tried : mark ≡ mark_of outcome.Failed → (o : ℕ) → uses plan p o ≡ true → count_by (is_restore p o 0) past + count_by (is_restore p o 1) past ≡ 1
+  pub undone : (mark ≡ mark_of outcome.Undone) ⊎ (mark ≡ mark_of outcome.Aborted) → (o : ℕ) → uses plan p o ≡ true → list_any (is_restore p o taken_mark) past ≡ true
+  pub tried : mark ≡ mark_of outcome.Failed → (o : ℕ) → uses plan p o ≡ true → count_by (is_restore p o taken_mark) past + count_by (is_restore p o refused_mark) past ≡ 1
   pub refused : mark ≡ mark_of outcome.Failed → has_failed past p ≡ true
 
 -- the restores of a place that has ended are what its End says
@@ -211,7 +211,7 @@ last_write plan (e ∷ past) o test = if writes o e && test e then e.value else 
 
 -- the device refused a restore of o
 abbrev pub has_failed_restore : List Entry → ℕ → Bool
-has_failed_restore past o = list_any (λ e. is_of kind.Restore e && ((e.arg == o) && (e.mark == 1))) past
+has_failed_restore past o = list_any (λ e. is_of kind.Restore e && ((e.arg == o) && (e.mark == refused_mark))) past
 
 -- in a complete journal an object that no restore failed for holds what the kept places alone leave
 abbrev pub EffectLaw : Plan → List Entry → Type 0

@@ -1,4 +1,4 @@
--- How an entry keeps a verdict or an outcome: as a mark, and an exception beside it, which is 0 where none is signalled.
+-- The marks of entries. A verdict and an outcome are kept as a mark, and an exception beside it, which is 0 where none is signalled.
 use Rattle.std.specs.Prelude.{ℕ, ◌==◌, if◌then◌else◌}
 use Rattle.caa_base.specs.declared.written.entry.Outcome.{Outcome}
 use Rattle.caa_base.specs.declared.written.entry.Outcome.TheVariants as outcome
@@ -36,3 +36,18 @@ outcome_of_mark mark x =
     else (if mark == 1 then outcome.Signal x
     else (if mark == 2 then outcome.Undone
     else (if mark == 3 then outcome.Aborted else outcome.Failed)))
+
+-- the mark of an entry of which nothing more is to be told
+abbrev pub no_mark : ℕ
+no_mark = 0
+
+-- the mark of an Abort or a Leave that names an exception
+abbrev pub naming_mark : ℕ
+naming_mark = 1
+
+-- the marks of a Restore: the device took it, or refused it
+abbrev pub taken_mark : ℕ
+taken_mark = 0
+
+abbrev pub refused_mark : ℕ
+refused_mark = 1

@@ -3,6 +3,7 @@ use Rattle.std.specs.Prelude.{ℕ, ℤ, ◌==◌, if◌then◌else◌, List, [],
 use Rattle.std.specs.Option.{option_map}
 use Rattle.std.specs.Fmt.{signed_decimal}
 use Rattle.std.specs.List.{flat_map, range_with_len}
+use Rattle.caa_base.specs.Written.Marks.{naming_mark, taken_mark}
 use Rattle.caa_base.specs.declared.written.entry.Entry.{Entry}
 use Rattle.caa_base.specs.declared.written.entry.Kind.{Kind}
 use Rattle.caa_base.specs.declared.written.entry.Kind.TheVariants as kind
@@ -70,7 +71,7 @@ object_words plan o value = object_name plan o ∷ signed_decimal value ∷ []
 
 -- whether the device took a restore
 abbrev pub restore_word : ℕ → List ℕ
-restore_word mark = if mark == 0 then codes "well" else codes "failed"
+restore_word mark = if mark == taken_mark then codes "well" else codes "failed"
 
 -- a verdict in p, with the exception that it signals
 abbrev pub verdict_words : Plan → ℕ → Verdict → List (List ℕ)
@@ -88,12 +89,12 @@ outcome_words plan p outcome.Failed = codes "failed" ∷ []
 
 -- the exception that an Abort names, if it names one
 abbrev pub abort_words : Plan → Entry → List (List ℕ)
-abort_words plan e = if e.mark == 1 then interface_name plan e.place e.arg ∷ [] else []
+abort_words plan e = if e.mark == naming_mark then interface_name plan e.place e.arg ∷ [] else []
 
 -- the exception that a Leave carries into the place round its own, if it carries one; nothing is carried out of a play
 abbrev pub leave_words : Plan → Option ℕ → Entry → List (List ℕ)
 leave_words plan None e = []
-leave_words plan (Some q) e = if e.mark == 1 then internal_name plan q e.arg ∷ [] else []
+leave_words plan (Some q) e = if e.mark == naming_mark then internal_name plan q e.arg ∷ [] else []
 
 -- what an entry says further, by its kind
 abbrev pub field_words : Kind → Plan → Entry → List (List ℕ)

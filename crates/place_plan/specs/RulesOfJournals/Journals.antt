@@ -1,5 +1,6 @@
 -- Legal and complete journals, and what a journal did to the objects.
 use Rattle.std.specs.Prelude.{◌≡◌, ℕ, ℤ, ◌==◌, ◌<◌, Bool, true, ◌&&◌, ◌||◌, if◌then◌else◌, List, [], ◌∷◌, ◌++◌, filter, length, reverse, take, is_none}
+use Rattle.caa_base.specs.Written.Marks.{taken_mark, refused_mark}
 use Rattle.caa_base.specs.declared.written.entry.Entry.{Entry}
 use Rattle.caa_base.specs.declared.written.entry.Kind.TheVariants as kind
 use Rattle.place_plan.specs.Plans.PlanValue.{Plan}
@@ -35,7 +36,7 @@ HasNoEntry plan past t = (e : Entry) → e.by ≡ t → MayFollow plan past e �
 
 -- a put that the device took: a write, or a restore that is well
 abbrev pub is_put : Entry → Bool
-is_put e = is_of kind.Write e || (is_of kind.Restore e && (e.mark == 0))
+is_put e = is_of kind.Write e || (is_of kind.Restore e && (e.mark == taken_mark))
 
 -- what was put
 abbrev pub object_and_value : Entry → ℕ × ℤ
@@ -48,7 +49,7 @@ puts_of (e ∷ entries) = if is_put e then object_and_value e ∷ puts_of entrie
 
 -- a put or a restore that the device refused
 abbrev pub is_fault : Entry → Bool
-is_fault e = is_of kind.PutFault e || (is_of kind.Restore e && (e.mark == 1))
+is_fault e = is_of kind.PutFault e || (is_of kind.Restore e && (e.mark == refused_mark))
 
 -- how many puts and restores of the journal the device refused
 abbrev pub faults_in : List Entry → ℕ

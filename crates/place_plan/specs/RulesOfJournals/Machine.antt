@@ -1,5 +1,6 @@
 -- What a call of a machine answers, and what it leaves.
 use Rattle.std.specs.Prelude.{◌≡◌, ℕ, ℤ, Bool, true, false, List, [], ◌∷◌, ◌++◌, reverse, Option, Some, None}
+use Rattle.caa_base.specs.Written.Marks.{no_mark}
 use Rattle.caa_base.specs.Written.Mixing.{mix, Worked}
 use Rattle.caa_base.specs.declared.written.entry.Entry.{Entry}
 use Rattle.caa_base.specs.declared.written.entry.Kind.TheVariants as kind
@@ -12,7 +13,7 @@ use Rattle.place_plan.specs.declared.rules.machine.Answer.TheVariants as answer
 
 -- the work entry of t in p, from this start
 abbrev pub work_entry : ℕ → ℕ → ℕ → ℤ → Entry
-work_entry p t rounds from = record { kind = kind.Work; place = p; by = t; arg = rounds; mark = 0; value = mix from rounds }
+work_entry p t rounds from = record { kind = kind.Work; place = p; by = t; arg = rounds; mark = no_mark; value = mix from rounds }
 
 -- the hint is of just this work: as many rounds, from the same start
 abbrev pub Fits : Option Worked → ℕ → ℤ → Type 0

@@ -1,6 +1,7 @@
 -- Who holds an object, and which value it has.
 use Rattle.std.specs.Prelude.{ℕ, ℤ, ◌==◌, Bool, not, ◌&&◌, if◌then◌else◌, List, [], ◌∷◌, Option, None, Some}
 use Rattle.std.specs.List.{list_any, list_all}
+use Rattle.caa_base.specs.Written.Marks.{taken_mark, refused_mark}
 use Rattle.caa_base.specs.declared.written.entry.Entry.{Entry}
 use Rattle.caa_base.specs.declared.written.entry.Kind.{Kind}
 use Rattle.caa_base.specs.declared.written.entry.Kind.TheVariants as kind
@@ -30,7 +31,7 @@ objects_are_ready plan past p = list_all (λ o. same_option (holder_of plan past
 
 -- the entry restores o, and the device took it
 abbrev pub restores : ℕ → Entry → Bool
-restores o e = is_of kind.Restore e && ((e.arg == o) && (e.mark == 0))
+restores o e = is_of kind.Restore e && ((e.arg == o) && (e.mark == taken_mark))
 
 -- the entry writes o
 abbrev pub writes : ℕ → Entry → Bool
@@ -74,7 +75,7 @@ is_tried past p o = list_any (λ e. is_in kind.Restore p e && (e.arg == o)) past
 
 -- the device refused a restore of p
 abbrev pub has_failed : List Entry → ℕ → Bool
-has_failed past p = list_any (λ e. is_in kind.Restore p e && (e.mark == 1)) past
+has_failed past p = list_any (λ e. is_in kind.Restore p e && (e.mark == refused_mark)) past
 
 -- the least object of p that has no restore there; the objects of an action stand in ascending order
 abbrev pub next_restore : Plan → List Entry → ℕ → Option ℕ

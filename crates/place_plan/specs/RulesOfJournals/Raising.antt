@@ -1,6 +1,7 @@
 -- What was raised in a place, whom it halts, and which places it dooms.
 use Rattle.std.specs.Prelude.{ℕ, ◌==◌, Bool, false, not, ◌&&◌, ◌||◌, if◌then◌else◌, List, [], ◌∷◌, ◌++◌, Option, Some, None}
 use Rattle.std.specs.List.{list_any, list_all}
+use Rattle.caa_base.specs.Written.Marks.{naming_mark}
 use Rattle.caa_base.specs.declared.written.entry.Entry.{Entry}
 use Rattle.caa_base.specs.declared.written.entry.Kind.{Kind}
 use Rattle.caa_base.specs.declared.written.entry.Kind.TheVariants as kind
@@ -16,7 +17,7 @@ has_handled past p t = has_by kind.Handle past p t
 
 -- a leave that carries an exception into p
 abbrev pub carries_into : Plan → ℕ → Entry → Bool
-carries_into plan p e = is_at (parent plan e.place) p && (e.mark == 1)
+carries_into plan p e = is_at (parent plan e.place) p && (e.mark == naming_mark)
 
 -- what an entry raises in p, where `past` stands before it: a raise its exception, a put that was refused before its maker began
 -- a handler there the fault exception of the action, and the leave of a place right inside p the exception that it carries

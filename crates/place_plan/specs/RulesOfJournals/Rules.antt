@@ -2,7 +2,7 @@
 use Rattle.std.specs.Prelude.{◌≡◌, ℕ, ℤ, pos, neg_ℤ, ◌+ℤ◌, ◌==◌, Bool, true, false, not, ◌&&◌, ◌||◌, if◌then◌else◌, List, [], ◌∷◌, Option, Some, None, MatchBool, MatchOption, is_none, int_lt}
 use Rattle.cover_table.specs.Cover.{IsLeastCover}
 use Rattle.caa_base.specs.Written.Limits.{most_value}
-use Rattle.caa_base.specs.Written.Marks.{verdict_mark, mark_of}
+use Rattle.caa_base.specs.Written.Marks.{verdict_mark, mark_of, no_mark, naming_mark, taken_mark, refused_mark}
 use Rattle.caa_base.specs.Written.Mixing.{mix}
 use Rattle.caa_base.specs.declared.written.entry.Entry.{Entry}
 use Rattle.caa_base.specs.declared.written.entry.Kind.{Kind}
@@ -29,13 +29,13 @@ use Rattle.place_plan.specs.RulesOfJournals.Roles.{register, program_of, next_st
 -- beside its kind, place and maker the entry says nothing: its three further fields are 0
 pub record IsPlain (e : Entry) : Type 0 where
   pub arg : e.arg ≡ 0
-  pub mark : e.mark ≡ 0
+  pub mark : e.mark ≡ no_mark
   pub value : e.value ≡ pos 0
 
 -- the entry names this exception, or none
 abbrev pub Names : Entry → Option ℕ → Type 0
-Names e None = (e.mark ≡ 0) × (e.arg ≡ 0)
-Names e (Some x) = (e.mark ≡ 1) × (e.arg ≡ x)
+Names e None = (e.mark ≡ no_mark) × (e.arg ≡ 0)
+Names e (Some x) = (e.mark ≡ naming_mark) × (e.arg ≡ x)
 
 -- the entry says this verdict
 abbrev pub SaysVerdict : Entry → Verdict → Type 0
@@ -84,7 +84,7 @@ pub record MayRead (plan : Plan) (past : List Entry) (e : Entry) : Type 0 where
   pub reads : next_step plan past e.place e.by ≡ Some (step.Read e.arg)
   pub holds : holder_of plan past e.arg ≡ Some e.place
   pub value : e.value ≡ value_of plan past e.arg
-  pub mark : e.mark ≡ 0
+  pub mark : e.mark ≡ no_mark
 
 -- work gives the mixed register
 pub record MayWork (plan : Plan) (past : List Entry) (e : Entry) : Type 0 where
@@ -92,7 +92,7 @@ pub record MayWork (plan : Plan) (past : List Entry) (e : Entry) : Type 0 where
   pub can : is_able plan past e.place e.by ≡ true
   pub works : next_step plan past e.place e.by ≡ Some (step.Work e.arg)
   pub value : e.value ≡ mix (register plan past e.place e.by) e.arg
-  pub mark : e.mark ≡ 0
+  pub mark : e.mark ≡ no_mark
 
 -- a number outside the values becomes the least of them or the greatest, whichever is nearer
 abbrev pub clamped : ℤ → ℤ
@@ -112,7 +112,7 @@ pub record MayPut (plan : Plan) (past : List Entry) (e : Entry) : Type 0 where
   pub can : is_able plan past e.place e.by ≡ true
   pub puts : put_of (next_step plan past e.place e.by) (register plan past e.place e.by) ≡ Some (e.arg, e.value)
   pub holds : holder_of plan past e.arg ≡ Some e.place
-  pub mark : e.mark ≡ 0
+  pub mark : e.mark ≡ no_mark
 
 -- the step is a check
 abbrev pub is_check : Option Step → Bool
@@ -136,7 +136,7 @@ pub record MayRaise (plan : Plan) (past : List Entry) (e : Entry) : Type 0 where
   pub running : is_halted plan past e.place e.by ≡ false
   pub unsaid : has_given plan past e.place e.by ≡ false
   pub raises : next_raise plan past e.place e.by ≡ Some e.arg
-  pub mark : e.mark ≡ 0
+  pub mark : e.mark ≡ no_mark
   pub value : e.value ≡ pos 0
 
 -- in a hot place a role that isn't halted is informed, also after its verdict, unless it is about to raise something itself
@@ -154,7 +154,7 @@ pub record MayResolve (plan : Plan) (past : List Entry) (e : Entry) : Type 0 whe
   pub together : all_are_halted plan past e.place ≡ true
   pub fresh : exception_resolved past e.place ≡ None
   pub least : IsLeastCover (internal_of plan e.place) (exceptions_raised plan past e.place) e.arg
-  pub mark : e.mark ≡ 0
+  pub mark : e.mark ≡ no_mark
   pub value : e.value ≡ pos 0
 
 -- each role that has a handler for the resolved exception begins it
@@ -164,7 +164,7 @@ pub record MayHandle (plan : Plan) (past : List Entry) (e : Entry) : Type 0 wher
   pub resolution : exception_resolved past e.place ≡ Some e.arg
   pub able_to : is_none (handler_of plan e.place e.by e.arg) ≡ false
   pub fresh : has_handled past e.place e.by ≡ false
-  pub mark : e.mark ≡ 0
+  pub mark : e.mark ≡ no_mark
   pub value : e.value ≡ pos 0
 
 -- ---- verdicts
@@ -243,14 +243,14 @@ pub record MayRestore (plan : Plan) (past : List Entry) (e : Entry) : Type 0 whe
   pub lasts : has_ended past e.place ≡ false
   pub least : next_restore plan past e.place ≡ Some e.arg
   pub value : e.value ≡ value_of plan (before_start past e.place) e.arg
-  pub mark : (e.mark == 0) || (e.mark == 1) ≡ true
+  pub mark : (e.mark == taken_mark) || (e.mark == refused_mark) ≡ true
 
 -- ---- ends
 
 -- what the roles signal is nothing, or has this least cover
 abbrev pub SignalsLeast : Plan → Entry → List ℕ → Type 0
-SignalsLeast plan e [] = (e.mark ≡ 0) × (e.arg ≡ 0)
-SignalsLeast plan e (x ∷ xs) = (e.mark ≡ 1) × IsLeastCover (interface_of plan e.place) (x ∷ xs) e.arg
+SignalsLeast plan e [] = (e.mark ≡ mark_of outcome.Commit) × (e.arg ≡ 0)
+SignalsLeast plan e (x ∷ xs) = (e.mark ≡ mark_of (outcome.Signal 0)) × IsLeastCover (interface_of plan e.place) (x ∷ xs) e.arg
 
 -- the mark of an End after an undo: failed where the device refused a restore, aborted where the roles gave up, else undone
 abbrev pub undone_mark : List Entry → ℕ → ℕ
@@ -284,7 +284,7 @@ pub record MayEnd (plan : Plan) (past : List Entry) (e : Entry) : Type 0 where
 -- what an Abort names, in the place round p
 abbrev pub abort_mapped : Plan → ℕ → Option Entry → Option ℕ
 abort_mapped plan p None = None
-abort_mapped plan p (Some e) = if e.mark == 1 then Some (map_signal plan p e.arg) else None
+abort_mapped plan p (Some e) = if e.mark == naming_mark then Some (map_signal plan p e.arg) else None
 
 -- what an outcome of p means in the place round p: nothing after a commit, the exception that its signal, its undo or its failure is
 -- there, and after an abort the one that the Abort of who leaves is there

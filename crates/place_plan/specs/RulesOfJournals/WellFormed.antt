@@ -3,9 +3,12 @@ use Rattle.std.specs.Prelude.{◌≡◌, ℕ, pos, ◌<◌, ◌≤◌, List, len
 use Rattle.std.specs.List.{All}
 use Rattle.cover_table.specs.Cover.{CoverOrder}
 use Rattle.caa_base.specs.Written.Limits.{IsValue, most_count}
+use Rattle.caa_base.specs.Written.Marks.{verdict_mark, mark_of, no_mark, naming_mark}
 use Rattle.caa_base.specs.declared.written.entry.Entry.{Entry}
 use Rattle.caa_base.specs.declared.written.entry.Kind.{Kind}
 use Rattle.caa_base.specs.declared.written.entry.Kind.TheVariants as kind
+use Rattle.caa_base.specs.declared.written.entry.Outcome.TheVariants as outcome
+use Rattle.caa_base.specs.declared.written.entry.Verdict.TheVariants as verdict
 use Rattle.place_plan.specs.Plans.PlanValue.{Plan}
 use Rattle.place_plan.specs.Plans.Places.{parent, internal_of, interface_of}
 use Rattle.place_plan.specs.RulesOfJournals.Rules.{IsPlain}
@@ -18,7 +21,7 @@ pub record ShowsObject (plan : Plan) (e : Entry) : Type 0 where
 -- an exception of this graph alone
 pub record ShowsException (order : CoverOrder) (e : Entry) : Type 0 where
   pub arg : e.arg < order.count
-  pub mark : e.mark ≡ 0
+  pub mark : e.mark ≡ no_mark
   pub value : e.value ≡ pos 0
 
 -- at this mark an exception of the graph stands, and at the others below `marks` nothing
@@ -31,27 +34,27 @@ pub record MayShowException (order : CoverOrder) (at marks : ℕ) (e : Entry) : 
 -- an exception that is carried into the place round p: none out of a play
 abbrev pub MayCarry : Plan → Option ℕ → Entry → Type 0
 MayCarry plan None e = IsPlain e
-MayCarry plan (Some q) e = MayShowException (internal_of plan q) 1 2 e
+MayCarry plan (Some q) e = MayShowException (internal_of plan q) naming_mark 2 e
 
 -- what an entry of each kind has as its number, its mark and its value
 abbrev pub FieldsFit : Kind → Plan → Entry → Type 0
 FieldsFit kind.Arrive plan e = IsPlain e
 FieldsFit kind.Withdraw plan e = IsPlain e
 FieldsFit kind.Start plan e = IsPlain e
-FieldsFit kind.Read plan e = ShowsObject plan e × (e.mark ≡ 0)
-FieldsFit kind.Work plan e = (e.arg ≤ most_count) × (e.mark ≡ 0) × IsValue e.value
-FieldsFit kind.Write plan e = ShowsObject plan e × (e.mark ≡ 0)
+FieldsFit kind.Read plan e = ShowsObject plan e × (e.mark ≡ no_mark)
+FieldsFit kind.Work plan e = (e.arg ≤ most_count) × (e.mark ≡ no_mark) × IsValue e.value
+FieldsFit kind.Write plan e = ShowsObject plan e × (e.mark ≡ no_mark)
 FieldsFit kind.Check plan e = IsPlain e
-FieldsFit kind.PutFault plan e = ShowsObject plan e × (e.mark ≡ 0)
+FieldsFit kind.PutFault plan e = ShowsObject plan e × (e.mark ≡ no_mark)
 FieldsFit kind.Raise plan e = ShowsException (internal_of plan e.place) e
 FieldsFit kind.Inform plan e = IsPlain e
 FieldsFit kind.Resolve plan e = ShowsException (internal_of plan e.place) e
 FieldsFit kind.Handle plan e = ShowsException (internal_of plan e.place) e
-FieldsFit kind.Verdict plan e = MayShowException (interface_of plan e.place) 1 3 e
-FieldsFit kind.Abort plan e = MayShowException (interface_of plan e.place) 1 2 e
+FieldsFit kind.Verdict plan e = MayShowException (interface_of plan e.place) (verdict_mark (verdict.Signal 0)).0 3 e
+FieldsFit kind.Abort plan e = MayShowException (interface_of plan e.place) naming_mark 2 e
 FieldsFit kind.Undo plan e = IsPlain e
 FieldsFit kind.Restore plan e = ShowsObject plan e × (e.mark < 2)
-FieldsFit kind.End plan e = MayShowException (interface_of plan e.place) 1 5 e
+FieldsFit kind.End plan e = MayShowException (interface_of plan e.place) (mark_of (outcome.Signal 0)) 5 e
 FieldsFit kind.Leave plan e = MayCarry plan (parent plan e.place) e
 
 -- the numbers of place and participant are those of the plan, and the other fields fit the kind
