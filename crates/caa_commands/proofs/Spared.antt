@@ -20,6 +20,7 @@ use Rattle.place_plan.specs.RulesOfJournals.Rules.{Row, MayEnd, EndsUndone, Ends
 use Rattle.place_plan.specs.RulesOfJournals.Journals.{LegalPast, IsLegal, is_fault, faults_in}
 use Rattle.place_plan.specs.Plans.Places.{roles_of}
 use Rattle.place_plan.proofs.OnJournals.EntryKinds.{of_kind}
+use Rattle.journal_laws.proofs.Effects.{any_implied}
 use Rattle.journal_laws.proofs.Outcome.{undone_marks, agreed_mark}
 use Rattle.caa_commands.specs.declared.command.Command.{Command}
 use Rattle.caa_commands.specs.declared.command.Command.TheVariants as command
@@ -38,14 +39,6 @@ end_row : (plan : Plan) (past : List Entry) (k : Kind) (e : Entry) → Row k pla
     → is_of kind.End (of_kind k e) ≡ true → MayEnd plan past (of_kind k e)
 end_row plan past kind.End e h w = h
 end_row plan past _ e h w = absurd (false≢true w)
-
-any_other : (test other : Entry → Bool) (es : List Entry) → ((e : Entry) → test e ≡ true → other e ≡ true)
-    → list_any test es ≡ true → list_any other es ≡ true
-any_other test other [] implied h = absurd (false≢true h)
-any_other test other (e ∷ es) implied h = elim (or_cases (test e) (list_any test es) h) [
-  | inl here ↦ or_left _ _ (implied e here)
-  | inr there ↦ or_right _ _ (any_other test other es implied there)
-]
 
 refused_restore : (p : ℕ) (e : Entry) → is_in kind.Restore p e && (e.mark == 1) ≡ true → is_fault e ≡ true
 refused_restore p e h =
@@ -75,7 +68,7 @@ failed_refused plan (e ∷ past) legal h = elim (or_cases (is_failed_play plan e
       let may = end_row plan past e.kind e legal.1 parts.0 in
       let mark = eqb-true e.mark 4 (and_parts (e.mark == 4) _ parts.1).0 in
       or_right _ _
-      (any_other (λ f. is_in kind.Restore e.place f && (f.mark == 1)) is_fault past (refused_restore e.place)
+      (any_implied (λ f. is_in kind.Restore e.place f && (f.mark == 1)) is_fault past (refused_restore e.place)
       (end_refused plan past e may mark))
   | inr there ↦ or_right _ _ (failed_refused plan past legal.0 there)
 ]

@@ -72,7 +72,7 @@ fails_one test (x ∷ xs) h =
     ]
 
 -- what is implied by a test passes where it does
-any_implied : (test other : Entry → Bool) (es : List Entry) → ((e : Entry) → test e ≡ true → other e ≡ true)
+pub any_implied : (test other : Entry → Bool) (es : List Entry) → ((e : Entry) → test e ≡ true → other e ≡ true)
     → list_any test es ≡ true → list_any other es ≡ true
 any_implied test other [] h w = w
 any_implied test other (e ∷ es) h w =
