@@ -23,7 +23,7 @@ use crate::look_back::LookBack;
 use crate::records::Records;
 use crate::rule::turn;
 use caa_base::outside::plant::{Plant, PlantError};
-use caa_base::written::entry::{Drill, Entry, Failed, Object, OutOfMemory, Participant};
+use caa_base::written::entry::{Drill, Entry, Failed, Kind, Object, OutOfMemory, Participant};
 use caa_base::written::journal::Journal;
 use caa_base::written::work::WorkDone;
 use journal_laws::{is_bounded, is_well_formed, last_put_is_value};
