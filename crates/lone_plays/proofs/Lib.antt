@@ -1,0 +1,6 @@
+pub mod Left
+pub mod Asked
+pub mod Spoken
+pub mod Followed
+pub mod Tops
+pub mod LoneJournal

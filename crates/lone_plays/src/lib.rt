@@ -1,0 +1,15 @@
+//! That plays which share nothing with the others don't see them: a statement alone, as the laws of journals. The call does nothing.
+#![tactic(auto)]
+
+ghost use Rattle.journal_laws.specs.Laws.{Holds};
+ghost use Rattle.lone_plays.specs.Lone.{LonePlays};
+
+use place_plan::plans::plan::Plan;
+
+/// Plays that share no participant and no object with the others don't see them: what stands of them in a legal journal is a legal
+/// journal of the plan in which they alone are played, and complete where the whole one is.
+pub fn plays_stand_alone(plan: &Plan)
+    ensures { Holds LonePlays plan.now }
+{
+    plan.is_closed();
+}
