@@ -1,18 +1,20 @@
 -- What the rules ask of a past about a place, a participant or an object of plays that share nothing with the others, the rest of
 -- the past answers too.
-use Rattle.std.proofs.Common.{◌≡◌, ℕ, ◌==◌, Bool, true, false, not, cond, ◌&&◌, ◌||◌, List, [], ◌∷◌, ◌++◌, Option, refl, sym, ap, ap₂, ◌∙◌, is_none}
-use Rattle.std.proofs.lemmas.Bool.{and_parts, or_parts, false_from_ne_true, both_ways}
+use Rattle.std.proofs.Common.{filter, inl, inr, ◌≡◌, ℕ, ◌==◌, Bool, true, false, not, cond, ◌&&◌, ◌||◌, List, [], ◌∷◌, ◌++◌, Option, refl, sym, ap, ap₂, ◌∙◌, is_none}
+use Rattle.std.specs.List.{list_any}
+use Rattle.std.proofs.lemmas.Bool.{and_parts, or_cases, or_parts, false≢true, false_from_ne_true, both_ways}
 use Rattle.caa_base.specs.declared.written.entry.Entry.{Entry}
 use Rattle.caa_base.specs.declared.written.entry.Kind.{Kind}
 use Rattle.caa_base.specs.declared.written.entry.Kind.TheVariants as kind
 use Rattle.caa_base.specs.Written.Lists.{member, is_at, is_empty, same_option}
-use Rattle.caa_base.specs.Written.Marks.{refused_mark}
+use Rattle.caa_base.specs.Written.Marks.{taken_mark, refused_mark}
 use Rattle.place_plan.specs.Plans.PlanValue.{Plan}
 use Rattle.place_plan.specs.Plans.Places.{around, parent, roles_of, objects_of, uses, fault_of, next_alternate}
-use Rattle.place_plan.specs.RulesOfJournals.Entries.{is_in, is_by, newest}
+use Rattle.place_plan.specs.RulesOfJournals.Entries.{is_of, is_in, is_by, newest}
 use Rattle.place_plan.specs.RulesOfJournals.Whereabouts.{inside_after, inside, is_inside, all_are_inside, is_undone, is_left_in_silence, is_live, is_going}
 use Rattle.place_plan.specs.RulesOfJournals.Raising.{has_handled, raises_in, exceptions_raised, is_raised, is_doomed, is_calm, is_hot, halts_in, is_halted, all_are_halted, exception_resolved, exception_handled}
 use Rattle.place_plan.specs.RulesOfJournals.Objects.{holder_after, holder_of, objects_are_ready, writes, restores, is_within_any, places_undone, value_outside, value_of, before_start, is_tried, has_failed, next_restore}
+use Rattle.place_plan.specs.RulesOfJournals.Attempts.{is_attempt_on}
 use Rattle.lone_plays.proofs.Left.{IsGroup, IsOurs, IsOurObject, IsOwn, AllOwn, left, along, elsewhere, beside, stranger, our_role, our_object, in_mine, by_mine, not_in, any_left, newest_left, arg_left, has_left, has_by_left, all_same, any_same, first_same}
 
 module _ (plan : Plan) (mine : ℕ → Bool) (group : IsGroup plan mine) (plays : List ℕ) where
@@ -174,12 +176,30 @@ module _ (plan : Plan) (mine : ℕ → Bool) (group : IsGroup plan mine) (plays 
 
   -- ---- values
 
-  -- an entry of another place doesn't change an object of ours
+  and_true : (b : Bool) → (b && true) ≡ false → b ≡ false
+  and_true true h = h
+  and_true false h = h
+
+  and_false : (b : Bool) → (b && false) ≡ false
+  and_false true = refl
+  and_false false = refl
+
+  -- an entry of another place asks nothing of an object of ours
+  pub unasked : (o : ℕ) → IsOurObject plan mine o → (e : Entry) → IsOwn plan e → mine e.place ≡ false → is_attempt_on o e ≡ false
+  unasked o ours e own n =
+      false_from_ne_true (is_attempt_on o e) (λ w. both_ways _ (ours e.place e.by n own.role) (own.object o w))
+
+  -- and so doesn't change it
   unchanged : (o : ℕ) → IsOurObject plan mine o → (e : Entry) → IsOwn plan e → mine e.place ≡ false
       → (writes o e ≡ false) × (restores o e ≡ false)
-  unchanged o ours e own n =
-      or_parts (writes o e) (restores o e)
-      (false_from_ne_true (writes o e || restores o e) (λ w. both_ways _ (ours e.place e.by n own.role) (own.object o w)))
+  unchanged o ours e own n = by_kind (is_of kind.Write e) (is_of kind.PutFault e) (is_of kind.Restore e) (e.arg == o) (unasked o ours e own n)
+    where
+      by_kind : (w f r same : Bool) → (w || (f || r)) && same ≡ false
+          → (w && same ≡ false) × (r && (same && (e.mark == taken_mark)) ≡ false)
+      by_kind w f r true h = let parts = or_parts w (f || r) (and_true (w || (f || r)) h) in
+          rw (parts.0, (or_parts f r parts.1).1) (refl, refl)
+      by_kind true f r false h = (refl, and_false r)
+      by_kind false f r false h = (refl, and_false r)
 
   pub value_left : (o : ℕ) → IsOurObject plan mine o → (past : List Entry) → AllOwn plan past → (us : List ℕ)
       → value_outside alone (rest past) o us ≡ value_outside plan past o us
@@ -235,3 +255,27 @@ module _ (plan : Plan) (mine : ℕ → Bool) (group : IsGroup plan mine) (plays 
       → next_restore alone (rest past) p ≡ next_restore plan past p
   next_restore_left p m past own =
       first_same (is_tried (rest past) p) (is_tried past p) (objects_of plan p) (λ o u. tried_left p o m past own)
+
+  -- ---- what the device was asked
+
+  pub asked_left : (o : ℕ) → IsOurObject plan mine o → (past : List Entry) → AllOwn plan past
+      → filter (is_attempt_on o) (rest past) ≡ filter (is_attempt_on o) past
+  asked_left o ours past own =
+      along plan mine group (filter (is_attempt_on o)) (filter (is_attempt_on o)) refl
+      (λ e past own m ih. ap (λ es. cond (is_attempt_on o e) (e ∷ es) es) ih)
+      (λ e past own n. rw (unasked o ours e own n) refl) past own
+
+  -- an object that the rest asks the device to change is ours
+  pub asked_ours : (o : ℕ) → (past : List Entry) → AllOwn plan past → list_any (is_attempt_on o) (rest past) ≡ true
+      → IsOurObject plan mine o
+  asked_ours o [] own w = absurd (false≢true w)
+  asked_ours o (e ∷ past) own w = by_place (mine e.place) refl w (asked_ours o past own.0)
+    where
+      by_place : (b : Bool) → mine e.place ≡ b → list_any (is_attempt_on o) (cond b (e ∷ rest past) (rest past)) ≡ true
+          → (list_any (is_attempt_on o) (rest past) ≡ true → IsOurObject plan mine o) → IsOurObject plan mine o
+      by_place false m w ih = ih w
+      by_place true m w ih =
+          elim (or_cases (is_attempt_on o e) (list_any (is_attempt_on o) (rest past)) w) [
+            | inl x ↦ our_object plan mine group e.place e.by o m own.1.role (own.1.object o x)
+            | inr x ↦ ih x
+          ]

@@ -8,9 +8,9 @@ use Rattle.caa_base.specs.Written.Lists.{member, is_at, first_of, first_not}
 use Rattle.caa_base.proofs.ListLemmas.{at_same}
 use Rattle.place_plan.specs.Plans.PlanValue.{Plan}
 use Rattle.place_plan.specs.Plans.Places.{around, parent, roles_of, uses, alternates_of}
-use Rattle.place_plan.specs.RulesOfJournals.Objects.{writes, restores}
 use Rattle.place_plan.specs.RulesOfJournals.Entries.{is_of, is_in, is_by, has, has_by, newest}
 use Rattle.place_plan.specs.RulesOfJournals.Raising.{newest_arg}
+use Rattle.place_plan.specs.RulesOfJournals.Attempts.{is_attempt_on}
 
 -- ---- what members alone decide
 
@@ -47,10 +47,10 @@ IsOurs plan mine t = (q : ℕ) → mine q ≡ false → member t (roles_of plan 
 abbrev pub IsOurObject : Plan → (ℕ → Bool) → ℕ → Type 0
 IsOurObject plan mine o = (q t : ℕ) → mine q ≡ false → member t (roles_of plan q) ≡ true → uses plan q o ≡ false
 
--- the maker of an entry has a role in its place, and what it changes is an object of the place
+-- the maker of an entry has a role in its place, and what it asks the device to change is an object of the place
 pub record IsOwn (plan : Plan) (e : Entry) : Type 0 where
   pub role : member e.by (roles_of plan e.place) ≡ true
-  pub object : (o : ℕ) → writes o e || restores o e ≡ true → uses plan e.place o ≡ true
+  pub object : (o : ℕ) → is_attempt_on o e ≡ true → uses plan e.place o ≡ true
 
 -- all entries are so
 abbrev pub AllOwn : Plan → List Entry → Type 0

@@ -1,37 +1,61 @@
 -- Chosen plays that share nothing with the others don't see them.
-use Rattle.std.proofs.Common.{◌≡◌, ℕ, ◌==◌, Bool, true, false, cond, ◌||◌, List, [], ◌∷◌, Some, None, Option, refl, sym, ap, ◌∙◌, subst, inl, inr}
-use Rattle.std.proofs.lemmas.Bool.{and_parts, or_cases, eqb-true, false≢true}
+use Rattle.std.proofs.Common.{◌≡◌, ℕ, ◌<◌, ◌==◌, Bool, true, false, cond, ◌&&◌, ◌||◌, List, [], ◌∷◌, ◌++◌, filter, reverse, length, slice_get, suc, Some, None, Option, refl, sym, ap, ◌∙◌, subst}
+use Rattle.std.specs.List.{list_any}
+use Rattle.std.proofs.lemmas.List.{append-nil, reverse-append}
+use Rattle.std.proofs.lemmas.List.Elements.{filter-append}
+use Rattle.std.proofs.lemmas.Bool.{or_parts, or_left, eqb-true, eq-eqb, false≢true}
 use Rattle.caa_base.specs.declared.written.entry.Entry.{Entry}
 use Rattle.caa_base.specs.declared.written.entry.Kind.{Kind}
 use Rattle.caa_base.specs.declared.written.entry.Kind.TheVariants as kind
-use Rattle.caa_base.specs.Written.Marks.{taken_mark}
-use Rattle.caa_base.specs.Written.Lists.{last_of}
+use Rattle.caa_base.specs.Outside.PlantState.{has_drill}
+use Rattle.caa_base.specs.Written.Lists.{member, is_empty, last_of}
 use Rattle.caa_base.proofs.ListLemmas.{last_member}
 use Rattle.place_plan.specs.Plans.PlanValue.{Plan}
-use Rattle.place_plan.specs.Plans.Places.{uses, plays_of}
+use Rattle.place_plan.specs.Plans.Places.{roles_of, uses, plays_of}
 use Rattle.place_plan.proofs.OnJournals.EntryKinds.{of_kind}
-use Rattle.place_plan.specs.RulesOfJournals.Objects.{writes, restores, holder_of}
+use Rattle.place_plan.specs.RulesOfJournals.Objects.{holder_of, value_of}
 use Rattle.place_plan.specs.RulesOfJournals.Roles.{is_over_after, is_over}
 use Rattle.place_plan.specs.RulesOfJournals.Rules.{MayFollow}
-use Rattle.place_plan.specs.RulesOfJournals.Journals.{LegalPast}
+use Rattle.place_plan.specs.RulesOfJournals.Journals.{LegalPast, AllOver, is_fault}
+use Rattle.place_plan.specs.RulesOfJournals.Attempts.{is_attempt_on, attempts_on, IsDrilled}
 use Rattle.journal_laws.specs.Laws.{Holds, touches_object}
 use Rattle.journal_laws.proofs.Playable.{IsTree, IsPlayable}
+use Rattle.journal_laws.proofs.Options.{some_apart}
 use Rattle.journal_laws.proofs.Raised.{role_inside}
 use Rattle.journal_laws.proofs.Holding.{holder_is_innermost}
 use Rattle.journal_laws.proofs.Isolation.{isolation}
 use Rattle.journal_laws.proofs.Makers.{maker_role}
 use Rattle.lone_plays.specs.Lone.{StandApart, only, entries_of, LonePlays}
-use Rattle.lone_plays.proofs.Left.{IsOurs, AllOwn, our_role, has_by_left}
+use Rattle.lone_plays.proofs.Left.{IsOurs, IsOurObject, AllOwn, our_role, our_object, has_by_left}
+use Rattle.lone_plays.proofs.Asked.{value_left, asked_left, asked_ours}
 use Rattle.lone_plays.proofs.Followed.{HasPlays, Stands, row_left}
-use Rattle.lone_plays.proofs.Tops.{mine, group, same_plays, plays_mine, lone_play}
+use Rattle.lone_plays.proofs.Tops.{mine, group, top_of_play, same_plays, plays_mine, lone_play}
 
--- what changes an object touches it
-changed_by : (k : Kind) (e : Entry) (o : ℕ) → writes o (of_kind k e) || restores o (of_kind k e) ≡ true
-    → (touches_object k ≡ true) × (e.arg ≡ o)
-changed_by kind.Write e o w =
-    elim (or_cases (e.arg == o) false w) [ inl x ↦ (refl, eqb-true e.arg o x) | inr x ↦ absurd (false≢true x) ]
-changed_by kind.Restore e o w = (refl, eqb-true e.arg o (and_parts (e.arg == o) (e.mark == taken_mark) w).0)
-changed_by _ e o w = absurd (false≢true w)
+-- ---- lists
+
+filter-reverse : (test : Entry → Bool) (es : List Entry) → filter test (reverse es) ≡ reverse (filter test es)
+filter-reverse test [] = refl
+filter-reverse test (e ∷ es) =
+    ap (filter test) (reverse-append (e ∷ []) es) ∙ filter-append test (reverse es) (e ∷ []) ∙ by_test (test e) (filter-reverse test es)
+  where
+    by_test : (b : Bool) → filter test (reverse es) ≡ reverse (filter test es)
+        → filter test (reverse es) ++ cond b (e ∷ []) [] ≡ reverse (cond b (e ∷ filter test es) (filter test es))
+    by_test true ih = ap (λ fs. fs ++ e ∷ []) ih ∙ sym (reverse-append (e ∷ []) (filter test es))
+    by_test false ih = append-nil (filter test (reverse es)) ∙ ih
+
+-- where none passes, none is left
+none_left : (test : Entry → Bool) (es : List Entry) → list_any test es ≡ false → filter test es ≡ []
+none_left test [] h = refl
+none_left test (e ∷ es) h = let parts = or_parts (test e) (list_any test es) h in rw parts.0 (none_left test es parts.1)
+
+-- ---- entries
+
+-- what asks the device to change an object touches it
+asked_by : (k : Kind) (e : Entry) (o : ℕ) → is_attempt_on o (of_kind k e) ≡ true → (touches_object k ≡ true) × (e.arg ≡ o)
+asked_by kind.Write e o w = (refl, eqb-true e.arg o w)
+asked_by kind.PutFault e o w = (refl, eqb-true e.arg o w)
+asked_by kind.Restore e o w = (refl, eqb-true e.arg o w)
+asked_by _ e o w = absurd (false≢true w)
 
 module _ (plan : Plan) (playable : IsPlayable plan) where
   abbrev tree : IsTree plan
@@ -49,7 +73,7 @@ module _ (plan : Plan) (playable : IsPlayable plan) where
     record {
       role = maker_role plan tree past e legal.0 legal.1;
       object = λ o w.
-          let how = changed_by e.kind e o w in
+          let how = asked_by e.kind e o w in
           subst (λ a. uses plan e.place a ≡ true) how.1
           (holder_uses past legal.0 e.arg e.place ((isolation plan tree (e ∷ past) legal).held [] past e refl how.0));
     },
@@ -106,9 +130,45 @@ module _ (plan : Plan) (playable : IsPlayable plan) where
             has_by_left plan inside_mine (group plan playable chosen apart) kind.Leave p t found.0 past (all_own past legal)
             ∙ subst (λ q. is_over_after past t q ≡ true) last over
 
+    attempts_left : (past : List Entry) → LegalPast plan past → (o : ℕ) → IsOurObject plan inside_mine o
+        → attempts_on (reverse (entries_of plan chosen past)) o ≡ attempts_on (reverse past) o
+    attempts_left past legal o ours =
+        filter-reverse (is_attempt_on o) (entries_of plan chosen past)
+        ∙ ap reverse (asked_left plan inside_mine (group plan playable chosen apart) (only plan chosen).plays o ours past (all_own past legal))
+        ∙ sym (filter-reverse (is_attempt_on o) past)
+
+    drilled_left : (past : List Entry) → LegalPast plan past → IsDrilled plan (reverse past)
+        → IsDrilled (only plan chosen) (reverse (entries_of plan chosen past))
+    drilled_left past legal drilled o k e h = by_any (list_any (is_attempt_on o) (entries_of plan chosen past)) refl
+      where
+        by_any : (b : Bool) → list_any (is_attempt_on o) (entries_of plan chosen past) ≡ b
+            → is_fault e ≡ has_drill plan.drills o (suc k)
+        by_any true w =
+            let ours = asked_ours plan inside_mine (group plan playable chosen apart) (only plan chosen).plays o past (all_own past legal) w in
+            drilled o k e (ap (λ es. slice_get es k) (sym (attempts_left past legal o ours)) ∙ h)
+        by_any false w =
+            let none : attempts_on (reverse (entries_of plan chosen past)) o ≡ [] =
+            filter-reverse (is_attempt_on o) (entries_of plan chosen past)
+            ∙ ap reverse (none_left (is_attempt_on o) (entries_of plan chosen past) w) in
+            absurd (some_apart (ap (λ es. slice_get es k) (sym none) ∙ h))
+
+    values_left : (past : List Entry) → LegalPast plan past → (p o : ℕ) → member p plan.plays ≡ true → chosen p ≡ true
+        → uses plan p o ≡ true → value_of (only plan chosen) (entries_of plan chosen past) o ≡ value_of plan past o
+    values_left past legal p o m c u = by_roles (roles_of plan p) refl
+      where
+        by_roles : (ts : List ℕ) → roles_of plan p ≡ ts → value_of (only plan chosen) (entries_of plan chosen past) o ≡ value_of plan past o
+        by_roles [] r = absurd (false≢true (sym (playable.filled p m) ∙ ap is_empty r))
+        by_roles (t ∷ ts) r =
+            let role : member t (roles_of plan p) ≡ true = rw r (or_left _ _ (eq-eqb t t refl)) in
+            let ours =
+            our_object plan inside_mine (group plan playable chosen apart) p t o (ap chosen (top_of_play plan playable p m) ∙ c) role u in
+            value_left plan inside_mine (group plan playable chosen apart) (only plan chosen).plays o ours past (all_own past legal) []
+
 -- plays that share nothing with the others don't see them
 pub lone_plays : (plan : Plan) → IsPlayable plan → Holds LonePlays plan
-lone_plays plan playable past legal = record {
-  legal = λ chosen apart. legal_left plan playable chosen apart past legal;
-  complete = λ chosen apart whole t known. over_left plan playable chosen apart past legal t (whole t known);
+lone_plays plan playable past legal chosen apart = record {
+  legal = legal_left plan playable chosen apart past legal;
+  complete = λ whole t known. over_left plan playable chosen apart past legal t (whole t known);
+  drilled = drilled_left plan playable chosen apart past legal;
+  values = values_left plan playable chosen apart past legal;
 }

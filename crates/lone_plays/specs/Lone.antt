@@ -1,10 +1,12 @@
 -- Plays that share nothing with the others, and what is left of a plan and of a journal where they alone are played.
-use Rattle.std.specs.Prelude.{◌≡◌, ℕ, Bool, true, false, ◌||◌, List, filter}
+use Rattle.std.specs.Prelude.{◌≡◌, ℕ, Bool, true, false, ◌||◌, List, filter, reverse}
 use Rattle.std.specs.List.{list_any}
 use Rattle.caa_base.specs.declared.written.entry.Entry.{Entry}
 use Rattle.place_plan.specs.Plans.PlanValue.{Plan}
 use Rattle.caa_base.specs.Written.Lists.{member}
 use Rattle.place_plan.specs.Plans.Places.{roles_of, objects_of, uses, top_of}
+use Rattle.place_plan.specs.RulesOfJournals.Objects.{value_of}
+use Rattle.place_plan.specs.RulesOfJournals.Attempts.{IsDrilled}
 use Rattle.place_plan.specs.RulesOfJournals.Journals.{LegalPast, AllOver}
 
 -- some participant has a role in both, or both use some object
@@ -25,9 +27,18 @@ only plan chosen = record plan { plays = filter chosen plan.plays }
 abbrev pub entries_of : Plan → (ℕ → Bool) → List Entry → List Entry
 entries_of plan chosen past = filter (λ e. chosen (top_of plan e.place)) past
 
--- plays that share nothing with the others don't see them: what they leave in the journal is a legal one of the plan with these plays
--- alone, and complete where the whole is
-pub record LonePlays (plan : Plan) (past : List Entry) : Type 0 where
-  pub legal : (chosen : ℕ → Bool) → StandApart plan chosen → LegalPast (only plan chosen) (entries_of plan chosen past)
-  pub complete : (chosen : ℕ → Bool) → StandApart plan chosen → AllOver plan past
-      → AllOver (only plan chosen) (entries_of plan chosen past)
+-- what stands of the chosen plays in the journal is as if the others weren't there
+pub record IsUndisturbed (plan : Plan) (chosen : ℕ → Bool) (past : List Entry) : Type 0 where
+  -- it is a legal journal of the plan with these plays alone
+  pub legal : LegalPast (only plan chosen) (entries_of plan chosen past)
+  -- and complete where the whole is
+  pub complete : AllOver plan past → AllOver (only plan chosen) (entries_of plan chosen past)
+  -- the device refused in it just what it was drilled to refuse, where it did so in the whole
+  pub drilled : IsDrilled plan (reverse past) → IsDrilled (only plan chosen) (reverse (entries_of plan chosen past))
+  -- and it gives each object of these plays the value that the whole gives it
+  pub values : (p o : ℕ) → member p plan.plays ≡ true → chosen p ≡ true → uses plan p o ≡ true
+      → value_of (only plan chosen) (entries_of plan chosen past) o ≡ value_of plan past o
+
+-- plays that share nothing with the others don't see them, be it one play or several
+abbrev pub LonePlays : Plan → List Entry → Type 0
+LonePlays plan past = (chosen : ℕ → Bool) → StandApart plan chosen → IsUndisturbed plan chosen past
