@@ -4,3 +4,4 @@ pub mod Spoken
 pub mod Followed
 pub mod Tops
 pub mod LoneJournal
+pub mod Joined

@@ -1,5 +1,5 @@
 -- Chosen plays that share nothing with the others don't see them.
-use Rattle.std.proofs.Common.{◌≡◌, ℕ, ◌<◌, ◌==◌, Bool, true, false, cond, ◌&&◌, ◌||◌, List, [], ◌∷◌, ◌++◌, filter, reverse, length, slice_get, suc, Some, None, Option, refl, sym, ap, ◌∙◌, subst}
+use Rattle.std.proofs.Common.{◌≡◌, ℕ, Bool, true, false, cond, List, [], ◌∷◌, ◌++◌, filter, reverse, slice_get, suc, Some, None, Option, refl, sym, ap, ◌∙◌, subst}
 use Rattle.std.specs.List.{list_any}
 use Rattle.std.proofs.lemmas.List.{append-nil, reverse-append}
 use Rattle.std.proofs.lemmas.List.Elements.{filter-append}
@@ -16,7 +16,7 @@ use Rattle.place_plan.proofs.OnJournals.EntryKinds.{of_kind}
 use Rattle.place_plan.specs.RulesOfJournals.Objects.{holder_of, value_of}
 use Rattle.place_plan.specs.RulesOfJournals.Roles.{is_over_after, is_over}
 use Rattle.place_plan.specs.RulesOfJournals.Rules.{MayFollow}
-use Rattle.place_plan.specs.RulesOfJournals.Journals.{LegalPast, AllOver, is_fault}
+use Rattle.place_plan.specs.RulesOfJournals.Journals.{LegalPast, is_fault}
 use Rattle.place_plan.specs.RulesOfJournals.Attempts.{is_attempt_on, attempts_on, IsDrilled}
 use Rattle.journal_laws.specs.Laws.{Holds, touches_object}
 use Rattle.journal_laws.proofs.Playable.{IsTree, IsPlayable}
@@ -25,7 +25,7 @@ use Rattle.journal_laws.proofs.Raised.{role_inside}
 use Rattle.journal_laws.proofs.Holding.{holder_is_innermost}
 use Rattle.journal_laws.proofs.Isolation.{isolation}
 use Rattle.journal_laws.proofs.Makers.{maker_role}
-use Rattle.lone_plays.specs.Lone.{StandApart, only, entries_of, LonePlays}
+use Rattle.lone_plays.specs.Lone.{StandApart, lone_plan, lone_entries, LonePlays}
 use Rattle.lone_plays.proofs.Left.{IsOurs, IsOurObject, AllOwn, our_role, our_object, has_by_left}
 use Rattle.lone_plays.proofs.Asked.{value_left, asked_left, asked_ours}
 use Rattle.lone_plays.proofs.Followed.{HasPlays, Stands, row_left}
@@ -57,16 +57,13 @@ asked_by kind.PutFault e o w = (refl, eqb-true e.arg o w)
 asked_by kind.Restore e o w = (refl, eqb-true e.arg o w)
 asked_by _ e o w = absurd (false≢true w)
 
-module _ (plan : Plan) (playable : IsPlayable plan) where
-  abbrev tree : IsTree plan
-  tree = playable.tree
-
+module _ (plan : Plan) (tree : IsTree plan) where
   -- a place that holds an object uses it
-  holder_uses : (past : List Entry) → LegalPast plan past → (o p : ℕ) → holder_of plan past o ≡ Some p → uses plan p o ≡ true
+  pub holder_uses : (past : List Entry) → LegalPast plan past → (o p : ℕ) → holder_of plan past o ≡ Some p → uses plan p o ≡ true
   holder_uses past legal o p h = ((holder_is_innermost plan tree past legal o p).0 h).1
 
   -- the entries of a legal past are their makers' own
-  all_own : (past : List Entry) → LegalPast plan past → AllOwn plan past
+  pub all_own : (past : List Entry) → LegalPast plan past → AllOwn plan past
   all_own [] legal = tt
   all_own (e ∷ past) legal = (
     all_own past legal.0,
@@ -79,90 +76,94 @@ module _ (plan : Plan) (playable : IsPlayable plan) where
     },
   )
 
+module _ (plan : Plan) (playable : IsPlayable plan) where
+  abbrev tree : IsTree plan
+  tree = playable.tree
+
   module _ (chosen : ℕ → Bool) (apart : StandApart plan chosen) where
     abbrev inside_mine : ℕ → Bool
     inside_mine = mine plan playable chosen apart
 
     comes : (t : ℕ) → IsOurs plan inside_mine t
-        → HasPlays plan inside_mine (group plan playable chosen apart) (only plan chosen).plays t
+        → HasPlays plan inside_mine (group plan playable chosen apart) (lone_plan plan chosen).plays t
     comes t ours = record {
       same = same_plays plan playable chosen apart t ours;
       there = λ p m. plays_mine plan playable chosen apart t p ours m;
     }
 
     stands : (past : List Entry) (e : Entry) → LegalPast plan past → MayFollow plan past e → inside_mine e.place ≡ true
-        → Stands plan inside_mine (group plan playable chosen apart) (only plan chosen).plays past e
+        → Stands plan inside_mine (group plan playable chosen apart) (lone_plan plan chosen).plays past e
     stands past e legal may m =
         let made = maker_role plan tree past e legal may in
         record {
-          own = all_own past legal;
+          own = all_own plan tree past legal;
           place = m;
           role = made;
           coming = comes e.by (our_role plan inside_mine (group plan playable chosen apart) e.place e.by m made);
           inside = λ q w. role_inside plan tree past legal e.by q w;
-          held = λ o h. holder_uses past legal o e.place h;
+          held = λ o h. holder_uses plan tree past legal o e.place h;
         }
 
-    legal_left : (past : List Entry) → LegalPast plan past → LegalPast (only plan chosen) (entries_of plan chosen past)
+    legal_left : (past : List Entry) → LegalPast plan past → LegalPast (lone_plan plan chosen) (lone_entries plan past chosen)
     legal_left [] legal = tt
     legal_left (e ∷ past) legal = by_place (inside_mine e.place) refl (legal_left past legal.0)
       where
-        by_place : (b : Bool) → inside_mine e.place ≡ b → LegalPast (only plan chosen) (entries_of plan chosen past)
-            → LegalPast (only plan chosen) (cond b (e ∷ entries_of plan chosen past) (entries_of plan chosen past))
+        by_place : (b : Bool) → inside_mine e.place ≡ b → LegalPast (lone_plan plan chosen) (lone_entries plan past chosen)
+            → LegalPast (lone_plan plan chosen) (cond b (e ∷ lone_entries plan past chosen) (lone_entries plan past chosen))
         by_place false m ih = ih
         by_place true m ih = (
           ih,
-          row_left plan inside_mine (group plan playable chosen apart) (only plan chosen).plays past e
+          row_left plan inside_mine (group plan playable chosen apart) (lone_plan plan chosen).plays past e
               (stands past e legal.0 legal.1 m) e.kind legal.1,
         )
 
     over_left : (past : List Entry) → LegalPast plan past → (t : ℕ) → is_over plan past t ≡ true
-        → is_over (only plan chosen) (entries_of plan chosen past) t ≡ true
-    over_left past legal t over = by_last (last_of (plays_of (only plan chosen) t)) refl
+        → is_over (lone_plan plan chosen) (lone_entries plan past chosen) t ≡ true
+    over_left past legal t over = by_last (last_of (plays_of (lone_plan plan chosen) t)) refl
       where
-        by_last : (o : Option ℕ) → last_of (plays_of (only plan chosen) t) ≡ o
-            → is_over_after (entries_of plan chosen past) t o ≡ true
+        by_last : (o : Option ℕ) → last_of (plays_of (lone_plan plan chosen) t) ≡ o
+            → is_over_after (lone_entries plan past chosen) t o ≡ true
         by_last None h = refl
         by_last (Some p) h =
-            let found = lone_play plan playable chosen apart t p (last_member (plays_of (only plan chosen) t) p h) in
+            let found = lone_play plan playable chosen apart t p (last_member (plays_of (lone_plan plan chosen) t) p h) in
             let ours = our_role plan inside_mine (group plan playable chosen apart) p t found.0 found.1 in
             let last : last_of (plays_of plan t) ≡ Some p = ap last_of (sym (same_plays plan playable chosen apart t ours)) ∙ h in
-            has_by_left plan inside_mine (group plan playable chosen apart) kind.Leave p t found.0 past (all_own past legal)
+            has_by_left plan inside_mine (group plan playable chosen apart) kind.Leave p t found.0 past (all_own plan tree past legal)
             ∙ subst (λ q. is_over_after past t q ≡ true) last over
 
     attempts_left : (past : List Entry) → LegalPast plan past → (o : ℕ) → IsOurObject plan inside_mine o
-        → attempts_on (reverse (entries_of plan chosen past)) o ≡ attempts_on (reverse past) o
+        → attempts_on (reverse (lone_entries plan past chosen)) o ≡ attempts_on (reverse past) o
     attempts_left past legal o ours =
-        filter-reverse (is_attempt_on o) (entries_of plan chosen past)
-        ∙ ap reverse (asked_left plan inside_mine (group plan playable chosen apart) (only plan chosen).plays o ours past (all_own past legal))
+        filter-reverse (is_attempt_on o) (lone_entries plan past chosen)
+        ∙ ap reverse (asked_left plan inside_mine (group plan playable chosen apart) (lone_plan plan chosen).plays o ours past (all_own plan tree past legal))
         ∙ sym (filter-reverse (is_attempt_on o) past)
 
     drilled_left : (past : List Entry) → LegalPast plan past → IsDrilled plan (reverse past)
-        → IsDrilled (only plan chosen) (reverse (entries_of plan chosen past))
-    drilled_left past legal drilled o k e h = by_any (list_any (is_attempt_on o) (entries_of plan chosen past)) refl
+        → IsDrilled (lone_plan plan chosen) (reverse (lone_entries plan past chosen))
+    drilled_left past legal drilled o k e h = by_any (list_any (is_attempt_on o) (lone_entries plan past chosen)) refl
       where
-        by_any : (b : Bool) → list_any (is_attempt_on o) (entries_of plan chosen past) ≡ b
+        by_any : (b : Bool) → list_any (is_attempt_on o) (lone_entries plan past chosen) ≡ b
             → is_fault e ≡ has_drill plan.drills o (suc k)
         by_any true w =
-            let ours = asked_ours plan inside_mine (group plan playable chosen apart) (only plan chosen).plays o past (all_own past legal) w in
+            let ours = asked_ours plan inside_mine (group plan playable chosen apart) (lone_plan plan chosen).plays o past (all_own plan tree past legal) w in
             drilled o k e (ap (λ es. slice_get es k) (sym (attempts_left past legal o ours)) ∙ h)
         by_any false w =
-            let none : attempts_on (reverse (entries_of plan chosen past)) o ≡ [] =
-            filter-reverse (is_attempt_on o) (entries_of plan chosen past)
-            ∙ ap reverse (none_left (is_attempt_on o) (entries_of plan chosen past) w) in
+            let none : attempts_on (reverse (lone_entries plan past chosen)) o ≡ [] =
+            filter-reverse (is_attempt_on o) (lone_entries plan past chosen)
+            ∙ ap reverse (none_left (is_attempt_on o) (lone_entries plan past chosen) w) in
             absurd (some_apart (ap (λ es. slice_get es k) (sym none) ∙ h))
 
     values_left : (past : List Entry) → LegalPast plan past → (p o : ℕ) → member p plan.plays ≡ true → chosen p ≡ true
-        → uses plan p o ≡ true → value_of (only plan chosen) (entries_of plan chosen past) o ≡ value_of plan past o
+        → uses plan p o ≡ true → value_of (lone_plan plan chosen) (lone_entries plan past chosen) o ≡ value_of plan past o
     values_left past legal p o m c u = by_roles (roles_of plan p) refl
       where
-        by_roles : (ts : List ℕ) → roles_of plan p ≡ ts → value_of (only plan chosen) (entries_of plan chosen past) o ≡ value_of plan past o
+        by_roles : (ts : List ℕ) → roles_of plan p ≡ ts → value_of (lone_plan plan chosen) (lone_entries plan past chosen) o ≡ value_of plan past o
         by_roles [] r = absurd (false≢true (sym (playable.filled p m) ∙ ap is_empty r))
         by_roles (t ∷ ts) r =
             let role : member t (roles_of plan p) ≡ true = rw r (or_left _ _ (eq-eqb t t refl)) in
             let ours =
             our_object plan inside_mine (group plan playable chosen apart) p t o (ap chosen (top_of_play plan playable p m) ∙ c) role u in
-            value_left plan inside_mine (group plan playable chosen apart) (only plan chosen).plays o ours past (all_own past legal) []
+            value_left plan inside_mine (group plan playable chosen apart) (lone_plan plan chosen).plays o ours past (all_own plan tree past legal) []
 
 -- plays that share nothing with the others don't see them
 pub lone_plays : (plan : Plan) → IsPlayable plan → Holds LonePlays plan

@@ -8,7 +8,7 @@ use Rattle.place_plan.specs.Plans.PlanValue.{Plan}
 use Rattle.place_plan.specs.Plans.Places.{around, roles_of, objects_of, uses, is_within, top_of, plays_with, plays_of}
 use Rattle.place_plan.proofs.OnPlans.PlaysRise.{plays_in}
 use Rattle.journal_laws.proofs.Playable.{IsTree, IsPlayable}
-use Rattle.lone_plays.specs.Lone.{StandApart, only}
+use Rattle.lone_plays.specs.Lone.{StandApart, lone_plan}
 use Rattle.lone_plays.proofs.Left.{IsGroup, IsOurs, ours_mine}
 
 -- some member passes
@@ -21,7 +21,7 @@ any_from test (y ∷ ys) x m h =
     ]
 
 -- what a filter leaves passes
-filtered : (test : ℕ → Bool) (xs : List ℕ) (x : ℕ) → member x (filter test xs) ≡ true → (member x xs ≡ true) × (test x ≡ true)
+pub filtered : (test : ℕ → Bool) (xs : List ℕ) (x : ℕ) → member x (filter test xs) ≡ true → (member x xs ≡ true) × (test x ≡ true)
 filtered test [] x m = absurd (false≢true m)
 filtered test (y ∷ ys) x m = by_test (test y) refl m (filtered test ys x)
   where
@@ -119,31 +119,31 @@ module _ (plan : Plan) (playable : IsPlayable plan) where
 
     same_with : (t : ℕ) → IsOurs plan mine t → (ps : List ℕ)
         → ((p : ℕ) → member p ps ≡ true → member t (roles_of plan p) ≡ true → chosen p ≡ true)
-        → plays_with (only plan chosen) t (filter chosen ps) ≡ plays_with plan t ps
+        → plays_with (lone_plan plan chosen) t (filter chosen ps) ≡ plays_with plan t ps
     same_with t ours [] h = refl
     same_with t ours (p ∷ ps) h =
         by_tests (chosen p) (member t (roles_of plan p)) refl (h p (or_left _ _ (eq-eqb p p refl)))
         (same_with t ours ps (λ q m. h q (or_right _ _ m)))
       where
         by_tests : (b c : Bool) → member t (roles_of plan p) ≡ c → (c ≡ true → b ≡ true)
-            → plays_with (only plan chosen) t (filter chosen ps) ≡ plays_with plan t ps
-            → plays_with (only plan chosen) t (cond b (p ∷ filter chosen ps) (filter chosen ps))
+            → plays_with (lone_plan plan chosen) t (filter chosen ps) ≡ plays_with plan t ps
+            → plays_with (lone_plan plan chosen) t (cond b (p ∷ filter chosen ps) (filter chosen ps))
             ≡ cond c (p ∷ plays_with plan t ps) (plays_with plan t ps)
         by_tests true true e h ih = rw e (ap (λ qs. p ∷ qs) ih)
         by_tests true false e h ih = rw e ih
         by_tests false true e h ih = absurd (false≢true (h refl))
         by_tests false false e h ih = ih
 
-    pub same_plays : (t : ℕ) → IsOurs plan mine t → plays_of (only plan chosen) t ≡ plays_of plan t
+    pub same_plays : (t : ℕ) → IsOurs plan mine t → plays_of (lone_plan plan chosen) t ≡ plays_of plan t
     same_plays t ours = same_with t ours plan.plays (λ p m r. play_chosen t p ours m r)
 
     pub plays_mine : (t p : ℕ) → IsOurs plan mine t → member p (plays_of plan t) ≡ true → mine p ≡ true
     plays_mine t p ours m = ours_mine plan mine group p t ours (plays_in plan t plan.plays p m).1
 
     -- what the plan with the chosen plays alone has for t are plays that were chosen
-    pub lone_play : (t p : ℕ) → member p (plays_of (only plan chosen) t) ≡ true
+    pub lone_play : (t p : ℕ) → member p (plays_of (lone_plan plan chosen) t) ≡ true
         → (mine p ≡ true) × (member t (roles_of plan p) ≡ true)
     lone_play t p m =
-        let found = plays_in (only plan chosen) t (filter chosen plan.plays) p m in
+        let found = plays_in (lone_plan plan chosen) t (filter chosen plan.plays) p m in
         let kept = filtered chosen plan.plays p found.0 in
         (ap chosen (top_of_play p kept.0) ∙ kept.1, found.1)

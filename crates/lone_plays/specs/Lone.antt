@@ -9,36 +9,48 @@ use Rattle.place_plan.specs.RulesOfJournals.Objects.{value_of}
 use Rattle.place_plan.specs.RulesOfJournals.Attempts.{IsDrilled}
 use Rattle.place_plan.specs.RulesOfJournals.Journals.{LegalPast, AllOver}
 
--- some participant has a role in both, or both use some object
-abbrev pub share : Plan → ℕ → ℕ → Bool
-share plan p q = list_any (λ t. member t (roles_of plan q)) (roles_of plan p) || list_any (λ o. uses plan q o) (objects_of plan p)
+-- p and q share something: some participant has a role in both, or both use some object
+abbrev pub shares_with : Plan → ℕ → ℕ → Bool
+shares_with plan p q = list_any (λ t. member t (roles_of plan q)) (roles_of plan p) || list_any (λ o. uses plan q o) (objects_of plan p)
 
 -- none of the chosen plays shares anything with one that isn't chosen
 abbrev pub StandApart : Plan → (ℕ → Bool) → Type 0
 StandApart plan chosen =
     (p q : ℕ) → member p plan.plays ≡ true → member q plan.plays ≡ true → chosen p ≡ true → chosen q ≡ false
-    → share plan p q ≡ false
+    → shares_with plan p q ≡ false
 
 -- the plan in which the chosen plays alone are played: all else is as it was, so each place keeps its number
-abbrev pub only : Plan → (ℕ → Bool) → Plan
-only plan chosen = record plan { plays = filter chosen plan.plays }
+abbrev pub lone_plan : Plan → (ℕ → Bool) → Plan
+lone_plan plan chosen = record plan { plays = filter chosen plan.plays }
 
 -- the entries of the chosen plays, with those of the places inside
-abbrev pub entries_of : Plan → (ℕ → Bool) → List Entry → List Entry
-entries_of plan chosen past = filter (λ e. chosen (top_of plan e.place)) past
+abbrev pub lone_entries : Plan → List Entry → (ℕ → Bool) → List Entry
+lone_entries plan past chosen = filter (λ e. chosen (top_of plan e.place)) past
 
 -- what stands of the chosen plays in the journal is as if the others weren't there
-pub record IsUndisturbed (plan : Plan) (chosen : ℕ → Bool) (past : List Entry) : Type 0 where
+pub record IsUndisturbed (plan : Plan) (past : List Entry) (chosen : ℕ → Bool) : Type 0 where
   -- it is a legal journal of the plan with these plays alone
-  pub legal : LegalPast (only plan chosen) (entries_of plan chosen past)
+  pub legal : LegalPast (lone_plan plan chosen) (lone_entries plan past chosen)
   -- and complete where the whole is
-  pub complete : AllOver plan past → AllOver (only plan chosen) (entries_of plan chosen past)
+  pub complete : AllOver plan past → AllOver (lone_plan plan chosen) (lone_entries plan past chosen)
   -- the device refused in it just what it was drilled to refuse, where it did so in the whole
-  pub drilled : IsDrilled plan (reverse past) → IsDrilled (only plan chosen) (reverse (entries_of plan chosen past))
+  pub drilled : IsDrilled plan (reverse past) → IsDrilled (lone_plan plan chosen) (reverse (lone_entries plan past chosen))
   -- and it gives each object of these plays the value that the whole gives it
   pub values : (p o : ℕ) → member p plan.plays ≡ true → chosen p ≡ true → uses plan p o ≡ true
-      → value_of (only plan chosen) (entries_of plan chosen past) o ≡ value_of plan past o
+      → value_of (lone_plan plan chosen) (lone_entries plan past chosen) o ≡ value_of plan past o
 
 -- plays that share nothing with the others don't see them, be it one play or several
 abbrev pub LonePlays : Plan → List Entry → Type 0
-LonePlays plan past = (chosen : ℕ → Bool) → StandApart plan chosen → IsUndisturbed plan chosen past
+LonePlays plan past = (chosen : ℕ → Bool) → StandApart plan chosen → IsUndisturbed plan past chosen
+
+-- what stands in a journal of the chosen plays alone may stand so in one of the whole plan, in which the others haven't begun
+pub record IsJoined (plan : Plan) (past : List Entry) (chosen : ℕ → Bool) : Type 0 where
+  -- it is a legal journal of the whole plan
+  pub legal : LegalPast plan past
+  -- nobody is in any other place
+  pub within : lone_entries plan past chosen ≡ past
+
+-- what plays that share nothing with the others may do alone, they may do beside them
+abbrev pub LoneJournals : Plan → Type 0
+LoneJournals plan =
+    (chosen : ℕ → Bool) → StandApart plan chosen → (past : List Entry) → LegalPast (lone_plan plan chosen) past → IsJoined plan past chosen

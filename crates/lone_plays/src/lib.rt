@@ -1,8 +1,9 @@
-//! That plays which share nothing with the others don't see them: a statement alone, as the laws of journals. The call does nothing.
+//! That plays which share nothing with the others don't see them. Each is a statement alone, as the laws of journals: the call does
+//! nothing.
 #![tactic(auto)]
 
 ghost use Rattle.journal_laws.specs.Laws.{Holds};
-ghost use Rattle.lone_plays.specs.Lone.{LonePlays};
+ghost use Rattle.lone_plays.specs.Lone.{LonePlays, LoneJournals};
 
 use place_plan::plans::plan::Plan;
 
@@ -10,6 +11,14 @@ use place_plan::plans::plan::Plan;
 /// journal of the plan in which they alone are played, and complete where the whole one is.
 pub fn plays_stand_alone(plan: &Plan)
     ensures { Holds LonePlays plan.now }
+{
+    plan.is_closed();
+}
+
+/// And what they may do alone, they may do beside the others: a legal journal of the plan with these plays alone is one of the whole
+/// plan.
+pub fn lone_journals_join(plan: &Plan)
+    ensures { LoneJournals plan.now }
 {
     plan.is_closed();
 }
