@@ -1,13 +1,14 @@
--- What plays that share nothing with the others may do alone, they may do beside them.
-use Rattle.std.proofs.Common.{◌≡◌, ℕ, ◌==◌, Bool, true, false, List, [], ◌∷◌, Some, None, Option, refl, sym, ap, ◌∙◌, subst}
-use Rattle.std.proofs.lemmas.Bool.{or_left, eq-eqb}
+-- What plays that share nothing with the others may do alone, they may do beside them, whatever those do alone.
+use Rattle.std.proofs.Common.{cond, not, inl, inr, ◌≡◌, ℕ, ◌==◌, Bool, true, false, List, [], ◌∷◌, Some, None, Option, refl, sym, ap, ◌∙◌, subst}
+use Rattle.std.specs.List.{list_any}
+use Rattle.std.proofs.lemmas.Bool.{or_cases, or_right, false≢true, false_from_ne_true, both_ways, not-true, or_left, eq-eqb}
 use Rattle.caa_base.specs.declared.written.entry.Entry.{Entry}
 use Rattle.caa_base.specs.declared.written.entry.Kind.{Kind}
 use Rattle.caa_base.specs.declared.written.entry.Kind.TheVariants as kind
 use Rattle.caa_base.specs.Written.Lists.{member}
 use Rattle.caa_base.proofs.ListLemmas.{first_not_fails}
 use Rattle.place_plan.specs.Plans.PlanValue.{Plan}
-use Rattle.place_plan.specs.Plans.Places.{around, plays_of}
+use Rattle.place_plan.specs.Plans.Places.{roles_of, objects_of, uses, top_of, around, plays_of}
 use Rattle.place_plan.specs.RulesOfJournals.Entries.{has_by}
 use Rattle.place_plan.specs.RulesOfJournals.Whereabouts.{inside_after, inside}
 use Rattle.place_plan.specs.RulesOfJournals.Roles.{next_play}
@@ -15,13 +16,13 @@ use Rattle.place_plan.specs.RulesOfJournals.Rules.{Row, MayFollow, MayArrive, ar
 use Rattle.place_plan.specs.RulesOfJournals.Journals.{LegalPast}
 use Rattle.journal_laws.proofs.Playable.{IsTree, IsPlayable}
 use Rattle.journal_laws.proofs.Tree.{arrives_in}
-use Rattle.journal_laws.proofs.Raised.{role_inside}
 use Rattle.journal_laws.proofs.Makers.{maker_role}
-use Rattle.lone_plays.specs.Lone.{StandApart, lone_plan, lone_entries, LoneJournals}
-use Rattle.lone_plays.proofs.Left.{IsGroup, IsOurs, our_role, inner_mine}
-use Rattle.lone_plays.proofs.Followed.{HasPlays, Stands, row_left}
-use Rattle.lone_plays.proofs.Tops.{filtered, mine, group, same_plays, lone_play}
-use Rattle.lone_plays.proofs.LoneJournal.{holder_uses, all_own}
+use Rattle.lone_plays.specs.Lone.{shares_with, others, StandApart, lone_plan, lone_entries, LoneJournals}
+use Rattle.lone_plays.proofs.Left.{IsGroup, inner_mine}
+use Rattle.lone_plays.proofs.Followed.{alike}
+use Rattle.lone_plays.proofs.Alike.{turned, row_alike}
+use Rattle.lone_plays.proofs.Tops.{any_from, filtered, mine, group, lone_play}
+use Rattle.lone_plays.proofs.LoneJournal.{stands, holder_uses}
 
 module _ (plan : Plan) (playable : IsPlayable plan) (chosen : ℕ → Bool) (apart : StandApart plan chosen) where
   abbrev lone : Plan
@@ -91,35 +92,66 @@ module _ (plan : Plan) (playable : IsPlayable plan) (chosen : ℕ → Bool) (apa
 
   -- ---- beside the others
 
-  comes : (t : ℕ) → IsOurs plan inside_mine t → HasPlays lone inside_mine lone_group plan.plays t
-  comes t ours = record {
-    same = sym (same_plays plan playable chosen apart t ours);
-    there = λ p m. (lone_play plan playable chosen apart t p m).0;
-  }
+  -- what may follow the rest alone, in one of these places, may follow the whole past
+  pub follows_back : (past : List Entry) (e : Entry) → LegalPast plan past → inside_mine e.place ≡ true
+      → LegalPast lone (lone_entries plan past chosen) → MayFollow lone (lone_entries plan past chosen) e → MayFollow plan past e
+  follows_back past e whole m legal may =
+      let made = maker_role lone lone_tree (lone_entries plan past chosen) e legal may in
+      row_alike plan plan.plays lone.plays past (lone_entries plan past chosen) e
+      (turned plan lone.plays plan.plays (lone_entries plan past chosen) past e.place e.by
+      (alike plan inside_mine (group plan playable chosen apart) lone.plays past e.place e.by
+      (stands plan playable chosen apart past e.place e.by whole m made)))
+      (λ o h. holder_uses lone lone_tree (lone_entries plan past chosen) legal o e.place h) e.kind may
 
-  stands : (past : List Entry) (e : Entry) → LegalPast lone past → MayFollow lone past e
-      → Stands lone inside_mine lone_group plan.plays past e
-  stands past e legal may =
-      let made = maker_role lone lone_tree past e legal may in
-      let m = follows_mine past e.kind e (all_inside past legal) may in
-      record {
-        own = all_own lone lone_tree past legal;
-        place = m;
-        role = made;
-        coming = comes e.by (our_role plan inside_mine (group plan playable chosen apart) e.place e.by m made);
-        inside = λ q w. role_inside lone lone_tree past legal e.by q w;
-        held = λ o h. holder_uses lone lone_tree past legal o e.place h;
-      }
+-- ---- the plays that aren't chosen
 
-  legal_joined : (past : List Entry) → LegalPast lone past → LegalPast plan past
-  legal_joined [] legal = tt
-  legal_joined (e ∷ past) legal = (
-    legal_joined past legal.0,
-    subst (λ es. MayFollow plan es e) (within past legal.0)
-        (row_left lone inside_mine lone_group plan.plays past e (stands past e legal.0 legal.1) e.kind legal.1),
-  )
+any_has : (test : ℕ → Bool) (xs : List ℕ) → list_any test xs ≡ true → (x : ℕ) × (member x xs ≡ true) × (test x ≡ true)
+any_has test [] h = absurd (false≢true h)
+any_has test (x ∷ xs) h = elim (or_cases (test x) (list_any test xs) h) [
+  | inl w ↦ (x, or_left _ _ (eq-eqb x x refl), w)
+  | inr w ↦ let found = any_has test xs w in (found.0, or_right _ _ found.1, found.2)
+]
 
--- what these plays may do alone they may do beside the others
+-- of two lists, the one has a member of the other where the other has one of it
+any_turned : (xs ys : List ℕ) → list_any (λ x. member x ys) xs ≡ true → list_any (λ y. member y xs) ys ≡ true
+any_turned xs ys h = let found = any_has (λ x. member x ys) xs h in any_from (λ y. member y xs) ys found.0 found.2 found.1
+
+shares_turned : (plan : Plan) (p q : ℕ) → shares_with plan p q ≡ true → shares_with plan q p ≡ true
+shares_turned plan p q h =
+    elim (or_cases (list_any (λ t. member t (roles_of plan q)) (roles_of plan p))
+    (list_any (λ o. uses plan q o) (objects_of plan p)) h) [
+      | inl w ↦ or_left _ _ (any_turned (roles_of plan p) (roles_of plan q) w)
+      | inr w ↦ or_right _ _ (any_turned (objects_of plan p) (objects_of plan q) w)
+    ]
+
+not_other : (b : Bool) → not b ≡ false → b ≡ true
+not_other true h = refl
+not_other false h = absurd (false≢true (sym h))
+
+others_apart : (plan : Plan) (chosen : ℕ → Bool) → StandApart plan chosen → StandApart plan (others chosen)
+others_apart plan chosen apart p q m n c d =
+    false_from_ne_true _ (λ w. both_ways _ (apart q p n m (not_other (chosen q) d) (not-true (chosen p) c)) (shares_turned plan p q w))
+
+-- ---- both together
+
+module _ (plan : Plan) (playable : IsPlayable plan) (chosen : ℕ → Bool) (apart : StandApart plan chosen) where
+  all_joined : (past : List Entry) → LegalPast (lone_plan plan chosen) (lone_entries plan past chosen)
+      → LegalPast (lone_plan plan (others chosen)) (lone_entries plan past (others chosen)) → LegalPast plan past
+  all_joined [] a b = tt
+  all_joined (e ∷ past) a b = by_place (chosen (top_of plan e.place)) refl a b (λ c d. all_joined past c d)
+    where
+      by_place : (c : Bool) → chosen (top_of plan e.place) ≡ c
+          → LegalPast (lone_plan plan chosen) (cond c (e ∷ lone_entries plan past chosen) (lone_entries plan past chosen))
+          → LegalPast (lone_plan plan (others chosen))
+          (cond (not c) (e ∷ lone_entries plan past (others chosen)) (lone_entries plan past (others chosen)))
+          → (LegalPast (lone_plan plan chosen) (lone_entries plan past chosen)
+          → LegalPast (lone_plan plan (others chosen)) (lone_entries plan past (others chosen)) → LegalPast plan past)
+          → LegalPast plan (e ∷ past)
+      by_place true m a b ih = let whole = ih a.0 b in (whole, follows_back plan playable chosen apart past e whole m a.0 a.1)
+      by_place false m a b ih = let whole = ih a b.0 in
+          (whole, follows_back plan playable (others chosen) (others_apart plan chosen apart) past e whole (ap not m) b.0 b.1)
+
+-- plays that share nothing with the others don't hinder one another
 pub lone_journals : (plan : Plan) → IsPlayable plan → LoneJournals plan
-lone_journals plan playable chosen apart past legal =
-    record { legal = legal_joined plan playable chosen apart past legal; within = within plan playable chosen apart past legal }
+lone_journals plan playable chosen apart =
+    record { joined = all_joined plan playable chosen apart; within = within plan playable chosen apart }

@@ -15,7 +15,6 @@ use Rattle.place_plan.specs.Plans.Places.{roles_of, uses, plays_of}
 use Rattle.place_plan.proofs.OnJournals.EntryKinds.{of_kind}
 use Rattle.place_plan.specs.RulesOfJournals.Objects.{holder_of, value_of}
 use Rattle.place_plan.specs.RulesOfJournals.Roles.{is_over_after, is_over}
-use Rattle.place_plan.specs.RulesOfJournals.Rules.{MayFollow}
 use Rattle.place_plan.specs.RulesOfJournals.Journals.{LegalPast, is_fault}
 use Rattle.place_plan.specs.RulesOfJournals.Attempts.{is_attempt_on, attempts_on, IsDrilled}
 use Rattle.journal_laws.specs.Laws.{Holds, touches_object}
@@ -28,7 +27,8 @@ use Rattle.journal_laws.proofs.Makers.{maker_role}
 use Rattle.lone_plays.specs.Lone.{StandApart, lone_plan, lone_entries, LonePlays}
 use Rattle.lone_plays.proofs.Left.{IsOurs, IsOurObject, AllOwn, our_role, our_object, has_by_left}
 use Rattle.lone_plays.proofs.Asked.{value_left, asked_left, asked_ours}
-use Rattle.lone_plays.proofs.Followed.{HasPlays, Stands, row_left}
+use Rattle.lone_plays.proofs.Followed.{HasPlays, Stands, alike}
+use Rattle.lone_plays.proofs.Alike.{row_alike}
 use Rattle.lone_plays.proofs.Tops.{mine, group, top_of_play, same_plays, plays_mine, lone_play}
 
 -- ---- lists
@@ -91,18 +91,15 @@ module _ (plan : Plan) (playable : IsPlayable plan) where
       there = λ p m. plays_mine plan playable chosen apart t p ours m;
     }
 
-    stands : (past : List Entry) (e : Entry) → LegalPast plan past → MayFollow plan past e → inside_mine e.place ≡ true
-        → Stands plan inside_mine (group plan playable chosen apart) (lone_plan plan chosen).plays past e
-    stands past e legal may m =
-        let made = maker_role plan tree past e legal may in
-        record {
-          own = all_own plan tree past legal;
-          place = m;
-          role = made;
-          coming = comes e.by (our_role plan inside_mine (group plan playable chosen apart) e.place e.by m made);
-          inside = λ q w. role_inside plan tree past legal e.by q w;
-          held = λ o h. holder_uses plan tree past legal o e.place h;
-        }
+    pub stands : (past : List Entry) (p t : ℕ) → LegalPast plan past → inside_mine p ≡ true → member t (roles_of plan p) ≡ true
+        → Stands plan inside_mine (group plan playable chosen apart) (lone_plan plan chosen).plays past p t
+    stands past p t legal m r = record {
+      own = all_own plan tree past legal;
+      place = m;
+      role = r;
+      coming = comes t (our_role plan inside_mine (group plan playable chosen apart) p t m r);
+      inside = λ q w. role_inside plan tree past legal t q w;
+    }
 
     legal_left : (past : List Entry) → LegalPast plan past → LegalPast (lone_plan plan chosen) (lone_entries plan past chosen)
     legal_left [] legal = tt
@@ -113,8 +110,10 @@ module _ (plan : Plan) (playable : IsPlayable plan) where
         by_place false m ih = ih
         by_place true m ih = (
           ih,
-          row_left plan inside_mine (group plan playable chosen apart) (lone_plan plan chosen).plays past e
-              (stands past e legal.0 legal.1 m) e.kind legal.1,
+          row_alike plan (lone_plan plan chosen).plays plan.plays (lone_entries plan past chosen) past e
+              (alike plan inside_mine (group plan playable chosen apart) (lone_plan plan chosen).plays past e.place e.by
+              (stands past e.place e.by legal.0 m (maker_role plan tree past e legal.0 legal.1)))
+              (λ o h. holder_uses plan tree past legal.0 o e.place h) e.kind legal.1,
         )
 
     over_left : (past : List Entry) → LegalPast plan past → (t : ℕ) → is_over plan past t ≡ true

@@ -12,7 +12,7 @@ use Rattle.lone_plays.specs.Lone.{StandApart, lone_plan}
 use Rattle.lone_plays.proofs.Left.{IsGroup, IsOurs, ours_mine}
 
 -- some member passes
-any_from : (test : ℕ → Bool) (xs : List ℕ) (x : ℕ) → member x xs ≡ true → test x ≡ true → list_any test xs ≡ true
+pub any_from : (test : ℕ → Bool) (xs : List ℕ) (x : ℕ) → member x xs ≡ true → test x ≡ true → list_any test xs ≡ true
 any_from test [] x m h = absurd (false≢true m)
 any_from test (y ∷ ys) x m h =
     elim (or_cases (y == x) (member x ys) m) [

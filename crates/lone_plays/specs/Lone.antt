@@ -1,5 +1,5 @@
 -- Plays that share nothing with the others, and what is left of a plan and of a journal where they alone are played.
-use Rattle.std.specs.Prelude.{◌≡◌, ℕ, Bool, true, false, ◌||◌, List, filter, reverse}
+use Rattle.std.specs.Prelude.{◌≡◌, ℕ, Bool, true, false, not, ◌||◌, List, filter, reverse}
 use Rattle.std.specs.List.{list_any}
 use Rattle.caa_base.specs.declared.written.entry.Entry.{Entry}
 use Rattle.place_plan.specs.Plans.PlanValue.{Plan}
@@ -43,14 +43,18 @@ pub record IsUndisturbed (plan : Plan) (past : List Entry) (chosen : ℕ → Boo
 abbrev pub LonePlays : Plan → List Entry → Type 0
 LonePlays plan past = (chosen : ℕ → Bool) → StandApart plan chosen → IsUndisturbed plan past chosen
 
--- what stands in a journal of the chosen plays alone may stand so in one of the whole plan, in which the others haven't begun
-pub record IsJoined (plan : Plan) (past : List Entry) (chosen : ℕ → Bool) : Type 0 where
-  -- it is a legal journal of the whole plan
-  pub legal : LegalPast plan past
-  -- nobody is in any other place
-  pub within : lone_entries plan past chosen ≡ past
+-- the plays that aren't chosen
+abbrev pub others : (ℕ → Bool) → ℕ → Bool
+others chosen p = not (chosen p)
 
--- what plays that share nothing with the others may do alone, they may do beside them
+-- what the chosen plays do alone and what the others do alone go together in every order
+pub record JoinFreely (plan : Plan) (chosen : ℕ → Bool) : Type 0 where
+  -- a journal is legal where its entries of the chosen plays and its entries of the others are, each alone
+  pub joined : (past : List Entry) → LegalPast (lone_plan plan chosen) (lone_entries plan past chosen)
+      → LegalPast (lone_plan plan (others chosen)) (lone_entries plan past (others chosen)) → LegalPast plan past
+  -- alone, nobody is in a place of another play
+  pub within : (past : List Entry) → LegalPast (lone_plan plan chosen) past → lone_entries plan past chosen ≡ past
+
+-- plays that share nothing with the others don't hinder one another
 abbrev pub LoneJournals : Plan → Type 0
-LoneJournals plan =
-    (chosen : ℕ → Bool) → StandApart plan chosen → (past : List Entry) → LegalPast (lone_plan plan chosen) past → IsJoined plan past chosen
+LoneJournals plan = (chosen : ℕ → Bool) → StandApart plan chosen → JoinFreely plan chosen

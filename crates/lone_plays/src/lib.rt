@@ -15,8 +15,8 @@ pub fn plays_stand_alone(plan: &Plan)
     plan.is_closed();
 }
 
-/// And what they may do alone, they may do beside the others: a legal journal of the plan with these plays alone is one of the whole
-/// plan.
+/// Nor do they hinder one another: a journal is legal where what stands of these plays in it is legal alone, and what stands of the
+/// others is too, in whatever order both stand there.
 pub fn lone_journals_join(plan: &Plan)
     ensures { LoneJournals plan.now }
 {
