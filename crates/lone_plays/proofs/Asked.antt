@@ -1,6 +1,6 @@
 -- What the rules ask of a past about a place, a participant or an object of plays that share nothing with the others, the rest of
 -- the past answers too.
-use Rattle.std.proofs.Common.{filter, inl, inr, ◌≡◌, ℕ, ◌==◌, Bool, true, false, not, cond, ◌&&◌, ◌||◌, List, [], ◌∷◌, ◌++◌, Option, refl, sym, ap, ap₂, ◌∙◌, is_none}
+use Rattle.std.proofs.Common.{◌≡◌, ℕ, ◌==◌, Bool, true, false, ◌&&◌, ◌||◌, List, [], ◌∷◌, ◌++◌, Option, refl, sym, ap, ap₂, ◌∙◌, is_none, filter, inl, inr, not, cond}
 use Rattle.std.specs.List.{list_any}
 use Rattle.std.proofs.lemmas.Bool.{and_parts, or_cases, or_parts, false≢true, false_from_ne_true, both_ways}
 use Rattle.caa_base.specs.declared.written.entry.Entry.{Entry}

@@ -1,5 +1,5 @@
 -- What plays that share nothing with the others may do alone, they may do beside them, whatever those do alone.
-use Rattle.std.proofs.Common.{cond, not, inl, inr, ◌≡◌, ℕ, ◌==◌, Bool, true, false, List, [], ◌∷◌, Some, None, Option, refl, sym, ap, ◌∙◌, subst}
+use Rattle.std.proofs.Common.{◌≡◌, ℕ, ◌==◌, Bool, true, false, List, [], ◌∷◌, Some, None, Option, refl, sym, ap, ◌∙◌, subst, cond, not, inl, inr}
 use Rattle.std.specs.List.{list_any}
 use Rattle.std.proofs.lemmas.Bool.{or_cases, or_right, false≢true, false_from_ne_true, both_ways, not-true, or_left, eq-eqb}
 use Rattle.caa_base.specs.declared.written.entry.Entry.{Entry}
@@ -17,7 +17,7 @@ use Rattle.place_plan.specs.RulesOfJournals.Journals.{LegalPast}
 use Rattle.journal_laws.proofs.Playable.{IsTree, IsPlayable}
 use Rattle.journal_laws.proofs.Tree.{arrives_in}
 use Rattle.journal_laws.proofs.Makers.{maker_role}
-use Rattle.lone_plays.specs.Lone.{shares_with, others, StandApart, lone_plan, lone_entries, LoneJournals}
+use Rattle.lone_plays.specs.Lone.{shares_with, is_other, StandApart, lone_plan, lone_entries, LoneJournals}
 use Rattle.lone_plays.proofs.Left.{IsGroup, inner_mine}
 use Rattle.lone_plays.proofs.Followed.{alike}
 use Rattle.lone_plays.proofs.Alike.{turned, row_alike}
@@ -128,7 +128,7 @@ not_other : (b : Bool) → not b ≡ false → b ≡ true
 not_other true h = refl
 not_other false h = absurd (false≢true (sym h))
 
-others_apart : (plan : Plan) (chosen : ℕ → Bool) → StandApart plan chosen → StandApart plan (others chosen)
+others_apart : (plan : Plan) (chosen : ℕ → Bool) → StandApart plan chosen → StandApart plan (is_other chosen)
 others_apart plan chosen apart p q m n c d =
     false_from_ne_true _ (λ w. both_ways _ (apart q p n m (not_other (chosen q) d) (not-true (chosen p) c)) (shares_turned plan p q w))
 
@@ -136,20 +136,20 @@ others_apart plan chosen apart p q m n c d =
 
 module _ (plan : Plan) (playable : IsPlayable plan) (chosen : ℕ → Bool) (apart : StandApart plan chosen) where
   all_joined : (past : List Entry) → LegalPast (lone_plan plan chosen) (lone_entries plan past chosen)
-      → LegalPast (lone_plan plan (others chosen)) (lone_entries plan past (others chosen)) → LegalPast plan past
+      → LegalPast (lone_plan plan (is_other chosen)) (lone_entries plan past (is_other chosen)) → LegalPast plan past
   all_joined [] a b = tt
   all_joined (e ∷ past) a b = by_place (chosen (top_of plan e.place)) refl a b (λ c d. all_joined past c d)
     where
       by_place : (c : Bool) → chosen (top_of plan e.place) ≡ c
           → LegalPast (lone_plan plan chosen) (cond c (e ∷ lone_entries plan past chosen) (lone_entries plan past chosen))
-          → LegalPast (lone_plan plan (others chosen))
-          (cond (not c) (e ∷ lone_entries plan past (others chosen)) (lone_entries plan past (others chosen)))
+          → LegalPast (lone_plan plan (is_other chosen))
+          (cond (not c) (e ∷ lone_entries plan past (is_other chosen)) (lone_entries plan past (is_other chosen)))
           → (LegalPast (lone_plan plan chosen) (lone_entries plan past chosen)
-          → LegalPast (lone_plan plan (others chosen)) (lone_entries plan past (others chosen)) → LegalPast plan past)
+          → LegalPast (lone_plan plan (is_other chosen)) (lone_entries plan past (is_other chosen)) → LegalPast plan past)
           → LegalPast plan (e ∷ past)
       by_place true m a b ih = let whole = ih a.0 b in (whole, follows_back plan playable chosen apart past e whole m a.0 a.1)
       by_place false m a b ih = let whole = ih a b.0 in
-          (whole, follows_back plan playable (others chosen) (others_apart plan chosen apart) past e whole (ap not m) b.0 b.1)
+          (whole, follows_back plan playable (is_other chosen) (others_apart plan chosen apart) past e whole (ap not m) b.0 b.1)
 
 -- plays that share nothing with the others don't hinder one another
 pub lone_journals : (plan : Plan) → IsPlayable plan → LoneJournals plan

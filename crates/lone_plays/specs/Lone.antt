@@ -43,15 +43,15 @@ pub record IsUndisturbed (plan : Plan) (past : List Entry) (chosen : ℕ → Boo
 abbrev pub LonePlays : Plan → List Entry → Type 0
 LonePlays plan past = (chosen : ℕ → Bool) → StandApart plan chosen → IsUndisturbed plan past chosen
 
--- the plays that aren't chosen
-abbrev pub others : (ℕ → Bool) → ℕ → Bool
-others chosen p = not (chosen p)
+-- the play isn't chosen
+abbrev pub is_other : (ℕ → Bool) → ℕ → Bool
+is_other chosen p = not (chosen p)
 
 -- what the chosen plays do alone and what the others do alone go together in every order
 pub record JoinFreely (plan : Plan) (chosen : ℕ → Bool) : Type 0 where
   -- a journal is legal where its entries of the chosen plays and its entries of the others are, each alone
   pub joined : (past : List Entry) → LegalPast (lone_plan plan chosen) (lone_entries plan past chosen)
-      → LegalPast (lone_plan plan (others chosen)) (lone_entries plan past (others chosen)) → LegalPast plan past
+      → LegalPast (lone_plan plan (is_other chosen)) (lone_entries plan past (is_other chosen)) → LegalPast plan past
   -- alone, nobody is in a place of another play
   pub within : (past : List Entry) → LegalPast (lone_plan plan chosen) past → lone_entries plan past chosen ≡ past
 
