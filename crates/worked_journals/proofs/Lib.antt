@@ -28,3 +28,4 @@ pub mod Spoiled
 pub mod SpoiledRules
 pub mod SpoiledEnds
 pub mod WrittenTexts
+pub mod LonePlays
