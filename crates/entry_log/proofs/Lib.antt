@@ -1,0 +1,2 @@
+mod MadeEntries
+pub mod LogLemmas
