@@ -37,11 +37,7 @@ pub fn fact_of(plan: &Plan, paths: &[Place], entry: &Entry) -> Option<Fact> {
 }
 
 /// The value of each object at the end of a journal.
-pub fn last_values(
-    alloc: Global,
-    plan: &Plan,
-    journal: &Journal,
-) -> Result<Vec<i64>, OutOfMemory> {
+pub fn last_values(alloc: Global, plan: &Plan, journal: &Journal) -> Result<Vec<i64>, OutOfMemory> {
     let mut values = plan.initials(alloc)?;
     for entry in journal.as_slice() {
         if takes_put(entry) {

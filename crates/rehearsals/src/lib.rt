@@ -2,8 +2,8 @@
 #![tactic(auto)]
 
 pub mod facts;
-pub mod paths;
 pub mod numbered;
+pub mod paths;
 pub mod refusing;
 pub mod rehearsing;
 pub mod tally;

@@ -45,7 +45,11 @@ fn play(
 }
 
 /// How many entries the fair schedule of number 0 makes, with the drills of the plan or without them.
-pub fn usual_length(alloc: Global, plan: Plan, refusals: Refusals) -> Result<(Plan, u32), OutOfMemory>
+pub fn usual_length(
+    alloc: Global,
+    plan: Plan,
+    refusals: Refusals,
+) -> Result<(Plan, u32), OutOfMemory>
     ensures { IfOk result (λ found. found.0 ≡ plan) }
 {
     let Played { plan, journal } = play(alloc, plan, Schedule::fair(0), refusals)?;

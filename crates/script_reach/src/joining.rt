@@ -1,7 +1,7 @@
 //! The least covers of what can be raised together.
 
-use crate::roles::number_of;
 use crate::action_reach::is_among;
+use crate::roles::number_of;
 use crate::sources::{Source, do_exclude};
 use caa_base::written::entry::{Exception, OutOfMemory, Place};
 use exception_graph::Graph;
@@ -105,10 +105,13 @@ fn search(
 ) -> Result<Option<Vec<Exception>>, OutOfMemory> {
     let mut states = Vec::new(alloc);
     for (source, beside) in sources.iter().zip(besides.iter()) {
-        push_state(&mut states, State {
-            cover: source.exception,
-            left: *beside,
-        })?;
+        push_state(
+            &mut states,
+            State {
+                cover: source.exception,
+                left: *beside,
+            },
+        )?;
     }
     let mut covers = Vec::new(alloc);
     for index in 0..MOST_STATES {

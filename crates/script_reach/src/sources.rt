@@ -42,8 +42,7 @@ fn is_in(nodes: &[Node], node: Node) -> bool {
 fn is_shut_out(plan: &Plan, place: Place, first: &Source, second: &Source) -> bool {
     match second.node {
         Node::Step { role, step } if step > 0 => {
-            !(first.is_given_up
-                && node_of(plan, place, role, step.saturating_sub(1)) == first.node)
+            !(first.is_given_up && node_of(plan, place, role, step.saturating_sub(1)) == first.node)
         }
         _ => true,
     }
@@ -68,7 +67,11 @@ pub fn do_exclude(plan: &Plan, place: Place, some: &Source, other: &Source) -> b
 }
 
 /// An action that is reached by its number.
-pub fn known_of<'a>(known: &'a [Option<ActionReach>], plan: &Plan, place: Place) -> Option<&'a ActionReach> {
+pub fn known_of<'a>(
+    known: &'a [Option<ActionReach>],
+    plan: &Plan,
+    place: Place,
+) -> Option<&'a ActionReach> {
     if place >= plan.places() {
         return None;
     }
@@ -260,7 +263,11 @@ impl Sources {
 }
 
 /// All sources of an action.
-pub fn sources_of(alloc: Global, field: &Field, entered: &[u32]) -> Result<Vec<Source>, OutOfMemory> {
+pub fn sources_of(
+    alloc: Global,
+    field: &Field,
+    entered: &[u32],
+) -> Result<Vec<Source>, OutOfMemory> {
     let mut sources = Sources {
         list: Vec::new(alloc),
     };

@@ -1,4 +1,4 @@
-use Rattle.std.proofs.Common.{◌≡◌, sym, ◌∙◌, subst, subst₂}
+use Rattle.std.proofs.Common.{sym, ◌∙◌, subst, subst₂}
 use Rattle.place_plan.specs.RulesOfJournals.Journals.{IsLegal, IsComplete}
 use Rattle.rehearsals.proofs.Reversed.{all_well_formed}
 use Rattle.rehearsals.proofs.numbered.play.Goals as goal
