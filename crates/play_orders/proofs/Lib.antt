@@ -1,0 +1,2 @@
+mod Hints
+mod Awake
