@@ -1,14 +1,25 @@
 ghost use Rattle.std.specs.Prelude.{◌≤◌};
 
-/// How many bytes of an answer are kept.
+/// How many bytes of a line are kept.
 const MOST_HEARD: usize = 32;
 
-/// The first bytes of the last line that came, at most 32, without its line feed: for who has to be told of it.
-#[derive(Clone, Copy, Drop)]
+/// How far a line was heard.
+#[derive(Clone, Copy, PartialEq, Eq)]
+pub enum HeardEnd {
+    /// More of it may come.
+    Open,
+    /// Its line feed came.
+    LineFeed,
+    /// The answers ended, or a read failed.
+    NoMore,
+}
+
+/// The first bytes of the last line that came, at most 32, without its line feed: for whoever has to be told of it.
+#[derive(Drop)]
 pub struct HeardLine {
     bytes: [u8; 32],
     len: usize,
-    has_ended: bool,
+    end: HeardEnd,
     ghost within: { len ≤ 32 },
 }
 
@@ -18,14 +29,15 @@ impl HeardLine {
         HeardLine {
             bytes: [0; 32],
             len: 0,
-            has_ended: false,
+            end: HeardEnd::Open,
         }
     }
 
     /// One byte more was heard, or none came. Bytes behind the last that is kept are let go.
     pub(crate) fn add(&mut self, byte: Option<u8>) {
         match byte {
-            None | Some(b'\n') => self.has_ended = true,
+            None => self.end = HeardEnd::NoMore,
+            Some(b'\n') => self.end = HeardEnd::LineFeed,
             Some(byte) => {
                 if self.len < MOST_HEARD {
                     self.bytes[self.len] = byte;
@@ -37,7 +49,12 @@ impl HeardLine {
 
     /// Whether more of the line may come that would be kept.
     pub(crate) fn is_open(&self) -> bool {
-        !self.has_ended && self.len < MOST_HEARD
+        self.end == HeardEnd::Open && self.len < MOST_HEARD
+    }
+
+    /// How far the line was heard.
+    pub fn end(&self) -> HeardEnd {
+        self.end
     }
 
     /// The bytes that were kept.

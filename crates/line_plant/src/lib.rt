@@ -7,6 +7,7 @@ pub mod heard;
 pub mod hearing;
 mod lines;
 pub mod names;
+pub mod noted;
 pub mod plant;
 #[cfg(test)]
 mod tests;

@@ -16,6 +16,7 @@ ghost use Rattle.line_plant.specs.Devices.{LayCame, PutCame};
 ghost use Rattle.line_plant.specs.inner.Room.{most_put_bytes};
 
 use crate::count::counted_up;
+use crate::heard::HeardLine;
 use crate::hearing::Answer;
 use crate::lines::{make_lay, make_put};
 use crate::wire::Wire;
@@ -138,9 +139,9 @@ impl<S: Source, K: Sink> LinePlant<S, K> {
         name_at(self.names.as_slice(), object)
     }
 
-    /// The first bytes of the last line that was heard, at most 32: of an answer that is lost, as far as it was read.
-    pub fn heard(&self) -> &[u8] {
-        self.wire.heard.as_slice()
+    /// The last line that was heard: of an answer that is lost, as far as it was read.
+    pub fn heard(&self) -> &HeardLine {
+        &self.wire.heard
     }
 
     /// Reads on in a line that is no answer, up to its line feed or 32 bytes, so that [`LinePlant::heard`] has more of it. Where no

@@ -1,4 +1,4 @@
-ghost use Rattle.std.specs.Prelude.{◌≡◌, true};
+ghost use Rattle.std.specs.Prelude.{◌≡◌, true, false};
 ghost use Rattle.line_plant.specs.Wires.{AskCame, WasStopped};
 
 use crate::count::counted_up;
