@@ -51,25 +51,34 @@ fn takes<S: Source>(source: &mut S, heard: &mut HeardLine, wanted: &[u8]) -> boo
     true
 }
 
+/// Takes these bytes and those behind them, where they come next. Else it takes some of what comes.
+fn takes_both<S: Source>(source: &mut S, heard: &mut HeardLine, front: &[u8], back: &[u8]) -> bool
+    ensures taken { IsTrue result → S.left source.old ≡ prepend_known (front.now ++ back.now) (S.left source.new) }
+    ensures unfailed { IsTrue result → S.faults source.new ≡ S.faults source.old }
+    ensures other { IsFalse result → IsNotNext (S.left source.old) (S.faults source.old) (S.faults source.new) (front.now ++ back.now) }
+{
+    if takes(source, heard, front) {
+        return takes(source, heard, back);
+    }
+    false
+}
+
 /// Takes this number and a line feed, where they come next. Else it takes some of what comes.
 fn takes_number<S: Source>(source: &mut S, heard: &mut HeardLine, number: u64) -> bool
     ensures taken { IsTrue result → S.left source.old ≡ prepend_known (ended number) (S.left source.new) }
     ensures unfailed { IsTrue result → S.faults source.new ≡ S.faults source.old }
     ensures other { IsFalse result → IsNotNext (S.left source.old) (S.faults source.old) (S.faults source.new) (ended number) }
 {
-    if takes(source, heard, Buffer::new().format(number).as_bytes()) {
-        return takes(source, heard, b"\n");
-    }
-    false
+    takes_both(
+        source,
+        heard,
+        Buffer::new().format(number).as_bytes(),
+        b"\n",
+    )
 }
 
 /// Takes a word, this number and a line feed, where they come next. Else it takes some of what comes.
-fn takes_answer<S: Source>(
-    source: &mut S,
-    heard: &mut HeardLine,
-    word: &[u8],
-    number: u64,
-) -> bool
+fn takes_answer<S: Source>(source: &mut S, heard: &mut HeardLine, word: &[u8], number: u64) -> bool
     ensures taken { IsTrue result → S.left source.old ≡ prepend_known (word.now ++ ended number) (S.left source.new) }
     ensures unfailed { IsTrue result → S.faults source.new ≡ S.faults source.old }
     ensures other { IsFalse result → IsNotNext (S.left source.old) (S.faults source.old) (S.faults source.new) (word.now ++ ended number) }

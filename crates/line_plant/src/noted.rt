@@ -28,7 +28,7 @@ pub enum Link {
 /// is given up, the line `stop` is sent.
 #[derive(Drop)]
 pub struct Noted<'a, S, K, W> {
-    plant: LinePlant<S, K>,
+    pub plant: LinePlant<S, K>,
     operator: W,
     is_over: &'a AtomicBool,
     link: Link,
@@ -38,7 +38,11 @@ pub struct Noted<'a, S, K, W> {
 /// Writes these bytes, those that aren't printed as a question mark.
 fn write_printed<W: Write>(operator: &mut W, bytes: &[u8]) {
     for byte in bytes {
-        let printed = if (32..127).contains(byte) { *byte } else { b'?' };
+        let printed = if (32..127).contains(byte) {
+            *byte
+        } else {
+            b'?'
+        };
         let _ = operator.write_all(&[printed]);
     }
 }
@@ -70,7 +74,9 @@ fn give_up<S: Source, K: Sink, W: Write>(plant: &mut LinePlant<S, K>, operator: 
 
 impl<'a, S: Source, K: Sink, W: Write> Noted<'a, S, K, W> {
     /// This device, with an operator who is told.
-    pub fn new(plant: LinePlant<S, K>, operator: W, is_over: &'a AtomicBool) -> Self {
+    pub fn new(plant: LinePlant<S, K>, operator: W, is_over: &'a AtomicBool) -> Self
+        ensures { result.plant ≡ plant }
+    {
         Noted {
             plant,
             operator,
@@ -115,7 +121,10 @@ impl<'a, S: Source, K: Sink, W: Write> Noted<'a, S, K, W> {
             let _ = write!(self.operator, " {value}): the device refused it\n");
             return;
         }
-        let _ = write!(self.operator, " {value}): no right answer; the link is broken, and nothing more is sent but stop\n");
+        let _ = write!(
+            self.operator,
+            " {value}): no right answer; the link is broken, and nothing more is sent but stop\n"
+        );
         self.link = Link::Broken { number };
         give_up(&mut self.plant, &mut self.operator);
     }
@@ -128,7 +137,10 @@ impl<'a, S: Source, K: Sink, W: Write> Noted<'a, S, K, W> {
             let _ = write!(self.operator, "lay {number}: the device refused it\n");
             return;
         }
-        let _ = write!(self.operator, "lay {number}: no right answer; the link is broken, and nothing more is sent but stop\n");
+        let _ = write!(
+            self.operator,
+            "lay {number}: no right answer; the link is broken, and nothing more is sent but stop\n"
+        );
         self.link = Link::Broken { number };
         give_up(&mut self.plant, &mut self.operator);
     }

@@ -6,11 +6,11 @@
 //! The numbers are the wire's own, and are never set back, also where the device is laid out again: a late answer to the first laying
 //! out isn't taken for that to the second.
 
-ghost use Rattle.std.specs.Prelude.{◌≡◌, ◌<◌, ◌≤◌, ◌+◌, length, None, false, if◌then◌else◌, OnOk, OnErr, vec_capacity};
+ghost use Rattle.std.specs.Prelude.{◌≡◌, ◌<◌, ◌≤◌, ◌+◌, length, None, false, if◌then◌else◌, IfOk, OnOk, OnErr, vec_capacity};
 ghost use Rattle.caa_base.specs.Outside.Counts.{counted_up, faults_after};
 ghost use Rattle.caa_base.specs.Outside.PlantState.{is_refused};
 ghost use Rattle.caa_base.specs.Written.Names.{name_at};
-ghost use Rattle.line_plant.specs.Lines.{asking_line, put_word, restore_word};
+ghost use Rattle.line_plant.specs.Lines.{asking_line, object_names, put_word, restore_word};
 ghost use Rattle.line_plant.specs.Wires.{AskCame, WasStopped};
 ghost use Rattle.line_plant.specs.Devices.{LayCame, PutCame};
 ghost use Rattle.line_plant.specs.inner.Room.{most_put_bytes};
@@ -19,12 +19,14 @@ use crate::count::counted_up;
 use crate::heard::HeardLine;
 use crate::hearing::Answer;
 use crate::lines::{make_lay, make_put};
+use crate::names::object_names;
 use crate::wire::Wire;
 use caa_base::outside::plant::{Plant, PlantError};
 use caa_base::outside::sink::Sink;
 use caa_base::outside::source::Source;
-use caa_base::written::entry::{Drill, Failed, Object};
+use caa_base::written::entry::{Drill, Failed, Object, OutOfMemory};
 use caa_base::written::name::{Name, name_at};
+use place_plan::plans::plan::Plan;
 use std::alloc::Global;
 use std::marker::Model;
 
@@ -84,6 +86,27 @@ fn ask_put<S: Source, K: Sink>(
 {
     make_put(line, word, wire.next, name, value);
     wire.ask(line.as_slice())
+}
+
+impl<S: Source + Drop, K: Sink + Drop> LinePlant<S, K> {
+    /// A device with the objects of a plan, each by its name, which answers on a source what it is asked on a sink. Nothing is sent yet.
+    pub fn for_plan(
+        alloc: Global,
+        plan: &Plan,
+        answers: S,
+        commands: K,
+    ) -> Result<Self, OutOfMemory>
+        ensures names { IfOk result (λ device. device.names ≡ object_names plan.now) }
+        ensures answers { IfOk result (λ device. device.wire.answers ≡ answers) }
+        ensures commands { IfOk result (λ device. device.wire.commands ≡ commands) }
+        ensures first { IfOk result (λ device. device.wire.next ≡ 0) }
+        ensures whole { IfOk result (λ device. device.wire.is_broken ≡ false) }
+        ensures uncut { IfOk result (λ device. device.wire.is_cut ≡ false) }
+        ensures unstopped { IfOk result (λ device. device.wire.was_stopped ≡ false) }
+    {
+        let names = object_names(alloc, plan)?;
+        Ok(LinePlant::new(alloc, names, answers, commands))
+    }
 }
 
 impl<S: Source, K: Sink> LinePlant<S, K> {
@@ -147,8 +170,12 @@ impl<S: Source, K: Sink> LinePlant<S, K> {
     /// Reads on in a line that is no answer, up to its line feed or 32 bytes, so that [`LinePlant::heard`] has more of it. Where no
     /// answer was lost, nothing is read.
     pub fn hear_rest(&mut self)
-        ensures { self.new ≡ record self.old { wire = record self.old.wire {
-            answers = self.new.wire.answers; heard = self.new.wire.heard } } }
+        ensures { self.new ≡ record self.old {
+          wire = record self.old.wire {
+            answers = self.new.wire.answers;
+            heard = self.new.wire.heard;
+          };
+        } }
     {
         if self.wire.is_broken {
             self.wire.hear_rest();

@@ -1,8 +1,0 @@
-use Rattle.std.proofs.Common.{decimal, codes}
-use Rattle.line_plant.proofs.ComingNext.{not_behind}
-use Rattle.line_plant.proofs.hearing.takes_number.Goals as goal
-
-pub returns-then-takes-clause-other : goal.returns-then-takes-clause-other
-returns-then-takes-clause-other g c is =
-    not_behind _ _ _ _ _ (decimal c.args.number) (codes "\n") (c.takes.ensures.taken c.if-takes.true)
-    (c.takes.ensures.unfailed c.if-takes.true) (c.takes-then-takes.ensures.other is)
