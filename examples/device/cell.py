@@ -3,7 +3,7 @@
 
 `lay NUMBER NAME VALUE ..` names the objects and brings them to these values, `put NUMBER NAME VALUE` brings one object to a value, and
 `restore NUMBER NAME VALUE` brings it back. The cell answers `well NUMBER`, or `failed NUMBER` where it refuses, which it does by chance,
-by a name, or from a line on. After `stop`, and at the end of its input, it takes its machine to rest: no object is brought anywhere
+by word, name and value, or from a line on. After `stop`, and at the end of its input, it takes its machine to rest: no object is brought anywhere
 any longer. `--wrong` makes it answer one line wrongly, in one of the ways that a link can go wrong.
 """
 import argparse
@@ -41,7 +41,7 @@ class Cell:
             self.values = dict(zip(words[::2], map(int, words[1::2])))
             return True
         name, value = words
-        if self.chance.random() * 100 < self.refuse or 0 < self.refuse_from <= number or f"{verb} {name}" in self.refused:
+        if self.chance.random() * 100 < self.refuse or 0 < self.refuse_from <= number or f"{verb} {name} {value}" in self.refused:
             return False
         self.values[name] = int(value)
         return True
@@ -93,7 +93,7 @@ def main():
     parser.add_argument("--seed", type=int, default=0, help="which puts are refused (default: %(default)s)")
     parser.add_argument("--refuse", type=float, default=0, metavar="PERCENT", help="how many of 100 puts are refused")
     parser.add_argument("--refuse-from", type=int, default=0, metavar="NUMBER", help="refuse this line and each behind it")
-    parser.add_argument("--refused", action="append", default=[], metavar="'WORD NAME'", help="refuse these, as 'restore arc'")
+    parser.add_argument("--refused", action="append", default=[], metavar="'WORD NAME VALUE'", help="refuse these, as 'restore arc 0'")
     parser.add_argument("--wrong", choices=WRONGS, default="dies", help="how it answers one line wrongly (default: %(default)s)")
     parser.add_argument("--at", type=int, default=-1, metavar="NUMBER", help="the number of that line; 0 is that of lay")
     words = parser.parse_args()

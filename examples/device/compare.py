@@ -207,21 +207,20 @@ def plain_journal(caa, script):
 
 
 def relit(bridge, caa, folder):
-    """What is wrong where a play failed, and the next would light the arc again."""
+    """What is wrong where a play failed, and the undo of the next would light the arc again."""
     journal = os.path.join(folder, "journal")
-    cell = Cell(refused=["restore arc"])
+    cell = Cell(refused=["restore arc 0"])
     play = Play(bridge, ["sim", SEED], RELIGHT, journal, cell)
-    if not cell.is_stopped or play.sent[-1] != "stop\n" or any("put arc 0" in line for line in play.sent):
+    if not cell.is_stopped or [line.split()[0] for line in play.sent] != ["lay", "put", "put", "restore", "restore", "stop"]:
         return f"sent {play.sent}"
-    if "play weld ended: failed; nothing more is sent but stop" not in play.told or "1 plays after it were not begun" not in play.told:
+    told = ("restore 3 (arc 0): the device refused it", "play weld ended: failed; nothing more is sent but stop",
+            "plays not begun at the machine: 1", "plays: failed 2", "object arc 1")
+    if any(line not in play.told for line in told):
         return f"told {play.told}"
-    wrong = wrong_in(caa, RELIGHT, play)
-    cell = Cell(refused=["restore arc"])
-    cell.takes = lambda verb, number, words, takes=cell.takes: False if number == 4 else takes(verb, number, words)
-    cell.refused = set()
-    on = Play(bridge, ["--go-on", "sim", SEED], RELIGHT, journal, cell)
-    asked = [line.split()[0] + " " + " ".join(line.split()[2:]) for line in on.sent]
-    return wrong or (None if "restore arc 1" in asked and "stop\n" not in on.sent else f"with --go-on it sent {on.sent}")
+    on = Play(bridge, ["--go-on", "sim", SEED], RELIGHT, journal, Cell(refused=["restore arc 0"]))
+    if not any(line.endswith(" arc 1\n") for line in on.sent[4:]) or "stop\n" in on.sent:
+        return f"with --go-on it sent {on.sent}"
+    return wrong_in(caa, RELIGHT, play)
 
 
 def ended(bridge, words, folder, **streams):
