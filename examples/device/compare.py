@@ -52,28 +52,30 @@ class Play:
                 pass
 
     def serve(self, cell, kill_at):
-        """Answers until the program or the cell leaves."""
-        went_wrong = False
+        """Answers until the program or the cell leaves; what the program sends to a cell that left is read still."""
+        last = None if not isinstance(cell, WrongCell) else cell.at + (cell.way in ("doubles", "late"))
+        has_left = is_lost = False
         for line in iter(self.program.stdout.readline, b""):
             line = line.decode("ascii")
-            (self.behind if went_wrong else self.sent).append(line)
-            if line != "stop\n" and int(line.split()[1]) == kill_at:
+            number = None if line == "stop\n" else int(line.split()[1])
+            (self.behind if is_lost else self.sent).append(line)
+            is_lost = is_lost or (last is not None and number == last)
+            if number is not None and number == kill_at:
                 with open(self.journal, "rb") as text:
                     self.seen_at_kill = text.read()
                 self.program.kill()
                 return
-            answer, leaves = cell.answer(line) if isinstance(cell, WrongCell) else (cell.answer(line), False)
-            if isinstance(cell, WrongCell) and line != "stop\n":
-                # a second answer and a late one are noticed at the line behind them
-                last = cell.at + 1 if cell.way in ("doubles", "late") else cell.at
-                went_wrong = int(line.split()[1]) >= last
+            if has_left:
+                continue
+            answer = cell.answer(line)
+            answer, has_left = answer if isinstance(cell, WrongCell) else (answer, False)
             try:
                 self.program.stdin.write(answer.encode("latin-1"))
                 self.program.stdin.flush()
+                if has_left:
+                    self.program.stdin.close()
             except BrokenPipeError:
                 return
-            if leaves:
-                self.program.stdin.close()
 
 
 def text_of(path):
@@ -147,10 +149,10 @@ def one_wrong(bridge, caa, words, script, folder, way, number, attempts):
     """What is wrong with a play in which one answer goes wrong."""
     play = Play(bridge, words, script, os.path.join(folder, "journal"), WrongCell(way, number))
     lost = number + 1 if way in ("doubles", "late") else number
-    if way not in ("dies", "half") and play.behind not in ([], ["stop\n"]):
+    if play.behind not in ([], ["stop\n"]):
         return f"sent {play.behind} behind a lost answer"
-    if lost == 0:
-        return None if (play.status, text_of(play.journal)) == (6, b"fault plant\n") and names_line(play, 0) else "played, or told nothing"
+    if number == 0 and way != "doubles":
+        return None if (play.status, text_of(play.journal)) == (6, b"fault plant\n") and "lay 0: " in play.told else "played, or told nothing"
     wrong = wrong_in(caa, script, play)
     if wrong:
         return wrong
@@ -159,7 +161,7 @@ def one_wrong(bridge, caa, words, script, folder, way, number, attempts):
     if lost <= len(found):
         if not names_line(play, lost):
             return f"standard error doesn't name {lost}: {play.told}"
-        if way not in ("dies", "half") and play.behind != ["stop\n"]:
+        if play.behind != ["stop\n"]:
             return f"sent {play.behind} behind a lost answer, and not stop"
     if [nth for nth, (_, is_refused) in enumerate(found, 1) if is_refused != (nth >= lost or nth in refused)]:
         return "another put is refused than the one that wasn't answered and those after it"
