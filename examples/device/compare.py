@@ -23,6 +23,7 @@ SCRIPTS = [os.path.join(CASES, name) for name in ("jam_and_slip", "production_ce
 RELIGHT = os.path.join(HERE, "relight")
 SEED = "1"
 SECONDS = 60
+DRILLS = 900
 ATTEMPTS = ("write", "putfault", "restore")
 
 
@@ -135,7 +136,7 @@ def refused_from(caa, script, attempts, number):
     objects = [line.split()[1] for line in lines if line.startswith("object ")]
     done = [name for name, _ in attempts[:number - 1]]
     for name in objects:
-        lines += [f"drill {name} {nth}" for nth in range(done.count(name) + 1, done.count(name) + 13)]
+        lines += [f"drill {name} {nth}" for nth in range(done.count(name) + 1, done.count(name) + 1 + DRILLS // len(objects))]
     answer = subprocess.run([caa, "sim", SEED], input="\n".join(lines).encode() + b"\n", stdout=subprocess.PIPE, timeout=SECONDS)
     return answer.stdout
 
