@@ -4,11 +4,10 @@ use crate::call::Call;
 use caa_base::outside::reading::{ReadError, read_all};
 use caa_base::outside::standard::StdSource;
 use caa_base::written::limits::MOST_SCRIPT_BYTES;
-use std::fs;
 use std::fs::{File, OpenFile, OpenOptions};
-use std::io;
 use std::io::ErrorKind;
 use std::os::unix::fs::MetadataExt;
+use std::{fs, io};
 
 /// Why the files of a call aren't as they have to be. Nothing is played then.
 #[derive(Clone, Copy, PartialEq, Eq)]

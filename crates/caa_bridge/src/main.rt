@@ -50,7 +50,8 @@ const USAGE: &[u8] = b"usage: caa_bridge [--go-on] [--sync] sim SEED SCRIPT JOUR
 ";
 
 /// What is told of it beside that.
-const HELP: &[u8] = b"Plays a script over a device that answers in lines: commands on standard output, answers on standard input.
+const HELP: &[u8] =
+    b"Plays a script over a device that answers in lines: commands on standard output, answers on standard input.
 SEED is from 0 to 2147483647, and W, the number of threads, from 1 to 16. JOURNAL is written as the machine moves.
   --go-on  asks the device still after a play that ended as failed
   --sync   waits at each line of the journal until the disk has it
@@ -134,7 +135,13 @@ fn play_on<R: Threads + Wait + Sync>(
     tell_status(&mut operator, status, call, is_played);
     match plan {
         Some(plan) if is_played => {
-            tell_play(&mut operator, &plan, &journal, device.link(), device.unsent());
+            tell_play(
+                &mut operator,
+                &plan,
+                &journal,
+                device.link(),
+                device.unsent(),
+            );
         }
         _ => {}
     }

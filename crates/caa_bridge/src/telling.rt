@@ -119,7 +119,9 @@ fn confirmed(plan: &Plan, journal: &Journal, object: Object) -> i64 {
 
 /// Tells what each object was last confirmed to be.
 fn tell_values<W: Write>(operator: &mut W, plan: &Plan, journal: &Journal) {
-    let _ = operator.write_all(b"What each object was last confirmed to be, which is no more than that:\n");
+    let _ = operator.write_all(
+        b"What each object was last confirmed to be, which is no more than that:\n",
+    );
     for object in 0..plan.objects() {
         let _ = operator.write_all(b"object ");
         let _ = operator.write_all(plan.object_name(object));
@@ -129,7 +131,13 @@ fn tell_values<W: Write>(operator: &mut W, plan: &Plan, journal: &Journal) {
 }
 
 /// Tells what became of a play that isn't as it should be: how the plays ended, the link, and the values.
-pub fn tell_play<W: Write>(operator: &mut W, plan: &Plan, journal: &Journal, link: Link, unsent: u64) {
+pub fn tell_play<W: Write>(
+    operator: &mut W,
+    plan: &Plan,
+    journal: &Journal,
+    link: Link,
+    unsent: u64,
+) {
     match link {
         Link::Whole => {
             if endings_in(plan, journal).failed > 0 {
@@ -141,11 +149,17 @@ pub fn tell_play<W: Write>(operator: &mut W, plan: &Plan, journal: &Journal, lin
             let _ = write!(operator, "the link broke at line {number}");
         }
         Link::GivenUp => {
-            let _ = write!(operator, "a play ended as failed, and the device was given up");
+            let _ = write!(
+                operator,
+                "a play ended as failed, and the device was given up"
+            );
         }
     }
     let plays = plays_after(plan, journal, link);
-    let _ = write!(operator, "; puts refused unsent: {unsent}; plays not begun at the machine: {plays}\n");
+    let _ = write!(
+        operator,
+        "; puts refused unsent: {unsent}; plays not begun at the machine: {plays}\n"
+    );
     tell_endings(operator, plan, journal);
     tell_values(operator, plan, journal);
 }
@@ -155,11 +169,26 @@ pub fn tell_status<W: Write>(operator: &mut W, status: Status, call: &Call<'_>, 
     let (script, journal) = (call.script, call.journal);
     let _ = match status {
         Status::Done | Status::SomeFailed | Status::Usage | Status::Illegal => Ok(()),
-        Status::SourceFault => write!(operator, "{script}: the script can't be read; nothing was played\n"),
-        Status::Refused => write!(operator, "{script}: the script is refused, and nothing was played; {journal} says why\n"),
-        Status::SinkFault if is_played => write!(operator, "{journal}: the journal couldn't be written whole; what the file has is a front of it\n"),
-        Status::SinkFault => write!(operator, "{journal}: the journal can't be written; nothing was played\n"),
-        Status::PlantFault => write!(operator, "{script}: the device wasn't laid out; nothing was played\n"),
+        Status::SourceFault => write!(
+            operator,
+            "{script}: the script can't be read; nothing was played\n"
+        ),
+        Status::Refused => write!(
+            operator,
+            "{script}: the script is refused, and nothing was played; {journal} says why\n"
+        ),
+        Status::SinkFault if is_played => write!(
+            operator,
+            "{journal}: the journal couldn't be written whole; what the file has is a front of it\n"
+        ),
+        Status::SinkFault => write!(
+            operator,
+            "{journal}: the journal can't be written; nothing was played\n"
+        ),
+        Status::PlantFault => write!(
+            operator,
+            "{script}: the device wasn't laid out; nothing was played\n"
+        ),
         Status::OutOfMemory => write!(operator, "{script}: there isn't memory enough\n"),
     };
 }
@@ -176,10 +205,16 @@ pub fn tell_file_error<W: Write>(operator: &mut W, error: FileError, call: &Call
     };
     match error {
         FileError::TooLong => {
-            let _ = write!(operator, "{script}: the script is too long, and nothing was played\n");
+            let _ = write!(
+                operator,
+                "{script}: the script is too long, and nothing was played\n"
+            );
         }
         FileError::Same => {
-            let _ = write!(operator, "{script} and {journal} are the same file; nothing was played\n");
+            let _ = write!(
+                operator,
+                "{script} and {journal} are the same file; nothing was played\n"
+            );
         }
         _ => tell_status(operator, status, call, false),
     }
