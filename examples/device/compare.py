@@ -1,89 +1,99 @@
 #!/usr/bin/env python3
-"""Tries caa_bridge against the simulated cell of cell.py.
+"""Tries caa_bridge against the simulated cells of cell.py.
 
 compare.py CAA_BRIDGE CAA [PLAYS]: plays two scripts PLAYS times in turn and PLAYS times in threads (500, if it isn't said). The cell
-refuses puts by chance. Each journal must be one that `audit` finds legal, and the values that it tells at its end must be those of
-the cell. Then the cell dies at each of the first 50 puts, before its answer or behind it, and some cells are processes that are
-killed: the program must end by itself and send nothing more, with a journal that `audit` finds legal, or status 8. In each journal a
-place with a restore that was refused must have ended as failed.
+refuses puts by chance. Each journal must be one that `audit` finds legal, and the values that it tells at its end must be those of the
+cell. Then one answer goes wrong, at each line of both scripts, in each of the ways of cell.py, with `sim` and with `run`: the journal
+must be the one that the rules give where that put is refused and each after it, nothing may be sent behind it but `stop`, and standard
+error must name the line. At last the files and streams are what they must not be.
 """
 import os
+import shutil
 import subprocess
 import sys
 import tempfile
 import threading
 
-from cell import Cell
+from cell import WRONGS, Cell, WrongCell
 
 HERE = os.path.dirname(os.path.abspath(__file__))
-SCRIPTS = [os.path.join(HERE, "..", "cases", name) for name in ("jam_and_slip", "production_cell")]
+CASES = os.path.join(HERE, "..", "cases")
+SCRIPTS = [os.path.join(CASES, name) for name in ("jam_and_slip", "production_cell")]
+SEED = "1"
 SECONDS = 60
-LAST_DEATH = 50
+DRILLS = 900
+ATTEMPTS = ("write", "putfault", "restore")
 
 
-class Death:
-    """At which put a cell dies, counted from 1, and whether it answers that one first. No cell dies at put 0."""
+class Play:
+    """A call of the program, the cell that answers it, and what became of both."""
 
-    def __init__(self, put=0, answers=False):
-        self.put = put
-        self.answers = answers
+    def __init__(self, bridge, words, script, journal, cell):
+        self.journal = journal
+        self.sent, self.behind = [], []
+        self.program = subprocess.Popen(
+            [bridge, *words, script, journal], stdin=subprocess.PIPE, stdout=subprocess.PIPE, stderr=subprocess.PIPE)
+        told = []
+        reader = threading.Thread(target=lambda: told.append(self.program.stderr.read().decode()))
+        clock = threading.Timer(SECONDS, self.program.kill)
+        reader.start()
+        clock.start()
+        self.serve(cell)
+        self.status = self.program.wait()
+        clock.cancel()
+        reader.join()
+        self.told = told[0]
+        for stream in (self.program.stdin, self.program.stdout, self.program.stderr):
+            try:
+                stream.close()
+            except BrokenPipeError:
+                pass
 
-    def __str__(self):
-        return f"dying {'after' if self.answers else 'at'} put {self.put}" if self.put else "living"
+    def serve(self, cell):
+        """Answers until the program or the cell leaves; what the program sends to a cell that left is read still."""
+        last = None if not isinstance(cell, WrongCell) else cell.at + (cell.way in ("doubles", "late"))
+        has_left = is_lost = False
+        for line in iter(self.program.stdout.readline, b""):
+            line = line.decode("ascii")
+            number = None if line == "stop\n" else int(line.split()[1])
+            (self.behind if is_lost else self.sent).append(line)
+            is_lost = is_lost or (last is not None and number == last)
+            if has_left:
+                continue
+            answer = cell.answer(line)
+            answer, has_left = answer if isinstance(cell, WrongCell) else (answer, False)
+            try:
+                self.program.stdin.write(answer.encode("latin-1"))
+                self.program.stdin.flush()
+                if has_left:
+                    self.program.stdin.close()
+            except BrokenPipeError:
+                return
 
 
-def play(bridge, words, script, journal, cell, death):
-    """Plays a script over a cell. Gives the status of the program, and what it sent to a cell that had died."""
-    program = subprocess.Popen([bridge, *words, script, journal], stdin=subprocess.PIPE, stdout=subprocess.PIPE, text=True)
-    clock = threading.Timer(SECONDS, program.kill)
-    clock.start()
-    sent = ""
-    for line in iter(program.stdout.readline, ""):
-        answer = cell.answer(line)
-        dies = death.put and cell.puts == death.put
-        if dies and death.answers:
-            program.stdout.close()
-        if not dies or death.answers:
-            program.stdin.write(answer + "\n")
-            program.stdin.flush()
-        if dies:
-            program.stdin.close()
-            sent = "" if death.answers else program.stdout.read()
-            break
-    status = program.wait()
-    clock.cancel()
-    for stream in (program.stdin, program.stdout):
-        stream.close()
-    return status, sent
-
-
-def play_killed(bridge, script, journal, put):
-    """Plays a script over a cell that is a process of its own, and is killed at a put. Gives the status of the program."""
-    heard, told = os.pipe(), os.pipe()
-    words = [sys.executable, "-B", os.path.join(HERE, "cell.py"), "--die-at", str(put)]
-    cell = subprocess.Popen(words, stdin=told[0], stdout=heard[1])
-    program = subprocess.Popen([bridge, "sim", "1", script, journal], stdin=heard[0], stdout=told[1])
-    for end in heard + told:
-        os.close(end)
-    cell.wait()
-    return program.wait(timeout=SECONDS)
+def text_of(path):
+    with open(path, "rb") as text:
+        return text.read()
 
 
 def audited(caa, script, journal):
     """What `audit` says of a journal."""
-    with open(script, "rb") as first, open(journal, "rb") as second:
-        answer = subprocess.run([caa, "audit"], input=first.read() + second.read(), stdout=subprocess.PIPE, timeout=SECONDS)
+    answer = subprocess.run([caa, "audit"], input=text_of(script) + journal, stdout=subprocess.PIPE, timeout=SECONDS)
     return answer.stdout.decode()
 
 
-def lines_of(journal):
-    with open(journal, encoding="ascii") as text:
-        return [line.split() for line in text]
+def words_of(journal):
+    return [line.split() for line in journal.decode("ascii").splitlines()]
 
 
 def told_values(lines):
     """The values that a journal tells at its end."""
     return {words[1]: int(words[2]) for words in lines if words[0] == "object"}
+
+
+def attempts_in(lines):
+    """Of each put that the device was asked for, its object and whether it was refused."""
+    return [(words[3], words[0] == "putfault" or words[-1] == "failed") for words in lines if words[0] in ATTEMPTS]
 
 
 def hides_a_refusal(lines):
@@ -93,69 +103,144 @@ def hides_a_refusal(lines):
     return not refused <= failed
 
 
-def wrong_with(bridge, caa, words, script, cell, death):
-    """What is wrong with a play; nothing where it is None."""
-    with tempfile.TemporaryDirectory() as folder:
-        journal = os.path.join(folder, "journal")
-        status, sent = play(bridge, words, script, journal, cell, death)
-        if sent:
-            return f"sent {sent!r} to a cell that had died"
-        if status == 8:
-            return None
-        return wrong_in(caa, script, journal, status) or (None if death.put else differs(journal, cell))
-
-
-def wrong_in(caa, script, journal, status):
-    """What is wrong with a journal that was written; nothing where it is None."""
-    if status not in (0, 1):
-        return f"ended with status {status}"
+def wrong_in(caa, script, play):
+    """What is wrong with a play and its journal; nothing where it is None."""
+    if play.status not in (0, 1):
+        return f"ended with status {play.status}: {play.told}"
+    journal = text_of(play.journal)
     verdict = audited(caa, script, journal)
     if not verdict.startswith("legal"):
         return f"audit says {verdict.strip()}"
-    if hides_a_refusal(lines_of(journal)):
-        return "a place with a refused restore didn't end as failed"
+    return "a place with a refused restore didn't end as failed" if hides_a_refusal(words_of(journal)) else None
+
+
+def by_chance(bridge, caa, words, script, cell, folder):
+    """What is wrong with a play over a cell that refuses by chance."""
+    play = Play(bridge, words, script, os.path.join(folder, "journal"), cell)
+    told = told_values(words_of(text_of(play.journal)))
+    values = None if told == cell.values else f"the journal tells {told}, and the cell has {cell.values}"
+    return wrong_in(caa, script, play) or values
+
+
+def refused_from(caa, script, attempts, number):
+    """The journal that the rules give by the seed where the put of this number is refused, and each after it, and those before aren't."""
+    lines = [line for line in text_of(script).decode().splitlines() if not line.startswith("drill ")]
+    objects = [line.split()[1] for line in lines if line.startswith("object ")]
+    done = [name for name, _ in attempts[:number - 1]]
+    for name in objects:
+        lines += [f"drill {name} {nth}" for nth in range(done.count(name) + 1, done.count(name) + 1 + DRILLS // len(objects))]
+    answer = subprocess.run([caa, "sim", SEED], input="\n".join(lines).encode() + b"\n", stdout=subprocess.PIPE, timeout=SECONDS)
+    return answer.stdout
+
+
+def names_line(play, number):
+    """Whether standard error says that the line of this number wasn't answered."""
+    return any(line.split()[1:2] in ([f"{number}"], [f"{number}:"]) and "no right answer" in line for line in play.told.splitlines())
+
+
+def one_wrong(bridge, caa, words, script, folder, way, number, attempts):
+    """What is wrong with a play in which one answer goes wrong."""
+    play = Play(bridge, words, script, os.path.join(folder, "journal"), WrongCell(way, number))
+    lost = number + 1 if way in ("doubles", "late") else number
+    if play.behind not in ([], ["stop\n"]):
+        return f"sent {play.behind} behind a lost answer"
+    if number == 0 and way != "doubles":
+        return None if (play.status, text_of(play.journal)) == (6, b"fault plant\n") and "lay 0: " in play.told else "played, or told nothing"
+    wrong = wrong_in(caa, script, play)
+    if wrong:
+        return wrong
+    found = attempts_in(words_of(text_of(play.journal)))
+    refused = {lost, number} if way == "late" else {lost}
+    if lost <= len(found):
+        if not names_line(play, lost):
+            return f"standard error doesn't name {lost}: {play.told}"
+        if play.behind != ["stop\n"]:
+            return f"sent {play.behind} behind a lost answer, and not stop"
+    if [nth for nth, (_, is_refused) in enumerate(found, 1) if is_refused != (nth >= lost or nth in refused)]:
+        return "another put is refused than the one that wasn't answered and those after it"
+    if words[0] == "sim" and way != "late" and text_of(play.journal) != refused_from(caa, script, attempts, lost):
+        return "another journal than by the rules"
     return None
 
 
-def differs(journal, cell):
-    """Where the values of a journal aren't those of the cell; nothing where it is None."""
-    told = told_values(lines_of(journal))
-    return None if told == cell.values else f"the journal tells {told}, and the cell has {cell.values}"
+def calls(bridge, caa, plays):
+    """Each call that is tried: what it is called, and the function that tries it in a folder."""
+    for script in SCRIPTS:
+        name = os.path.basename(script)
+        for seed in range(plays):
+            for words in (["sim", str(seed)], ["run"]):
+                yield f"{name}, {' '.join(words)}, cell {seed}", lambda folder, w=words, s=seed, it=script: by_chance(
+                    bridge, caa, w, it, Cell(s, s % 5 * 10), folder)
+        whole = plain_journal(caa, script)
+        attempts = attempts_in(words_of(whole))
+        for words in (["sim", SEED], ["run"]):
+            for number in range(len(attempts) + 1):
+                called = f"{name}, {' '.join(words)}"
+                for way in WRONGS:
+                    yield f"{called}, {way} at {number}", lambda folder, w=words, y=way, n=number, a=attempts, it=script: one_wrong(
+                        bridge, caa, w, it, folder, y, n, a)
 
 
-def killed(bridge, caa, script, put):
-    """What is wrong with a play over a process that is killed; nothing where it is None."""
-    with tempfile.TemporaryDirectory() as folder:
-        journal = os.path.join(folder, "journal")
-        return wrong_in(caa, script, journal, play_killed(bridge, script, journal, put))
+def plain_journal(caa, script):
+    """The journal by the seed where no put is refused."""
+    lines = [line for line in text_of(script).decode().splitlines() if not line.startswith("drill ")]
+    return subprocess.run(
+        [caa, "sim", SEED], input="\n".join(lines).encode() + b"\n", stdout=subprocess.PIPE, timeout=SECONDS).stdout
 
 
-def calls_of(plays):
-    """The words, the seed of the cell and its death, of each call for a script."""
-    for seed in range(plays):
-        yield ["sim", str(seed)], seed, Death()
-        yield ["run"], seed, Death()
-    for put in range(1, LAST_DEATH + 1):
-        for answers in (False, True):
-            yield ["sim", "1"], 0, Death(put, answers)
-            yield ["run"], 0, Death(put, answers)
+def ended(bridge, words, folder, **streams):
+    """A call with no cell: its status, and what it told."""
+    streams = {"stdin": subprocess.DEVNULL, "stdout": subprocess.DEVNULL, **streams}
+    done = subprocess.run([bridge, *words], stderr=subprocess.PIPE, cwd=folder, timeout=SECONDS, check=False, **streams)
+    return done.returncode, done.stderr.decode()
+
+
+def wrong_files(bridge, folder):
+    """What is wrong where files and streams are what they must not be."""
+    shutil.copy(SCRIPTS[0], os.path.join(folder, "script"))
+    os.symlink("script", os.path.join(folder, "symbolic"))
+    os.link(os.path.join(folder, "script"), os.path.join(folder, "hard"))
+    with open(os.path.join(folder, "bad"), "w", encoding="ascii") as bad:
+        bad.write("object\n")
+    wanted = [(2, ["script", same], same) for same in ("script", "./script", "../" + os.path.basename(folder) + "/script", "symbolic", "hard")]
+    wanted += [(3, ["nowhere", "journal"], "nowhere"), (3, [".", "journal"], "."), (4, ["bad", "journal"], "bad")]
+    wanted += [(4, ["/dev/zero", "journal"], "/dev/zero"), (5, ["script", "nowhere/journal"], "nowhere/journal")]
+    wanted += [(6, ["script", "journal"], "script")]
+    for status, words, named in wanted:
+        came, told = ended(bridge, ["sim", SEED, *words], folder)
+        if came != status or named not in told:
+            return f"{words}: status {came}, and told {told}"
+    if text_of(os.path.join(folder, "script")) != text_of(SCRIPTS[0]):
+        return "a script was overwritten"
+    closed = ["sh", "-c", 'exec "$0" sim 1 script journal >&-', bridge]
+    done = subprocess.run(closed, stdin=subprocess.DEVNULL, stderr=subprocess.PIPE, cwd=folder, timeout=SECONDS, check=False)
+    if done.returncode != 6 or text_of(os.path.join(folder, "journal")) != b"fault plant\n":
+        return f"with standard output closed: status {done.returncode}"
+    if ended(bridge, ["sim", "x", "script", "journal"], folder)[0] != 2 or ended(bridge, ["--version"], folder)[0] != 0:
+        return "words that are no call, or a version"
+    return None
+
+
+def full_disk(bridge, caa, folder):
+    """What is wrong where the journal can't be written to its end: the machine isn't left half way."""
+    cell = Cell()
+    play = Play(bridge, ["sim", SEED], SCRIPTS[0], "/dev/full", cell)
+    return None if play.status == 5 and "/dev/full" in play.told else f"a full disk: status {play.status}, told {play.told}"
 
 
 def main():
     bridge, caa = map(os.path.abspath, sys.argv[1:3])
     plays = int(sys.argv[3]) if len(sys.argv) > 3 else 500
-    faults, tried = [], 0
-    for script in SCRIPTS:
-        name = os.path.basename(script)
-        for words, seed, death in calls_of(plays):
-            fault = wrong_with(bridge, caa, words, script, Cell(seed, seed % 5 * 10), death)
-            faults += [f"{name}, {' '.join(words)}, cell {seed} {death}: {fault}"] if fault else []
-            tried += 1
-        for put in (1, 3, 10):
-            fault = killed(bridge, caa, script, put)
-            faults += [f"{name}, a process killed at put {put}: {fault}"] if fault else []
-            tried += 1
-    print("\n".join(faults + [f"{tried - len(faults)} plays over a cell as they should be, {len(faults)} not"]))
+    tries = list(calls(bridge, caa, plays))
+    tries.append(("files", lambda folder: wrong_files(bridge, folder)))
+    tries.append(("full disk", lambda folder: full_disk(bridge, caa, folder)))
+    faults = []
+    for name, trial in tries:
+        with tempfile.TemporaryDirectory() as folder:
+            fault = trial(folder)
+        if fault:
+            faults.append(f"{name}: {fault}")
+    print("\n".join(faults + [f"{len(tries) - len(faults)} plays over a cell as they should be, {len(faults)} not"]))
     return 1 if faults else 0
 
 

@@ -14,12 +14,12 @@ from faults import KINDS, Faults, drawn
 
 def answer(cell, line):
     """What the cell answers to a line. This is all that knows how lines and answers look."""
-    verb, *words = line.split()
+    verb, number, *words = line.split()
     if verb == "lay":
         done = cell.lay(dict(zip(words[::2], map(int, words[1::2]))))
     else:
         done = cell.put(words[0], int(words[1]))
-    return "well" if done else "failed"
+    return f"{'well' if done else 'failed'} {number}"
 
 
 def main():
@@ -37,7 +37,8 @@ def main():
         print(f"the cell: its fault is {fault}", file=sys.stderr)
     try:
         for line in iter(sys.stdin.readline, ""):
-            print(answer(cell, line), flush=True)
+            if line != "stop\n":
+                print(answer(cell, line), flush=True)
     except RuleBroken as broken:
         print(f"the cell: {broken}", file=sys.stderr)
         return broken.rule

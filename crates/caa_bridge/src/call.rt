@@ -1,4 +1,14 @@
-/// A call of the program.
+ghost use Rattle.std.specs.Prelude.{◌≤◌, IfSome};
+
+use action_script::words::word::natural_of;
+
+/// The greatest seed.
+const MOST_SEED: u64 = 2_147_483_647;
+
+/// The most workers.
+const MOST_WORKERS: u64 = 16;
+
+/// A call that plays a script.
 #[derive(Drop)]
 pub struct Call<'a> {
     /// The words that say how to play: those of `caa`.
@@ -9,25 +19,58 @@ pub struct Call<'a> {
     pub journal: &'a str,
 }
 
-/// The call of these words: `sim SEED SCRIPT JOURNAL` or `run SCRIPT JOURNAL`, with two different paths.
-pub fn call_of(words: &[String]) -> Option<Call<'_>> {
-    let (way, _) = words.split_first()?;
-    let command_words = match way.as_str() {
-        "sim" => 2,
-        "run" => 1,
-        _ => return None,
-    };
-    if words.len() != command_words + 2 {
-        return None;
+/// What a call of the program asks for.
+#[derive(Drop)]
+pub enum Asked<'a> {
+    /// How it is called.
+    Help,
+    /// Its version.
+    Version,
+    /// To play a script.
+    Play(Call<'a>),
+    /// Nothing that it knows.
+    Unknown,
+}
+
+/// How many of the words say how to play; none where they say nothing that is known.
+fn command_words(words: &[String]) -> Option<usize>
+    ensures { IfSome result (λ count. count ≤ 2) }
+{
+    let (way, rest) = words.split_first()?;
+    let number = rest.first()?.as_bytes();
+    match way.as_str() {
+        "run" => Some(1),
+        "sim" if natural_of(number, MOST_SEED).is_some() => Some(2),
+        "pool" if natural_of(number, MOST_WORKERS).is_some_and(|workers| workers > 0) => Some(2),
+        _ => None,
     }
-    let script = words[command_words].as_str();
-    let journal = words[command_words + 1].as_str();
-    if script == journal {
+}
+
+/// The call that plays, of these words.
+fn call_of(words: &[String]) -> Option<Call<'_>> {
+    let command = command_words(words)?;
+    if words.len() != command + 2 {
         return None;
     }
     Some(Call {
-        command: &words[..command_words],
-        script,
-        journal,
+        command: &words[..command],
+        script: words[command].as_str(),
+        journal: words[command + 1].as_str(),
     })
+}
+
+/// What these words ask for: `sim SEED SCRIPT JOURNAL`, `run SCRIPT JOURNAL` or `pool W SCRIPT JOURNAL`; or `--help` or `--version`
+/// alone.
+pub fn asked(words: &[String]) -> Asked<'_> {
+    if let [word] = words {
+        return match word.as_str() {
+            "--help" => Asked::Help,
+            "--version" => Asked::Version,
+            _ => Asked::Unknown,
+        };
+    }
+    match call_of(words) {
+        Some(call) => Asked::Play(call),
+        None => Asked::Unknown,
+    }
 }

@@ -2,108 +2,112 @@
 #![tactic(auto)]
 
 mod call;
+mod files;
+mod telling;
 
-use crate::call::{Call, call_of};
+use crate::call::{Asked, Call, asked};
+use crate::files::{files_of, keep_streams};
+use crate::telling::{tell_file_error, tell_play, tell_status};
 use action_script::lines::reader::read;
 use action_script::script_error::ScriptCause;
 use action_script::words::call_words::call_words;
 use caa_base::outside::gate::EmptyGate;
 use caa_base::outside::memory::SureSource;
+use caa_base::outside::reading::write_all;
 use caa_base::outside::standard::{StdSink, StdSource};
 use caa_base::written::entry::OutOfMemory;
-use caa_base::written::name::Name;
-use caa_commands::status::Status;
+use caa_commands::status::{Ended, Status};
 use caa_commands::top::{asks_for_threads, top, top_quiet};
 use line_plant::flushed::FlushedSink;
-use line_plant::names::object_names;
+use line_plant::noted::Noted;
 use line_plant::plant::LinePlant;
+use place_plan::plans::plan::Plan;
 use script_checker::check_error::CheckCause;
 use script_checker::compile::compile;
 use std::alloc::Global;
 use std::fs::File;
-use std::io::{BufWriter, ErrorKind, Stdin, Stdout};
+use std::io::{BufWriter, Stderr, Stdin, Stdout};
 use std::process::ExitCode;
-use std::{fs, io};
+use std::sync::Wait;
+use std::sync::atomic::AtomicBool;
+use std::thread::Threads;
 
-/// The device that answers on standard input what it is asked on standard output.
-type Device = LinePlant<StdSource<Stdin>, FlushedSink<BufWriter<Stdout>>>;
+/// The device that answers on standard input what it is asked on standard output, with an operator at standard error.
+type Device<'a> = Noted<'a, StdSource<Stdin>, FlushedSink<BufWriter<Stdout>>, Stderr>;
 
-/// The names of the objects of the script that these bytes spell; none where there is no such script, which is then not played.
-fn names_in(alloc: Global, bytes: &[u8]) -> Result<Vec<Name>, OutOfMemory> {
+/// How the program is called.
+const USAGE: &[u8] = b"usage: caa_bridge sim SEED SCRIPT JOURNAL
+       caa_bridge run SCRIPT JOURNAL
+       caa_bridge pool W SCRIPT JOURNAL
+       caa_bridge --help | --version
+";
+
+/// What is told of it beside that.
+const HELP: &[u8] =
+    b"Plays a script over a device that answers in lines: commands on standard output, answers on standard input.
+SEED is from 0 to 2147483647, and W, the number of threads, from 1 to 16. JOURNAL is written once all is played.
+What isn't done is told on standard error. docs/embedding.md has the lines that a device answers.
+";
+
+/// Its name and version.
+const VERSION: &[u8] = b"caa_bridge 1.0\n";
+
+/// The plan of the script that these bytes spell; none where there is no such script, which is then not played.
+fn plan_in(alloc: Global, bytes: &[u8]) -> Result<Option<Plan>, OutOfMemory> {
     let script = match read(alloc, bytes) {
         Ok(script) => script,
         Err(error) if error.cause == ScriptCause::OutOfMemory => return Err(OutOfMemory),
-        Err(_) => return Ok(Vec::new(alloc)),
+        Err(_) => return Ok(None),
     };
     match compile(alloc, &script) {
-        Ok(plan) => object_names(alloc, &plan),
+        Ok(plan) => Ok(Some(plan)),
         Err(error) if error.cause == CheckCause::OutOfMemory => Err(OutOfMemory),
-        Err(_) => Ok(Vec::new(alloc)),
+        Err(_) => Ok(None),
     }
 }
 
-/// The device on standard output and input, for the script of these bytes.
-fn device_for(rt: &HostRuntime, script: &[u8]) -> Result<Device, Status> {
-    let Ok(names) = names_in(rt.alloc(), script) else {
-        return Err(Status::OutOfMemory);
-    };
+/// The device on standard output and input, for this plan.
+fn device_for<'a>(
+    rt: &HostRuntime,
+    plan: &Option<Plan>,
+    is_over: &'a AtomicBool,
+) -> Result<Device<'a>, OutOfMemory> {
     let Ok(commands) = BufWriter::new(rt.alloc(), rt.stdout()) else {
-        return Err(Status::OutOfMemory);
+        return Err(OutOfMemory);
     };
     let answers = StdSource::new(rt.stdin());
     let commands = FlushedSink::new(commands);
-    Ok(LinePlant::new(rt.alloc(), names, answers, commands))
+    let plant = match plan {
+        Some(plan) => LinePlant::for_plan(rt.alloc(), plan, answers, commands)?,
+        None => LinePlant::new(rt.alloc(), Vec::new(rt.alloc()), answers, commands),
+    };
+    Ok(Noted::new(plant, rt.stderr(), is_over))
 }
 
-/// The bytes of the script, and the file for the journal. That file is made only once the script was read.
-fn files_of(rt: &HostRuntime, call: &Call<'_>) -> Result<(Vec<u8>, File), Status> {
-    let script = match fs::read(rt, call.script) {
-        Ok(script) => script,
-        Err(error) if error.kind() == ErrorKind::OutOfMemory => return Err(Status::OutOfMemory),
-        Err(_) => return Err(Status::SourceFault),
-    };
-    match fs::create(rt, call.journal) {
-        Ok(journal) => Ok((script, journal)),
-        Err(error) if error.kind() == ErrorKind::OutOfMemory => Err(Status::OutOfMemory),
-        Err(_) => Err(Status::SinkFault),
-    }
-}
-
-/// All that a call needs besides its words.
-fn parts_of(rt: &HostRuntime, call: &Call<'_>) -> Result<(SureSource, File, Device), Status> {
-    let (script, journal) = files_of(rt, call)?;
-    let device = device_for(rt, script.as_slice())?;
-    match SureSource::new(rt.alloc(), script.as_slice()) {
-        Ok(source) => Ok((source, journal, device)),
-        Err(OutOfMemory) => Err(Status::OutOfMemory),
-    }
-}
-
-/// Says how the program is called.
-fn tell_usage(rt: &HostRuntime) -> ExitCode {
-    let _ = eprintln!(rt;
-        "usage: caa_bridge sim SEED SCRIPT JOURNAL | caa_bridge run SCRIPT JOURNAL"
-    );
-    ExitCode::from(Status::Usage.code())
-}
-
-fn main(rt: HostRuntime) -> ExitCode {
-    let Ok(words) = call_words(&rt) else {
-        return ExitCode::from(Status::OutOfMemory.code());
-    };
-    let Some(call) = call_of(words.as_slice()) else {
-        return tell_usage(&rt);
-    };
-    let (mut source, journal, device) = match parts_of(&rt, &call) {
-        Ok(parts) => parts,
-        Err(status) => return ExitCode::from(status.code()),
-    };
-    let mut sink = StdSink::new(journal);
+/// Plays the script of these bytes, and tells the operator what became of it.
+fn play_on<R: Threads + Wait + Sync>(
+    threads: &R,
+    rt: &HostRuntime,
+    call: &Call<'_>,
+    script: &[u8],
+    file: File,
+) -> Result<Status, OutOfMemory> {
+    let alloc = rt.alloc();
+    let is_over = AtomicBool::new(false);
+    let plan = plan_in(alloc, script)?;
+    let device = device_for(rt, &plan, &is_over)?;
+    let mut source = SureSource::new(alloc, script)?;
+    let mut operator = rt.stderr();
+    let mut sink = StdSink::new(file);
     let words = call.command;
-    let ended = if asks_for_threads(words) {
+    let Ended {
+        status,
+        plant: device,
+        journal,
+    } = if asks_for_threads(words) {
         top(
-            &rt,
-            rt.alloc(),
+            threads,
+            alloc,
             words,
             &mut source,
             &mut sink,
@@ -111,7 +115,64 @@ fn main(rt: HostRuntime) -> ExitCode {
             &EmptyGate,
         )
     } else {
-        top_quiet(rt.alloc(), words, &mut source, &mut sink, device)
+        top_quiet(alloc, words, &mut source, &mut sink, device)
     };
-    ExitCode::from(ended.status.code())
+    let is_played = !journal.is_empty();
+    tell_status(&mut operator, status, call, is_played);
+    match plan {
+        Some(plan) if is_played => {
+            tell_play(
+                &mut operator,
+                &plan,
+                &journal,
+                device.link(),
+                device.unsent(),
+            );
+        }
+        _ => {}
+    }
+    Ok(status)
+}
+
+/// Plays what a call asks for.
+fn play<R: Threads + Wait + Sync>(threads: &R, rt: &HostRuntime, call: &Call<'_>) -> Status {
+    let _streams = keep_streams(rt);
+    let (script, file) = match files_of(rt, call) {
+        Ok(files) => files,
+        Err(error) => return tell_file_error(&mut rt.stderr(), error, call),
+    };
+    match play_on(threads, rt, call, script.as_slice(), file) {
+        Ok(status) => status,
+        Err(OutOfMemory) => {
+            tell_status(&mut rt.stderr(), Status::OutOfMemory, call, false);
+            Status::OutOfMemory
+        }
+    }
+}
+
+/// Writes these texts on standard output.
+fn tell(rt: &HostRuntime, texts: &[&[u8]]) -> Status {
+    let mut sink = StdSink::new(rt.stdout());
+    for text in texts {
+        if write_all(&mut sink, text).is_err() {
+            return Status::SinkFault;
+        }
+    }
+    Status::Done
+}
+
+fn main(rt: HostRuntime) -> ExitCode {
+    let Ok(words) = call_words(&rt) else {
+        return ExitCode::from(Status::OutOfMemory.code());
+    };
+    let status = match asked(words.as_slice()) {
+        Asked::Help => tell(&rt, &[USAGE, HELP]),
+        Asked::Version => tell(&rt, &[VERSION]),
+        Asked::Play(call) => play(&rt, &rt, &call),
+        Asked::Unknown => {
+            let _ = write_all(&mut StdSink::new(rt.stderr()), USAGE);
+            Status::Usage
+        }
+    };
+    ExitCode::from(status.code())
 }

@@ -47,3 +47,31 @@ pub not_after_none : (old mid : Option (List ℕ)) (first before after : ℕ) (b
 not_after_none old mid first before after bytes i low taken unfailed (inl failed) = inl (failed ∙ ap counted_up unfailed)
 not_after_none old mid first before after bytes i low taken unfailed (inr ended) =
     inr (ended.0 ∙ unfailed, none_came old mid bytes i low taken ended.1)
+
+-- what is left behind a front begins with what stands behind that front
+behind_front : (old mid : Option (List ℕ)) (front back : List ℕ)
+    → old ≡ prepend_known front mid → BeginsWith old (front ++ back) → BeginsWith mid back
+behind_front old None front back taken begins = grind (arith, common_steps, taken, begins.1)
+behind_front old (Some xs) front back taken begins =
+    let same : front ++ xs ≡ (front ++ back) ++ begins.0 = grind (arith, common_steps, taken, begins.1) in
+    (begins.0, ap Some (append_cancel_left front xs (back ++ begins.0) (same ∙ append_assoc front back begins.0)))
+
+-- two pieces that were taken, one after the other
+pub both_taken : (old mid new : Option (List ℕ)) (front back : List ℕ)
+    → old ≡ prepend_known front mid → mid ≡ prepend_known back new → old ≡ prepend_known (front ++ back) new
+both_taken old mid None front back p q = grind (arith, common_steps, p, q)
+both_taken old mid (Some xs) front back p q = grind (arith, common_steps, p, q)
+
+-- what doesn't come next behind a front doesn't come next with that front
+pub not_behind : (old mid : Option (List ℕ)) (first before after : ℕ) (front back : List ℕ)
+    → old ≡ prepend_known front mid → before ≡ first → IsNotNext mid before after back → IsNotNext old first after (front ++ back)
+not_behind old mid first before after front back taken unfailed (inl failed) = inl (failed ∙ ap counted_up unfailed)
+not_behind old mid first before after front back taken unfailed (inr other) =
+    inr (other.0 ∙ unfailed, λ begins. other.1 (behind_front old mid front back taken begins))
+
+-- what doesn't begin with a front doesn't begin with more
+pub not_more : (old : Option (List ℕ)) (before after : ℕ) (front back : List ℕ)
+    → IsNotNext old before after front → IsNotNext old before after (front ++ back)
+not_more old before after front back (inl failed) = inl failed
+not_more old before after front back (inr other) =
+    inr (other.0, λ begins. other.1 (back ++ begins.0, begins.1 ∙ ap Some (append_assoc front back begins.0)))

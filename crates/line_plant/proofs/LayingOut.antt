@@ -1,5 +1,5 @@
 -- Lemmas on the line that lays out a device.
-use Rattle.std.proofs.Common.{◌≡◌, ℕ, zero, suc, ◌+◌, ◌<◌, ◌≤◌, ℤ, take, get_or, ap₂, List, [], ◌∷◌, ◌++◌, length, refl, ap, sym, ◌∙◌, append_assoc, arith}
+use Rattle.std.proofs.Common.{◌≡◌, ℕ, zero, suc, ◌+◌, ◌<◌, ◌≤◌, ℤ, take, get_or, ap₂, List, [], ◌∷◌, ◌++◌, length, decimal, codes, append-nil, refl, ap, sym, ◌∙◌, append_assoc, arith}
 use Rattle.std.proofs.lemmas.List.{take_more, length-append}
 use Rattle.std.proofs.lemmas.Grind.{common_steps}
 use Rattle.std.specs.Fmt.{signed_decimal}
@@ -58,10 +58,17 @@ words_behind (name ∷ names) (v ∷ values) zero same low = simp length-append 
 words_behind (name ∷ names) (v ∷ values) (suc n) same low =
     let l = words_behind names values n (omega arith) (omega arith) in simp length-append (omega arith)
 
--- with room for a value behind it, the line that lays out the objects has memory for each put
-pub room_for_puts : (names : List (List ℕ)) (values : List ℤ) (room : ℕ) → length names ≡ length values
-    → length (lay_line names values) + 20 ≤ room → HasRoom (length values) names room
-room_for_puts names values room same enough n low =
+-- with room for a longer word, a number and a value behind it, the line that lays out the objects has memory for each put
+pub room_for_puts : (names : List (List ℕ)) (values : List ℤ) (room number : ℕ) → length names ≡ length values
+    → length (lay_line number names values) + 45 ≤ room → HasRoom (length values) names room
+room_for_puts names values room number same enough n low =
     let l = words_behind names values n same (omega arith) in
-    let e : length (lay_line names values) ≡ 4 + length (spaced (names_and_values names values)) = grind (arith, common_steps) in
+    let e : length (lay_line number names values) ≡ 5 + length (decimal number) + length (spaced (names_and_values names values)) = simp length-append (omega arith) in
     omega arith
+
+-- the number stands first
+pub numbered : (number : ℕ) (words : List (List ℕ))
+    → codes "lay" ++ spaced (decimal number ∷ []) ++ spaced words ≡ codes "lay" ++ spaced (decimal number ∷ words)
+numbered number words =
+    append_assoc (codes "lay") (spaced (decimal number ∷ [])) (spaced words)
+    ∙ ap (λ t. codes "lay" ++ 32 ∷ t ++ spaced words) (append-nil (decimal number))

@@ -7,7 +7,7 @@ use Rattle.caa_base.specs.declared.outside.plant.PlantError.{PlantError}
 use Rattle.caa_base.specs.declared.outside.plant.PlantError.TheVariants as refusal
 use Rattle.line_plant.specs.declared.hearing.Answer.TheVariants as answer
 use Rattle.line_plant.specs.declared.wire.Wire.{Wire}
-use Rattle.line_plant.specs.Lines.{lay_line, put_line}
+use Rattle.line_plant.specs.Lines.{lay_line, asking_line}
 use Rattle.line_plant.specs.Wires.{WasAnswered, AskCame}
 
 -- a device: the names of its objects; the wire to it; how many objects were laid out; the calls of `put` since then, and the room
@@ -30,24 +30,26 @@ abbrev pub WasNotDone : {S K : Type 0} → SourceGhosts S → SinkGhosts K → W
 WasNotDone sources sinks before after text =
     AskCame sources sinks before after text answer.Failed ⊎ AskCame sources sinks before after text answer.Lost
 
--- what a put comes to: it succeeds only where the line of that put was sent and answered `well`
-abbrev pub PutCame : {S K : Type 0} → SourceGhosts S → SinkGhosts K → LineDevice S K → LineDevice S K → ℕ → ℤ → {T E : Type 0}
-    → Result T E → Type 0
-PutCame sources sinks before after object value (Ok v) =
-    WasDone sources sinks before.wire after.wire (put_line (name_at before.names object) value)
-PutCame sources sinks before after object value (Err e) =
-    WasNotDone sources sinks before.wire after.wire (put_line (name_at before.names object) value)
+-- what a put or a restore comes to, by its word: it succeeds only where its line was sent with its number, and answered `well` with
+-- that number
+abbrev pub PutCame : {S K : Type 0} → SourceGhosts S → SinkGhosts K → List ℕ → LineDevice S K → LineDevice S K → ℕ → ℤ
+    → {T E : Type 0} → Result T E → Type 0
+PutCame sources sinks word before after object value (Ok v) =
+    WasDone sources sinks before.wire after.wire (asking_line word before.wire.next (name_at before.names object) value)
+PutCame sources sinks word before after object value (Err e) =
+    WasNotDone sources sinks before.wire after.wire (asking_line word before.wire.next (name_at before.names object) value)
 
 -- there are other objects than those of the device, and it wasn't asked
 pub record IsUnfit {S K : Type 0} (before after : LineDevice S K) (values : List ℤ) : Type 0 where
   pub cause : length before.names ≢ length values
   pub kept : after.wire ≡ before.wire
 
--- what a laying out comes to: it succeeds only where the line of these values was sent and answered `well`; where no memory is found
--- for the line, the device isn't asked
+-- what a laying out comes to: it succeeds only where the line of these values was sent with its number, and answered `well` with that
+-- number; where no memory is found for the line, the device isn't asked
 abbrev pub LayCame : {S K : Type 0} → SourceGhosts S → SinkGhosts K → LineDevice S K → LineDevice S K → List ℤ → {T : Type 0}
     → Result T PlantError → Type 0
-LayCame sources sinks before after values (Ok v) = WasDone sources sinks before.wire after.wire (lay_line before.names values)
+LayCame sources sinks before after values (Ok v) =
+    WasDone sources sinks before.wire after.wire (lay_line before.wire.next before.names values)
 LayCame sources sinks before after values (Err refusal.Failed) =
-    WasNotDone sources sinks before.wire after.wire (lay_line before.names values) ⊎ IsUnfit before after values
+    WasNotDone sources sinks before.wire after.wire (lay_line before.wire.next before.names values) ⊎ IsUnfit before after values
 LayCame sources sinks before after values (Err refusal.OutOfMemory) = after.wire ≡ before.wire

@@ -1,5 +1,5 @@
 -- The lines that a device is sent.
-use Rattle.std.specs.Prelude.{ℕ, ℤ, List, [], ◌∷◌, map, codes}
+use Rattle.std.specs.Prelude.{ℕ, ℤ, List, [], ◌∷◌, map, codes, decimal}
 use Rattle.std.specs.Fmt.{signed_decimal}
 use Rattle.caa_base.specs.Written.Lines.{line}
 use Rattle.place_plan.specs.Plans.PlanValue.{Plan}
@@ -14,10 +14,22 @@ names_and_values [] values = []
 names_and_values (name ∷ names) [] = []
 names_and_values (name ∷ names) (value ∷ values) = name ∷ signed_decimal value ∷ names_and_values names values
 
--- `lay NAME VALUE NAME VALUE ..`
-abbrev pub lay_line : List (List ℕ) → List ℤ → List ℕ
-lay_line names values = line (codes "lay") (names_and_values names values)
+-- `lay NUMBER NAME VALUE NAME VALUE ..`
+abbrev pub lay_line : ℕ → List (List ℕ) → List ℤ → List ℕ
+lay_line number names values = line (codes "lay") (decimal number ∷ names_and_values names values)
 
--- `put NAME VALUE`
-abbrev pub put_line : List ℕ → ℤ → List ℕ
-put_line name value = line (codes "put") (name ∷ signed_decimal value ∷ [])
+-- the word that asks for a put
+abbrev pub put_word : List ℕ
+put_word = codes "put"
+
+-- the word that asks for a put by which an action that is undone brings an object back
+abbrev pub restore_word : List ℕ
+restore_word = codes "restore"
+
+-- `put NUMBER NAME VALUE` or `restore NUMBER NAME VALUE`, by its word
+abbrev pub asking_line : List ℕ → ℕ → List ℕ → ℤ → List ℕ
+asking_line word number name value = line word (decimal number ∷ name ∷ signed_decimal value ∷ [])
+
+-- `stop`
+abbrev pub stop_line : List ℕ
+stop_line = line (codes "stop") []

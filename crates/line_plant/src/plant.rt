@@ -1,40 +1,42 @@
 //! An answer is read byte by byte, never further than its line feed: no byte of the next one is taken early, and no line that is
 //! too long is kept. A line is made whole before it is written, so that it goes out in one piece. The memory for the line of a put
-//! is taken as the device is laid out: the line of `lay` names each object, so with 20 bytes more, the most that a value has, its
-//! memory holds the line of any put. So a put wants no memory, and has no free answer.
+//! is taken as the device is laid out: the line of `lay` names each object, so with 45 bytes more, for a longer word, a number and a
+//! value, its memory holds the line of any put. So a put wants no memory, and has no free answer.
+//!
+//! The numbers are the wire's own, and are never set back, also where the device is laid out again: a late answer to the first laying
+//! out isn't taken for that to the second.
 
-ghost use Rattle.std.specs.Prelude.{◌≡◌, ◌<◌, ◌≤◌, ◌+◌, length, None, false, if◌then◌else◌, OnOk, OnErr, vec_capacity};
+ghost use Rattle.std.specs.Prelude.{◌≡◌, ◌<◌, ◌≤◌, ◌+◌, length, None, false, if◌then◌else◌, IfOk, OnOk, OnErr, vec_capacity};
 ghost use Rattle.caa_base.specs.Outside.Counts.{counted_up, faults_after};
 ghost use Rattle.caa_base.specs.Outside.PlantState.{is_refused};
-ghost use Rattle.line_plant.specs.Lines.{put_line};
-ghost use Rattle.line_plant.specs.Wires.{AskCame};
+ghost use Rattle.caa_base.specs.Written.Names.{name_at};
+ghost use Rattle.line_plant.specs.Lines.{asking_line, object_names, put_word, restore_word};
+ghost use Rattle.line_plant.specs.Wires.{AskCame, WasStopped};
 ghost use Rattle.line_plant.specs.Devices.{LayCame, PutCame};
 ghost use Rattle.line_plant.specs.inner.Room.{most_put_bytes};
 
+use crate::count::counted_up;
+use crate::heard::HeardLine;
 use crate::hearing::Answer;
 use crate::lines::{make_lay, make_put};
+use crate::names::object_names;
 use crate::wire::Wire;
 use caa_base::outside::plant::{Plant, PlantError};
 use caa_base::outside::sink::Sink;
 use caa_base::outside::source::Source;
-use caa_base::written::entry::{Drill, Failed, Object};
+use caa_base::written::entry::{Drill, Failed, Object, OutOfMemory};
 use caa_base::written::name::{Name, name_at};
+use place_plan::plans::plan::Plan;
 use std::alloc::Global;
 use std::marker::Model;
 
-/// A count after one more; it stops at the last number.
-fn counted_up(count: u64) -> u64
-    ensures { result ≡ counted_up count }
-{
-    if count < u64::MAX { count + 1 } else { count }
-}
-
 /// A device that is asked for each put by a line, and answers it by a line. It tells no values.
 ///
-/// `lay NAME VALUE NAME VALUE ..` asks it to bring all objects to their first values, and `put NAME VALUE` to bring one object to a
-/// value. It answers `well` where it did that, and `failed` where it refused, and may be asked again. Anything else, the end of the
-/// answers, and a read or a write that fails, is an answer that is lost: nobody knows any longer what the device did. From then on
-/// nothing is sent, and each call fails.
+/// `lay NUMBER NAME VALUE NAME VALUE ..` asks it to bring all objects to their first values, `put NUMBER NAME VALUE` to bring one
+/// object to a value, and `restore NUMBER NAME VALUE` to bring it back, as an action is undone. It answers `well NUMBER` where it did
+/// that, and `failed NUMBER` where it refused, and may be asked again. Numbers count the lines from 0 on. Anything else, an answer with
+/// another number, the end of the answers, and a read or a write that fails, is an answer that is lost: nobody knows any longer what
+/// the device did. From then on nothing is asked, and each call fails.
 ///
 /// The memory for the line of a put is taken when the device is laid out, and kept from one to the next. So a put never wants any.
 #[derive(Drop)]
@@ -69,19 +71,42 @@ impl<S, K> Model for LinePlant<S, K> {
     ghost invariant = { λ p. HasRoom p.objects p.names.items (vec_capacity p.line) };
 }
 
-/// Asks for a put by a wire, in memory that has room for its line.
+/// Asks for a put or a restore by a wire, in memory that has room for its line.
 fn ask_put<S: Source, K: Sink>(
     wire: &mut Wire<S, K>,
     line: &mut Vec<u8>,
+    word: &[u8],
     name: &[u8],
     value: i64,
 ) -> Answer
-    requires { most_put_bytes name.now ≤ vec_capacity line.old }
-    ensures came { AskCame ⟦<S as Source>⟧ ⟦<K as Sink>⟧ wire.old wire.new (put_line name.now value) result }
+    requires short { length word.now ≤ 7 }
+    requires room { most_put_bytes name.now ≤ vec_capacity line.old }
+    ensures came { AskCame ⟦<S as Source>⟧ ⟦<K as Sink>⟧ wire.old wire.new (asking_line word.now wire.old.next name.now value) result }
     ensures room { vec_capacity line.old ≤ vec_capacity line.new }
 {
-    make_put(line, name, value);
+    make_put(line, word, wire.next, name, value);
     wire.ask(line.as_slice())
+}
+
+impl<S: Source + Drop, K: Sink + Drop> LinePlant<S, K> {
+    /// A device with the objects of a plan, each by its name, which answers on a source what it is asked on a sink. Nothing is sent yet.
+    pub fn for_plan(
+        alloc: Global,
+        plan: &Plan,
+        answers: S,
+        commands: K,
+    ) -> Result<Self, OutOfMemory>
+        ensures names { IfOk result (λ device. device.names ≡ object_names plan.now) }
+        ensures answers { IfOk result (λ device. device.wire.answers ≡ answers) }
+        ensures commands { IfOk result (λ device. device.wire.commands ≡ commands) }
+        ensures first { IfOk result (λ device. device.wire.next ≡ 0) }
+        ensures whole { IfOk result (λ device. device.wire.is_broken ≡ false) }
+        ensures uncut { IfOk result (λ device. device.wire.is_cut ≡ false) }
+        ensures unstopped { IfOk result (λ device. device.wire.was_stopped ≡ false) }
+    {
+        let names = object_names(alloc, plan)?;
+        Ok(LinePlant::new(alloc, names, answers, commands))
+    }
 }
 
 impl<S: Source, K: Sink> LinePlant<S, K> {
@@ -90,17 +115,16 @@ impl<S: Source, K: Sink> LinePlant<S, K> {
         ensures names { result.names ≡ names.items }
         ensures answers { result.wire.answers ≡ answers }
         ensures commands { result.wire.commands ≡ commands }
+        ensures first { result.wire.next ≡ 0 }
         ensures whole { result.wire.is_broken ≡ false }
+        ensures uncut { result.wire.is_cut ≡ false }
+        ensures unstopped { result.wire.was_stopped ≡ false }
         ensures lay_faults { result.lay_faults ≡ 0 }
         ensures faults { result.faults ≡ 0 }
     {
         LinePlant {
             names,
-            wire: Wire {
-                answers,
-                commands,
-                is_broken: false,
-            },
+            wire: Wire::new(answers, commands),
             line: Vec::new(alloc),
             objects: 0,
             calls: 0,
@@ -110,11 +134,85 @@ impl<S: Source, K: Sink> LinePlant<S, K> {
         }
     }
 
-    /// Whether an answer was lost, so that nothing is sent any longer.
+    /// Whether an answer was lost, or the device was stopped, so that it is asked for nothing any longer.
     pub fn is_broken(&self) -> bool
         ensures { result ≡ self.now.wire.is_broken }
     {
         self.wire.is_broken
+    }
+
+    /// Whether a write failed, so that a line was cut off.
+    pub fn is_cut(&self) -> bool
+        ensures { result ≡ self.now.wire.is_cut }
+    {
+        self.wire.is_cut
+    }
+
+    /// The number of the next line that is answered.
+    pub fn next_number(&self) -> u64
+        ensures { result ≡ self.now.wire.next }
+    {
+        self.wire.next
+    }
+
+    /// The name of an object, which is empty past the last one.
+    pub fn name(&self, object: Object) -> &[u8]
+        ensures { result.now ≡ name_at self.now.names object }
+    {
+        name_at(self.names.as_slice(), object)
+    }
+
+    /// The last line that was heard: of an answer that is lost, as far as it was read.
+    pub fn heard(&self) -> &HeardLine {
+        &self.wire.heard
+    }
+
+    /// Reads on in a line that is no answer, up to its line feed or 32 bytes, so that [`LinePlant::heard`] has more of it. Where no
+    /// answer was lost, nothing is read.
+    pub fn hear_rest(&mut self)
+        ensures { self.new ≡ record self.old {
+          wire = record self.old.wire {
+            answers = self.new.wire.answers;
+            heard = self.new.wire.heard;
+          };
+        } }
+    {
+        if self.wire.is_broken {
+            self.wire.hear_rest();
+        }
+    }
+
+    /// Gives the device up: the line `stop` is sent, which isn't answered, and nothing any longer. The device may take its machine to
+    /// a safe state. The line is sent once, whatever becomes of it, and not behind a line that was cut off.
+    pub fn stop(&mut self)
+        ensures came { WasStopped ⟦<K as Sink>⟧ self.old.wire self.new.wire }
+        ensures others { self.new ≡ record self.old { wire = self.new.wire } }
+    {
+        self.wire.stop();
+    }
+
+    /// Asks for a put or a restore by its word.
+    fn ask_by(&mut self, word: &[u8], object: Object, value: i64) -> Result<(), Failed>
+        requires short { length word.now ≤ 7 }
+        requires room { self.old.calls < self.old.room }
+        requires laid { object < self.old.objects }
+        ensures came { PutCame ⟦<S as Source>⟧ ⟦<K as Sink>⟧ word.now self.old self.new object value result }
+        ensures names { self.new.names ≡ self.old.names }
+        ensures calls { self.new.calls ≡ self.old.calls + 1 }
+        ensures room { self.new.room ≡ self.old.room }
+        ensures objects { self.new.objects ≡ self.old.objects }
+        ensures faults { self.new.faults ≡ faults_after result self.old.faults }
+        ensures lay_faults { self.new.lay_faults ≡ self.old.lay_faults }
+    {
+        self.calls += 1;
+        let name = name_at(self.names.as_slice(), object);
+        match ask_put(&mut self.wire, &mut self.line, word, name, value) {
+            Answer::Well => Ok(()),
+            Answer::Failed | Answer::Lost => {
+                self.faults = counted_up(self.faults);
+                Err(Failed)
+            }
+        }
     }
 }
 
@@ -152,7 +250,7 @@ impl<S: Source, K: Sink> Plant for LinePlant<S, K> {
             self.lay_faults = counted_up(self.lay_faults);
             return Err(PlantError::Failed);
         }
-        let line = make_lay(alloc, self.names.as_slice(), values)?;
+        let line = make_lay(alloc, self.wire.next, self.names.as_slice(), values)?;
         if self.wire.ask(line.as_slice()) != Answer::Well {
             self.lay_faults = counted_up(self.lay_faults);
             return Err(PlantError::Failed);
@@ -167,7 +265,7 @@ impl<S: Source, K: Sink> Plant for LinePlant<S, K> {
     fn put(&mut self, object: Object, value: i64) -> Result<(), Failed>
         requires room { self.old.calls < self.old.room }
         requires laid { object < self.old.objects }
-        ensures came { PutCame ⟦<S as Source>⟧ ⟦<K as Sink>⟧ self.old self.new object value result }
+        ensures came { PutCame ⟦<S as Source>⟧ ⟦<K as Sink>⟧ put_word self.old self.new object value result }
         ensures names { self.new.names ≡ self.old.names }
         ensures calls { self.new.calls ≡ self.old.calls + 1 }
         ensures room { self.new.room ≡ self.old.room }
@@ -175,15 +273,21 @@ impl<S: Source, K: Sink> Plant for LinePlant<S, K> {
         ensures faults { self.new.faults ≡ faults_after result self.old.faults }
         ensures lay_faults { self.new.lay_faults ≡ self.old.lay_faults }
     {
-        self.calls += 1;
-        let name = name_at(self.names.as_slice(), object);
-        match ask_put(&mut self.wire, &mut self.line, name, value) {
-            Answer::Well => Ok(()),
-            Answer::Failed | Answer::Lost => {
-                self.faults = counted_up(self.faults);
-                Err(Failed)
-            }
-        }
+        self.ask_by(b"put", object, value)
+    }
+
+    fn restore(&mut self, object: Object, value: i64) -> Result<(), Failed>
+        requires room { self.old.calls < self.old.room }
+        requires laid { object < self.old.objects }
+        ensures came { PutCame ⟦<S as Source>⟧ ⟦<K as Sink>⟧ restore_word self.old self.new object value result }
+        ensures names { self.new.names ≡ self.old.names }
+        ensures calls { self.new.calls ≡ self.old.calls + 1 }
+        ensures room { self.new.room ≡ self.old.room }
+        ensures objects { self.new.objects ≡ self.old.objects }
+        ensures faults { self.new.faults ≡ faults_after result self.old.faults }
+        ensures lay_faults { self.new.lay_faults ≡ self.old.lay_faults }
+    {
+        self.ask_by(b"restore", object, value)
     }
 
     fn lay_faults(&self) -> u64 {

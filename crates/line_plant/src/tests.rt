@@ -72,7 +72,7 @@ fn each_line_is_flushed_before_its_answer_is_awaited(rt: HostRuntime) -> Result<
         early_reads: Cell::new(0),
     };
     let answers = StdSource::new(Answers {
-        left: b"well\nwell\nfailed\n",
+        left: b"well 0\nwell 1\nfailed 2\n",
         seen: &seen,
     });
     let commands = FlushedSink::new(Commands { seen: &seen });
