@@ -7,3 +7,4 @@ pub mod ReadsBack
 pub mod WellRead
 pub mod Named
 pub mod Sorted
+pub mod NamedFrom

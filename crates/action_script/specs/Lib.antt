@@ -1,4 +1,5 @@
 pub mod Words
 pub mod Lines
 pub mod Forms
+pub mod Phrases
 pub mod inner

@@ -88,7 +88,7 @@ fn follow_on(alloc: Global, plan: Plan, entries: &[Entry]) -> Result<Finding, St
 /// Asks both cores for the entries of the journal that stands behind a script.
 pub fn follow(alloc: Global, bytes: &[u8]) -> Result<Finding, Status> {
     let start = find_journal(bytes);
-    let plan = plan_of(alloc, &bytes[..start.place])?;
-    let journal = journal_in(alloc, &plan, &bytes[start.place..])?;
+    let plan = plan_of(alloc, &bytes[..start.offset])?;
+    let journal = journal_in(alloc, &plan, &bytes[start.offset..])?;
     follow_on(alloc, plan, journal.as_slice())
 }

@@ -63,7 +63,7 @@ fn judge_after<P: Plant>(alloc: Global, plan: &Plan, bytes: &[u8], plant: P) -> 
         (left_of (plant_use ⟦<P as Plant>⟧ plant result.plant) result.journal.entries) }
 {
     let start = find_journal(bytes);
-    match judge(alloc, plan, &bytes[start.place..]) {
+    match judge(alloc, plan, &bytes[start.offset..]) {
         Judgement::Lawful(journal) => Decision {
             finding: Finding::Legal {
                 entries: journal.len(),
@@ -129,7 +129,7 @@ fn script_in(command: Command, bytes: &[u8]) -> &[u8]
     ensures { result.now ≡ script_in command bytes.now }
 {
     match command {
-        Command::Audit => &bytes[..find_journal(bytes).place],
+        Command::Audit => &bytes[..find_journal(bytes).offset],
         Command::Check
         | Command::Sim(_)
         | Command::Run

@@ -144,7 +144,7 @@ fn show_behind(
         bytes,
         script_lines: start.lines,
     };
-    let text = bytes.get(start.place..).unwrap_or(&[]);
+    let text = bytes.get(start.offset..).unwrap_or(&[]);
     match read_journal(alloc, plan, &input, text)? {
         Reading::Whole(journal, seens) => {
             show_journal(alloc, view, plan, &input, journal, &seens)
@@ -183,13 +183,13 @@ fn says_nothing(alloc: Global, text: &[u8]) -> Result<Shown, OutOfMemory> {
 
 /// Where the journal begins that stands behind a script, if one stands there.
 fn journal_behind(bytes: &[u8]) -> Option<JournalStart> {
-    Some(find_journal(bytes)).filter(|start| start.place < bytes.len())
+    Some(find_journal(bytes)).filter(|start| start.offset < bytes.len())
 }
 
 /// The script of an input, without the journal that stands behind it.
 fn script_text(bytes: &[u8], start: Option<JournalStart>) -> &[u8] {
     match start {
-        Some(start) => bytes.get(..start.place).unwrap_or(bytes),
+        Some(start) => bytes.get(..start.offset).unwrap_or(bytes),
         None => bytes,
     }
 }

@@ -15,7 +15,8 @@ use Rattle.script_checker.specs.InAction.{enters_otherwise_in_action, not_held_i
 use Rattle.script_checker.specs.Causes.{HasCause, is_unknown, is_twice, is_unfilled, fills_twice, is_past_limit, is_past_bound, in_action, EndsGraph}
 use Rattle.script_checker.specs.inner.Chosen.{cause_if, size_cause, part_cause, first_cause, is_end}
 use Rattle.script_checker.specs.inner.Ends.{IsGraphRefusal, IsFaultless}
-use Rattle.script_checker.specs.Compiled.{number_of, HasNoneBelow, IsLeast, HasNone}
+use Rattle.script_checker.specs.Phrases.{number_of}
+use Rattle.script_checker.specs.Compiled.{HasNoneBelow, IsLeast, HasNone}
 
 module _ (s : SoFar) (f : Form) where
   pub passes_start : HasNoneBelow s f 10

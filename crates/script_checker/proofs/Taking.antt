@@ -1,5 +1,5 @@
 -- Lines that are taken one by one.
-use Rattle.std.proofs.Common.{◌≡◌, ◌≢◌, ℕ, suc, ◌+◌, ◌<◌, ◌≤◌, List, [], ◌∷◌, ◌++◌, length, take, drop, get_or, Err, refl, sym, ap, ◌∙◌, subst, arith, add-one}
+use Rattle.std.proofs.Common.{◌≡◌, ◌≢◌, ℕ, zero, suc, ◌+◌, ◌<◌, ◌≤◌, List, [], ◌∷◌, ◌++◌, length, take, drop, get_or, Err, Option, Some, IfSome, refl, sym, ap, ◌∙◌, subst, arith, add-one}
 use Rattle.std.proofs.Math.Seq.{drop-cons, take-suc}
 use Rattle.std.proofs.lemmas.List.{take-append-drop, take_all}
 use Rattle.place_plan.specs.declared.drafts.draft_rows.GraphRow.{GraphRow}
@@ -13,9 +13,13 @@ use Rattle.script_checker.specs.declared.check_error.CheckError.{CheckError}
 use Rattle.script_checker.specs.declared.declared.SoFar.{SoFar}
 use Rattle.script_checker.specs.declared.declared.Declared.{Declared}
 use Rattle.script_checker.specs.DeclaredSoFar.{nothing_yet}
-use Rattle.script_checker.specs.After.{after}
+use Rattle.script_checker.specs.After.{settled_block, settled, after}
+use Rattle.script_checker.specs.InAction.{goes_on}
+use Rattle.script_checker.specs.RefusedLines.{IsRefusedAt, IsRefusedLine}
+use Rattle.script_checker.specs.declared.declared.Block.{Block}
 use Rattle.script_checker.specs.inner.Rows.{parted}
-use Rattle.script_checker.specs.Compiled.{number_of, IsAccepted, AreAccepted, IsLeastCause, declared_after, AreRowsOf, IsDeclared, IsDraftOf, IsPlanOf, IsFirstRefused, IsAnswer}
+use Rattle.script_checker.specs.Phrases.{number_of}
+use Rattle.script_checker.specs.Compiled.{IsAccepted, AreAccepted, IsLeastCause, declared_after, AreRowsOf, IsDeclared, IsDraftOf, IsPlanOf, IsFirstRefused, IsAnswer}
 use Rattle.script_checker.specs.Compiled.IsAnswer.{refused, wanting}
 
 -- the first n lines were taken
@@ -106,6 +110,62 @@ all_declared script names lines n s rows en el l h =
           (h.declared ∙ ap (λ (names : List (List ℕ)). declared_after names (nothing_yet names) (take n lines)) en
           ∙ ap (λ (lines : List Line). declared_after script.names (nothing_yet script.names) lines) whole);
       graphs = subst (λ (names : List (List ℕ)). AreRowsOf names s.declared.graphs rows) en h.rows;
+    }
+
+-- ---- the first line that is refused, by how many stand before it
+
+-- the line after these is refused
+pub refused_line : (names : List (List ℕ)) (lines : List Line) (n : ℕ) (s : SoFar) (rows : List GraphRow) (line : Line) (c : CheckCause)
+    → n < length lines → line ≡ get_or lines n line → Taken names lines n s rows → IsLeastCause s line.form c
+    → IsRefusedAt names lines n c
+refused_line names lines n s rows line c l is h least = record {
+  line = line;
+  rest = drop (n + 1) lines;
+  place = cut lines n line l is;
+  within = l;
+  accepted = h.accepted;
+  least = subst (λ (s : SoFar). IsLeastCause s line.form c) h.declared least;
+}
+
+-- all of some lines were taken
+pub all_taken : (names : List (List ℕ)) (lines : List Line) (n : ℕ) (s : SoFar) (rows : List GraphRow) → length lines ≤ n
+    → Taken names lines n s rows → s ≡ declared_after names (nothing_yet names) lines
+all_taken names lines n s rows l h =
+    h.declared ∙ ap (λ (some : List Line). declared_after names (nothing_yet names) some) (take_all n lines l)
+
+pub all_accepted : (names : List (List ℕ)) (lines : List Line) (n : ℕ) (s : SoFar) (rows : List GraphRow) → length lines ≤ n
+    → Taken names lines n s rows → AreAccepted names (nothing_yet names) lines
+all_accepted names lines n s rows l h =
+    subst (λ (some : List Line). AreAccepted names (nothing_yet names) some) (take_all n lines l) h.accepted
+
+-- the line that stands behind so many
+pub line_behind : (lines : List Line) (n : ℕ) (line : Line) (rest : List Line) (d : Line) → n < length lines
+    → lines ≡ take n lines ++ line ∷ rest → get_or lines n d ≡ line
+line_behind [] n line rest d within place = absurd (omega (arith, within))
+line_behind (l ∷ lines) zero line rest d within place = cc
+line_behind (l ∷ lines) (suc n) line rest d within place = line_behind lines n line rest d (omega (arith, within)) cc
+
+-- a cause that was found is that of the line behind so many
+pub told_at : (script : Script) (found : Option (ℕ × CheckCause)) (index : ℕ) (c : CheckCause) → found ≡ Some (index, c)
+    → IfSome found (λ f. IsRefusedAt script.names script.lines f.0 f.1) → IsRefusedAt script.names script.lines index c
+told_at script found index c e h = subst (λ o. IfSome o (λ f. IsRefusedAt script.names script.lines f.0 f.1)) e h
+
+-- and this was declared when it came
+pub refused_whole : (script : Script) (lines : List Line) (index : ℕ) (c : CheckCause) (before : SoFar) (b : Block) (line : Line)
+    → IsRefusedAt script.names script.lines index c
+    → before ≡ declared_after script.names (nothing_yet script.names) (take index script.lines) → lines ≡ script.lines
+    → b ≡ settled_block (goes_on (get_or lines index line).form) before.block
+    → IsRefusedLine script (record { index = index; cause = c; so_far = record { declared = before.declared; block = b } })
+refused_whole script lines index c before b line at is el now =
+    let same : get_or lines index line ≡ at.line =
+    ap (λ (some : List Line). get_or some index line) el
+    ∙ line_behind script.lines index at.line at.rest line at.within at.place in
+    record {
+      at = at;
+      so_far =
+          ap (λ (b : Block). record { declared = before.declared; block = b })
+          (now ∙ ap (λ (l : Line). settled_block (goes_on l.form) before.block) same)
+          ∙ ap (λ (s : SoFar). settled s at.line.form) is;
     }
 
 module _ (script : Script) (d : Declared) (rows : List GraphRow) (h : IsDeclared script d rows) where

@@ -16,27 +16,12 @@ use Rattle.script_checker.specs.declared.check_error.CheckError.{CheckError}
 use Rattle.script_checker.specs.declared.open_graph.DeclaredGraph.{DeclaredGraph}
 use Rattle.script_checker.specs.declared.declared.SoFar.{SoFar}
 use Rattle.script_checker.specs.declared.declared.Declared.{Declared}
+use Rattle.script_checker.specs.Phrases.{number_of}
 use Rattle.script_checker.specs.DeclaredSoFar.{nothing_yet}
 use Rattle.script_checker.specs.Causes.{HasCause}
 use Rattle.script_checker.specs.After.{settled, after}
 
 -- ---- one line
-
--- the number of a cause
-abbrev pub number_of : CheckCause → ℕ
-number_of cause.Unknown = 10
-number_of cause.Twice = 11
-number_of (cause.Cycle at) = 12
-number_of (cause.NoLeast a b) = 13
-number_of cause.RoleUnfilled = 14
-number_of cause.RoleTwice = 15
-number_of cause.NestOrder = 16
-number_of cause.ObjectNotHeld = 17
-number_of cause.TooDeep = 18
-number_of cause.Limit = 19
-number_of cause.JournalBound = 20
-number_of cause.OutOfMemory = 21
-number_of cause.AlternateFace = 22
 
 -- by what is declared when the line comes, it has no cause of a lesser number than this
 abbrev pub HasNoneBelow : SoFar → Form → ℕ → Type 0

@@ -24,8 +24,8 @@ use Rattle.script_checker.specs.declared.declared.Declared.{Declared}
 use Rattle.script_checker.specs.declared.open_action.OpenAction.{OpenAction}
 use Rattle.script_checker.specs.declared.open_action.OpenNest.{OpenNest}
 use Rattle.script_checker.specs.declared.open_action.OpenProgram.{OpenProgram}
-use Rattle.script_checker.specs.declared.open_action.Outcome.{Outcome}
-use Rattle.script_checker.specs.declared.open_action.Outcome.TheVariants as outcome
+use Rattle.script_checker.specs.declared.open_action.Carried.{Carried}
+use Rattle.script_checker.specs.declared.open_action.Carried.TheVariants as what
 use Rattle.script_checker.specs.Numbers.{is_among, chosen_from}
 use Rattle.script_checker.specs.DeclaredSoFar.{begun_nest, graph_number, exceptions_at, inner, outer, face, face_of, action_of, nest_of, nest_rows, role_of}
 use Rattle.script_checker.specs.AtTop.{is_filled_by}
@@ -103,10 +103,10 @@ abbrev pub handles : ℕ → HandlerRow → Bool
 handles exception handler = handler.exception == exception
 
 -- it was said as which exception this outcome of a nested use is carried out
-abbrev pub is_mapped : OpenNest → Outcome → Bool
-is_mapped nest (outcome.Exception lower) = member lower nest.mapped
-is_mapped nest outcome.Undo = nest.has_undo
-is_mapped nest outcome.Failure = nest.has_failure
+abbrev pub is_mapped : OpenNest → Carried → Bool
+is_mapped nest (what.Exception lower) = member lower nest.mapped
+is_mapped nest what.Undo = nest.has_undo
+is_mapped nest what.Failure = nest.has_failure
 
 -- the line says what may be said once only, and was
 abbrev pub twice_in_action : Declared → OpenAction → Form → Bool
@@ -116,9 +116,9 @@ twice_in_action d a (form.Fault exception) = is_some a.fault
 twice_in_action d a (form.Uses objects) = not (is_empty a.uses) || not (all_differ objects)
 twice_in_action d a (form.Roles roles) = not (is_empty a.roles) || not (all_differ roles)
 twice_in_action d a (form.Nest nest action roles) = is_among a.nest_names nest
-twice_in_action d a (form.Map nest lower upper) = is_mapped (nest_of a nest) (outcome.Exception (index_of lower (face d a nest)))
-twice_in_action d a (form.MapUndo nest exception) = is_mapped (nest_of a nest) outcome.Undo
-twice_in_action d a (form.MapFailure nest exception) = is_mapped (nest_of a nest) outcome.Failure
+twice_in_action d a (form.Map nest lower upper) = is_mapped (nest_of a nest) (what.Exception (index_of lower (face d a nest)))
+twice_in_action d a (form.MapUndo nest exception) = is_mapped (nest_of a nest) what.Undo
+twice_in_action d a (form.MapFailure nest exception) = is_mapped (nest_of a nest) what.Failure
 twice_in_action d a (form.Abort role exception) = is_said (role_of a role).abort
 twice_in_action d a (form.AbortTest role test value exception) = is_said (role_of a role).abort
 twice_in_action d a (form.Body role) = member (index_of role a.roles) a.bodies
@@ -215,11 +215,11 @@ abbrev pub with_nest : OpenAction → ℕ → OpenNest → OpenAction
 with_nest a name nest = record a { nests = slice_set a.nests (index_of name a.nest_names) nest }
 
 -- it carries this outcome out as this exception
-abbrev pub carried : OpenNest → Outcome → ℕ → OpenNest
-carried nest (outcome.Exception lower) exception =
+abbrev pub carried : OpenNest → Carried → ℕ → OpenNest
+carried nest (what.Exception lower) exception =
     record nest { row = record nest.row { maps = slice_set nest.row.maps lower exception }; mapped = nest.mapped ++ lower ∷ [] }
-carried nest outcome.Undo exception = record nest { row = record nest.row { undo = exception }; has_undo = true }
-carried nest outcome.Failure exception = record nest { row = record nest.row { failure = exception }; has_failure = true }
+carried nest what.Undo exception = record nest { row = record nest.row { undo = exception }; has_undo = true }
+carried nest what.Failure exception = record nest { row = record nest.row { failure = exception }; has_failure = true }
 
 -- it is of one action more
 abbrev pub alternated : OpenNest → ℕ → OpenNest
@@ -240,11 +240,11 @@ action_with names d a (form.Nest nest action roles) =
       nests = a.nests ++ begun_nest (nest_said names d a nest action roles) ∷ [];
     }
 action_with names d a (form.Map nest lower upper) =
-    with_nest a nest (carried (nest_of a nest) (outcome.Exception (index_of lower (face d a nest))) (index_of upper (inner d a)))
+    with_nest a nest (carried (nest_of a nest) (what.Exception (index_of lower (face d a nest))) (index_of upper (inner d a)))
 action_with names d a (form.MapUndo nest exception) =
-    with_nest a nest (carried (nest_of a nest) outcome.Undo (index_of exception (inner d a)))
+    with_nest a nest (carried (nest_of a nest) what.Undo (index_of exception (inner d a)))
 action_with names d a (form.MapFailure nest exception) =
-    with_nest a nest (carried (nest_of a nest) outcome.Failure (index_of exception (inner d a)))
+    with_nest a nest (carried (nest_of a nest) what.Failure (index_of exception (inner d a)))
 action_with names d a (form.Alternate nest action) =
     with_nest a nest (alternated (nest_of a nest) (index_of action d.action_names))
 action_with names d a (form.Abort role exception) = with_abort a role (abort.Always (index_of exception (outer d a)))

@@ -2,7 +2,7 @@
 
 pub(crate) mod adding;
 pub(crate) mod causes;
-pub(crate) mod named;
+pub mod named;
 mod nests;
 pub(crate) mod program;
 mod roles;

@@ -22,7 +22,7 @@ use place_plan::plans::plan::Plan;
 use std::alloc::Global;
 
 /// Takes a line into what is declared, where it has no cause to be refused. After an error both are of no more use.
-fn take(
+pub(crate) fn take(
     alloc: Global,
     so_far: &mut SoFar,
     rows: &mut Vec<GraphRow>,
@@ -53,7 +53,7 @@ fn wanting() -> CheckError
 }
 
 /// The row of the plain graph, which stands before all others.
-fn plain_rows(alloc: Global, names: &[Name]) -> Result<Vec<GraphRow>, OutOfMemory>
+pub(crate) fn plain_rows(alloc: Global, names: &[Name]) -> Result<Vec<GraphRow>, OutOfMemory>
     ensures { IfOk result (λ rows. AreRowsOf names.now (nothing_yet names.now).declared.graphs rows.items) }
 {
     let row = GraphRow::plain(alloc)?;

@@ -6,7 +6,7 @@
 //! At the end of each action its depth, its places and its bound are counted from those of the actions before it, and each play
 //! adds its action's. So a `play` line costs no more than its own words, where `unfolded` would go over all actions again.
 
-ghost use Rattle.std.specs.Prelude.{◌≡◌, ◌≢◌, ◌≤◌, length, map, OnOk, IfOk, IfErr};
+ghost use Rattle.std.specs.Prelude.{◌≡◌, ◌≢◌, ◌≤◌, [], length, map, OnOk, IfOk, IfErr};
 ghost use Rattle.caa_base.specs.Written.Limits.{most_roles};
 ghost use Rattle.script_checker.specs.DeclaredSoFar.{nest_rows};
 ghost use Rattle.script_checker.specs.InAction.{row_of, with_action};
@@ -101,12 +101,11 @@ fn nest_rows(alloc: Global, nests: Vec<OpenNest>) -> Result<Vec<NestRow>, AllocE
     nests.into_iter().map(|nest| nest.row).collect(alloc)
 }
 
-/// The row of an action.
-fn row_of(alloc: Global, names: &[Name], action: OpenAction) -> Result<ActionRow, OutOfMemory>
-    ensures row { IfOk result (λ row. row ≡ row_of names.now action) }
+/// The row of an action that has this name.
+fn named_row(alloc: Global, name: Name, action: OpenAction) -> Result<ActionRow, AllocError>
+    ensures row { IfOk result (λ row. row ≡ record (row_of [] action) { name = name }) }
     ensures few { IfOk result (λ row. length row.roles ≤ most_roles) }
 {
-    let name = name_row(alloc, names, action.name)?;
     let internal = action.internal.unwrap_or(0);
     let interface = action.interface.unwrap_or(0);
     let fault = action.fault.unwrap_or(0);
@@ -121,6 +120,15 @@ fn row_of(alloc: Global, names: &[Name], action: OpenAction) -> Result<ActionRow
         roles: roles.into_rows(),
         nests: Rows::from_vec(nests),
     })
+}
+
+/// The row of an action.
+fn row_of(alloc: Global, names: &[Name], action: OpenAction) -> Result<ActionRow, OutOfMemory>
+    ensures row { IfOk result (λ row. row ≡ row_of names.now action) }
+    ensures few { IfOk result (λ row. length row.roles ≤ most_roles) }
+{
+    let name = name_row(alloc, names, action.name)?;
+    Ok(named_row(alloc, name, action)?)
 }
 
 /// Adds an action that has ended, with its sizes.

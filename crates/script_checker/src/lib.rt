@@ -1,22 +1,23 @@
 //! The checks of a script, and the plan that it comes to.
 #![tactic(auto)]
 
-mod action;
+pub mod action;
 pub mod check_error;
 pub mod compile;
-mod declared;
-mod drill_list;
+pub mod declared;
+pub mod drill_list;
 mod ending;
 mod graph;
-mod lookups;
+pub mod lookups;
 mod naming;
-mod number_list;
+pub mod number_list;
 pub mod one_plan;
-mod open_action;
-mod open_graph;
+pub mod open_action;
+pub mod open_graph;
 pub mod own_names;
 pub mod plan_counts;
-mod role_list;
+pub mod refused;
+pub mod role_list;
 mod saying;
-mod table;
+pub mod table;
 mod top;

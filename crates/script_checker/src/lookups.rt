@@ -116,7 +116,7 @@ pub(crate) fn is_action(declared: &Declared, action: u32) -> bool
 }
 
 /// An action of this name.
-pub(crate) fn action_of(declared: &Declared, name: u32) -> Option<&ActionRow>
+pub fn action_of(declared: &Declared, name: u32) -> Option<&ActionRow>
     ensures found { IfSome result (λ row. row.now ≡ action_of declared.now name) }
     ensures missing { IfNone result (action_of declared.now name ≡ no_action) }
 {

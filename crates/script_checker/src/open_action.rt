@@ -13,7 +13,7 @@ use std::alloc::Global;
 
 /// What may come out of a nested use, to be carried out of it as an exception of the action around it.
 #[derive(Clone, Copy)]
-pub enum Outcome {
+pub enum Carried {
     /// An exception, by its number in the graph of those that the use tells outside.
     Exception(u32),
     Undo,

@@ -1,5 +1,5 @@
 -- Which names a line uses and which it declares, and what each is declared as.
-use Rattle.std.specs.Prelude.{◌≡◌, ℕ, ◌+◌, Bool, List, [], ◌∷◌, ◌++◌, map, Option, Some, None}
+use Rattle.std.specs.Prelude.{◌≡◌, ℕ, zero, suc, ◌+◌, if◌then◌else◌, Bool, not, List, [], ◌∷◌, ◌++◌, map, find, Option, Some, None}
 use Rattle.std.specs.List.{list_all, flat_map}
 use Rattle.action_script.specs.declared.lines.field.Part.{Part}
 use Rattle.action_script.specs.declared.lines.field.Part.TheVariants as part
@@ -11,6 +11,7 @@ use Rattle.action_script.specs.declared.lines.sort.Naming.{Naming}
 use Rattle.action_script.specs.declared.lines.sort.Naming.TheVariants as naming
 use Rattle.action_script.specs.declared.forms.form.Form.{Form}
 use Rattle.action_script.specs.declared.forms.form.Form.TheVariants as form
+use Rattle.action_script.specs.declared.forms.uses.SortedWord.{SortedWord}
 use Rattle.action_script.specs.Lines.Kinds.{parts_of}
 use Rattle.action_script.specs.Forms.LineForms.{kind_of, fields_of, name_at}
 
@@ -130,20 +131,18 @@ abbrev pub sort_declared : Naming → Option Sort
 sort_declared (naming.New s) = Some s
 sort_declared _ = None
 
--- a name with its word and its sort
-pub record SortedWord : Type 0 where
-  pub word : ℕ
-  pub sort : Sort
-  pub name : ℕ
-
 -- if it is of a sort
 abbrev pub with_sort : NamedWord → Option Sort → List SortedWord
 with_sort w None = []
 with_sort w (Some s) = record { word = w.word; sort = s; name = w.name } ∷ []
 
+-- those of some names that a line uses which names this nested use first
+abbrev pub used_in : ℕ → List NamedWord → List SortedWord
+used_in nest words = flat_map (λ (w : NamedWord). with_sort w (sort_used nest w.naming)) words
+
 -- the names that a line uses, by the table
 abbrev pub used_words : Form → List SortedWord
-used_words f = flat_map (λ (w : NamedWord). with_sort w (sort_used (first_name f) w.naming)) (named_words f)
+used_words f = used_in (first_name f) (named_words f)
 
 -- and those that it declares
 abbrev pub declared_words : Form → List SortedWord
@@ -166,3 +165,22 @@ TellsUses f = without_words (used_words f) ≡ flat_map spread (uses_of f)
 -- and which it declares
 abbrev pub TellsDeclared : Form → Type 0
 TellsDeclared f = without_words (declared_words f) ≡ flat_map spread (declares f)
+
+-- ---- names that don't fit, and names that do
+
+-- a name isn't declared as it has to be
+abbrev pub is_undeclared : (Sort → ℕ → Bool) → SortedWord → Bool
+is_undeclared declared w = not (declared w.sort w.name)
+
+-- the first name that a line uses which isn't
+abbrev pub first_undeclared : (Sort → ℕ → Bool) → Form → Option SortedWord
+first_undeclared declared f = find (is_undeclared declared) (used_words f)
+
+-- some names with one more, where it is declared as something
+abbrev pub with_fitting : (ℕ → Bool) → ℕ → List ℕ → List ℕ
+with_fitting fits name names = if fits name then names ++ name ∷ [] else names
+
+-- the names below this number that are
+abbrev pub fitting : (ℕ → Bool) → ℕ → List ℕ
+fitting fits zero = []
+fitting fits (suc n) = with_fitting fits n (fitting fits n)

@@ -91,7 +91,7 @@ fn name_in(field: Option<Field>) -> u32
     }
 }
 
-fn name_at(fields: &[Field], index: usize) -> u32
+pub(crate) fn name_at(fields: &[Field], index: usize) -> u32
     ensures { result ≡ name_at fields.now index }
 {
     name_in(fields.get(index).copied())
@@ -148,9 +148,9 @@ fn push_names(fields: &mut Vec<Field>, numbers: &[u32]) -> Result<(), AllocError
 
 /// How the line of a form is worded: its kind, and what its words after the first say.
 #[derive(Drop)]
-pub(crate) struct Wording {
-    pub(crate) kind: LineKind,
-    pub(crate) fields: Vec<Field>,
+pub struct Wording {
+    pub kind: LineKind,
+    pub fields: Vec<Field>,
 }
 
 /// A line of this kind with these fields.
@@ -180,7 +180,7 @@ fn name_line(
 
 impl Form {
     /// How its line is worded.
-    pub(crate) fn wording(&self, alloc: Global) -> Result<Wording, AllocError>
+    pub fn wording(&self, alloc: Global) -> Result<Wording, AllocError>
         ensures kind { IfOk result (λ line. line.kind ≡ kind_of self.now) }
         ensures fields { IfOk result (λ line. line.fields.items ≡ fields_of self.now) }
     {

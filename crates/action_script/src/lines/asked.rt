@@ -31,7 +31,7 @@ impl<'a> Model for Asked<'a> {
 }
 
 /// Whether a word is what a part asks for.
-fn is_part(part: Part, word: &[u8]) -> bool
+pub fn is_part(part: Part, word: &[u8]) -> bool
     ensures { result ≡ is_part part word.now }
 {
     match part {
@@ -44,7 +44,7 @@ fn is_part(part: Part, word: &[u8]) -> bool
 }
 
 /// What the word of a line is asked to be that has so many before it; where the parts end, names go on.
-fn part_at(parts: &[Part], index: usize) -> Part
+pub fn part_at(parts: &[Part], index: usize) -> Part
     ensures { result ≡ part_at parts.now index }
 {
     parts

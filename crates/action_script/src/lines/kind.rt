@@ -1,5 +1,5 @@
 ghost use Rattle.std.specs.Prelude.{◌≡◌, true, false};
-ghost use Rattle.action_script.specs.Lines.Kinds.{row, row_of, word_of, parts_of, takes, at_top, in_graph, in_action, in_program, in_body, is_at, stands_in, goes_to};
+ghost use Rattle.action_script.specs.Lines.Kinds.{row, row_of, word_of, parts_of, may_go_on, takes, at_top, in_graph, in_action, in_program, in_body, is_at, stands_in, goes_to};
 
 use crate::lines::field::Part;
 use crate::lines::field::Part::{Count, Name, Rounds, Test, Value};
@@ -448,6 +448,20 @@ impl LineKind {
         ensures { result.now ≡ parts_of self }
     {
         self.row().parts
+    }
+
+    /// Whether further names may follow these words.
+    pub fn goes_on(self) -> bool
+        ensures { result ≡ may_go_on self }
+    {
+        self.row().goes_on
+    }
+
+    /// Where the line may stand.
+    pub fn stand(self) -> Stand
+        ensures { result ≡ (row_of self).stand }
+    {
+        self.row().stand
     }
 
     /// Whether the line has so many words after the first.

@@ -11,7 +11,7 @@ use crate::words::cuts::{cut_line, is_blank};
 #[derive(Clone, Copy)]
 pub struct JournalStart {
     /// The number of bytes before it.
-    pub place: usize,
+    pub offset: usize,
     /// The number of lines before it.
     pub lines: u64,
 }
@@ -67,15 +67,15 @@ fn skip_script(bytes: &[u8]) -> (&[u8], u64)
 
 /// Where the first line stands whose only word is `journal`, or the end of the input.
 pub fn find_journal(bytes: &[u8]) -> JournalStart
-    ensures before { result.place ≡ length bytes.now - length (journal_part bytes.now) }
-    ensures journal { drop result.place bytes.now ≡ journal_part bytes.now }
-    ensures within { result.place ≤ length bytes.now }
+    ensures before { result.offset ≡ length bytes.now - length (journal_part bytes.now) }
+    ensures journal { drop result.offset bytes.now ≡ journal_part bytes.now }
+    ensures within { result.offset ≤ length bytes.now }
     ensures lines { result.lines ≡ script_lines bytes.now }
-    ensures few { result.lines ≤ result.place }
+    ensures few { result.lines ≤ result.offset }
 {
     let (rest, lines) = skip_script(bytes);
     JournalStart {
-        place: bytes.len() - rest.len(),
+        offset: bytes.len() - rest.len(),
         lines,
     }
 }

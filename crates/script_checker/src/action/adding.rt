@@ -10,7 +10,7 @@ use super::program::{add_step, close, step_of};
 use super::roles::{add_abort, set_roles, set_uses};
 use crate::declared::Declared;
 use crate::lookups::exception_in;
-use crate::open_action::{OpenAction, OpenProgram, Outcome};
+use crate::open_action::{Carried, OpenAction, OpenProgram};
 use action_script::forms::form::Form;
 use caa_base::written::entry::{OutOfMemory, Verdict};
 use caa_base::written::name::Name;
@@ -86,36 +86,33 @@ fn add_to_parts(
     ensures { OnOk result (action.new ≡ action_with names.now declared.now action.old form.now) }
 {
     match form {
-        Form::Nest(nest, nested, roles) => {
-            add_nest(
-                alloc,
-                declared,
-                names,
-                action,
-                *nest,
-                *nested,
-                roles.as_slice(),
-            )?;
-        }
+        Form::Nest(nest, nested, roles) => add_nest(
+            alloc,
+            declared,
+            names,
+            action,
+            *nest,
+            *nested,
+            roles.as_slice(),
+        ),
         Form::Map(nest, lower, upper) => {
             let lower = exception_in(declared, face_of(declared, action, *nest), *lower);
-            let upper = inner_number(declared, action, *upper);
-            add_mapping(alloc, action, *nest, Outcome::Exception(lower), upper)?;
+            let what = Carried::Exception(lower);
+            add_mapping(alloc, declared, action, *nest, what, *upper)
         }
         Form::MapUndo(nest, exception) => {
-            let exception = inner_number(declared, action, *exception);
-            add_mapping(alloc, action, *nest, Outcome::Undo, exception)?;
+            add_mapping(alloc, declared, action, *nest, Carried::Undo, *exception)
         }
         Form::MapFailure(nest, exception) => {
-            let exception = inner_number(declared, action, *exception);
-            add_mapping(alloc, action, *nest, Outcome::Failure, exception)?;
+            add_mapping(alloc, declared, action, *nest, Carried::Failure, *exception)
         }
         Form::Alternate(nest, nested) => {
-            add_alternate(alloc, action, *nest, declared.action_names.find(*nested))?;
+            add_alternate(alloc, action, *nest, declared.action_names.find(*nested))
         }
         Form::Abort(role, exception) => {
             let exception = outer_number(declared, action, *exception);
             add_abort(action, *role, AbortRow::Always(exception));
+            Ok(())
         }
         Form::AbortTest(role, test, value, exception) => {
             let abort = AbortRow::Where {
@@ -124,10 +121,10 @@ fn add_to_parts(
                 exception: outer_number(declared, action, *exception),
             };
             add_abort(action, *role, abort);
+            Ok(())
         }
-        _ => {}
+        _ => Ok(()),
     }
-    Ok(())
 }
 
 /// Adds what a line says of bodies and handlers.

@@ -15,7 +15,7 @@ use super::program::step_of;
 use crate::check_error::CheckCause;
 use crate::declared::Declared;
 use crate::lookups::{action_of, all_differ, exception_in, is_filled_by};
-use crate::open_action::{OpenAction, OpenNest, Outcome};
+use crate::open_action::{Carried, OpenAction, OpenNest};
 use action_script::forms::form::Form;
 use caa_base::written::limits::{MOST_ALTERNATES, MOST_DEPTH, MOST_NESTS, MOST_ROLES, MOST_STEPS};
 use place_plan::drafts::draft_rows::{AbortRow, HandlerRow};
@@ -26,22 +26,22 @@ use std::alloc::{AllocError, Global};
 
 /// Whether an outcome of a nested use was mapped.
 #[tactic(auto, using(crate::proofs::NumberTables::among_is_member))]
-fn is_mapped_in(nest: &OpenNest, outcome: Outcome) -> bool
-    ensures { result ≡ is_mapped nest.now outcome }
+fn is_mapped_in(nest: &OpenNest, what: Carried) -> bool
+    ensures { result ≡ is_mapped nest.now what }
 {
-    match outcome {
-        Outcome::Exception(lower) => nest.mapped.contains(lower),
-        Outcome::Undo => nest.has_undo,
-        Outcome::Failure => nest.has_failure,
+    match what {
+        Carried::Exception(lower) => nest.mapped.contains(lower),
+        Carried::Undo => nest.has_undo,
+        Carried::Failure => nest.has_failure,
     }
 }
 
 /// The same for a nested use by its name.
-fn is_mapped(action: &OpenAction, nest: u32, outcome: Outcome) -> bool
-    ensures { result ≡ is_mapped (nest_of action.now nest) outcome }
+fn is_mapped(action: &OpenAction, nest: u32, what: Carried) -> bool
+    ensures { result ≡ is_mapped (nest_of action.now nest) what }
 {
     match nest_of(action, nest) {
-        Some(nest) => is_mapped_in(nest, outcome),
+        Some(nest) => is_mapped_in(nest, what),
         None => false,
     }
 }
@@ -106,10 +106,10 @@ fn is_twice(
         Form::Nest(nest, _, _) => action.nest_names.contains(*nest),
         Form::Map(nest, lower, _) => {
             let lower = exception_in(declared, face_of(declared, action, *nest), *lower);
-            is_mapped(action, *nest, Outcome::Exception(lower))
+            is_mapped(action, *nest, Carried::Exception(lower))
         }
-        Form::MapUndo(nest, _) => is_mapped(action, *nest, Outcome::Undo),
-        Form::MapFailure(nest, _) => is_mapped(action, *nest, Outcome::Failure),
+        Form::MapUndo(nest, _) => is_mapped(action, *nest, Carried::Undo),
+        Form::MapFailure(nest, _) => is_mapped(action, *nest, Carried::Failure),
         Form::Abort(role, _) | Form::AbortTest(role, _, _, _) => has_abort(action, *role),
         Form::Body(role) => action.bodies.as_slice().contains(&action.roles.find(*role)),
         Form::Handler(role, exception) => has_handler(declared, action, *role, *exception),

@@ -78,7 +78,7 @@ fn first_action(action: &OpenAction, nest: u32) -> u32
 }
 
 /// The graph of the exceptions that the actions of a nested use tell outside.
-pub(crate) fn face_of(declared: &Declared, action: &OpenAction, nest: u32) -> u32
+pub fn face_of(declared: &Declared, action: &OpenAction, nest: u32) -> u32
     ensures { result ≡ face_of declared.now action.now nest }
 {
     let first = first_action(action, nest) as usize;

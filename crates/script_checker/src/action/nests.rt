@@ -2,12 +2,13 @@
 
 ghost use Rattle.std.specs.Prelude.{◌≡◌, ◌++◌, ◌∷◌, [], false, slice_index_or, slice_set, OnOk, IfOk};
 ghost use Rattle.caa_base.specs.Written.Lists.{index_of};
-ghost use Rattle.script_checker.specs.DeclaredSoFar.{begun_nest, nest_of};
+ghost use Rattle.script_checker.specs.DeclaredSoFar.{begun_nest, inner, nest_of};
 ghost use Rattle.script_checker.specs.InAction.{is_mapped, nest_said, with_nest, carried, alternated, twice_in_action, action_with};
 
+use super::named::inner_number;
 use crate::declared::Declared;
 use crate::lookups::{action_of, count_exceptions, name_row, places_of};
-use crate::open_action::{OpenAction, OpenNest, Outcome};
+use crate::open_action::{Carried, OpenAction, OpenNest};
 use action_script::forms::form::Form;
 use caa_base::written::entry::OutOfMemory;
 use caa_base::written::name::Name;
@@ -36,28 +37,28 @@ fn with_number_at(numbers: Rows<u32>, index: u32, number: u32) -> Rows<u32>
     Rows::from_vec(numbers)
 }
 
-/// Carries an outcome out of a nested use as an exception.
+/// Carries this out of a nested use as an exception.
 #[tactic(auto, using(crate::proofs::NumberTables::among_is_member))]
 fn carry(
     alloc: Global,
     nest: &mut OpenNest,
-    outcome: Outcome,
+    what: Carried,
     exception: u32,
 ) -> Result<(), AllocError>
-    requires { is_mapped nest.old outcome ≡ false }
-    ensures { OnOk result (nest.new ≡ carried nest.old outcome exception) }
+    requires { is_mapped nest.old what ≡ false }
+    ensures { OnOk result (nest.new ≡ carried nest.old what exception) }
 {
-    match outcome {
-        Outcome::Exception(lower) => {
+    match what {
+        Carried::Exception(lower) => {
             nest.mapped.push(lower)?;
             let maps = replace(&mut nest.row.maps, Rows::from_vec(Vec::new(alloc)));
             nest.row.maps = with_number_at(maps, lower, exception);
         }
-        Outcome::Undo => {
+        Carried::Undo => {
             nest.row.undo = exception;
             nest.has_undo = true;
         }
-        Outcome::Failure => {
+        Carried::Failure => {
             nest.row.failure = exception;
             nest.has_failure = true;
         }
@@ -65,21 +66,25 @@ fn carry(
     Ok(())
 }
 
-/// Carries an outcome of a nested use out as an exception of the action.
+/// Carries this out of a nested use as an exception of the action, which has this name.
 #[tactic(auto, using(std::proofs::lemmas::List::set_past))]
 pub(super) fn add_mapping(
     alloc: Global,
+    declared: &Declared,
     action: &mut OpenAction,
     nest: u32,
-    outcome: Outcome,
+    what: Carried,
     exception: u32,
-) -> Result<(), AllocError>
-    requires { is_mapped (nest_of action.old nest) outcome ≡ false }
-    ensures { OnOk result (action.new ≡ with_nest action.old nest (carried (nest_of action.old nest) outcome exception)) }
+) -> Result<(), OutOfMemory>
+    requires { is_mapped (nest_of action.old nest) what ≡ false }
+    ensures { OnOk result (
+        action.new
+        ≡ with_nest action.old nest (carried (nest_of action.old nest) what (index_of exception (inner declared.now action.old)))) }
 {
+    let exception = inner_number(declared, action, exception);
     let number = action.nest_names.find(nest) as usize;
     if let Some(nest) = action.nests.get_mut(number) {
-        carry(alloc, nest, outcome, exception)?;
+        carry(alloc, nest, what, exception)?;
     }
     Ok(())
 }
@@ -100,7 +105,7 @@ pub(super) fn add_alternate(
     action: &mut OpenAction,
     nest: u32,
     nested: u32,
-) -> Result<(), AllocError>
+) -> Result<(), OutOfMemory>
     ensures { OnOk result (action.new ≡ with_nest action.old nest (alternated (nest_of action.old nest) nested)) }
 {
     let number = action.nest_names.find(nest) as usize;
