@@ -90,7 +90,7 @@ fn begun(lane: Participant, doing: Doing, moment: usize) -> Stretch
         lane,
         doing,
         from: moment as u64,
-        to: moment as u64 + 1,
+        to: (moment as u64).saturating_add(1),
     }
 }
 
@@ -100,7 +100,7 @@ fn longer(former: Stretch, lane: Participant, doing: Doing, moment: usize) -> Op
 {
     if former.lane == lane && former.doing == doing && former.to == moment as u64 {
         Some(Stretch {
-            to: moment as u64 + 1,
+            to: (moment as u64).saturating_add(1),
             ..former
         })
     } else {
