@@ -18,11 +18,11 @@ abbrev pub HasToWait : Plan → List Entry → ℕ → Type 0
 HasToWait plan past t = HasNoEntry plan past t × (is_over plan past t ≡ false)
 
 -- at a moment, behind so many entries, t does this by the rules: it waits just where it has no entry and isn't over
-abbrev pub IsRightAt : Plan → List Entry → ℕ → ℕ → Doing → Type 0
+unfoldable pub IsRightAt : Plan → List Entry → ℕ → ℕ → Doing → Type 0
 IsRightAt plan entries k t d = (is_wait d ≡ true) ↔ HasToWait plan (reverse (take k entries)) t
 
 -- a stretch is right at each of its moments
-abbrev pub IsRight : Plan → List Entry → Stretch → Type 0
+unfoldable pub IsRight : Plan → List Entry → Stretch → Type 0
 IsRight plan entries s =
     (k : ℕ) → s.from ≤ k → k < s.to → IsRightAt plan entries k s.lane s.doing
 

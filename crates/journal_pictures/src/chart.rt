@@ -3,7 +3,7 @@
 ghost use Rattle.std.specs.Prelude.{◌≡◌, ◌++◌, OnOk, IfOk};
 ghost use Rattle.std.specs.List.{All, flat_map};
 ghost use Rattle.place_plan.specs.RulesOfJournals.WellFormed.{IsWellFormed, AllWellFormed};
-ghost use Rattle.journal_pictures.specs.Marks.{drawn};
+ghost use Rattle.journal_pictures.specs.Marks.{drawn, marks_from};
 ghost use Rattle.journal_pictures.specs.Pictures.{shape_text, bar_text, mark_text, body_text, IsPicture};
 ghost use Rattle.journal_pictures.specs.Stretches.{IsRight};
 
@@ -12,7 +12,7 @@ use crate::layout::{View, axes_of, height, level_behind};
 use crate::marks::{Mark, drawn, marks_of};
 use crate::render::{push_bar, push_front, push_mark, push_shape};
 use crate::shapes::{Bar, Shape};
-use crate::stretches::{Doing, Stretch, stretches_of};
+use crate::stretches::{Doing, Stretch, Told, stretches_of};
 use caa_base::written::entry::OutOfMemory;
 use caa_base::written::journal::Journal;
 use caa_base::written::line::push_word;
@@ -49,12 +49,44 @@ pub fn chart(
         axes: &axes,
         width,
     };
-    let shapes = frame(alloc, &view, &told)?;
-    let bars = bars_of(alloc, &view, &told.stretches)?;
-    let marks = marks_of(alloc, part)?;
+    let parts = parts_of(alloc, &view, &told)?;
+    text_of(alloc, &view, &parts)
+}
+
+/// What a picture is put together from.
+#[derive(Drop)]
+struct Parts {
+    shapes: Vec<Shape>,
+    bars: Vec<Bar>,
+    marks: Vec<Mark>,
+}
+
+/// The parts of a picture of which this is told.
+fn parts_of(alloc: Global, view: &View, told: &Told) -> Result<Parts, OutOfMemory>
+    requires { All (IsRight view.now.plan.now view.now.entries.now) told.now.stretches.items }
+    ensures bars { IfOk result (λ parts. All (λ b. IsRight view.now.plan.now view.now.entries.now b.stretch) parts.bars.items) }
+    ensures marks { IfOk result (λ parts. parts.marks.items ≡ marks_from 0 view.now.part.now) }
+{
+    let shapes = frame(alloc, view, told)?;
+    let bars = bars_of(alloc, view, &told.stretches)?;
+    let marks = marks_of(alloc, view.part)?;
+    Ok(Parts {
+        shapes,
+        bars,
+        marks,
+    })
+}
+
+/// The text of a picture of these parts.
+fn text_of(alloc: Global, view: &View, parts: &Parts) -> Result<Vec<u8>, OutOfMemory>
+    requires bars { All (λ b. IsRight view.now.plan.now view.now.entries.now b.stretch) parts.now.bars.items }
+    requires marks { parts.now.marks.items ≡ marks_from 0 view.now.part.now }
+    requires formed { All (λ m. IsWellFormed view.now.plan.now m.entry) parts.now.marks.items }
+    ensures { IfOk result (λ text. IsPicture view.now.plan.now view.now.entries.now view.now.part.now text.items) }
+{
     let mut text = Vec::new(alloc);
-    push_front(&mut text, width, height(&view))?;
-    push_body(alloc, &mut text, plan, &axes, &shapes, &bars, &marks)?;
+    push_front(&mut text, view.width, height(view))?;
+    push_body(alloc, &mut text, view, parts)?;
     Ok(text)
 }
 
@@ -106,7 +138,7 @@ fn bars_of(alloc: Global, view: &View, stretches: &[Stretch]) -> Result<Vec<Bar>
 {
     let mut bars = Vec::new(alloc);
     for stretch in stretches {
-        if stretch.doing != Doing::Away {
+        if !matches!(stretch.doing, Doing::Away) {
             bars.push(bar_of(alloc, view, *stretch)?)?;
         }
     }
@@ -117,18 +149,15 @@ fn bars_of(alloc: Global, view: &View, stretches: &[Stretch]) -> Result<Vec<Bar>
 fn push_body(
     alloc: Global,
     text: &mut Vec<u8>,
-    plan: &Plan,
-    axes: &[u64],
-    shapes: &[Shape],
-    bars: &[Bar],
-    marks: &[Mark],
+    view: &View,
+    parts: &Parts,
 ) -> Result<(), OutOfMemory>
-    requires { All (λ m. IsWellFormed plan.now m.entry) marks.now }
-    ensures { OnOk result (text.new.items ≡ text.old.items ++ body_text plan.now axes.now shapes.now bars.now marks.now) }
+    requires { All (λ m. IsWellFormed view.now.plan.now m.entry) parts.now.marks.items }
+    ensures { OnOk result (text.new.items ≡ text.old.items ++ body_text view.now.plan.now view.now.axes.now parts.now.shapes.items parts.now.bars.items parts.now.marks.items) }
 {
-    push_shapes(text, shapes)?;
-    push_bars(text, bars)?;
-    push_marks(alloc, text, plan, axes, marks)?;
+    push_shapes(text, &parts.shapes)?;
+    push_bars(text, &parts.bars)?;
+    push_marks(alloc, text, view.plan, view.axes, &parts.marks)?;
     text.extend_from_slice(b"</svg>\n")?;
     Ok(())
 }

@@ -89,7 +89,7 @@ text{font:10px sans-serif}
 <use href=\"#end-4\" x=\"20\" y=\"88\"/><text class=\"legend\" x=\"34\" y=\"92\">end failed</text>
 <use href=\"#leave\" x=\"128\" y=\"88\"/><text class=\"legend\" x=\"142\" y=\"92\">leaves</text>
 <use href=\"#leave-1\" x=\"236\" y=\"88\"/><text class=\"legend\" x=\"250\" y=\"92\">leaves, raising</text>
-<rect class=\"body\" x=\"336\" y=\"83\" width=\"18\" height=\"10\"/><text class=\"legend\" x=\"358\" y=\"92\">may make a step</text>
+<rect class=\"body\" x=\"336\" y=\"83\" width=\"18\" height=\"10\"/><text class=\"legend\" x=\"358\" y=\"92\">in its body</text>
 <rect class=\"handler\" x=\"444\" y=\"83\" width=\"18\" height=\"10\"/><text class=\"legend\" x=\"466\" y=\"92\">in its handler</text>
 <rect class=\"turn\" x=\"552\" y=\"87\" width=\"18\" height=\"2\"/><text class=\"legend\" x=\"574\" y=\"92\">may go on</text>
 <rect class=\"wait\" x=\"660\" y=\"83\" width=\"18\" height=\"10\"/><text class=\"legend\" x=\"682\" y=\"92\">has to wait</text>

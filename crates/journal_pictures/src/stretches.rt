@@ -1,6 +1,6 @@
 //! What each participant does over a stretch of a journal, by the rules.
 
-ghost use Rattle.std.specs.Prelude.{◌≡◌, ◌<◌, IfOk, IfSome, length, true, false, List};
+ghost use Rattle.std.specs.Prelude.{◌≡◌, ◌<◌, IfOk, IfSome, IsTrue, length, true, false, List};
 ghost use Rattle.std.specs.List.{All};
 ghost use Rattle.caa_base.specs.declared.written.entry.Entry.{Entry as EntryValue};
 ghost use Rattle.place_plan.specs.Plans.PlanValue.{Plan as PlanValue};
@@ -17,7 +17,7 @@ use place_plan::plans::plan::Plan;
 use std::alloc::Global;
 
 /// What a participant does.
-#[derive(Clone, Copy, PartialEq, Eq)]
+#[derive(Clone, Copy)]
 pub enum Doing {
     /// It is in no place.
     Away,
@@ -94,11 +94,25 @@ fn begun(lane: Participant, doing: Doing, moment: usize) -> Stretch
     }
 }
 
+/// Whether a participant does the same, and waits for the same, at two moments.
+fn is_same(former: Doing, now: Doing) -> bool
+    ensures { IsTrue result → is_wait former ≡ is_wait now }
+{
+    match (former, now) {
+        (Doing::Wait(one), Doing::Wait(other)) => one == other,
+        (Doing::Away, Doing::Away)
+        | (Doing::Turn, Doing::Turn)
+        | (Doing::Body, Doing::Body)
+        | (Doing::Handler, Doing::Handler) => true,
+        _ => false,
+    }
+}
+
 /// A stretch that goes on for this moment, where its participant does the same.
 fn longer(former: Stretch, lane: Participant, doing: Doing, moment: usize) -> Option<Stretch>
     ensures { IfSome result (λ s. (plan : PlanValue) (entries : List EntryValue) → IsRight plan entries former → IsRightAt plan entries moment lane doing → IsRight plan entries s) }
 {
-    if former.lane == lane && former.doing == doing && former.to == moment as u64 {
+    if former.lane == lane && former.to == moment as u64 && is_same(former.doing, doing) {
         Some(Stretch {
             to: (moment as u64).saturating_add(1),
             ..former
