@@ -1,9 +1,9 @@
 //! A journal as a picture.
 
-ghost use Rattle.std.specs.Prelude.{◌≡◌, ◌++◌, OnOk, IfOk};
+ghost use Rattle.std.specs.Prelude.{◌≡◌, ◌≤◌, ◌++◌, length, OnOk, IfOk};
 ghost use Rattle.std.specs.List.{All, flat_map};
 ghost use Rattle.place_plan.specs.RulesOfJournals.WellFormed.{IsWellFormed, AllWellFormed};
-ghost use Rattle.journal_pictures.specs.Marks.{drawn, marks_from};
+ghost use Rattle.journal_pictures.specs.Marks.{drawn, marks_from, most_rows};
 ghost use Rattle.journal_pictures.specs.Pictures.{shape_text, bar_text, mark_text, body_text, IsPicture};
 ghost use Rattle.journal_pictures.specs.Stretches.{IsRight};
 
@@ -63,7 +63,8 @@ struct Parts {
 
 /// The parts of a picture of which this is told.
 fn parts_of(alloc: Global, view: &View, told: &Told) -> Result<Parts, OutOfMemory>
-    requires { All (IsRight view.now.plan.now view.now.entries.now) told.now.stretches.items }
+    requires few { length view.now.part.now ≤ most_rows }
+    requires told { All (IsRight view.now.plan.now view.now.entries.now) told.now.stretches.items }
     ensures bars { IfOk result (λ parts. All (λ b. IsRight view.now.plan.now view.now.entries.now b.stretch) parts.bars.items) }
     ensures marks { IfOk result (λ parts. parts.marks.items ≡ marks_from 0 view.now.part.now) }
 {
