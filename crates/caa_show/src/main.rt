@@ -10,7 +10,7 @@ mod whereabouts;
 mod words;
 
 use crate::showing::{Shown, Status, show};
-use crate::words::{USAGE, View, asked, asks_for_line_table};
+use crate::words::{Alone, USAGE, VERSION, View, asked, asked_alone};
 use action_script::words::call_words::call_words;
 use caa_base::outside::reading::{ReadError, read_all, write_all};
 use caa_base::outside::standard::{StdSink, StdSource};
@@ -78,11 +78,20 @@ fn show_line_table(alloc: Global) -> Shown {
     }
 }
 
+/// What is shown without an input.
+fn show_alone(alloc: Global, alone: Alone) -> Shown {
+    match alone {
+        Alone::LineTable => show_line_table(alloc),
+        Alone::Help => told(alloc, Status::Done, "", USAGE),
+        Alone::Version => told(alloc, Status::Done, "", VERSION),
+    }
+}
+
 /// What the words come to, and whether it belongs into the output: why a picture or a graph isn't there doesn't.
 fn serve(rt: &HostRuntime, words: &[String]) -> (Shown, bool) {
     let alloc = rt.alloc();
-    if asks_for_line_table(words) {
-        return (show_line_table(alloc), true);
+    if let Some(alone) = asked_alone(words) {
+        return (show_alone(alloc, alone), true);
     }
     match asked(words) {
         None => (told(alloc, Status::Usage, "", USAGE), true),

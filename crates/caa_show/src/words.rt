@@ -36,7 +36,10 @@ impl View {
 
 /// The usage line.
 pub const USAGE: &[u8] =
-    b"usage: explain [FILE] | table [FILE] | graph [FILE] | chart [FILE [FIRST COUNT]] | story [FILE] | where [FILE [FIRST COUNT]] | lines\n";
+    b"usage: explain [FILE] | table [FILE] | graph [FILE] | chart [FILE [FIRST COUNT]] | story [FILE] | where [FILE [FIRST COUNT]] | lines | --help | --version\n";
+
+/// The program and its version.
+pub const VERSION: &[u8] = b"caa_show 1.0\n";
 
 /// The view of a word.
 fn view_of(word: &str) -> Option<View> {
@@ -72,9 +75,27 @@ fn part_of(view: &str, first: &str, count: &str) -> Option<View> {
     }
 }
 
-/// Whether the table of the kinds of lines is asked for, which needs no input.
-pub fn asks_for_line_table(words: &[String]) -> bool {
-    matches!(words, [view] if view.as_str() == "lines")
+/// What is shown without an input.
+#[derive(Clone, Copy)]
+pub enum Alone {
+    /// The table of the kinds of lines.
+    LineTable,
+    /// The usage line.
+    Help,
+    Version,
+}
+
+/// What is asked for that needs no input, if that is so.
+pub fn asked_alone(words: &[String]) -> Option<Alone> {
+    match words {
+        [word] => match word.as_str() {
+            "lines" => Some(Alone::LineTable),
+            "--help" => Some(Alone::Help),
+            "--version" => Some(Alone::Version),
+            _ => None,
+        },
+        _ => None,
+    }
 }
 
 /// What is asked for: a view, and the file that is read; none for standard input.
