@@ -1,12 +1,16 @@
 -- What an answer of the checker says that is no want of memory.
-use Rattle.std.proofs.Common.{◌≡◌, ◌≢◌, ℕ, List, Ok, Err, Result, IfErr, inr, subst}
+use Rattle.std.proofs.Common.{◌≡◌, ◌≢◌, ℕ, List, Some, Ok, Err, Result, IfErr, inr, sym, ◌∙◌, subst}
 use Rattle.action_script.specs.Lines.Spelling.{reading_of}
 use Rattle.action_script.specs.Forms.ScriptValue.{Script}
 use Rattle.place_plan.specs.Plans.PlanValue.{Plan}
 use Rattle.script_checker.specs.declared.check_error.CheckError.{CheckError}
 use Rattle.script_checker.specs.declared.check_error.CheckCause.TheVariants as cause
 use Rattle.script_checker.specs.Compiled.{IsAnswer, planned, refused, wanting, IsPlanOf, IsFirstRefused}
+use Rattle.graph_maker.specs.declared.made_error.MadeError.{MadeError}
+use Rattle.graph_maker.specs.Refusals.{refusal_of}
+use Rattle.graph_maker.specs.Answers.{IsAnswer as IsMade, made as made_of, refused as refused_for_sets, wanting as wanting_for_sets}
 use Rattle.caa_commands.specs.declared.fault.Refusal.{Refusal}
+use Rattle.caa_commands.specs.Graphs.{IsMadeFault, IsRefusedGraph}
 use Rattle.caa_commands.specs.Scripts.{IsCause, IsRefusedLine, IsRefusedScript, IsUnplanned, HasNoPlan}
 use Rattle.caa_commands.specs.declared.scripts.NoPlan.{NoPlan}
 use Rattle.caa_commands.specs.declared.scripts.NoPlan.TheVariants as no_plan
@@ -51,3 +55,21 @@ pub unplanned_made : (bytes : List ℕ) (script : Script) (r : Result Plan NoPla
     → IfErr r (IsUnplanned script) → IfErr r (HasNoPlan bytes)
 unplanned_made bytes script (Ok plan) spelled none = tt
 unplanned_made bytes script (Err why) spelled none = unplanned bytes script why spelled none
+
+-- the bytes that spell a script of which no graph is made are refused for it
+pub unmade : (most : ℕ) (bytes : List ℕ) (script : Script) (r : Result Script MadeError) (error : MadeError) (refusal : Refusal)
+    → reading_of bytes ≡ Ok script → IsMade script most r → r ≡ Err error → refusal.line ≡ error.line
+    → IsMadeFault error.cause refusal.fault → IsRefusedGraph most bytes refusal
+unmade most bytes script r error refusal spelled (made_of none it) e line fault = absurd cc
+unmade most bytes script r error refusal spelled (refused_for_sets {error = x} first) e line fault =
+    let same : x ≡ error = cc in
+    inr (record {
+      script = script;
+      spelled = spelled;
+      error = error;
+      first = subst (λ (y : MadeError). refusal_of script most ≡ Some y) same first;
+      line = line;
+      fault = fault;
+    })
+unmade most bytes script r error refusal spelled (wanting_for_sets {error = x} is) e line fault =
+    let same : x ≡ error = cc in absurd (subst (λ (y : MadeError). IsMadeFault y.cause refusal.fault) (sym same ∙ is) fault)

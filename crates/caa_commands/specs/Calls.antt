@@ -16,6 +16,7 @@ use Rattle.journal_text.specs.Texts.Text.{text_of}
 use Rattle.cell_workload.specs.CellScript.{cell_script}
 use Rattle.cell_workload.specs.Summary.{summary_text}
 use Rattle.message_plays.specs.Texts.{IsPlayedByMessages}
+use Rattle.action_script.specs.declared.script_error.ScriptCause.TheVariants as spelling
 use Rattle.caa_commands.specs.declared.command.Command.{Command}
 use Rattle.caa_commands.specs.declared.command.Command.TheVariants as command
 use Rattle.caa_commands.specs.declared.fault.Fault.TheVariants as fault
@@ -201,7 +202,7 @@ HasStopped source _ = source.faults_after ≡ source.faults_before
 -- what is found where the input wasn't read to its end
 abbrev pub unread_finding : ReadError → Finding
 unread_finding error.Fault = finding.SourceFault
-unread_finding error.TooLong = finding.Refused (record { line = 0; fault = fault.TooLong })
+unread_finding error.TooLong = finding.Refused (record { line = 0; fault = fault.Text spelling.TooLong })
 unread_finding error.OutOfMemory = finding.OutOfMemory
 
 -- the input wasn't read to its end: what was taken of it, and why

@@ -1,6 +1,8 @@
 -- What a call of the program may come to: the status and the text of each.
 use Rattle.std.specs.Prelude.{ℕ, Bool, true, false, List, [], ◌∷◌, codes, decimal}
 use Rattle.caa_base.specs.Written.Lines.{line}
+use Rattle.action_script.specs.Phrases.{phrase_of as spelling_phrase}
+use Rattle.script_checker.specs.Phrases.{phrase_of as check_phrase}
 use Rattle.script_checker.specs.declared.plan_counts.PlanCounts.{PlanCounts}
 use Rattle.caa_commands.specs.declared.fault.Fault.{Fault}
 use Rattle.caa_commands.specs.declared.fault.Fault.TheVariants as fault
@@ -21,28 +23,13 @@ text_bytes (text.Written bytes) = bytes.items
 
 -- the number and the word of a fault
 abbrev pub fault_phrase : Fault → List ℕ
-fault_phrase fault.BadLine = codes "1 bad-line"
-fault_phrase fault.BadNumber = codes "2 bad-number"
-fault_phrase fault.BadName = codes "3 bad-name"
-fault_phrase fault.TooLong = codes "4 too-long"
-fault_phrase fault.Unknown = codes "10 unknown"
-fault_phrase fault.Twice = codes "11 twice"
-fault_phrase (fault.Cycle name) = codes "12 cycle"
-fault_phrase (fault.NoLeast first second) = codes "13 no-least"
-fault_phrase fault.RoleUnfilled = codes "14 role-unfilled"
-fault_phrase fault.RoleTwice = codes "15 role-twice"
-fault_phrase fault.NestOrder = codes "16 nest-order"
-fault_phrase fault.ObjectNotHeld = codes "17 object-not-held"
-fault_phrase fault.TooDeep = codes "18 too-deep"
-fault_phrase fault.Limit = codes "19 limit"
-fault_phrase fault.JournalBound = codes "20 journal-bound"
-fault_phrase fault.AlternateFace = codes "22 alternate-face"
+fault_phrase (fault.Text cause) = spelling_phrase cause
+fault_phrase (fault.Line cause names) = check_phrase cause
 
 -- the names of its exceptions
 abbrev pub fault_names : Fault → List (List ℕ)
-fault_names (fault.Cycle name) = name ∷ []
-fault_names (fault.NoLeast first second) = first ∷ second ∷ []
-fault_names _ = []
+fault_names (fault.Text cause) = []
+fault_names (fault.Line cause names) = names
 
 -- the line of a refusal
 abbrev pub refusal_text : Refusal → List ℕ

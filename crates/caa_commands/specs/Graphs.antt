@@ -1,8 +1,10 @@
 -- What `graph K` comes to by the bytes of a script: the text of a graph of sets, or a refusal.
-use Rattle.std.specs.Prelude.{◌≡◌, ◌⊎◌, ℕ, List, Some, None, Ok}
+use Rattle.std.specs.Prelude.{◌≡◌, ◌⊎◌, ℕ, List, [], Some, None, Ok}
 use Rattle.action_script.specs.Forms.Printing.{text_of}
 use Rattle.action_script.specs.Forms.ScriptValue.{Script}
 use Rattle.action_script.specs.Lines.Spelling.{reading_of}
+use Rattle.action_script.specs.declared.script_error.ScriptCause.TheVariants as spelling
+use Rattle.script_checker.specs.declared.check_error.CheckCause.TheVariants as check
 use Rattle.graph_maker.specs.declared.made_error.MadeCause.{MadeCause}
 use Rattle.graph_maker.specs.declared.made_error.MadeCause.TheVariants as cause
 use Rattle.graph_maker.specs.declared.made_error.MadeError.{MadeError}
@@ -24,9 +26,9 @@ pub record IsGraphText (most : ℕ) (bytes text : List ℕ) : Type 0 where
 
 -- the fault is this one of a script of which no graph is made
 abbrev pub IsMadeFault : MadeCause → Fault → Type 0
-IsMadeFault cause.BadLine f = f ≡ fault.BadLine
-IsMadeFault cause.Twice f = f ≡ fault.Twice
-IsMadeFault cause.Limit f = f ≡ fault.Limit
+IsMadeFault cause.BadLine f = f ≡ fault.Text spelling.BadLine
+IsMadeFault cause.Twice f = f ≡ fault.Line check.Twice []
+IsMadeFault cause.Limit f = f ≡ fault.Line check.Limit []
 IsMadeFault cause.OutOfMemory f = ⊥
 
 -- the text is that of a script, but this line of it is refused

@@ -8,6 +8,7 @@ use Rattle.journal_text.specs.declared.looks.seens.Seen.{Seen}
 use Rattle.journal_text.specs.Texts.TextOfJournal.{IsText, HasTooMany, IsFirstBad}
 use Rattle.journal_text.specs.Watching.Right.{first_wrong}
 use Rattle.journal_replay.specs.Audited.{IsFirstIllegal, IsUnfinished}
+use Rattle.script_checker.specs.declared.check_error.CheckCause.TheVariants as cause
 use Rattle.caa_commands.specs.declared.fault.Fault.TheVariants as fault
 use Rattle.caa_commands.specs.declared.fault.Refusal.{Refusal}
 use Rattle.caa_commands.specs.declared.judging.Judgement.{Judgement}
@@ -69,4 +70,4 @@ pub record IsIllegal (plan : Plan) (bytes : List ℕ) (line : ℕ) : Type 0 wher
 pub record HasTooManyEntries (plan : Plan) (bytes : List ℕ) (refusal : Refusal) : Type 0 where
   pub many : HasTooMany plan most_audited (journal_part bytes)
   pub line : refusal.line ≡ script_lines bytes + (most_audited + 2)
-  pub fault : refusal.fault ≡ fault.Limit
+  pub fault : refusal.fault ≡ fault.Line cause.Limit []

@@ -70,27 +70,19 @@ exception_at script number exception = slice_index_or (exceptions_at script numb
 
 -- the fault is this one of a text
 abbrev pub IsSpelling : ScriptCause → Fault → Type 0
-IsSpelling spelling.BadLine f = f ≡ fault.BadLine
-IsSpelling spelling.BadNumber f = f ≡ fault.BadNumber
-IsSpelling spelling.BadName f = f ≡ fault.BadName
-IsSpelling spelling.TooLong f = f ≡ fault.TooLong
 IsSpelling spelling.OutOfMemory f = ⊥
+IsSpelling c f = f ≡ fault.Text c
+
+-- the exceptions that are told of a cause at the line of this number
+abbrev pub exceptions_told : Script → ℕ → CheckCause → List (List ℕ)
+exceptions_told script number (cause.Cycle at) = exception_at script number at ∷ []
+exceptions_told script number (cause.NoLeast a b) = exception_at script number a ∷ exception_at script number b ∷ []
+exceptions_told script number _ = []
 
 -- the fault is this one of a line, with the names of its exceptions
 abbrev pub IsCause : Script → ℕ → CheckCause → Fault → Type 0
-IsCause script number cause.Unknown f = f ≡ fault.Unknown
-IsCause script number cause.Twice f = f ≡ fault.Twice
-IsCause script number (cause.Cycle at) f = f ≡ fault.Cycle (exception_at script number at)
-IsCause script number (cause.NoLeast a b) f = f ≡ fault.NoLeast (exception_at script number a) (exception_at script number b)
-IsCause script number cause.RoleUnfilled f = f ≡ fault.RoleUnfilled
-IsCause script number cause.RoleTwice f = f ≡ fault.RoleTwice
-IsCause script number cause.NestOrder f = f ≡ fault.NestOrder
-IsCause script number cause.ObjectNotHeld f = f ≡ fault.ObjectNotHeld
-IsCause script number cause.TooDeep f = f ≡ fault.TooDeep
-IsCause script number cause.Limit f = f ≡ fault.Limit
-IsCause script number cause.JournalBound f = f ≡ fault.JournalBound
-IsCause script number cause.AlternateFace f = f ≡ fault.AlternateFace
 IsCause script number cause.OutOfMemory f = ⊥
+IsCause script number c f = f ≡ fault.Line c (exceptions_told script number c)
 
 -- the bytes spell no script, and this is their first fault
 pub record IsMisspelled (bytes : List ℕ) (refusal : Refusal) : Type 0 where

@@ -1,47 +1,22 @@
-ghost use Rattle.std.specs.Prelude.{◌≡◌, ◌++◌, IfOk, OnOk};
+ghost use Rattle.std.specs.Prelude.{◌≡◌, ◌++◌, [], IfOk, OnOk};
 ghost use Rattle.caa_base.specs.Written.Lines.{spaced};
 ghost use Rattle.caa_commands.specs.Findings.{fault_phrase, fault_names, refusal_text};
 
+use action_script::script_error::ScriptCause;
 use caa_base::written::entry::OutOfMemory;
 use caa_base::written::line::{end_line, push_number, push_word};
 use caa_base::written::name::Name;
+use caa_base::written::rows::Rows;
+use script_checker::check_error::CheckCause;
 use std::alloc::Global;
 
 /// What is wrong with an input that is refused, with the names that are told of it.
 #[derive(Drop)]
 pub enum Fault {
-    /// The line has a byte, a word or a number of words that no line has there.
-    BadLine,
-    /// A word isn't the number that is asked for.
-    BadNumber,
-    /// A word isn't a name.
-    BadName,
-    /// The input, or the line, has too many bytes.
-    TooLong,
-    /// A name isn't declared.
-    Unknown,
-    /// Something is declared or said again.
-    Twice,
-    /// This exception and another cover each other.
-    Cycle(Name),
-    /// These two exceptions have no least cover.
-    NoLeast(Name, Name),
-    /// Fewer or more roles are filled than there are.
-    RoleUnfilled,
-    /// Two roles are filled by one.
-    RoleTwice,
-    /// A role doesn't enter just the nested uses that it fills, in their order.
-    NestOrder,
-    /// An object is touched that the action doesn't use.
-    ObjectNotHeld,
-    /// Actions are nested too deep.
-    TooDeep,
-    /// There is more of something than there may be.
-    Limit,
-    /// A journal could have too many entries.
-    JournalBound,
-    /// An alternate has another interface graph than the first action of its use.
-    AlternateFace,
+    /// The input isn't the text of a script.
+    Text(ScriptCause),
+    /// A line isn't accepted; of a graph these exceptions are told.
+    Line(CheckCause, Rows<Name>),
 }
 
 /// The fault for which an input is refused.
@@ -52,42 +27,41 @@ pub struct Refusal {
     pub fault: Fault,
 }
 
+/// Adds names, each behind a space.
+fn push_names(text: &mut Vec<u8>, names: &[Name]) -> Result<(), OutOfMemory>
+    ensures { OnOk result (text.new.items ≡ text.old.items ++ spaced names.now) }
+{
+    for name in names {
+        push_word(text, name.bytes())?;
+    }
+    Ok(())
+}
+
 impl Fault {
+    /// The fault of a line of which no name is told.
+    pub fn of_line(alloc: Global, cause: CheckCause) -> Fault
+        ensures { result ≡ Fault.Line cause [] }
+    {
+        Fault::Line(cause, Rows::from_vec(Vec::new(alloc)))
+    }
+
     /// Its number and its word.
     fn phrase(&self) -> &'static [u8]
         ensures { result.now ≡ fault_phrase self.now }
     {
         match self {
-            Fault::BadLine => b"1 bad-line",
-            Fault::BadNumber => b"2 bad-number",
-            Fault::BadName => b"3 bad-name",
-            Fault::TooLong => b"4 too-long",
-            Fault::Unknown => b"10 unknown",
-            Fault::Twice => b"11 twice",
-            Fault::Cycle(_) => b"12 cycle",
-            Fault::NoLeast(_, _) => b"13 no-least",
-            Fault::RoleUnfilled => b"14 role-unfilled",
-            Fault::RoleTwice => b"15 role-twice",
-            Fault::NestOrder => b"16 nest-order",
-            Fault::ObjectNotHeld => b"17 object-not-held",
-            Fault::TooDeep => b"18 too-deep",
-            Fault::Limit => b"19 limit",
-            Fault::JournalBound => b"20 journal-bound",
-            Fault::AlternateFace => b"22 alternate-face",
+            Fault::Text(cause) => cause.phrase().as_bytes(),
+            Fault::Line(cause, _) => cause.phrase().as_bytes(),
         }
     }
 
-    /// Adds the names that are told of it.
-    fn push_names(&self, text: &mut Vec<u8>) -> Result<(), OutOfMemory>
-        ensures { OnOk result (text.new.items ≡ text.old.items ++ spaced (fault_names self.now)) }
+    /// The names that are told of it.
+    fn names(&self) -> &[Name]
+        ensures { result.now ≡ fault_names self.now }
     {
         match self {
-            Fault::Cycle(name) => push_word(text, name.bytes()),
-            Fault::NoLeast(first, second) => {
-                push_word(text, first.bytes())?;
-                push_word(text, second.bytes())
-            }
-            _ => Ok(()),
+            Fault::Text(_) => &[],
+            Fault::Line(_, names) => names.as_slice(),
         }
     }
 }
@@ -100,7 +74,7 @@ impl Refusal {
         let mut text = Vec::from_slice(alloc, b"refused")?;
         push_number(&mut text, self.line)?;
         push_word(&mut text, self.fault.phrase())?;
-        self.fault.push_names(&mut text)?;
+        push_names(&mut text, self.fault.names())?;
         end_line(&mut text)?;
         Ok(text)
     }

@@ -6,28 +6,30 @@ ghost use Rattle.caa_commands.specs.Graphs.{HasNoGraph, IsGraphText, IsMadeFault
 use crate::fault::{Fault, Refusal};
 use crate::scripts::{NoPlan, script_of};
 use action_script::forms::printer::print;
+use action_script::script_error::ScriptCause;
 use caa_base::written::entry::OutOfMemory;
 use graph_maker::{MadeCause, MadeError, make_script};
+use script_checker::check_error::CheckCause;
 use std::alloc::Global;
 
 /// The fault of a script of which no graph is made; none for want of memory.
-fn fault_of(cause: MadeCause) -> Result<Fault, OutOfMemory>
+fn fault_of(alloc: Global, cause: MadeCause) -> Result<Fault, OutOfMemory>
     ensures { IfOk result (IsMadeFault cause) }
 {
     match cause {
-        MadeCause::BadLine => Ok(Fault::BadLine),
-        MadeCause::Twice => Ok(Fault::Twice),
-        MadeCause::Limit => Ok(Fault::Limit),
+        MadeCause::BadLine => Ok(Fault::Text(ScriptCause::BadLine)),
+        MadeCause::Twice => Ok(Fault::of_line(alloc, CheckCause::Twice)),
+        MadeCause::Limit => Ok(Fault::of_line(alloc, CheckCause::Limit)),
         MadeCause::OutOfMemory => Err(OutOfMemory),
     }
 }
 
 /// The refusal of such a script; none for want of memory.
-fn refusal_of(error: MadeError) -> Result<Refusal, OutOfMemory>
+fn refusal_of(alloc: Global, error: MadeError) -> Result<Refusal, OutOfMemory>
     ensures line { IfOk result (λ refusal. refusal.line ≡ error.line) }
     ensures fault { IfOk result (λ refusal. IsMadeFault error.cause refusal.fault) }
 {
-    let fault = fault_of(error.cause)?;
+    let fault = fault_of(alloc, error.cause)?;
     Ok(Refusal {
         line: u64::from(error.line),
         fault,
@@ -48,7 +50,7 @@ pub fn graph_text(alloc: Global, bytes: &[u8], most: u32) -> Result<Vec<u8>, NoP
             Ok(text)
         }
         Err(error) => {
-            let refusal = refusal_of(error)?;
+            let refusal = refusal_of(alloc, error)?;
             Err(NoPlan::Refused(refusal))
         }
     }

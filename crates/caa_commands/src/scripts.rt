@@ -6,7 +6,7 @@
 ghost use Rattle.std.specs.Prelude.{◌≡◌, true, [], Ok, IfOk, IfErr, OnOk};
 ghost use Rattle.action_script.specs.Lines.Spelling.{reading_of};
 ghost use Rattle.journal_text.specs.Texts.Naming.{is_well_named};
-ghost use Rattle.caa_commands.specs.Scripts.{IsThePlan, IsOnlyPlan, IsCounted, IsUnplanned, HasNoPlan, HasNoScript, IsSpelling, IsCause, declared_after, declared_at, exception_at};
+ghost use Rattle.caa_commands.specs.Scripts.{IsThePlan, IsOnlyPlan, IsCounted, IsUnplanned, HasNoPlan, HasNoScript, IsSpelling, IsCause, exceptions_told, declared_after, declared_at, exception_at};
 
 use crate::fault::{Fault, Refusal};
 use action_script::forms::form::Form;
@@ -15,6 +15,7 @@ use action_script::lines::reader::read;
 use action_script::script_error::ScriptCause;
 use caa_base::written::entry::OutOfMemory;
 use caa_base::written::name::{Name, name_at};
+use caa_base::written::rows::Rows;
 use place_plan::plans::plan::Plan;
 use script_checker::check_error::{CheckCause, CheckError};
 use script_checker::compile::{compile, count};
@@ -46,11 +47,8 @@ fn spelling_of(cause: ScriptCause) -> Result<Fault, OutOfMemory>
     ensures { IfOk result (IsSpelling cause) }
 {
     match cause {
-        ScriptCause::BadLine => Ok(Fault::BadLine),
-        ScriptCause::BadNumber => Ok(Fault::BadNumber),
-        ScriptCause::BadName => Ok(Fault::BadName),
-        ScriptCause::TooLong => Ok(Fault::TooLong),
         ScriptCause::OutOfMemory => Err(OutOfMemory),
+        _ => Ok(Fault::Text(cause)),
     }
 }
 
@@ -99,28 +97,36 @@ fn exception_at(
     Name::from_bytes(alloc, name_at(script.names(), *number))
 }
 
+/// The exceptions that are told of a cause at the line of this number.
+fn exceptions_told(
+    alloc: Global,
+    script: &Script,
+    line: u32,
+    cause: CheckCause,
+) -> Result<Vec<Name>, OutOfMemory>
+    ensures { IfOk result (λ names. names.items ≡ exceptions_told script.now line cause) }
+{
+    let mut names = Vec::new(alloc);
+    match cause {
+        CheckCause::Cycle { at } => names.push(exception_at(alloc, script, line, at)?)?,
+        CheckCause::NoLeast { a, b } => {
+            names.push(exception_at(alloc, script, line, a)?)?;
+            names.push(exception_at(alloc, script, line, b)?)?;
+        }
+        _ => {}
+    }
+    Ok(names)
+}
+
 /// The fault of a line, with the names of its exceptions; none for want of memory.
 fn cause_of(alloc: Global, script: &Script, error: CheckError) -> Result<Fault, OutOfMemory>
     ensures { IfOk result (IsCause script.now error.line error.cause) }
 {
-    match error.cause {
-        CheckCause::Unknown => Ok(Fault::Unknown),
-        CheckCause::Twice => Ok(Fault::Twice),
-        CheckCause::Cycle { at } => Ok(Fault::Cycle(exception_at(alloc, script, error.line, at)?)),
-        CheckCause::NoLeast { a, b } => Ok(Fault::NoLeast(
-            exception_at(alloc, script, error.line, a)?,
-            exception_at(alloc, script, error.line, b)?,
-        )),
-        CheckCause::RoleUnfilled => Ok(Fault::RoleUnfilled),
-        CheckCause::RoleTwice => Ok(Fault::RoleTwice),
-        CheckCause::NestOrder => Ok(Fault::NestOrder),
-        CheckCause::ObjectNotHeld => Ok(Fault::ObjectNotHeld),
-        CheckCause::TooDeep => Ok(Fault::TooDeep),
-        CheckCause::Limit => Ok(Fault::Limit),
-        CheckCause::JournalBound => Ok(Fault::JournalBound),
-        CheckCause::AlternateFace => Ok(Fault::AlternateFace),
-        CheckCause::OutOfMemory => Err(OutOfMemory),
+    if error.cause == CheckCause::OutOfMemory {
+        return Err(OutOfMemory);
     }
+    let names = exceptions_told(alloc, script, error.line, error.cause)?;
+    Ok(Fault::Line(error.cause, Rows::from_vec(names)))
 }
 
 /// The script that these bytes spell.

@@ -18,6 +18,7 @@ use crate::graphs::graph_text;
 use crate::judging::{Judgement, judge};
 use crate::playing::{Decision, pool_plan, run_plan, simulate};
 use crate::scripts::{NoPlan, counts_of, plan_of};
+use action_script::script_error::ScriptCause;
 use action_script::words::journal_start::find_journal;
 use caa_base::outside::gate::Gate;
 use caa_base::outside::plant::Plant;
@@ -26,6 +27,7 @@ use caa_base::outside::source::Source;
 use caa_base::written::limits::{MOST_AUDIT_BYTES, MOST_AUDITED, MOST_SCRIPT_BYTES};
 use message_plays::messages_text;
 use place_plan::plans::plan::Plan;
+use script_checker::check_error::CheckCause;
 use std::alloc::Global;
 use std::sync::Wait;
 use std::thread::Threads;
@@ -78,7 +80,7 @@ fn judge_after<P: Plant>(alloc: Global, plan: &Plan, bytes: &[u8], plant: P) -> 
         Judgement::TooMany => {
             let refusal = Refusal {
                 line: start.lines + (MOST_AUDITED + 2),
-                fault: Fault::Limit,
+                fault: Fault::of_line(alloc, CheckCause::Limit),
             };
             Decision::idle(alloc, Finding::Refused(refusal), plant)
         }
@@ -196,7 +198,7 @@ fn unread(error: ReadError) -> Finding
         ReadError::Fault => Finding::SourceFault,
         ReadError::TooLong => Finding::Refused(Refusal {
             line: 0,
-            fault: Fault::TooLong,
+            fault: Fault::Text(ScriptCause::TooLong),
         }),
         ReadError::OutOfMemory => Finding::OutOfMemory,
     }

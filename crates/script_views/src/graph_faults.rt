@@ -1,12 +1,12 @@
 //! Graphs in which exceptions cover each other, or in which two have no least cover.
 
 use crate::covers::{CoverLine, above, covers_of};
-use crate::looking::exceptions_of;
 use crate::page::{Page, Piece};
 use crate::scene::Scene;
 use crate::source::show_line;
 use caa_base::written::entry::OutOfMemory;
 use cover_table::MOST_EXCEPTIONS;
+use script_checker::declared::{Block, SoFar};
 use std::alloc::Global;
 
 /// An exception that was reached on the way down from another one.
@@ -90,18 +90,16 @@ fn steps_back(alloc: Global, reached: &[Reached]) -> Result<Vec<Reached>, OutOfM
     Ok(steps)
 }
 
-/// The name of an exception by its number in the graph.
-fn exception_name(scene: &Scene, number: u32) -> Result<u32, OutOfMemory> {
-    if number == 0 {
-        return Ok(scene.universal);
-    }
-    let names = exceptions_of(scene.alloc, scene.block)?;
-    Ok(
-        names
-            .get((number as usize).saturating_sub(1))
-            .copied()
-            .unwrap_or(scene.universal),
-    )
+/// The name of an exception by its number in the graph that ends.
+fn exception_name(scene: &Scene, so_far: &SoFar, number: u32) -> u32 {
+    let Block::Graph(graph) = &so_far.block else {
+        return scene.universal;
+    };
+    let names = graph.exceptions().items();
+    names
+        .get(number as usize)
+        .copied()
+        .unwrap_or(scene.universal)
 }
 
 // ---- rings
@@ -124,13 +122,18 @@ fn tell_above_universal(
 }
 
 /// Tells the ring of `cover` lines that leads from an exception back to itself.
-pub fn tell_cycle(scene: &Scene, at: u32, notes: &mut Page) -> Result<usize, OutOfMemory> {
+pub fn tell_cycle(
+    scene: &Scene,
+    so_far: &SoFar,
+    at: u32,
+    notes: &mut Page,
+) -> Result<usize, OutOfMemory> {
     let covers = covers_of(scene.alloc, scene.block)?;
     if at == 0 {
         tell_above_universal(scene, &covers, notes)?;
         return Ok(0);
     }
-    let name = exception_name(scene, at)?;
+    let name = exception_name(scene, so_far, at);
     let steps = way_down(scene.alloc, &covers, name, name)?;
     notes.note(&[
         Piece::Text("no exception may stand above itself, and these lines lead from "),
@@ -203,13 +206,14 @@ fn tell_way(
 /// Tells the exceptions that stand above two others, and of which none is the least.
 pub fn tell_no_least(
     scene: &Scene,
+    so_far: &SoFar,
     first: u32,
     second: u32,
     notes: &mut Page,
 ) -> Result<usize, OutOfMemory> {
     let covers = covers_of(scene.alloc, scene.block)?;
-    let first = exception_name(scene, first)?;
-    let second = exception_name(scene, second)?;
+    let first = exception_name(scene, so_far, first);
+    let second = exception_name(scene, so_far, second);
     let least = rivals(scene, &covers, first, second)?;
     notes.note(&[
         Piece::Text("where "),

@@ -1,7 +1,7 @@
 //! The table of the kinds of lines.
 
 use crate::page::{Page, Piece};
-use crate::shapes::{MANUAL, goes_on, stand_of};
+use crate::shapes::MANUAL;
 use action_script::lines::field::Part;
 use action_script::lines::kind::{LineKind, Stand};
 use action_script::lines::sort::{Naming, Sort};
@@ -10,7 +10,7 @@ use std::alloc::Global;
 
 /// Where lines of a kind stand, in one word.
 fn stand_word(kind: LineKind) -> &'static str {
-    match stand_of(kind) {
+    match kind.stand() {
         Stand::Top => "top",
         Stand::Graph => "graph",
         Stand::Action => "action",
@@ -67,7 +67,7 @@ fn push_row(page: &mut Page, kind: LineKind) -> Result<(), OutOfMemory> {
     for part in kind.parts() {
         push_part(page, *part)?;
     }
-    if goes_on(kind) {
+    if kind.goes_on() {
         push_naming(page, Naming::Further)?;
     }
     page.say(&[Piece::Text("\n")])

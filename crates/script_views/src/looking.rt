@@ -5,14 +5,23 @@ use action_script::forms::script::Line;
 use caa_base::written::entry::OutOfMemory;
 use std::alloc::Global;
 
+/// The name of the graph or the action that a line begins.
+pub fn begins_block(form: &Form) -> Option<u32> {
+    if let Form::Graph(name) | Form::Action(name) = form {
+        Some(*name)
+    } else {
+        None
+    }
+}
+
 /// The lines of the block that is open after these, from the one that opens it on; none at the top.
 pub fn open_block(lines: &[Line]) -> &[Line] {
     let mut block: &[Line] = &[];
     for (index, line) in lines.iter().enumerate() {
-        match &line.form {
-            Form::Graph(_) | Form::Action(_) => block = lines.get(index..).unwrap_or(&[]),
-            Form::End => block = &[],
-            _ => {}
+        if begins_block(&line.form).is_some() {
+            block = lines.get(index..).unwrap_or(&[]);
+        } else if let Form::End = &line.form {
+            block = &[];
         }
     }
     block
@@ -58,10 +67,7 @@ pub fn first_line(block: &[Line]) -> u32 {
 
 /// The name of the graph or the action that these lines open.
 pub fn block_name(block: &[Line]) -> Option<u32> {
-    match &block.first()?.form {
-        Form::Graph(name) | Form::Action(name) => Some(*name),
-        _ => None,
-    }
+    begins_block(&block.first()?.form)
 }
 
 /// The roles of an action.
@@ -88,16 +94,6 @@ pub fn objects_of(block: &[Line]) -> &[u32] {
 pub fn internal_of(block: &[Line]) -> Option<u32> {
     for line in block {
         if let Form::Internal(graph) = &line.form {
-            return Some(*graph);
-        }
-    }
-    None
-}
-
-/// The interface graph that an action names.
-pub fn interface_of(block: &[Line]) -> Option<u32> {
-    for line in block {
-        if let Form::Interface(graph) = &line.form {
             return Some(*graph);
         }
     }

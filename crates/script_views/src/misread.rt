@@ -1,11 +1,11 @@
 //! A line that can't be read.
 
 use crate::characters::{has_returns_alone, push_character};
-use crate::looking::{block_name, first_line};
+use crate::looking::{begins_block, block_name, first_line};
 use crate::page::{Page, Piece};
 use crate::scene::Scene;
 use crate::shapes::{
-    MANUAL, in_steps, part_at, push_written, section_after, section_of, section_phrase, stand_of,
+    MANUAL, in_steps, kind_part, push_written, section_after, section_of, section_phrase,
     stand_phrase,
 };
 use crate::source::{column_of, line_at, show_line};
@@ -21,6 +21,7 @@ use caa_base::written::limits::{
     MOST_COUNT, MOST_LINE_BYTES, MOST_MAGNITUDE, MOST_NAME_BYTES, MOST_SCRIPT_BYTES,
 };
 use caa_base::written::name::is_name;
+use std::alloc::Global;
 
 /// Where the carets stand under a line: under a word, or under a byte.
 #[derive(Clone, Copy)]
@@ -37,9 +38,10 @@ const BYTE_ORDER_MARK: [u8; 3] = [239, 187, 191];
 /// The verdict line that closed the steps right before a line, if it is so.
 fn verdict_before(block: &[Line]) -> Option<u32> {
     let line = block.last()?;
-    match &line.form {
-        Form::DoneLine | Form::SignalLine(_) | Form::UndoLine => Some(line.number),
-        _ => None,
+    if let Form::DoneLine | Form::SignalLine(_) | Form::UndoLine = &line.form {
+        Some(line.number)
+    } else {
+        None
     }
 }
 
@@ -48,22 +50,22 @@ fn last_ended(before: &[Line]) -> Option<(u32, u32)> {
     let mut opening = None;
     let mut found = None;
     for line in before {
-        match (&line.form, opening) {
-            (Form::Graph(_) | Form::Action(_), _) => opening = Some(line.number),
-            (Form::End, Some(first)) => found = Some((first, line.number)),
-            _ => {}
+        if begins_block(&line.form).is_some() {
+            opening = Some(line.number);
+        } else if let (Form::End, Some(first)) = (&line.form, opening) {
+            found = Some((first, line.number));
         }
     }
     found
 }
 
 /// The line that began the last steps of an open action which have ended, and the line that ended them.
-fn last_steps(block: &[Line]) -> Option<(u32, u32)> {
+fn last_steps(alloc: Global, block: &[Line]) -> Result<Option<(u32, u32)>, OutOfMemory> {
     let mut section = Section::Top;
     let mut first = 0;
     let mut found = None;
     for line in block {
-        let next = section_of(section, &line.form);
+        let next = section_of(alloc, section, &line.form)?;
         if in_steps(next) && matches!(&line.form, Form::Body(_) | Form::Handler(_, _)) {
             first = line.number;
         } else if in_steps(section) && !in_steps(next) {
@@ -71,7 +73,7 @@ fn last_steps(block: &[Line]) -> Option<(u32, u32)> {
         }
         section = next;
     }
-    found
+    Ok(found)
 }
 
 /// Tells where the line stands.
@@ -96,7 +98,7 @@ fn kind_of(word: &[u8]) -> Option<LineKind> {
 }
 
 /// The kind of lines that begin with this word and have so many more.
-pub fn kind_with(word: &[u8], count: usize) -> Option<LineKind> {
+fn kind_with(word: &[u8], count: usize) -> Option<LineKind> {
     MANUAL
         .iter()
         .copied()
@@ -158,7 +160,7 @@ fn tell_ended(scene: &Scene, notes: &mut Page) -> Result<(), OutOfMemory> {
 
 /// Tells which line ended the steps, where a step stands behind them.
 fn tell_steps_ended(scene: &Scene, notes: &mut Page) -> Result<(), OutOfMemory> {
-    let Some((first, last)) = last_steps(scene.block) else {
+    let Some((first, last)) = last_steps(scene.alloc, scene.block)? else {
         return notes.note(&[Piece::Text(
             "steps follow a `body` or `handler` line, and go on until another line of the action comes",
         )]);
@@ -209,7 +211,7 @@ fn tell_misplaced(
     section: Section,
     notes: &mut Page,
 ) -> Result<(), OutOfMemory> {
-    let stands = stand_of(kind);
+    let stands = kind.stand();
     notes.note(&[
         Piece::Text("`"),
         Piece::Word(kind.word()),
@@ -272,7 +274,7 @@ fn is_part(part: Part, word: &[u8]) -> bool {
 fn first_wrong(kind: LineKind, words: &[&[u8]], tests: bool) -> Option<usize> {
     for (index, word) in words.iter().enumerate() {
         if index > 0 {
-            let part = part_at(kind, index - 1);
+            let part = kind_part(kind, index - 1);
             if (matches!(part, Part::Test) || !tests) && !is_part(part, word) {
                 return Some(index);
             }
@@ -407,7 +409,7 @@ fn tell_wrong(kind: LineKind, words: &[&[u8]], notes: &mut Page) -> Result<Spot,
     let Some(index) = first_wrong(kind, words, true).or(first_wrong(kind, words, false)) else {
         return Ok(Spot::Word(0));
     };
-    let part = part_at(kind, index.saturating_sub(1));
+    let part = kind_part(kind, index.saturating_sub(1));
     let word = words.get(index).copied().unwrap_or(&[]);
     tell_wrong_word(kind, part, word, notes)?;
     Ok(Spot::Word(index))
@@ -454,7 +456,7 @@ fn tell_odd_byte(
 
 /// Tells that the script ends inside a block.
 fn tell_open_end(scene: &Scene, notes: &mut Page) -> Result<Spot, OutOfMemory> {
-    let kind = if matches!(section_after(scene.block), Section::Graph) {
+    let kind = if matches!(section_after(scene.alloc, scene.block)?, Section::Graph) {
         "graph "
     } else {
         "action "
@@ -473,7 +475,7 @@ fn tell_open_end(scene: &Scene, notes: &mut Page) -> Result<Spot, OutOfMemory> {
 
 /// Tells what is wrong with the words of a line.
 fn tell_words(scene: &Scene, words: &[&[u8]], notes: &mut Page) -> Result<Spot, OutOfMemory> {
-    let section = section_after(scene.block);
+    let section = section_after(scene.alloc, scene.block)?;
     let Some((word, more)) = words.split_first() else {
         return tell_open_end(scene, notes);
     };

@@ -7,6 +7,7 @@ use action_script::lines::field::Part;
 use action_script::lines::kind::{LineKind, Section, Stand};
 use action_script::lines::sort::{Naming, Sort};
 use caa_base::written::entry::OutOfMemory;
+use std::alloc::Global;
 
 /// All kinds of lines, in the order of the manual.
 pub const MANUAL: [LineKind; 34] = [
@@ -75,57 +76,21 @@ pub fn in_steps(section: Section) -> bool {
 }
 
 /// Where the next line stands after one that says this.
-pub fn section_of(section: Section, form: &Form) -> Section {
-    match form {
-        Form::Graph(_) => Section::Graph,
-        Form::Body(_) => Section::Body,
-        Form::Handler(_, _) => Section::Handler,
-        Form::Exception(_)
-        | Form::Cover(_, _)
-        | Form::ReadStep(_)
-        | Form::PutStep(_, _)
-        | Form::AddStep(_, _)
-        | Form::WorkStep(_)
-        | Form::CheckStep(_, _, _)
-        | Form::RaiseStep(_)
-        | Form::EnterStep(_) => section,
-        _ => Section::Action,
-    }
+pub fn section_of(alloc: Global, section: Section, form: &Form) -> Result<Section, OutOfMemory> {
+    Ok(form.wording(alloc)?.kind.goes_to(section))
 }
 
 /// Where the line stands that comes after those of an open block.
-pub fn section_after(block: &[Line]) -> Section {
+pub fn section_after(alloc: Global, block: &[Line]) -> Result<Section, OutOfMemory> {
     let mut section = Section::Top;
     for line in block {
-        section = section_of(section, &line.form);
+        section = section_of(alloc, section, &line.form)?;
     }
-    section
-}
-
-/// Where lines of a kind stand.
-pub fn stand_of(kind: LineKind) -> Stand {
-    if kind.stands_in(Section::Top) {
-        Stand::Top
-    } else if kind.stands_in(Section::Graph) && kind.stands_in(Section::Action) {
-        Stand::Block
-    } else if kind.stands_in(Section::Graph) {
-        Stand::Graph
-    } else if kind.stands_in(Section::Action) {
-        Stand::Action
-    } else if kind.stands_in(Section::Handler) {
-        Stand::Program
-    } else {
-        Stand::Body
-    }
-}
-
-/// Whether further names may follow the words of a line of a kind.
-pub fn goes_on(kind: LineKind) -> bool {
-    kind.takes(kind.parts().len().saturating_add(1))
+    Ok(section)
 }
 
 /// What a word after the first is asked to be, where so many stand between.
-pub fn part_at(kind: LineKind, index: usize) -> Part {
+pub fn kind_part(kind: LineKind, index: usize) -> Part {
     kind.parts()
         .get(index)
         .copied()
@@ -164,7 +129,7 @@ fn naming_word(kind: LineKind, index: usize, naming: Naming) -> &'static str {
 
 /// What the manual calls a word after the first, where so many stand between.
 pub fn part_word(kind: LineKind, index: usize) -> &'static str {
-    match part_at(kind, index) {
+    match kind_part(kind, index) {
         Part::Name(naming) => naming_word(kind, index, naming),
         Part::Value => "VALUE",
         Part::Count => "COUNT",
@@ -179,7 +144,7 @@ pub fn push_written(page: &mut Page, kind: LineKind) -> Result<(), OutOfMemory> 
     for index in 0..kind.parts().len() {
         page.say(&[Piece::Text(" "), Piece::Text(part_word(kind, index))])?;
     }
-    if goes_on(kind) {
+    if kind.goes_on() {
         page.say(&[Piece::Text(" ..")])?;
     }
     Ok(())

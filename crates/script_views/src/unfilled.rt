@@ -125,17 +125,15 @@ fn tell_doubled(
 
 /// Tells who is given two roles, and gives the number of a word in the line.
 pub fn tell_role_twice(scene: &Scene, form: &Form, notes: &mut Page) -> Result<usize, OutOfMemory> {
-    match form {
-        Form::Play(action, who) => {
-            let index = tell_doubled(scene, *action, who.as_slice(), notes)?;
-            Ok(index.saturating_add(2))
-        }
-        Form::Nest(_, action, roles) => {
-            let index = tell_doubled(scene, *action, roles.as_slice(), notes)?;
-            Ok(index.saturating_add(3))
-        }
-        _ => Ok(0),
+    if let Form::Play(action, who) = form {
+        let index = tell_doubled(scene, *action, who.as_slice(), notes)?;
+        return Ok(index.saturating_add(2));
     }
+    if let Form::Nest(_, action, roles) = form {
+        let index = tell_doubled(scene, *action, roles.as_slice(), notes)?;
+        return Ok(index.saturating_add(3));
+    }
+    Ok(0)
 }
 
 // ---- nested uses

@@ -1,180 +1,79 @@
 //! A name that isn't declared above.
 
+ghost use Rattle.std.specs.Prelude.{IfOk};
+ghost use Rattle.script_views.specs.Views.{TellsUndeclared};
+
 use crate::looking::{
-    action_block, block_name, exceptions_of, first_line, graph_block, interface_line, interface_of,
-    internal_line, internal_of, nested_action, roles_of,
+    action_block, begins_block, block_name, first_line, graph_block, interface_line, internal_line,
+    nested_action,
 };
-use crate::misread::kind_with;
 use crate::page::{Page, Piece};
 use crate::scene::Scene;
-use crate::shapes::part_at;
-use crate::source::line_at;
+use crate::shapes::kind_part;
 use action_script::forms::form::Form;
-use action_script::forms::script::Line;
-use action_script::lines::field::Part;
-use action_script::lines::kind::LineKind;
+use action_script::forms::uses::{SortedWord, first_undeclared, fitting, naming_by};
+use action_script::lines::field::Field;
 use action_script::lines::sort::{Naming, Sort};
-use action_script::words::cuts::words_of;
 use caa_base::written::entry::OutOfMemory;
+use script_checker::action::named::face_of;
+use script_checker::declared::{Block, Declared, SoFar};
 use std::alloc::Global;
 
 /// How many names are listed at most.
 const MOST_CHOICES: usize = 40;
 
-/// A name that a line uses, and what it has to be declared as.
-#[derive(Clone, Copy)]
-struct NameUse {
-    name: u32,
-    sort: Sort,
-}
-
-/// A name that isn't declared as it has to be: the number of its word in the line, and the names that would do.
+/// A name of a line that isn't declared as it has to be, and the names that are, up to the last of the script.
 #[derive(Drop)]
-struct Unknown {
-    word: usize,
-    wanted: NameUse,
-    fitting: Vec<u32>,
+pub struct Undeclared {
+    pub used: SortedWord,
+    pub fitting: Vec<u32>,
 }
 
-// ---- which names a line uses
-
-/// What a name that is for this has to be declared as, in a line that names this nested use first; one that the line declares, as
-/// nothing.
-fn sort_used(naming: Naming, nest: u32) -> Option<Sort> {
-    match naming {
-        Naming::Used(sort) => Some(sort),
-        Naming::ToldOutside => Some(Sort::Told(nest)),
-        Naming::New(_) | Naming::Further => None,
-    }
-}
-
-// ---- which names would do
-
-/// The name that a line declares as what is asked for, lists of roles aside.
-fn declared_as(form: &Form, sort: Sort) -> Option<u32> {
-    match (form, sort) {
-        (Form::Participant(name), Sort::Participant) => Some(*name),
-        (Form::Object(name, _), Sort::Object) => Some(*name),
-        (Form::Graph(name), Sort::Graph) => Some(*name),
-        (Form::Action(name), Sort::Action) => Some(*name),
-        (Form::Nest(name, _, _), Sort::Nest) => Some(*name),
-        (Form::Exception(name), Sort::Own) => Some(*name),
-        _ => None,
-    }
-}
-
-/// The names that these lines declare as what is asked for.
-fn declared_in(
+/// The first name that a line uses which isn't declared as it has to be, with those up to this number that are; none where each
+/// name is. This was declared when the line came.
+pub fn undeclared_at(
     alloc: Global,
-    lines: &[Line],
-    sort: Sort,
-    open: Option<u32>,
-) -> Result<Vec<u32>, OutOfMemory> {
-    let mut names = Vec::new(alloc);
-    for line in lines {
-        if let Some(name) = declared_as(&line.form, sort) {
-            if open != Some(name) {
-                names.push(name)?;
-            }
-        }
-    }
-    Ok(names)
+    so_far: &SoFar,
+    form: &Form,
+    last: u32,
+) -> Result<Option<Undeclared>, OutOfMemory>
+    ensures { IfOk result (TellsUndeclared so_far.now form.now last) }
+{
+    let Some(used) = first_undeclared(alloc, so_far, form)? else {
+        return Ok(None);
+    };
+    let names = fitting(alloc, so_far, used.sort, last)?;
+    Ok(Some(Undeclared {
+        used,
+        fitting: names,
+    }))
+}
+
+// ---- the graph that is asked for
+
+/// The name of the graph of this number; none for the plain one.
+pub fn graph_name(declared: &Declared, number: u32) -> Option<u32> {
+    let index = number.checked_sub(1)?;
+    declared.graph_names.items().get(index as usize).copied()
 }
 
 /// The graph of the exceptions that are asked for, where one is named.
-fn graph_asked(scene: &Scene, sort: Sort) -> Option<u32> {
-    match sort {
-        Sort::Inner => internal_of(scene.block),
-        Sort::Outer => interface_of(scene.block),
-        Sort::Told(nest) => {
-            let action = nested_action(scene.block, nest)?;
-            interface_of(action_block(scene.before, action))
-        }
-        _ => None,
-    }
-}
-
-/// The exceptions of a graph, `universal` first.
-fn with_universal(scene: &Scene, block: &[Line]) -> Result<Vec<u32>, OutOfMemory> {
-    let mut names = exceptions_of(scene.alloc, block)?;
-    names.insert(0, scene.universal)?;
-    Ok(names)
-}
-
-/// The names that would do.
-fn choices(scene: &Scene, sort: Sort) -> Result<Vec<u32>, OutOfMemory> {
-    match sort {
-        Sort::Participant | Sort::Object | Sort::Graph => {
-            declared_in(scene.alloc, scene.before, sort, None)
-        }
-        Sort::Action => declared_in(scene.alloc, scene.before, sort, block_name(scene.block)),
-        Sort::Nest => declared_in(scene.alloc, scene.block, sort, None),
-        Sort::Role => Ok(Vec::from_slice(scene.alloc, roles_of(scene.block))?),
-        Sort::Own => with_universal(scene, scene.block),
-        Sort::Inner | Sort::Outer | Sort::Told(_) => {
-            match graph_asked(scene, sort) {
-                Some(graph) => with_universal(scene, graph_block(scene.before, graph)),
-                None => with_universal(scene, &[]),
-            }
-        }
-    }
-}
-
-/// The number of a name, or how many names there are.
-fn number_of(scene: &Scene, word: &[u8]) -> u32 {
-    let mut number = 0u32;
-    for name in scene.names {
-        if name.bytes() == word {
-            return number;
-        }
-        number = number.saturating_add(1);
-    }
-    number
-}
-
-/// The first of some words of a line, all but its first one, that is a name which isn't declared as it has to be.
-fn first_among(
-    scene: &Scene,
-    kind: LineKind,
-    words: &[&[u8]],
-) -> Result<Option<Unknown>, OutOfMemory> {
-    let nest = number_of(scene, words.first().copied().unwrap_or(&[]));
-    let mut sort = None;
-    let mut fitting = Vec::new(scene.alloc);
-    for (index, word) in words.iter().enumerate() {
-        match part_at(kind, index) {
-            Part::Name(Naming::Further) => {}
-            Part::Name(naming) => {
-                sort = sort_used(naming, nest);
-                if let Some(sort) = sort {
-                    fitting = choices(scene, sort)?;
-                }
-            }
-            Part::Value | Part::Count | Part::Rounds | Part::Test => sort = None,
-        }
-        let name = number_of(scene, word);
-        if let Some(sort) = sort {
-            if !fitting.contains(&name) {
-                return Ok(Some(Unknown {
-                    word: index.saturating_add(1),
-                    wanted: NameUse { name, sort },
-                    fitting,
-                }));
-            }
-        }
-    }
-    Ok(None)
-}
-
-/// The first word of the line that is a name which isn't declared as it has to be.
-fn first_unknown(scene: &Scene) -> Result<Option<Unknown>, OutOfMemory> {
-    let words = words_of(scene.alloc, line_at(scene.text, scene.number))?;
-    let Some((first, more)) = words.split_first() else {
-        return Ok(None);
+fn graph_asked(so_far: &SoFar, sort: Sort) -> Option<u32> {
+    let Block::Action(action) = &so_far.block else {
+        return None;
     };
-    match kind_with(first, more.len()) {
-        Some(kind) => first_among(scene, kind, more),
-        None => Ok(None),
+    let declared = &so_far.declared;
+    match sort {
+        Sort::Inner => graph_name(declared, action.internal?),
+        Sort::Outer => graph_name(declared, action.interface?),
+        Sort::Told(nest) => graph_name(declared, face_of(declared, action, nest)),
+        Sort::Participant
+        | Sort::Object
+        | Sort::Graph
+        | Sort::Action
+        | Sort::Role
+        | Sort::Nest
+        | Sort::Own => None,
     }
 }
 
@@ -218,12 +117,13 @@ fn tell_no_graph(
 /// Tells of an exception which graph is meant.
 fn tell_graph(
     scene: &Scene,
+    so_far: &SoFar,
     notes: &mut Page,
-    wanted: NameUse,
+    wanted: SortedWord,
     whose: &'static str,
     owner: u32,
 ) -> Result<(), OutOfMemory> {
-    let Some(graph) = graph_asked(scene, wanted.sort) else {
+    let Some(graph) = graph_asked(so_far, wanted.sort) else {
         return tell_no_graph(scene, notes, wanted.sort, whose, owner);
     };
     notes.note(&[
@@ -267,7 +167,12 @@ fn tell_top(notes: &mut Page, name: u32, kind: &'static str) -> Result<(), OutOf
 }
 
 /// Tells what is wrong with a name.
-fn tell_wanted(scene: &Scene, notes: &mut Page, wanted: NameUse) -> Result<(), OutOfMemory> {
+fn tell_wanted(
+    scene: &Scene,
+    so_far: &SoFar,
+    notes: &mut Page,
+    wanted: SortedWord,
+) -> Result<(), OutOfMemory> {
     let name = wanted.name;
     let owner = block_name(scene.block).unwrap_or(scene.universal);
     match wanted.sort {
@@ -281,6 +186,7 @@ fn tell_wanted(scene: &Scene, notes: &mut Page, wanted: NameUse) -> Result<(), O
         Sort::Inner => {
             tell_graph(
                 scene,
+                so_far,
                 notes,
                 wanted,
                 "the internal graph of the action ",
@@ -290,6 +196,7 @@ fn tell_wanted(scene: &Scene, notes: &mut Page, wanted: NameUse) -> Result<(), O
         Sort::Outer => {
             tell_graph(
                 scene,
+                so_far,
                 notes,
                 wanted,
                 "the interface graph of the action ",
@@ -300,6 +207,7 @@ fn tell_wanted(scene: &Scene, notes: &mut Page, wanted: NameUse) -> Result<(), O
             let nested = nested_action(scene.block, nest).unwrap_or(owner);
             tell_graph(
                 scene,
+                so_far,
                 notes,
                 wanted,
                 "the interface graph of the nested action ",
@@ -309,8 +217,27 @@ fn tell_wanted(scene: &Scene, notes: &mut Page, wanted: NameUse) -> Result<(), O
     }
 }
 
+/// Some names in the order in which they are listed: `universal` first, where it is among them.
+fn in_listed_order(scene: &Scene, names: &[u32]) -> Result<Vec<u32>, OutOfMemory> {
+    let mut listed = Vec::new(scene.alloc);
+    if names.contains(&scene.universal) {
+        listed.push(scene.universal)?;
+    }
+    for name in names {
+        if *name != scene.universal {
+            listed.push(*name)?;
+        }
+    }
+    Ok(listed)
+}
+
 /// Tells which names would do.
-fn tell_choices(notes: &mut Page, sort: Sort, names: &[u32]) -> Result<(), OutOfMemory> {
+fn tell_choices(
+    scene: &Scene,
+    notes: &mut Page,
+    sort: Sort,
+    names: &[u32],
+) -> Result<(), OutOfMemory> {
     if names.is_empty() {
         return match sort {
             Sort::Role => notes.note(&[Piece::Text(
@@ -319,41 +246,54 @@ fn tell_choices(notes: &mut Page, sort: Sort, names: &[u32]) -> Result<(), OutOf
             _ => notes.note(&[Piece::Text("above this line there is none")]),
         };
     }
-    let first = names.get(..MOST_CHOICES).unwrap_or(names);
+    let listed = in_listed_order(scene, names)?;
+    let first = listed.get(..MOST_CHOICES).unwrap_or(&listed);
+    notes.say(&[Piece::Text("  = here may stand: "), Piece::List(first)])?;
     let more = names.len().saturating_sub(MOST_CHOICES);
-    if more == 0 {
-        return notes.note(&[Piece::Text("here may stand: "), Piece::List(first)]);
+    if more > 0 {
+        notes.say(&[
+            Piece::Text(", and "),
+            Piece::Number(more as u64),
+            Piece::Text(" more"),
+        ])?;
     }
-    notes.note(&[
-        Piece::Text("here may stand: "),
-        Piece::List(first),
-        Piece::Text(", and "),
-        Piece::Number(more as u64),
-        Piece::Text(" more"),
-    ])
+    notes.say(&[Piece::Text("\n")])
 }
 
-/// The kind of a name that a line declares.
-fn kind_declared(form: &Form, name: u32) -> Option<&'static str> {
-    match form {
-        Form::Participant(other) if *other == name => Some("as a participant"),
-        Form::Object(other, _) if *other == name => Some("as an object"),
-        Form::Graph(other) if *other == name => Some("as a graph"),
-        Form::Action(other) if *other == name => Some("as an action"),
-        Form::Exception(other) if *other == name => Some("as an exception of the graph "),
-        Form::Nest(other, _, _) if *other == name => Some("as a nested use of the action "),
-        Form::Roles(roles) if roles.as_slice().contains(&name) => Some("as a role of the action "),
-        _ => None,
+/// What a line declares a name as, where it declares it.
+fn declared_as(alloc: Global, form: &Form, name: u32) -> Result<Option<Sort>, OutOfMemory> {
+    let wording = form.wording(alloc)?;
+    let mut naming = Naming::Further;
+    for (index, field) in wording.fields.iter().enumerate() {
+        naming = naming_by(naming, kind_part(wording.kind, index));
+        if let (Naming::New(sort), Field::Name(other)) = (naming, field) {
+            if *other == name {
+                return Ok(Some(sort));
+            }
+        }
+    }
+    Ok(None)
+}
+
+/// What a name is declared as, in words; those for a part of a block end with a space, where the name of the block follows.
+fn sort_phrase(sort: Sort) -> &'static str {
+    match sort {
+        Sort::Participant => "as a participant",
+        Sort::Object => "as an object",
+        Sort::Graph => "as a graph",
+        Sort::Action => "as an action",
+        Sort::Role => "as a role of the action ",
+        Sort::Nest => "as a nested use of the action ",
+        Sort::Own | Sort::Inner | Sort::Outer | Sort::Told(_) => "as an exception of the graph ",
     }
 }
 
 /// The block that is open after a line, by its name.
 fn owner_after(owner: Option<u32>, form: &Form) -> Option<u32> {
-    match form {
-        Form::Graph(name) | Form::Action(name) => Some(*name),
-        Form::End => None,
-        _ => owner,
+    if let Form::End = form {
+        return None;
     }
+    begins_block(form).or(owner)
 }
 
 /// Tells a line that declares the name.
@@ -389,9 +329,9 @@ fn tell_elsewhere(scene: &Scene, notes: &mut Page, name: u32) -> Result<(), OutO
     for line in scene.lines {
         let inside = owner;
         owner = owner_after(owner, &line.form);
-        if let Some(kind) = kind_declared(&line.form, name) {
+        if let Some(sort) = declared_as(scene.alloc, &line.form, name)? {
             if told < 3 {
-                tell_declaration(scene, notes, line.number, kind, inside)?;
+                tell_declaration(scene, notes, line.number, sort_phrase(sort), inside)?;
                 told += 1;
             }
         }
@@ -399,14 +339,16 @@ fn tell_elsewhere(scene: &Scene, notes: &mut Page, name: u32) -> Result<(), OutO
     Ok(())
 }
 
-/// Tells which name of the line isn't declared above, and gives the number of its word in the line.
-pub fn tell_unknown(scene: &Scene, notes: &mut Page) -> Result<usize, OutOfMemory> {
-    let Some(unknown) = first_unknown(scene)? else {
-        return Ok(0);
-    };
-    let wanted = unknown.wanted;
-    tell_wanted(scene, notes, wanted)?;
-    tell_choices(notes, wanted.sort, &unknown.fitting)?;
+/// Tells of a name that isn't declared as it has to be which names are, and where it is declared as something else.
+pub fn tell_unknown(
+    scene: &Scene,
+    so_far: &SoFar,
+    unknown: &Undeclared,
+    notes: &mut Page,
+) -> Result<(), OutOfMemory> {
+    let wanted = unknown.used;
+    tell_wanted(scene, so_far, notes, wanted)?;
+    tell_choices(scene, notes, wanted.sort, &unknown.fitting)?;
     tell_elsewhere(scene, notes, wanted.name)?;
     if let Sort::Told(_) = wanted.sort {
         notes.note(&[Piece::Text(
@@ -416,5 +358,5 @@ pub fn tell_unknown(scene: &Scene, notes: &mut Page) -> Result<usize, OutOfMemor
     if matches!(wanted.sort, Sort::Action) && block_name(scene.block) == Some(wanted.name) {
         notes.note(&[Piece::Text("that action is still open here, and none nests itself")])?;
     }
-    Ok(unknown.word)
+    Ok(())
 }

@@ -1,5 +1,6 @@
-use Rattle.std.proofs.Common.{refl, Ok, Err, inr}
-use Rattle.script_views.proofs.Answers.{plan_answered, refusal_answered}
+use Rattle.std.proofs.Common.{refl, subst, Ok, IfSome, inr}
+use Rattle.script_checker.specs.RefusedLines.{IsRefusedLine}
+use Rattle.script_views.proofs.Answers.{plan_answered}
 use Rattle.script_views.proofs.explaining.look.Goals as goal
 
 pub returns-in-Ok-compile : goal.returns-in-Ok-compile
@@ -8,15 +9,12 @@ returns-in-Ok-compile c =
     let plan = c.in-Ok-compile.plan in
     record { spelled = c.in-Ok.ensures.read; compiled = plan_answered script (Ok plan) plan c.in-Ok-compile.ensures refl }
 
-pub returns-in_ok-refusal-in-Err-compile : goal.returns-in_ok-refusal-in-Err-compile
-returns-in_ok-refusal-in-Err-compile c =
-    let script = c.in-Ok.script in
-    let error = c.in-Err-compile.error in
-    let told = c.in_ok-refusal-in-Err-compile.ensures in
+pub returns-in-Some : goal.returns-in-Some
+returns-in-Some c =
     inr (record {
-      script = script;
+      script = c.in-Ok.script;
       spelled = c.in-Ok.ensures.read;
-      error = error;
-      first = refusal_answered script (Err error) error c.in-Err-compile.ensures refl told.known;
-      line_is = told.line;
+      refused = c.in-Some.refused;
+      first = subst (λ o. IfSome o (IsRefusedLine c.in-Ok.script)) c.in-Some.is c.in_ok-refused.ensures.refused;
+      told = c.in_ok-refusal-in-Some.ensures;
     })
