@@ -1,2 +1,0 @@
-mod Hints
-mod Awake
