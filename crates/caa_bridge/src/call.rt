@@ -61,7 +61,7 @@ fn call_of(words: &[String]) -> Option<Call<'_>> {
 
 /// What these words ask for: `sim SEED SCRIPT JOURNAL`, `run SCRIPT JOURNAL` or `pool W SCRIPT JOURNAL`; or `--help` or `--version`
 /// alone.
-pub fn asked(words: &[String]) -> Asked<'_> {
+pub fn asked_by(words: &[String]) -> Asked<'_> {
     if let [word] = words {
         return match word.as_str() {
             "--help" => Asked::Help,

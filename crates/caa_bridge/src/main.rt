@@ -5,7 +5,7 @@ mod call;
 mod files;
 mod telling;
 
-use crate::call::{Asked, Call, asked};
+use crate::call::{Asked, Call, asked_by};
 use crate::files::{files_of, keep_streams};
 use crate::telling::{tell_file_error, tell_play, tell_status};
 use action_script::lines::reader::read;
@@ -165,7 +165,7 @@ fn main(rt: HostRuntime) -> ExitCode {
     let Ok(words) = call_words(&rt) else {
         return ExitCode::from(Status::OutOfMemory.code());
     };
-    let status = match asked(words.as_slice()) {
+    let status = match asked_by(words.as_slice()) {
         Asked::Help => tell(&rt, &[USAGE, HELP]),
         Asked::Version => tell(&rt, &[VERSION]),
         Asked::Play(call) => play(&rt, &rt, &call),
