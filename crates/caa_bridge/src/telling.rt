@@ -101,9 +101,9 @@ fn plays_after(plan: &Plan, journal: &Journal, link: Link) -> u64 {
     plays
 }
 
-/// The value that an object was last confirmed to have.
-fn confirmed(plan: &Plan, journal: &Journal, object: Object) -> i64 {
-    let mut value = plan.initial(object);
+/// The value that an object was last confirmed to have; the first of them was laid out.
+fn confirmed(journal: &Journal, object: Object, laid: i64) -> i64 {
+    let mut value = laid;
     for entry in journal.as_slice() {
         let is_done = match entry.kind {
             Kind::Write => true,
@@ -125,7 +125,7 @@ fn tell_values<W: Write>(operator: &mut W, plan: &Plan, journal: &Journal) {
     for object in 0..plan.objects() {
         let _ = operator.write_all(b"object ");
         let _ = operator.write_all(plan.object_name(object));
-        let value = confirmed(plan, journal, object);
+        let value = confirmed(journal, object, plan.initial(object));
         let _ = write!(operator, " {value}\n");
     }
 }
