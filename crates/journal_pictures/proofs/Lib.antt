@@ -1,3 +1,2 @@
 pub mod MarksLemmas
-pub mod StretchLemmas
 pub mod TextLemmas
