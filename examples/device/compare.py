@@ -68,7 +68,7 @@ class Play:
                 if has_left:
                     self.program.stdin.close()
             except BrokenPipeError:
-                return
+                has_left = True
 
 
 def text_of(path):
