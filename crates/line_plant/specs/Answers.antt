@@ -1,5 +1,5 @@
 -- What is heard of a device.
-use Rattle.std.specs.Prelude.{◌≡◌, ◌⊎◌, ℕ, List, ◌∷◌, [], ◌++◌, Option, Some, codes, decimal}
+use Rattle.std.specs.Prelude.{◌≡◌, ◌⊎◌, ℕ, Bool, true, false, List, ◌∷◌, [], ◌++◌, Option, Some, codes, decimal}
 use Rattle.std.specs.Io.KnownBytes.{prepend_known}
 use Rattle.caa_base.specs.Outside.Counts.{counted_up}
 use Rattle.caa_base.specs.declared.outside.source.Source.{Ghosts as SourceGhosts}
@@ -36,6 +36,12 @@ pub record WasHeard {S : Type 0} (ghosts : SourceGhosts S) (before after : S) (w
 pub record WasNotHeard {S : Type 0} (ghosts : SourceGhosts S) (before after : S) (number : ℕ) : Type 0 where
   pub not_well : IsNotNext (ghosts.left before) (ghosts.faults before) (ghosts.faults after) (well_line number)
   pub not_failed : IsNotNext (ghosts.left before) (ghosts.faults before) (ghosts.faults after) (failed_line number)
+
+-- the device did what was asked
+abbrev pub is_well : Answer → Bool
+is_well Well = true
+is_well Failed = false
+is_well Lost = false
 
 -- what was heard of the command of this number
 abbrev pub Heard : {S : Type 0} → SourceGhosts S → ℕ → S → S → Answer → Type 0

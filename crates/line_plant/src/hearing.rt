@@ -1,7 +1,7 @@
 ghost use Rattle.std.specs.Prelude.{◌≡◌, ◌⊎◌, ◌∷◌, ◌++◌, [], IsTrue, IsFalse, IfSome, None};
 ghost use Rattle.std.specs.Io.KnownBytes.{prepend_known, IsAtEnd};
 ghost use Rattle.caa_base.specs.Outside.Counts.{counted_up};
-ghost use Rattle.line_plant.specs.Answers.{ended, Heard, IsNotNext};
+ghost use Rattle.line_plant.specs.Answers.{ended, Heard, IsNotNext, is_well};
 
 use crate::heard::HeardLine;
 use caa_base::outside::source::Source;
@@ -16,6 +16,18 @@ pub enum Answer {
     Failed,
     /// It answered with anything else, or not at all.
     Lost,
+}
+
+impl Answer {
+    /// Whether the device did what was asked.
+    pub fn is_well(self) -> bool
+        ensures { result ≡ is_well self }
+    {
+        match self {
+            Answer::Well => true,
+            Answer::Failed | Answer::Lost => false,
+        }
+    }
 }
 
 /// Takes the next byte, where there is one, and keeps it.

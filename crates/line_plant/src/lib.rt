@@ -11,4 +11,5 @@ pub mod noted;
 pub mod plant;
 #[cfg(test)]
 mod tests;
+mod told;
 mod wire;

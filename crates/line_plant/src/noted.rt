@@ -1,4 +1,4 @@
-ghost use Rattle.std.specs.Prelude.{◌≡◌, None};
+ghost use Rattle.std.specs.Prelude.{◌≡◌, None, Some};
 
 use crate::heard::{HeardEnd, HeardLine};
 use crate::plant::LinePlant;
@@ -27,7 +27,7 @@ pub enum Link {
 /// Whoever raises the flag `is_over` gives the device up: the next put, and each after it, is refused and not sent. Wherever the device
 /// is given up, the line `stop` is sent.
 #[derive(Drop)]
-pub struct Noted<'a, S, K, W> {
+pub struct Noted<'a, S, K: Sink, W> {
     pub plant: LinePlant<S, K>,
     operator: W,
     is_over: &'a AtomicBool,
@@ -152,6 +152,8 @@ impl<S: Source, K: Sink, W: Write> Plant for Noted<'_, S, K, W> {
     ghost faults = { λ p. p.plant.faults };
 
     ghost state = { λ _. None };
+
+    ghost history = { λ p. Some p.plant.asked };
 
     ghost calls = { λ p. p.plant.calls };
 

@@ -6,20 +6,23 @@
 //! The numbers are the wire's own, and are never set back, also where the device is laid out again: a late answer to the first laying
 //! out isn't taken for that to the second.
 
-ghost use Rattle.std.specs.Prelude.{◌≡◌, ◌<◌, ◌≤◌, ◌+◌, length, None, false, if◌then◌else◌, IfOk, OnOk, OnErr, vec_capacity};
+ghost use Rattle.std.specs.Prelude.{◌≡◌, ◌⊎◌, ◌<◌, ◌≤◌, ◌+◌, [], ◌∷◌, ◌++◌, length, None, Some, false, is_ok, if◌then◌else◌, IfOk, OnOk, OnErr, vec_capacity};
+ghost use Rattle.caa_base.specs.declared.outside.plant.Asked.TheVariants as asked;
 ghost use Rattle.caa_base.specs.Outside.Counts.{counted_up, faults_after};
 ghost use Rattle.caa_base.specs.Outside.PlantState.{is_refused};
 ghost use Rattle.caa_base.specs.Written.Names.{name_at};
 ghost use Rattle.line_plant.specs.Lines.{asking_line, object_names, put_word, restore_word};
+ghost use Rattle.line_plant.specs.Answers.{is_well};
 ghost use Rattle.line_plant.specs.Wires.{AskCame, WasStopped};
-ghost use Rattle.line_plant.specs.Devices.{LayCame, PutCame};
-ghost use Rattle.line_plant.specs.inner.Room.{most_put_bytes};
+ghost use Rattle.line_plant.specs.Devices.{LayCame, PutCame, SinkGot};
+ghost use Rattle.line_plant.specs.inner.Room.{most_put_bytes, HasRoom};
 
 use crate::count::counted_up;
 use crate::heard::HeardLine;
 use crate::hearing::Answer;
 use crate::lines::{make_lay, make_put};
 use crate::names::object_names;
+use crate::told::{Note, Told};
 use crate::wire::Wire;
 use caa_base::outside::plant::{Plant, PlantError};
 use caa_base::outside::sink::Sink;
@@ -40,9 +43,10 @@ use std::marker::Model;
 ///
 /// The memory for the line of a put is taken when the device is laid out, and kept from one to the next. So a put never wants any.
 #[derive(Drop)]
-pub struct LinePlant<S, K> {
+pub struct LinePlant<S, K: Sink> {
     names: Vec<Name>,
     wire: Wire<S, K>,
+    told: Told<K>,
     line: Vec<u8>,
     objects: u64,
     calls: u64,
@@ -51,16 +55,19 @@ pub struct LinePlant<S, K> {
     faults: u64,
 }
 
-impl<S, K> Model for LinePlant<S, K> {
+impl<S, K: Sink> Model for LinePlant<S, K> {
     ghost use Rattle.std.specs.Prelude.{vec_capacity};
     ghost use Rattle.line_plant.specs.Devices.{LineDevice};
     ghost use Rattle.line_plant.specs.inner.Room.{HasRoom};
+    ghost use Rattle.line_plant.specs.inner.Telling.{Keeps};
 
     ghost Value = { LineDevice S K };
 
     ghost view = { λ p. record {
       names = p.names.items;
       wire = p.wire;
+      start = K.held p.told.opened;
+      asked = p.told.asked;
       objects = p.objects;
       calls = p.calls;
       room = p.room;
@@ -68,7 +75,28 @@ impl<S, K> Model for LinePlant<S, K> {
       faults = p.faults;
     } };
 
-    ghost invariant = { λ p. HasRoom p.objects p.names.items (vec_capacity p.line) };
+    ghost invariant = { λ p. HasRoom p.objects p.names.items (vec_capacity p.line) × ∥ Keeps ⟦<K as Sink>⟧ p.names.items p.told p.wire ∥₁ };
+}
+
+/// Asks a device by a wire to be laid out, and gives the line back: its memory holds the line of any put.
+fn ask_lay<S: Source, K: Sink>(
+    wire: &mut Wire<S, K>,
+    alloc: Global,
+    names: &[Name],
+    values: &[i64],
+) -> Result<Vec<u8>, PlantError>
+    ensures came { LayCame ⟦<S as Source>⟧ ⟦<K as Sink>⟧ names.now wire.old wire.new values.now result }
+    ensures room { IfOk result (λ line. HasRoom (length values.now) names.now (vec_capacity line)) }
+    ensures fit { IfOk result (λ _. length names.now ≡ length values.now) }
+{
+    if values.len() != names.len() {
+        return Err(PlantError::Failed);
+    }
+    let line = make_lay(alloc, wire.next, names, values)?;
+    if wire.ask(line.as_slice()) != Answer::Well {
+        return Err(PlantError::Failed);
+    }
+    Ok(line)
 }
 
 /// Asks for a put or a restore by a wire, in memory that has room for its line.
@@ -103,6 +131,8 @@ impl<S: Source + Drop, K: Sink + Drop> LinePlant<S, K> {
         ensures whole { IfOk result (λ device. device.wire.is_broken ≡ false) }
         ensures uncut { IfOk result (λ device. device.wire.is_cut ≡ false) }
         ensures unstopped { IfOk result (λ device. device.wire.was_stopped ≡ false) }
+        ensures start { IfOk result (λ device. device.start ≡ K.held commands) }
+        ensures unasked { IfOk result (λ device. device.asked ≡ []) }
     {
         let names = object_names(alloc, plan)?;
         Ok(LinePlant::new(alloc, names, answers, commands))
@@ -119,11 +149,14 @@ impl<S: Source, K: Sink> LinePlant<S, K> {
         ensures whole { result.wire.is_broken ≡ false }
         ensures uncut { result.wire.is_cut ≡ false }
         ensures unstopped { result.wire.was_stopped ≡ false }
+        ensures start { result.start ≡ K.held commands }
+        ensures unasked { result.asked ≡ [] }
         ensures lay_faults { result.lay_faults ≡ 0 }
         ensures faults { result.faults ≡ 0 }
     {
         LinePlant {
             names,
+            told: Told::over(&commands),
             wire: Wire::new(answers, commands),
             line: Vec::new(alloc),
             objects: 0,
@@ -191,12 +224,67 @@ impl<S: Source, K: Sink> LinePlant<S, K> {
         self.wire.stop();
     }
 
+    /// What was sent, and what the device was asked for: the lines of all that, in their order, with the names of its objects.
+    pub fn sent(&self)
+        ensures { ∥ SinkGot ⟦<K as Sink>⟧ self.now ∥₁ }
+    {
+        let _ = &self.told;
+    }
+
+    /// Asks for a put or a restore by its word, and tells that it was asked for.
+    fn ask_for(&mut self, word: &[u8], object: Object, value: i64) -> Answer
+        requires word { (word.now ≡ put_word) ⊎ (word.now ≡ restore_word) }
+        requires laid { object < self.old.objects }
+        ensures came { AskCame ⟦<S as Source>⟧ ⟦<K as Sink>⟧ self.old.wire self.new.wire
+            (asking_line word.now self.old.wire.next (name_at self.old.names object) value) result }
+        ensures others { self.new ≡ record self.old {
+          wire = self.new.wire;
+          asked = self.old.asked ++ asked.Put object value (is_well result) ∷ [];
+        } }
+    {
+        let name = name_at(self.names.as_slice(), object);
+        let answer = ask_put(&mut self.wire, &mut self.line, word, name, value);
+        self.told = self.told.then(&Note::Put {
+            object,
+            value,
+            done: answer.is_well(),
+        });
+        answer
+    }
+
+    /// Asks to be laid out, and tells that this was asked for.
+    fn ask_to_lay(
+        &mut self,
+        alloc: Global,
+        values: &[i64],
+        drills: &[Drill],
+        puts: u64,
+    ) -> Result<Vec<u8>, PlantError>
+        ensures came { LayCame ⟦<S as Source>⟧ ⟦<K as Sink>⟧ self.old.names self.old.wire self.new.wire values.now result }
+        ensures room { IfOk result (λ line. HasRoom (length values.now) self.old.names (vec_capacity line)) }
+        ensures others { self.new ≡ record self.old {
+          wire = self.new.wire;
+          asked = self.old.asked ++ asked.Laid values.now drills.now puts (is_ok result) ∷ [];
+        } }
+    {
+        let laid = ask_lay(&mut self.wire, alloc, self.names.as_slice(), values);
+        self.told = self.told.then(&Note::Laid {
+            values,
+            drills,
+            puts,
+            done: laid.is_ok(),
+        });
+        laid
+    }
+
     /// Asks for a put or a restore by its word.
     fn ask_by(&mut self, word: &[u8], object: Object, value: i64) -> Result<(), Failed>
-        requires short { length word.now ≤ 7 }
+        requires word { (word.now ≡ put_word) ⊎ (word.now ≡ restore_word) }
         requires room { self.old.calls < self.old.room }
         requires laid { object < self.old.objects }
         ensures came { PutCame ⟦<S as Source>⟧ ⟦<K as Sink>⟧ word.now self.old self.new object value result }
+        ensures asked { self.new.asked ≡ self.old.asked ++ asked.Put object value (is_ok result) ∷ [] }
+        ensures start { self.new.start ≡ self.old.start }
         ensures names { self.new.names ≡ self.old.names }
         ensures calls { self.new.calls ≡ self.old.calls + 1 }
         ensures room { self.new.room ≡ self.old.room }
@@ -205,8 +293,7 @@ impl<S: Source, K: Sink> LinePlant<S, K> {
         ensures lay_faults { self.new.lay_faults ≡ self.old.lay_faults }
     {
         self.calls += 1;
-        let name = name_at(self.names.as_slice(), object);
-        match ask_put(&mut self.wire, &mut self.line, word, name, value) {
+        match self.ask_for(word, object, value) {
             Answer::Well => Ok(()),
             Answer::Failed | Answer::Lost => {
                 self.faults = counted_up(self.faults);
@@ -223,6 +310,8 @@ impl<S: Source, K: Sink> Plant for LinePlant<S, K> {
 
     ghost state = { λ _. None };
 
+    ghost history = { λ p. Some p.asked };
+
     ghost calls = { λ p. p.calls };
 
     ghost room = { λ p. p.room };
@@ -233,11 +322,13 @@ impl<S: Source, K: Sink> Plant for LinePlant<S, K> {
         &mut self,
         alloc: Global,
         values: &[i64],
-        _drills: &[Drill],
+        drills: &[Drill],
         puts: u64,
     ) -> Result<(), PlantError>
-        ensures came { LayCame ⟦<S as Source>⟧ ⟦<K as Sink>⟧ self.old self.new values.now result }
+        ensures came { LayCame ⟦<S as Source>⟧ ⟦<K as Sink>⟧ self.old.names self.old.wire self.new.wire values.now result }
         ensures names { self.new.names ≡ self.old.names }
+        ensures asked { self.new.asked ≡ self.old.asked ++ asked.Laid values.now drills.now puts (is_ok result) ∷ [] }
+        ensures start { self.new.start ≡ self.old.start }
         ensures objects { OnOk result (self.new.objects ≡ length values.now) }
         ensures calls { OnOk result (self.new.calls ≡ 0) }
         ensures room { OnOk result (self.new.room ≡ puts) }
@@ -246,26 +337,29 @@ impl<S: Source, K: Sink> Plant for LinePlant<S, K> {
             (if is_refused result then counted_up self.old.lay_faults else self.old.lay_faults) }
         ensures faults { self.new.faults ≡ self.old.faults }
     {
-        if values.len() != self.names.len() {
-            self.lay_faults = counted_up(self.lay_faults);
-            return Err(PlantError::Failed);
+        match self.ask_to_lay(alloc, values, drills, puts) {
+            Ok(line) => {
+                self.line = line;
+                self.objects = values.len() as u64;
+                self.calls = 0;
+                self.room = puts;
+                Ok(())
+            }
+            Err(error) => {
+                if error == PlantError::Failed {
+                    self.lay_faults = counted_up(self.lay_faults);
+                }
+                Err(error)
+            }
         }
-        let line = make_lay(alloc, self.wire.next, self.names.as_slice(), values)?;
-        if self.wire.ask(line.as_slice()) != Answer::Well {
-            self.lay_faults = counted_up(self.lay_faults);
-            return Err(PlantError::Failed);
-        }
-        self.line = line;
-        self.objects = values.len() as u64;
-        self.calls = 0;
-        self.room = puts;
-        Ok(())
     }
 
     fn put(&mut self, object: Object, value: i64) -> Result<(), Failed>
         requires room { self.old.calls < self.old.room }
         requires laid { object < self.old.objects }
         ensures came { PutCame ⟦<S as Source>⟧ ⟦<K as Sink>⟧ put_word self.old self.new object value result }
+        ensures asked { self.new.asked ≡ self.old.asked ++ asked.Put object value (is_ok result) ∷ [] }
+        ensures start { self.new.start ≡ self.old.start }
         ensures names { self.new.names ≡ self.old.names }
         ensures calls { self.new.calls ≡ self.old.calls + 1 }
         ensures room { self.new.room ≡ self.old.room }
@@ -280,6 +374,8 @@ impl<S: Source, K: Sink> Plant for LinePlant<S, K> {
         requires room { self.old.calls < self.old.room }
         requires laid { object < self.old.objects }
         ensures came { PutCame ⟦<S as Source>⟧ ⟦<K as Sink>⟧ restore_word self.old self.new object value result }
+        ensures asked { self.new.asked ≡ self.old.asked ++ asked.Put object value (is_ok result) ∷ [] }
+        ensures start { self.new.start ≡ self.old.start }
         ensures names { self.new.names ≡ self.old.names }
         ensures calls { self.new.calls ≡ self.old.calls + 1 }
         ensures room { self.new.room ≡ self.old.room }

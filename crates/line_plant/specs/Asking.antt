@@ -1,0 +1,10 @@
+-- What a note says that a device was asked for.
+use Rattle.caa_base.specs.declared.outside.plant.Asked.{Asked}
+use Rattle.caa_base.specs.declared.outside.plant.Asked.TheVariants as asked
+use Rattle.line_plant.specs.declared.told.Note.{Note}
+use Rattle.line_plant.specs.declared.told.Note.TheVariants as note
+
+-- what is noted, as the history of a device has it
+abbrev pub asked_by : Note → Asked
+asked_by (note.Laid values drills puts done) = asked.Laid values.now drills.now puts done
+asked_by (note.Put object value done) = asked.Put object value done

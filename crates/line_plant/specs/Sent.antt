@@ -1,0 +1,61 @@
+-- What a device was sent, by all that it was ever asked for.
+use Rattle.std.specs.Prelude.{◌≡◌, ◌⊎◌, ℕ, Bool, false, List, [], ◌∷◌, ◌++◌}
+use Rattle.caa_base.specs.Outside.Counts.{counted_up}
+use Rattle.caa_base.specs.Written.Names.{name_at}
+use Rattle.caa_base.specs.declared.outside.plant.Asked.{Asked}
+use Rattle.caa_base.specs.declared.outside.plant.Asked.TheVariants as asked
+use Rattle.line_plant.specs.Lines.{lay_line, asking_line, put_word, restore_word, stop_line}
+
+-- it was done
+abbrev pub was_done : Asked → Bool
+was_done (asked.Laid values drills puts done) = done
+was_done (asked.Put object value done) = done
+
+-- none of these was done
+abbrev pub NoneDone : List Asked → Type 0
+NoneDone [] = Unit {0}
+NoneDone (a ∷ more) = (was_done a ≡ false) × NoneDone more
+
+-- the line of this number that asks for it: for a put the line of a put, or that of a restore
+abbrev pub AsksFor : List (List ℕ) → ℕ → Asked → List ℕ → Type 0
+AsksFor names number (asked.Laid values drills puts done) line = line ≡ lay_line number names values
+AsksFor names number (asked.Put object value done) line =
+    (line ≡ asking_line put_word number (name_at names object) value) ⊎ (line ≡ asking_line restore_word number (name_at names object) value)
+
+-- a laying out that came to nothing: where there are other objects, or no memory is found for the line, none is sent
+abbrev pub IsNotLaid : Asked → Type 0
+IsNotLaid (asked.Laid values drills puts done) = done ≡ false
+IsNotLaid (asked.Put object value done) = ⊥
+
+-- these bytes are the lines of all this, one behind the other, with the numbers from `number` on, and `after` is the next one
+abbrev pub AreLines : List (List ℕ) → ℕ → List Asked → ℕ → List ℕ → Type 0
+AreLines names number [] after bytes = (after ≡ number) × (bytes ≡ [])
+AreLines names number (a ∷ more) after bytes =
+    ((line : List ℕ) × (behind : List ℕ) × AsksFor names number a line × AreLines names (counted_up number) more after behind
+    × (bytes ≡ line ++ behind))
+    ⊎ (IsNotLaid a × AreLines names number more after bytes)
+
+-- the whole has these bytes at its front
+abbrev pub IsFront : List ℕ → List ℕ → Type 0
+IsFront bytes whole = (rest : List ℕ) × (whole ≡ bytes ++ rest)
+
+-- of what got no answer these bytes were sent: nothing, or a front of the line of the first, which may be all of it
+abbrev pub IsUnanswered : List (List ℕ) → ℕ → List Asked → List ℕ → Type 0
+IsUnanswered names number [] bytes = bytes ≡ []
+IsUnanswered names number (a ∷ more) bytes = (bytes ≡ []) ⊎ ((line : List ℕ) × AsksFor names number a line × IsFront bytes line)
+
+-- a device was sent these bytes by what it was asked for: a line for each thing, in order, as long as it answered; from the first on
+-- that it didn't answer nothing was done, and nothing was sent but at most a front of the line of that one, and behind it these bytes
+-- of `stop`
+pub record WasSent (names : List (List ℕ)) (all : List Asked) (stop bytes : List ℕ) : Type 0 where
+  pub answered : List Asked
+  pub unanswered : List Asked
+  pub parts : all ≡ answered ++ unanswered
+  pub none_done : NoneDone unanswered
+  pub next : ℕ
+  pub lines : List ℕ
+  pub in_lines : AreLines names 0 answered next lines
+  pub last : List ℕ
+  pub is_last : IsUnanswered names next unanswered last
+  pub is_front : IsFront stop stop_line
+  pub joined : bytes ≡ lines ++ last ++ stop

@@ -1,0 +1,60 @@
+//! A history that contracts alone read. It takes no bytes, and its calls do nothing when the program runs.
+
+ghost use Rattle.std.specs.Prelude.{◌≡◌, List, [], ◌∷◌, ◌++◌};
+ghost use Rattle.std.specs.Borrow.{ftrue};
+ghost use Rattle.caa_base.specs.declared.outside.plant.Asked.{Asked as WasAsked};
+
+use caa_base::written::entry::{Drill, Object};
+use std::marker::{Model, PhantomData};
+
+/// One thing that a device was asked for, and whether it did it.
+#[derive(Clone, Copy, Drop)]
+pub(crate) enum Note<'a> {
+    /// To be laid out with these values and drills, and with room for so many puts.
+    Laid {
+        values: &'a [i64],
+        drills: &'a [Drill],
+        puts: u64,
+        done: bool,
+    },
+    /// To bring an object to a value.
+    Put {
+        object: Object,
+        value: i64,
+        done: bool,
+    },
+}
+
+/// All that a device was asked for since it was made, and the sink as it was then.
+#[derive(Drop)]
+pub(crate) struct Told<K> {
+    of: PhantomData<K>,
+    /// The oldest first.
+    pub ghost asked: { List WasAsked },
+    pub ghost opened: { K },
+}
+
+impl<K> Model for Told<K> {
+    ghost also_owns = { λ _. ftrue };
+}
+
+// It owns nothing.
+unsafe impl<K: Send> Send for Told<K> {}
+
+impl<K> Told<K> {
+    ghost use Rattle.line_plant.specs.Asking.{asked_by};
+
+    /// Nothing was asked yet of a device that is spoken to by this sink.
+    pub(crate) fn over(sink: &K) -> Told<K>
+        ensures { (result.asked ≡ []) × (result.opened ≡ sink.now) }
+    {
+        Told { of: PhantomData }
+    }
+
+    /// One thing more was asked.
+    pub(crate) fn then(&self, note: &Note<'_>) -> Told<K>
+        ensures { (result.asked ≡ self.now.asked ++ asked_by note.now ∷ []) × (result.opened ≡ self.now.opened) }
+    {
+        Told { of: PhantomData }
+    }
+}
