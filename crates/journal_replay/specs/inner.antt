@@ -1,4 +1,5 @@
 -- What the code keeps and finds its answers by: no contract of a public call cites it.
+pub mod Composed
 pub mod Duty
 pub mod OpenedPlays
 pub mod Unbegun

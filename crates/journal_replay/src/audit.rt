@@ -1,10 +1,13 @@
-ghost use Rattle.std.specs.Prelude.{◌≡◌, ◌↔◌, [], reverse, IsTrue};
+ghost use Rattle.std.specs.Prelude.{◌≡◌, ◌↔◌, [], IsTrue};
 ghost use Rattle.place_plan.specs.RulesOfJournals.Rules.{MayFollow};
-ghost use Rattle.place_plan.specs.RulesOfJournals.Journals.{LegalPast, AllOver};
+ghost use Rattle.place_plan.specs.RulesOfJournals.Journals.{AllOver};
+ghost use Rattle.journal_replay.specs.PastParts.{plan_of, entries_of};
 ghost use Rattle.journal_replay.specs.IsDue.{IsRefusalOf};
 ghost use Rattle.journal_replay.specs.Audited.{Audited};
 
 use crate::look_back::LookBack;
+use crate::past::Past;
+use crate::questions::is_over;
 use crate::records::Records;
 use crate::rule::{asks_device, entry_due, refused};
 use caa_base::written::entry::Entry;
@@ -37,30 +40,26 @@ fn is_refusal(entry: &Entry, due: &Entry) -> bool
 }
 
 /// Whether the entry is the one that is due from its maker, or that one where the device refuses it.
-fn may_follow<R: Records>(plan: &Plan, records: &R, journal: &[Entry], entry: &Entry) -> bool
-    requires stands { R.stand_for records.now plan.now (reverse journal.now) }
-    requires legal { LegalPast plan.now (reverse journal.now) }
-    ensures { IsTrue result ↔ MayFollow plan.now (reverse journal.now) entry.now }
+fn may_follow<R: Records>(past: &Past<'_, R>, entry: &Entry) -> bool
+    ensures { IsTrue result ↔ MayFollow (plan_of past.now) (entries_of past.now) entry.now }
 {
-    due_is_right(plan);
-    is_well_formed(plan);
-    if entry.by >= plan.participants() {
+    due_is_right(past.plan);
+    is_well_formed(past.plan);
+    if entry.by >= past.plan.participants() {
         return false;
     }
-    match entry_due(plan, records, journal, entry.by) {
+    match entry_due(past, entry.by) {
         Some(due) => is_same(entry, &due) || is_refusal(entry, &due),
         None => false,
     }
 }
 
 /// Whether every participant is through with all its plays.
-pub(crate) fn all_are_over<R: Records>(plan: &Plan, records: &R, journal: &[Entry]) -> bool
-    requires stands { R.stand_for records.now plan.now (reverse journal.now) }
-    requires legal { LegalPast plan.now (reverse journal.now) }
-    ensures { IsTrue result ↔ AllOver plan.now (reverse journal.now) }
+pub(crate) fn all_are_over<R: Records>(past: &Past<'_, R>) -> bool
+    ensures { IsTrue result ↔ AllOver (plan_of past.now) (entries_of past.now) }
 {
-    for by in 0..plan.participants() {
-        if !records.is_over(plan, journal, by) {
+    for by in 0..past.plan.participants() {
+        if !is_over(past, by) {
             return false;
         }
     }
@@ -80,14 +79,24 @@ pub fn audit_with<R: Records>(
 {
     let entries = journal.as_slice();
     for (index, entry) in entries.iter().enumerate() {
-        if !may_follow(plan, &*records, &entries[..index], entry) {
+        let past = Past {
+            plan,
+            records: &*records,
+            journal: &entries[..index],
+        };
+        if !may_follow(&past, entry) {
             return Err(Illegal {
                 index: index as u64,
             });
         }
         records.note(plan, &entries[..index], entry);
     }
-    if all_are_over(plan, &*records, entries) {
+    let past = Past {
+        plan,
+        records: &*records,
+        journal: entries,
+    };
+    if all_are_over(&past) {
         Ok(())
     } else {
         Err(Illegal {

@@ -14,12 +14,13 @@ ghost use Rattle.journal_replay.specs.Opening.{is_plant_fault};
 ghost use Rattle.std.proofs.Math.Nat.{le_of_eq};
 ghost use Rattle.std.proofs.Common.{sym};
 ghost use Rattle.journal_replay.specs.IsDue.{DeviceDecides};
-ghost use Rattle.journal_replay.specs.inner.Duty.{MayWorkNow};
+ghost use Rattle.journal_replay.specs.inner.Duty.{MayWorkNow, IsTurn};
 
 use crate::answer::Due;
 use crate::audit::all_are_over;
 use crate::duty::{Turn, Work};
 use crate::look_back::LookBack;
+use crate::past::Past;
 use crate::records::Records;
 use crate::rule::turn;
 use caa_base::outside::plant::{Plant, PlantError};
@@ -260,6 +261,7 @@ impl<P: Plant, R: Records> Played<P, R> {
     }
 
     /// Adds an entry that doesn't ask the device.
+    #[inline(always)]
     fn add(&mut self, entry: Entry)
         requires may { MayFollow (plan_in self.old) (reverse (journal_in self.old)) entry }
         requires plain { is_attempt entry ≡ false }
@@ -295,6 +297,7 @@ impl<P: Plant, R: Records> Played<P, R> {
     }
 
     /// Adds the work entry that is next, where the hint brings it, and asks for it otherwise.
+    #[inline(always)]
     fn take_work(&mut self, by: Participant, work: Work, hint: Option<WorkDone>) -> Answer
         requires may { MayWorkNow (plan_in self.old) (reverse (journal_in self.old)) by work }
         ensures plan { plan_in self.new ≡ plan_in self.old }
@@ -315,6 +318,32 @@ impl<P: Plant, R: Records> Played<P, R> {
                 from: work.from,
             },
         }
+    }
+}
+
+impl<P: Plant, R: Records> Played<P, R> {
+    ghost use Rattle.journal_replay.specs.Hall.{plan_in, journal_in};
+    ghost use Rattle.journal_replay.specs.PastParts.{plan_of, entries_of};
+
+    /// What came before.
+    #[inline(always)]
+    fn past(&self) -> Past<'_, R>
+        ensures plan { plan_of result ≡ plan_in self.now }
+        ensures entries { entries_of result ≡ reverse (journal_in self.now) }
+    {
+        Past {
+            plan: &self.plan,
+            records: &self.records,
+            journal: self.journal.as_slice(),
+        }
+    }
+
+    /// What a participant does in its turn.
+    #[inline(always)]
+    fn turn(&self, by: Participant) -> Turn
+        ensures { IsTurn (plan_in self.now) (reverse (journal_in self.now)) by result }
+    {
+        turn(&self.past(), by)
     }
 }
 
@@ -340,6 +369,7 @@ impl<P: Plant, R: Records> Machine for Played<P, R> {
     }
 
     /// Makes the one legal entry of a participant. The device is asked once where it decides, and else not at all.
+    #[inline(always)]
     fn next(&mut self, by: Participant, hint: Option<WorkDone>) -> Answer
         requires { by < length (plan_in self.old).participants }
         ensures plan { plan_in self.new ≡ plan_in self.old }
@@ -347,7 +377,7 @@ impl<P: Plant, R: Records> Machine for Played<P, R> {
         ensures count { CountsFault (made_fault result) (P.faults (plant_in self.old)) (P.faults (plant_in self.new)) }
         ensures answer { Answers (plan_in self.old) (journal_in self.old) (journal_in self.new) by hint result }
     {
-        match turn(&self.plan, &self.records, &self.journal, by) {
+        match self.turn(by) {
             Turn::Mix(work) => self.take_work(by, work, hint),
             Turn::Act(due) => match due {
                 Due::NotYet => Answer::NotYet,
@@ -371,11 +401,10 @@ impl<P: Plant, R: Records> Machine for Played<P, R> {
     }
 
     fn complete(&self) -> bool {
-        all_are_over(&self.plan, &self.records, self.journal.as_slice())
+        all_are_over(&self.past())
     }
 
     fn value(&self, object: Object) -> i64 {
-        self.records
-            .value_at(&self.plan, self.journal.as_slice(), object)
+        R::value_at(&self.past(), object)
     }
 }

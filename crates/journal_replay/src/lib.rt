@@ -7,6 +7,8 @@ pub mod audit;
 mod duty;
 pub mod hall;
 pub mod look_back;
+pub mod past;
 pub mod programs;
+pub mod questions;
 pub mod records;
 pub mod rule;

@@ -10,15 +10,16 @@
 
 ghost use Rattle.std.specs.Prelude.{refl};
 
-use crate::records::{Course, Records};
-use caa_base::written::entry::{Entry, Exception, Kind, Object, OutOfMemory, Participant, Place};
-use place_plan::drafts::draft_rows::{Program, Step};
+use crate::past::{Past, StandsFor};
+use crate::records::{Course, Progress, Records};
+use caa_base::written::entry::{
+    Entry, Exception, Kind, Object, OutOfMemory, Outcome, Participant, Place,
+};
 use place_plan::plans::plan::Plan;
 use place_plan::rules::value::value_at;
 use std::alloc::Global;
 
 pub(crate) mod arrivals;
-pub(crate) mod carried;
 pub(crate) mod course;
 pub(crate) mod entries;
 pub(crate) mod objects;
@@ -31,180 +32,100 @@ pub(crate) mod verdicts;
 #[derive(Drop)]
 pub struct LookBack;
 
-impl Records for LookBack {
+impl StandsFor for LookBack {
     ghost stand_for = { λ _ _ _. Unit {0} };
 
     ghost one_way = { λ _ _ _ a b. refl };
+}
 
+impl Records for LookBack {
     fn open(alloc: Global, plan: &Plan) -> Result<Self, OutOfMemory> {
         Ok(LookBack)
     }
 
     fn note(&mut self, plan: &Plan, journal: &[Entry], entry: &Entry) {}
 
-    fn inside(&self, plan: &Plan, journal: &[Entry], by: Participant) -> Option<Place> {
-        places::inside(plan, journal, by)
+    fn inside(past: &Past<'_, Self>, by: Participant) -> Option<Place> {
+        places::inside(past.plan, past.journal, by)
     }
 
-    fn all_are_inside(&self, plan: &Plan, journal: &[Entry], place: Place) -> bool {
-        places::all_are_inside(plan, journal, place)
+    fn next_play(past: &Past<'_, Self>, by: Participant) -> Option<Place> {
+        places::next_play(past.plan, past.journal, by)
     }
 
-    fn next_play(&self, plan: &Plan, journal: &[Entry], by: Participant) -> Option<Place> {
-        places::next_play(plan, journal, by)
+    fn course_of(past: &Past<'_, Self>, place: Place) -> Course {
+        course::course_of(past.plan, past.journal, place)
     }
 
-    fn is_over(&self, plan: &Plan, journal: &[Entry], by: Participant) -> bool {
-        places::is_over(plan, journal, by)
+    fn outcome_of(past: &Past<'_, Self>, place: Place) -> Option<Outcome> {
+        verdicts::outcome_of(past.journal, place)
     }
 
-    fn place_entered(
-        &self,
-        plan: &Plan,
-        journal: &[Entry],
-        place: Place,
-        by: Participant,
-        nest: u32,
-    ) -> Option<Place> {
-        places::place_entered(plan, journal, place, by, nest)
+    fn holder_of(past: &Past<'_, Self>, object: Object) -> Option<Place> {
+        objects::holder_of(past.plan, past.journal, object)
     }
 
-    fn course_of(&self, plan: &Plan, journal: &[Entry], place: Place) -> Course {
-        course::course_of(plan, journal, place)
+    fn value_at(past: &Past<'_, Self>, object: Object) -> i64 {
+        value_at(past.plan, past.journal, object)
     }
 
-    fn exception_carried(
-        &self,
-        plan: &Plan,
-        journal: &[Entry],
-        place: Place,
-        by: Participant,
-    ) -> Option<Exception> {
-        carried::exception_carried(plan, journal, place, by)
+    fn next_restore(past: &Past<'_, Self>, place: Place) -> Option<Object> {
+        objects::next_restore(past.plan, past.journal, place)
     }
 
-    fn objects_are_ready(&self, plan: &Plan, journal: &[Entry], place: Place) -> bool {
-        objects::objects_are_ready(plan, journal, place)
+    fn value_at_start(past: &Past<'_, Self>, place: Place, object: Object) -> i64 {
+        objects::value_at_start(past.plan, past.journal, place, object)
     }
 
-    fn holds(&self, plan: &Plan, journal: &[Entry], place: Place, object: Object) -> bool {
-        objects::holds(plan, journal, place, object)
+    fn has_failed(past: &Past<'_, Self>, place: Place) -> bool {
+        objects::has_failed(past.journal, place)
     }
 
-    fn value_at(&self, plan: &Plan, journal: &[Entry], object: Object) -> i64 {
-        value_at(plan, journal, object)
+    fn is_doomed(past: &Past<'_, Self>, place: Place) -> bool {
+        raising::is_doomed(past.plan, past.journal, place)
     }
 
-    fn next_restore(&self, plan: &Plan, journal: &[Entry], place: Place) -> Option<Object> {
-        objects::next_restore(plan, journal, place)
+    fn is_halted(past: &Past<'_, Self>, place: Place, by: Participant) -> bool {
+        raising::is_halted(past.plan, past.journal, place, by)
     }
 
-    fn value_at_start(&self, plan: &Plan, journal: &[Entry], place: Place, object: Object) -> i64 {
-        objects::value_at_start(plan, journal, place, object)
+    fn least_raised(past: &Past<'_, Self>, place: Place) -> Option<Exception> {
+        raising::least_raised(past.plan, past.journal, place)
     }
 
-    fn has_failed(&self, plan: &Plan, journal: &[Entry], place: Place) -> bool {
-        objects::has_failed(journal, place)
+    fn exception_resolved(past: &Past<'_, Self>, place: Place) -> Option<Exception> {
+        raising::exception_resolved(past.journal, place)
     }
 
-    fn is_doomed(&self, plan: &Plan, journal: &[Entry], place: Place) -> bool {
-        raising::is_doomed(plan, journal, place)
+    fn progress_of(past: &Past<'_, Self>, place: Place, by: Participant) -> Progress {
+        roles::progress_of(past.plan, past.journal, place, by)
     }
 
-    fn is_halted(&self, plan: &Plan, journal: &[Entry], place: Place, by: Participant) -> bool {
-        raising::is_halted(plan, journal, place, by)
+    fn was_refused_in_handler(past: &Past<'_, Self>, place: Place, by: Participant) -> bool {
+        verdicts::was_refused_in_handler(past.journal, place, by)
     }
 
-    fn all_are_halted(&self, plan: &Plan, journal: &[Entry], place: Place) -> bool {
-        raising::all_are_halted(plan, journal, place)
+    fn has_given(past: &Past<'_, Self>, place: Place, by: Participant, raised: bool) -> bool {
+        verdicts::has_given(past.plan, past.journal, place, by, raised)
     }
 
-    fn least_raised(&self, plan: &Plan, journal: &[Entry], place: Place) -> Option<Exception> {
-        raising::least_raised(plan, journal, place)
+    fn wants_undo(past: &Past<'_, Self>, place: Place) -> bool {
+        verdicts::wants_undo(past.plan, past.journal, place)
     }
 
-    fn exception_resolved(
-        &self,
-        plan: &Plan,
-        journal: &[Entry],
-        place: Place,
-    ) -> Option<Exception> {
-        raising::exception_resolved(journal, place)
+    fn least_signalled(past: &Past<'_, Self>, place: Place) -> Option<Exception> {
+        verdicts::least_signalled(past.plan, past.journal, place)
     }
 
-    fn register(&self, plan: &Plan, journal: &[Entry], place: Place, by: Participant) -> i64 {
-        roles::register(plan, journal, place, by)
+    fn has_aborted(past: &Past<'_, Self>, place: Place, by: Participant) -> bool {
+        verdicts::has_aborted(past.journal, place, by)
     }
 
-    fn step_and_register(
-        &self,
-        plan: &Plan,
-        journal: &[Entry],
-        place: Place,
-        by: Participant,
-    ) -> (Option<Step>, i64) {
-        roles::step_and_register(plan, journal, place, by)
+    fn name_of(past: &Past<'_, Self>, place: Place, by: Participant) -> Option<Exception> {
+        verdicts::name_of(past.journal, place, by)
     }
 
-    fn program_of<'a>(
-        &self,
-        plan: &'a Plan,
-        journal: &[Entry],
-        place: Place,
-        by: Participant,
-    ) -> Option<&'a Program> {
-        roles::program_of(plan, journal, place, by)
-    }
-
-    fn has_handled(&self, plan: &Plan, journal: &[Entry], place: Place, by: Participant) -> bool {
-        raising::has_handled(journal, place, by)
-    }
-
-    fn was_refused_in_handler(
-        &self,
-        plan: &Plan,
-        journal: &[Entry],
-        place: Place,
-        by: Participant,
-    ) -> bool {
-        verdicts::was_refused_in_handler(journal, place, by)
-    }
-
-    fn has_said(&self, plan: &Plan, journal: &[Entry], place: Place, by: Participant) -> bool {
-        verdicts::has_said(plan, journal, place, by)
-    }
-
-    fn has_given_after(
-        &self,
-        plan: &Plan,
-        journal: &[Entry],
-        place: Place,
-        by: Participant,
-    ) -> bool {
-        verdicts::has_given_after(journal, place, by)
-    }
-
-    fn all_have_given(&self, plan: &Plan, journal: &[Entry], place: Place, raised: bool) -> bool {
-        verdicts::all_have_given(plan, journal, place, raised)
-    }
-
-    fn wants_undo(&self, plan: &Plan, journal: &[Entry], place: Place) -> bool {
-        verdicts::wants_undo(plan, journal, place)
-    }
-
-    fn least_signalled(&self, plan: &Plan, journal: &[Entry], place: Place) -> Option<Exception> {
-        verdicts::least_signalled(plan, journal, place)
-    }
-
-    fn has_aborted(&self, plan: &Plan, journal: &[Entry], place: Place, by: Participant) -> bool {
-        verdicts::has_aborted(journal, place, by)
-    }
-
-    fn all_have_aborted(&self, plan: &Plan, journal: &[Entry], place: Place) -> bool {
-        verdicts::all_have_aborted(plan, journal, place)
-    }
-
-    fn has_aborts(&self, plan: &Plan, journal: &[Entry], place: Place) -> bool {
-        entries::has(journal, Kind::Abort, place)
+    fn has_aborts(past: &Past<'_, Self>, place: Place) -> bool {
+        entries::has(past.journal, Kind::Abort, place)
     }
 }

@@ -8,6 +8,7 @@ use place_plan::drafts::draft_rows::{Program, Step};
 use place_plan::plans::plan::Plan;
 
 /// The body of a participant in a place, or its handler for the exception that it handles, if it has one.
+#[inline(always)]
 pub fn program_in(
     plan: &Plan,
     place: Place,
@@ -24,6 +25,7 @@ pub fn program_in(
 }
 
 /// The step at a position of the program that a participant goes through in a place.
+#[inline(always)]
 pub fn step_at(
     plan: &Plan,
     place: Place,

@@ -1,15 +1,18 @@
 ghost use Rattle.std.specs.Prelude.{◌≡◌, ◌<◌, ◌+ℤ◌, true, false, not, is_none, length, reverse, Some, None};
 ghost use Rattle.caa_base.specs.declared.written.entry.Kind.TheVariants as kind;
 ghost use Rattle.caa_base.specs.Written.Limits.{IsValue};
-ghost use Rattle.place_plan.specs.Plans.Places.{roles_of, handler_of, abort_row};
-ghost use Rattle.place_plan.specs.RulesOfJournals.Entries.{is_of};
+ghost use Rattle.caa_base.specs.Written.Lists.{first_not};
+ghost use Rattle.place_plan.specs.declared.drafts.draft_rows.Step.TheVariants as step;
+ghost use Rattle.place_plan.specs.Plans.Places.{roles_of, handler_of, abort_row, alternates_of};
+ghost use Rattle.place_plan.specs.RulesOfJournals.Entries.{is_of, has_by};
 ghost use Rattle.place_plan.specs.RulesOfJournals.Whereabouts.{inside, has_ended, is_undoing};
 ghost use Rattle.place_plan.specs.RulesOfJournals.Raising.{has_handled, is_raised, is_calm, exception_resolved};
 ghost use Rattle.place_plan.specs.RulesOfJournals.Objects.{next_restore};
 ghost use Rattle.place_plan.specs.RulesOfJournals.Roles.{register, program_of, next_step, all_have_given, signals};
 ghost use Rattle.place_plan.specs.RulesOfJournals.Rules.{clamped, abort_of, undone_mark};
-ghost use Rattle.place_plan.specs.RulesOfJournals.Journals.{LegalPast, IsLegal, is_put};
-ghost use Rattle.journal_laws.specs.Due.{says, plainly, marked, naming, verdict_entry, due_waiting, due_restore, due_doomed, due_end, due_agreed, due_held, due_step, due_forward, due_handler, due_resolved, due_resolve, due_halted, due_hot, due_calm, due_inside, due_of, as_refused};
+ghost use Rattle.place_plan.specs.RulesOfJournals.Journals.{IsLegal, is_put};
+ghost use Rattle.journal_laws.specs.Due.{says, plainly, marked, naming, verdict_entry, due_waiting, due_restore, due_doomed, due_end, due_agreed, due_held, due_step, due_arrival, due_forward, due_handler, due_resolved, due_resolve, due_halted, due_hot, due_calm, due_inside, due_of, as_refused};
+ghost use Rattle.journal_replay.specs.PastParts.{plan_of, entries_of};
 ghost use Rattle.journal_replay.specs.IsDue.{IsDue};
 ghost use Rattle.journal_replay.specs.inner.Duty.{entry_in, IsUnmixed, MixesRight, IsTurn};
 
@@ -17,6 +20,11 @@ use crate::answer::Due;
 use crate::duty::{Duty, Turn, Work};
 use crate::look_back::LookBack;
 use crate::look_back::roles::{meets, raise_of};
+use crate::past::Past;
+use crate::questions::{
+    all_are_halted, all_are_inside, all_have_aborted, all_have_given, exception_carried,
+    first_lasting, has_handled, holds, is_over, objects_are_ready, program_of, step_and_register,
+};
 use crate::records::Records;
 use caa_base::written::entry::{
     Entry, Exception, Kind, Object, Outcome, Participant, Place, Verdict,
@@ -30,6 +38,7 @@ use place_plan::plans::plan::Plan;
 // ---- what an entry says
 
 /// An entry with mark 0.
+#[inline(always)]
 fn says(kind: Kind, place: Place, by: Participant, arg: u32, value: i64) -> Entry
     ensures { result ≡ says kind place by arg value }
 {
@@ -44,6 +53,7 @@ fn says(kind: Kind, place: Place, by: Participant, arg: u32, value: i64) -> Entr
 }
 
 /// An entry whose further fields are 0.
+#[inline(always)]
 fn plainly(kind: Kind, place: Place, by: Participant) -> Entry
     ensures { result ≡ plainly kind place by }
 {
@@ -87,23 +97,14 @@ fn verdict_entry(place: Place, by: Participant, verdict: Verdict) -> Entry
 // ---- a place that waits, or is undone
 
 /// What a participant does in a place that waits.
-fn due_waiting<R: Records>(
-    plan: &Plan,
-    records: &R,
-    journal: &[Entry],
-    place: Place,
-    by: Participant,
-) -> Option<Entry>
-    requires stands { R.stand_for records.now plan.now (reverse journal.now) }
-    requires legal { LegalPast plan.now (reverse journal.now) }
-    ensures entry { result ≡ due_waiting plan.now (reverse journal.now) place by }
+#[inline(never)]
+fn due_waiting<R: Records>(past: &Past<'_, R>, place: Place, by: Participant) -> Option<Entry>
+    ensures entry { result ≡ due_waiting (plan_of past.now) (entries_of past.now) place by }
     ensures unmixed { IsUnmixed result }
 {
-    if records.is_doomed(plan, journal, place) {
+    if R::is_doomed(past, place) {
         Some(plainly(Kind::Withdraw, place, by))
-    } else if records.all_are_inside(plan, journal, place)
-        && records.objects_are_ready(plan, journal, place)
-    {
+    } else if all_are_inside(past, place) && objects_are_ready(past, place) {
         Some(plainly(Kind::Start, place, by))
     } else {
         None
@@ -112,16 +113,14 @@ fn due_waiting<R: Records>(
 
 /// The mark of the end entry after an undo: failed where the device refused a restore, aborted where the roles gave up, and
 /// otherwise undone, since a verdict asked for it.
-fn undone_mark<R: Records>(plan: &Plan, records: &R, journal: &[Entry], place: Place) -> u32
-    requires stands { R.stand_for records.now plan.now (reverse journal.now) }
-    requires legal { LegalPast plan.now (reverse journal.now) }
-    requires undoing { is_undoing (reverse journal.now) place ≡ true }
-    requires lasts { has_ended (reverse journal.now) place ≡ false }
-    ensures { result ≡ undone_mark (reverse journal.now) place }
+fn undone_mark<R: Records>(past: &Past<'_, R>, place: Place) -> u32
+    requires undoing { is_undoing (entries_of past.now) place ≡ true }
+    requires lasts { has_ended (entries_of past.now) place ≡ false }
+    ensures { result ≡ undone_mark (entries_of past.now) place }
 {
-    let outcome = if records.has_failed(plan, journal, place) {
+    let outcome = if R::has_failed(past, place) {
         Outcome::Failed
-    } else if records.has_aborts(plan, journal, place) {
+    } else if R::has_aborts(past, place) {
         Outcome::Aborted
     } else {
         Outcome::Undone
@@ -130,33 +129,20 @@ fn undone_mark<R: Records>(plan: &Plan, records: &R, journal: &[Entry], place: P
 }
 
 /// The restore that is next in a place that is undone, or its End.
-fn due_restore<R: Records>(
-    plan: &Plan,
-    records: &R,
-    journal: &[Entry],
-    place: Place,
-    by: Participant,
-) -> Entry
-    requires stands { R.stand_for records.now plan.now (reverse journal.now) }
-    requires legal { LegalPast plan.now (reverse journal.now) }
-    requires undoing { is_undoing (reverse journal.now) place ≡ true }
-    requires lasts { has_ended (reverse journal.now) place ≡ false }
-    ensures entry { Some result ≡ due_restore plan.now (reverse journal.now) place by (next_restore plan.now (reverse journal.now) place) }
+#[inline(never)]
+fn due_restore<R: Records>(past: &Past<'_, R>, place: Place, by: Participant) -> Entry
+    requires undoing { is_undoing (entries_of past.now) place ≡ true }
+    requires lasts { has_ended (entries_of past.now) place ≡ false }
+    ensures entry { Some result ≡ due_restore (plan_of past.now) (entries_of past.now) place by (next_restore (plan_of past.now) (entries_of past.now) place) }
     ensures unmixed { is_of kind.Work result ≡ false }
 {
-    plan.is_closed();
-    match records.next_restore(plan, journal, place) {
+    past.plan.is_closed();
+    match R::next_restore(past, place) {
         Some(object) => {
-            let value = records.value_at_start(plan, journal, place, object);
+            let value = R::value_at_start(past, place, object);
             says(Kind::Restore, place, by, object, value)
         }
-        None => marked(
-            Kind::End,
-            place,
-            by,
-            undone_mark(plan, records, journal, place),
-            0,
-        ),
+        None => marked(Kind::End, place, by, undone_mark(past, place), 0),
     }
 }
 
@@ -181,51 +167,35 @@ fn abort_of(row: &AbortRow, register: i64) -> Option<Exception>
 
 /// The exception that a participant names where it gives up in a place.
 fn exception_named<R: Records>(
-    plan: &Plan,
-    records: &R,
-    journal: &[Entry],
+    past: &Past<'_, R>,
     place: Place,
     by: Participant,
 ) -> Option<Exception>
-    requires stands { R.stand_for records.now plan.now (reverse journal.now) }
-    requires legal { LegalPast plan.now (reverse journal.now) }
-    requires here { inside plan.now (reverse journal.now) by ≡ Some place }
-    ensures { result ≡ abort_of (abort_row plan.now place by) (register plan.now (reverse journal.now) place by) }
+    requires here { inside (plan_of past.now) (entries_of past.now) by ≡ Some place }
+    ensures { result ≡ abort_of (abort_row (plan_of past.now) place by) (register (plan_of past.now) (entries_of past.now) place by) }
 {
-    let role = plan.role_of(place, by)?;
+    let role = past.plan.role_of(place, by)?;
     abort_of(
-        plan.abort_row(place, role),
-        records.register(plan, journal, place, by),
+        past.plan.abort_row(place, role),
+        R::progress_of(past, place, by).register,
     )
 }
 
 /// What a participant does in a doomed place.
-fn due_doomed<R: Records>(
-    plan: &Plan,
-    records: &R,
-    journal: &[Entry],
-    place: Place,
-    by: Participant,
-) -> Option<Entry>
-    requires stands { R.stand_for records.now plan.now (reverse journal.now) }
-    requires legal { LegalPast plan.now (reverse journal.now) }
-    requires here { inside plan.now (reverse journal.now) by ≡ Some place }
-    ensures entry { result ≡ due_doomed plan.now (reverse journal.now) place by }
+#[inline(never)]
+fn due_doomed<R: Records>(past: &Past<'_, R>, place: Place, by: Participant) -> Option<Entry>
+    requires here { inside (plan_of past.now) (entries_of past.now) by ≡ Some place }
+    ensures entry { result ≡ due_doomed (plan_of past.now) (entries_of past.now) place by }
     ensures unmixed { IsUnmixed result }
 {
-    if records.has_aborted(plan, journal, place, by) {
-        if records.all_have_aborted(plan, journal, place) {
+    if R::has_aborted(past, place, by) {
+        if all_have_aborted(past, place) {
             Some(plainly(Kind::Undo, place, by))
         } else {
             None
         }
-    } else if records.all_are_inside(plan, journal, place) {
-        Some(naming(
-            Kind::Abort,
-            place,
-            by,
-            exception_named(plan, records, journal, place, by),
-        ))
+    } else if all_are_inside(past, place) {
+        Some(naming(Kind::Abort, place, by, exception_named(past, place, by)))
     } else {
         None
     }
@@ -234,71 +204,52 @@ fn due_doomed<R: Records>(
 // ---- agreement
 
 /// The End of a place whose roles have agreed on it.
-fn due_end<R: Records>(
-    plan: &Plan,
-    records: &R,
-    journal: &[Entry],
-    place: Place,
-    by: Participant,
-) -> Entry
-    requires stands { R.stand_for records.now plan.now (reverse journal.now) }
-    requires legal { LegalPast plan.now (reverse journal.now) }
-    requires agreed { all_have_given plan.now (reverse journal.now) place ≡ true }
-    ensures entry { Some result ≡ due_end plan.now place by (signals (reverse journal.now) place (roles_of plan.now place)) }
+fn due_end<R: Records>(past: &Past<'_, R>, place: Place, by: Participant) -> Entry
+    requires agreed { all_have_given (plan_of past.now) (entries_of past.now) place ≡ true }
+    ensures entry { Some result ≡ due_end (plan_of past.now) place by (signals (entries_of past.now) place (roles_of (plan_of past.now) place)) }
     ensures kind { result.kind ≡ kind.End }
 {
-    plan.is_closed();
-    naming(
-        Kind::End,
-        place,
-        by,
-        records.least_signalled(plan, journal, place),
-    )
+    past.plan.is_closed();
+    naming(Kind::End, place, by, R::least_signalled(past, place))
 }
 
 /// What a participant does that has given its verdict; `raised` says whether something was raised in the place.
+#[inline(never)]
 fn due_agreed<R: Records>(
-    plan: &Plan,
-    records: &R,
-    journal: &[Entry],
+    past: &Past<'_, R>,
     place: Place,
     by: Participant,
     raised: bool,
 ) -> Option<Entry>
-    requires stands { R.stand_for records.now plan.now (reverse journal.now) }
-    requires legal { LegalPast plan.now (reverse journal.now) }
-    requires raised { raised ≡ is_raised plan.now (reverse journal.now) place }
-    ensures entry { result ≡ due_agreed plan.now (reverse journal.now) place by }
+    requires raised { raised ≡ is_raised (plan_of past.now) (entries_of past.now) place }
+    ensures entry { result ≡ due_agreed (plan_of past.now) (entries_of past.now) place by }
     ensures unmixed { IsUnmixed result }
 {
-    if !records.all_have_given(plan, journal, place, raised) {
+    if !all_have_given(past, place, raised) {
         None
-    } else if records.wants_undo(plan, journal, place) {
+    } else if R::wants_undo(past, place) {
         Some(plainly(Kind::Undo, place, by))
     } else {
-        Some(due_end(plan, records, journal, place, by))
+        Some(due_end(past, place, by))
     }
 }
 
 // ---- steps
 
 /// The entry, where the place holds the object.
+#[inline(always)]
 fn due_held<R: Records>(
-    plan: &Plan,
-    records: &R,
-    journal: &[Entry],
+    past: &Past<'_, R>,
     place: Place,
     object: Object,
     entry: Entry,
 ) -> Option<Entry>
-    requires stands { R.stand_for records.now plan.now (reverse journal.now) }
-    requires legal { LegalPast plan.now (reverse journal.now) }
-    requires known { object < length plan.now.objects }
+    requires known { object < length (plan_of past.now).objects }
     requires unmixed { is_of kind.Work entry ≡ false }
-    ensures entry { result ≡ due_held plan.now (reverse journal.now) place object entry }
+    ensures entry { result ≡ due_held (plan_of past.now) (entries_of past.now) place object entry }
     ensures unmixed { IsUnmixed result }
 {
-    if records.holds(plan, journal, place, object) {
+    if holds(past, place, object) {
         Some(entry)
     } else {
         None
@@ -315,20 +266,13 @@ fn clamped(register: i64, number: i64) -> i64
 }
 
 /// What a participant says after the last step of its program.
-fn final_verdict<R: Records>(
-    plan: &Plan,
-    records: &R,
-    journal: &[Entry],
-    place: Place,
-    by: Participant,
-) -> Entry
-    requires stands { R.stand_for records.now plan.now (reverse journal.now) }
-    requires legal { LegalPast plan.now (reverse journal.now) }
-    requires here { inside plan.now (reverse journal.now) by ≡ Some place }
-    ensures entry { result ≡ verdict_entry place by (program_of plan.now (reverse journal.now) place by).verdict }
+#[inline(never)]
+fn final_verdict<R: Records>(past: &Past<'_, R>, place: Place, by: Participant) -> Entry
+    requires here { inside (plan_of past.now) (entries_of past.now) by ≡ Some place }
+    ensures entry { result ≡ verdict_entry place by (program_of (plan_of past.now) (entries_of past.now) place by).verdict }
     ensures kind { result.kind ≡ kind.Verdict }
 {
-    let verdict = match records.program_of(plan, journal, place, by) {
+    let verdict = match program_of(past, place, by) {
         Some(program) => program.verdict,
         None => Verdict::Done,
     };
@@ -336,40 +280,37 @@ fn final_verdict<R: Records>(
 }
 
 /// What a participant does at its next step, which neither raises nor enters, and after its last.
+#[inline(always)]
 fn due_step<R: Records>(
-    plan: &Plan,
-    records: &R,
-    journal: &[Entry],
+    past: &Past<'_, R>,
     place: Place,
     by: Participant,
     step: Option<Step>,
     from: i64,
 ) -> Option<Duty>
-    requires stands { R.stand_for records.now plan.now (reverse journal.now) }
-    requires legal { LegalPast plan.now (reverse journal.now) }
-    requires here { inside plan.now (reverse journal.now) by ≡ Some place }
-    requires step { step ≡ next_step plan.now (reverse journal.now) place by }
-    requires start { from ≡ register plan.now (reverse journal.now) place by }
-    ensures entry { entry_in by result ≡ due_step plan.now (reverse journal.now) place by step }
-    ensures mixes { MixesRight plan.now (reverse journal.now) by result }
+    requires here { inside (plan_of past.now) (entries_of past.now) by ≡ Some place }
+    requires step { step ≡ next_step (plan_of past.now) (entries_of past.now) place by }
+    requires start { from ≡ register (plan_of past.now) (entries_of past.now) place by }
+    ensures entry { entry_in by result ≡ due_step (plan_of past.now) (entries_of past.now) place by step }
+    ensures mixes { MixesRight (plan_of past.now) (entries_of past.now) by result }
 {
-    plan.is_closed();
-    is_well_formed(plan);
+    past.plan.is_closed();
+    is_well_formed(past.plan);
     match step {
-        None => Some(Duty::Make(final_verdict(plan, records, journal, place, by))),
+        None => Some(Duty::Make(final_verdict(past, place, by))),
         Some(Step::Read(object)) => {
-            let value = records.value_at(plan, journal, object);
+            let value = R::value_at(past, object);
             let entry = says(Kind::Read, place, by, object, value);
-            Some(Duty::Make(due_held(plan, records, journal, place, object, entry)?))
+            Some(Duty::Make(due_held(past, place, object, entry)?))
         }
         Some(Step::Put(object, value)) => {
             let entry = says(Kind::Write, place, by, object, value);
-            Some(Duty::Make(due_held(plan, records, journal, place, object, entry)?))
+            Some(Duty::Make(due_held(past, place, object, entry)?))
         }
         Some(Step::Add(object, number)) => {
             let value = clamped(from, number);
             let entry = says(Kind::Write, place, by, object, value);
-            Some(Duty::Make(due_held(plan, records, journal, place, object, entry)?))
+            Some(Duty::Make(due_held(past, place, object, entry)?))
         }
         Some(Step::Work(rounds)) => Some(Duty::Mix(Work {
             place,
@@ -381,82 +322,83 @@ fn due_step<R: Records>(
     }
 }
 
+/// The arrival of a participant in the next place of a nested use, where there is one: those that have ended are those that it
+/// has come to.
+fn due_arrival<R: Records>(
+    past: &Past<'_, R>,
+    place: Place,
+    by: Participant,
+    nest: u32,
+) -> Option<Entry>
+    requires here { inside (plan_of past.now) (entries_of past.now) by ≡ Some place }
+    requires calm { is_calm (plan_of past.now) (entries_of past.now) place ≡ true }
+    requires step { next_step (plan_of past.now) (entries_of past.now) place by ≡ Some (step.Enter nest) }
+    ensures entry { result ≡ due_arrival by (first_not (λ p. has_by kind.Arrive (entries_of past.now) p by) (alternates_of (plan_of past.now) place nest)) }
+    ensures unmixed { IsUnmixed result }
+{
+    past.plan.is_closed();
+    match first_lasting(past, place, nest) {
+        Some(inner) => Some(plainly(Kind::Arrive, inner, by)),
+        None => None,
+    }
+}
+
 /// What a participant does in its body at its next step, which doesn't raise.
+#[inline(always)]
 fn due_forward<R: Records>(
-    plan: &Plan,
-    records: &R,
-    journal: &[Entry],
+    past: &Past<'_, R>,
     place: Place,
     by: Participant,
     step: Option<Step>,
     from: i64,
 ) -> Option<Duty>
-    requires stands { R.stand_for records.now plan.now (reverse journal.now) }
-    requires legal { LegalPast plan.now (reverse journal.now) }
-    requires here { inside plan.now (reverse journal.now) by ≡ Some place }
-    requires calm { is_calm plan.now (reverse journal.now) place ≡ true }
-    requires step { step ≡ next_step plan.now (reverse journal.now) place by }
-    requires start { from ≡ register plan.now (reverse journal.now) place by }
-    ensures entry { entry_in by result ≡ due_forward plan.now (reverse journal.now) place by step }
-    ensures mixes { MixesRight plan.now (reverse journal.now) by result }
+    requires here { inside (plan_of past.now) (entries_of past.now) by ≡ Some place }
+    requires calm { is_calm (plan_of past.now) (entries_of past.now) place ≡ true }
+    requires step { step ≡ next_step (plan_of past.now) (entries_of past.now) place by }
+    requires start { from ≡ register (plan_of past.now) (entries_of past.now) place by }
+    ensures entry { entry_in by result ≡ due_forward (plan_of past.now) (entries_of past.now) place by step }
+    ensures mixes { MixesRight (plan_of past.now) (entries_of past.now) by result }
 {
     match step {
-        Some(Step::Enter(nest)) => {
-            let inner = records.place_entered(plan, journal, place, by, nest)?;
-            Some(Duty::Make(plainly(Kind::Arrive, inner, by)))
-        }
-        _ => due_step(plan, records, journal, place, by, step, from),
+        Some(Step::Enter(nest)) => Some(Duty::Make(due_arrival(past, place, by, nest)?)),
+        _ => due_step(past, place, by, step, from),
     }
 }
 
 /// What a participant does in a calm place.
-fn due_calm<R: Records>(
-    plan: &Plan,
-    records: &R,
-    journal: &[Entry],
-    place: Place,
-    by: Participant,
-) -> Option<Duty>
-    requires stands { R.stand_for records.now plan.now (reverse journal.now) }
-    requires legal { LegalPast plan.now (reverse journal.now) }
-    requires here { inside plan.now (reverse journal.now) by ≡ Some place }
-    requires calm { is_calm plan.now (reverse journal.now) place ≡ true }
-    requires unraised { is_raised plan.now (reverse journal.now) place ≡ false }
-    ensures entry { entry_in by result ≡ due_calm plan.now (reverse journal.now) place by }
-    ensures mixes { MixesRight plan.now (reverse journal.now) by result }
+#[inline(always)]
+fn due_calm<R: Records>(past: &Past<'_, R>, place: Place, by: Participant) -> Option<Duty>
+    requires here { inside (plan_of past.now) (entries_of past.now) by ≡ Some place }
+    requires calm { is_calm (plan_of past.now) (entries_of past.now) place ≡ true }
+    requires unraised { is_raised (plan_of past.now) (entries_of past.now) place ≡ false }
+    ensures entry { entry_in by result ≡ due_calm (plan_of past.now) (entries_of past.now) place by }
+    ensures mixes { MixesRight (plan_of past.now) (entries_of past.now) by result }
 {
-    if records.has_said(plan, journal, place, by) {
-        return Some(Duty::Make(due_agreed(plan, records, journal, place, by, false)?));
+    if R::has_given(past, place, by, false) {
+        return Some(Duty::Make(due_agreed(past, place, by, false)?));
     }
-    let (step, from) = records.step_and_register(plan, journal, place, by);
+    let (step, from) = step_and_register(past, place, by);
     match raise_of(step, from) {
         Some(exception) => Some(Duty::Make(marked(Kind::Raise, place, by, 0, exception))),
-        None => due_forward(plan, records, journal, place, by, step, from),
+        None => due_forward(past, place, by, step, from),
     }
 }
 
 // ---- recovery
 
 /// What a participant does in its handler.
-fn due_handler<R: Records>(
-    plan: &Plan,
-    records: &R,
-    journal: &[Entry],
-    place: Place,
-    by: Participant,
-) -> Option<Duty>
-    requires stands { R.stand_for records.now plan.now (reverse journal.now) }
-    requires legal { LegalPast plan.now (reverse journal.now) }
-    requires here { inside plan.now (reverse journal.now) by ≡ Some place }
-    requires handled { has_handled (reverse journal.now) place by ≡ true }
-    ensures entry { entry_in by result ≡ due_handler plan.now (reverse journal.now) place by }
-    ensures mixes { MixesRight plan.now (reverse journal.now) by result }
+#[inline(never)]
+fn due_handler<R: Records>(past: &Past<'_, R>, place: Place, by: Participant) -> Option<Duty>
+    requires here { inside (plan_of past.now) (entries_of past.now) by ≡ Some place }
+    requires handled { has_handled (entries_of past.now) place by ≡ true }
+    ensures entry { entry_in by result ≡ due_handler (plan_of past.now) (entries_of past.now) place by }
+    ensures mixes { MixesRight (plan_of past.now) (entries_of past.now) by result }
 {
-    let (step, from) = records.step_and_register(plan, journal, place, by);
-    if records.was_refused_in_handler(plan, journal, place, by) || raise_of(step, from).is_some() {
+    let (step, from) = step_and_register(past, place, by);
+    if R::was_refused_in_handler(past, place, by) || raise_of(step, from).is_some() {
         Some(Duty::Make(verdict_entry(place, by, Verdict::Undo)))
     } else {
-        due_step(plan, records, journal, place, by, step, from)
+        due_step(past, place, by, step, from)
     }
 }
 
@@ -472,25 +414,21 @@ fn has_handler(plan: &Plan, place: Place, by: Participant, exception: Exception)
 
 /// What a participant does once the place is resolved to this exception.
 fn due_resolved<R: Records>(
-    plan: &Plan,
-    records: &R,
-    journal: &[Entry],
+    past: &Past<'_, R>,
     place: Place,
     by: Participant,
     exception: Exception,
 ) -> Option<Duty>
-    requires stands { R.stand_for records.now plan.now (reverse journal.now) }
-    requires legal { LegalPast plan.now (reverse journal.now) }
-    requires here { inside plan.now (reverse journal.now) by ≡ Some place }
-    requires hot { is_raised plan.now (reverse journal.now) place ≡ true }
-    ensures entry { entry_in by result ≡ due_resolved plan.now (reverse journal.now) place by exception }
-    ensures mixes { MixesRight plan.now (reverse journal.now) by result }
+    requires here { inside (plan_of past.now) (entries_of past.now) by ≡ Some place }
+    requires hot { is_raised (plan_of past.now) (entries_of past.now) place ≡ true }
+    ensures entry { entry_in by result ≡ due_resolved (plan_of past.now) (entries_of past.now) place by exception }
+    ensures mixes { MixesRight (plan_of past.now) (entries_of past.now) by result }
 {
-    if records.has_given_after(plan, journal, place, by) {
-        Some(Duty::Make(due_agreed(plan, records, journal, place, by, true)?))
-    } else if records.has_handled(plan, journal, place, by) {
-        due_handler(plan, records, journal, place, by)
-    } else if has_handler(plan, place, by, exception) {
+    if R::has_given(past, place, by, true) {
+        Some(Duty::Make(due_agreed(past, place, by, true)?))
+    } else if has_handled(past, place, by) {
+        due_handler(past, place, by)
+    } else if has_handler(past.plan, place, by, exception) {
         Some(Duty::Make(marked(Kind::Handle, place, by, 0, exception)))
     } else {
         Some(Duty::Make(verdict_entry(place, by, Verdict::Undo)))
@@ -507,67 +445,44 @@ fn due_resolve(place: Place, by: Participant, exception: Option<Exception>) -> O
 }
 
 /// What a halted participant does while its place isn't resolved yet.
-fn due_unresolved<R: Records>(
-    plan: &Plan,
-    records: &R,
-    journal: &[Entry],
-    place: Place,
-    by: Participant,
-) -> Option<Entry>
-    requires stands { R.stand_for records.now plan.now (reverse journal.now) }
-    requires legal { LegalPast plan.now (reverse journal.now) }
-    requires unresolved { exception_resolved (reverse journal.now) place ≡ None }
-    requires hot { is_raised plan.now (reverse journal.now) place ≡ true }
-    ensures entry { result ≡ due_halted plan.now (reverse journal.now) place by None }
+fn due_unresolved<R: Records>(past: &Past<'_, R>, place: Place, by: Participant) -> Option<Entry>
+    requires unresolved { exception_resolved (entries_of past.now) place ≡ None }
+    requires hot { is_raised (plan_of past.now) (entries_of past.now) place ≡ true }
+    ensures entry { result ≡ due_halted (plan_of past.now) (entries_of past.now) place by None }
     ensures unmixed { IsUnmixed result }
 {
-    if !records.all_are_halted(plan, journal, place) {
+    if !all_are_halted(past, place) {
         return None;
     }
-    plan.is_closed();
-    due_resolve(place, by, records.least_raised(plan, journal, place))
+    past.plan.is_closed();
+    due_resolve(place, by, R::least_raised(past, place))
 }
 
 /// What a participant does that is halted.
-fn due_halted<R: Records>(
-    plan: &Plan,
-    records: &R,
-    journal: &[Entry],
-    place: Place,
-    by: Participant,
-) -> Option<Duty>
-    requires stands { R.stand_for records.now plan.now (reverse journal.now) }
-    requires legal { LegalPast plan.now (reverse journal.now) }
-    requires here { inside plan.now (reverse journal.now) by ≡ Some place }
-    requires hot { is_raised plan.now (reverse journal.now) place ≡ true }
-    ensures entry { entry_in by result ≡ due_halted plan.now (reverse journal.now) place by (exception_resolved (reverse journal.now) place) }
-    ensures mixes { MixesRight plan.now (reverse journal.now) by result }
+fn due_halted<R: Records>(past: &Past<'_, R>, place: Place, by: Participant) -> Option<Duty>
+    requires here { inside (plan_of past.now) (entries_of past.now) by ≡ Some place }
+    requires hot { is_raised (plan_of past.now) (entries_of past.now) place ≡ true }
+    ensures entry { entry_in by result ≡ due_halted (plan_of past.now) (entries_of past.now) place by (exception_resolved (entries_of past.now) place) }
+    ensures mixes { MixesRight (plan_of past.now) (entries_of past.now) by result }
 {
-    match records.exception_resolved(plan, journal, place) {
-        Some(exception) => due_resolved(plan, records, journal, place, by, exception),
-        None => Some(Duty::Make(due_unresolved(plan, records, journal, place, by)?)),
+    match R::exception_resolved(past, place) {
+        Some(exception) => due_resolved(past, place, by, exception),
+        None => Some(Duty::Make(due_unresolved(past, place, by)?)),
     }
 }
 
 /// What a participant does in a hot place.
-fn due_hot<R: Records>(
-    plan: &Plan,
-    records: &R,
-    journal: &[Entry],
-    place: Place,
-    by: Participant,
-) -> Option<Duty>
-    requires stands { R.stand_for records.now plan.now (reverse journal.now) }
-    requires legal { LegalPast plan.now (reverse journal.now) }
-    requires here { inside plan.now (reverse journal.now) by ≡ Some place }
-    requires hot { is_raised plan.now (reverse journal.now) place ≡ true }
-    ensures entry { entry_in by result ≡ due_hot plan.now (reverse journal.now) place by }
-    ensures mixes { MixesRight plan.now (reverse journal.now) by result }
+#[inline(never)]
+fn due_hot<R: Records>(past: &Past<'_, R>, place: Place, by: Participant) -> Option<Duty>
+    requires here { inside (plan_of past.now) (entries_of past.now) by ≡ Some place }
+    requires hot { is_raised (plan_of past.now) (entries_of past.now) place ≡ true }
+    ensures entry { entry_in by result ≡ due_hot (plan_of past.now) (entries_of past.now) place by }
+    ensures mixes { MixesRight (plan_of past.now) (entries_of past.now) by result }
 {
-    if records.is_halted(plan, journal, place, by) {
-        return due_halted(plan, records, journal, place, by);
+    if R::is_halted(past, place, by) {
+        return due_halted(past, place, by);
     }
-    let (step, from) = records.step_and_register(plan, journal, place, by);
+    let (step, from) = step_and_register(past, place, by);
     match raise_of(step, from) {
         Some(exception) => Some(Duty::Make(marked(Kind::Raise, place, by, 0, exception))),
         None => Some(Duty::Make(plainly(Kind::Inform, place, by))),
@@ -577,66 +492,49 @@ fn due_hot<R: Records>(
 // ---- the decision
 
 /// What a participant does in the place that it is in.
-fn due_inside<R: Records>(
-    plan: &Plan,
-    records: &R,
-    journal: &[Entry],
-    place: Place,
-    by: Participant,
-) -> Option<Duty>
-    requires stands { R.stand_for records.now plan.now (reverse journal.now) }
-    requires legal { LegalPast plan.now (reverse journal.now) }
-    requires here { inside plan.now (reverse journal.now) by ≡ Some place }
-    ensures entry { entry_in by result ≡ due_inside plan.now (reverse journal.now) place by }
-    ensures mixes { MixesRight plan.now (reverse journal.now) by result }
+#[inline(always)]
+fn due_inside<R: Records>(past: &Past<'_, R>, place: Place, by: Participant) -> Option<Duty>
+    requires here { inside (plan_of past.now) (entries_of past.now) by ≡ Some place }
+    ensures entry { entry_in by result ≡ due_inside (plan_of past.now) (entries_of past.now) place by }
+    ensures mixes { MixesRight (plan_of past.now) (entries_of past.now) by result }
 {
-    let course = records.course_of(plan, journal, place);
+    let course = R::course_of(past, place);
     if course.has_ended {
-        let exception = records.exception_carried(plan, journal, place, by);
+        let exception = exception_carried(past, place, by);
         Some(Duty::Make(naming(Kind::Leave, place, by, exception)))
     } else if !course.has_started {
-        Some(Duty::Make(due_waiting(plan, records, journal, place, by)?))
+        Some(Duty::Make(due_waiting(past, place, by)?))
     } else if course.is_undoing {
-        Some(Duty::Make(due_restore(plan, records, journal, place, by)))
-    } else if records.is_doomed(plan, journal, place) {
-        Some(Duty::Make(due_doomed(plan, records, journal, place, by)?))
+        Some(Duty::Make(due_restore(past, place, by)))
+    } else if R::is_doomed(past, place) {
+        Some(Duty::Make(due_doomed(past, place, by)?))
     } else if course.is_raised {
-        due_hot(plan, records, journal, place, by)
+        due_hot(past, place, by)
     } else {
-        due_calm(plan, records, journal, place, by)
+        due_calm(past, place, by)
     }
 }
 
 /// What the rules give a participant to do. It takes no memory, and mixes nothing.
-fn duty_of<R: Records>(plan: &Plan, records: &R, journal: &[Entry], by: Participant) -> Option<Duty>
-    requires stands { R.stand_for records.now plan.now (reverse journal.now) }
-    requires legal { LegalPast plan.now (reverse journal.now) }
-    requires known { by < length plan.now.participants }
-    ensures entry { entry_in by result ≡ due_of plan.now (reverse journal.now) by }
-    ensures mixes { MixesRight plan.now (reverse journal.now) by result }
+#[inline(always)]
+fn duty_of<R: Records>(past: &Past<'_, R>, by: Participant) -> Option<Duty>
+    ensures entry { entry_in by result ≡ due_of (plan_of past.now) (entries_of past.now) by }
+    ensures mixes { MixesRight (plan_of past.now) (entries_of past.now) by result }
 {
-    match records.inside(plan, journal, by) {
-        Some(place) => due_inside(plan, records, journal, place, by),
+    match R::inside(past, by) {
+        Some(place) => due_inside(past, place, by),
         None => {
-            let play = records.next_play(plan, journal, by)?;
+            let play = R::next_play(past, by)?;
             Some(Duty::Make(plainly(Kind::Arrive, play, by)))
         }
     }
 }
 
 /// The entry that the rules give a participant, as if the device took each put.
-pub(crate) fn entry_due<R: Records>(
-    plan: &Plan,
-    records: &R,
-    journal: &[Entry],
-    by: Participant,
-) -> Option<Entry>
-    requires stands { R.stand_for records.now plan.now (reverse journal.now) }
-    requires legal { LegalPast plan.now (reverse journal.now) }
-    requires known { by < length plan.now.participants }
-    ensures { result ≡ due_of plan.now (reverse journal.now) by }
+pub(crate) fn entry_due<R: Records>(past: &Past<'_, R>, by: Participant) -> Option<Entry>
+    ensures { result ≡ due_of (plan_of past.now) (entries_of past.now) by }
 {
-    Some(duty_of(plan, records, journal, by)?.entry(by))
+    Some(duty_of(past, by)?.entry(by))
 }
 
 /// Whether the device decides between this entry and its refusal.
@@ -660,17 +558,14 @@ pub(crate) fn refused(entry: Entry) -> Entry
     }
 }
 
-/// What a participant does in its turn, after a legal journal. It takes no memory, and mixes nothing.
-pub(crate) fn turn<R: Records>(plan: &Plan, records: &R, journal: &Journal, by: Participant) -> Turn
-    requires stands { R.stand_for records.now plan.now (reverse journal.now.entries) }
-    requires legal { IsLegal plan.now journal.now.entries }
-    requires known { by < length plan.now.participants }
-    ensures { IsTurn plan.now (reverse journal.now.entries) by result }
+/// What a participant does in its turn. It takes no memory, and mixes nothing.
+#[inline(always)]
+pub(crate) fn turn<R: Records>(past: &Past<'_, R>, by: Participant) -> Turn
+    ensures { IsTurn (plan_of past.now) (entries_of past.now) by result }
 {
-    due_is_right(plan);
-    let entries = journal.as_slice();
-    let Some(duty) = duty_of(plan, records, entries, by) else {
-        return Turn::Act(if records.is_over(plan, entries, by) {
+    due_is_right(past.plan);
+    let Some(duty) = duty_of(past, by) else {
+        return Turn::Act(if is_over(past, by) {
             Due::Over
         } else {
             Due::NotYet
@@ -695,7 +590,12 @@ pub fn due(plan: &Plan, journal: &Journal, by: Participant) -> Due
     requires known { by < length plan.now.participants }
     ensures { IsDue plan.now (reverse journal.now.entries) by result }
 {
-    match turn(plan, &LookBack, journal, by) {
+    let past = Past {
+        plan,
+        records: &LookBack,
+        journal: journal.as_slice(),
+    };
+    match turn(&past, by) {
         Turn::Mix(work) => Due::Now(work.mixed(by)),
         Turn::Act(due) => due,
     }

@@ -6,5 +6,5 @@ abbrev pub invariant-loop-index : goal.invariant-loop-index
 invariant-loop-index g l =
     record {
       legal : IsLegal l.plan (take l.index l.entries);
-      stands : g.R.Records.stand_for l.records l.plan (reverse (take l.index l.entries));
+      stands : g.R.StandsFor.stand_for l.records l.plan (reverse (take l.index l.entries));
     }

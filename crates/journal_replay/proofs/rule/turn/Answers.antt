@@ -1,6 +1,4 @@
-use Rattle.std.proofs.Common.{◌≡◌, ◌∙◌, ap, sym, subst, reverse, refl, List, Some}
-use Rattle.caa_base.specs.declared.written.entry.Entry.{Entry}
-use Rattle.place_plan.specs.RulesOfJournals.Roles.{register}
+use Rattle.std.proofs.Common.{◌≡◌, ◌∙◌, sym, subst, reverse, refl, Some}
 use Rattle.place_plan.specs.RulesOfJournals.Machine.{work_entry}
 use Rattle.journal_laws.specs.Due.{due_of}
 use Rattle.journal_replay.specs.IsDue.{DeviceDecides}
@@ -11,46 +9,34 @@ use Rattle.journal_replay.proofs.rule.turn.Goals as goal
 
 pub returns-in-Mix : goal.returns-in-Mix
 returns-in-Mix g c =
-    let plan = c.args.plan.now in
-    let past = reverse c.args.journal.now.entries in
+    let plan = c.args.past.now.plan.now in
+    let past = reverse c.args.past.now.journal.now in
     let work = c.in-Mix.work in
-    let same = ap (λ (es : List Entry). due_of plan (reverse es) c.args.by) c.as_slice-entries.ensures in
-    let found =
-    subst (λ (d : Duty). Some (entry_of c.args.by d)
-    ≡ due_of plan (reverse c.as_slice-entries.result.now) c.args.by) c.in-Mix.is c.in-Some.ensures.entry in
-    let start =
-    subst (λ (d : Duty). MixesRight plan (reverse c.as_slice-entries.result.now) c.args.by (Some d)) c.in-Mix.is
-    c.in-Some.ensures.mixes in
     record {
       next =
-          the_entry plan past (c.due_is_right.ensures past c.requires.legal) c.args.by
-          (work_entry work.place c.args.by work.rounds work.from) (found ∙ same) refl;
-      start = start ∙ ap (λ (es : List Entry). register plan (reverse es) work.place c.args.by) c.as_slice-entries.ensures;
+          the_entry plan past (c.due_is_right.ensures past c.args.past.now.legal) c.args.by
+          (work_entry work.place c.args.by work.rounds work.from)
+          (subst (λ (d : Duty). Some (entry_of c.args.by d) ≡ due_of plan past c.args.by) c.in-Mix.is c.in-Some.ensures.entry) refl;
+      start = subst (λ (d : Duty). MixesRight plan past c.args.by (Some d)) c.in-Mix.is c.in-Some.ensures.mixes;
     }
 
 pub returns-then-asks_device : goal.returns-then-asks_device
 returns-then-asks_device g c =
-    let plan = c.args.plan.now in
-    let past = reverse c.args.journal.now.entries in
-    let same = ap (λ (es : List Entry). due_of plan (reverse es) c.args.by) c.as_slice-entries.ensures in
-    let found =
-    subst (λ (d : Duty). Some (entry_of c.args.by d)
-    ≡ due_of plan (reverse c.as_slice-entries.result.now) c.args.by) c.in-Make.is c.in-Some.ensures.entry in (
+    let plan = c.args.past.now.plan.now in
+    let past = reverse c.args.past.now.journal.now in (
       subst (DeviceDecides plan past c.args.by c.in-Make.entry) (sym c.refused.ensures)
-          (device_decides plan past (c.due_is_right.ensures past c.requires.legal) c.args.by c.in-Make.entry
-          (found ∙ same) (sym c.asks_device.ensures ∙ c.if-asks_device.true)),
+          (device_decides plan past (c.due_is_right.ensures past c.args.past.now.legal) c.args.by c.in-Make.entry
+          (subst (λ (d : Duty). Some (entry_of c.args.by d) ≡ due_of plan past c.args.by) c.in-Make.is c.in-Some.ensures.entry)
+          (sym c.asks_device.ensures ∙ c.if-asks_device.true)),
       refl,
     )
 
 pub returns-else-asks_device : goal.returns-else-asks_device
 returns-else-asks_device g c =
-    let plan = c.args.plan.now in
-    let past = reverse c.args.journal.now.entries in
-    let same = ap (λ (es : List Entry). due_of plan (reverse es) c.args.by) c.as_slice-entries.ensures in
-    let found =
-    subst (λ (d : Duty). Some (entry_of c.args.by d)
-    ≡ due_of plan (reverse c.as_slice-entries.result.now) c.args.by) c.in-Make.is c.in-Some.ensures.entry in (
-      the_entry plan past (c.due_is_right.ensures past c.requires.legal) c.args.by c.in-Make.entry (found ∙ same)
+    let plan = c.args.past.now.plan.now in
+    let past = reverse c.args.past.now.journal.now in (
+      the_entry plan past (c.due_is_right.ensures past c.args.past.now.legal) c.args.by c.in-Make.entry
+          (subst (λ (d : Duty). Some (entry_of c.args.by d) ≡ due_of plan past c.args.by) c.in-Make.is c.in-Some.ensures.entry)
           (sym c.asks_device.ensures ∙ c.if-asks_device.false),
-      subst (λ (d : Duty). MixesRight plan (reverse c.as_slice-entries.result.now) c.args.by (Some d)) c.in-Make.is c.in-Some.ensures.mixes,
+      subst (λ (d : Duty). MixesRight plan past c.args.by (Some d)) c.in-Make.is c.in-Some.ensures.mixes,
     )
