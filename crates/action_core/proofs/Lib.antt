@@ -6,7 +6,6 @@ pub mod Acting
 pub mod Framing
 pub mod Giving
 pub mod Valuing
-pub mod Entering
 pub mod Answering
 pub mod Spoken
-pub mod Carrying
+pub mod Stepping

@@ -7,7 +7,8 @@ use Rattle.place_plan.specs.Plans.PlanValue.{Plan}
 use Rattle.place_plan.specs.RulesOfJournals.Entries.{is_of, is_in, newest}
 use Rattle.place_plan.specs.RulesOfJournals.Whereabouts.{outcome_at}
 use Rattle.action_core.specs.declared.stage.Stage.{Stage}
-use Rattle.action_core.specs.inner.KeptStages.{unstarted, at, outcome_of_end, IsStageOf, StageOfEach}
+use Rattle.action_core.specs.inner.KeptStages.{unstarted, at, IsStageOf, StageOfEach}
+use Rattle.journal_replay.specs.Questions.{outcome_of_end}
 
 -- a test of the kind, in the place of the entry and elsewhere
 

@@ -4,5 +4,4 @@ pub mod KeptPeople
 pub mod Asked
 pub mod Raisings
 pub mod KeptPast
-pub mod Carried
 pub mod OneWay

@@ -1,8 +1,8 @@
 //! The fast core: tables that follow a journal entry by entry and look back nowhere, and the machine and the audit by them.
 #![tactic(auto)]
 
-pub mod asking;
 mod hall;
+mod kept;
 pub mod noting;
 mod people;
 mod person;

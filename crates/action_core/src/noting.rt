@@ -8,18 +8,31 @@ ghost use Rattle.role_states.specs.inner.Standing.{StandsFor as FramesStand};
 ghost use Rattle.resolution_core.specs.inner.Standing.{StandsFor as RecoveriesStand};
 ghost use Rattle.object_versions.specs.inner.KeptVersions.{Stands as VersionsStand};
 
+use crate::kept::frame_kept;
 use caa_base::written::entry::{Entry, Kind};
 use object_versions::Versions;
 use place_plan::plans::plan::Plan;
 use resolution_core::Resolver;
 use role_states::Frames;
 
-/// Takes an entry into the frames. `silent` says whether its place is left in silence.
+/// Whether the maker of a refused put has begun its handler in the place of the put.
+pub fn is_handling(frames: &Frames, plan: &Plan, journal: &[Entry], entry: &Entry) -> bool
+    requires stands { FramesStand plan.now (reverse journal.now) frames.now }
+    requires legal { LegalPast plan.now (reverse journal.now) }
+    requires may { MayFollow plan.now (reverse journal.now) entry.now }
+    ensures { entry.now.kind ≡ kind.PutFault → result ≡ has_handled (reverse journal.now) entry.now.place entry.now.by }
+{
+    plan.is_closed();
+    frame_kept(frames, entry.by).handling
+}
+
+/// Takes an entry into the frames. Where it is a leave, `silent` says whether its place is left in silence.
+#[inline(always)]
 pub fn note_frames(frames: &mut Frames, plan: &Plan, journal: &[Entry], entry: &Entry, silent: bool)
     requires stands { FramesStand plan.now (reverse journal.now) frames.old }
     requires legal { LegalPast plan.now (reverse journal.now) }
     requires may { MayFollow plan.now (reverse journal.now) entry.now }
-    requires silent { silent ≡ is_left_in_silence plan.now (reverse journal.now) entry.now.place }
+    requires silent { entry.now.kind ≡ kind.Leave → silent ≡ is_left_in_silence plan.now (reverse journal.now) entry.now.place }
     ensures { FramesStand plan.now (entry.now ∷ reverse journal.now) frames.new }
 {
     plan.is_closed();
@@ -50,6 +63,7 @@ pub fn note_frames(frames: &mut Frames, plan: &Plan, journal: &[Entry], entry: &
 }
 
 /// Takes an entry into the versions of the objects.
+#[inline(always)]
 pub fn note_versions(versions: &mut Versions, plan: &Plan, journal: &[Entry], entry: &Entry)
     requires stands { VersionsStand plan.now (reverse journal.now) versions.old }
     requires legal { LegalPast plan.now (reverse journal.now) }
@@ -57,8 +71,6 @@ pub fn note_versions(versions: &mut Versions, plan: &Plan, journal: &[Entry], en
     ensures { VersionsStand plan.now (entry.now ∷ reverse journal.now) versions.new }
 {
     plan.is_closed();
-    // The contract alone speaks of the journal.
-    let _ = journal;
     match entry.kind {
         Kind::Start => versions.take(plan, entry.place),
         Kind::End => versions.give_back(plan, entry.place),

@@ -20,9 +20,6 @@ fn note_raising(endings: &mut Endings, plan: &Plan, journal: &[Entry], entry: &E
     ensures { EndingsStand plan.now (entry.now ∷ reverse journal.now) endings.new }
 {
     plan.is_closed();
-    // The contract alone speaks of the journal and of the entry.
-    let _ = journal;
-    let _ = entry;
     if !endings.is_raised(place) {
         endings.doom(plan, place);
         endings.clear(place);

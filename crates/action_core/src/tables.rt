@@ -1,16 +1,16 @@
-ghost use Rattle.std.specs.Prelude.{◌≡◌, ◌∷◌, [], reverse, IfOk};
+ghost use Rattle.std.specs.Prelude.{◌≡◌, ◌∷◌, [], true, reverse, IfOk};
+ghost use Rattle.role_states.specs.inner.Standing.{is_step};
 ghost use Rattle.place_plan.specs.RulesOfJournals.Rules.{MayFollow};
 ghost use Rattle.place_plan.specs.RulesOfJournals.Journals.{LegalPast};
 ghost use Rattle.action_core.specs.inner.KeptPast.{IsKeptOf};
 
-use crate::asking::steps::has_handled;
-use crate::asking::whereabouts::is_left_in_silence;
-use crate::noting::{note_frames, note_recoveries, note_versions};
+use crate::noting::{is_handling, note_frames, note_recoveries, note_versions};
 use crate::people::People;
 use crate::saying::note_endings;
 use crate::stages::Stages;
 use action_endings::Endings;
-use caa_base::written::entry::{Entry, OutOfMemory};
+use caa_base::written::entry::{Entry, Kind, OutOfMemory};
+use journal_replay::questions::ends_in_silence;
 use object_versions::Versions;
 use place_plan::plans::plan::Plan;
 use resolution_core::Resolver;
@@ -62,15 +62,48 @@ impl Tables {
     }
 
     /// Takes an entry in. It takes no memory.
+    ///
+    /// A step changes the frame of its maker, and a write the value of its object too; nothing else is looked at for one.
+    #[inline(always)]
     pub fn note(&mut self, plan: &Plan, journal: &[Entry], entry: &Entry)
         requires stands { IsKeptOf plan.now (reverse journal.now) self.old }
         requires legal { LegalPast plan.now (reverse journal.now) }
         requires may { MayFollow plan.now (reverse journal.now) entry.now }
         ensures { IsKeptOf plan.now (entry.now ∷ reverse journal.now) self.new }
     {
+        match entry.kind {
+            Kind::Read | Kind::Work | Kind::Write | Kind::Check => {
+                self.note_step(plan, journal, entry)
+            }
+            _ => self.note_rest(plan, journal, entry),
+        }
+    }
+
+    /// Takes a step in.
+    #[inline(always)]
+    fn note_step(&mut self, plan: &Plan, journal: &[Entry], entry: &Entry)
+        requires stands { IsKeptOf plan.now (reverse journal.now) self.old }
+        requires legal { LegalPast plan.now (reverse journal.now) }
+        requires may { MayFollow plan.now (reverse journal.now) entry.now }
+        requires step { is_step entry.now.kind ≡ true }
+        ensures { IsKeptOf plan.now (entry.now ∷ reverse journal.now) self.new }
+    {
         plan.is_closed();
-        let silent = is_left_in_silence(&self.stages, plan, entry.place);
-        let handled = has_handled(&self.frames, plan, entry.place, entry.by);
+        note_frames(&mut self.frames, plan, journal, entry, false);
+        note_versions(&mut self.versions, plan, journal, entry);
+    }
+
+    /// Takes in an entry that is no step.
+    #[inline(never)]
+    fn note_rest(&mut self, plan: &Plan, journal: &[Entry], entry: &Entry)
+        requires stands { IsKeptOf plan.now (reverse journal.now) self.old }
+        requires legal { LegalPast plan.now (reverse journal.now) }
+        requires may { MayFollow plan.now (reverse journal.now) entry.now }
+        ensures { IsKeptOf plan.now (entry.now ∷ reverse journal.now) self.new }
+    {
+        plan.is_closed();
+        let silent = ends_in_silence(plan, entry.place, self.stages.stage(entry.place).ended);
+        let handled = is_handling(&self.frames, plan, journal, entry);
         note_endings(&mut self.endings, plan, journal, entry, handled);
         note_recoveries(&mut self.recoveries, plan, journal, entry, handled);
         note_frames(&mut self.frames, plan, journal, entry, silent);

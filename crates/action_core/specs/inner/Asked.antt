@@ -1,6 +1,5 @@
 -- What is asked of the tables, in their own words.
-use Rattle.std.specs.Prelude.{ℕ, pos, Bool, false, if◌then◌else◌, List, Option, Some, None}
-use Rattle.caa_base.specs.Written.Lists.{is_at}
+use Rattle.std.specs.Prelude.{ℕ, pos, false, if◌then◌else◌, List, Option, Some, None}
 use Rattle.role_states.specs.declared.frame.Frame.{Frame}
 use Rattle.role_states.specs.inner.Stacks.{at, top}
 use Rattle.resolution_core.specs.declared.recovery.Recovery.{Recovery}
@@ -14,10 +13,6 @@ place_of (Some frame) = Some frame.place
 -- the innermost place of t by its frames
 abbrev pub place_kept : List (List Frame) → ℕ → Option ℕ
 place_kept stacks t = place_of (top (at stacks t))
-
--- the innermost place of t by its frames is p
-abbrev pub is_kept_in : List (List Frame) → ℕ → ℕ → Bool
-is_kept_in stacks p t = is_at (place_kept stacks t) p
 
 -- in no place nothing is done
 abbrev pub no_frame : Frame

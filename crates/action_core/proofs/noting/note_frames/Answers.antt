@@ -150,7 +150,7 @@ returns-then-silent c =
     c.leave-then-silent.ensures.keeps c.args.plan.now (reverse c.args.journal.now) c.args.entry.now
     (nests c.args.plan.now (is_playable c.args.plan.now c.is_closed.ensures).tree) c.requires.stands
     (record {
-      is = inr (c.in-Leave.is, sym c.requires.silent ∙ c.if-silent.true);
+      is = inr (c.in-Leave.is, sym (c.requires.silent c.in-Leave.is) ∙ c.if-silent.true);
       own = refl;
       here =
           (row_of c.args.plan.now (reverse c.args.journal.now) kind.Leave c.args.entry.now c.in-Leave.is c.requires.may).here;
@@ -176,7 +176,7 @@ returns-else-silent c =
       own = refl;
       here =
           (row_of c.args.plan.now (reverse c.args.journal.now) kind.Leave c.args.entry.now c.in-Leave.is c.requires.may).here;
-      aloud = sym c.requires.silent ∙ c.if-silent.false;
+      aloud = sym (c.requires.silent c.in-Leave.is) ∙ c.if-silent.false;
     })
 
 pub returns-in-Start : goal.returns-in-Start

@@ -1,58 +1,15 @@
-use Rattle.std.proofs.Common.{◌<◌, reverse, sym, subst}
+use Rattle.std.proofs.Common.{◌≡◌, ◌⊎◌, true, ap, inl, inr}
+use Rattle.caa_base.specs.declared.written.entry.Kind.{Kind}
 use Rattle.caa_base.specs.declared.written.entry.Kind.TheVariants as kind
-use Rattle.journal_laws.proofs.PlayablePlan.{is_playable}
-use Rattle.action_core.specs.inner.KeptPast.{IsKeptOf}
-use Rattle.action_core.proofs.Makers.{row_of, place_there}
+use Rattle.role_states.specs.inner.Standing.{is_step}
 use Rattle.action_core.proofs.tables.Tables.note.Goals as goal
 
-pub note_endings-requires-clause-stands : goal.note_endings-requires-clause-stands
-note_endings-requires-clause-stands c =
-    (subst (IsKeptOf c.args.plan.now (reverse c.args.journal.now)) (sym c.self.view_is) c.requires.stands).endings
+-- the kinds of step
+a_step : (k : Kind) → (k ≡ kind.Read) ⊎ ((k ≡ kind.Work) ⊎ ((k ≡ kind.Write) ⊎ (k ≡ kind.Check))) → is_step k ≡ true
+a_step k (inl h) = ap is_step h
+a_step k (inr (inl h)) = ap is_step h
+a_step k (inr (inr (inl h))) = ap is_step h
+a_step k (inr (inr (inr h))) = ap is_step h
 
-pub note_endings-requires-clause-handled : goal.note_endings-requires-clause-handled
-note_endings-requires-clause-handled c = λ refused.
-    c.has_handled-handled.ensures (reverse c.args.journal.now)
-    (subst (IsKeptOf c.args.plan.now (reverse c.args.journal.now)) (sym c.self.view_is) c.requires.stands).frames c.requires.legal
-    (row_of c.args.plan.now (reverse c.args.journal.now) kind.PutFault c.args.entry.now refused c.requires.may).here
-
-pub note_recoveries-requires-clause-stands : goal.note_recoveries-requires-clause-stands
-note_recoveries-requires-clause-stands c =
-    (subst (IsKeptOf c.args.plan.now (reverse c.args.journal.now)) (sym c.self.view_is) c.requires.stands).recoveries
-
-pub note_recoveries-requires-clause-handled : goal.note_recoveries-requires-clause-handled
-note_recoveries-requires-clause-handled c = λ refused.
-    c.has_handled-handled.ensures (reverse c.args.journal.now)
-    (subst (IsKeptOf c.args.plan.now (reverse c.args.journal.now)) (sym c.self.view_is) c.requires.stands).frames c.requires.legal
-    (row_of c.args.plan.now (reverse c.args.journal.now) kind.PutFault c.args.entry.now refused c.requires.may).here
-
-pub note_frames-requires-clause-stands : goal.note_frames-requires-clause-stands
-note_frames-requires-clause-stands c =
-    (subst (IsKeptOf c.args.plan.now (reverse c.args.journal.now)) (sym c.self.view_is) c.requires.stands).frames
-
-pub note_frames-requires-clause-silent : goal.note_frames-requires-clause-silent
-note_frames-requires-clause-silent c =
-    c.is_left_in_silence-silent.ensures (reverse c.args.journal.now)
-    (subst (IsKeptOf c.args.plan.now (reverse c.args.journal.now)) (sym c.self.view_is) c.requires.stands).stages
-
-pub note_versions-requires-clause-stands : goal.note_versions-requires-clause-stands
-note_versions-requires-clause-stands c =
-    (subst (IsKeptOf c.args.plan.now (reverse c.args.journal.now)) (sym c.self.view_is) c.requires.stands).versions
-
-pub note-requires : goal.note-requires
-note-requires c =
-    subst (λ n. c.args.entry.now.place < n)
-    (sym (subst (IsKeptOf c.args.plan.now (reverse c.args.journal.now)) (sym c.self.view_is) c.requires.stands).stages.as_many)
-    (place_there c.args.plan.now (is_playable c.args.plan.now c.is_closed.ensures) (reverse c.args.journal.now) c.args.entry.now
-    c.requires.legal c.requires.may)
-
-pub returns : goal.returns
-returns c = record {
-  frames = c.note_frames.ensures;
-  versions = c.note_versions.ensures;
-  recoveries = c.note_recoveries.ensures;
-  endings = c.note_endings.ensures;
-  stages =
-      c.note.ensures c.args.plan.now (reverse c.args.journal.now)
-      (subst (IsKeptOf c.args.plan.now (reverse c.args.journal.now)) (sym c.self.view_is) c.requires.stands).stages;
-  people = c.note-2.ensures;
-}
+pub note_step-requires-clause-step : goal.note_step-requires-clause-step
+note_step-requires-clause-step c = a_step _ c.in-Read.is

@@ -6,7 +6,7 @@ use Rattle.action_core.proofs.tables.kept_records.TablesRecords.least_signalled.
 
 pub least_signalled-requires : goal.least_signalled-requires
 least_signalled-requires c =
-    let kept =
-    (subst (IsKeptOf c.args.plan.now (reverse c.args.journal.now)) (sym c.self.view_is) c.requires.stands).endings in
-    signals_known c.args.plan.now (reverse c.args.journal.now) c.args.place (at c.self.inside.endings c.args.place)
-    (kept.verdicts c.args.place)
+    let past = reverse c.args.past.now.journal.now in
+    let kept = subst (IsKeptOf c.args.past.now.plan.now past) (sym c.tables.view_is) c.args.past.now.stands in
+    signals_known c.args.past.now.plan.now past c.args.place (at c.tables.inside.endings c.args.place)
+    (kept.endings.verdicts c.args.place)

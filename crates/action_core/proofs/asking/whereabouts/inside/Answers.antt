@@ -1,9 +1,0 @@
-use Rattle.std.proofs.Common.{◌∙◌}
-use Rattle.journal_laws.proofs.PlayablePlan.{is_playable}
-use Rattle.action_core.proofs.Answering.{inside_right}
-use Rattle.action_core.proofs.asking.whereabouts.inside.Goals as goal
-
-pub returns : goal.returns
-returns c =
-    λ past s legal. c.place_kept.ensures
-    ∙ inside_right c.args.plan.now (is_playable c.args.plan.now c.is_closed.ensures) past legal c.args.frames.now s c.args.by
