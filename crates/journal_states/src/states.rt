@@ -14,6 +14,8 @@ use crate::spots::{Spot, Spots};
 use crate::standing::{Lack, Standing, Wait};
 use action_core::Tables;
 use caa_base::written::entry::{Entry, Object, OutOfMemory, Participant, Place};
+use journal_replay::past::Past;
+use journal_replay::questions::holds;
 use journal_replay::records::Records;
 use place_plan::plans::plan::Plan;
 use std::alloc::Global;
@@ -35,6 +37,7 @@ pub struct States<'a> {
 
 impl<'a> States<'a> {
     ghost use Rattle.journal_states.specs.Standings.{IsStanding};
+    ghost use Rattle.journal_replay.specs.PastParts.{plan_of, entries_of};
     ghost use Rattle.journal_states.specs.Past.{plan_in, journal_in, taken_in, past_in, Stepped};
 
     /// The cursor before the first entry.
@@ -67,12 +70,12 @@ impl<'a> States<'a> {
         let Some(entry) = self.entries.get(self.taken) else {
             return false;
         };
-        let past = &self.entries[..self.taken];
-        if !may_follow(self.plan, &self.tables, past, entry) {
+        if !may_follow(&self.past(), entry) {
             return false;
         }
         self.spots.note(self.plan, entry);
-        self.tables.note(self.plan, past, entry);
+        self.tables
+            .note(self.plan, &self.entries[..self.taken], entry);
         self.taken += 1;
         true
     }
@@ -87,7 +90,7 @@ impl<'a> States<'a> {
     /// Whether the next entry may not come by the rules, or there is none.
     pub fn is_at_end(&self) -> bool {
         match self.entries.get(self.taken) {
-            Some(entry) => !may_follow(self.plan, &self.tables, self.past(), entry),
+            Some(entry) => !may_follow(&self.past(), entry),
             None => true,
         }
     }
@@ -99,11 +102,16 @@ impl<'a> States<'a> {
         self.taken
     }
 
-    /// The entries that were taken in.
-    fn past(&self) -> &[Entry]
-        ensures { result.now ≡ take (taken_in self.now) (journal_in self.now) }
+    /// What came before.
+    fn past(&self) -> Past<'_, Tables>
+        ensures plan { plan_of result ≡ plan_in self.now }
+        ensures entries { entries_of result ≡ past_in self.now }
     {
-        &self.entries[..self.taken]
+        Past {
+            plan: self.plan,
+            records: &self.tables,
+            journal: &self.entries[..self.taken],
+        }
     }
 
     /// What a participant may do, or what it waits for. It mixes nothing. A participant that the plan doesn't have is over.
@@ -113,7 +121,7 @@ impl<'a> States<'a> {
         if by >= self.plan.participants() {
             return Standing::Over;
         }
-        standing_of(self.plan, &self.tables, self.past(), by)
+        standing_of(&self.past(), by)
     }
 
     /// The innermost place that a participant is in.
@@ -123,7 +131,7 @@ impl<'a> States<'a> {
         if by >= self.plan.participants() {
             return None;
         }
-        Records::inside(&self.tables, self.plan, self.past(), by)
+        Tables::inside(&self.past(), by)
     }
 
     /// The value of an object; 0 for one that the plan doesn't have.
@@ -133,7 +141,7 @@ impl<'a> States<'a> {
         if object >= self.plan.objects() {
             return 0;
         }
-        self.tables.value_at(self.plan, self.past(), object)
+        Tables::value_at(&self.past(), object)
     }
 
     /// Whether a wait is for this participant: what is lacking in the place is said of each role, and isn't so of this one. A wait for
@@ -141,34 +149,23 @@ impl<'a> States<'a> {
     pub fn is_awaited(&self, wait: &Wait, role: Participant) -> bool {
         match wait.lack {
             Lack::Roles => self.place_of(role) != Some(wait.place),
-            Lack::Halts => !self
-                .tables
-                .is_halted(self.plan, self.past(), wait.place, role),
+            Lack::Halts => !Tables::is_halted(&self.past(), wait.place, role),
             Lack::Verdicts => !self.has_given(wait.place, role),
-            Lack::GiveUps => !self
-                .tables
-                .has_aborted(self.plan, self.past(), wait.place, role),
+            Lack::GiveUps => !Tables::has_aborted(&self.past(), wait.place, role),
             Lack::Objects | Lack::Object(_) | Lack::Unnamed => false,
         }
     }
 
     /// Whether a role has given its verdict in a place, since the resolve where something was raised there.
     fn has_given(&self, place: Place, role: Participant) -> bool {
-        let past = self.past();
-        if self.is_raised(place) {
-            self.tables.has_given_after(self.plan, past, place, role)
-        } else {
-            self.tables.has_said(self.plan, past, place, role)
-        }
+        Tables::has_given(&self.past(), place, role, self.is_raised(place))
     }
 
     /// Whether something was raised in a place.
     pub fn is_raised(&self, place: Place) -> bool
         ensures { result ≡ is_raised (plan_in self.now) (past_in self.now) place }
     {
-        self.tables
-            .course_of(self.plan, self.past(), place)
-            .is_raised
+        Tables::course_of(&self.past(), place).is_raised
     }
 
     /// The place that holds an object, where it is one of the places that somebody is in. Only such a place holds one.
@@ -188,11 +185,11 @@ impl<'a> States<'a> {
         if object >= self.plan.objects() {
             return None;
         }
-        if self.tables.holds(self.plan, self.past(), place, object) {
+        if holds(&self.past(), place, object) {
             return Some(place);
         }
         for outer in self.plan.around(place) {
-            if self.tables.holds(self.plan, self.past(), *outer, object) {
+            if holds(&self.past(), *outer, object) {
                 return Some(*outer);
             }
         }

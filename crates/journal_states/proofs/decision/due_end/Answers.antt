@@ -7,7 +7,7 @@ use Rattle.journal_states.proofs.decision.due_end.Goals as goal
 
 pub returns-clause-entry : goal.returns-clause-entry
 returns-clause-entry g c =
-    let plan = c.args.plan.now in
+    let plan = c.args.past.now.plan.now in
     ap Some c.naming.ensures.entry
     ∙ end_of_cover plan (is_playable plan c.is_closed.ensures) c.args.place c.args.by _
-    (signals (reverse c.args.journal.now) c.args.place (roles_of plan c.args.place)) c.least_signalled.ensures
+    (signals (reverse c.args.past.now.journal.now) c.args.place (roles_of plan c.args.place)) c.least_signalled.ensures

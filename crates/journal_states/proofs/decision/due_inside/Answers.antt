@@ -6,7 +6,7 @@ use Rattle.journal_states.proofs.decision.due_inside.Goals as goal
 pub due_calm-requires-clause-calm : goal.due_calm-requires-clause-calm
 due_calm-requires-clause-calm g c =
     let said = c.course_of-course.ensures in
-    calm_of c.args.plan.now (reverse c.args.journal.now) c.args.place
+    calm_of c.args.past.now.plan.now (reverse c.args.past.now.journal.now) c.args.place
     (sym said.started ∙ not-false _ c.if-not-course.false)
     (sym said.ended ∙ c.if-course.false)
     (sym said.undoing ∙ c.if-course-2.false)

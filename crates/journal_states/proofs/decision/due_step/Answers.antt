@@ -6,48 +6,51 @@ use Rattle.journal_laws.proofs.PlayablePlan.{is_playable}
 use Rattle.journal_replay.proofs.StepsFit.{register_fits, read_fits, put_object_fits, add_object_fits, added_fits}
 use Rattle.journal_states.proofs.decision.due_step.Goals as goal
 
-pub value_at-value-requires-clause-known : goal.value_at-value-requires-clause-known
-value_at-value-requires-clause-known g c =
-    let plan = c.args.plan.now in
+pub value_at-value-requires : goal.value_at-value-requires
+value_at-value-requires g c =
+    let plan = c.args.past.now.plan.now in
     let next : Some (step.Read c.in-Some-Read.object) ≡ c.args.step = grind arith in
-    read_fits plan (is_playable plan c.is_closed.ensures)
-    (reverse c.args.journal.now) c.args.place c.args.by c.in-Some-Read.object (next ∙ c.requires.step)
+    record {
+      known =
+          read_fits plan (is_playable plan c.is_closed.ensures)
+          (reverse c.args.past.now.journal.now) c.args.place c.args.by c.in-Some-Read.object (next ∙ c.requires.step);
+    }
 
 pub clamped-value-requires-clause-register : goal.clamped-value-requires-clause-register
 clamped-value-requires-clause-register g c =
-    let plan = c.args.plan.now in
-    let past = reverse c.args.journal.now in
+    let plan = c.args.past.now.plan.now in
+    let past = reverse c.args.past.now.journal.now in
     let same : to_z w64 (of_z w64 c.args.from) ≡ c.args.from = omega (arith, ints) in
     subst IsValue (sym (same ∙ c.requires.start))
-    (register_fits plan past c.args.place c.args.by (c.is_well_formed.ensures past c.requires.legal))
+    (register_fits plan past c.args.place c.args.by (c.is_well_formed.ensures past c.args.past.now.legal))
 
 pub clamped-value-requires-clause-number : goal.clamped-value-requires-clause-number
 clamped-value-requires-clause-number g c =
-    let plan = c.args.plan.now in
+    let plan = c.args.past.now.plan.now in
     let same : to_z w64 (of_z w64 c.in-Some-Add.number) ≡ c.in-Some-Add.number = omega (arith, ints) in
     let next : Some (step.Add c.in-Some-Add.object c.in-Some-Add.number) ≡ c.args.step = grind arith in
     subst IsValue (sym same)
     (added_fits plan (is_playable plan c.is_closed.ensures)
-    (reverse c.args.journal.now) c.args.place c.args.by c.in-Some-Add.object c.in-Some-Add.number
+    (reverse c.args.past.now.journal.now) c.args.place c.args.by c.in-Some-Add.object c.in-Some-Add.number
     (next ∙ c.requires.step))
 
-pub due_held-requires-clause-known : goal.due_held-requires-clause-known
-due_held-requires-clause-known g c =
-    let plan = c.args.plan.now in
+pub due_held-requires : goal.due_held-requires
+due_held-requires g c =
+    let plan = c.args.past.now.plan.now in
     let next : Some (step.Read c.in-Some-Read.object) ≡ c.args.step = grind arith in
     read_fits plan (is_playable plan c.is_closed.ensures)
-    (reverse c.args.journal.now) c.args.place c.args.by c.in-Some-Read.object (next ∙ c.requires.step)
+    (reverse c.args.past.now.journal.now) c.args.place c.args.by c.in-Some-Read.object (next ∙ c.requires.step)
 
-pub due_held-requires-in-Some-Put-clause-known : goal.due_held-requires-in-Some-Put-clause-known
-due_held-requires-in-Some-Put-clause-known g c =
-    let plan = c.args.plan.now in
+pub due_held-requires-in-Some-Put : goal.due_held-requires-in-Some-Put
+due_held-requires-in-Some-Put g c =
+    let plan = c.args.past.now.plan.now in
     let next : Some (step.Put c.in-Some-Put.object c.in-Some-Put.value) ≡ c.args.step = grind arith in
     put_object_fits plan (is_playable plan c.is_closed.ensures)
-    (reverse c.args.journal.now) c.args.place c.args.by c.in-Some-Put.object c.in-Some-Put.value (next ∙ c.requires.step)
+    (reverse c.args.past.now.journal.now) c.args.place c.args.by c.in-Some-Put.object c.in-Some-Put.value (next ∙ c.requires.step)
 
-pub due_held-requires-in-Some-Add-clause-known : goal.due_held-requires-in-Some-Add-clause-known
-due_held-requires-in-Some-Add-clause-known g c =
-    let plan = c.args.plan.now in
+pub due_held-requires-in-Some-Add : goal.due_held-requires-in-Some-Add
+due_held-requires-in-Some-Add g c =
+    let plan = c.args.past.now.plan.now in
     let next : Some (step.Add c.in-Some-Add.object c.in-Some-Add.number) ≡ c.args.step = grind arith in
     add_object_fits plan (is_playable plan c.is_closed.ensures)
-    (reverse c.args.journal.now) c.args.place c.args.by c.in-Some-Add.object c.in-Some-Add.number (next ∙ c.requires.step)
+    (reverse c.args.past.now.journal.now) c.args.place c.args.by c.in-Some-Add.object c.in-Some-Add.number (next ∙ c.requires.step)

@@ -7,8 +7,8 @@ use Rattle.journal_states.proofs.decision.due_unresolved.Goals as goal
 
 pub returns-clause-entry : goal.returns-clause-entry
 returns-clause-entry g c =
-    let plan = c.args.plan.now in
-    let past = reverse c.args.journal.now in
+    let plan = c.args.past.now.plan.now in
+    let past = reverse c.args.past.now.journal.now in
     let p = c.args.place in
     let t = c.args.by in
     let playable = is_playable plan c.is_closed.ensures in

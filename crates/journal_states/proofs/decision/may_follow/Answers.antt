@@ -11,19 +11,19 @@ use Rattle.journal_states.proofs.decision.may_follow.Goals as goal
 -- who is no participant has no entry
 pub returns-then-entry-participants : goal.returns-then-entry-participants
 returns-then-entry-participants g c =
-    let plan = c.args.plan.now in
-    let past = reverse c.args.journal.now in
+    let plan = c.args.past.now.plan.now in
+    let past = reverse c.args.past.now.journal.now in
     let e = c.args.entry.now in (
       λ t. absurd (false≢true t),
       λ may.
-          let formed = All-head (IsWellFormed plan) e past (c.is_well_formed.ensures (e ∷ past) (c.requires.legal, may)) in
+          let formed = All-head (IsWellFormed plan) e past (c.is_well_formed.ensures (e ∷ past) (c.args.past.now.legal, may)) in
           absurd (omega (arith, formed.by, c.if-entry-participants.true, c.participants.ensures)),
     )
 
 pub returns-in-Works : goal.returns-in-Works
 returns-in-Works g c =
-    let plan = c.args.plan.now in
-    let past = reverse c.args.journal.now in
+    let plan = c.args.past.now.plan.now in
+    let past = reverse c.args.past.now.journal.now in
     let e = c.args.entry.now in
     let due =
     subst (IsTheEntry plan past e.by) (sym c.entry.ensures)
