@@ -38,19 +38,28 @@ pub due_held-requires : goal.due_held-requires
 due_held-requires g c =
     let plan = c.args.past.now.plan.now in
     let next : Some (step.Read c.in-Some-Read.object) ≡ c.args.step = grind arith in
-    read_fits plan (is_playable plan c.is_closed.ensures)
-    (reverse c.args.past.now.journal.now) c.args.place c.args.by c.in-Some-Read.object (next ∙ c.requires.step)
+    record {
+      known =
+          read_fits plan (is_playable plan c.is_closed.ensures)
+          (reverse c.args.past.now.journal.now) c.args.place c.args.by c.in-Some-Read.object (next ∙ c.requires.step);
+    }
 
 pub due_held-requires-in-Some-Put : goal.due_held-requires-in-Some-Put
 due_held-requires-in-Some-Put g c =
     let plan = c.args.past.now.plan.now in
     let next : Some (step.Put c.in-Some-Put.object c.in-Some-Put.value) ≡ c.args.step = grind arith in
-    put_object_fits plan (is_playable plan c.is_closed.ensures)
-    (reverse c.args.past.now.journal.now) c.args.place c.args.by c.in-Some-Put.object c.in-Some-Put.value (next ∙ c.requires.step)
+    record {
+      known =
+          put_object_fits plan (is_playable plan c.is_closed.ensures)
+          (reverse c.args.past.now.journal.now) c.args.place c.args.by c.in-Some-Put.object c.in-Some-Put.value (next ∙ c.requires.step);
+    }
 
 pub due_held-requires-in-Some-Add : goal.due_held-requires-in-Some-Add
 due_held-requires-in-Some-Add g c =
     let plan = c.args.past.now.plan.now in
     let next : Some (step.Add c.in-Some-Add.object c.in-Some-Add.number) ≡ c.args.step = grind arith in
-    add_object_fits plan (is_playable plan c.is_closed.ensures)
-    (reverse c.args.past.now.journal.now) c.args.place c.args.by c.in-Some-Add.object c.in-Some-Add.number (next ∙ c.requires.step)
+    record {
+      known =
+          add_object_fits plan (is_playable plan c.is_closed.ensures)
+          (reverse c.args.past.now.journal.now) c.args.place c.args.by c.in-Some-Add.object c.in-Some-Add.number (next ∙ c.requires.step);
+    }
