@@ -5,7 +5,9 @@ ghost use Rattle.place_plan.specs.RulesOfJournals.WellFormed.{AllWellFormed};
 ghost use Rattle.journal_text.specs.Texts.Naming.{is_well_named};
 ghost use Rattle.journal_text.specs.Watching.Looks.{AreOfPlan};
 
-use crate::judging::{Input, Judged, Reading, judge, read_journal};
+use crate::judging::{Judged, Scene, judge, judge_cut};
+use crate::reading::{Break, Input, Reading, read_journal};
+use crate::whereabouts::tell_moments;
 use crate::words::View;
 use action_script::words::journal_start::{JournalStart, find_journal};
 use caa_base::written::entry::OutOfMemory;
@@ -23,7 +25,7 @@ use script_views::table::tables;
 use std::alloc::Global;
 
 /// How a call of the program ends.
-#[derive(Clone, Copy)]
+#[derive(Clone, Copy, PartialEq, Eq)]
 pub enum Status {
     Done = 0,
     /// The words are no command.
@@ -72,16 +74,16 @@ fn with_status(status: Status, text: Vec<u8>) -> Shown {
 /// Explains a journal that was read.
 fn explain_journal(
     alloc: Global,
-    plan: &Plan,
+    scene: &Scene,
     input: &Input,
-    journal: Journal,
+    journal: &Journal,
     seens: &Seens,
 ) -> Result<Shown, OutOfMemory>
-    requires named { is_well_named plan.now ≡ true }
-    requires watches { AreOfPlan plan.now seens.now.seens }
+    requires named { is_well_named scene.now.plan.now ≡ true }
+    requires watches { AreOfPlan scene.now.plan.now seens.now.seens }
 {
-    match judge(alloc, plan, input, journal, seens)? {
-        Judged::Legal(journal) => {
+    match judge(alloc, scene, input, journal, seens)? {
+        Judged::Legal => {
             let mut page = Page::new(alloc, &[]);
             page.say(&[
                 Piece::Text("legal: entries "),
@@ -94,25 +96,61 @@ fn explain_journal(
     }
 }
 
+/// Shows a journal, whole or cut off, in a view that needs no more than its entries; none for one that explains.
+fn draw_journal(
+    alloc: Global,
+    view: View,
+    scene: &Scene,
+    journal: &Journal,
+) -> Result<Option<Vec<u8>>, OutOfMemory>
+    requires { AllWellFormed scene.now.plan.now journal.now.entries }
+{
+    match view {
+        View::Chart { first, count } => {
+            Ok(Some(chart(alloc, scene.plan, journal, first, count)?))
+        }
+        View::Story => Ok(Some(story(alloc, scene.plan, journal)?)),
+        View::Where(moments) => Ok(Some(tell_moments(alloc, scene, journal, moments)?)),
+        View::Explain | View::Table | View::Graph => Ok(None),
+    }
+}
+
 /// Shows a journal that was read.
 fn show_journal(
     alloc: Global,
     view: View,
-    plan: &Plan,
+    scene: &Scene,
     input: &Input,
-    journal: Journal,
+    journal: &Journal,
     seens: &Seens,
 ) -> Result<Shown, OutOfMemory>
-    requires named { is_well_named plan.now ≡ true }
-    requires entries { AllWellFormed plan.now journal.entries }
-    requires watches { AreOfPlan plan.now seens.now.seens }
+    requires named { is_well_named scene.now.plan.now ≡ true }
+    requires entries { AllWellFormed scene.now.plan.now journal.now.entries }
+    requires watches { AreOfPlan scene.now.plan.now seens.now.seens }
 {
-    match view {
-        View::Chart { first, count } => {
-            Ok(with_status(Status::Done, chart(alloc, plan, &journal, first, count)?))
+    match draw_journal(alloc, view, scene, journal)? {
+        Some(text) => Ok(with_status(Status::Done, text)),
+        None => explain_journal(alloc, scene, input, journal, seens),
+    }
+}
+
+/// Shows a journal that breaks off.
+fn show_cut(
+    alloc: Global,
+    view: View,
+    scene: &Scene,
+    input: &Input,
+    journal: &Journal,
+    way: Break,
+) -> Result<Shown, OutOfMemory>
+    requires { AllWellFormed scene.now.plan.now journal.now.entries }
+{
+    match draw_journal(alloc, view, scene, journal)? {
+        Some(text) => Ok(with_status(Status::Done, text)),
+        None => {
+            let why = judge_cut(alloc, scene, input, journal, way)?;
+            Ok(with_status(Status::Illegal, why))
         }
-        View::Story => Ok(with_status(Status::Done, story(alloc, plan, &journal)?)),
-        _ => explain_journal(alloc, plan, input, journal, seens),
     }
 }
 
@@ -132,12 +170,12 @@ fn no_journal(alloc: Global, file: &[u8]) -> Result<Shown, OutOfMemory> {
 fn show_behind(
     alloc: Global,
     view: View,
-    plan: &Plan,
+    scene: &Scene,
     file: &[u8],
     bytes: &[u8],
     start: JournalStart,
 ) -> Result<Shown, OutOfMemory>
-    requires { is_well_named plan.now ≡ true }
+    requires { is_well_named scene.now.plan.now ≡ true }
 {
     let input = Input {
         file,
@@ -145,10 +183,11 @@ fn show_behind(
         script_lines: start.lines,
     };
     let text = bytes.get(start.offset..).unwrap_or(&[]);
-    match read_journal(alloc, plan, &input, text)? {
+    match read_journal(alloc, scene.plan, &input, text)? {
         Reading::Whole(journal, seens) => {
-            show_journal(alloc, view, plan, &input, journal, &seens)
+            show_journal(alloc, view, scene, &input, &journal, &seens)
         }
+        Reading::Cut(journal, way) => show_cut(alloc, view, scene, &input, &journal, way),
         Reading::Refused(why) => Ok(with_status(Status::Illegal, why)),
     }
 }
@@ -157,18 +196,18 @@ fn show_behind(
 fn show_plan(
     alloc: Global,
     view: View,
-    plan: &Plan,
+    scene: &Scene,
     file: &[u8],
     bytes: &[u8],
     start: Option<JournalStart>,
 ) -> Result<Shown, OutOfMemory>
-    requires { is_well_named plan.now ≡ true }
+    requires { is_well_named scene.now.plan.now ≡ true }
 {
     match start {
-        Some(start) => show_behind(alloc, view, plan, file, bytes, start),
+        Some(start) => show_behind(alloc, view, scene, file, bytes, start),
         None if matches!(view, View::Explain) => Ok(with_status(
             Status::Done,
-            accepted(alloc, plan)?,
+            accepted(alloc, scene.plan)?,
         )),
         None => no_journal(alloc, file),
     }
@@ -207,9 +246,13 @@ pub fn show(alloc: Global, view: View, file: &[u8], bytes: &[u8]) -> Result<Show
     match view {
         View::Table => Ok(with_status(Status::Done, tables(alloc, &script)?)),
         View::Graph => Ok(with_status(Status::Done, dot(alloc, &script)?)),
-        View::Explain | View::Chart { first: _, count: _ } | View::Story => {
+        View::Explain | View::Chart { first: _, count: _ } | View::Story | View::Where(_) => {
             has_own_names(&script, &plan);
-            show_plan(alloc, view, &plan, file, bytes, start)
+            let scene = Scene {
+                script: &script,
+                plan: &plan,
+            };
+            show_plan(alloc, view, &scene, file, bytes, start)
         }
     }
 }
