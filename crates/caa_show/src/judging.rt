@@ -9,7 +9,7 @@ use crate::reading::{Break, Input, tell_line};
 use crate::whereabouts::{states_at, tell_all, tell_standing};
 use action_core::audit_fast;
 use action_script::forms::script::Script;
-use caa_base::written::entry::{Entry, OutOfMemory, Participant};
+use caa_base::written::entry::{Entry, Object, OutOfMemory, Participant};
 use caa_base::written::journal::Journal;
 use caa_base::written::line::push_value;
 use journal_states::standing::Standing;
@@ -115,22 +115,33 @@ fn tell_cut(
 fn tell_values(alloc: Global, states: &States, page: &mut Page) -> Result<(), OutOfMemory> {
     page.say(&[Piece::Text("  = by these entries, and no more is known:")])?;
     for object in 0..states.plan().objects() {
-        let mut value = Vec::new(alloc);
-        push_value(&mut value, states.value(object))?;
-        page.say(&[
-            Piece::Text(if object == 0 { " " } else { ", " }),
-            Piece::Word(object_name(states.plan(), object)),
-            Piece::Word(&value),
-        ])?;
+        if object > 0 {
+            page.say(&[Piece::Text(",")])?;
+        }
+        tell_value(alloc, states.plan(), object, states.value(object), page)?;
     }
     page.say(&[Piece::Text("\n")])
+}
+
+/// Adds an object and a value, after a space.
+fn tell_value(
+    alloc: Global,
+    plan: &Plan,
+    object: Object,
+    value: i64,
+    page: &mut Page,
+) -> Result<(), OutOfMemory> {
+    page.say(&[Piece::Text(" "), Piece::Word(object_name(plan, object))])?;
+    let mut text = Vec::new(alloc);
+    push_value(&mut text, value)?;
+    page.say(&[Piece::Word(&text)])
 }
 
 /// Tells which puts the device may have been asked for, and perhaps has done, though no entry says so.
 fn tell_puts(alloc: Global, states: &States, page: &mut Page) -> Result<(), OutOfMemory> {
     for by in 0..states.plan().participants() {
         if let Standing::Puts { well, .. } = states.standing(by) {
-            tell_put(alloc, states, by, well, page)?;
+            tell_put(alloc, states.plan(), by, well, page)?;
         }
     }
     Ok(())
@@ -139,20 +150,18 @@ fn tell_puts(alloc: Global, states: &States, page: &mut Page) -> Result<(), OutO
 /// Tells of a put that may have been under way.
 fn tell_put(
     alloc: Global,
-    states: &States,
+    plan: &Plan,
     by: Participant,
     well: Entry,
     page: &mut Page,
 ) -> Result<(), OutOfMemory> {
-    let mut value = Vec::new(alloc);
-    push_value(&mut value, well.value)?;
-    page.note(&[
-        Piece::Text("a put of "),
-        Piece::Word(participant_name(states.plan(), by)),
-        Piece::Text(" may have been under way: "),
-        Piece::Word(object_name(states.plan(), well.arg)),
-        Piece::Word(&value),
-    ])
+    page.say(&[
+        Piece::Text("  = a put of "),
+        Piece::Word(participant_name(plan, by)),
+        Piece::Text(" may have been under way:"),
+    ])?;
+    tell_value(alloc, plan, well.arg, well.value, page)?;
+    page.say(&[Piece::Text("\n")])
 }
 
 // ---- looks

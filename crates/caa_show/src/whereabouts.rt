@@ -5,7 +5,7 @@ use crate::lines::Lines;
 use crate::words::Moments;
 use caa_base::written::entry::{Entry, OutOfMemory, Participant};
 use caa_base::written::journal::Journal;
-use journal_states::standing::Standing;
+use journal_states::standing::{Standing, Wait};
 use journal_states::states::States;
 use journal_states::words::{lack_words, participant_name, push_awaited};
 use journal_text::looks::seens::Seens;
@@ -32,15 +32,22 @@ pub fn entry_line(alloc: Global, plan: &Plan, entry: Entry) -> Result<Vec<u8>, O
 }
 
 /// Adds that a participant may make this entry.
-fn tell_entry(
+fn tell_may(alloc: Global, plan: &Plan, entry: Entry, page: &mut Page) -> Result<(), OutOfMemory> {
+    page.say(&[Piece::Text(" may: ")])?;
+    let line = entry_line(alloc, plan, entry)?;
+    page.say(&[Piece::Word(&line)])
+}
+
+/// Adds the entry that is made where the device refuses.
+fn tell_refused(
     alloc: Global,
     plan: &Plan,
     entry: Entry,
-    words: &'static str,
     page: &mut Page,
 ) -> Result<(), OutOfMemory> {
+    page.say(&[Piece::Text(" or, where the device refuses: ")])?;
     let line = entry_line(alloc, plan, entry)?;
-    page.say(&[Piece::Text(words), Piece::Word(&line)])
+    page.say(&[Piece::Word(&line)])
 }
 
 /// Adds the name of a participant, its place and the line of the script at which it stands.
@@ -67,6 +74,19 @@ fn tell_spot(
     }
 }
 
+/// Adds whom or what a participant waits for.
+fn tell_wait(
+    alloc: Global,
+    states: &States,
+    wait: &Wait,
+    page: &mut Page,
+) -> Result<(), OutOfMemory> {
+    let mut awaited = Vec::new(alloc);
+    push_awaited(&mut awaited, states, wait)?;
+    page.say(&[Piece::Text(" has to wait for"), Piece::Word(&awaited)])?;
+    page.say(&[Piece::Text(" "), Piece::Word(lack_words(wait.lack))])
+}
+
 /// Adds a line of its own about a participant: where it stands, and what it may do or waits for.
 pub fn tell_standing(
     alloc: Global,
@@ -78,22 +98,13 @@ pub fn tell_standing(
     let plan = states.plan();
     tell_spot(states, lines, by, page)?;
     match states.standing(by) {
-        Standing::Makes(entry) => tell_entry(alloc, plan, entry, " may: ", page)?,
-        Standing::Works(work) => tell_entry(alloc, plan, work.entry(by), " may: ", page)?,
+        Standing::Makes(entry) => tell_may(alloc, plan, entry, page)?,
+        Standing::Works(work) => tell_may(alloc, plan, work.entry(by), page)?,
         Standing::Puts { well, fault } => {
-            tell_entry(alloc, plan, well, " may: ", page)?;
-            tell_entry(alloc, plan, fault, " or, where the device refuses: ", page)?;
+            tell_may(alloc, plan, well, page)?;
+            tell_refused(alloc, plan, fault, page)?;
         }
-        Standing::Waits(wait) => {
-            let mut awaited = Vec::new(alloc);
-            push_awaited(&mut awaited, states, &wait)?;
-            page.say(&[
-                Piece::Text(" has to wait for"),
-                Piece::Word(&awaited),
-                Piece::Text(" "),
-                Piece::Word(lack_words(wait.lack)),
-            ])?;
-        }
+        Standing::Waits(wait) => tell_wait(alloc, states, &wait, page)?,
         Standing::Over => page.say(&[Piece::Text(" is through with all its plays")])?,
     }
     page.say(&[Piece::Text("\n")])
