@@ -17,11 +17,11 @@ use journal_pictures::story::story;
 use journal_text::looks::seens::Seens;
 use place_plan::plans::plan::Plan;
 use script_checker::own_names::has_own_names;
+use script_outcomes::table::tables;
 use script_views::characters::tell_nothing;
 use script_views::dot::dot;
 use script_views::explaining::{Seen, look};
 use script_views::page::{Page, Piece};
-use script_views::table::tables;
 use std::alloc::Global;
 
 /// How a call of the program ends.
