@@ -16,15 +16,27 @@ use page_text::parts::{Part, push_parts};
 use place_plan::plans::plan::Plan;
 use std::alloc::Global;
 
+/// These parts, between what stands before and behind them.
+fn framed_parts(
+    alloc: Global,
+    front: &[u8],
+    parts: &[Part],
+    back: &[u8],
+) -> Result<Vec<u8>, OutOfMemory>
+    ensures { IfOk result (λ text. text.items ≡ front.now ++ parts_text parts.now ++ back.now) }
+{
+    let mut text = Vec::new(alloc);
+    text.extend_from_slice(front)?;
+    push_parts(&mut text, parts)?;
+    text.extend_from_slice(back)?;
+    Ok(text)
+}
+
 /// A page with no journal: between what is the same in each stand these parts.
 pub fn bare_page(alloc: Global, parts: &[Part]) -> Result<Vec<u8>, OutOfMemory>
     ensures { IfOk result (λ text. text.items ≡ page_text (parts_text parts.now)) }
 {
-    let mut text = Vec::new(alloc);
-    text.extend_from_slice(FRONT)?;
-    push_parts(&mut text, parts)?;
-    text.extend_from_slice(BACK)?;
-    Ok(text)
+    framed_parts(alloc, FRONT, parts, BACK)
 }
 
 /// Adds the first stances and the turns.
@@ -47,6 +59,26 @@ fn push_middle(
     close(text)
 }
 
+/// What stands before the data, and the parts before the journal.
+fn begun(alloc: Global, front: &[u8], head: &[Part]) -> Result<Vec<u8>, OutOfMemory>
+    ensures { IfOk result (λ text. text.items ≡ front.now ++ parts_text head.now) }
+{
+    let mut text = Vec::new(alloc);
+    text.extend_from_slice(front)?;
+    push_parts(&mut text, head)?;
+    Ok(text)
+}
+
+/// A text, and behind it the parts behind the journal, and what stands behind the data.
+fn ended(text: Vec<u8>, tail: &[Part], back: &[u8]) -> Result<Vec<u8>, OutOfMemory>
+    ensures { IfOk result (λ whole. whole.items ≡ text.items ++ parts_text tail.now ++ back.now) }
+{
+    let mut whole = text;
+    push_parts(&mut whole, tail)?;
+    whole.extend_from_slice(back)?;
+    Ok(whole)
+}
+
 /// The page of a script with a journal: between what is the same in each page stand the parts before, where all stand first, a piece
 /// for each entry, as far as the rules let the entries come, and the parts behind.
 pub fn page<L: Lines>(
@@ -61,11 +93,7 @@ pub fn page<L: Lines>(
     ensures { IfOk result (λ text. IsPage plan.now head.now tail.now entries.now text.items) }
 {
     let turns = turns_of(alloc, lines, plan, entries)?;
-    let mut text = Vec::new(alloc);
-    text.extend_from_slice(FRONT)?;
-    push_parts(&mut text, head)?;
+    let mut text = begun(alloc, FRONT, head)?;
     push_middle(alloc, &mut text, plan, &turns)?;
-    push_parts(&mut text, tail)?;
-    text.extend_from_slice(BACK)?;
-    Ok(text)
+    ended(text, tail, BACK)
 }
