@@ -37,7 +37,7 @@ fn entries_behind(
     ensures { IfOk result (λ journal. AllWellFormed plan.now journal.entries) }
 {
     if let Some(start) = start {
-        let text = bytes.get(start.place..).unwrap_or(&[]);
+        let text = bytes.get(start.offset..).unwrap_or(&[]);
         if let Some(front) = read_front(alloc, plan, text, MOST_AUDITED)? {
             return Ok(front.journal);
         }

@@ -7,7 +7,7 @@ use crate::ways::{Way, add_way, way_of};
 use action_script::forms::form::Form;
 use action_script::forms::script::{Line, Script};
 use caa_base::written::entry::OutOfMemory;
-use script_views::looking::{action_block, interface_of, internal_of, roles_of};
+use script_views::looking::{action_block, internal_of, roles_of};
 use std::alloc::Global;
 
 /// What is told of an exception of the internal graph of an action.
@@ -37,6 +37,16 @@ pub struct Outlook {
     pub rows: Vec<Row>,
     /// All ways in which a place of it can end where nothing outside gives it up.
     pub ways: Vec<Way>,
+}
+
+/// The interface graph that an action names.
+fn interface_of(block: &[Line]) -> Option<u32> {
+    for line in block {
+        if let Form::Interface(graph) = &line.form {
+            return Some(*graph);
+        }
+    }
+    None
 }
 
 /// The handlers of all roles for an exception, in the order of the roles.
