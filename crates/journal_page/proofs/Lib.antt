@@ -1,1 +1,2 @@
 pub mod StanceLemmas
+pub mod TurnLemmas
