@@ -2,11 +2,16 @@
 #![tactic(auto)]
 
 mod judging;
+mod lines;
+mod misread;
+mod paging;
+mod reading;
 mod showing;
+mod whereabouts;
 mod words;
 
 use crate::showing::{Shown, Status, show};
-use crate::words::{USAGE, View, asked, asks_for_line_table};
+use crate::words::{Alone, USAGE, VERSION, View, asked, asked_alone};
 use action_script::words::call_words::call_words;
 use caa_base::outside::reading::{ReadError, read_all, write_all};
 use caa_base::outside::standard::{StdSink, StdSource};
@@ -30,14 +35,18 @@ fn read_file(rt: &(impl Files + AllocGlobal), path: &str) -> Result<Vec<u8>, Rea
     }
 }
 
-/// A status with a text that is always the same.
-fn told(alloc: Global, status: Status, text: &[u8]) -> Shown {
-    match Vec::from_slice(alloc, text) {
-        Ok(text) => Shown { status, text },
-        Err(_) => Shown {
+/// A status with a text that is always the same, behind the name of the input.
+fn told(alloc: Global, status: Status, file: &str, text: &[u8]) -> Shown {
+    let mut told = Vec::new(alloc);
+    let name = told.extend_from_slice(file.as_bytes());
+    let rest = told.extend_from_slice(text);
+    if name.is_ok() && rest.is_ok() {
+        Shown { status, text: told }
+    } else {
+        Shown {
             status: Status::OutOfMemory,
             text: Vec::new(alloc),
-        },
+        }
     }
 }
 
@@ -46,11 +55,16 @@ fn show_read(alloc: Global, view: View, file: &str, read: Result<Vec<u8>, ReadEr
     match read {
         Ok(bytes) => match show(alloc, view, file.as_bytes(), &bytes) {
             Ok(shown) => shown,
-            Err(_) => told(alloc, Status::OutOfMemory, b""),
+            Err(_) => told(alloc, Status::OutOfMemory, "", b""),
         },
-        Err(ReadError::Fault) => told(alloc, Status::SourceFault, b"the input can't be read\n"),
-        Err(ReadError::TooLong) => told(alloc, Status::Refused, b"the input is too long\n"),
-        Err(ReadError::OutOfMemory) => told(alloc, Status::OutOfMemory, b""),
+        Err(ReadError::Fault) => told(
+            alloc,
+            Status::SourceFault,
+            file,
+            b": the input can't be read\n",
+        ),
+        Err(ReadError::TooLong) => told(alloc, Status::Refused, file, b": the input is too long\n"),
+        Err(ReadError::OutOfMemory) => told(alloc, Status::OutOfMemory, "", b""),
     }
 }
 
@@ -61,23 +75,46 @@ fn show_line_table(alloc: Global) -> Shown {
             status: Status::Done,
             text,
         },
-        Err(_) => told(alloc, Status::OutOfMemory, b""),
+        Err(_) => told(alloc, Status::OutOfMemory, "", b""),
     }
 }
 
-/// What the words come to.
-fn serve(rt: &HostRuntime, words: &[String]) -> Shown {
+/// What is shown without an input.
+fn show_alone(alloc: Global, alone: Alone) -> Shown {
+    match alone {
+        Alone::LineTable => show_line_table(alloc),
+        Alone::Help => told(alloc, Status::Done, "", USAGE),
+        Alone::Version => told(alloc, Status::Done, "", VERSION),
+    }
+}
+
+/// What the words come to, and whether it belongs into the output: why a picture or a graph isn't there doesn't.
+fn serve(rt: &HostRuntime, words: &[String]) -> (Shown, bool) {
     let alloc = rt.alloc();
-    if asks_for_line_table(words) {
-        return show_line_table(alloc);
+    if let Some(alone) = asked_alone(words) {
+        return (show_alone(alloc, alone), true);
     }
     match asked(words) {
-        None => told(alloc, Status::Usage, USAGE),
-        Some((view, Some(file))) => show_read(alloc, view, file, read_file(rt, file)),
-        Some((view, None)) => {
-            let read = read_all(alloc, &mut StdSource::new(rt.stdin()), MOST_AUDIT_BYTES);
-            show_read(alloc, view, STANDARD_INPUT, read)
+        None => (told(alloc, Status::Usage, "", USAGE), true),
+        Some((view, file)) => {
+            let name = file.unwrap_or(STANDARD_INPUT);
+            let read = match file {
+                Some(path) => read_file(rt, path),
+                None => read_all(alloc, &mut StdSource::new(rt.stdin()), MOST_AUDIT_BYTES),
+            };
+            let shown = show_read(alloc, view, name, read);
+            let is_output = !view.is_for_machine() || shown.status == Status::Done;
+            (shown, is_output)
         }
+    }
+}
+
+/// Writes what is shown: into the output, or where it doesn't belong there as an error.
+fn write_shown(rt: &HostRuntime, text: &[u8], is_output: bool) -> bool {
+    if is_output {
+        write_all(&mut StdSink::new(rt.stdout()), text).is_ok()
+    } else {
+        write_all(&mut StdSink::new(rt.stderr()), text).is_ok()
     }
 }
 
@@ -85,10 +122,10 @@ fn main(rt: HostRuntime) -> ExitCode {
     let Ok(words) = call_words(&rt) else {
         return ExitCode::from(Status::OutOfMemory as u8);
     };
-    let shown = serve(&rt, words.as_slice());
-    let mut sink = StdSink::new(rt.stdout());
-    match write_all(&mut sink, &shown.text) {
-        Ok(()) => ExitCode::from(shown.status as u8),
-        Err(_) => ExitCode::from(Status::SinkFault as u8),
+    let (shown, is_output) = serve(&rt, words.as_slice());
+    if write_shown(&rt, &shown.text, is_output) {
+        ExitCode::from(shown.status as u8)
+    } else {
+        ExitCode::from(Status::SinkFault as u8)
     }
 }

@@ -5,7 +5,10 @@ ghost use Rattle.place_plan.specs.RulesOfJournals.WellFormed.{AllWellFormed};
 ghost use Rattle.journal_text.specs.Texts.Naming.{is_well_named};
 ghost use Rattle.journal_text.specs.Watching.Looks.{AreOfPlan};
 
-use crate::judging::{Input, Judged, Reading, judge, read_journal};
+use crate::judging::{Judged, Scene, judge, judge_cut};
+use crate::paging::{draw_trace, show_page};
+use crate::reading::{Break, Input, Reading, read_journal};
+use crate::whereabouts::tell_moments;
 use crate::words::View;
 use action_script::words::journal_start::{JournalStart, find_journal};
 use caa_base::written::entry::OutOfMemory;
@@ -15,15 +18,15 @@ use journal_pictures::story::story;
 use journal_text::looks::seens::Seens;
 use place_plan::plans::plan::Plan;
 use script_checker::own_names::has_own_names;
+use script_outcomes::table::tables;
 use script_views::characters::tell_nothing;
 use script_views::dot::dot;
 use script_views::explaining::{Seen, look};
 use script_views::page::{Page, Piece};
-use script_views::table::tables;
 use std::alloc::Global;
 
 /// How a call of the program ends.
-#[derive(Clone, Copy)]
+#[derive(Clone, Copy, PartialEq, Eq)]
 pub enum Status {
     Done = 0,
     /// The words are no command.
@@ -65,23 +68,23 @@ fn accepted(alloc: Global, plan: &Plan) -> Result<Vec<u8>, OutOfMemory> {
 }
 
 /// A text that goes with a status.
-fn with_status(status: Status, text: Vec<u8>) -> Shown {
+pub fn with_status(status: Status, text: Vec<u8>) -> Shown {
     Shown { status, text }
 }
 
 /// Explains a journal that was read.
 fn explain_journal(
     alloc: Global,
-    plan: &Plan,
+    scene: &Scene,
     input: &Input,
-    journal: Journal,
+    journal: &Journal,
     seens: &Seens,
 ) -> Result<Shown, OutOfMemory>
-    requires named { is_well_named plan.now ≡ true }
-    requires watches { AreOfPlan plan.now seens.now.seens }
+    requires named { is_well_named scene.now.plan.now ≡ true }
+    requires watches { AreOfPlan scene.now.plan.now seens.now.seens }
 {
-    match judge(alloc, plan, input, journal, seens)? {
-        Judged::Legal(journal) => {
+    match judge(alloc, scene, input, journal, seens)? {
+        Judged::Legal => {
             let mut page = Page::new(alloc, &[]);
             page.say(&[
                 Piece::Text("legal: entries "),
@@ -94,25 +97,62 @@ fn explain_journal(
     }
 }
 
+/// Shows a journal, whole or cut off, in a view that needs no more than its entries; none for one that explains.
+fn draw_journal(
+    alloc: Global,
+    view: View,
+    scene: &Scene,
+    journal: &Journal,
+) -> Result<Option<Vec<u8>>, OutOfMemory>
+    requires { AllWellFormed scene.now.plan.now journal.now.entries }
+{
+    match view {
+        View::Chart { first, count } => {
+            Ok(Some(chart(alloc, scene.plan, journal, first, count)?))
+        }
+        View::Story => Ok(Some(story(alloc, scene.plan, journal)?)),
+        View::Where(moments) => Ok(Some(tell_moments(alloc, scene, journal, moments)?)),
+        View::Trace => Ok(Some(draw_trace(alloc, scene, journal)?)),
+        View::Explain | View::Table | View::Graph | View::Page => Ok(None),
+    }
+}
+
 /// Shows a journal that was read.
 fn show_journal(
     alloc: Global,
     view: View,
-    plan: &Plan,
+    scene: &Scene,
     input: &Input,
-    journal: Journal,
+    journal: &Journal,
     seens: &Seens,
 ) -> Result<Shown, OutOfMemory>
-    requires named { is_well_named plan.now ≡ true }
-    requires entries { AllWellFormed plan.now journal.entries }
-    requires watches { AreOfPlan plan.now seens.now.seens }
+    requires named { is_well_named scene.now.plan.now ≡ true }
+    requires entries { AllWellFormed scene.now.plan.now journal.now.entries }
+    requires watches { AreOfPlan scene.now.plan.now seens.now.seens }
 {
-    match view {
-        View::Chart { first, count } => {
-            Ok(with_status(Status::Done, chart(alloc, plan, &journal, first, count)?))
+    match draw_journal(alloc, view, scene, journal)? {
+        Some(text) => Ok(with_status(Status::Done, text)),
+        None => explain_journal(alloc, scene, input, journal, seens),
+    }
+}
+
+/// Shows a journal that breaks off.
+fn show_cut(
+    alloc: Global,
+    view: View,
+    scene: &Scene,
+    input: &Input,
+    journal: &Journal,
+    way: Break,
+) -> Result<Shown, OutOfMemory>
+    requires { AllWellFormed scene.now.plan.now journal.now.entries }
+{
+    match draw_journal(alloc, view, scene, journal)? {
+        Some(text) => Ok(with_status(Status::Done, text)),
+        None => {
+            let why = judge_cut(alloc, scene, input, journal, way)?;
+            Ok(with_status(Status::Illegal, why))
         }
-        View::Story => Ok(with_status(Status::Done, story(alloc, plan, &journal)?)),
-        _ => explain_journal(alloc, plan, input, journal, seens),
     }
 }
 
@@ -132,12 +172,12 @@ fn no_journal(alloc: Global, file: &[u8]) -> Result<Shown, OutOfMemory> {
 fn show_behind(
     alloc: Global,
     view: View,
-    plan: &Plan,
+    scene: &Scene,
     file: &[u8],
     bytes: &[u8],
     start: JournalStart,
 ) -> Result<Shown, OutOfMemory>
-    requires { is_well_named plan.now ≡ true }
+    requires { is_well_named scene.now.plan.now ≡ true }
 {
     let input = Input {
         file,
@@ -145,30 +185,31 @@ fn show_behind(
         script_lines: start.lines,
     };
     let text = bytes.get(start.offset..).unwrap_or(&[]);
-    match read_journal(alloc, plan, &input, text)? {
+    match read_journal(alloc, scene.plan, &input, text)? {
         Reading::Whole(journal, seens) => {
-            show_journal(alloc, view, plan, &input, journal, &seens)
+            show_journal(alloc, view, scene, &input, &journal, &seens)
         }
+        Reading::Cut(journal, way) => show_cut(alloc, view, scene, &input, &journal, way),
         Reading::Refused(why) => Ok(with_status(Status::Illegal, why)),
     }
 }
 
 /// Shows what stands behind a script, or how large its plan is where that is asked and nothing stands there.
-fn show_plan(
+pub fn show_plan(
     alloc: Global,
     view: View,
-    plan: &Plan,
+    scene: &Scene,
     file: &[u8],
     bytes: &[u8],
     start: Option<JournalStart>,
 ) -> Result<Shown, OutOfMemory>
-    requires { is_well_named plan.now ≡ true }
+    requires { is_well_named scene.now.plan.now ≡ true }
 {
     match start {
-        Some(start) => show_behind(alloc, view, plan, file, bytes, start),
+        Some(start) => show_behind(alloc, view, scene, file, bytes, start),
         None if matches!(view, View::Explain) => Ok(with_status(
             Status::Done,
-            accepted(alloc, plan)?,
+            accepted(alloc, scene.plan)?,
         )),
         None => no_journal(alloc, file),
     }
@@ -197,6 +238,9 @@ fn script_text(bytes: &[u8], start: Option<JournalStart>) -> &[u8] {
 /// What a view shows of an input; `file` is what the input is called.
 pub fn show(alloc: Global, view: View, file: &[u8], bytes: &[u8]) -> Result<Shown, OutOfMemory> {
     let start = journal_behind(bytes);
+    if matches!(view, View::Page) {
+        return show_page(alloc, file, bytes, script_text(bytes, start), start);
+    }
     let (script, plan) = match look(alloc, file, script_text(bytes, start))? {
         Seen::Accepted(script, plan) => (script, plan),
         Seen::Refused(refusal) => return Ok(with_status(Status::Refused, refusal.text)),
@@ -207,9 +251,18 @@ pub fn show(alloc: Global, view: View, file: &[u8], bytes: &[u8]) -> Result<Show
     match view {
         View::Table => Ok(with_status(Status::Done, tables(alloc, &script)?)),
         View::Graph => Ok(with_status(Status::Done, dot(alloc, &script)?)),
-        View::Explain | View::Chart { first: _, count: _ } | View::Story => {
+        View::Explain
+        | View::Chart { first: _, count: _ }
+        | View::Story
+        | View::Where(_)
+        | View::Page
+        | View::Trace => {
             has_own_names(&script, &plan);
-            show_plan(alloc, view, &plan, file, bytes, start)
+            let scene = Scene {
+                script: &script,
+                plan: &plan,
+            };
+            show_plan(alloc, view, &scene, file, bytes, start)
         }
     }
 }

@@ -16,11 +16,34 @@ pub enum View {
     Chart { first: u64, count: u64 },
     /// A journal in sentences.
     Story,
+    /// Where everybody stands behind these entries of a journal.
+    Where(Moments),
+    /// One page with all of it, as HTML.
+    Page,
+    /// A journal as a trace of Chrome's.
+    Trace,
+}
+
+/// The moments behind entries of a journal: `count` of them, from that behind so many entries on.
+#[derive(Clone, Copy)]
+pub struct Moments {
+    pub first: u64,
+    pub count: u64,
+}
+
+impl View {
+    /// Whether what is shown is for a program: then a refusal doesn't belong into the output.
+    pub fn is_for_machine(&self) -> bool {
+        matches!(self, View::Graph | View::Chart { .. } | View::Trace)
+    }
 }
 
 /// The usage line.
 pub const USAGE: &[u8] =
-    b"usage: explain [FILE] | table [FILE] | graph [FILE] | chart [FILE [FIRST COUNT]] | story [FILE] | lines\n";
+    b"usage: explain [FILE] | table [FILE] | graph [FILE] | chart [FILE [FIRST COUNT]] | story [FILE] | where [FILE [FIRST COUNT]] | page [FILE] | trace [FILE] | lines | --help | --version\n";
+
+/// The program and its version.
+pub const VERSION: &[u8] = b"caa_show 1.0\n";
 
 /// The view of a word.
 fn view_of(word: &str) -> Option<View> {
@@ -33,26 +56,52 @@ fn view_of(word: &str) -> Option<View> {
             count: u64::MAX,
         }),
         "story" => Some(View::Story),
+        "page" => Some(View::Page),
+        "trace" => Some(View::Trace),
+        "where" => Some(View::Where(Moments {
+            first: u64::MAX,
+            count: 1,
+        })),
         _ => None,
     }
 }
 
-/// A picture of a part of a journal, by the number of its first entry, counted from 1, and how many these are.
+/// A part of a journal, by two numbers: how many entries are drawn, from one on that is counted from 1; or behind how many entries it is
+/// told where everybody stands, and at how many moments from there on.
 fn part_of(view: &str, first: &str, count: &str) -> Option<View> {
-    if view != "chart" {
-        return None;
-    }
     let first = natural_of(first.as_bytes(), MOST_ENTRIES)?;
     let count = natural_of(count.as_bytes(), MOST_ENTRIES)?;
-    Some(View::Chart {
-        first: first.checked_sub(1)?,
-        count,
-    })
+    match view {
+        "chart" => Some(View::Chart {
+            first: first.checked_sub(1)?,
+            count,
+        }),
+        "where" => Some(View::Where(Moments { first, count })),
+        _ => None,
+    }
 }
 
-/// Whether the table of the kinds of lines is asked for, which needs no input.
-pub fn asks_for_line_table(words: &[String]) -> bool {
-    matches!(words, [view] if view.as_str() == "lines")
+/// What is shown without an input.
+#[derive(Clone, Copy)]
+pub enum Alone {
+    /// The table of the kinds of lines.
+    LineTable,
+    /// The usage line.
+    Help,
+    Version,
+}
+
+/// What is asked for that needs no input, if that is so.
+pub fn asked_alone(words: &[String]) -> Option<Alone> {
+    match words {
+        [word] => match word.as_str() {
+            "lines" => Some(Alone::LineTable),
+            "--help" => Some(Alone::Help),
+            "--version" => Some(Alone::Version),
+            _ => None,
+        },
+        _ => None,
+    }
 }
 
 /// What is asked for: a view, and the file that is read; none for standard input.

@@ -1,2 +1,3 @@
 pub mod MarksLemmas
+pub mod StretchLemmas
 pub mod TextLemmas

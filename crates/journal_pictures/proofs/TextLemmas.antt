@@ -1,11 +1,46 @@
--- Lemmas on texts to which something is added.
-use Rattle.std.proofs.Common.{◌≡◌, ℕ, List, ◌++◌, ap, sym, ◌∙◌, append_assoc}
+-- Lemmas on texts to which something is added, so many times.
+use Rattle.std.proofs.Common.{◌≡◌, ℕ, List, ◌++◌, ap, ◌∙◌, append_assoc}
 
--- what was added three times
-pub three_more : (text one two three : List ℕ) (head middle tail : List ℕ)
-    → one ≡ text ++ head → two ≡ one ++ middle → three ≡ two ++ tail
-    → three ≡ text ++ (head ++ middle ++ tail)
-three_more text one two three head middle tail first second third =
-    third ∙ ap (λ t. t ++ tail) (second ∙ ap (λ t. t ++ middle) first)
-    ∙ append_assoc (text ++ head) middle tail ∙ append_assoc text head (middle ++ tail)
-    ∙ sym (ap (λ t. text ++ t) (append_assoc head middle tail))
+-- what was added twice
+pub two_more : (t0 t1 t2 a1 a2 : List ℕ) → t1 ≡ t0 ++ a1 → t2 ≡ t1 ++ a2 → t2 ≡ t0 ++ (a1 ++ a2)
+two_more t0 t1 t2 a1 a2 e1 e2 = e2 ∙ ap (λ t. t ++ a2) e1 ∙ append_assoc t0 a1 a2
+
+-- three times
+three_more : (t0 t1 t2 t3 a1 a2 a3 : List ℕ)
+    → t1 ≡ t0 ++ a1 → t2 ≡ t1 ++ a2 → t3 ≡ t2 ++ a3
+    → t3 ≡ t0 ++ (a1 ++ a2 ++ a3)
+three_more t0 t1 t2 t3 a1 a2 a3 e1 e2 e3 =
+    two_more t0 t2 t3 (a1 ++ a2) a3
+    (two_more t0 t1 t2 a1 a2 e1 e2) e3
+
+-- four times
+pub four_more : (t0 t1 t2 t3 t4 a1 a2 a3 a4 : List ℕ)
+    → t1 ≡ t0 ++ a1 → t2 ≡ t1 ++ a2 → t3 ≡ t2 ++ a3 → t4 ≡ t3 ++ a4
+    → t4 ≡ t0 ++ (a1 ++ a2 ++ a3 ++ a4)
+four_more t0 t1 t2 t3 t4 a1 a2 a3 a4 e1 e2 e3 e4 =
+    two_more t0 t3 t4 (a1 ++ a2 ++ a3) a4
+    (three_more t0 t1 t2 t3 a1 a2 a3 e1 e2 e3) e4
+
+-- five times
+pub five_more : (t0 t1 t2 t3 t4 t5 a1 a2 a3 a4 a5 : List ℕ)
+    → t1 ≡ t0 ++ a1 → t2 ≡ t1 ++ a2 → t3 ≡ t2 ++ a3 → t4 ≡ t3 ++ a4 → t5 ≡ t4 ++ a5
+    → t5 ≡ t0 ++ (a1 ++ a2 ++ a3 ++ a4 ++ a5)
+five_more t0 t1 t2 t3 t4 t5 a1 a2 a3 a4 a5 e1 e2 e3 e4 e5 =
+    two_more t0 t4 t5 (a1 ++ a2 ++ a3 ++ a4) a5
+    (four_more t0 t1 t2 t3 t4 a1 a2 a3 a4 e1 e2 e3 e4) e5
+
+-- six times
+six_more : (t0 t1 t2 t3 t4 t5 t6 a1 a2 a3 a4 a5 a6 : List ℕ)
+    → t1 ≡ t0 ++ a1 → t2 ≡ t1 ++ a2 → t3 ≡ t2 ++ a3 → t4 ≡ t3 ++ a4 → t5 ≡ t4 ++ a5 → t6 ≡ t5 ++ a6
+    → t6 ≡ t0 ++ (a1 ++ a2 ++ a3 ++ a4 ++ a5 ++ a6)
+six_more t0 t1 t2 t3 t4 t5 t6 a1 a2 a3 a4 a5 a6 e1 e2 e3 e4 e5 e6 =
+    two_more t0 t5 t6 (a1 ++ a2 ++ a3 ++ a4 ++ a5) a6
+    (five_more t0 t1 t2 t3 t4 t5 a1 a2 a3 a4 a5 e1 e2 e3 e4 e5) e6
+
+-- seven times
+pub seven_more : (t0 t1 t2 t3 t4 t5 t6 t7 a1 a2 a3 a4 a5 a6 a7 : List ℕ)
+    → t1 ≡ t0 ++ a1 → t2 ≡ t1 ++ a2 → t3 ≡ t2 ++ a3 → t4 ≡ t3 ++ a4 → t5 ≡ t4 ++ a5 → t6 ≡ t5 ++ a6 → t7 ≡ t6 ++ a7
+    → t7 ≡ t0 ++ (a1 ++ a2 ++ a3 ++ a4 ++ a5 ++ a6 ++ a7)
+seven_more t0 t1 t2 t3 t4 t5 t6 t7 a1 a2 a3 a4 a5 a6 a7 e1 e2 e3 e4 e5 e6 e7 =
+    two_more t0 t6 t7 (a1 ++ a2 ++ a3 ++ a4 ++ a5 ++ a6) a7
+    (six_more t0 t1 t2 t3 t4 t5 t6 a1 a2 a3 a4 a5 a6 e1 e2 e3 e4 e5 e6) e7

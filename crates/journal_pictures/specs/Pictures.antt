@@ -1,22 +1,24 @@
--- The text of a picture: a head, parts that are no marks, and the marks.
-use Rattle.std.specs.Prelude.{◌≡◌, ℕ, ◌+◌, ◌*◌, ◌==◌, if◌then◌else◌, List, [], ◌∷◌, ◌++◌, codes, decimal}
-use Rattle.std.specs.List.{flat_map}
+-- The text of a picture: a head, parts that are no marks, the stretches, and the marks.
+use Rattle.std.specs.Prelude.{◌≡◌, ℕ, ◌+◌, ◌*◌, ◌/◌, ◌==◌, if◌then◌else◌, List, [], ◌∷◌, ◌++◌, codes, decimal, slice_index_or}
+use Rattle.std.specs.List.{All, flat_map}
 use Rattle.caa_base.specs.declared.written.entry.Entry.{Entry}
 use Rattle.place_plan.specs.Plans.PlanValue.{Plan}
 use Rattle.journal_text.specs.Texts.Text.{kind_word, entry_line}
 use Rattle.journal_pictures.specs.declared.marks.Mark.{Mark}
-use Rattle.journal_pictures.specs.declared.render.TheConstants.{OPENING, SIGNS}
+use Rattle.journal_pictures.specs.declared.signs.TheConstants.{OPENING, SIGNS}
 use Rattle.journal_pictures.specs.declared.shapes.Shape.{Shape}
 use Rattle.journal_pictures.specs.declared.shapes.Shape.TheVariants as shape
+use Rattle.journal_pictures.specs.declared.shapes.Bar.{Bar}
 use Rattle.journal_pictures.specs.Marks.{marks_from}
+use Rattle.journal_pictures.specs.Stretches.{IsRight, class_of}
 
 -- how far from the left the marks of a lane stand
-abbrev pub axis : ℕ → ℕ
-axis lane = 78 + lane * 180
+abbrev pub axis : List ℕ → ℕ → ℕ
+axis axes lane = slice_index_or axes lane 0
 
--- how far from the top the marks of a row stand
+-- how far from the top the marks of a row stand: above each fortieth row there is room for the names of the lanes
 abbrev pub middle : ℕ → ℕ
-middle row = 68 + row * 20
+middle row = 148 + row * 20 + row / 40 * 24
 
 -- a byte, written otherwise where it means something in a picture's text
 abbrev pub escaped_byte : ℕ → List ℕ
@@ -37,11 +39,15 @@ length_text name n = 32 ∷ name ++ codes "=\"" ++ decimal n ++ 34 ∷ []
 abbrev pub element_text : List ℕ → List ℕ → List ℕ
 element_text element class = 60 ∷ element ++ codes " class=\"" ++ class ++ 34 ∷ []
 
--- a rectangle
-abbrev pub area_text : List ℕ → ℕ → ℕ → ℕ → ℕ → List ℕ
-area_text class left top width height =
+-- what is told of a part of the picture
+abbrev pub told_text : List ℕ → List ℕ
+told_text words = codes "<title>" ++ escaped words ++ codes "</title>"
+
+-- a rectangle, and what is told of it
+abbrev pub area_text : List ℕ → ℕ → ℕ → ℕ → ℕ → List ℕ → List ℕ
+area_text class left top width height title =
     element_text (codes "rect") class ++ length_text (codes "x") left ++ length_text (codes "y") top
-    ++ length_text (codes "width") width ++ length_text (codes "height") height ++ codes "/>\n"
+    ++ length_text (codes "width") width ++ length_text (codes "height") height ++ 62 ∷ told_text title ++ codes "</rect>\n"
 
 -- a line
 abbrev pub line_text : List ℕ → ℕ → ℕ → ℕ → ℕ → List ℕ
@@ -57,40 +63,58 @@ words_text class left base words =
 
 -- a part of the picture that is no mark
 abbrev pub shape_text : Shape → List ℕ
-shape_text (shape.Area class left top width height) = area_text class.now left top width height
+shape_text (shape.Area class left top width height title) = area_text class.now left top width height title.items
 shape_text (shape.Line class left top right bottom) = line_text class.now left top right bottom
 shape_text (shape.Words class left base words) = words_text class.now left base words.items
 
--- the sign of a mark: that of its kind, where its lane and its row cross
-abbrev pub sign_text : Mark → List ℕ
-sign_text m =
-    codes "<use href=\"#" ++ kind_word m.entry.kind ++ 34 ∷ length_text (codes "x") (axis m.lane)
+-- the rectangle of a stretch: it looks as what its participant does
+abbrev pub bar_text : Bar → List ℕ
+bar_text b = area_text (class_of b.stretch.doing) b.left b.top b.width b.height b.title.items
+
+-- the name of the sign of an entry: that of its kind, and where its mark isn't 0 that too. So each outcome and each verdict has a sign of
+-- its own, and a restore that the device refused has another one than a restore that it took
+abbrev pub sign_name : Entry → List ℕ
+sign_name e = kind_word e.kind ++ (if e.mark == 0 then [] else 45 ∷ decimal e.mark)
+
+-- the sign of a mark, where its lane and its row cross
+abbrev pub sign_text : List ℕ → Mark → List ℕ
+sign_text axes m =
+    codes "<use href=\"#" ++ sign_name m.entry ++ 34 ∷ length_text (codes "x") (axis axes m.lane)
     ++ length_text (codes "y") (middle m.row) ++ 62 ∷ []
 
 -- what stands under a sign
 abbrev pub title_text : List ℕ → List ℕ
-title_text line = codes "<title>" ++ escaped line ++ codes "</title></use>\n"
+title_text line = told_text line ++ codes "</use>\n"
 
 -- a mark: its sign, and under it the line that its entry has in the text of the journal
-unfoldable pub mark_text : Plan → Mark → List ℕ
-mark_text plan m = sign_text m ++ title_text (entry_line plan m.entry)
+unfoldable pub mark_text : Plan → List ℕ → Mark → List ℕ
+mark_text plan axes m = sign_text axes m ++ title_text (entry_line plan m.entry)
 
 -- how a picture ends
 abbrev pub end_text : List ℕ
 end_text = codes "</svg>\n"
 
--- parts that are no marks, then these marks, and the end
-abbrev pub body_text : Plan → List Shape → List Mark → List ℕ
-body_text plan shapes marks = flat_map shape_text shapes ++ flat_map (mark_text plan) marks ++ end_text
+-- parts that are neither, then these stretches, then these marks, and the end
+abbrev pub body_text : Plan → List ℕ → List Shape → List Bar → List Mark → List ℕ
+body_text plan axes shapes bars marks =
+    flat_map shape_text shapes ++ flat_map bar_text bars ++ flat_map (mark_text plan axes) marks ++ end_text
 
--- how a picture of this size begins: with its size, and with how the signs look, which is always the same
+-- the box that a picture of this size shows
+abbrev pub box_text : ℕ → ℕ → List ℕ
+box_text width height = codes " viewBox=\"0 0 " ++ decimal width ++ 32 ∷ decimal height ++ codes "\">\n"
+
+-- how a picture of this size begins: with its size, and with how the signs look and what they mean, which is always the same
 abbrev pub front_text : ℕ → ℕ → List ℕ
 front_text width height =
-    OPENING.now ++ length_text (codes "width") width ++ length_text (codes "height") height ++ codes ">\n" ++ SIGNS.now
+    OPENING.now ++ length_text (codes "width") width ++ length_text (codes "height") height ++ box_text width height ++ SIGNS.now
 
--- a text is a picture of these entries: a front, then parts that are no marks, and then the marks of the entries, each once
-pub record IsPicture (plan : Plan) (entries : List Entry) (text : List ℕ) : Type 0 where
+-- a text is a picture of these entries of a journal: a front, then parts that are no marks, and then the marks of the entries, each once.
+-- Among the parts are the stretches, each of which says by the rules whether its participant waits
+pub record IsPicture (plan : Plan) (journal entries : List Entry) (text : List ℕ) : Type 0 where
   pub width : ℕ
   pub height : ℕ
+  pub axes : List ℕ
   pub shapes : List Shape
-  pub same : text ≡ front_text width height ++ body_text plan shapes (marks_from 0 entries)
+  pub bars : List Bar
+  pub right : All (λ b. IsRight plan journal b.stretch) bars
+  pub same : text ≡ front_text width height ++ body_text plan axes shapes bars (marks_from 0 entries)

@@ -1,17 +1,22 @@
 //! A journal as a picture.
 
-ghost use Rattle.std.specs.Prelude.{◌≡◌, ◌++◌, OnOk, IfOk};
+ghost use Rattle.std.specs.Prelude.{◌≡◌, ◌≤◌, ◌++◌, length, OnOk, IfOk};
 ghost use Rattle.std.specs.List.{All, flat_map};
 ghost use Rattle.place_plan.specs.RulesOfJournals.WellFormed.{IsWellFormed, AllWellFormed};
-ghost use Rattle.journal_pictures.specs.Marks.{drawn};
-ghost use Rattle.journal_pictures.specs.Pictures.{shape_text, mark_text, body_text, IsPicture};
+ghost use Rattle.journal_pictures.specs.Marks.{drawn, marks_from, most_rows};
+ghost use Rattle.journal_pictures.specs.Pictures.{shape_text, bar_text, mark_text, body_text, IsPicture};
+ghost use Rattle.journal_pictures.specs.Stretches.{IsRight};
 
-use crate::frame::{View, frame, height, width};
+use crate::frame::frame;
+use crate::layout::{View, axes_of, height, level_behind};
 use crate::marks::{Mark, drawn, marks_of};
-use crate::render::{push_front, push_mark, push_shape};
-use crate::shapes::Shape;
+use crate::render::{push_bar, push_front, push_mark, push_shape};
+use crate::shapes::{Bar, Shape};
+use crate::stretches::{Doing, Stretch, Told, stretches_of};
 use caa_base::written::entry::OutOfMemory;
 use caa_base::written::journal::Journal;
+use caa_base::written::line::push_word;
+use journal_states::words::participant_name;
 use place_plan::plans::plan::Plan;
 use std::alloc::Global;
 
@@ -19,7 +24,8 @@ use std::alloc::Global;
 /// no more than `MOST_ROWS`.
 ///
 /// Time goes downwards. Each participant has a lane, each entry a row of its own and a mark in its participant's lane, and each place
-/// a box inside that of the place round it, in each lane from where its participant arrives to where it leaves.
+/// a box inside that of the place round it, in each lane from where its participant arrives to where it leaves. Stretches in a lane say
+/// what its participant may do by the rules, or that it waits; from an entry on that may not come there are none.
 pub fn chart(
     alloc: Global,
     plan: &Plan,
@@ -28,41 +34,136 @@ pub fn chart(
     count: u64,
 ) -> Result<Vec<u8>, OutOfMemory>
     requires { AllWellFormed plan.now journal.now.entries }
-    ensures { IfOk result (λ text. IsPicture plan.now (drawn first count journal.now.entries) text.items) }
+    ensures { IfOk result (λ text. IsPicture plan.now journal.now.entries (drawn first count journal.now.entries) text.items) }
 {
-    let part = drawn(journal.as_slice(), first, count);
+    let entries = journal.as_slice();
+    let part = drawn(entries, first, count);
+    let told = stretches_of(alloc, plan, entries, first, part.len() as u64)?;
+    let (axes, width) = axes_of(alloc, plan, part, &told.notes)?;
     let view = View {
         plan,
-        entries: journal.as_slice(),
+        entries,
+        part,
         first,
         rows: part.len() as u32,
+        axes: &axes,
+        width,
     };
-    let shapes = frame(alloc, &view)?;
-    let marks = marks_of(alloc, part)?;
+    let parts = parts_of(alloc, &view, &told)?;
+    text_of(alloc, &view, &parts)
+}
+
+/// What a picture is put together from.
+#[derive(Drop)]
+struct Parts {
+    shapes: Vec<Shape>,
+    bars: Vec<Bar>,
+    marks: Vec<Mark>,
+}
+
+/// The parts of a picture of which this is told.
+fn parts_of(alloc: Global, view: &View, told: &Told) -> Result<Parts, OutOfMemory>
+    requires few { length view.now.part.now ≤ most_rows }
+    requires told { All (IsRight view.now.plan.now view.now.entries.now) told.now.stretches.items }
+    ensures bars { IfOk result (λ parts. All (λ b. IsRight view.now.plan.now view.now.entries.now b.stretch) parts.bars.items) }
+    ensures marks { IfOk result (λ parts. parts.marks.items ≡ marks_from 0 view.now.part.now) }
+{
+    let shapes = frame(alloc, view, told)?;
+    let bars = bars_of(alloc, view, &told.stretches)?;
+    let marks = marks_of(alloc, view.part)?;
+    Ok(Parts {
+        shapes,
+        bars,
+        marks,
+    })
+}
+
+/// The text of a picture of these parts.
+fn text_of(alloc: Global, view: &View, parts: &Parts) -> Result<Vec<u8>, OutOfMemory>
+    requires bars { All (λ b. IsRight view.now.plan.now view.now.entries.now b.stretch) parts.now.bars.items }
+    requires marks { parts.now.marks.items ≡ marks_from 0 view.now.part.now }
+    requires formed { All (λ m. IsWellFormed view.now.plan.now m.entry) parts.now.marks.items }
+    ensures { IfOk result (λ text. IsPicture view.now.plan.now view.now.entries.now view.now.part.now text.items) }
+{
     let mut text = Vec::new(alloc);
-    push_front(&mut text, width(&view, &shapes), height(&view))?;
-    push_body(alloc, &mut text, plan, &shapes, &marks)?;
+    push_front(&mut text, view.width, height(view))?;
+    push_body(alloc, &mut text, view, parts)?;
     Ok(text)
+}
+
+/// Where a stretch is drawn, and what is told of it.
+fn bar_of(alloc: Global, view: &View, stretch: Stretch) -> Result<Bar, OutOfMemory>
+    ensures { IfOk result (λ bar. bar.stretch ≡ stretch) }
+{
+    let half = half_of(stretch.doing);
+    let top = level_behind(view, stretch.from);
+    let base = level_behind(view, stretch.to);
+    Ok(Bar {
+        stretch,
+        left: view.axis(stretch.lane).saturating_sub(half),
+        top,
+        width: half.saturating_mul(2),
+        height: base.saturating_sub(top),
+        title: title_of(alloc, view.plan, stretch)?,
+    })
+}
+
+/// Half how wide a stretch is drawn.
+fn half_of(doing: Doing) -> u64 {
+    match doing {
+        Doing::Away | Doing::Turn => 1,
+        Doing::Body | Doing::Handler | Doing::Wait(_) => 5,
+    }
+}
+
+/// What is told of a stretch.
+fn title_of(alloc: Global, plan: &Plan, stretch: Stretch) -> Result<Vec<u8>, OutOfMemory> {
+    let mut title = Vec::from_slice(alloc, participant_name(plan, stretch.lane))?;
+    push_word(
+        &mut title,
+        match stretch.doing {
+            Doing::Away => b"is in no place",
+            Doing::Turn => b"may go on",
+            Doing::Body => b"may make the next step of its body",
+            Doing::Handler => b"may make the next step of its handler",
+            Doing::Wait(_) => b"has to wait",
+        },
+    )?;
+    Ok(title)
+}
+
+/// The stretches of those who are in a place, where they are drawn.
+fn bars_of(alloc: Global, view: &View, stretches: &[Stretch]) -> Result<Vec<Bar>, OutOfMemory>
+    requires { All (IsRight view.now.plan.now view.now.entries.now) stretches.now }
+    ensures { IfOk result (λ bars. All (λ b. IsRight view.now.plan.now view.now.entries.now b.stretch) bars.items) }
+{
+    let mut bars = Vec::new(alloc);
+    for stretch in stretches {
+        if !matches!(stretch.doing, Doing::Away) {
+            bars.push(bar_of(alloc, view, *stretch)?)?;
+        }
+    }
+    Ok(bars)
 }
 
 /// Adds what is no mark, the marks, and the end.
 fn push_body(
     alloc: Global,
     text: &mut Vec<u8>,
-    plan: &Plan,
-    shapes: &[Shape],
-    marks: &[Mark],
+    view: &View,
+    parts: &Parts,
 ) -> Result<(), OutOfMemory>
-    requires { All (λ m. IsWellFormed plan.now m.entry) marks.now }
-    ensures { OnOk result (text.new.items ≡ text.old.items ++ body_text plan.now shapes.now marks.now) }
+    requires { All (λ m. IsWellFormed view.now.plan.now m.entry) parts.now.marks.items }
+    ensures { OnOk result (text.new.items ≡ text.old.items ++ body_text view.now.plan.now view.now.axes.now parts.now.shapes.items parts.now.bars.items parts.now.marks.items) }
 {
-    push_shapes(text, shapes)?;
-    push_marks(alloc, text, plan, marks)?;
+    push_shapes(text, &parts.shapes)?;
+    push_bars(text, &parts.bars)?;
+    push_marks(alloc, text, view.plan, view.axes, &parts.marks)?;
     text.extend_from_slice(b"</svg>\n")?;
     Ok(())
 }
 
-/// Adds what is no mark.
+/// Adds what is neither a stretch nor a mark.
 fn push_shapes(text: &mut Vec<u8>, shapes: &[Shape]) -> Result<(), OutOfMemory>
     ensures { OnOk result (text.new.items ≡ text.old.items ++ flat_map shape_text shapes.now) }
 {
@@ -72,18 +173,29 @@ fn push_shapes(text: &mut Vec<u8>, shapes: &[Shape]) -> Result<(), OutOfMemory>
     Ok(())
 }
 
+/// Adds the stretches.
+fn push_bars(text: &mut Vec<u8>, bars: &[Bar]) -> Result<(), OutOfMemory>
+    ensures { OnOk result (text.new.items ≡ text.old.items ++ flat_map bar_text bars.now) }
+{
+    for bar in bars {
+        push_bar(text, bar)?;
+    }
+    Ok(())
+}
+
 /// Adds the marks.
 fn push_marks(
     alloc: Global,
     text: &mut Vec<u8>,
     plan: &Plan,
+    axes: &[u64],
     marks: &[Mark],
 ) -> Result<(), OutOfMemory>
     requires { All (λ m. IsWellFormed plan.now m.entry) marks.now }
-    ensures { OnOk result (text.new.items ≡ text.old.items ++ flat_map (mark_text plan.now) marks.now) }
+    ensures { OnOk result (text.new.items ≡ text.old.items ++ flat_map (mark_text plan.now axes.now) marks.now) }
 {
     for mark in marks {
-        push_mark(alloc, text, plan, mark)?;
+        push_mark(alloc, text, plan, axes, mark)?;
     }
     Ok(())
 }

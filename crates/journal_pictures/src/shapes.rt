@@ -6,16 +6,19 @@
 //! before. Pieces of lanes side by side are drawn as one. Waiting and boxes are known from the whole journal, so a part shows them
 //! as the whole does. One place alone can't be asked for: without the entries of others nobody would see for whom its roles wait.
 
+use crate::stretches::Stretch;
+
 /// A part of the picture that is no mark. Lengths are pixels, counted from the left and from the top.
 #[derive(Drop)]
 pub enum Shape {
-    /// A rectangle.
+    /// A rectangle, and what is told of it.
     Area {
         class: &'static [u8],
         left: u64,
         top: u64,
         width: u64,
         height: u64,
+        title: Vec<u8>,
     },
     /// A line.
     Line {
@@ -32,4 +35,15 @@ pub enum Shape {
         base: u64,
         words: Vec<u8>,
     },
+}
+
+/// A stretch that is drawn, where, and what is told of it.
+#[derive(Drop)]
+pub struct Bar {
+    pub stretch: Stretch,
+    pub left: u64,
+    pub top: u64,
+    pub width: u64,
+    pub height: u64,
+    pub title: Vec<u8>,
 }

@@ -1,11 +1,11 @@
 //! The boxes of places: in which place each participant is, and how long.
 
-use crate::frame::{View, is_seen, level, row_of, write_words};
-use crate::render::{LANE_WIDTH, LEFT, ROW_HEIGHT, TOP, axis, middle};
+use crate::frame::write_words;
+use crate::layout::{ROW_HEIGHT, TOP, View, is_seen, level, middle, row_of};
 use crate::shapes::Shape;
-use crate::words::push_place;
 use caa_base::written::entry::{Entry, Kind, OutOfMemory, Participant, Place};
 use caa_base::written::line::push_word;
+use journal_states::words::push_place;
 use std::alloc::Global;
 
 /// How long a participant is in a place.
@@ -71,7 +71,7 @@ fn seen_stays(alloc: Global, view: &View) -> Result<Vec<Stay>, OutOfMemory> {
 pub fn draw_places(alloc: Global, shapes: &mut Vec<Shape>, view: &View) -> Result<(), OutOfMemory> {
     let stays = seen_stays(alloc, view)?;
     for stay in stays.iter() {
-        draw_stay(shapes, view, &stays, stay)?;
+        draw_stay(alloc, shapes, view, &stays, stay)?;
         name_stay(alloc, shapes, view, &stays, stay)?;
     }
     Ok(())
@@ -99,6 +99,7 @@ fn stay_beside(stays: &[Stay], stay: &Stay, lane: Option<Participant>) -> Option
 
 /// Draws the piece of a place's box in a lane. Where the place goes on in the lane beside it, the two pieces are one.
 fn draw_stay(
+    alloc: Global,
     shapes: &mut Vec<Shape>,
     view: &View,
     stays: &[Stay],
@@ -107,21 +108,25 @@ fn draw_stay(
     let before = stay_beside(stays, stay, stay.lane.checked_sub(1));
     let after = stay_beside(stays, stay, stay.lane.checked_add(1));
     let inset = depth_of(view, stay).saturating_mul(3);
-    let lane = axis(stay.lane).saturating_sub(axis(0)).saturating_add(LEFT);
-    let left = lane.saturating_add(if before.is_none() { inset } else { 0 });
+    let left = view
+        .lane_left(stay.lane)
+        .saturating_add(if before.is_none() { inset } else { 0 });
     let gap = if after.is_none() {
         inset.saturating_add(4)
     } else {
         0
     };
-    let right = lane.saturating_add(LANE_WIDTH).saturating_sub(gap);
+    let right = view.lane_right(stay.lane).saturating_sub(gap);
     let height = height_of(view, stay);
+    let mut title = Vec::from_slice(alloc, b"place")?;
+    push_place(&mut title, view.plan, stay.place)?;
     shapes.push(Shape::Area {
         class: b"place",
         left,
         top: height.from,
         width: right.saturating_sub(left),
         height: height.to.saturating_sub(height.from),
+        title,
     })?;
     draw_ends(
         shapes,
@@ -202,8 +207,8 @@ fn name_stay(
         return write_words(
             shapes,
             b"action",
-            axis(stay.lane) + 50,
-            middle(row) + 4,
+            view.axis(stay.lane).saturating_add(50),
+            middle(row).saturating_add(4),
             words,
         );
     }
@@ -213,7 +218,13 @@ fn name_stay(
             push_word(&mut words, b"/")?;
         }
         push_place(&mut words, view.plan, stay.place)?;
-        write_words(shapes, b"action", axis(stay.lane) + 12, TOP + 2, words)?;
+        write_words(
+            shapes,
+            b"action",
+            view.axis(stay.lane).saturating_add(12),
+            TOP + 2,
+            words,
+        )?;
     }
     Ok(())
 }

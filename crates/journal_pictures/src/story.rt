@@ -2,11 +2,12 @@
 
 ghost use Rattle.place_plan.specs.RulesOfJournals.WellFormed.{AllWellFormed};
 
+use crate::closing::push_close;
 use crate::tellings::{are_told_together, is_of_many, push_deed, push_event};
-use crate::words::participant_name;
 use caa_base::written::entry::{Entry, Kind, OutOfMemory, Place};
 use caa_base::written::journal::Journal;
 use caa_base::written::line::{push_number, push_word};
+use journal_states::words::participant_name;
 use place_plan::plans::plan::Plan;
 use std::alloc::Global;
 
@@ -31,8 +32,9 @@ struct Sentence {
     things: u32,
 }
 
-/// A journal in sentences, one on each line, with names in place of numbers. Each entry is told, in order; entries that come one after
-/// the other and say the same are told together.
+/// A journal in sentences, one on each line behind the number of its first entry, with names in place of numbers. Each entry is told, in
+/// order; entries that come one after the other and say the same are told together. At the end stand the values of the objects, and, where
+/// the journal stops too early, what each participant may do then or waits for.
 pub fn story(alloc: Global, plan: &Plan, journal: &Journal) -> Result<Vec<u8>, OutOfMemory>
     requires { AllWellFormed plan.now journal.now.entries }
 {
@@ -43,7 +45,7 @@ pub fn story(alloc: Global, plan: &Plan, journal: &Journal) -> Result<Vec<u8>, O
         let past = &entries[..number];
         let goes_on = is_told_with(past.last(), entry);
         if !goes_on {
-            sentence = Some(push_start(&mut text, plan, sentence, entry)?);
+            sentence = Some(push_start(&mut text, plan, sentence, entry, number as u64)?);
         }
         let more = is_told_with(entries.get(number + 1), entry);
         push_entry(alloc, &mut text, plan, past, entry, goes_on, more)?;
@@ -51,6 +53,7 @@ pub fn story(alloc: Global, plan: &Plan, journal: &Journal) -> Result<Vec<u8>, O
     if sentence.is_some() {
         text.extend_from_slice(b".\n")?;
     }
+    push_close(alloc, &mut text, plan, entries)?;
     Ok(text)
 }
 
@@ -79,12 +82,27 @@ fn matter_of(kind: Kind) -> Matter {
     }
 }
 
+/// Adds the number of an entry, in a column of its own.
+fn push_row(text: &mut Vec<u8>, number: u64) -> Result<(), OutOfMemory> {
+    let mut least = 1_000_000u64;
+    for _ in 0..6 {
+        if number < least {
+            text.push(b' ')?;
+        }
+        least /= 10;
+    }
+    push_number(text, number)?;
+    text.extend_from_slice(b"  ")?;
+    Ok(())
+}
+
 /// Goes on with a sentence, or ends it and begins another.
 fn push_start(
     text: &mut Vec<u8>,
     plan: &Plan,
     sentence: Option<Sentence>,
     entry: &Entry,
+    number: u64,
 ) -> Result<Sentence, OutOfMemory> {
     let place = entry.place;
     let matter = matter_of(entry.kind);
@@ -99,6 +117,7 @@ fn push_start(
         }
         text.extend_from_slice(b".\n")?;
     }
+    push_row(text, number.saturating_add(1))?;
     text.extend_from_slice(b"In")?;
     push_word(text, plan.action_name(place))?;
     text.extend_from_slice(b" (place")?;

@@ -1,10 +1,11 @@
 //! How each entry is told.
 
-use crate::words::{carried_name, interface_name, internal_name, participant_name};
+use crate::words::{carried_name, interface_name, internal_name};
 use caa_base::written::entry::{
     Entry, Exception, Kind, OutOfMemory, Outcome, Participant, Place, Verdict,
 };
 use caa_base::written::line::{push_number, push_value, push_word};
+use journal_states::words::participant_name;
 use journal_text::texts::text_writer::object_name;
 use place_plan::plans::plan::Plan;
 use place_plan::rules::one_entry::{outcome_at, verdict_at};
@@ -78,9 +79,12 @@ pub fn push_deed(
     several: bool,
 ) -> Result<(), OutOfMemory> {
     match entry.kind {
-        Kind::Arrive => push_word(text, b"arrived"),
+        Kind::Arrive => push_arrival(text, plan, past, entry),
         Kind::Start => push_word(text, b"saw that all were there, and started it"),
-        Kind::Withdraw => push_word(text, b"went away again, as it can't start any more"),
+        Kind::Withdraw => {
+            push_word(text, b"went away again, as it can't start any more")?;
+            push_cause(text, plan, past, entry.place)
+        }
         Kind::Read => {
             push_word(text, b"read")?;
             push_value(text, entry.value)?;
@@ -104,7 +108,7 @@ pub fn push_deed(
         Kind::Inform => push_word(text, b"was told"),
         Kind::Handle => push_handle(text, plan, entry, several),
         Kind::Verdict => push_verdict(text, plan, past, entry, several),
-        Kind::Abort => push_abort(text, plan, entry),
+        Kind::Abort => push_abort(text, plan, past, entry),
         Kind::Leave => push_leave(text, plan, entry),
         Kind::PutFault | Kind::Resolve | Kind::Undo | Kind::Restore | Kind::End => Ok(()),
     }
@@ -165,11 +169,77 @@ fn push_verdict(
 }
 
 /// Adds that somebody gave up, and what it named.
-fn push_abort(text: &mut Vec<u8>, plan: &Plan, entry: &Entry) -> Result<(), OutOfMemory> {
+fn push_abort(
+    text: &mut Vec<u8>,
+    plan: &Plan,
+    past: &[Entry],
+    entry: &Entry,
+) -> Result<(), OutOfMemory> {
     push_word(text, b"gave up")?;
     if entry.mark == 1 {
         push_word(text, b"and named")?;
         push_word(text, interface_name(plan, entry.place, entry.arg))?;
+    }
+    push_cause(text, plan, past, entry.place)
+}
+
+/// The newest entry that raises something in a place, and what it raises.
+fn newest_raise(plan: &Plan, past: &[Entry], place: Place) -> Option<(Entry, Exception)> {
+    for index in (0..past.len()).rev() {
+        if let Some(entry) = past.get(index) {
+            if let Some(exception) = raised_by(plan, place, entry) {
+                return Some((*entry, exception));
+            }
+        }
+    }
+    None
+}
+
+/// Adds what was raised round a place, by whom and where: that dooms it.
+fn push_cause(
+    text: &mut Vec<u8>,
+    plan: &Plan,
+    past: &[Entry],
+    place: Place,
+) -> Result<(), OutOfMemory> {
+    for outer in plan.around(place) {
+        if let Some((entry, exception)) = newest_raise(plan, past, *outer) {
+            push_word(text, b"since the")?;
+            push_word(text, participant_name(plan, entry.by))?;
+            push_word(text, b"raised")?;
+            push_word(text, internal_name(plan, *outer, exception))?;
+            push_word(text, b"in")?;
+            push_word(text, plan.action_name(*outer))?;
+            return push_word(text, b"outside");
+        }
+    }
+    Ok(())
+}
+
+/// The place that was undone before this one is tried in its stead.
+fn undone_before(plan: &Plan, past: &[Entry], place: Place) -> Option<Place> {
+    for index in (0..past.len()).rev() {
+        if let Some(entry) = past.get(index) {
+            if entry.kind == Kind::End && plan.next_alternate(entry.place) == Some(place) {
+                return Some(entry.place);
+            }
+        }
+    }
+    None
+}
+
+/// Adds that somebody arrived, and in whose stead the place is tried where it is an alternate.
+fn push_arrival(
+    text: &mut Vec<u8>,
+    plan: &Plan,
+    past: &[Entry],
+    entry: &Entry,
+) -> Result<(), OutOfMemory> {
+    push_word(text, b"arrived")?;
+    if let Some(undone) = undone_before(plan, past, entry.place) {
+        push_word(text, b"to try it in place of")?;
+        push_word(text, plan.action_name(undone))?;
+        push_word(text, b"which was undone")?;
     }
     Ok(())
 }

@@ -1,20 +1,11 @@
 //! Texts that are put together from words.
 
 use caa_base::written::entry::{Entry, Exception, Kind, OutOfMemory, Place};
-use caa_base::written::line::{push_number, push_word};
+use caa_base::written::line::push_word;
 use journal_text::texts::text_writer::{kind_word, push_object, push_outcome, push_verdict};
 use place_plan::plans::plan::Plan;
 use place_plan::rules::one_entry::{outcome_at, verdict_at};
 use std::alloc::Global;
-
-/// The name of a participant, which is empty past the last one.
-pub fn participant_name(plan: &Plan, by: u32) -> &[u8] {
-    if by < plan.participants() {
-        plan.participant_name(by)
-    } else {
-        b""
-    }
-}
 
 /// The name of an exception that is raised in a place.
 pub fn internal_name(plan: &Plan, place: Place, exception: Exception) -> &[u8] {
@@ -32,12 +23,6 @@ pub fn carried_name<'a>(plan: &'a Plan, entry: &Entry) -> &'a [u8] {
         Some(outer) => internal_name(plan, outer, entry.arg),
         None => b"",
     }
-}
-
-/// Adds the number of a place, after a space, and the name of its action.
-pub fn push_place(text: &mut Vec<u8>, plan: &Plan, place: Place) -> Result<(), OutOfMemory> {
-    push_number(text, u64::from(place))?;
-    push_word(text, plan.action_name(place))
 }
 
 /// What stands beside the mark of an entry.

@@ -2,12 +2,12 @@
 #![tactic(auto)]
 
 pub mod characters;
-mod covers;
+pub mod covers;
 pub mod dot;
 pub mod explaining;
 mod graph_faults;
 pub mod line_table;
-mod looking;
+pub mod looking;
 pub mod misread;
 pub mod page;
 mod said_twice;
@@ -15,6 +15,5 @@ mod scene;
 mod shapes;
 mod sizes;
 pub mod source;
-pub mod table;
 mod unfilled;
 pub mod unknown;

@@ -1,0 +1,2 @@
+pub mod StanceLemmas
+pub mod TurnLemmas

@@ -1,0 +1,23 @@
+use Rattle.std.proofs.Common.{◌≡◌, ◌++◌, List, ap, ◌∙◌}
+use Rattle.journal_pictures.specs.declared.marks.Mark.{Mark}
+use Rattle.journal_pictures.specs.Pictures.{front_text, body_text}
+use Rattle.journal_pictures.proofs.chart.text_of.Goals as goal
+
+pub returns : goal.returns
+returns c =
+    let view = c.args.view.now in
+    let parts = c.args.parts.now in
+    let front = front_text view.width c.height.result in
+    let begun : c.push_front.new.text.items ≡ front = c.in_ok-push_front.ensures ∙ ap (λ t. t ++ front) c.new-text.ensures.items in
+    let body = λ (marks : List Mark). body_text view.plan.now view.axes.now parts.shapes.items parts.bars.items marks in
+    record {
+      width = view.width;
+      height = c.height.result;
+      axes = view.axes.now;
+      shapes = parts.shapes.items;
+      bars = parts.bars.items;
+      right = c.requires.bars;
+      same = c.in_ok-push_body.ensures
+          ∙ ap (λ t. t ++ body parts.marks.items) begun
+          ∙ ap (λ marks. front ++ body marks) c.requires.marks;
+    }

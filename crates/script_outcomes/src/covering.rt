@@ -1,0 +1,203 @@
+//! The exceptions of a graph of a script, and which of them can be resolved.
+
+ghost use Rattle.std.specs.Prelude.{◌≡◌, ◌<◌, ◌↔◌, length, IsTrue, IfOk};
+ghost use Rattle.std.specs.List.{All, filter};
+ghost use Rattle.cover_table.specs.Cover.{IsLeastCover, covers};
+ghost use Rattle.script_outcomes.specs.Resolvable.{CanBeResolved, NoneIsLeftOut};
+
+use action_script::forms::script::Script;
+use caa_base::written::entry::OutOfMemory;
+use cover_table::MOST_EXCEPTIONS;
+use exception_graph::{Graph, GraphError};
+use script_views::covers::{CoverLine, covers_of};
+use script_views::looking::{exceptions_of, graph_block};
+use std::alloc::Global;
+
+/// Those of these numbers that an exception covers.
+fn covered(
+    alloc: Global,
+    graph: &Graph,
+    raised: &[u32],
+    exception: u32,
+) -> Result<Vec<u32>, OutOfMemory>
+    requires exception { exception < graph.now.count }
+    requires raised { All (λ r. r < graph.now.count) raised.now }
+    ensures { IfOk result (λ those. those.items ≡ filter (covers graph.now exception) raised.now) }
+{
+    let mut those = Vec::new(alloc);
+    for one in raised {
+        if graph.covers(exception, *one) {
+            those.push(*one)?;
+        }
+    }
+    Ok(those)
+}
+
+/// Whether an exception can be resolved where only these can be raised: it covers one of them, and is the least that covers all
+/// those which it covers.
+pub fn can_be_resolved(
+    alloc: Global,
+    graph: &Graph,
+    raised: &[u32],
+    exception: u32,
+) -> Result<bool, OutOfMemory>
+    requires exception { exception < graph.now.count }
+    requires raised { All (λ r. r < graph.now.count) raised.now }
+    ensures { IfOk result (λ can. IsTrue can ↔ CanBeResolved graph.now raised.now exception) }
+{
+    let those = covered(alloc, graph, raised, exception)?;
+    if those.is_empty() {
+        return Ok(false);
+    }
+    graph.is_sound();
+    Ok(graph.least(&those) == exception)
+}
+
+/// Whatever is raised together of what can be raised, its least cover is one of those that can be resolved.
+pub fn none_is_left_out(graph: &Graph, raised: &[u32])
+    ensures { NoneIsLeftOut graph.now raised.now }
+{
+    let _ = graph;
+    let _ = raised;
+}
+
+/// The exceptions of a graph of a script, by the numbers of their names, `universal` first, and which of them covers which.
+#[derive(Drop)]
+pub struct Exceptions {
+    names: Vec<u32>,
+    /// None where the graph is refused; then nothing is ruled out.
+    graph: Option<Graph>,
+}
+
+/// Where a name stands among the exceptions of a graph; 0, as `universal`, where it is none of them.
+fn index_in(names: &[u32], name: u32) -> u32 {
+    let mut index = 0u32;
+    for other in names {
+        if *other == name {
+            return index;
+        }
+        index = index.saturating_add(1);
+    }
+    0
+}
+
+/// Which exceptions cover which, by their numbers in the graph.
+fn pairs_of(
+    alloc: Global,
+    names: &[u32],
+    covers: &[CoverLine],
+) -> Result<Vec<(u32, u32)>, OutOfMemory> {
+    let mut pairs = Vec::new(alloc);
+    for cover in covers {
+        pairs.push((index_in(names, cover.upper), index_in(names, cover.lower)))?;
+    }
+    Ok(pairs)
+}
+
+/// Whether all these numbers are below another.
+fn are_below(numbers: &[u32], count: u32) -> bool
+    ensures { IsTrue result → All (λ r. r < count) numbers.now }
+{
+    for number in numbers {
+        if *number >= count {
+            return false;
+        }
+    }
+    true
+}
+
+/// Whether all numbers of these pairs are below another.
+fn pairs_are_below(pairs: &[(u32, u32)], count: u32) -> bool
+    ensures { IsTrue result → All (λ p. (p.0 < count) × (p.1 < count)) pairs.now }
+{
+    for pair in pairs {
+        if pair.0 >= count || pair.1 >= count {
+            return false;
+        }
+    }
+    true
+}
+
+/// The graph of these exceptions, if it isn't refused.
+fn built(alloc: Global, names: &[u32], pairs: &[(u32, u32)]) -> Result<Option<Graph>, OutOfMemory> {
+    let count = names.len().min(MOST_EXCEPTIONS) as u32;
+    if count == 0 || !pairs_are_below(pairs, count) {
+        return Ok(None);
+    }
+    match Graph::build(alloc, count, pairs) {
+        Ok(graph) => Ok(Some(graph)),
+        Err(GraphError::OutOfMemory) => Err(OutOfMemory),
+        Err(_) => Ok(None),
+    }
+}
+
+impl Exceptions {
+    /// Those of the graph of this name, or `universal` alone where none is named.
+    pub fn of(
+        alloc: Global,
+        script: &Script,
+        graph: Option<u32>,
+    ) -> Result<Exceptions, OutOfMemory> {
+        let block = match graph {
+            Some(name) => graph_block(script.lines(), name),
+            None => &[],
+        };
+        let mut names = exceptions_of(alloc, block)?;
+        names.insert(0, script.universal())?;
+        let covers = covers_of(alloc, block)?;
+        let pairs = pairs_of(alloc, &names, &covers)?;
+        let graph = built(alloc, &names, &pairs)?;
+        Ok(Exceptions { names, graph })
+    }
+
+    /// The numbers of their names, `universal` first.
+    pub fn names(&self) -> &[u32] {
+        &self.names
+    }
+
+    /// The numbers in the graph that these names have.
+    fn numbers_of(&self, alloc: Global, names: &[u32]) -> Result<Vec<u32>, OutOfMemory> {
+        let mut numbers = Vec::new(alloc);
+        for name in names {
+            numbers.push(index_in(&self.names, *name))?;
+        }
+        Ok(numbers)
+    }
+
+    /// The name of this number in the graph.
+    fn name_at(&self, number: u32) -> u32 {
+        match self.names.get(number as usize) {
+            Some(name) => *name,
+            None => 0,
+        }
+    }
+
+    /// The least exception that covers all of these; none where there are none, or the graph is refused.
+    pub fn least(&self, alloc: Global, names: &[u32]) -> Result<Option<u32>, OutOfMemory> {
+        let numbers = self.numbers_of(alloc, names)?;
+        let Some(graph) = &self.graph else {
+            return Ok(None);
+        };
+        if numbers.is_empty() || !are_below(&numbers, graph.count()) {
+            return Ok(None);
+        }
+        Ok(Some(self.name_at(graph.least(&numbers))))
+    }
+
+    /// Whether an exception can be resolved where only these can be raised.
+    pub fn can_be_resolved(
+        &self,
+        alloc: Global,
+        raised: &[u32],
+        name: u32,
+    ) -> Result<bool, OutOfMemory> {
+        let numbers = self.numbers_of(alloc, raised)?;
+        let number = index_in(&self.names, name);
+        match &self.graph {
+            Some(graph) if number < graph.count() && are_below(&numbers, graph.count()) => {
+                can_be_resolved(alloc, graph, &numbers, number)
+            }
+            _ => Ok(true),
+        }
+    }
+}

@@ -1,0 +1,228 @@
+//! What the text of a script tells of each of its actions.
+
+use crate::covering::Exceptions;
+use crate::programs::{Program, body_of, handler_of};
+use crate::sources::{Ground, Source, named_in, set_back_by, sources_of};
+use crate::ways::{Way, add_way, way_of};
+use action_script::forms::form::Form;
+use action_script::forms::script::{Line, Script};
+use caa_base::written::entry::OutOfMemory;
+use script_views::looking::{action_block, internal_of, roles_of};
+use std::alloc::Global;
+
+/// What is told of an exception of the internal graph of an action.
+#[derive(Drop)]
+pub struct Row {
+    /// The number of its name.
+    pub exception: u32,
+    /// The lines of the steps and of the nested uses that can raise it, ascending.
+    pub lines: Vec<u32>,
+    /// Whether it can be resolved, by the text alone. Where it can't, it never is, whatever the order and the device.
+    pub can_come: bool,
+    /// How a place ends in which it is resolved, where each handler goes through to its end.
+    pub way: Way,
+    /// Whether a step of a handler can be refused, or can raise: then all is set back.
+    pub can_fail: bool,
+}
+
+/// What is told of an action. Exceptions and all else go by the numbers of their names.
+#[derive(Drop)]
+pub struct Outlook {
+    pub action: u32,
+    /// The objects, in the order in which they are set back.
+    pub set_back: Vec<u32>,
+    /// What its roles name where it is given up.
+    pub named: Vec<u32>,
+    /// A row for each exception of the internal graph, `universal` first.
+    pub rows: Vec<Row>,
+    /// All ways in which a place of it can end where nothing outside gives it up.
+    pub ways: Vec<Way>,
+}
+
+/// The interface graph that an action names.
+fn interface_of(block: &[Line]) -> Option<u32> {
+    for line in block {
+        if let Form::Interface(graph) = &line.form {
+            return Some(*graph);
+        }
+    }
+    None
+}
+
+/// The handlers of all roles for an exception, in the order of the roles.
+pub fn handlers_of(
+    alloc: Global,
+    block: &[Line],
+    exception: u32,
+) -> Result<Vec<Option<Program>>, OutOfMemory> {
+    let mut programs = Vec::new(alloc);
+    for role in roles_of(block) {
+        programs.push(handler_of(block, *role, exception))?;
+    }
+    Ok(programs)
+}
+
+/// The bodies of all roles.
+fn bodies_of(alloc: Global, block: &[Line]) -> Result<Vec<Option<Program>>, OutOfMemory> {
+    let mut programs = Vec::new(alloc);
+    for role in roles_of(block) {
+        programs.push(Some(body_of(block, *role)))?;
+    }
+    Ok(programs)
+}
+
+/// What is raised by these.
+fn exceptions_in(alloc: Global, sources: &[Source]) -> Result<Vec<u32>, OutOfMemory> {
+    let mut raised = Vec::new(alloc);
+    for source in sources {
+        if !raised.as_slice().contains(&source.exception) {
+            raised.push(source.exception)?;
+        }
+    }
+    Ok(raised)
+}
+
+/// The lines of those that raise an exception.
+fn lines_in(alloc: Global, sources: &[Source], exception: u32) -> Result<Vec<u32>, OutOfMemory> {
+    let mut lines = Vec::new(alloc);
+    for source in sources {
+        if source.exception == exception && !lines.as_slice().contains(&source.line) {
+            lines.push(source.line)?;
+        }
+    }
+    lines.sort()?;
+    Ok(lines)
+}
+
+/// An action with its graphs and what can raise an exception in it.
+#[derive(Drop)]
+struct Inside<'a> {
+    block: &'a [Line],
+    internal: Exceptions,
+    interface: Exceptions,
+    sources: Vec<Source>,
+    raised: Vec<u32>,
+    universal: u32,
+}
+
+impl<'a> Inside<'a> {
+    /// Looks into the action that has these lines; of those above it this is known.
+    fn of(
+        alloc: Global,
+        script: &Script,
+        block: &'a [Line],
+        known: &[Outlook],
+    ) -> Result<Inside<'a>, OutOfMemory> {
+        let universal = script.universal();
+        let sources = sources_of(
+            alloc,
+            &Ground {
+                block,
+                known,
+                universal,
+            },
+        )?;
+        let raised = exceptions_in(alloc, &sources)?;
+        Ok(Inside {
+            block,
+            internal: Exceptions::of(alloc, script, internal_of(block))?,
+            interface: Exceptions::of(alloc, script, interface_of(block))?,
+            sources,
+            raised,
+            universal,
+        })
+    }
+
+    /// How a place ends whose roles go through these programs to the end.
+    fn way_of(
+        &self,
+        alloc: Global,
+        programs: &[Option<Program>],
+        is_handler: bool,
+    ) -> Result<Way, OutOfMemory> {
+        way_of(alloc, &self.interface, programs, is_handler, self.universal)
+    }
+
+    /// What is told of an exception.
+    fn row(&self, alloc: Global, exception: u32) -> Result<Row, OutOfMemory> {
+        let programs = handlers_of(alloc, self.block, exception)?;
+        Ok(Row {
+            exception,
+            lines: lines_in(alloc, &self.sources, exception)?,
+            can_come: self
+                .internal
+                .can_be_resolved(alloc, &self.raised, exception)?,
+            way: self.way_of(alloc, &programs, true)?,
+            can_fail: programs.iter().flatten().any(|program| program.can_fail()),
+        })
+    }
+
+    /// What is told of all exceptions of the internal graph.
+    fn rows(&self, alloc: Global) -> Result<Vec<Row>, OutOfMemory> {
+        let mut rows = Vec::new(alloc);
+        for exception in self.internal.names() {
+            rows.push(self.row(alloc, *exception)?)?;
+        }
+        Ok(rows)
+    }
+
+    /// Adds how a place ends in which nothing is raised, unless a body surely raises.
+    fn add_calm(&self, alloc: Global, ways: &mut Vec<Way>) -> Result<(), OutOfMemory> {
+        let bodies = bodies_of(alloc, self.block)?;
+        if bodies.iter().flatten().any(|body| body.raises()) {
+            return Ok(());
+        }
+        add_way(ways, self.way_of(alloc, &bodies, false)?)
+    }
+
+    /// All ways in which a place can end, with these rows and these objects.
+    fn ways(&self, alloc: Global, rows: &[Row], set_back: &[u32]) -> Result<Vec<Way>, OutOfMemory> {
+        let mut ways = Vec::new(alloc);
+        self.add_calm(alloc, &mut ways)?;
+        for row in rows {
+            if row.can_come {
+                add_way(&mut ways, row.way)?;
+            }
+            if row.can_come && row.can_fail {
+                add_way(&mut ways, Way::Undone)?;
+            }
+        }
+        if ways.as_slice().contains(&Way::Undone) && !set_back.is_empty() {
+            add_way(&mut ways, Way::Failed)?;
+        }
+        Ok(ways)
+    }
+}
+
+/// What is told of an action; of those above it this is known.
+fn looked_at(
+    alloc: Global,
+    script: &Script,
+    action: u32,
+    known: &[Outlook],
+) -> Result<Outlook, OutOfMemory> {
+    let block = action_block(script.lines(), action);
+    let inside = Inside::of(alloc, script, block, known)?;
+    let rows = inside.rows(alloc)?;
+    let set_back = set_back_by(alloc, script.lines(), block)?;
+    let ways = inside.ways(alloc, &rows, &set_back)?;
+    Ok(Outlook {
+        action,
+        set_back,
+        named: named_in(alloc, block)?,
+        rows,
+        ways,
+    })
+}
+
+/// What the text of a script that isn't refused tells of each of its actions, in their order.
+pub fn outlooks(alloc: Global, script: &Script) -> Result<Vec<Outlook>, OutOfMemory> {
+    let mut known = Vec::new(alloc);
+    for line in script.lines() {
+        if let Form::Action(action) = &line.form {
+            let next = looked_at(alloc, script, *action, &known)?;
+            known.push(next)?;
+        }
+    }
+    Ok(known)
+}

@@ -1,0 +1,128 @@
+//! Bodies and handlers of an action: the lines of their steps, and what they say at the end.
+
+use action_script::forms::form::Form;
+use action_script::forms::script::Line;
+
+/// What a body or a handler says at its end.
+#[derive(Clone, Copy, PartialEq, Eq)]
+pub enum Said {
+    Done,
+    /// The name of this number.
+    Signal(u32),
+    Undo,
+}
+
+/// The lines of the steps of a body or a handler, and what it says behind them.
+#[derive(Clone, Copy)]
+pub struct Program<'a> {
+    pub steps: &'a [Line],
+    pub said: Said,
+}
+
+/// Whether a line is a step.
+fn is_step(line: &Line) -> bool {
+    matches!(
+        &line.form,
+        Form::ReadStep(_)
+            | Form::PutStep(_, _)
+            | Form::AddStep(_, _)
+            | Form::WorkStep(_)
+            | Form::CheckStep(_, _, _)
+            | Form::RaiseStep(_)
+            | Form::EnterStep(_)
+    )
+}
+
+/// How many of these lines are steps, up to the first that is none.
+fn steps_in(lines: &[Line]) -> usize {
+    for (index, line) in lines.iter().enumerate() {
+        if !is_step(line) {
+            return index;
+        }
+    }
+    lines.len()
+}
+
+/// What a line says that stands behind the steps.
+fn said_by(line: Option<&Line>) -> Said {
+    let Some(line) = line else {
+        return Said::Done;
+    };
+    match &line.form {
+        Form::SignalLine(exception) => Said::Signal(*exception),
+        Form::UndoLine => Said::Undo,
+        _ => Said::Done,
+    }
+}
+
+/// The program that begins behind the line of this index.
+fn program_behind(block: &[Line], index: usize) -> Program {
+    let lines = block.get(index.saturating_add(1)..).unwrap_or(&[]);
+    let count = steps_in(lines);
+    Program {
+        steps: lines.get(..count).unwrap_or(&[]),
+        said: said_by(lines.get(count)),
+    }
+}
+
+/// The body of a role: without steps, and done, where the action has no line for it.
+pub fn body_of(block: &[Line], role: u32) -> Program {
+    for (index, line) in block.iter().enumerate() {
+        if matches!(&line.form, Form::Body(name) if *name == role) {
+            return program_behind(block, index);
+        }
+    }
+    Program {
+        steps: &[],
+        said: Said::Done,
+    }
+}
+
+/// The handler that a role has for an exception.
+pub fn handler_of(block: &[Line], role: u32, exception: u32) -> Option<Program> {
+    for (index, line) in block.iter().enumerate() {
+        if matches!(&line.form, Form::Handler(who, what) if *who == role && *what == exception) {
+            return Some(program_behind(block, index));
+        }
+    }
+    None
+}
+
+impl<'a> Program<'a> {
+    /// The steps up to the first `raise`, that one too: nobody comes past it.
+    pub fn reached(&self) -> &'a [Line] {
+        for (index, line) in self.steps.iter().enumerate() {
+            if matches!(&line.form, Form::RaiseStep(_)) {
+                return self
+                    .steps
+                    .get(..index.saturating_add(1))
+                    .unwrap_or(self.steps);
+            }
+        }
+        self.steps
+    }
+
+    /// Whether it comes to a `raise`, unless it is halted before.
+    pub fn raises(&self) -> bool {
+        self.steps
+            .iter()
+            .any(|line| matches!(&line.form, Form::RaiseStep(_)))
+    }
+
+    /// Whether a step of it can be refused, or can raise something where its register meets a test.
+    pub fn can_fail(&self) -> bool {
+        self.reached().iter().any(|line| {
+            matches!(
+                &line.form,
+                Form::PutStep(_, _) | Form::AddStep(_, _) | Form::CheckStep(_, _, _)
+            )
+        })
+    }
+
+    /// Whether it comes to the line that enters a nested use.
+    pub fn enters(&self, nest: u32) -> bool {
+        self.reached().iter().any(
+            |line| matches!(&line.form, Form::EnterStep(name) if *name == nest),
+        )
+    }
+}
