@@ -1,2 +1,3 @@
 pub mod StanceLemmas
 pub mod TurnLemmas
+pub mod TextLemmas
