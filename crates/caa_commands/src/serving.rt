@@ -191,7 +191,7 @@ fn most_bytes(command: Command) -> u64
 }
 
 /// What a call comes to whose input wasn't read to its end.
-fn unread(error: ReadError) -> Finding
+pub fn unread(error: ReadError) -> Finding
     ensures { result ≡ unread_finding error }
 {
     match error {
