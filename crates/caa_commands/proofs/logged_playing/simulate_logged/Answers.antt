@@ -26,11 +26,11 @@ returns-clause-comes g c =
     let opened = c.in-Ok.ensures in
     let began = c.new-logged.ensures.machine in
     let over = c.into_parts-hall.ensures.machine in
-    let told = c.ended.ensures in
+    let told = c.ended-2.ensures in
     let plan = c.args.plan in
     let plant = c.into_parts-plan.result.1 in
     let journal = c.into_parts-plan.result.2.entries in
-    let finding = c.ended.result.finding in
+    let finding = c.ended-2.result.finding in
     let same : c.into_parts-plan.result.0 ≡ plan =
     parts.plan ∙ ap plan_in over ∙ c.sim.ensures.plan ∙ ap plan_in began ∙ opened.plan in
     let based : base_in c.into_parts-hall.result.0 ≡ base_in c.in-Ok.opened.0 =
@@ -68,9 +68,9 @@ returns-clause-comes g c =
 pub returns-clause-logged : goal.returns-clause-logged
 returns-clause-logged g c =
     let parts = c.into_parts-plan.ensures in
-    let told = c.ended.ensures in
+    let told = c.ended-2.ensures in
     let journal = c.into_parts-plan.result.2.entries in
-    let finding = c.ended.result.finding in
+    let finding = c.ended-2.result.finding in
     let planned = ap plan_in c.into_parts-hall.ensures.machine ∙ c.sim.ensures.plan ∙ ap plan_in c.new-logged.ensures.machine
     ∙ c.in-Ok.ensures.plan in
     let seen = subst₂ (λ p s. EndsAs p journal s finding) (parts.plan ∙ planned) c.empty.ensures.seens told.ends in
