@@ -1,5 +1,3 @@
-ghost use Rattle.std.specs.Prelude.{◌≤◌, IfSome};
-
 use action_script::words::word::natural_of;
 
 /// The greatest seed.
@@ -17,6 +15,10 @@ pub struct Call<'a> {
     pub script: &'a str,
     /// The path of the file that the journal is written to; what it had is lost.
     pub journal: &'a str,
+    /// Whether the device is still asked after a play that ended as failed.
+    pub goes_on: bool,
+    /// Whether each line of the journal waits until the disk has it.
+    pub syncs: bool,
 }
 
 /// What a call of the program asks for.
@@ -33,9 +35,7 @@ pub enum Asked<'a> {
 }
 
 /// How many of the words say how to play; none where they say nothing that is known.
-fn command_words(words: &[String]) -> Option<usize>
-    ensures { IfSome result (λ count. count ≤ 2) }
-{
+fn command_words(words: &[String]) -> Option<usize> {
     let (way, rest) = words.split_first()?;
     let number = rest.first()?.as_bytes();
     match way.as_str() {
@@ -46,8 +46,18 @@ fn command_words(words: &[String]) -> Option<usize>
     }
 }
 
+/// How many of the first words are options.
+fn option_words(words: &[String]) -> usize {
+    let mut options = 0;
+    while options < words.len() && matches!(words[options].as_str(), "--go-on" | "--sync") {
+        options += 1;
+    }
+    options
+}
+
 /// The call that plays, of these words.
 fn call_of(words: &[String]) -> Option<Call<'_>> {
+    let (options, words) = words.split_at(option_words(words));
     let command = command_words(words)?;
     if words.len() != command + 2 {
         return None;
@@ -56,11 +66,13 @@ fn call_of(words: &[String]) -> Option<Call<'_>> {
         command: &words[..command],
         script: words[command].as_str(),
         journal: words[command + 1].as_str(),
+        goes_on: options.iter().any(|word| word.as_str() == "--go-on"),
+        syncs: options.iter().any(|word| word.as_str() == "--sync"),
     })
 }
 
-/// What these words ask for: `sim SEED SCRIPT JOURNAL`, `run SCRIPT JOURNAL` or `pool W SCRIPT JOURNAL`; or `--help` or `--version`
-/// alone.
+/// What these words ask for: `[--go-on] [--sync]` and `sim SEED SCRIPT JOURNAL`, `run SCRIPT JOURNAL` or `pool W SCRIPT JOURNAL`; or
+/// `--help` or `--version` alone.
 pub fn asked_by(words: &[String]) -> Asked<'_> {
     if let [word] = words {
         return match word.as_str() {
