@@ -1,3 +1,5 @@
+ghost use Rattle.std.specs.Prelude.{◌≤◌, IfSome};
+
 use action_script::words::word::natural_of;
 
 /// The greatest seed.
@@ -35,7 +37,9 @@ pub enum Asked<'a> {
 }
 
 /// How many of the words say how to play; none where they say nothing that is known.
-fn command_words(words: &[String]) -> Option<usize> {
+fn command_words(words: &[String]) -> Option<usize>
+    ensures { IfSome result (λ count. count ≤ 2) }
+{
     let (way, rest) = words.split_first()?;
     let number = rest.first()?.as_bytes();
     match way.as_str() {
@@ -57,7 +61,9 @@ fn option_words(words: &[String]) -> usize {
 
 /// The call that plays, of these words.
 fn call_of(words: &[String]) -> Option<Call<'_>> {
-    let (options, words) = words.split_at(option_words(words));
+    let count = option_words(words);
+    let options = words.get(..count)?;
+    let words = words.get(count..)?;
     let command = command_words(words)?;
     if words.len() != command + 2 {
         return None;
