@@ -1,5 +1,5 @@
 -- What a call with a log answers.
-use Rattle.std.proofs.Common.{◌≡◌, ◌⊎◌, inl, inr, ℕ, true, false, List, [], ◌++◌, length, take, reverse, append_assoc, Option, Some, None, IfSome, is_some, refl, sym, ap, ◌∙◌, subst, subst₂, arith}
+use Rattle.std.proofs.Common.{◌≡◌, ◌⊎◌, inl, inr, ℕ, true, false, List, [], ◌++◌, length, take, reverse, append_assoc, Option, Some, None, IfSome, is_some, refl, sym, ap, ◌∙◌, subst, subst₂, arith, if◌then◌else◌}
 use Rattle.std.specs.Io.KnownBytes.{append_known}
 use Rattle.std.specs.List.{flat_map}
 use Rattle.std.proofs.Math.Logic.{∥∥₁_map}
@@ -25,7 +25,7 @@ use Rattle.caa_commands.specs.declared.logging.LogUse.{LogUse}
 use Rattle.caa_commands.specs.declared.logging.LogUse.TheVariants as log
 use Rattle.caa_commands.specs.declared.status.Status.{Status}
 use Rattle.caa_commands.specs.declared.status.Status.TheVariants as status
-use Rattle.caa_commands.specs.Findings.{status_of, is_played}
+use Rattle.caa_commands.specs.Findings.{status_of, finding_text, is_played}
 use Rattle.caa_commands.specs.OutsideUse.{SourceUse, SinkUse, Left, Call, sink_use, plant_use, left_of, call_of}
 use Rattle.caa_commands.specs.Calls.{EndsAs, DoesNotBegin, PlanComesTo, CameTo, Answers, Tells, IsServed, InputComesTo}
 use Rattle.caa_commands.specs.Served.{NothingFailed, MissesNothing, IsSpared}
@@ -41,48 +41,69 @@ pub text_behind : (plan : Plan) (journal : List Entry) (seens : List Seen)
     ≡ log_text plan journal ++ (closing_lines plan (reverse journal) ++ flat_map (seen_line plan) seens)
 text_behind plan journal seens = append_assoc (log_text plan journal) (closing_lines plan (reverse journal)) (flat_map (seen_line plan) seens)
 
-module _ {K : Type 0} (sinks : SinkGhosts K) (log : SinkLog K) (plan : Plan) (journal : List Entry) where
+module _ {K : Type 0} (sinks : SinkGhosts K) (kept : SinkLog K) (plan : Plan) (journal : List Entry) where
   -- whatever a log tells, the sink took a front of the text of the entries
-  pub took_front : (s : LogState) → TellsBy s sinks log plan journal
-      → TookFront (log_text plan journal) (sink_use sinks log.opened log.sink)
+  pub took_front : (s : LogState) → TellsBy s sinks kept plan journal
+      → TookFront (log_text plan journal) (sink_use sinks kept.opened kept.sink)
   took_front state.Whole told = record {
     count = length (log_text plan journal);
     within = omega arith;
-    front = told.lines.written ∙ ap (append_known (sinks.held log.opened)) (sym (take_all _ _ (omega arith)));
+    front = told.lines.written ∙ ap (append_known (sinks.held kept.opened)) (sym (take_all (length (log_text plan journal)) (log_text plan journal) (omega arith)));
     cause = inl told.lines.unfailed;
   }
   took_front state.Failed told =
-      let part = stopped_part sinks plan journal (log_text plan journal) [] (sym (append-nil (log_text plan journal))) log told.0 in
+      let part = stopped_part sinks plan journal (log_text plan journal) [] (sym (append-nil (log_text plan journal))) kept told.0 in
       record { count = part.count; within = omega (arith, part.proper); front = part.front; cause = inr (told.1, part.proper) }
   took_front state.NoMemory told =
-      let part = stopped_part sinks plan journal (log_text plan journal) [] (sym (append-nil (log_text plan journal))) log told.0 in
+      let part = stopped_part sinks plan journal (log_text plan journal) [] (sym (append-nil (log_text plan journal))) kept told.0 in
       record { count = part.count; within = omega (arith, part.proper); front = part.front; cause = inl told.1 }
 
-  pub left_off : (found : Finding) (answer : Status) → answer ≡ status.OutOfMemory → LogTells sinks log plan journal
-      → EndsLog plan found journal (sink_use sinks log.opened log.sink) answer
-  left_off found answer is told = inr (is, took_front log.state told.1)
+  -- no memory was found for the rest
+  pub left_off : (found : Finding) (answer : Status) → answer ≡ status.OutOfMemory → LogTells sinks kept plan journal
+      → EndsLog plan found journal (sink_use sinks kept.opened kept.sink) answer
+  left_off found answer is told = inr (is, took_front kept.state told.1)
 
   -- the rest was written, and so the text
-  pub all_told : (new : K) (failed : _) (text : _) (found : Finding) (answer : Status) → found ≡ finding.Played failed text
-      → answer ≡ status_of found → WasWritten sinks log.opened new text.items
-      → EndsLog plan found journal (sink_use sinks log.opened new) answer
-  all_told new failed text found answer is status came = subst (λ f. answer ≡ status_of f → EndsLog plan f journal (sink_use sinks log.opened new) answer) (sym is)
-      (λ s. inl (inl (record { kept = refl; answered = s; written = came.written; unfailed = came.unfailed }))) status
+  pub all_told : (new : K) (found : Finding) (answer : Status) (bytes : List ℕ) → bytes ≡ finding_text found
+      → answer ≡ status_of found → WasWritten sinks kept.opened new bytes
+      → EndsLog plan found journal (sink_use sinks kept.opened new) answer
+  all_told new found answer bytes is status came = inl (inl (record {
+    kept = refl;
+    answered = status;
+    written = came.written ∙ ap (append_known (sinks.held kept.opened)) is;
+    unfailed = came.unfailed;
+  }))
 
   -- a write failed, now or before
-  pub cut_told : (new : K) (failed : _) (text : _) (found : Finding) (answer : Status) → found ≡ finding.Played failed text
-      → answer ≡ status.SinkFault → WasCut sinks log.opened new text.items
-      → EndsLog plan found journal (sink_use sinks log.opened new) answer
-  cut_told new failed text found answer is status came = subst (λ f. EndsLog plan f journal (sink_use sinks log.opened new) answer) (sym is)
-      (inl (inr (inl (record { kept = refl; answered = status; part = came.part; cause = came.cause }))))
+  pub cut_told : (new : K) (found : Finding) (answer : Status) (bytes : List ℕ) → bytes ≡ finding_text found → is_played found ≡ true
+      → answer ≡ status.SinkFault → WasCut sinks kept.opened new bytes
+      → EndsLog plan found journal (sink_use sinks kept.opened new) answer
+  cut_told new found answer bytes is played status came = inl (inr (inl (record {
+    kept = subst (λ b. journal ≡ (if b then journal else [])) (sym played) refl;
+    answered = status;
+    part = subst (WrotePart (sinks.held kept.opened) (sinks.held new)) is came.part;
+    cause = came.cause;
+  })))
+
+module _ {K : Type 0} (sinks : SinkGhosts K) (sink : K) (found : Finding) (journal : List Entry) where
+  -- nothing was written yet
+  pub not_used : (holds : SinkLog K → Type 0) (became : LogUse K) → became ≡ log.Untouched sink → WasUsed sinks sink holds found journal became
+  not_used holds became is = subst (WasUsed sinks sink holds found journal) (sym is) refl
+
+  -- what follows from this of a log holds of it too
+  pub used_as : (one other : SinkLog K → Type 0) (became : LogUse K) → ((kept : SinkLog K) → one kept → other kept)
+      → WasUsed sinks sink one found journal became → WasUsed sinks sink other found journal became
+  used_as one other (log.Untouched left) f used = used
+  used_as one other (log.Unopened left) f used = used
+  used_as one other (log.Kept kept) f used = f kept used
 
 -- ---- what is answered
 
 -- two fresh sinks hold the same, where both tell it or neither does
 fresh_held : (a b : Option (List ℕ)) → IfSome a (λ x. x ≡ []) → IfSome b (λ x. x ≡ []) → is_some a ≡ is_some b → a ≡ b
 fresh_held None None p q e = refl
-fresh_held None (Some y) p q e = absurd cc
-fresh_held (Some x) None p q e = absurd cc
+fresh_held None (Some y) p q e = let no : false ≡ true = e in absurd cc
+fresh_held (Some x) None p q e = let no : true ≡ false = e in absurd cc
 fresh_held (Some x) (Some y) p q e = ap Some (p ∙ sym q)
 
 -- so what was written since is the same of both
@@ -131,11 +152,11 @@ module _ {K P : Type 0} (sinks : SinkGhosts K) (plants : PlantGhosts P) (asked :
       → Tells found journal handed sink answer → Answers (call_with after handed) sink answer
   told_as_ever after journal handed sink came tells = record { finding = found; journal = journal; came = came; tells = tells }
 
-  kept_told : (log : SinkLog K) (new : K) (after : P) (journal : List Entry) (sink : K) → CameTo (call_with after journal) found
-      → (played : PlayedInLog sinks (call_with after journal) found log)
+  kept_told : (kept : SinkLog K) (new : K) (after : P) (journal : List Entry) (sink : K) → CameTo (call_with after journal) found
+      → (played : PlayedInLog sinks (call_with after journal) found kept)
       → EndsLog played.played.plan found journal (sink_use sinks sink new) answer
       → LogAnswers (call_with after journal) (sink_use sinks sink new) answer
-  kept_told log new after journal sink came played ends = elim ends [
+  kept_told kept new after journal sink came played ends = elim ends [
     | inl tells ↦ inl (told_as_ever after journal journal (sink_use sinks sink new) came tells)
     | inr left ↦ inr (inl (record {
       command = played.command;
@@ -153,8 +174,9 @@ module _ {K P : Type 0} (sinks : SinkGhosts K) (plants : PlantGhosts P) (asked :
     }))
   ]
 
-  pub log_answered : (sink new : K) → IsFresh sinks sink → TellsAlike sinks → (after : P) (journal handed : List Entry) (became : LogUse K) → CameTo (call_with after journal) found
-      → WasUsed sinks sink (PlayedInLog sinks (call_with after journal) found) found became
+  pub log_answered : (sink new : K) → IsFresh sinks sink → TellsAlike sinks → (after : P) (journal handed : List Entry)
+      (became : LogUse K) → CameTo (call_with after journal) found
+      → WasUsed sinks sink (PlayedInLog sinks (call_with after journal) found) found journal became
       → ToldBy sinks found journal handed became new answer
       → ∥ LogAnswers (call_with after handed) (sink_use sinks sink new) answer ∥₁
   log_answered sink new fresh alike after journal handed (log.Untouched left) came used told =
@@ -162,7 +184,8 @@ module _ {K P : Type 0} (sinks : SinkGhosts K) (plants : PlantGhosts P) (asked :
       (subst (λ k. Tells found journal handed (sink_use sinks k new) answer) used told)) ∣₁
   log_answered sink new fresh alike after journal handed (log.Unopened left) came used told =
       ∣ inr (inr (record {
-        came = subst₂ (λ j f. CameTo (call_with after j) f) (sym told.0) used.1 came;
+        came = subst₂ (λ j f. CameTo (call_with after j) f) (sym told.0) used.1.0 came;
+        unplayed = told.0 ∙ used.1.1;
         answered = told.2;
         part = subst (λ k. WrotePart (sinks.held sink) (sinks.held k) first_line) (sym told.1) used.0.part;
         cause = ap sinks.faults told.1 ∙ used.0.cause;

@@ -1,5 +1,5 @@
 -- What a call that writes its journal as it plays leaves in its sink, and what it answers.
-use Rattle.std.specs.Prelude.{◌≡◌, ◌⊎◌, ◌<◌, ◌≤◌, ℕ, true, List, length, take, Some, is_some}
+use Rattle.std.specs.Prelude.{◌≡◌, ◌⊎◌, ◌<◌, ◌≤◌, ℕ, true, List, [], length, take, Some, is_some}
 use Rattle.std.specs.Io.KnownBytes.{append_known}
 use Rattle.caa_base.specs.Outside.Counts.{counted_up}
 use Rattle.caa_base.specs.Outside.Writing.{WrotePart}
@@ -31,12 +31,12 @@ pub record IsLogged {K : Type 0} (sinks : SinkGhosts K) (plan : Plan) (journal :
   pub seens : List Seen
   pub ends : EndsAs plan journal seens found
 
--- what became of the sink: nothing was played, and it is as it was; or its first line couldn't be written, so no play began; or this
--- holds of the log
-abbrev pub WasUsed : {K : Type 0} → SinkGhosts K → K → (SinkLog K → Type 0) → Finding → LogUse K → Type 0
-WasUsed sinks sink holds found (log.Untouched left) = left ≡ sink
-WasUsed sinks sink holds found (log.Unopened left) = WasCut sinks sink left first_line × (found ≡ finding.OutOfMemory)
-WasUsed sinks sink holds found (log.Kept kept) = holds kept
+-- what became of the sink: nothing was written yet; or its first line couldn't be written, so no play began; or this holds of the log
+abbrev pub WasUsed : {K : Type 0} → SinkGhosts K → K → (SinkLog K → Type 0) → Finding → List Entry → LogUse K → Type 0
+WasUsed sinks sink holds found journal (log.Untouched left) = left ≡ sink
+WasUsed sinks sink holds found journal (log.Unopened left) =
+    WasCut sinks sink left first_line × ((found ≡ finding.OutOfMemory) × (journal ≡ []))
+WasUsed sinks sink holds found journal (log.Kept kept) = holds kept
 
 -- the script among these bytes was played, and the log tells of that
 pub record ScriptInLog {K P : Type 0} (sinks : SinkGhosts K) (command : Command) (bytes : List ℕ) (left : Left P) (found : Finding)
@@ -102,9 +102,10 @@ pub record WasLeftOff {P : Type 0} (call : Call P) (sink : SinkUse) (answer : St
   pub answered : answer ≡ status.OutOfMemory
   pub front : TookFront (log_text plan call.left.journal) sink
 
--- a write of the first line failed, so no play began; the rest is as where no memory is found for one
+-- a write of the first line failed, so nothing was played; the rest is as where no memory is found for a play
 pub record WasNotBegun {P : Type 0} (call : Call P) (sink : SinkUse) (answer : Status) : Type 0 where
   pub came : CameTo call finding.OutOfMemory
+  pub unplayed : call.left.journal ≡ []
   pub answered : answer ≡ status.SinkFault
   pub part : WrotePart sink.held_before sink.held_after first_line
   pub cause : sink.faults_after ≡ counted_up sink.faults_before

@@ -45,7 +45,8 @@ fn open_both<P: Plant, K: Sink + Drop>(
     ensures told { IfOk result (λ o. Tells ⟦<K as Sink>⟧ o.1 plan []) }
     ensures refused { IfErr result (λ l. DoesNotBegin plan l.decision.finding
         (left_of (plant_use ⟦<P as Plant>⟧ plant l.decision.plant) l.decision.journal.entries)) }
-    ensures unlogged { IfErr result (λ l. WasUsed ⟦<K as Sink>⟧ sink (λ _. ⊥) l.decision.finding l.log) }
+    ensures unlogged { IfErr result (λ l. WasUsed ⟦<K as Sink>⟧ sink (λ _. ⊥)
+        l.decision.finding l.decision.journal.entries l.log) }
 {
     let hall = match open(alloc, plan, plant) {
         Ok(hall) => hall,
@@ -80,7 +81,7 @@ pub fn simulate_logged<P: Plant, K: Sink + Drop, W: Watch + Drop>(
         (left_of (plant_use ⟦<P as Plant>⟧ plant result.decision.plant) result.decision.journal.entries) }
     ensures logged { WasUsed ⟦<K as Sink>⟧ sink
         (IsLogged ⟦<K as Sink>⟧ plan result.decision.journal.entries result.decision.finding)
-        result.decision.finding result.log }
+        result.decision.finding result.decision.journal.entries result.log }
 {
     keeps_laws(&plan);
     is_well_formed(&plan);
@@ -120,7 +121,7 @@ pub fn run_logged<
         (left_of (plant_use ⟦<P as Plant>⟧ plant result.decision.plant) result.decision.journal.entries) }
     ensures logged { WasUsed ⟦<K as Sink>⟧ sink
         (IsLogged ⟦<K as Sink>⟧ plan result.decision.journal.entries result.decision.finding)
-        result.decision.finding result.log }
+        result.decision.finding result.decision.journal.entries result.log }
 {
     keeps_laws(&plan);
     is_well_formed(&plan);
@@ -179,7 +180,7 @@ pub fn pool_logged<
         (left_of (plant_use ⟦<P as Plant>⟧ plant result.decision.plant) result.decision.journal.entries) }
     ensures logged { WasUsed ⟦<K as Sink>⟧ sink
         (IsLogged ⟦<K as Sink>⟧ plan result.decision.journal.entries result.decision.finding)
-        result.decision.finding result.log }
+        result.decision.finding result.decision.journal.entries result.log }
 {
     keeps_laws(&plan);
     is_well_formed(&plan);

@@ -62,7 +62,7 @@ fn simulate_script<P: Plant, K: Sink + Drop, W: Watch + Drop>(
         (ScriptInLog ⟦<K as Sink>⟧ (Command.Sim seed) bytes.now
         (left_of (plant_use ⟦<P as Plant>⟧ plant result.decision.plant) result.decision.journal.entries)
         result.decision.finding)
-        result.decision.finding result.log }
+        result.decision.finding result.decision.journal.entries result.log }
 {
     match plan_of(alloc, bytes) {
         Ok(plan) => simulate_logged(alloc, plan, seed, plant, sink, watcher),
@@ -93,7 +93,7 @@ fn decide_sim<S: Source, P: Plant, K: Sink + Drop, W: Watch + Drop>(
         (source_use ⟦<S as Source>⟧ source.old source.new)
         (left_of (plant_use ⟦<P as Plant>⟧ plant result.decision.plant) result.decision.journal.entries))
         result.decision.finding)
-        result.decision.finding result.log }
+        result.decision.finding result.decision.journal.entries result.log }
     ensures count { S.faults source.old ≤ S.faults source.new }
 {
     match read_all(alloc, source, MOST_SCRIPT_BYTES) {
@@ -125,7 +125,7 @@ pub fn decide_logged<S: Source, P: Plant, K: Sink + Drop, W: Watch + Drop>(
         (source_use ⟦<S as Source>⟧ source.old source.new)
         (left_of (plant_use ⟦<P as Plant>⟧ plant result.decision.plant) result.decision.journal.entries))
         result.decision.finding)
-        result.decision.finding result.log }
+        result.decision.finding result.decision.journal.entries result.log }
     ensures untouched { asks_for_input asked ≡ false → source.new ≡ source.old }
     ensures count { S.faults source.old ≤ S.faults source.new }
 {
@@ -164,7 +164,7 @@ fn play_script<
         (ScriptInLog ⟦<K as Sink>⟧ command bytes.now
         (left_of (plant_use ⟦<P as Plant>⟧ plant result.decision.plant) result.decision.journal.entries)
         result.decision.finding)
-        result.decision.finding result.log }
+        result.decision.finding result.decision.journal.entries result.log }
 {
     match plan_of(alloc, bytes) {
         Ok(plan) => match command {
@@ -211,7 +211,7 @@ pub fn decide_logged_in_threads<
         (source_use ⟦<S as Source>⟧ source.old source.new)
         (left_of (plant_use ⟦<P as Plant>⟧ plant result.decision.plant) result.decision.journal.entries))
         result.decision.finding)
-        result.decision.finding result.log }
+        result.decision.finding result.decision.journal.entries result.log }
     ensures count { S.faults source.old ≤ S.faults source.new }
 {
     match read_all(alloc, source, MOST_SCRIPT_BYTES) {

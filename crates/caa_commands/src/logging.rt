@@ -19,9 +19,9 @@ use entry_log::sink_log::{LogState, SinkLog};
 /// What became of the sink of a call that writes its journal as it plays.
 #[derive(Drop)]
 pub enum LogUse<K> {
-    /// Nothing was played, and the sink is as it was.
+    /// Nothing was written yet: the sink is as it was.
     Untouched(K),
-    /// The first line couldn't be written, so no play began.
+    /// The first line couldn't be written, so nothing was played.
     Unopened(K),
     /// The entries were told to this log.
     Kept(SinkLog<K>),
