@@ -97,6 +97,11 @@ module _ {K : Type 0} (sinks : SinkGhosts K) (sink : K) (found : Finding) (journ
   used_as one other (log.Unopened left) f used = used
   used_as one other (log.Kept kept) f used = f kept used
 
+  -- and where there is no log, anything does
+  pub never_kept : (holds : SinkLog K → Type 0) (became : LogUse K) → WasUsed sinks sink (λ _. ⊥) found journal became
+      → WasUsed sinks sink holds found journal became
+  never_kept holds became used = used_as (λ _. ⊥) holds became (λ kept none. absurd none) used
+
 -- ---- what is answered
 
 -- two fresh sinks hold the same, where both tell it or neither does

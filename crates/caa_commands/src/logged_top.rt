@@ -78,10 +78,11 @@ fn tell_logged<K: Sink + Drop, P: Plant>(
 /// put is asked for, the lines of all entries before it were written, each by one call of the sink, as long as no write failed and
 /// memory was found for each line.
 ///
-/// The sink is a fresh one, such as that of a file that was just made. At the end it holds what it would hold after `top_quiet`. Where the first line can't be written nothing is played
-/// (`SinkFault`). Where a later write fails the play goes on to its end, nothing more is written, and the status is `SinkFault`; where
-/// no memory is found for a line or for what stands behind the entries, it is `OutOfMemory`, and a front of the text was written. The
-/// watcher sees each entry after its line was written, before a put is asked for, also where the log has stopped.
+/// The sink is a fresh one, such as that of a file that was just made. At the end it holds what it would hold after `top_quiet`. Where
+/// the first line can't be written nothing is played (`SinkFault`). Where a later write fails the play goes on to its end, nothing more
+/// is written, and the status is `SinkFault`; where no memory is found for a line or for what stands behind the entries, it is
+/// `OutOfMemory`, and a front of the text was written. The watcher sees each entry after its line was written, before a put is asked
+/// for, also where the log has stopped.
 ///
 /// The journal that is handed back is the played one, wherever the script was played.
 pub fn top_logged_quiet<S: Source, K: Sink + Drop, P: Plant, W: Watch + Drop>(
