@@ -207,7 +207,7 @@ module _ {K P : Type 0} (sinks : SinkGhosts K) (plants : PlantGhosts P) (asked :
 
 module _ {P : Type 0} (call : Call P) (sink : SinkUse) (answer : Status) where
   -- a call that was left off answers as one that found no memory for the text and wrote nothing
-  bare : WasLeftOff call sink answer → SinkUse
+  abbrev bare : WasLeftOff call sink answer → SinkUse
   bare left = record {
     held_before = sink.held_before;
     held_after = sink.held_before;

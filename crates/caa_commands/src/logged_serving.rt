@@ -15,7 +15,7 @@ use crate::logged_playing::{pool_logged, run_logged, simulate_logged};
 use crate::logging::{LogUse, LoggedDecision};
 use crate::playing::Decision;
 use crate::scripts::{NoPlan, plan_of};
-use crate::serving::{decide, unread};
+use crate::serving::{decide, most_bytes, unread};
 use caa_base::outside::gate::Gate;
 use caa_base::outside::plant::Plant;
 use caa_base::outside::reading::read_all;
@@ -214,7 +214,7 @@ pub fn decide_logged_in_threads<
         result.decision.finding result.decision.journal.entries result.log }
     ensures count { S.faults source.old ≤ S.faults source.new }
 {
-    match read_all(alloc, source, MOST_SCRIPT_BYTES) {
+    match read_all(alloc, source, most_bytes(command)) {
         Ok(bytes) => play_script(
             rt,
             alloc,

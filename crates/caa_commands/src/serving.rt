@@ -174,7 +174,7 @@ fn serve<P: Plant>(alloc: Global, command: Command, bytes: &[u8], plant: P) -> D
 }
 
 /// How many bytes the input of a command may have.
-fn most_bytes(command: Command) -> u64
+pub fn most_bytes(command: Command) -> u64
     ensures value { result ≡ most_bytes command }
     ensures small { result ≤ most_audit_bytes }
 {

@@ -35,7 +35,7 @@ returns-clause-comes g c =
     parts.plan ∙ ap plan_in over ∙ c.in-Ok-pool.ensures.plan ∙ ap plan_in began ∙ opened.plan in
     let based : base_in c.into_parts-hall-2.result.0 ≡ base_in c.in-Ok.opened.0 =
     ap base_in over ∙ c.in-Ok-pool.ensures.base ∙ ap base_in began in
-    let played : journal ≡ journal_in c.in-Ok-pool.finished.machine.machine = parts.journal ∙ ap journal_in over in
+    let played : journal ≡ journal_in c.in-Ok-pool.machine.machine = parts.journal ∙ ap journal_in over in
     let legal = subst (λ p. IsLegal p journal) same parts.legal in
     let played_so : IsPlayed plan (left_of (plant_use g.P.Plant c.args.plant plant) journal) = record {
       legal = legal;
