@@ -130,14 +130,12 @@ pub fn run_logged<
         Err(unopened) => return unopened,
     };
     let logged = Logged::new(hall, Watched { log, watcher });
-    let (machine, seens) = match run(rt, alloc, logged, gate) {
-        Ok(
-            Finished {
-                machine,
-                seens,
-                refused: _,
-            },
-        ) => (machine, seens),
+    let Finished {
+        machine,
+        seens,
+        refused: _,
+    } = match run(rt, alloc, logged, gate) {
+        Ok(finished) => finished,
         Err(RunError { machine }) => {
             let (hall, watched) = machine.into_parts();
             let Watched { log, watcher: _ } = watched;
@@ -189,14 +187,12 @@ pub fn pool_logged<
         Err(unopened) => return unopened,
     };
     let logged = Logged::new(hall, Watched { log, watcher });
-    let machine = match pool(rt, alloc, logged, workers, gate) {
-        Ok(
-            Finished {
-                machine,
-                seens: _,
-                refused: _,
-            },
-        ) => machine,
+    let Finished {
+        machine,
+        seens: _,
+        refused: _,
+    } = match pool(rt, alloc, logged, workers, gate) {
+        Ok(finished) => finished,
         Err(RunError { machine }) => {
             let (hall, watched) = machine.into_parts();
             let Watched { log, watcher: _ } = watched;

@@ -35,7 +35,7 @@ returns-clause-comes g c =
     parts.plan ∙ ap plan_in over ∙ c.in-Ok-pool.ensures.plan ∙ ap plan_in began ∙ opened.plan in
     let based : base_in c.into_parts-hall-2.result.0 ≡ base_in c.in-Ok.opened.0 =
     ap base_in over ∙ c.in-Ok-pool.ensures.base ∙ ap base_in began in
-    let played : journal ≡ journal_in c.in-Ok-pool.machine.machine = parts.journal ∙ ap journal_in over in
+    let played : journal ≡ journal_in c.in-Ok-pool.finished.machine.machine = parts.journal ∙ ap journal_in over in
     let legal = subst (λ p. IsLegal p journal) same parts.legal in
     let played_so : IsPlayed plan (left_of (plant_use g.P.Plant c.args.plant plant) journal) = record {
       legal = legal;
@@ -96,3 +96,14 @@ returns-in-Err-pool-clause-comes g c =
         drills = left.tells_drilling ∙ ap (λ h. (base_in h).tells_drills) same ∙ opened.tells_drilling;
       };
     }))
+
+pub returns-in-Err-pool-clause-logged : goal.returns-in-Err-pool-clause-logged
+returns-in-Err-pool-clause-logged g c =
+    let left = c.unplayed.ensures in
+    let same = c.into_parts-hall.ensures.machine ∙ ap (λ l. l.machine) c.in-Err-pool.ensures.refused ∙ c.new-logged.ensures.machine in
+    record {
+      told = ∥∥₁_map c.into_parts-hall.ensures.told (λ tells.
+          subst₂ (λ p j. Tells g.K.Sink c.into_parts-hall.result.1.log p j) (ap plan_in same ∙ c.in-Ok.ensures.plan) (sym left.journal) tells);
+      seens = [];
+      ends = subst (EndsAs c.args.plan c.unplayed.result.journal.entries []) (sym left.finding) tt;
+    }

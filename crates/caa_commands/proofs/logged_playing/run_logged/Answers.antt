@@ -56,7 +56,7 @@ returns-clause-comes g c =
     parts.plan ∙ ap plan_in over ∙ c.in-Ok-run.ensures.plan ∙ ap plan_in began ∙ opened.plan in
     let based : base_in c.into_parts-hall-2.result.0 ≡ base_in c.in-Ok.opened.0 =
     ap base_in over ∙ c.in-Ok-run.ensures.base ∙ ap base_in began in
-    let played : journal ≡ journal_in c.in-Ok-run.machine.machine = parts.journal ∙ ap journal_in over in
+    let played : journal ≡ journal_in c.in-Ok-run.finished.machine.machine = parts.journal ∙ ap journal_in over in
     let legal = subst (λ p. IsLegal p journal) same parts.legal in
     let played_so : IsPlayed plan (left_of (plant_use g.P.Plant c.args.plant plant) journal) = record {
       legal = legal;
@@ -73,7 +73,7 @@ returns-clause-comes g c =
           drills = parts.tells_drilling ∙ ap (λ (b : Base). b.tells_drills) based ∙ opened.tells_drilling;
         };
     } in
-    let seens = c.in-Ok-run.seens in
+    let seens = c.in-Ok-run.finished.seens in
     let ran = c.in-Ok-run.ensures in
     let right = subst₂ (λ p j. IfSome seens (λ s. first_wrong p j s.seens ≡ None)) (ap plan_in began ∙ opened.plan) (sym played) ran.right in
     let ends = subst (λ p. IfSome seens (λ s. EndsAs p journal s.seens finding)) same told.ends in
@@ -83,7 +83,7 @@ returns-clause-comes g c =
 pub ended_in_threads-requires-clause-watches : goal.ended_in_threads-requires-clause-watches
 ended_in_threads-requires-clause-watches g c =
     let ran = c.in-Ok-run.ensures in
-    subst (λ p. IfSome c.in-Ok-run.seens (λ s. AreOfPlan p s.seens))
+    subst (λ p. IfSome c.in-Ok-run.finished.seens (λ s. AreOfPlan p s.seens))
     (sym (c.into_parts-plan.ensures.plan ∙ ap plan_in c.into_parts-hall-2.ensures.machine ∙ ran.plan)) ran.of_plan
 
 -- with looks this is what is found, and without them no memory was found
@@ -102,9 +102,9 @@ returns-clause-logged g c =
     let finding = c.ended_in_threads.result.finding in
     let planned = ap plan_in c.into_parts-hall-2.ensures.machine ∙ c.in-Ok-run.ensures.plan ∙ ap plan_in c.new-logged.ensures.machine
     ∙ c.in-Ok.ensures.plan in
-    let ends = subst (λ p. IfSome c.in-Ok-run.seens (λ s. EndsAs p journal s.seens finding)) (parts.plan ∙ planned) told.ends in
+    let ends = subst (λ p. IfSome c.in-Ok-run.finished.seens (λ s. EndsAs p journal s.seens finding)) (parts.plan ∙ planned) told.ends in
     subst (λ j. IsLogged g.K.Sink c.args.plan j finding c.into_parts-hall-2.result.1.log) (sym told.journal)
-    (with_looks g.K.Sink c.args.plan journal finding c.into_parts-hall-2.result.1.log c.in-Ok-run.seens
+    (with_looks g.K.Sink c.args.plan journal finding c.into_parts-hall-2.result.1.log c.in-Ok-run.finished.seens
     (∥∥₁_map c.into_parts-hall-2.ensures.told (λ tells.
     subst₂ (λ p j. Tells g.K.Sink c.into_parts-hall-2.result.1.log p j) planned (sym parts.journal) tells)) ends told.refused)
 
@@ -130,3 +130,14 @@ returns-in-Err-run-clause-comes g c =
         drills = left.tells_drilling ∙ ap (λ h. (base_in h).tells_drills) same ∙ opened.tells_drilling;
       };
     }))
+
+pub returns-in-Err-run-clause-logged : goal.returns-in-Err-run-clause-logged
+returns-in-Err-run-clause-logged g c =
+    let left = c.unplayed.ensures in
+    let same = c.into_parts-hall.ensures.machine ∙ ap (λ l. l.machine) c.in-Err-run.ensures.refused ∙ c.new-logged.ensures.machine in
+    record {
+      told = ∥∥₁_map c.into_parts-hall.ensures.told (λ tells.
+          subst₂ (λ p j. Tells g.K.Sink c.into_parts-hall.result.1.log p j) (ap plan_in same ∙ c.in-Ok.ensures.plan) (sym left.journal) tells);
+      seens = [];
+      ends = subst (EndsAs c.args.plan c.unplayed.result.journal.entries []) (sym left.finding) tt;
+    }
