@@ -39,18 +39,18 @@ returns-clause-comes g c =
     let legal = subst (λ p. IsLegal p journal) same parts.legal in
     let played_so : IsPlayed plan (left_of (plant_use g.P.Plant c.args.plant plant) journal) = record {
       legal = legal;
-        complete = subst₂ IsComplete (ap plan_in began ∙ opened.plan) (sym played) c.in-Ok-pool.ensures.complete;
-        laws = c.keeps_laws.ensures (reverse journal) legal;
-        faults = λ l. parts.faults l ∙ ap (λ b. b + faults_in journal) (ap (λ (b : Base). b.faults) based ∙ opened.base);
-        calls = parts.calls;
-        laid = parts.lay_faults ∙ ap (λ (b : Base). b.lay_faults) based ∙ opened.lay_base;
-        history = went_on plan _ journal _ _ _ parts.history same (ap (λ (b : Base). b.history) based ∙ opened.history);
-        device = subst (λ p. IfSome (g.P.Plant.state plant) (HasValues p journal)) same parts.state;
-        drills = subst (λ p. IfSome (g.P.Plant.drilling plant) (HasDrills p journal)) same parts.drilling;
-        tells = record {
-          values = parts.tells_state ∙ ap (λ (b : Base). b.tells_values) based ∙ opened.tells_state;
-          drills = parts.tells_drilling ∙ ap (λ (b : Base). b.tells_drills) based ∙ opened.tells_drilling;
-        };
+      complete = subst₂ IsComplete (ap plan_in began ∙ opened.plan) (sym played) c.in-Ok-pool.ensures.complete;
+      laws = c.keeps_laws.ensures (reverse journal) legal;
+      faults = λ l. parts.faults l ∙ ap (λ b. b + faults_in journal) (ap (λ (b : Base). b.faults) based ∙ opened.base);
+      calls = parts.calls;
+      laid = parts.lay_faults ∙ ap (λ (b : Base). b.lay_faults) based ∙ opened.lay_base;
+      history = went_on plan _ journal _ _ _ parts.history same (ap (λ (b : Base). b.history) based ∙ opened.history);
+      device = subst (λ p. IfSome (g.P.Plant.state plant) (HasValues p journal)) same parts.state;
+      drills = subst (λ p. IfSome (g.P.Plant.drilling plant) (HasDrills p journal)) same parts.drilling;
+      tells = record {
+        values = parts.tells_state ∙ ap (λ (b : Base). b.tells_values) based ∙ opened.tells_state;
+        drills = parts.tells_drilling ∙ ap (λ (b : Base). b.tells_drills) based ∙ opened.tells_drilling;
+      };
     } in
     let seen = subst₂ (λ p s. EndsAs p journal s finding) same c.empty.ensures.seens told.ends in
     inl (record {

@@ -22,7 +22,7 @@ threaded_reads (command.Messages seed) is = refl
 threaded_reads (command.Cell cycles) is = is
 
 -- a reading that failed has come to no end
-stopped : {T : Type 0} (source : SourceUse) (e : ReadError) → CountsFault (is_fault {T = T} (Err e)) source.faults_before source.faults_after
+stopped : (source : SourceUse) (e : ReadError) → CountsFault (is_fault {T = ReadError} (Err e)) source.faults_before source.faults_after
     → HasStopped source e
 stopped source error.Fault count = count
 stopped source error.TooLong count = count

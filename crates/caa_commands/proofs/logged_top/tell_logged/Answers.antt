@@ -8,8 +8,7 @@ returns-in-Kept-clause-told g c =
     let found = c.args.decided.decision.finding in
     let journal = c.args.decided.decision.journal.entries in
     let answer = c.end_log-status.result in
-    subst (λ became. ToldBy g.K.Sink found journal journal became c.into_sink.result answer) (sym c.in-Kept.is)
-    (
+    subst (λ became. ToldBy g.K.Sink found journal journal became c.into_sink.result answer) (sym c.in-Kept.is) (
       refl,
       λ plan seens tells ends.
           subst (λ k. EndsLog plan found journal (sink_use g.K.Sink c.in-Kept.log.opened k) answer) (sym c.into_sink.ensures)
