@@ -5,7 +5,8 @@ compare.py CAA_BRIDGE CAA [PLAYS]: plays two scripts PLAYS times in turn and PLA
 refuses puts by chance. Each journal must be one that `audit` finds legal, and the values that it tells at its end must be those of the
 cell. Then one answer goes wrong, at each line of both scripts, in each of the ways of cell.py, with `sim` and with `run`: the journal
 must be the one that the rules give where that put is refused and each after it, nothing may be sent behind it but `stop`, and standard
-error must name the line. At last the files and streams are what they must not be.
+error must name the line. The program is killed at each line: the file must have just the entries before it. At last the files, the
+streams and the device are what they must not be, and a play that failed must not be followed by another.
 """
 import os
 import shutil
@@ -19,6 +20,7 @@ from cell import WRONGS, Cell, WrongCell
 HERE = os.path.dirname(os.path.abspath(__file__))
 CASES = os.path.join(HERE, "..", "cases")
 SCRIPTS = [os.path.join(CASES, name) for name in ("jam_and_slip", "production_cell")]
+RELIGHT = os.path.join(HERE, "relight")
 SEED = "1"
 SECONDS = 60
 DRILLS = 900
@@ -28,9 +30,10 @@ ATTEMPTS = ("write", "putfault", "restore")
 class Play:
     """A call of the program, the cell that answers it, and what became of both."""
 
-    def __init__(self, bridge, words, script, journal, cell):
+    def __init__(self, bridge, words, script, journal, cell, kill_at=None):
         self.journal = journal
         self.sent, self.behind = [], []
+        self.seen_at_kill = None
         self.program = subprocess.Popen(
             [bridge, *words, script, journal], stdin=subprocess.PIPE, stdout=subprocess.PIPE, stderr=subprocess.PIPE)
         told = []
@@ -38,7 +41,7 @@ class Play:
         clock = threading.Timer(SECONDS, self.program.kill)
         reader.start()
         clock.start()
-        self.serve(cell)
+        self.serve(cell, kill_at)
         self.status = self.program.wait()
         clock.cancel()
         reader.join()
@@ -49,7 +52,7 @@ class Play:
             except BrokenPipeError:
                 pass
 
-    def serve(self, cell):
+    def serve(self, cell, kill_at):
         """Answers until the program or the cell leaves; what the program sends to a cell that left is read still."""
         last = None if not isinstance(cell, WrongCell) else cell.at + (cell.way in ("doubles", "late"))
         has_left = is_lost = False
@@ -58,6 +61,11 @@ class Play:
             number = None if line == "stop\n" else int(line.split()[1])
             (self.behind if is_lost else self.sent).append(line)
             is_lost = is_lost or (last is not None and number == last)
+            if number is not None and number == kill_at:
+                with open(self.journal, "rb") as text:
+                    self.seen_at_kill = text.read()
+                self.program.kill()
+                return
             if has_left:
                 continue
             answer = cell.answer(line)
@@ -116,7 +124,7 @@ def wrong_in(caa, script, play):
 
 def by_chance(bridge, caa, words, script, cell, folder):
     """What is wrong with a play over a cell that refuses by chance."""
-    play = Play(bridge, words, script, os.path.join(folder, "journal"), cell)
+    play = Play(bridge, ["--go-on", *words], script, os.path.join(folder, "journal"), cell)
     told = told_values(words_of(text_of(play.journal)))
     values = None if told == cell.values else f"the journal tells {told}, and the cell has {cell.values}"
     return wrong_in(caa, script, play) or values
@@ -163,6 +171,17 @@ def one_wrong(bridge, caa, words, script, folder, way, number, attempts):
     return None
 
 
+def killed(bridge, words, script, folder, number, whole):
+    """What is wrong with the file of a play that is killed at this line; `whole` is the journal that it would have had by the seed."""
+    play = Play(bridge, words, script, os.path.join(folder, "journal"), Cell(), kill_at=number)
+    kept = text_of(play.journal)
+    if kept != play.seen_at_kill:
+        return "the file isn't what it was at the kill"
+    if number and (not kept.endswith(b"\n") or len(attempts_in(words_of(kept))) != number - 1):
+        return "the file hasn't just the entries before that put"
+    return None if words[0] == "run" or whole.startswith(kept) else "the file is no front of the journal"
+
+
 def calls(bridge, caa, plays):
     """Each call that is tried: what it is called, and the function that tries it in a folder."""
     for script in SCRIPTS:
@@ -179,6 +198,8 @@ def calls(bridge, caa, plays):
                 for way in WRONGS:
                     yield f"{called}, {way} at {number}", lambda folder, w=words, y=way, n=number, a=attempts, it=script: one_wrong(
                         bridge, caa, w, it, folder, y, n, a)
+                yield f"{called}, killed at {number}", lambda folder, w=words, n=number, j=whole, it=script: killed(
+                    bridge, w, it, folder, n, j)
 
 
 def plain_journal(caa, script):
@@ -186,6 +207,23 @@ def plain_journal(caa, script):
     lines = [line for line in text_of(script).decode().splitlines() if not line.startswith("drill ")]
     return subprocess.run(
         [caa, "sim", SEED], input="\n".join(lines).encode() + b"\n", stdout=subprocess.PIPE, timeout=SECONDS).stdout
+
+
+def relit(bridge, caa, folder):
+    """What is wrong where a play failed, and the undo of the next would light the arc again."""
+    journal = os.path.join(folder, "journal")
+    cell = Cell(refused=["restore arc 0"])
+    play = Play(bridge, ["sim", SEED], RELIGHT, journal, cell)
+    if not cell.is_stopped or [line.split()[0] for line in play.sent] != ["lay", "put", "put", "restore", "restore", "stop"]:
+        return f"sent {play.sent}"
+    told = ("restore 3 (arc 0): the device refused it", "play weld ended: failed; nothing more is sent but stop",
+            "plays not begun at the machine: 1", "plays: failed 2", "object arc 1")
+    if any(line not in play.told for line in told):
+        return f"told {play.told}"
+    on = Play(bridge, ["--go-on", "sim", SEED], RELIGHT, journal, Cell(refused=["restore arc 0"]))
+    if not any(line.endswith(" arc 1\n") for line in on.sent[4:]) or "stop\n" in on.sent:
+        return f"with --go-on it sent {on.sent}"
+    return wrong_in(caa, RELIGHT, play)
 
 
 def ended(bridge, words, folder, **streams):
@@ -232,6 +270,7 @@ def main():
     bridge, caa = map(os.path.abspath, sys.argv[1:3])
     plays = int(sys.argv[3]) if len(sys.argv) > 3 else 500
     tries = list(calls(bridge, caa, plays))
+    tries.append(("relight", lambda folder: relit(bridge, caa, folder)))
     tries.append(("files", lambda folder: wrong_files(bridge, folder)))
     tries.append(("full disk", lambda folder: full_disk(bridge, caa, folder)))
     faults = []

@@ -48,7 +48,7 @@ Seen = collections.namedtuple("Seen", "wish wrong delivered lost unnoticed insid
 def played(bridge, words, script, journal, cell):
     """Plays a script over a cell. Gives the status of the program, and the rule that was broken, if one was."""
     program = subprocess.Popen(
-        [bridge, *words, script, journal],
+        [bridge, "--go-on", *words, script, journal],
         stdin=subprocess.PIPE, stdout=subprocess.PIPE, stderr=subprocess.DEVNULL, text=True)
     clock = threading.Timer(SECONDS, program.kill)
     clock.start()

@@ -17,6 +17,10 @@ pub struct Call<'a> {
     pub script: &'a str,
     /// The path of the file that the journal is written to; what it had is lost.
     pub journal: &'a str,
+    /// Whether the device is still asked after a play that ended as failed.
+    pub goes_on: bool,
+    /// Whether each line of the journal waits until the disk has it.
+    pub syncs: bool,
 }
 
 /// What a call of the program asks for.
@@ -46,8 +50,20 @@ fn command_words(words: &[String]) -> Option<usize>
     }
 }
 
+/// How many of the first words are options.
+fn option_words(words: &[String]) -> usize {
+    let mut options = 0;
+    while options < words.len() && matches!(words[options].as_str(), "--go-on" | "--sync") {
+        options += 1;
+    }
+    options
+}
+
 /// The call that plays, of these words.
 fn call_of(words: &[String]) -> Option<Call<'_>> {
+    let count = option_words(words);
+    let options = words.get(..count)?;
+    let words = words.get(count..)?;
     let command = command_words(words)?;
     if words.len() != command + 2 {
         return None;
@@ -56,11 +72,13 @@ fn call_of(words: &[String]) -> Option<Call<'_>> {
         command: &words[..command],
         script: words[command].as_str(),
         journal: words[command + 1].as_str(),
+        goes_on: options.iter().any(|word| word.as_str() == "--go-on"),
+        syncs: options.iter().any(|word| word.as_str() == "--sync"),
     })
 }
 
-/// What these words ask for: `sim SEED SCRIPT JOURNAL`, `run SCRIPT JOURNAL` or `pool W SCRIPT JOURNAL`; or `--help` or `--version`
-/// alone.
+/// What these words ask for: `[--go-on] [--sync]` and `sim SEED SCRIPT JOURNAL`, `run SCRIPT JOURNAL` or `pool W SCRIPT JOURNAL`; or
+/// `--help` or `--version` alone.
 pub fn asked_by(words: &[String]) -> Asked<'_> {
     if let [word] = words {
         return match word.as_str() {

@@ -4,10 +4,12 @@
 mod call;
 mod files;
 mod telling;
+mod watcher;
 
 use crate::call::{Asked, Call, asked_by};
 use crate::files::{files_of, keep_streams};
 use crate::telling::{tell_file_error, tell_play, tell_status};
+use crate::watcher::Watcher;
 use action_script::lines::reader::read;
 use action_script::script_error::ScriptCause;
 use action_script::words::call_words::call_words;
@@ -16,8 +18,10 @@ use caa_base::outside::memory::SureSource;
 use caa_base::outside::reading::write_all;
 use caa_base::outside::standard::{StdSink, StdSource};
 use caa_base::written::entry::OutOfMemory;
-use caa_commands::status::{Ended, Status};
-use caa_commands::top::{asks_for_threads, top, top_quiet};
+use caa_commands::logged_top::{LoggedEnd, top_logged, top_logged_quiet};
+use caa_commands::status::Status;
+use caa_commands::top::asks_for_threads;
+use entry_log::file_sink::FileSink;
 use line_plant::flushed::FlushedSink;
 use line_plant::noted::Noted;
 use line_plant::plant::LinePlant;
@@ -26,7 +30,7 @@ use script_checker::check_error::CheckCause;
 use script_checker::compile::compile;
 use std::alloc::Global;
 use std::fs::File;
-use std::io::{BufWriter, Stderr, Stdin, Stdout};
+use std::io::{BufWriter, IsTerminal, Stderr, Stdin, Stdout};
 use std::process::ExitCode;
 use std::sync::Wait;
 use std::sync::atomic::AtomicBool;
@@ -35,17 +39,22 @@ use std::thread::Threads;
 /// The device that answers on standard input what it is asked on standard output, with an operator at standard error.
 type Device<'a> = Noted<'a, StdSource<Stdin>, FlushedSink<BufWriter<Stdout>>, Stderr>;
 
+/// After how many entries it is told how far all is, where standard error is a terminal.
+const TOLD_EACH: u64 = 100;
+
 /// How the program is called.
-const USAGE: &[u8] = b"usage: caa_bridge sim SEED SCRIPT JOURNAL
-       caa_bridge run SCRIPT JOURNAL
-       caa_bridge pool W SCRIPT JOURNAL
+const USAGE: &[u8] = b"usage: caa_bridge [--go-on] [--sync] sim SEED SCRIPT JOURNAL
+       caa_bridge [--go-on] [--sync] run SCRIPT JOURNAL
+       caa_bridge [--go-on] [--sync] pool W SCRIPT JOURNAL
        caa_bridge --help | --version
 ";
 
 /// What is told of it beside that.
 const HELP: &[u8] =
     b"Plays a script over a device that answers in lines: commands on standard output, answers on standard input.
-SEED is from 0 to 2147483647, and W, the number of threads, from 1 to 16. JOURNAL is written once all is played.
+SEED is from 0 to 2147483647, and W, the number of threads, from 1 to 16. JOURNAL is written as the machine moves.
+  --go-on  asks the device still after a play that ended as failed
+  --sync   waits at each line of the journal until the disk has it
 What isn't done is told on standard error. docs/embedding.md has the lines that a device answers.
 ";
 
@@ -98,25 +107,30 @@ fn play_on<R: Threads + Wait + Sync>(
     let device = device_for(rt, &plan, &is_over)?;
     let mut source = SureSource::new(alloc, script)?;
     let mut operator = rt.stderr();
-    let mut sink = StdSink::new(file);
+    let each = if operator.is_terminal() { TOLD_EACH } else { 0 };
+    let watcher = Watcher::new(rt.stderr(), &is_over, call.goes_on, each);
     let words = call.command;
-    let Ended {
+    let sink = FileSink::new(file, call.syncs);
+    let LoggedEnd {
         status,
-        plant: device,
+        plant: mut device,
         journal,
+        sink: _,
     } = if asks_for_threads(words) {
-        top(
+        top_logged(
             threads,
             alloc,
             words,
             &mut source,
-            &mut sink,
+            sink,
             device,
+            watcher,
             &EmptyGate,
         )
     } else {
-        top_quiet(alloc, words, &mut source, &mut sink, device)
+        top_logged_quiet(alloc, words, &mut source, sink, device, watcher)
     };
+    device.heed();
     let is_played = !journal.is_empty();
     tell_status(&mut operator, status, call, is_played);
     match plan {

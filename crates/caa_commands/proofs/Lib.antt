@@ -8,3 +8,4 @@ mod PlansOfScripts
 mod FoundAlone
 mod PlayedHistory
 mod Spared
+mod LoggedCalls

@@ -73,7 +73,7 @@ fn has_failed_play(plan: &Plan, journal: &Journal) -> bool
 }
 
 /// A machine over a plan and a device, or what the call comes to without one.
-fn open<P: Plant>(alloc: Global, plan: Plan, plant: P) -> Result<Hall<P>, Decision<P>>
+pub fn open<P: Plant>(alloc: Global, plan: Plan, plant: P) -> Result<Hall<P>, Decision<P>>
     ensures plan { IfOk result (λ hall. plan_in hall ≡ plan) }
     ensures journal { IfOk result (λ hall. journal_in hall ≡ []) }
     ensures history { IfOk result (λ hall. (base_in hall).history ≡ P.history plant) }
@@ -128,7 +128,7 @@ fn ended_with<P: Plant>(
 }
 
 /// What a play comes to that has ended with this journal and these looks.
-fn ended<P: Plant>(
+pub fn ended<P: Plant>(
     alloc: Global,
     plan: &Plan,
     plant: P,
@@ -197,7 +197,7 @@ pub fn play_cell<P: Plant>(alloc: Global, plan: Plan, cycles: u32, plant: P) -> 
 }
 
 /// No memory was found to play this machine.
-fn unplayed<P: Plant>(hall: Hall<P>) -> Decision<P>
+pub fn unplayed<P: Plant>(hall: Hall<P>) -> Decision<P>
     ensures finding { result.finding ≡ Finding.OutOfMemory }
     ensures plant { result.plant ≡ plant_in hall }
     ensures journal { result.journal.entries ≡ journal_in hall }
@@ -217,7 +217,7 @@ fn unplayed<P: Plant>(hall: Hall<P>) -> Decision<P>
 
 /// What a play in threads comes to that has ended with this journal and these looks: where a publication was refused there are none,
 /// and it comes to want of memory.
-fn ended_in_threads<P: Plant>(
+pub fn ended_in_threads<P: Plant>(
     alloc: Global,
     plan: &Plan,
     plant: P,

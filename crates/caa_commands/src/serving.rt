@@ -174,7 +174,7 @@ fn serve<P: Plant>(alloc: Global, command: Command, bytes: &[u8], plant: P) -> D
 }
 
 /// How many bytes the input of a command may have.
-fn most_bytes(command: Command) -> u64
+pub fn most_bytes(command: Command) -> u64
     ensures value { result ≡ most_bytes command }
     ensures small { result ≤ most_audit_bytes }
 {
@@ -191,7 +191,7 @@ fn most_bytes(command: Command) -> u64
 }
 
 /// What a call comes to whose input wasn't read to its end.
-fn unread(error: ReadError) -> Finding
+pub fn unread(error: ReadError) -> Finding
     ensures { result ≡ unread_finding error }
 {
     match error {

@@ -32,7 +32,11 @@ fn journal_kept(alloc: Global, is_played: bool, journal: Journal) -> Journal
 }
 
 /// Writes the text of what was found, and answers.
-fn tell<K: Sink, P: Plant>(alloc: Global, decision: Decision<P>, sink: &mut K) -> Ended<P>
+pub(crate) fn tell<K: Sink, P: Plant>(
+    alloc: Global,
+    decision: Decision<P>,
+    sink: &mut K,
+) -> Ended<P>
     ensures tells { Tells decision.finding decision.journal.entries result.journal.entries
         (sink_use ⟦<K as Sink>⟧ sink.old sink.new) result.status }
     ensures plant { result.plant ≡ decision.plant }

@@ -4,8 +4,10 @@ use caa_base::outside::one_byte::{OneByteSink, OneByteSource};
 use caa_base::outside::sink::Sink;
 use caa_base::outside::source::Source;
 use caa_base::written::entry::Entry;
+use caa_commands::logged_top::top_logged_quiet;
 use caa_commands::status::{Ended, Status};
 use caa_commands::top::top_quiet;
+use entry_log::watched::Nobody;
 use std::alloc::Global;
 use std::process::Abort;
 use std::test::Fail;
@@ -84,6 +86,46 @@ fn what_is_not_written_whole_is_a_sink_fault(rt: HostRuntime) -> Result<(), Fail
     }
     // Nothing is left to write once the text is whole.
     sink_fails_at(&rt, alloc, bytes + 1, Status::Done, play)
+}
+
+/// The same where the journal is written as the script is played, which then has so many entries.
+fn log_fails_at(
+    rt: &impl Abort,
+    alloc: Global,
+    failing: u64,
+    status: Status,
+    entries: u64,
+) -> Result<(), Fail> {
+    let words = words_of(alloc, &["sim", "1"])?;
+    let mut source = MemSource::new(alloc, SCRIPT, &[])?;
+    let sink = OneByteSink::new(alloc, 1000, &[failing])?;
+    let ended = top_logged_quiet(
+        alloc,
+        words.as_slice(),
+        &mut source,
+        sink,
+        MemPlant::new(false),
+        Nobody,
+    );
+    assert_eq!(rt; ended.status, status);
+    assert_eq!(rt; ended.journal.len(), entries);
+    assert_eq!(rt; ended.sink.bytes().len() as u64 + 1, failing);
+    assert!(rt; TEXT.starts_with(ended.sink.bytes()));
+    Ok(())
+}
+
+#[test]
+fn a_log_that_has_stopped_holds_a_front_of_the_text(rt: HostRuntime) -> Result<(), Fail> {
+    // Nothing is played where the first line can't be written; a play that has begun goes on to its end.
+    let first_line = b"journal\n".len() as u64;
+    let bytes = TEXT.len() as u64;
+    for failing in 1..first_line + 1 {
+        log_fails_at(&rt, rt.alloc(), failing, Status::SinkFault, 0)?;
+    }
+    for failing in first_line + 1..bytes + 1 {
+        log_fails_at(&rt, rt.alloc(), failing, Status::SinkFault, 11)?;
+    }
+    log_fails_at(&rt, rt.alloc(), bytes + 1, Status::Done, 11)
 }
 
 #[test]
