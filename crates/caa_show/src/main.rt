@@ -4,7 +4,6 @@
 mod judging;
 mod lines;
 mod misread;
-mod paging;
 mod reading;
 mod showing;
 mod whereabouts;

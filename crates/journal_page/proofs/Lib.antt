@@ -1,3 +1,0 @@
-pub mod StanceLemmas
-pub mod TurnLemmas
-pub mod TextLemmas

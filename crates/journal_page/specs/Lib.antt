@@ -1,2 +1,0 @@
-pub mod Stances
-pub mod Pages
