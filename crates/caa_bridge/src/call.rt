@@ -52,11 +52,12 @@ fn command_words(words: &[String]) -> Option<usize>
 
 /// How many of the first words are options.
 fn option_words(words: &[String]) -> usize {
-    let mut options = 0;
-    while options < words.len() && matches!(words[options].as_str(), "--go-on" | "--sync") {
-        options += 1;
+    for (index, word) in words.iter().enumerate() {
+        if !matches!(word.as_str(), "--go-on" | "--sync") {
+            return index;
+        }
     }
-    options
+    words.len()
 }
 
 /// The call that plays, of these words.
