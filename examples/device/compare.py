@@ -175,6 +175,8 @@ def killed(bridge, words, script, folder, number, whole):
     """What is wrong with the file of a play that is killed at this line; `whole` is the journal that it would have had by the seed."""
     play = Play(bridge, words, script, os.path.join(folder, "journal"), Cell(), kill_at=number)
     kept = text_of(play.journal)
+    if play.seen_at_kill is None and words[0] == "run":
+        return None  # in this order there were fewer puts
     if kept != play.seen_at_kill:
         return "the file isn't what it was at the kill"
     if number and (not kept.endswith(b"\n") or len(attempts_in(words_of(kept))) != number - 1):
