@@ -1,6 +1,7 @@
 -- Lemmas on what a device was sent.
-use Rattle.std.proofs.Common.{◌≡◌, ◌⊎◌, inl, inr, ℕ, ℤ, Result, Ok, Err, is_ok, Bool, true, false, List, [], ◌∷◌, ◌++◌, take, Option, None, Some, append-nil, append_assoc, refl, ap, sym, ◌∙◌, subst, true≢false}
-use mathlib.Core.List.{IsPrefix, take-prefix}
+use Rattle.std.proofs.Common.{◌≡◌, ◌⊎◌, inl, inr, ℕ, ℤ, Result, Ok, Err, is_ok, Bool, true, false, List, [], ◌∷◌, ◌++◌, take, drop, Option, None, Some, append-nil, append_assoc, refl, ap, sym, ◌∙◌, subst, true≢false}
+use mathlib.Core.List.{IsPrefix}
+use Rattle.std.proofs.lemmas.List.{take-append-drop}
 use Rattle.std.specs.Io.KnownBytes.{append_known}
 use Rattle.caa_base.proofs.KnownBytes.{append_known-append_known}
 use Rattle.caa_base.specs.Outside.Counts.{counted_up}
@@ -73,6 +74,10 @@ pub more_held : {K : Type 0} (sinks : SinkGhosts K) (start : Option (List ℕ)) 
     → sinks.held after ≡ append_known start (bytes ++ text)
 more_held sinks start bytes text before after held sent =
     sent ∙ ap (λ known. append_known known text) held ∙ append_known-append_known start bytes text
+
+-- the first bytes of some bytes are a front of them
+pub take_front : (n : ℕ) (bytes : List ℕ) → IsPrefix (take n bytes) bytes
+take_front n bytes = (drop n bytes, take-append-drop n bytes)
 
 -- ---- a wire that holds
 
@@ -204,7 +209,7 @@ keeps_asked sources sinks names told a before after text came k asks undone (inl
     keeps_answered sources sinks names told a before after text came k asks undone w
 keeps_asked sources sinks names told a before after text answer.Lost k asks undone (inr (inl cut)) =
     keeps_broken sinks names told a after before.next k.bytes (take cut.part.count text) (standing sinks names told before k cut.able)
-    undone (inr (text, asks, take-prefix cut.part.count text))
+    undone (inr (text, asks, take_front cut.part.count text))
     (more_held sinks (sinks.held told.opened) k.bytes (take cut.part.count text) before.commands after.commands k.held cut.part.front) cut.broken
 keeps_asked sources sinks names told a before after text answer.Lost k asks undone (inr (inr out)) =
     subst (Keeps sinks names (record told { asked = told.asked ++ a ∷ [] })) (sym out.kept)
@@ -276,7 +281,7 @@ keeps_stopped sinks names told before after k w = by_case w.came where
         ⊎ WrotePart (sinks.held before.commands) (sinks.held after.commands) stop_line
         → Keeps sinks names told after
     by_write sent (inl whole) = behind stop_line sent ([], append-nil stop_line) whole
-    by_write sent (inr part) = behind (take part.count stop_line) sent (take-prefix part.count stop_line) part.front
+    by_write sent (inr part) = behind (take part.count stop_line) sent (take_front part.count stop_line) part.front
   by_case (inr none) =
       keeps_spent sinks names told after k.stop k.bytes k.sent (ap sinks.held none.kept ∙ k.held) w.spent w.broken
 
