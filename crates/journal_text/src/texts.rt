@@ -1,7 +1,7 @@
 //! The text of a journal, both ways.
 
 pub(crate) mod entry_line;
-pub mod entry_writer;
+pub(crate) mod entry_writer;
 pub(crate) mod line_room;
 pub mod naming;
 pub mod text_reader;

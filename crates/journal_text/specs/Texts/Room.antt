@@ -8,7 +8,3 @@ spare = 20
 -- there is room for these bytes from this place on, and the spare room behind them
 abbrev pub Fits : ℕ → List ℕ → List ℕ → Type 0
 Fits at bytes room = at + length bytes + spare ≤ length room
-
--- the room of one line of a plan whose names are names by the grammar
-abbrev pub line_room : ℕ
-line_room = 160

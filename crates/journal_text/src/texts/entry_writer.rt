@@ -4,9 +4,8 @@ ghost use Rattle.std.specs.Prelude.{◌≡◌, ◌≤◌, ◌+◌, ◌∷◌, �
 ghost use Rattle.caa_base.specs.Written.Lines.{spaced};
 ghost use Rattle.place_plan.specs.Plans.Places.{parent};
 ghost use Rattle.place_plan.specs.RulesOfJournals.WellFormed.{IsWellFormed};
-ghost use Rattle.journal_text.specs.Texts.Naming.{is_well_named};
 ghost use Rattle.journal_text.specs.Texts.Text.{internal_name, interface_name, object_words, restore_word, verdict_words, outcome_words, abort_words, leave_words, field_words, entry_line};
-ghost use Rattle.journal_text.specs.Texts.Room.{Fits, line_room, spare};
+ghost use Rattle.journal_text.specs.Texts.Room.{Fits, spare};
 ghost use Rattle.journal_text.specs.inner.SaidNames.{carried_name, name_if, said_name};
 
 use crate::texts::line_room::{put_bytes, put_line_end, put_number, put_value, put_word};
@@ -16,21 +15,6 @@ use caa_base::written::entry::{
 };
 use place_plan::plans::plan::Plan;
 use place_plan::rules::one_entry::{outcome_at, verdict_at};
-
-/// The bytes of the room of one line of a plan whose names are names by the grammar. Such a line has at most 108, and 20 bytes behind it
-/// are spare.
-pub const LINE_ROOM: usize = 160;
-
-/// Writes the line of an entry at the front of the room of one line, and gives its length.
-pub fn write_line(room: &mut [u8; LINE_ROOM], plan: &Plan, entry: &Entry) -> usize
-    requires formed { IsWellFormed plan.now entry.now }
-    requires named { is_well_named plan.now ≡ true }
-    ensures within { result ≤ line_room }
-    ensures written { take result room.new ≡ entry_line plan.now entry.now }
-{
-    plan.places();
-    write_entry(room, 0, plan, entry)
-}
 
 /// The bytes of a line beside the names in it, at most, and the spare room behind it.
 const MOST_BESIDE_NAMES: usize = 64;
@@ -96,7 +80,7 @@ fn carried_name<'a>(plan: &'a Plan, outer: Option<Place>, entry: &Entry) -> &'a 
 
 /// Writes the line of an entry into room, from `at` on, and gives where it ends. What stands before it stays; what stands behind it
 /// may have been written over.
-pub fn write_entry(room: &mut [u8], at: usize, plan: &Plan, entry: &Entry) -> usize
+pub(crate) fn write_entry(room: &mut [u8], at: usize, plan: &Plan, entry: &Entry) -> usize
     requires formed { IsWellFormed plan.now entry.now }
     requires room { Fits at (entry_line plan.now entry.now) room.old }
     ensures at { result ≡ at + length (entry_line plan.now entry.now) }

@@ -1,4 +1,4 @@
-use Rattle.std.proofs.Common.{arith, length, ap, append_assoc}
+use Rattle.std.proofs.Common.{arith, append_assoc}
 use Rattle.std.proofs.lemmas.Fmt.{decimal_digit}
 use Rattle.journal_text.proofs.texts.line_room.put_number.Goals as goal
 
