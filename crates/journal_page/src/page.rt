@@ -95,5 +95,6 @@ pub fn page<L: Lines>(
     let turns = turns_of(alloc, lines, plan, entries)?;
     let mut text = begun(alloc, FRONT, head)?;
     push_middle(alloc, &mut text, plan, &turns)?;
-    ended(text, tail, BACK)
+    let whole = ended(text, tail, BACK)?;
+    Ok(whole)
 }

@@ -1,6 +1,6 @@
 //! The turns of a journal: each entry that may come, and who stands elsewhere after it than before.
 
-ghost use Rattle.std.specs.Prelude.{◌≡◌, [], length, IfOk};
+ghost use Rattle.std.specs.Prelude.{◌≡◌, ◌<◌, [], length, OnOk, IfOk};
 ghost use Rattle.std.specs.List.{All};
 ghost use Rattle.place_plan.specs.RulesOfJournals.WellFormed.{AllWellFormed};
 ghost use Rattle.journal_states.specs.Past.{plan_in, past_in};
@@ -55,6 +55,37 @@ fn at_first(told: &mut [Told]) {
     }
 }
 
+/// Notes what was told last of a participant.
+fn note(told: &mut [Told], by: u32, last: Told) {
+    if let Some(seat) = told.get_mut(by as usize) {
+        *seat = last;
+    }
+}
+
+/// Adds the stance of a participant, unless it stands as before; tells whether it was added.
+fn push_unless<L: Lines>(
+    alloc: Global,
+    lines: &L,
+    states: &States,
+    by: u32,
+    before: Option<&Stance>,
+    stances: &mut Vec<Stance>,
+) -> Result<bool, OutOfMemory>
+    requires known { by < length (plan_in states.now).participants }
+    requires right { All (IsStance (plan_in states.now) (past_in states.now)) stances.old.items }
+    requires well_formed { All (ShowsWellFormed (plan_in states.now)) stances.old.items }
+    ensures right { OnOk result (All (IsStance (plan_in states.now) (past_in states.now)) stances.new.items) }
+    ensures well_formed { OnOk result (All (ShowsWellFormed (plan_in states.now)) stances.new.items) }
+{
+    match stance_unless(alloc, lines, states, by, before)? {
+        Some(stance) => {
+            stances.push(stance)?;
+            Ok(true)
+        }
+        None => Ok(false),
+    }
+}
+
 /// Who stands elsewhere after the entries that were taken in than was told last; the memory of what was told is kept.
 fn stances_now<L: Lines>(
     alloc: Global,
@@ -69,18 +100,37 @@ fn stances_now<L: Lines>(
 {
     let mut stances = Vec::new(alloc);
     for by in 0..states.plan().participants() {
+        let last = Told {
+            turn: turns.len().saturating_add(1),
+            index: stances.len(),
+        };
         let before = stance_at(first, turns, told, by);
-        if let Some(stance) = stance_unless(alloc, lines, states, by, before)? {
-            if let Some(seat) = told.get_mut(by as usize) {
-                *seat = Told {
-                    turn: turns.len().saturating_add(1),
-                    index: stances.len(),
-                };
-            }
-            stances.push(stance)?;
+        if push_unless(alloc, lines, states, by, before, &mut stances)? {
+            note(told, by, last);
         }
     }
     Ok(stances)
+}
+
+/// The turn of an entry that was just taken in.
+fn turn_of<L: Lines>(
+    alloc: Global,
+    lines: &L,
+    states: &States,
+    entry: &Entry,
+    first: &[Stance],
+    turns: &[Turn],
+    told: &mut [Told],
+) -> Result<Turn, OutOfMemory>
+    ensures entry { IfOk result (λ turn. turn.entry ≡ entry.now) }
+    ensures right { IfOk result (λ turn. All (IsStance (plan_in states.now) (past_in states.now)) turn.stances.items) }
+    ensures well_formed { IfOk result (λ turn. All (ShowsWellFormed (plan_in states.now)) turn.stances.items) }
+{
+    let stances = stances_now(alloc, lines, states, first, turns, told)?;
+    Ok(Turn {
+        entry: *entry,
+        stances,
+    })
 }
 
 /// Nobody was told of yet.
@@ -108,18 +158,15 @@ pub fn turns_of<L: Lines>(
 {
     let mut states = States::open(alloc, plan, entries)?;
     let mut told = nobody(alloc, plan)?;
-    let mut turns = Vec::new(alloc);
     let first = stances_now(alloc, lines, &states, &[], &[], &mut told)?;
     at_first(&mut told);
+    let mut turns = Vec::new(alloc);
     for entry in entries {
         if !states.step() {
             return Ok(Turns { first, turns });
         }
-        let stances = stances_now(alloc, lines, &states, &first, &turns, &mut told)?;
-        turns.push(Turn {
-            entry: *entry,
-            stances,
-        })?;
+        let turn = turn_of(alloc, lines, &states, entry, &first, &turns, &mut told)?;
+        turns.push(turn)?;
     }
     Ok(Turns { first, turns })
 }

@@ -5,7 +5,7 @@ use Rattle.journal_page.specs.Stances.{TurnsWellFormed, AreTurns}
 use Rattle.journal_page.proofs.turns.turns_of.Given as goal
 
 abbrev pub invariant-loop-entry : goal.invariant-loop-entry
-invariant-loop-entry l = record {
+invariant-loop-entry g l = record {
   plan : plan_in l.states ≡ l.plan;
   journal : journal_in l.states ≡ l.entries;
   taken : taken_in l.states ≡ l.entry-index;
