@@ -34,7 +34,7 @@ use Rattle.resolution_core.specs.declared.recovery.Recovery.{Recovery}
 use Rattle.resolution_core.specs.inner.Recoveries.{at as recovery_at}
 use Rattle.resolution_core.specs.inner.Standing.{StandsFor as RecoveriesStand}
 use Rattle.object_versions.specs.declared.version.Version.{Version}
-use Rattle.object_versions.specs.inner.KeptVersions.{at as version_at, Stands as VersionsStand}
+use Rattle.object_versions.specs.inner.KeptVersions.{at as version_at, StandsFor as VersionsStand}
 use Rattle.action_core.specs.declared.stage.Stage.{Stage}
 use Rattle.action_core.specs.inner.Asked.{place_of, place_kept, or_none, frame_kept, handled_kept}
 use Rattle.action_core.specs.inner.KeptStages.{at as stage_at, StageOfEach}

@@ -25,7 +25,7 @@ use Rattle.journal_laws.proofs.Raised.{parent_round}
 use Rattle.journal_laws.proofs.Recovering.{handling_given}
 use Rattle.resolution_core.specs.inner.Standing.{Acts}
 use Rattle.action_endings.specs.declared.ending.Ending.{Ending}
-use Rattle.action_endings.specs.inner.KeptEndings.{at, tried_kept, SignalsBelow, exception_named, Stands}
+use Rattle.action_endings.specs.inner.KeptEndings.{at, tried_kept, SignalsBelow, exception_named, StandsFor}
 use Rattle.action_endings.specs.inner.ChangedEndings.{MaySay, is_apart, RaisesFirst, NoneCounts, Says, LeavesEndings}
 use Rattle.action_endings.proofs.RightAnswers.{next_right}
 use Rattle.action_core.proofs.Giving.{raises_first, given_next}
@@ -125,7 +125,7 @@ module _ (plan : Plan) (playable : IsPlayable plan) (past : List Entry) (e : Ent
   }
 
   -- who says something in a place has a role there
-  pub may_say : (endings : List Ending) → Stands plan past endings → MaySay plan endings e.place e.by
+  pub may_say : (endings : List Ending) → StandsFor plan past endings → MaySay plan endings e.place e.by
   may_say endings s = record {
     there = subst (λ n. e.place < n) (sym s.as_many) (place_there plan playable past e legal may);
     known = maker_known plan playable past e legal may;
@@ -192,13 +192,13 @@ number_of (y ∷ ys) (suc n) x h = let l = number_of ys n x h in omega arith
 
 -- what is restored is the next by what is kept
 pub next_kept : (plan : Plan) → IsClosed plan → (past : List Entry) (e : Entry) (endings : List Ending)
-    → Stands plan past endings → MayRestore plan past e
+    → StandsFor plan past endings → MayRestore plan past e
     → slice_get (objects_of plan e.place) (tried_kept plan e.place (at endings e.place)) ≡ Some e.arg
 next_kept plan closed past e endings s h = next_right plan closed past endings e.place s ∙ h.least
 
 -- so one is left to be tried
 pub some_untried : (plan : Plan) → IsClosed plan → (past : List Entry) (e : Entry) (endings : List Ending)
-    → Stands plan past endings → MayRestore plan past e → 0 < (at endings e.place).untried
+    → StandsFor plan past endings → MayRestore plan past e → 0 < (at endings e.place).untried
 some_untried plan closed past e endings s h =
     let few = (s.rest e.place).few in
     let low =
@@ -264,8 +264,8 @@ apart_by kind.Restore e w = absurd (false≢true w)
 apart_by k e w = refl
 
 pub endings_stay : (plan : Plan) → IsPlayable plan → (past : List Entry) (e : Entry) (endings : List Ending)
-    → LegalPast plan past → MayFollow plan past e → unsaying e.kind ≡ true → Stands plan past endings
-    → Stands plan (e ∷ past) endings
+    → LegalPast plan past → MayFollow plan past e → unsaying e.kind ≡ true → StandsFor plan past endings
+    → StandsFor plan (e ∷ past) endings
 endings_stay plan playable past e endings legal may w s =
     others_keep plan past e endings
     (unraised plan playable past e legal may (λ q. nothing_raised_by plan past e.kind e q w) (apart_by e.kind e w)) s
@@ -285,14 +285,14 @@ quiet plan past e p t halts resolves acts q = acts.raises q ∙ none (p == q)
 module _ (plan : Plan) (playable : IsPlayable plan) (past : List Entry) (e : Entry) (legal : LegalPast plan past)
     (may : MayFollow plan past e) where
   pub quiet_stay : (p t : ℕ) (halts resolves : Bool) (endings : List Ending) → Acts plan past e p t [] halts resolves
-      → is_apart e ≡ true → Stands plan past endings → Stands plan (e ∷ past) endings
+      → is_apart e ≡ true → StandsFor plan past endings → StandsFor plan (e ∷ past) endings
   quiet_stay p t halts resolves endings acts apart s =
       others_keep plan past e endings (unraised plan playable past e legal may (quiet plan past e p t halts resolves acts) apart)
       s
 
   -- a put that is refused in a handler
   pub fault_stay : (endings : List Ending) → e.kind ≡ kind.PutFault → has_handled past e.place e.by ≡ true
-      → Stands plan past endings → Stands plan (e ∷ past) endings
+      → StandsFor plan past endings → StandsFor plan (e ∷ past) endings
   fault_stay endings h done s =
       quiet_stay e.place e.by false false endings
       (at_kind (λ x. Acts plan past x e.place e.by [] false false) kind.PutFault e h (fault_idle plan past e done))
@@ -300,8 +300,8 @@ module _ (plan : Plan) (playable : IsPlayable plan) (past : List Entry) (e : Ent
 
   -- a leave that carries nothing
   pub leave_stay : (endings : List Ending) → e.kind ≡ kind.Leave
-      → ((q : ℕ) → (is_at (parent plan e.place) q && (e.mark == 1)) ≡ false) → Stands plan past endings
-      → Stands plan (e ∷ past) endings
+      → ((q : ℕ) → (is_at (parent plan e.place) q && (e.mark == 1)) ≡ false) → StandsFor plan past endings
+      → StandsFor plan (e ∷ past) endings
   leave_stay endings h none s =
       quiet_stay e.place e.by false false endings
       (at_kind (λ x. Acts plan past x e.place e.by [] false false) kind.Leave e h (leave_idle plan past e e.place none))

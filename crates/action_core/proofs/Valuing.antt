@@ -21,7 +21,7 @@ use Rattle.journal_laws.proofs.Versions.{device}
 use Rattle.place_plan.proofs.OnJournals.EntryKinds.{of_kind}
 use Rattle.object_versions.specs.declared.version.Version.{Version}
 use Rattle.object_versions.proofs.VersionsKept.{others_keep}
-use Rattle.object_versions.specs.inner.KeptVersions.{Stands}
+use Rattle.object_versions.specs.inner.KeptVersions.{StandsFor}
 use Rattle.object_versions.specs.inner.ChangedVersions.{HasFree, HoldsItsOwn, Takes, Puts}
 
 first_of_two : (b c : Bool) (x y : ℤ) → b ≡ true → c ≡ true → cond (b && c) x y ≡ x
@@ -88,12 +88,12 @@ module _ (plan : Plan) (tree : IsTree plan) where
   }
 
 module _ (plan : Plan) (playable : IsPlayable plan) where
-  pub frees : (past : List Entry) (e : Entry) (versions : List Version) → Stands plan past versions → MayStart plan past e
+  pub frees : (past : List Entry) (e : Entry) (versions : List Version) → StandsFor plan past versions → MayStart plan past e
       → HasFree plan e.place versions
   frees past e versions s h =
       λ o used. (s.each o (playable.objects e.place o used)).holder ∙ started_free plan playable.tree past e o h used
 
-  pub holds_its_own : (past : List Entry) (e : Entry) (versions : List Version) → LegalPast plan past → Stands plan past versions
+  pub holds_its_own : (past : List Entry) (e : Entry) (versions : List Version) → LegalPast plan past → StandsFor plan past versions
       → MayEnd plan past e → HoldsItsOwn plan e.place versions
   holds_its_own past e versions legal s h =
       λ o used. (s.each o (playable.objects e.place o used)).holder
@@ -115,7 +115,7 @@ unvalued kind.Restore = false
 unvalued _ = true
 
 pub versions_stay : (plan : Plan) (past : List Entry) (k : Kind) (e : Entry) (versions : List Version) → unvalued k ≡ true
-    → Stands plan past versions → Stands plan (of_kind k e ∷ past) versions
+    → StandsFor plan past versions → StandsFor plan (of_kind k e ∷ past) versions
 versions_stay plan past kind.Start e versions w s = absurd (false≢true w)
 versions_stay plan past kind.End e versions w s = absurd (false≢true w)
 versions_stay plan past kind.Write e versions w s = absurd (false≢true w)

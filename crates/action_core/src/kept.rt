@@ -7,7 +7,7 @@ ghost use Rattle.caa_base.specs.Written.Lists.{member};
 ghost use Rattle.place_plan.specs.Plans.Places.{roles_of};
 ghost use Rattle.place_plan.specs.RulesOfJournals.Entries.{is_by, newest};
 ghost use Rattle.journal_replay.specs.Questions.{name_of_abort};
-ghost use Rattle.action_endings.specs.inner.KeptEndings.{Stands as EndingsStand};
+ghost use Rattle.action_endings.specs.inner.KeptEndings.{StandsFor as EndingsStand};
 ghost use Rattle.action_core.specs.inner.Asked.{place_kept, frame_kept, handled_kept};
 ghost use Rattle.action_core.specs.inner.KeptPeople.{at as person_at};
 

@@ -6,7 +6,7 @@ ghost use Rattle.place_plan.specs.RulesOfJournals.Rules.{MayFollow};
 ghost use Rattle.place_plan.specs.RulesOfJournals.Journals.{LegalPast};
 ghost use Rattle.role_states.specs.inner.Standing.{StandsFor as FramesStand};
 ghost use Rattle.resolution_core.specs.inner.Standing.{StandsFor as RecoveriesStand};
-ghost use Rattle.object_versions.specs.inner.KeptVersions.{Stands as VersionsStand};
+ghost use Rattle.object_versions.specs.inner.KeptVersions.{StandsFor as VersionsStand};
 
 use crate::kept::frame_kept;
 use caa_base::written::entry::{Entry, Kind};

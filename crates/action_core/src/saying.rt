@@ -3,7 +3,7 @@ ghost use Rattle.caa_base.specs.declared.written.entry.Kind.TheVariants as kind;
 ghost use Rattle.place_plan.specs.RulesOfJournals.Raising.{has_handled};
 ghost use Rattle.place_plan.specs.RulesOfJournals.Rules.{MayFollow};
 ghost use Rattle.place_plan.specs.RulesOfJournals.Journals.{LegalPast};
-ghost use Rattle.action_endings.specs.inner.KeptEndings.{exception_named, Stands as EndingsStand};
+ghost use Rattle.action_endings.specs.inner.KeptEndings.{exception_named, StandsFor as EndingsStand};
 ghost use Rattle.action_core.specs.inner.Raisings.{RaisesIn};
 
 use action_endings::Endings;

@@ -2,7 +2,7 @@ ghost use Rattle.std.specs.Prelude.{◌≡◌, ◌∷◌, [], true, reverse, IfO
 ghost use Rattle.role_states.specs.inner.Standing.{is_step};
 ghost use Rattle.place_plan.specs.RulesOfJournals.Rules.{MayFollow};
 ghost use Rattle.place_plan.specs.RulesOfJournals.Journals.{LegalPast};
-ghost use Rattle.action_core.specs.inner.KeptPast.{IsKeptOf};
+ghost use Rattle.action_core.specs.inner.KeptPast.{StandsFor as TablesStand};
 
 use crate::noting::{is_handling, note_frames, note_recoveries, note_versions};
 use crate::people::People;
@@ -49,7 +49,7 @@ impl Model for Tables {
 impl Tables {
     /// The tables of no entries. At `Err` no memory was found.
     pub fn open(alloc: Global, plan: &Plan) -> Result<Tables, OutOfMemory>
-        ensures { IfOk result (λ tables. IsKeptOf plan.now [] tables) }
+        ensures { IfOk result (λ tables. TablesStand plan.now [] tables) }
     {
         Ok(Tables {
             frames: Frames::open(alloc, plan)?,
@@ -66,10 +66,10 @@ impl Tables {
     /// A step changes the frame of its maker, and a write the value of its object too; nothing else is looked at for one.
     #[inline(always)]
     pub fn note(&mut self, plan: &Plan, journal: &[Entry], entry: &Entry)
-        requires stands { IsKeptOf plan.now (reverse journal.now) self.old }
+        requires stands { TablesStand plan.now (reverse journal.now) self.old }
         requires legal { LegalPast plan.now (reverse journal.now) }
         requires may { MayFollow plan.now (reverse journal.now) entry.now }
-        ensures { IsKeptOf plan.now (entry.now ∷ reverse journal.now) self.new }
+        ensures { TablesStand plan.now (entry.now ∷ reverse journal.now) self.new }
     {
         match entry.kind {
             Kind::Read | Kind::Work | Kind::Write | Kind::Check => {
@@ -82,11 +82,11 @@ impl Tables {
     /// Takes a step in.
     #[inline(always)]
     fn note_step(&mut self, plan: &Plan, journal: &[Entry], entry: &Entry)
-        requires stands { IsKeptOf plan.now (reverse journal.now) self.old }
+        requires stands { TablesStand plan.now (reverse journal.now) self.old }
         requires legal { LegalPast plan.now (reverse journal.now) }
         requires may { MayFollow plan.now (reverse journal.now) entry.now }
         requires step { is_step entry.now.kind ≡ true }
-        ensures { IsKeptOf plan.now (entry.now ∷ reverse journal.now) self.new }
+        ensures { TablesStand plan.now (entry.now ∷ reverse journal.now) self.new }
     {
         plan.is_closed();
         note_frames(&mut self.frames, plan, journal, entry, false);
@@ -96,10 +96,10 @@ impl Tables {
     /// Takes in an entry that is no step.
     #[inline(never)]
     fn note_rest(&mut self, plan: &Plan, journal: &[Entry], entry: &Entry)
-        requires stands { IsKeptOf plan.now (reverse journal.now) self.old }
+        requires stands { TablesStand plan.now (reverse journal.now) self.old }
         requires legal { LegalPast plan.now (reverse journal.now) }
         requires may { MayFollow plan.now (reverse journal.now) entry.now }
-        ensures { IsKeptOf plan.now (entry.now ∷ reverse journal.now) self.new }
+        ensures { TablesStand plan.now (entry.now ∷ reverse journal.now) self.new }
     {
         plan.is_closed();
         let silent = ends_in_silence(plan, entry.place, self.stages.stage(entry.place).ended);

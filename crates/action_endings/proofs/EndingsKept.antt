@@ -24,7 +24,7 @@ use Rattle.place_plan.proofs.OnJournals.EntryKinds.{of_kind}
 use Rattle.action_endings.specs.declared.said.Said.TheVariants as short
 use Rattle.action_endings.specs.declared.ending.Ending.{Ending}
 use Rattle.action_endings.proofs.PlanNumbers.{indices_apart}
-use Rattle.action_endings.specs.inner.KeptEndings.{no_ending, at, role_number, SignalsBelow, verdict_said, verdict_kept, name_kept, tried_kept, asks_for_undo, exception_named, KeepsVerdicts, KeepsRest, StandsBut, Stands}
+use Rattle.action_endings.specs.inner.KeptEndings.{no_ending, at, role_number, SignalsBelow, verdict_said, verdict_kept, name_kept, tried_kept, asks_for_undo, exception_named, KeepsVerdicts, KeepsRest, StandsBut, StandsFor}
 use Rattle.action_endings.specs.inner.ChangedEndings.{ChangesAt, Gives, GivesUp, marked, cleared, turned_back, tried_once_more, is_apart, RaisesFirst, NoneCounts, Says, Aborts, TurnsBack, Restores, LeavesEndings}
 
 -- ---- tests over lists
@@ -115,9 +115,9 @@ record Leaves (plan : Plan) (past : List Entry) (e : Entry) (q : ℕ) : Type 0 w
   pub raised : is_raised plan (e ∷ past) q ≡ is_raised plan past q
 
 -- where p goes on standing, and the entry leaves all other places, all go on standing
-all_stand : (plan : Plan) (past : List Entry) (e : Entry) (p : ℕ) (old new : List Ending) → Stands plan past old → length new ≡ length old
+all_stand : (plan : Plan) (past : List Entry) (e : Entry) (p : ℕ) (old new : List Ending) → StandsFor plan past old → length new ≡ length old
     → ((q : ℕ) → (p == q) ≡ false → at new q ≡ at old q) → ((q : ℕ) → (p == q) ≡ false → Leaves plan past e q)
-    → KeepsVerdicts plan (e ∷ past) p (at new p) → KeepsRest plan (e ∷ past) p (at new p) → Stands plan (e ∷ past) new
+    → KeepsVerdicts plan (e ∷ past) p (at new p) → KeepsRest plan (e ∷ past) p (at new p) → StandsFor plan (e ∷ past) new
 all_stand plan past e p old new s as_many apart leaves verdicts rest = record {
   as_many = as_many ∙ s.as_many;
   verdicts = λ q. elim (cases_Bool (p == q)) [
@@ -165,7 +165,7 @@ apart_says past kind.Verdict e p t h = absurd (false≢true h)
 apart_says past _ e p t h = refl
 
 -- something is raised in p for the first time
-pub marked_keeps : (plan : Plan) (past : List Entry) (e : Entry) (p : ℕ) (old : List Ending) → p < length old → Stands plan past old
+pub marked_keeps : (plan : Plan) (past : List Entry) (e : Entry) (p : ℕ) (old : List Ending) → p < length old → StandsFor plan past old
     → RaisesFirst plan past e p → StandsBut plan (e ∷ past) p (slice_set old p (marked (at old p)))
 marked_keeps plan past e p old l s r = record {
   as_many = length-set old p _ ∙ s.as_many;
@@ -188,7 +188,7 @@ marked_keeps plan past e p old l s r = record {
 
 -- then the verdicts of p are dropped
 pub cleared_keeps : (plan : Plan) (past : List Entry) (p : ℕ) (old : List Ending) → p < length old → StandsBut plan past p old
-    → NoneCounts plan past p → Stands plan past (slice_set old p (cleared (at old p)))
+    → NoneCounts plan past p → StandsFor plan past (slice_set old p (cleared (at old p)))
 cleared_keeps plan past p old l s none = record {
   as_many = length-set old p _ ∙ s.as_many;
   verdicts = λ q. elim (cases_Bool (p == q)) [
@@ -231,7 +231,7 @@ cleared_keeps plan past p old l s none = record {
 
 -- an entry that changes nothing of what is kept
 pub others_keep : (plan : Plan) (past : List Entry) (e : Entry) (endings : List Ending) → LeavesEndings plan past e
-    → Stands plan past endings → Stands plan (e ∷ past) endings
+    → StandsFor plan past endings → StandsFor plan (e ∷ past) endings
 others_keep plan past e endings l s = record {
   as_many = s.as_many;
   verdicts = λ q.
@@ -439,24 +439,24 @@ module _ (plan : Plan) (past : List Entry) (e : Entry) (p t : ℕ) where
 -- t gives the verdict v in p
 pub said_keeps : (plan : Plan) (past : List Entry) (e : Entry) (p t : ℕ) (v : Verdict) (old new : List Ending)
     → has_bit (at old p).given t ≡ false → member t (roles_of plan p) ≡ true → role_number plan p t < most_roles
-    → SignalsBelow (interface_of plan p).count v → Stands plan past old → Says plan past e p t v
-    → ChangesAt (Gives (role_number plan p t) t v) p old new → Stands plan (e ∷ past) new
+    → SignalsBelow (interface_of plan p).count v → StandsFor plan past old → Says plan past e p t v
+    → ChangesAt (Gives (role_number plan p t) t v) p old new → StandsFor plan (e ∷ past) new
 said_keeps plan past e p t v old new fresh role low fits s w c =
     let is = spoken_is plan past e p t w.gives w.here w.own in
     let counts : has_given plan (spoken plan past e p t ∷ past) p t ≡ true =
     subst (λ x. has_given plan (x ∷ past) p t ≡ true) (sym is) w.counts in
     let says : verdict_at (spoken plan past e p t) ≡ v = w.says in
-    subst (λ x. Stands plan (x ∷ past) new) is
+    subst (λ x. StandsFor plan (x ∷ past) new) is
     (all_stand plan past (spoken plan past e p t) p old new s c.as_many c.apart (spoken_leaves plan past e p t)
     (spoken_verdicts plan past e p t v (at old p) (at new p) role low c.here says counts fresh (s.rest p).room_to_say fits (s.verdicts p))
     (spoken_here plan past e p t v (at old p) (at new p) role low c.here says counts (s.rest p)))
 
 -- t gives up in p
 pub given_up_keeps : (plan : Plan) (past : List Entry) (e : Entry) (p t : ℕ) (name : Option ℕ) (old new : List Ending)
-    → member t (roles_of plan p) ≡ true → role_number plan p t < most_roles → Stands plan past old → Aborts e p t name
-    → ChangesAt (GivesUp (role_number plan p t) t name) p old new → Stands plan (e ∷ past) new
+    → member t (roles_of plan p) ≡ true → role_number plan p t < most_roles → StandsFor plan past old → Aborts e p t name
+    → ChangesAt (GivesUp (role_number plan p t) t name) p old new → StandsFor plan (e ∷ past) new
 given_up_keeps plan past e p t name old new role low s w c =
-    subst (λ x. Stands plan (x ∷ past) new) (given_up_is plan past e p t w.aborts w.here w.own)
+    subst (λ x. StandsFor plan (x ∷ past) new) (given_up_is plan past e p t w.aborts w.here w.own)
     (all_stand plan past (given_up plan past e p t) p old new s c.as_many c.apart (given_up_leaves plan past e p t)
     (given_up_said plan past e p t name (at old p) (at new p) role low c.here w.names (s.verdicts p))
     (given_up_here plan past e p t name (at old p) (at new p) role low c.here w.names (s.rest p)))
@@ -588,10 +588,10 @@ module _ (plan : Plan) (past : List Entry) (e : Entry) (p : ℕ) where
       turned false false = refl
 
 -- p is to be undone
-pub turned_back_keeps : (plan : Plan) (past : List Entry) (e : Entry) (p : ℕ) (old : List Ending) → p < length old → Stands plan past old
-    → TurnsBack e p → Stands plan (e ∷ past) (slice_set old p (turned_back (at old p)))
+pub turned_back_keeps : (plan : Plan) (past : List Entry) (e : Entry) (p : ℕ) (old : List Ending) → p < length old → StandsFor plan past old
+    → TurnsBack e p → StandsFor plan (e ∷ past) (slice_set old p (turned_back (at old p)))
 turned_back_keeps plan past e p old l s w =
-    subst (λ x. Stands plan (x ∷ past) (slice_set old p (turned_back (at old p)))) (undo_is plan past e p w.undoes w.here)
+    subst (λ x. StandsFor plan (x ∷ past) (slice_set old p (turned_back (at old p)))) (undo_is plan past e p w.undoes w.here)
     (all_stand plan past (back plan past e p) p old _ s (length-set old p _) (λ q other. set_apart old p q _ other)
     (undo_leaves plan past e p)
     (subst (KeepsVerdicts plan (back plan past e p ∷ past) p) (sym (set_here old p _ l))
@@ -600,10 +600,10 @@ turned_back_keeps plan past e p old l s w =
 
 -- the next object of p gets its restore
 pub tried_keeps : (plan : Plan) (past : List Entry) (e : Entry) (p : ℕ) (well : Bool) (old : List Ending) → p < length old
-    → 0 < (at old p).untried → Stands plan past old → Restores plan old e p well
-    → Stands plan (e ∷ past) (slice_set old p (tried_once_more well (at old p)))
+    → 0 < (at old p).untried → StandsFor plan past old → Restores plan old e p well
+    → StandsFor plan (e ∷ past) (slice_set old p (tried_once_more well (at old p)))
 tried_keeps plan past e p well old l some s w =
-    subst (λ x. Stands plan (x ∷ past) (slice_set old p (tried_once_more well (at old p)))) (restore_is plan past e p w.restores w.here)
+    subst (λ x. StandsFor plan (x ∷ past) (slice_set old p (tried_once_more well (at old p)))) (restore_is plan past e p w.restores w.here)
     (all_stand plan past (restore plan past e p) p old _ s (length-set old p _) (λ q other. set_apart old p q _ other)
     (restore_leaves plan past e p)
     (subst (KeepsVerdicts plan (restore plan past e p ∷ past) p) (sym (set_here old p _ l))

@@ -11,7 +11,7 @@ use Rattle.place_plan.specs.Plans.Places.{roles_of, objects_of}
 use Rattle.place_plan.proofs.OnPlans.Passing.{past_end, below_or_not}
 use Rattle.place_plan.proofs.OnPlans.ClosedPlan.{no_action_past}
 use Rattle.action_endings.specs.declared.ending.Ending.{Ending}
-use Rattle.action_endings.specs.inner.KeptEndings.{no_ending, unsaid, at, asks_for_undo, KeepsVerdicts, KeepsRest, Stands}
+use Rattle.action_endings.specs.inner.KeptEndings.{no_ending, unsaid, at, asks_for_undo, KeepsVerdicts, KeepsRest, StandsFor}
 use Rattle.action_endings.proofs.EndingsKept.{any_none}
 
 -- what is kept of p at first
@@ -56,7 +56,7 @@ rest_opened plan p = record {
 
 -- all places
 pub all_opened : (plan : Plan) (rows : List Ending) → length rows ≡ length plan.places
-    → ((p : ℕ) → p < length plan.places → at rows p ≡ opened plan p) → Stands plan [] rows
+    → ((p : ℕ) → p < length plan.places → at rows p ≡ opened plan p) → StandsFor plan [] rows
 all_opened plan rows as_many each = record {
   as_many = as_many;
   verdicts = λ p. subst (KeepsVerdicts plan [] p) (sym (is p)) (verdicts_opened plan p);

@@ -18,7 +18,7 @@ use Rattle.place_plan.specs.RulesOfJournals.Objects.{is_tried, next_restore}
 use Rattle.place_plan.specs.RulesOfJournals.Roles.{has_given, all_have_given, has_aborted, all_have_aborted, verdict_of, is_undo, signal_in, wants_undo}
 use Rattle.place_plan.proofs.OnPlans.SmallParts.{objects_rise}
 use Rattle.action_endings.specs.declared.ending.Ending.{Ending}
-use Rattle.action_endings.specs.inner.KeptEndings.{at, SignalsBelow, verdict_kept, name_in, name_kept, tried_kept, doomed_kept, asks_for_undo, KeepsVerdicts, KeepsRest, Stands}
+use Rattle.action_endings.specs.inner.KeptEndings.{at, SignalsBelow, verdict_kept, name_in, name_kept, tried_kept, doomed_kept, asks_for_undo, KeepsVerdicts, KeepsRest, StandsFor}
 use Rattle.action_endings.specs.inner.ChangedEndings.{marked, given_kept, given_by, signals_kept, AreKnown}
 use Rattle.action_endings.proofs.EndingsKept.{any_same, set_here, set_apart}
 use Rattle.action_endings.proofs.PlanNumbers.{first_after}
@@ -60,7 +60,7 @@ dooms_inside plan p old l q = by_list (around plan q)
         ap₂ (λ a b. a || b) (at_one x) (by_list xs)
         ∙ mixed (x == p) (at old x).raised (member p xs) (list_any (λ y. (at old y).raised) xs)
 
-pub doomed_right : (plan : Plan) (past : List Entry) (endings : List Ending) (p : ℕ) → Stands plan past endings
+pub doomed_right : (plan : Plan) (past : List Entry) (endings : List Ending) (p : ℕ) → StandsFor plan past endings
     → doomed_kept plan endings p ≡ is_doomed plan past p
 doomed_right plan past endings p s =
     any_same (λ q. (at endings q).raised) (λ q. is_raised plan past q) (around plan p) (λ q. (s.rest q).raised)
@@ -132,12 +132,12 @@ name_right plan past p t row k h =
     let found = newest_there (is_by kind.Abort p t) past h in
     sym (ap name_in found.1 ∙ k.named t found.0 found.1)
 
-pub all_aborted_right : (plan : Plan) (past : List Entry) (endings : List Ending) (p : ℕ) → Stands plan past endings
+pub all_aborted_right : (plan : Plan) (past : List Entry) (endings : List Ending) (p : ℕ) → StandsFor plan past endings
     → list_all (has_bit (at endings p).aborted) (roles_of plan p) ≡ all_have_aborted plan past p
 all_aborted_right plan past endings p s =
     all_same (has_bit (at endings p).aborted) (has_aborted past p) (roles_of plan p) (s.rest p).aborted
 
-pub next_right : (plan : Plan) → IsClosed plan → (past : List Entry) (endings : List Ending) (p : ℕ) → Stands plan past endings
+pub next_right : (plan : Plan) → IsClosed plan → (past : List Entry) (endings : List Ending) (p : ℕ) → StandsFor plan past endings
     → slice_get (objects_of plan p) (tried_kept plan p (at endings p)) ≡ next_restore plan past p
 next_right plan closed past endings p s =
     sym (first_after (is_tried past p) 0 (objects_of plan p) (tried_kept plan p (at endings p)) (objects_rise plan closed p)

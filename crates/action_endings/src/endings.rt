@@ -13,7 +13,7 @@ ghost use Rattle.place_plan.specs.RulesOfJournals.Whereabouts.{is_undoing};
 ghost use Rattle.place_plan.specs.RulesOfJournals.Raising.{is_doomed, is_raised};
 ghost use Rattle.place_plan.specs.RulesOfJournals.Objects.{has_failed, next_restore};
 ghost use Rattle.place_plan.specs.RulesOfJournals.Roles.{all_have_aborted, all_have_given, has_aborted, has_given, is_undo, signal_in, signals, wants_undo};
-ghost use Rattle.action_endings.specs.inner.KeptEndings.{at, role_number, SignalsBelow, doomed_kept, name_in, name_kept, tried_kept, unsaid, Stands, StandsBut};
+ghost use Rattle.action_endings.specs.inner.KeptEndings.{at, role_number, SignalsBelow, doomed_kept, name_in, name_kept, tried_kept, unsaid, StandsFor, StandsBut};
 ghost use Rattle.action_endings.specs.inner.ChangedEndings.{ChangesAt, Gives, GivesUp, MaySay, marked, cleared, turned_back, tried_once_more, RaisesFirst, NoneCounts, Says, Aborts, TurnsBack, Restores, given_by, given_kept, signals_kept, AreKnown, agreed_outcome, IsReady, Concludes, SaysOutcome, IsRightEnd};
 
 use crate::ending::Ending;
@@ -157,7 +157,7 @@ fn agreed(signalled: Option<Exception>) -> Outcome
 impl Endings {
     /// Nothing is raised or said anywhere, and no object has a restore.
     pub fn open(alloc: Global, plan: &Plan) -> Result<Endings, OutOfMemory>
-        ensures { IfOk result (λ e. Stands plan.now [] e) }
+        ensures { IfOk result (λ e. StandsFor plan.now [] e) }
     {
         plan.is_closed();
         let mut places = Vec::new(alloc);
@@ -174,7 +174,7 @@ impl Endings {
         requires { place < length self.old }
         ensures marked { self.new ≡ slice_set self.old place (marked (at self.old place)) }
         ensures dooms { (p : ℕ) → doomed_kept plan.now self.new p ≡ (member place (around plan.now p) || doomed_kept plan.now self.old p) }
-        ensures keeps { (past : List EntryValue) (e : EntryValue) → Stands plan.now past self.old → RaisesFirst plan.now past e place
+        ensures keeps { (past : List EntryValue) (e : EntryValue) → StandsFor plan.now past self.old → RaisesFirst plan.now past e place
             → StandsBut plan.now (e ∷ past) place self.new }
     {
         plan.is_closed();
@@ -185,7 +185,7 @@ impl Endings {
     #[inline(always)]
     pub fn is_raised(&self, place: Place) -> bool
         ensures kept { result ≡ (at self.now place).raised }
-        ensures stands { (plan : PlanValue) (past : List EntryValue) → Stands plan past self.now → result ≡ is_raised plan past place }
+        ensures stands { (plan : PlanValue) (past : List EntryValue) → StandsFor plan past self.now → result ≡ is_raised plan past place }
     {
         self.row(place).raised
     }
@@ -193,7 +193,7 @@ impl Endings {
     /// Whether something was raised in a place round this one.
     pub fn is_doomed(&self, plan: &Plan, place: Place) -> bool
         ensures kept { result ≡ doomed_kept plan.now self.now place }
-        ensures stands { (past : List EntryValue) → Stands plan.now past self.now → result ≡ is_doomed plan.now past place }
+        ensures stands { (past : List EntryValue) → StandsFor plan.now past self.now → result ≡ is_doomed plan.now past place }
     {
         self.is_inside_raised(plan, place)
     }
@@ -205,7 +205,7 @@ impl Endings {
         requires { place < length self.old }
         ensures cleared { self.new ≡ slice_set self.old place (cleared (at self.old place)) }
         ensures keeps { (plan : PlanValue) (past : List EntryValue) → StandsBut plan past place self.old → NoneCounts plan past place
-            → Stands plan past self.new }
+            → StandsFor plan past self.new }
     {
         self.drop_verdicts(place);
     }
@@ -216,8 +216,8 @@ impl Endings {
         requires fresh { has_bit (at self.old place).given by ≡ false }
         requires in_range { SignalsBelow (interface_of plan.now place).count verdict }
         ensures given { ChangesAt (Gives (role_number plan.now place by) by verdict) place self.old self.new }
-        ensures keeps { (past : List EntryValue) (e : EntryValue) → Stands plan.now past self.old
-            → Says plan.now past e place by verdict → Stands plan.now (e ∷ past) self.new }
+        ensures keeps { (past : List EntryValue) (e : EntryValue) → StandsFor plan.now past self.old
+            → Says plan.now past e place by verdict → StandsFor plan.now (e ∷ past) self.new }
     {
         plan.is_closed();
         plan.interface(place).is_sound();
@@ -229,7 +229,7 @@ impl Endings {
     #[inline(always)]
     pub fn has_given(&self, place: Place, by: Participant) -> bool
         ensures kept { result ≡ has_bit (at self.now place).given by }
-        ensures stands { (plan : PlanValue) (past : List EntryValue) → Stands plan past self.now → result ≡ has_given plan past place by }
+        ensures stands { (plan : PlanValue) (past : List EntryValue) → StandsFor plan past self.now → result ≡ has_given plan past place by }
     {
         is_in(self.row(place).given, by)
     }
@@ -238,7 +238,7 @@ impl Endings {
     pub fn given(&self, plan: &Plan, place: Place, by: Participant) -> Option<Verdict>
         requires { member by (roles_of plan.now place) ≡ true }
         ensures kept { result ≡ given_kept plan.now place by (at self.now place) }
-        ensures stands { (past : List EntryValue) → Stands plan.now past self.now → result ≡ given_by plan.now past place by }
+        ensures stands { (past : List EntryValue) → StandsFor plan.now past self.now → result ≡ given_by plan.now past place by }
     {
         self.verdict_given(plan, place, by)
     }
@@ -246,7 +246,7 @@ impl Endings {
     /// Whether each role of a place has a verdict that counts.
     pub fn all_given(&self, plan: &Plan, place: Place) -> bool
         ensures kept { result ≡ list_all (has_bit (at self.now place).given) (roles_of plan.now place) }
-        ensures stands { (past : List EntryValue) → Stands plan.now past self.now → result ≡ all_have_given plan.now past place }
+        ensures stands { (past : List EntryValue) → StandsFor plan.now past self.now → result ≡ all_have_given plan.now past place }
     {
         are_in(self.row(place).given, plan.roles_of(place))
     }
@@ -255,7 +255,7 @@ impl Endings {
     #[inline(always)]
     pub fn wants_undo(&self, place: Place) -> bool
         ensures kept { result ≡ (at self.now place).undo }
-        ensures stands { (plan : PlanValue) (past : List EntryValue) → Stands plan past self.now → all_have_given plan past place ≡ true
+        ensures stands { (plan : PlanValue) (past : List EntryValue) → StandsFor plan past self.now → all_have_given plan past place ≡ true
             → result ≡ wants_undo plan past place }
     {
         self.row(place).undo
@@ -266,7 +266,7 @@ impl Endings {
         requires { AreKnown plan.now place (at self.now place) }
         ensures kept { IsCoverOf (interface_of plan.now place)
             (signals_kept plan.now place (at self.now place) (roles_of plan.now place)) result }
-        ensures stands { (past : List EntryValue) → Stands plan.now past self.now → all_have_given plan.now past place ≡ true
+        ensures stands { (past : List EntryValue) → StandsFor plan.now past self.now → all_have_given plan.now past place ≡ true
             → IsCoverOf (interface_of plan.now place) (signals past place (roles_of plan.now place)) result }
     {
         self.joined_signals(plan, place)
@@ -286,8 +286,8 @@ impl Endings {
         requires fresh { has_bit (at self.old place).aborted by ≡ false }
         requires in_range { IfSome exception (λ x. x < (interface_of plan.now place).count) }
         ensures aborted { ChangesAt (GivesUp (role_number plan.now place by) by exception) place self.old self.new }
-        ensures keeps { (past : List EntryValue) (e : EntryValue) → Stands plan.now past self.old → Aborts e place by exception
-            → Stands plan.now (e ∷ past) self.new }
+        ensures keeps { (past : List EntryValue) (e : EntryValue) → StandsFor plan.now past self.old → Aborts e place by exception
+            → StandsFor plan.now (e ∷ past) self.new }
     {
         plan.is_closed();
         plan.interface(place).is_sound();
@@ -304,7 +304,7 @@ impl Endings {
     #[inline(always)]
     pub fn has_aborted(&self, plan: &Plan, place: Place, by: Participant) -> bool
         ensures kept { result ≡ has_bit (at self.now place).aborted by }
-        ensures stands { (past : List EntryValue) → Stands plan.now past self.now → result ≡ has_aborted past place by }
+        ensures stands { (past : List EntryValue) → StandsFor plan.now past self.now → result ≡ has_aborted past place by }
     {
         plan.is_closed();
         is_in(self.row(place).aborted, by)
@@ -313,7 +313,7 @@ impl Endings {
     /// Whether each role of a place has given up.
     pub fn all_aborted(&self, plan: &Plan, place: Place) -> bool
         ensures kept { result ≡ list_all (has_bit (at self.now place).aborted) (roles_of plan.now place) }
-        ensures stands { (past : List EntryValue) → Stands plan.now past self.now → result ≡ all_have_aborted plan.now past place }
+        ensures stands { (past : List EntryValue) → StandsFor plan.now past self.now → result ≡ all_have_aborted plan.now past place }
     {
         are_in(self.row(place).aborted, plan.roles_of(place))
     }
@@ -322,7 +322,7 @@ impl Endings {
     #[inline(always)]
     pub fn has_aborts(&self, place: Place) -> bool
         ensures kept { result ≡ not ((at self.now place).aborted == 0) }
-        ensures stands { (plan : PlanValue) (past : List EntryValue) → Stands plan past self.now → result ≡ has kind.Abort past place }
+        ensures stands { (plan : PlanValue) (past : List EntryValue) → StandsFor plan past self.now → result ≡ has kind.Abort past place }
     {
         self.row(place).aborted != 0
     }
@@ -332,7 +332,7 @@ impl Endings {
         requires role { member by (roles_of plan.now place) ≡ true }
         requires aborted { has_bit (at self.now place).aborted by ≡ true }
         ensures kept { result ≡ name_kept plan.now place by (at self.now place) }
-        ensures stands { (past : List EntryValue) → Stands plan.now past self.now
+        ensures stands { (past : List EntryValue) → StandsFor plan.now past self.now
             → result ≡ name_in (newest (is_by kind.Abort place by) past) }
     {
         self.named_by(plan, place, by)
@@ -344,8 +344,8 @@ impl Endings {
     pub fn start_undo(&mut self, place: Place)
         requires { place < length self.old }
         ensures undoing { self.new ≡ slice_set self.old place (turned_back (at self.old place)) }
-        ensures keeps { (plan : PlanValue) (past : List EntryValue) (e : EntryValue) → Stands plan past self.old → TurnsBack e place
-            → Stands plan (e ∷ past) self.new }
+        ensures keeps { (plan : PlanValue) (past : List EntryValue) (e : EntryValue) → StandsFor plan past self.old → TurnsBack e place
+            → StandsFor plan (e ∷ past) self.new }
     {
         self.turn_back(place);
     }
@@ -354,7 +354,7 @@ impl Endings {
     #[inline(always)]
     pub fn is_undoing(&self, place: Place) -> bool
         ensures kept { result ≡ (at self.now place).undoing }
-        ensures stands { (plan : PlanValue) (past : List EntryValue) → Stands plan past self.now → result ≡ is_undoing past place }
+        ensures stands { (plan : PlanValue) (past : List EntryValue) → StandsFor plan past self.now → result ≡ is_undoing past place }
     {
         self.row(place).undoing
     }
@@ -362,7 +362,7 @@ impl Endings {
     /// The least object of a place that has no restore there, if there is one.
     pub fn next_restore(&self, plan: &Plan, place: Place) -> Option<Object>
         ensures kept { result ≡ slice_get (objects_of plan.now place) (tried_kept plan.now place (at self.now place)) }
-        ensures stands { (past : List EntryValue) → Stands plan.now past self.now → result ≡ next_restore plan.now past place }
+        ensures stands { (past : List EntryValue) → StandsFor plan.now past self.now → result ≡ next_restore plan.now past place }
     {
         plan.is_closed();
         self.first_untried(plan, place)
@@ -374,8 +374,8 @@ impl Endings {
         requires undoing { (at self.old place).undoing ≡ true }
         requires some { 0 < (at self.old place).untried }
         ensures tried { self.new ≡ slice_set self.old place (tried_once_more well (at self.old place)) }
-        ensures keeps { (plan : PlanValue) (past : List EntryValue) (e : EntryValue) → Stands plan past self.old
-            → Restores plan self.old e place well → Stands plan (e ∷ past) self.new }
+        ensures keeps { (plan : PlanValue) (past : List EntryValue) (e : EntryValue) → StandsFor plan past self.old
+            → Restores plan self.old e place well → StandsFor plan (e ∷ past) self.new }
     {
         self.try_next(place, well);
     }
@@ -384,7 +384,7 @@ impl Endings {
     #[inline(always)]
     pub fn has_failed(&self, place: Place) -> bool
         ensures kept { result ≡ (at self.now place).failed }
-        ensures stands { (plan : PlanValue) (past : List EntryValue) → Stands plan past self.now → result ≡ has_failed past place }
+        ensures stands { (plan : PlanValue) (past : List EntryValue) → StandsFor plan past self.now → result ≡ has_failed past place }
     {
         self.row(place).failed
     }
@@ -396,7 +396,7 @@ impl Endings {
         requires ready { IsReady plan.now place (at self.now place) }
         requires known { AreKnown plan.now place (at self.now place) }
         ensures concludes { Concludes plan.now place (at self.now place) result }
-        ensures stands { (past : List EntryValue) (e : EntryValue) → Stands plan.now past self.now → SaysOutcome e place result
+        ensures stands { (past : List EntryValue) (e : EntryValue) → StandsFor plan.now past self.now → SaysOutcome e place result
             → IsRightEnd plan.now past e }
     {
         self.outcome(plan, place)

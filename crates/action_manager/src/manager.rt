@@ -347,7 +347,7 @@ impl<M: Machine> Manager<M> {
 
     /// A law, for whoever has a seat and an observer of this manager: what the observer knows begins what the plays publish that
     /// have ended in the journal that the seat then has seen. It takes a turn without an entry, and need not return.
-    pub fn covers<R: Wait>(&self, rt: &R, seat: &mut Seat<M>, observer: &Observer)
+    pub fn knows_no_more<R: Wait>(&self, rt: &R, seat: &mut Seat<M>, observer: &Observer)
         requires opened { IsSeatIn M.base_of self.now seat.old }
         requires ours { observer.now.known.book ≡ book_in self.now }
         ensures opened { IsSeatIn M.base_of self.now seat.new }
@@ -358,7 +358,7 @@ impl<M: Machine> Manager<M> {
         let _waiting = self.door.enter(rt);
         let (ticket, mut home) = self.lock.begin(rt, &mut seat.token);
         let seen = home.machine.journal_len();
-        home.publishing.covers(observer);
+        home.publishing.knows_no_more(observer);
         self.lock.hand_on(&mut seat.token, ticket, home);
         seat.seen = seen;
     }

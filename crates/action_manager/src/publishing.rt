@@ -107,12 +107,12 @@ impl Publishing {
     }
 
     /// A law: what an observer of its list knows begins what the writer has entered. Nothing changes.
-    pub fn covers(&mut self, observer: &Observer)
+    pub fn knows_no_more(&mut self, observer: &Observer)
         requires ours { observer.now.known.book ≡ book_of self.old }
         ensures same { self.new ≡ self.old }
         ensures begins { Begins observer.now.known self.old.writer.entered }
     {
-        self.writer.covers(observer);
+        self.writer.knows_no_more(observer);
     }
 
     /// The writer alone.

@@ -32,5 +32,5 @@ pub fn readings_are_committed(plan: &Plan, writer: &mut CommittedWriter, observe
         → LegalPast plan.now past → IsReading (initials_of plan.now) observer.now.known o r → IsCommitted plan.now past o r }
 {
     ends_commit(plan);
-    writer.covers(observer);
+    writer.knows_no_more(observer);
 }

@@ -1,6 +1,7 @@
 -- How a call of the program ends, and what it leaves.
 use Rattle.std.specs.Prelude.{◌≡◌, ◌⊎◌, ℕ, ◌≤◌, if◌then◌else◌, true, List, [], length, Some, None, IfSome}
 use Rattle.std.specs.Io.KnownBytes.{append_known}
+use Rattle.caa_base.specs.Written.Mixing.{turn_number}
 use Rattle.caa_base.specs.Outside.Counts.{counted_up}
 use Rattle.caa_base.specs.Outside.Reading.{emptied, TookUntil}
 use Rattle.caa_base.specs.Outside.Writing.{WrotePart}
@@ -9,7 +10,7 @@ use Rattle.caa_base.specs.declared.outside.reading.ReadError.{ReadError}
 use Rattle.caa_base.specs.declared.outside.reading.ReadError.TheVariants as error
 use Rattle.place_plan.specs.Plans.PlanValue.{Plan}
 use Rattle.script_checker.specs.PlanSizes.{counts_of}
-use Rattle.role_driver.specs.Schedule.{GrewBy, first_of_seed}
+use Rattle.role_driver.specs.Schedule.{GrewBy}
 use Rattle.journal_text.specs.declared.looks.seens.Seen.{Seen}
 use Rattle.journal_text.specs.Watching.Right.{first_wrong}
 use Rattle.journal_text.specs.Texts.Text.{text_of}
@@ -75,7 +76,7 @@ DoesNotBegin plan _ left = ⊥
 -- the plan is played by the schedule of the seed
 pub record IsSimulated {P : Type 0} (plan : Plan) (seed : ℕ) (left : Left P) : Type 0 where
   pub played : IsPlayed plan left
-  pub schedule : GrewBy (first_of_seed seed) plan [] left.journal
+  pub schedule : GrewBy (turn_number seed) plan [] left.journal
 
 -- `sim` plays so, and nobody watches; or no play begins
 abbrev pub SimComesTo : {P : Type 0} → Plan → ℕ → Finding → Left P → Type 0

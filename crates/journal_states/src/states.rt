@@ -6,8 +6,8 @@ ghost use Rattle.place_plan.specs.RulesOfJournals.Raising.{is_raised};
 ghost use Rattle.place_plan.specs.RulesOfJournals.Objects.{value_of};
 ghost use Rattle.place_plan.specs.RulesOfJournals.Journals.{LegalPast};
 ghost use Rattle.place_plan.proofs.OnJournals.LegalProp.{LegalPast-prop};
-ghost use Rattle.action_core.specs.inner.KeptPast.{IsKeptOf};
-ghost use Rattle.action_core.specs.inner.OneWay.{IsKeptOf-prop};
+ghost use Rattle.action_core.specs.inner.KeptPast.{StandsFor as TablesStand};
+ghost use Rattle.action_core.specs.inner.OneWay.{StandsFor-prop};
 
 use crate::decision::{may_follow, standing_of};
 use crate::spots::{Spot, Spots};
@@ -32,7 +32,7 @@ pub struct States<'a> {
     spots: Spots,
     ghost within: { taken ≤ length entries.now },
     ghost legal: { LegalPast plan.now (reverse (take taken entries.now)) } by { LegalPast-prop plan.now (reverse (take taken entries.now)) },
-    ghost stands: { IsKeptOf plan.now (reverse (take taken entries.now)) tables } by { IsKeptOf-prop plan.now (reverse (take taken entries.now)) tables },
+    ghost stands: { TablesStand plan.now (reverse (take taken entries.now)) tables } by { StandsFor-prop plan.now (reverse (take taken entries.now)) tables },
 }
 
 impl<'a> States<'a> {

@@ -1,6 +1,6 @@
 -- How the members of a play by messages take turns.
 use Rattle.std.specs.Prelude.{ℕ, zero, suc, ◌+◌, ◌*◌, ◌/◌, ◌%◌, ◌==◌, if◌then◌else◌, List, [], ◌∷◌, length, slice_index, slice_get, Option, Some, None}
-use Rattle.caa_base.specs.Written.Mixing.{state_after}
+use Rattle.caa_base.specs.Written.Mixing.{turn_number}
 use Rattle.cover_table.specs.Cover.{CoverOrder}
 use Rattle.place_plan.specs.Plans.PlanValue.{Plan}
 use Rattle.place_plan.specs.Plans.Places.{roles_of, body_of, internal_of}
@@ -57,10 +57,6 @@ with_wish plan past member number (Some exception) =
 abbrev pub with_turn : Plan → List Event → ℕ → List Event
 with_turn plan past number =
     with_wish plan past (number % members plan) (number / 16) (wish plan (number % members plan))
-
--- the number of a turn: the state of the seed after as many rounds, divided by 65536
-abbrev pub turn_number : ℕ → ℕ → ℕ
-turn_number seed turn = state_after seed turn / 65536
 
 -- what has happened after so many turns
 unfoldable pub after_turns : Plan → ℕ → ℕ → List Event

@@ -16,7 +16,7 @@ use Rattle.place_plan.specs.RulesOfJournals.Objects.{holder_of, value_of, value_
 use Rattle.place_plan.specs.RulesOfJournals.Journals.{is_put}
 use Rattle.place_plan.proofs.OnJournals.EntryKinds.{of_kind}
 use Rattle.object_versions.specs.declared.version.Version.{Version}
-use Rattle.object_versions.specs.inner.KeptVersions.{nothing_kept, at, depth, saved_at, IsVersionOf, Stands}
+use Rattle.object_versions.specs.inner.KeptVersions.{nothing_kept, at, depth, saved_at, IsVersionOf, StandsFor}
 use Rattle.object_versions.specs.inner.ChangedVersions.{taken, held_by, valued, ChangesEach, Takes, GivesBack, Puts}
 
 -- ---- choices by a test
@@ -53,19 +53,19 @@ opened_more plan items n v long each value free room o l = elim (cases_lt o n) [
 -- ---- all objects
 
 -- where what is kept of each object goes on standing, all does
-kept : (plan : Plan) (past : List Entry) (e : Entry) (old new : List Version) → Stands plan past old → length new ≡ length old
+kept : (plan : Plan) (past : List Entry) (e : Entry) (old new : List Version) → StandsFor plan past old → length new ≡ length old
     → ((o : ℕ) → o < length plan.objects → IsVersionOf plan past o (at old o) → IsVersionOf plan (e ∷ past) o (at new o))
-    → Stands plan (e ∷ past) new
+    → StandsFor plan (e ∷ past) new
 kept plan past e old new s as_many one = record { as_many = as_many ∙ s.as_many; each = λ o l. one o l (s.each o l) }
 
 -- where the objects of a list change, and the others are kept of as before, all is kept by the past
 each_kept : (plan : Plan) (past : List Entry) (e : Entry) (objects : List ℕ) (change : Version → Version) (old new : List Version)
-    → Stands plan past old → ChangesEach objects change old new
+    → StandsFor plan past old → ChangesEach objects change old new
     → ((o : ℕ) (version : Version) → member o objects ≡ true → IsVersionOf plan past o version
     → IsVersionOf plan (e ∷ past) o (change version))
     → ((o : ℕ) (version : Version) → member o objects ≡ false → IsVersionOf plan past o version
     → IsVersionOf plan (e ∷ past) o version)
-    → Stands plan (e ∷ past) new
+    → StandsFor plan (e ∷ past) new
 each_kept plan past e objects change old new s c changed other = kept plan past e old new s c.as_many (λ o l was.
     elim (cases_Bool (member o objects)) [
       | inl m ↦ subst (IsVersionOf plan (e ∷ past) o) (sym (c.each o m)) (changed o (at old o) m was)
@@ -160,20 +160,20 @@ module _ (plan : Plan) (past : List Entry) (e : Entry) (p : ℕ) where
 
 -- where p starts and takes its objects, what is kept goes on standing
 pub taken_keeps : (plan : Plan) (past : List Entry) (e : Entry) (p : ℕ) (old new : List Version) → depth plan p < most_depth
-    → Stands plan past old → Takes plan past e p → ChangesEach (objects_of plan p) (taken p (depth plan p)) old new
-    → Stands plan (e ∷ past) new
+    → StandsFor plan past old → Takes plan past e p → ChangesEach (objects_of plan p) (taken p (depth plan p)) old new
+    → StandsFor plan (e ∷ past) new
 taken_keeps plan past e p old new low s t c =
-    subst (λ x. Stands plan (x ∷ past) new) (start_is plan past e p t.starts t.here)
+    subst (λ x. StandsFor plan (x ∷ past) new) (start_is plan past e p t.starts t.here)
     (each_kept plan past (start plan past e p) (objects_of plan p) (taken p (depth plan p)) old new s c
     (λ o version m was. taken_one plan past e p o version (subst (λ n. depth plan p < n) (sym was.room) low)
     (λ q used live. t.deepest o q m used live) m was)
     (λ o version m was. untaken_one plan past e p o version m was))
 
 -- where p ends and gives its objects back
-pub given_keeps : (plan : Plan) (past : List Entry) (e : Entry) (p : ℕ) (old new : List Version) → Stands plan past old → GivesBack e p
-    → ChangesEach (objects_of plan p) (held_by (parent plan p)) old new → Stands plan (e ∷ past) new
+pub given_keeps : (plan : Plan) (past : List Entry) (e : Entry) (p : ℕ) (old new : List Version) → StandsFor plan past old → GivesBack e p
+    → ChangesEach (objects_of plan p) (held_by (parent plan p)) old new → StandsFor plan (e ∷ past) new
 given_keeps plan past e p old new s g c =
-    subst (λ x. Stands plan (x ∷ past) new) (finish_is plan past e p g.ends g.here)
+    subst (λ x. StandsFor plan (x ∷ past) new) (finish_is plan past e p g.ends g.here)
     (each_kept plan past (finish plan past e p) (objects_of plan p) (held_by (parent plan p)) old new s c
     (λ o version m was. given_one plan past e p o version m was)
     (λ o version m was. ungiven_one plan past e p o version m was))
@@ -227,7 +227,7 @@ amid_one plan past e o v version m is was = record {
 
 -- where the device takes a value of o
 pub written_keeps : (plan : Plan) (past : List Entry) (e : Entry) (o : ℕ) (v : ℤ) (old : List Version) → o < length old
-    → Stands plan past old → Puts plan past e o v → Stands plan (e ∷ past) (slice_set old o (valued v (at old o)))
+    → StandsFor plan past old → Puts plan past e o v → StandsFor plan (e ∷ past) (slice_set old o (valued v (at old o)))
 written_keeps plan past e o v old l s w = kept plan past e old _ s (length-set old o _) (λ x x_in was. elim (cases_Bool (o == x)) [
   | inl same ↦
       let is : o ≡ x = eqb-true o x same in
@@ -247,7 +247,7 @@ written_keeps plan past e o v old l s w = kept plan past e old _ s (length-set o
 
 -- an entry that is no start, no end and no put changes nothing
 pub others_keep : (plan : Plan) (past : List Entry) (e : Entry) (versions : List Version) → is_of kind.Start e ≡ false
-    → is_of kind.End e ≡ false → is_put e ≡ false → Stands plan past versions → Stands plan (e ∷ past) versions
+    → is_of kind.End e ≡ false → is_put e ≡ false → StandsFor plan past versions → StandsFor plan (e ∷ past) versions
 others_keep plan past e versions h g w s = kept plan past e versions versions s refl (λ o l was.
     amid_one plan past e o (at versions o).value (at versions o) (amid plan past e.kind e h g)
     (was.value ∙ sym (no_put plan past e.kind e o w)) was)

@@ -5,7 +5,7 @@ ghost use Rattle.place_plan.specs.Plans.PlanValue.{Plan as PlanValue};
 ghost use Rattle.place_plan.specs.Plans.Places.{parent, objects_of, uses};
 ghost use Rattle.place_plan.specs.RulesOfJournals.Whereabouts.{is_live};
 ghost use Rattle.place_plan.specs.RulesOfJournals.Objects.{value_of, before_start};
-ghost use Rattle.object_versions.specs.inner.KeptVersions.{at, depth, saved_at, Stands};
+ghost use Rattle.object_versions.specs.inner.KeptVersions.{at, depth, saved_at, StandsFor};
 ghost use Rattle.object_versions.specs.inner.ChangedVersions.{taken, held_by, valued, HasFree, HoldsItsOwn, ChangesEach, Takes, Puts, GivesBack};
 
 use crate::version::Version;
@@ -46,7 +46,7 @@ fn untaken(value: i64) -> Version
 impl Versions {
     /// All objects are free, and have their initial values.
     pub fn open(alloc: Global, plan: &Plan) -> Result<Versions, OutOfMemory>
-        ensures { IfOk result (λ v. Stands plan.now [] v) }
+        ensures { IfOk result (λ v. StandsFor plan.now [] v) }
     {
         let mut versions = Vec::new(alloc);
         for object in 0..plan.objects() {
@@ -77,7 +77,7 @@ impl Versions {
     pub fn saved(&self, plan: &Plan, place: Place, object: Object) -> i64
         requires { object < length self.now }
         ensures saved { result ≡ saved_at (at self.now object) (depth plan.now place) }
-        ensures at_start { (past : List EntryValue) → Stands plan.now past self.now → is_live past place ≡ true
+        ensures at_start { (past : List EntryValue) → StandsFor plan.now past self.now → is_live past place ≡ true
             → uses plan.now place object ≡ true → result ≡ value_of plan.now (before_start past place) object }
     {
         plan.is_closed();
@@ -121,8 +121,8 @@ impl Versions {
         requires whole { length self.old ≡ length plan.now.objects }
         requires free { HasFree plan.now place self.old }
         ensures taken { ChangesEach (objects_of plan.now place) (taken place (depth plan.now place)) self.old self.new }
-        ensures keeps { (past : List EntryValue) (e : EntryValue) → Stands plan.now past self.old → Takes plan.now past e place
-            → Stands plan.now (e ∷ past) self.new }
+        ensures keeps { (past : List EntryValue) (e : EntryValue) → StandsFor plan.now past self.old → Takes plan.now past e place
+            → StandsFor plan.now (e ∷ past) self.new }
     {
         plan.is_closed();
         self.take_all(plan, place);
@@ -153,8 +153,8 @@ impl Versions {
         requires whole { length self.old ≡ length plan.now.objects }
         requires held { HoldsItsOwn plan.now place self.old }
         ensures given { ChangesEach (objects_of plan.now place) (held_by (parent plan.now place)) self.old self.new }
-        ensures keeps { (past : List EntryValue) (e : EntryValue) → Stands plan.now past self.old → GivesBack e place
-            → Stands plan.now (e ∷ past) self.new }
+        ensures keeps { (past : List EntryValue) (e : EntryValue) → StandsFor plan.now past self.old → GivesBack e place
+            → StandsFor plan.now (e ∷ past) self.new }
     {
         self.give_all(plan, place);
     }
@@ -171,8 +171,8 @@ impl Versions {
     pub fn write(&mut self, object: Object, value: i64)
         requires { object < length self.old }
         ensures written { self.new ≡ slice_set self.old object (valued value (at self.old object)) }
-        ensures keeps { (plan : PlanValue) (past : List EntryValue) (e : EntryValue) → Stands plan past self.old
-            → Puts plan past e object value → Stands plan (e ∷ past) self.new }
+        ensures keeps { (plan : PlanValue) (past : List EntryValue) (e : EntryValue) → StandsFor plan past self.old
+            → Puts plan past e object value → StandsFor plan (e ∷ past) self.new }
     {
         self.set(object, value);
     }

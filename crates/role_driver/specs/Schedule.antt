@@ -1,6 +1,5 @@
 -- Who makes the next entry, where one participant after another is asked.
-use Rattle.std.specs.Prelude.{◌≡◌, ℕ, ◌+◌, ◌/◌, ◌%◌, ◌<◌, List, [], ◌∷◌, ◌++◌, length, reverse, suc}
-use Rattle.caa_base.specs.Written.Mixing.{state_after}
+use Rattle.std.specs.Prelude.{◌≡◌, ℕ, ◌+◌, ◌%◌, ◌<◌, List, [], ◌∷◌, ◌++◌, length, reverse, suc}
 use Rattle.caa_base.specs.declared.written.entry.Entry.{Entry}
 use Rattle.place_plan.specs.Plans.PlanValue.{Plan}
 use Rattle.place_plan.specs.RulesOfJournals.Rules.{MayFollow}
@@ -51,11 +50,7 @@ pub record GrewBy (begins : ℕ → ℕ) (plan : Plan) (old new : List Entry) : 
   pub kept : new ≡ old ++ reverse added
   pub turns : HaveTurns begins plan (reverse old) added
 
--- ---- where turns begin
-
--- by a seed: the state of this turn, divided by 65536; each state comes from the one before it, the first from the seed
-abbrev pub first_of_seed : ℕ → ℕ → ℕ
-first_of_seed seed turn = state_after seed turn / 65536
+-- ---- where turns begin: by a seed at the turn's number (`turn_number`)
 
 -- always at participant 0, so that the least one that has an entry makes it
 abbrev pub always_least : ℕ → ℕ

@@ -1,6 +1,7 @@
 ghost use Rattle.std.specs.Prelude.{◌≡◌, ◌<◌, ◌≤◌, ◌^◌};
+ghost use Rattle.caa_base.specs.Written.Mixing.{turn_number};
 ghost use Rattle.place_plan.specs.RulesOfJournals.Journals.{IsLegal, IsComplete};
-ghost use Rattle.role_driver.specs.Schedule.{GrewBy, first_of_seed};
+ghost use Rattle.role_driver.specs.Schedule.{GrewBy};
 
 use crate::turn::take_turn;
 use caa_base::outside::gate::EmptyGate;
@@ -21,7 +22,7 @@ pub fn sim<M: Machine>(mut machine: M, seed: u32) -> M
     ensures count { M.count_of machine ≤ M.count_of result }
     ensures legal { IsLegal (M.plan_of machine) (M.journal_of result) }
     ensures complete { IsComplete (M.plan_of machine) (M.journal_of result) }
-    ensures scheduled { GrewBy (first_of_seed seed) (M.plan_of machine) (M.journal_of machine) (M.journal_of result) }
+    ensures scheduled { GrewBy (turn_number seed) (M.plan_of machine) (M.journal_of machine) (M.journal_of result) }
 {
     let mut state = seed;
     let mut asleep = nobody();

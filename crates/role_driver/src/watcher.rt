@@ -1,7 +1,7 @@
 //! A reading is recorded where it is the first, or where more plays had ended than at the last one recorded. Once all participants
 //! are over each observer is told what the writer published, and takes one last reading; where that is refused, or isn't of all
 //! publications, the writer's own stands in. What an observer might have seen of more than the writer published is left out,
-//! though none sees more (`covers`).
+//! though none sees more (`knows_no_more`).
 
 ghost use Rattle.std.specs.Prelude.{◌≡◌, ◌<◌, true, nat_lt, length};
 ghost use Rattle.role_driver.specs.inner.Records.{is_record, is_news};

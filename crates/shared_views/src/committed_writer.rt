@@ -211,13 +211,13 @@ impl CommittedWriter {
 
     /// A law: what an observer of this writer knows begins what the writer has entered in its list, which are its publications
     /// unless it is stale. Nothing changes.
-    pub fn covers(&mut self, observer: &Observer)
+    pub fn knows_no_more(&mut self, observer: &Observer)
         requires ours { observer.now.known.book ≡ self.old.publications.book }
         ensures same { self.new ≡ self.old }
         ensures begins { Begins observer.now.known self.old.entered }
         ensures whole { self.old.is_stale ≡ false → self.old.entered ≡ self.old.publications }
     {
-        self.head.covers(observer.known());
+        self.head.knows_no_more(observer.known());
     }
 
     /// Tells an observer what was published.

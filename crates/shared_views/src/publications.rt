@@ -274,7 +274,7 @@ impl Head {
     }
 
     /// A law: whatever is known of the list begins what was added to it. Nothing changes.
-    pub(crate) fn covers(&mut self, known: &Publications)
+    pub(crate) fn knows_no_more(&mut self, known: &Publications)
         requires book { known.now.book ≡ self.old.book }
         ensures same { self.new ≡ self.old }
         ensures begins { Begins known.now self.old }

@@ -5,11 +5,11 @@ use Rattle.place_plan.specs.Plans.PlanValue.{Plan}
 use Rattle.role_states.specs.declared.frame.Frame.{Frame}
 use Rattle.role_states.specs.inner.Standing.{StandsFor as FramesStand}
 use Rattle.object_versions.specs.declared.version.Version.{Version}
-use Rattle.object_versions.specs.inner.KeptVersions.{Stands as VersionsStand}
+use Rattle.object_versions.specs.inner.KeptVersions.{StandsFor as VersionsStand}
 use Rattle.resolution_core.specs.declared.recovery.Recovery.{Recovery}
 use Rattle.resolution_core.specs.inner.Standing.{StandsFor as RecoveriesStand}
 use Rattle.action_endings.specs.declared.ending.Ending.{Ending}
-use Rattle.action_endings.specs.inner.KeptEndings.{Stands as EndingsStand}
+use Rattle.action_endings.specs.inner.KeptEndings.{StandsFor as EndingsStand}
 use Rattle.action_core.specs.declared.stage.Stage.{Stage}
 use Rattle.action_core.specs.declared.person.Person.{Person}
 use Rattle.action_core.specs.inner.KeptStages.{StageOfEach}
@@ -25,7 +25,7 @@ pub record Kept : Type 0 where
   pub people : List Person
 
 -- each of them stands for the past
-pub record IsKeptOf (plan : Plan) (past : List Entry) (kept : Kept) : Type 0 where
+pub record StandsFor (plan : Plan) (past : List Entry) (kept : Kept) : Type 0 where
   pub frames : FramesStand plan past kept.frames
   pub versions : VersionsStand plan past kept.versions
   pub recoveries : RecoveriesStand plan past kept.recoveries

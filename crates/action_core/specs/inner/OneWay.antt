@@ -14,16 +14,16 @@ use Rattle.place_plan.specs.Plans.PlanValue.{Plan}
 use Rattle.role_states.specs.declared.frame.Frame.{Frame}
 use Rattle.role_states.specs.inner.Standing.{AreFramesOf, StandsFor as FramesStand}
 use Rattle.object_versions.specs.declared.version.Version.{Version}
-use Rattle.object_versions.specs.inner.KeptVersions.{Stands as VersionsStand}
+use Rattle.object_versions.specs.inner.KeptVersions.{StandsFor as VersionsStand}
 use Rattle.resolution_core.specs.declared.recovery.Recovery.{Recovery}
 use Rattle.resolution_core.specs.inner.Standing.{StandsFor as RecoveriesStand}
 use Rattle.action_endings.specs.declared.ending.Ending.{Ending}
-use Rattle.action_endings.specs.inner.KeptEndings.{SignalsBelow, Stands as EndingsStand}
+use Rattle.action_endings.specs.inner.KeptEndings.{SignalsBelow, StandsFor as EndingsStand}
 use Rattle.action_core.specs.declared.stage.Stage.{Stage}
 use Rattle.action_core.specs.declared.person.Person.{Person}
 use Rattle.action_core.specs.inner.KeptStages.{StageOfEach}
 use Rattle.action_core.specs.inner.KeptPeople.{PersonOfEach}
-use Rattle.action_core.specs.inner.KeptPast.{Kept, IsKeptOf}
+use Rattle.action_core.specs.inner.KeptPast.{Kept, StandsFor as TablesStand}
 
 -- ---- verdicts and outcomes are told by their marks
 
@@ -110,6 +110,6 @@ people-stand-prop : (plan : Plan) (past : List Entry) (people : List Person) →
 people-stand-prop plan past people = hlevel sets
 
 -- two proofs that the tables stand for a past are one, so this can be a ghost field
-pub IsKeptOf-prop : (plan : Plan) (past : List Entry) (kept : Kept) → IsProp (IsKeptOf plan past kept)
-IsKeptOf-prop plan past kept =
+pub StandsFor-prop : (plan : Plan) (past : List Entry) (kept : Kept) → IsProp (TablesStand plan past kept)
+StandsFor-prop plan past kept =
     hlevel (frames-stand-prop, versions-stand-prop, recoveries-stand-prop, endings-stand-prop, stages-stand-prop, people-stand-prop)

@@ -11,12 +11,12 @@ use place_plan::plans::plan::Plan;
 use std::alloc::Global;
 
 impl StandsFor for Tables {
-    ghost use Rattle.action_core.specs.inner.KeptPast.{IsKeptOf};
-    ghost use Rattle.action_core.specs.inner.OneWay.{IsKeptOf-prop};
+    ghost use Rattle.action_core.specs.inner.KeptPast.{StandsFor as TablesStand};
+    ghost use Rattle.action_core.specs.inner.OneWay.{StandsFor-prop};
 
-    ghost stand_for = { λ tables plan past. IsKeptOf plan past tables };
+    ghost stand_for = { λ tables plan past. TablesStand plan past tables };
 
-    ghost one_way = { λ tables plan past. IsKeptOf-prop plan past tables };
+    ghost one_way = { λ tables plan past. StandsFor-prop plan past tables };
 }
 
 impl Records for Tables {

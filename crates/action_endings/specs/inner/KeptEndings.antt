@@ -119,7 +119,7 @@ pub record StandsBut (plan : Plan) (past : List Entry) (p : ℕ) (endings : List
   pub rest : (q : ℕ) → KeepsRest plan past q (at endings q)
 
 -- so it is for all places
-pub record Stands (plan : Plan) (past : List Entry) (endings : List Ending) : Type 0 where
+pub record StandsFor (plan : Plan) (past : List Entry) (endings : List Ending) : Type 0 where
   pub as_many : length endings ≡ length plan.places
   pub verdicts : (q : ℕ) → KeepsVerdicts plan past q (at endings q)
   pub rest : (q : ℕ) → KeepsRest plan past q (at endings q)

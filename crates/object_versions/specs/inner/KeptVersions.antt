@@ -33,6 +33,6 @@ pub record IsVersionOf (plan : Plan) (past : List Entry) (o : ℕ) (version : Ve
       → saved_at version (depth plan p) ≡ value_of plan (before_start past p) o
 
 -- so it is for each object of the plan
-pub record Stands (plan : Plan) (past : List Entry) (versions : List Version) : Type 0 where
+pub record StandsFor (plan : Plan) (past : List Entry) (versions : List Version) : Type 0 where
   pub as_many : length versions ≡ length plan.objects
   pub each : (o : ℕ) → o < length plan.objects → IsVersionOf plan past o (at versions o)

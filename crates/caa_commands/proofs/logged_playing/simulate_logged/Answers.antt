@@ -1,10 +1,11 @@
 use Rattle.std.proofs.Common.{◌≡◌, ◌+◌, [], reverse, sym, ap, ◌∙◌, subst, subst₂, inl, IfSome}
 use Rattle.std.proofs.Math.Logic.{∥∥₁_map}
+use Rattle.caa_base.specs.Written.Mixing.{turn_number}
 use Rattle.place_plan.specs.RulesOfJournals.Journals.{IsLegal, IsComplete, faults_in}
 use Rattle.place_plan.specs.declared.rules.machine.Base.{Base}
 use Rattle.journal_replay.specs.Device.{HasValues, HasDrills}
 use Rattle.journal_replay.specs.Hall.{plan_in, journal_in, base_in}
-use Rattle.role_driver.specs.Schedule.{GrewBy, first_of_seed}
+use Rattle.role_driver.specs.Schedule.{GrewBy}
 use Rattle.entry_log.specs.Logs.{Tells}
 use Rattle.caa_commands.specs.OutsideUse.{plant_use, left_of}
 use Rattle.caa_commands.specs.Calls.{EndsAs, IsSimulated}
@@ -37,7 +38,7 @@ returns-clause-comes g c =
     ap base_in over ∙ c.sim.ensures.base ∙ ap base_in began in
     let played : journal ≡ journal_in c.sim.result.machine = parts.journal ∙ ap journal_in over in
     let legal = subst (λ p. IsLegal p journal) same parts.legal in
-    let grown = subst₂ (λ p j. GrewBy (first_of_seed c.args.seed) p (journal_in c.new-logged.result.machine) j)
+    let grown = subst₂ (λ p j. GrewBy (turn_number c.args.seed) p (journal_in c.new-logged.result.machine) j)
     (ap plan_in began ∙ opened.plan) (sym played) c.sim.ensures.scheduled in
     let simulated : IsSimulated plan c.args.seed (left_of (plant_use g.P.Plant c.args.plant plant) journal) = record {
       played = record {
@@ -56,7 +57,7 @@ returns-clause-comes g c =
         };
       };
       schedule =
-          subst (λ old. GrewBy (first_of_seed c.args.seed) plan old journal) (ap journal_in began ∙ opened.journal) grown;
+          subst (λ old. GrewBy (turn_number c.args.seed) plan old journal) (ap journal_in began ∙ opened.journal) grown;
     } in
     let seen = subst₂ (λ p s. EndsAs p journal s finding) same c.empty.ensures.seens told.ends in
     inl (

@@ -1,8 +1,9 @@
 use Rattle.std.proofs.Common.{◌≡◌, ◌+◌, reverse, sym, ap, ◌∙◌, subst, subst₂, IfSome}
+use Rattle.caa_base.specs.Written.Mixing.{turn_number}
 use Rattle.place_plan.specs.RulesOfJournals.Journals.{IsLegal, IsComplete, faults_in}
 use Rattle.place_plan.specs.declared.rules.machine.Base.{Base}
 use Rattle.journal_replay.specs.Device.{HasValues, HasDrills}
-use Rattle.role_driver.specs.Schedule.{GrewBy, first_of_seed}
+use Rattle.role_driver.specs.Schedule.{GrewBy}
 use Rattle.caa_commands.proofs.PlayedHistory.{went_on}
 use Rattle.caa_commands.proofs.Reversed.{all_well_formed}
 use Rattle.caa_commands.proofs.playing.play_by_seed.Goals as goal
@@ -22,7 +23,7 @@ returns-clause-played g c =
     let journal = c.into_parts.result.2.entries in
     let same : c.into_parts.result.0 ≡ plan = parts.plan ∙ c.sim.ensures.plan ∙ opened.plan in
     let legal = subst (λ p. IsLegal p journal) same parts.legal in
-    let grown = subst₂ (λ p j. GrewBy (first_of_seed c.args.seed) p c.in-Ok.hall.journal.entries j) opened.plan
+    let grown = subst₂ (λ p j. GrewBy (turn_number c.args.seed) p c.in-Ok.hall.journal.entries j) opened.plan
     (sym parts.journal) c.sim.ensures.scheduled in
     record {
       played = record {
@@ -40,5 +41,5 @@ returns-clause-played g c =
           drills = parts.tells_drilling ∙ ap (λ (b : Base). b.tells_drills) c.sim.ensures.base ∙ opened.tells_drilling;
         };
       };
-      schedule = subst (λ old. GrewBy (first_of_seed c.args.seed) plan old journal) opened.journal grown;
+      schedule = subst (λ old. GrewBy (turn_number c.args.seed) plan old journal) opened.journal grown;
     }

@@ -1,14 +1,14 @@
 use Rattle.std.proofs.Common.{◌≡◌, ◌∙◌, ◌/◌, suc, arith, ap, refl, sym, subst, length}
 use Rattle.std.proofs.lemmas.Bool.{both_ways}
-use Rattle.caa_base.specs.Written.Mixing.{next_state, state_after}
-use Rattle.role_driver.specs.Schedule.{TakesTurn, first_of_seed}
+use Rattle.caa_base.specs.Written.Mixing.{next_state, state_after, turn_number}
+use Rattle.role_driver.specs.Schedule.{TakesTurn}
 use Rattle.role_driver.proofs.Grown.{none_yet, one_more}
 use Rattle.role_driver.proofs.sim.sim.Goals as goal
 
 pub loop-state-init : goal.loop-state-init
 unfolding state_after
 loop-state-init g c =
-    let none = none_yet (first_of_seed c.args.seed) (g.M.Machine.plan_of c.args.machine) (g.M.Machine.journal_of c.args.machine) in
+    let none = none_yet (turn_number c.args.seed) (g.M.Machine.plan_of c.args.machine) (g.M.Machine.journal_of c.args.machine) in
     record {
       plan = refl;
       base = refl;
@@ -30,7 +30,7 @@ loop-state-preserved g c =
     let mixed : state ≡ state_after c.args.seed (suc (length kept.scheduled.0.added)) = c.next_state-state.ensures.value
     ∙ ap next_state kept.scheduled.1 in
     let turn = subst (λ p. TakesTurn p old new (state / 65536)) kept.plan c.take_turn.ensures.turn in
-    let more = one_more (first_of_seed c.args.seed) plan first old new kept.scheduled.0 (state / 65536) (ap (λ s. s / 65536) mixed) turn in
+    let more = one_more (turn_number c.args.seed) plan first old new kept.scheduled.0 (state / 65536) (ap (λ s. s / 65536) mixed) turn in
     record {
       plan = c.take_turn.ensures.plan ∙ kept.plan;
       base = c.take_turn.ensures.base ∙ kept.base;

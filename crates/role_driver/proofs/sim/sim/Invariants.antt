@@ -1,7 +1,7 @@
 use Rattle.std.proofs.Common.{◌≡◌, ◌<◌, ◌≤◌, ◌-◌, ◌^◌, length}
-use Rattle.caa_base.specs.Written.Mixing.{state_after}
+use Rattle.caa_base.specs.Written.Mixing.{state_after, turn_number}
 use Rattle.place_plan.specs.Plans.Bound.{bound}
-use Rattle.role_driver.specs.Schedule.{GrewBy, first_of_seed}
+use Rattle.role_driver.specs.Schedule.{GrewBy}
 use Rattle.role_driver.specs.inner.Sleeping.{AllSleep}
 use Rattle.role_driver.proofs.sim.sim.Given as goal
 
@@ -12,7 +12,7 @@ invariant-loop-state g l = record {
   count : g.M.Machine.count_of l.fn.machine ≤ g.M.Machine.count_of l.machine;
   small : l.state < 2 ^ 31;
   sleep : AllSleep (g.M.Machine.plan_of l.machine) (g.M.Machine.journal_of l.machine) l.asleep;
-  scheduled : (s : GrewBy (first_of_seed l.seed) (g.M.Machine.plan_of l.fn.machine) (g.M.Machine.journal_of l.fn.machine)
+  scheduled : (s : GrewBy (turn_number l.seed) (g.M.Machine.plan_of l.fn.machine) (g.M.Machine.journal_of l.fn.machine)
       (g.M.Machine.journal_of l.machine)) × (l.state ≡ state_after l.seed (length s.added));
 }
 

@@ -1,7 +1,7 @@
 use Rattle.std.proofs.Common.{reverse, sym, subst}
 use Rattle.journal_laws.proofs.PlayablePlan.{is_playable}
 use Rattle.journal_laws.proofs.Raised.{role_inside}
-use Rattle.action_core.specs.inner.KeptPast.{IsKeptOf}
+use Rattle.action_core.specs.inner.KeptPast.{StandsFor as TablesStand}
 use Rattle.action_core.proofs.tables.kept_records.TablesRecords.name_of.Goals as goal
 
 pub name_kept-requires : goal.name_kept-requires
@@ -13,5 +13,5 @@ name_kept-requires c =
 pub returns : goal.returns
 returns c =
     let past = reverse c.args.past.now.journal.now in
-    let kept = subst (IsKeptOf c.args.past.now.plan.now past) (sym c.tables.view_is) c.args.past.now.stands in
+    let kept = subst (TablesStand c.args.past.now.plan.now past) (sym c.tables.view_is) c.args.past.now.stands in
     c.name_kept.ensures past kept.endings

@@ -2,7 +2,7 @@ use Rattle.std.proofs.Common.{sym, ◌∙◌, ap, subst, List}
 use mathlib.Core.List.{IsPrefix}
 use Rattle.shared_views.specs.declared.publications.Entered.{Entered}
 use Rattle.shared_views.proofs.Chronicled.{counts, whole_list, listed_begins}
-use Rattle.shared_views.proofs.publications.Head.covers.Goals as goal
+use Rattle.shared_views.proofs.publications.Head.knows_no_more.Goals as goal
 
 pub compare_exchange-requires : goal.compare_exchange-requires
 compare_exchange-requires c =
