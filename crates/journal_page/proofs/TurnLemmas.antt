@@ -1,11 +1,10 @@
 -- Turns to which one is added, and where they begin and stop.
-use Rattle.std.proofs.Common.{◌≡◌, ℕ, ◌<◌, suc, List, [], ◌∷◌, ◌++◌, length, take, reverse, slice_get, slice_index_or, Some, ap, sym, subst, arith, below_more}
+use Rattle.std.proofs.Common.{◌≡◌, ℕ, suc, List, [], ◌∷◌, ◌++◌, length, take, reverse, slice_get, slice_index_or, Some, ap, sym, subst, arith, below_more}
 use Rattle.std.specs.List.{All}
 use Rattle.std.proofs.lemmas.List.{get_or_append_left, length-append}
 use Rattle.std.proofs.Math.Seq.{get_or-append_seam}
 use Rattle.caa_base.specs.declared.written.entry.Entry.{Entry}
 use Rattle.place_plan.specs.Plans.PlanValue.{Plan}
-use Rattle.place_plan.specs.RulesOfJournals.Rules.{MayFollow}
 use Rattle.journal_states.specs.declared.states.States.{States}
 use Rattle.journal_states.specs.Past.{plan_in, journal_in, taken_in, past_in, IsAtEnd}
 use Rattle.journal_page.specs.Stances.{IsStance, IsTurn, AreTurns, StopsAt}

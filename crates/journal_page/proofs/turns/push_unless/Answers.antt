@@ -1,8 +1,6 @@
-use Rattle.std.proofs.Common.{subst}
-use Rattle.std.specs.List.{All}
 use Rattle.std.proofs.lemmas.List.Elements.{All-push}
 use Rattle.journal_states.specs.Past.{plan_in, past_in}
-use Rattle.journal_page.specs.Stances.{IsStance, ShowsWellFormed}
+use Rattle.journal_page.specs.Stances.{IsStance}
 use Rattle.journal_page.proofs.turns.push_unless.Goals as goal
 
 pub returns-in_ok-push-in-Some-clause-right : goal.returns-in_ok-push-in-Some-clause-right

@@ -6,7 +6,7 @@ use Rattle.place_plan.specs.Plans.PlanValue.{Plan}
 use Rattle.place_plan.specs.RulesOfJournals.WellFormed.{IsWellFormed}
 use Rattle.journal_states.specs.Past.{taken_in}
 use Rattle.journal_page.specs.Stances.{ShowsWellFormed, TurnsWellFormed, AreTurns}
-use Rattle.journal_page.proofs.TurnLemmas.{at_start, turn_is, one_more, stops_there}
+use Rattle.journal_page.proofs.TurnLemmas.{at_start, turn_is, one_more}
 use Rattle.journal_page.proofs.turns.turns_of.Goals as goal
 
 pub returns-then-not-step-clause-first : goal.returns-then-not-step-clause-first
