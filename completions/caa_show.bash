@@ -2,7 +2,7 @@
 _caa_show() {
   COMPREPLY=()
   if [ "$COMP_CWORD" -eq 1 ]; then
-    mapfile -t COMPREPLY < <(compgen -W 'explain table graph chart story where lines --help --version' -- "${COMP_WORDS[COMP_CWORD]}")
+    mapfile -t COMPREPLY < <(compgen -W 'explain table graph chart story where page trace lines --help --version' -- "${COMP_WORDS[COMP_CWORD]}")
   fi
 }
 complete -o default -F _caa_show caa_show

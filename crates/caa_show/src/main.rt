@@ -4,6 +4,7 @@
 mod judging;
 mod lines;
 mod misread;
+mod paging;
 mod reading;
 mod showing;
 mod whereabouts;

@@ -6,6 +6,7 @@ ghost use Rattle.journal_text.specs.Texts.Naming.{is_well_named};
 ghost use Rattle.journal_text.specs.Watching.Looks.{AreOfPlan};
 
 use crate::judging::{Judged, Scene, judge, judge_cut};
+use crate::paging::{draw_trace, show_page};
 use crate::reading::{Break, Input, Reading, read_journal};
 use crate::whereabouts::tell_moments;
 use crate::words::View;
@@ -67,7 +68,7 @@ fn accepted(alloc: Global, plan: &Plan) -> Result<Vec<u8>, OutOfMemory> {
 }
 
 /// A text that goes with a status.
-fn with_status(status: Status, text: Vec<u8>) -> Shown {
+pub fn with_status(status: Status, text: Vec<u8>) -> Shown {
     Shown { status, text }
 }
 
@@ -111,7 +112,8 @@ fn draw_journal(
         }
         View::Story => Ok(Some(story(alloc, scene.plan, journal)?)),
         View::Where(moments) => Ok(Some(tell_moments(alloc, scene, journal, moments)?)),
-        View::Explain | View::Table | View::Graph => Ok(None),
+        View::Trace => Ok(Some(draw_trace(alloc, scene, journal)?)),
+        View::Explain | View::Table | View::Graph | View::Page => Ok(None),
     }
 }
 
@@ -193,7 +195,7 @@ fn show_behind(
 }
 
 /// Shows what stands behind a script, or how large its plan is where that is asked and nothing stands there.
-fn show_plan(
+pub fn show_plan(
     alloc: Global,
     view: View,
     scene: &Scene,
@@ -236,6 +238,9 @@ fn script_text(bytes: &[u8], start: Option<JournalStart>) -> &[u8] {
 /// What a view shows of an input; `file` is what the input is called.
 pub fn show(alloc: Global, view: View, file: &[u8], bytes: &[u8]) -> Result<Shown, OutOfMemory> {
     let start = journal_behind(bytes);
+    if matches!(view, View::Page) {
+        return show_page(alloc, file, bytes, script_text(bytes, start), start);
+    }
     let (script, plan) = match look(alloc, file, script_text(bytes, start))? {
         Seen::Accepted(script, plan) => (script, plan),
         Seen::Refused(refusal) => return Ok(with_status(Status::Refused, refusal.text)),
@@ -246,7 +251,12 @@ pub fn show(alloc: Global, view: View, file: &[u8], bytes: &[u8]) -> Result<Show
     match view {
         View::Table => Ok(with_status(Status::Done, tables(alloc, &script)?)),
         View::Graph => Ok(with_status(Status::Done, dot(alloc, &script)?)),
-        View::Explain | View::Chart { first: _, count: _ } | View::Story | View::Where(_) => {
+        View::Explain
+        | View::Chart { first: _, count: _ }
+        | View::Story
+        | View::Where(_)
+        | View::Page
+        | View::Trace => {
             has_own_names(&script, &plan);
             let scene = Scene {
                 script: &script,

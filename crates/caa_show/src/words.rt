@@ -18,6 +18,10 @@ pub enum View {
     Story,
     /// Where everybody stands behind these entries of a journal.
     Where(Moments),
+    /// One page with all of it, as HTML.
+    Page,
+    /// A journal as a trace of Chrome's.
+    Trace,
 }
 
 /// The moments behind entries of a journal: `count` of them, from that behind so many entries on.
@@ -30,13 +34,13 @@ pub struct Moments {
 impl View {
     /// Whether what is shown is for a program: then a refusal doesn't belong into the output.
     pub fn is_for_machine(&self) -> bool {
-        matches!(self, View::Graph | View::Chart { .. })
+        matches!(self, View::Graph | View::Chart { .. } | View::Trace)
     }
 }
 
 /// The usage line.
 pub const USAGE: &[u8] =
-    b"usage: explain [FILE] | table [FILE] | graph [FILE] | chart [FILE [FIRST COUNT]] | story [FILE] | where [FILE [FIRST COUNT]] | lines | --help | --version\n";
+    b"usage: explain [FILE] | table [FILE] | graph [FILE] | chart [FILE [FIRST COUNT]] | story [FILE] | where [FILE [FIRST COUNT]] | page [FILE] | trace [FILE] | lines | --help | --version\n";
 
 /// The program and its version.
 pub const VERSION: &[u8] = b"caa_show 1.0\n";
@@ -52,6 +56,8 @@ fn view_of(word: &str) -> Option<View> {
             count: u64::MAX,
         }),
         "story" => Some(View::Story),
+        "page" => Some(View::Page),
+        "trace" => Some(View::Trace),
         "where" => Some(View::Where(Moments {
             first: u64::MAX,
             count: 1,

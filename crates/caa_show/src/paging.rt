@@ -1,0 +1,111 @@
+//! The page of an input, and its trace.
+
+ghost use Rattle.std.specs.Prelude.{IfOk};
+ghost use Rattle.place_plan.specs.RulesOfJournals.WellFormed.{AllWellFormed};
+
+use crate::judging::Scene;
+use crate::lines::Lines;
+use crate::showing::{Shown, Status, show_plan, with_status};
+use crate::words::View;
+use action_script::words::journal_start::JournalStart;
+use caa_base::written::entry::{OutOfMemory, Participant};
+use caa_base::written::journal::Journal;
+use caa_base::written::limits::MOST_AUDITED;
+use journal_page::stances::Lines as LinesOfScript;
+use journal_states::fronts::read_front;
+use journal_states::spots::Spot;
+use journal_trace::trace::trace;
+use place_plan::plans::plan::Plan;
+use script_checker::own_names::has_own_names;
+use script_pages::paging::{Subject, journal_page_of, refused_page};
+use script_views::explaining::{Seen, look};
+use std::alloc::Global;
+
+impl<'a> LinesOfScript for Lines<'a> {
+    fn line_of(&self, plan: &Plan, by: Participant, spot: &Spot) -> u32 {
+        Lines::line_of(self, plan, by, spot).unwrap_or(0)
+    }
+}
+
+/// The entries of what stands behind a script, as far as they can be read.
+fn entries_behind(
+    alloc: Global,
+    plan: &Plan,
+    bytes: &[u8],
+    start: Option<JournalStart>,
+) -> Result<Journal, OutOfMemory>
+    ensures { IfOk result (λ journal. AllWellFormed plan.now journal.entries) }
+{
+    if let Some(start) = start {
+        let text = bytes.get(start.offset..).unwrap_or(&[]);
+        if let Some(front) = read_front(alloc, plan, text, MOST_AUDITED)? {
+            return Ok(front.journal);
+        }
+    }
+    Ok(Journal::from_vec(Vec::new(alloc)))
+}
+
+/// The page of a script that isn't refused, with the journal behind it. The status is that of `explain`.
+fn show_scene(
+    alloc: Global,
+    scene: &Scene,
+    file: &[u8],
+    bytes: &[u8],
+    script_text: &[u8],
+    start: Option<JournalStart>,
+) -> Result<Shown, OutOfMemory> {
+    has_own_names(scene.script, scene.plan);
+    let told = show_plan(alloc, View::Explain, scene, file, bytes, start)?;
+    let subject = Subject {
+        file,
+        script_text,
+        told: &told.text,
+    };
+    let journal = entries_behind(alloc, scene.plan, bytes, start)?;
+    let lines = Lines::of(alloc, scene.script)?;
+    let text = journal_page_of(
+        alloc,
+        &subject,
+        scene.script,
+        scene.plan,
+        &lines,
+        journal.as_slice(),
+    )?;
+    Ok(with_status(told.status, text))
+}
+
+/// The page of an input: of a script that is refused too, and of a journal that isn't legal, as far as it may come by the rules.
+pub fn show_page(
+    alloc: Global,
+    file: &[u8],
+    bytes: &[u8],
+    script_text: &[u8],
+    start: Option<JournalStart>,
+) -> Result<Shown, OutOfMemory> {
+    match look(alloc, file, script_text)? {
+        Seen::Accepted(script, plan) => {
+            let scene = Scene {
+                script: &script,
+                plan: &plan,
+            };
+            show_scene(alloc, &scene, file, bytes, script_text, start)
+        }
+        Seen::Refused(refusal) => {
+            let subject = Subject {
+                file,
+                script_text,
+                told: &refusal.text,
+            };
+            let text = refused_page(alloc, &subject, &refusal)?;
+            Ok(with_status(Status::Refused, text))
+        }
+    }
+}
+
+/// The trace of a journal, as far as it may come by the rules.
+pub fn draw_trace(alloc: Global, scene: &Scene, journal: &Journal) -> Result<Vec<u8>, OutOfMemory>
+    requires { AllWellFormed scene.now.plan.now journal.now.entries }
+{
+    let lines = Lines::of(alloc, scene.script)?;
+    trace(alloc, &lines, scene.plan, journal.as_slice())
+}

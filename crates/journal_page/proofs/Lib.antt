@@ -1,0 +1,3 @@
+pub mod StanceLemmas
+pub mod TurnLemmas
+pub mod TextLemmas

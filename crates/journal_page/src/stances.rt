@@ -1,0 +1,206 @@
+//! Where a participant stands after some entries of a journal, as a page tells it.
+
+ghost use Rattle.std.specs.Prelude.{◌≡◌, ◌<◌, length, IfOk, IfSome};
+ghost use Rattle.std.specs.List.{All};
+ghost use Rattle.place_plan.specs.RulesOfJournals.WellFormed.{IsWellFormed};
+ghost use Rattle.place_plan.specs.RulesOfJournals.Whereabouts.{inside};
+ghost use Rattle.journal_states.specs.Standings.{IsStanding};
+ghost use Rattle.journal_states.specs.Past.{plan_in, past_in};
+ghost use Rattle.journal_page.specs.Pages.{place_number};
+ghost use Rattle.journal_page.specs.Stances.{entries_in, IsStance, ShowsWellFormed};
+
+use caa_base::written::entry::{Entry, Object, OutOfMemory, Participant, Place};
+use journal_laws::is_well_formed;
+use journal_states::spots::Spot;
+use journal_states::standing::{Lack, Standing, Wait};
+use journal_states::states::States;
+use place_plan::plans::plan::Plan;
+use std::alloc::Global;
+
+/// Where a participant stands: the place that it is in, the line of the script, what it may do or what it waits for.
+#[derive(Drop)]
+pub struct Stance {
+    pub by: Participant,
+    pub place: Option<Place>,
+    /// The line of the script, counted from 1; 0 where there is none.
+    pub line: u32,
+    pub standing: Standing,
+    /// The entries that it may make, and no others.
+    pub entries: Vec<Entry>,
+    /// Whom it waits for; or what, as pairs of an object and of the number of the place that holds it, counted from 1.
+    pub awaited: Vec<u64>,
+}
+
+/// What knows the lines of a script.
+pub trait Lines {
+    /// The line at which a participant stands that is at this spot.
+    fn line_of(&self, plan: &Plan, by: Participant, spot: &Spot) -> u32;
+}
+
+/// The entries that a standing lets a participant make.
+fn entries_in(
+    alloc: Global,
+    by: Participant,
+    standing: &Standing,
+) -> Result<Vec<Entry>, OutOfMemory>
+    ensures { IfOk result (λ entries. entries.items ≡ entries_in by standing.now) }
+{
+    let mut entries = Vec::new(alloc);
+    match standing {
+        Standing::Makes(entry) => entries.push(*entry)?,
+        Standing::Works(work) => entries.push(work.entry(by))?,
+        Standing::Puts { well, fault } => {
+            entries.push(*well)?;
+            entries.push(*fault)?;
+        }
+        Standing::Waits(_) | Standing::Over => {}
+    }
+    Ok(entries)
+}
+
+/// The number of a place, counted from 1; 0 for none.
+pub(crate) fn place_number(place: Option<Place>) -> u64
+    ensures { result ≡ place_number place }
+{
+    match place {
+        Some(place) => u64::from(place) + 1,
+        None => 0,
+    }
+}
+
+/// Adds an object that is awaited, and the place that holds it.
+fn push_object(awaited: &mut Vec<u64>, states: &States, object: Object) -> Result<(), OutOfMemory> {
+    awaited.push(u64::from(object))?;
+    awaited.push(place_number(states.holder(object)))?;
+    Ok(())
+}
+
+/// The roles for which a wait is.
+fn awaited_roles(alloc: Global, states: &States, wait: &Wait) -> Result<Vec<u64>, OutOfMemory> {
+    let mut awaited = Vec::new(alloc);
+    for role in states.plan().roles_of(wait.place) {
+        if states.is_awaited(wait, *role) {
+            awaited.push(u64::from(*role))?;
+        }
+    }
+    Ok(awaited)
+}
+
+/// The objects that a place waits for before it can start.
+fn awaited_objects(alloc: Global, states: &States, place: Place) -> Result<Vec<u64>, OutOfMemory> {
+    let mut awaited = Vec::new(alloc);
+    for object in states.plan().objects_of(place) {
+        if states.is_lacking(place, *object) {
+            push_object(&mut awaited, states, *object)?;
+        }
+    }
+    Ok(awaited)
+}
+
+/// Whom or what a standing waits for.
+fn awaited_in(
+    alloc: Global,
+    states: &States,
+    standing: &Standing,
+) -> Result<Vec<u64>, OutOfMemory> {
+    let Standing::Waits(wait) = standing else {
+        return Ok(Vec::new(alloc));
+    };
+    match wait.lack {
+        Lack::Objects => awaited_objects(alloc, states, wait.place),
+        Lack::Object(object) => {
+            let mut awaited = Vec::new(alloc);
+            push_object(&mut awaited, states, object)?;
+            Ok(awaited)
+        }
+        _ => awaited_roles(alloc, states, wait),
+    }
+}
+
+/// The line at which a participant stands; 0 for none.
+fn line_in<L: Lines>(lines: &L, states: &States, by: Participant) -> u32 {
+    match states.spot(by) {
+        Some(spot) => lines.line_of(states.plan(), by, &spot),
+        None => 0,
+    }
+}
+
+/// What a standing lets a participant make is well formed.
+fn choices_are_well_formed(states: &States, by: Participant, standing: &Standing)
+    requires { IsStanding (plan_in states.now) (past_in states.now) by standing.now }
+    ensures { All (IsWellFormed (plan_in states.now)) (entries_in by standing.now) }
+{
+    is_well_formed(states.plan());
+    let _ = by;
+    let _ = standing;
+}
+
+/// The stance of a participant that stands so after the entries that were taken in.
+fn stance_of(
+    alloc: Global,
+    states: &States,
+    by: Participant,
+    place: Option<Place>,
+    line: u32,
+    standing: Standing,
+    awaited: Vec<u64>,
+) -> Result<Stance, OutOfMemory>
+    requires known { by < length (plan_in states.now).participants }
+    requires place { place ≡ inside (plan_in states.now) (past_in states.now) by }
+    requires standing { IsStanding (plan_in states.now) (past_in states.now) by standing }
+    ensures right { IfOk result (IsStance (plan_in states.now) (past_in states.now)) }
+    ensures well_formed { IfOk result (ShowsWellFormed (plan_in states.now)) }
+{
+    choices_are_well_formed(states, by, &standing);
+    let entries = entries_in(alloc, by, &standing)?;
+    Ok(Stance {
+        by,
+        place,
+        line,
+        standing,
+        entries,
+        awaited,
+    })
+}
+
+/// Whether a participant stands as before.
+fn is_as_before(
+    before: Option<&Stance>,
+    place: Option<Place>,
+    line: u32,
+    standing: &Standing,
+    awaited: &[u64],
+) -> bool {
+    match before {
+        Some(stance) => {
+            stance.standing == *standing
+                && stance.place == place
+                && stance.line == line
+                && stance.awaited.as_slice() == awaited
+        }
+        None => false,
+    }
+}
+
+/// Where a participant stands after the entries that were taken in; none where it stands as before.
+pub(crate) fn stance_unless<L: Lines>(
+    alloc: Global,
+    lines: &L,
+    states: &States,
+    by: Participant,
+    before: Option<&Stance>,
+) -> Result<Option<Stance>, OutOfMemory>
+    requires { by < length (plan_in states.now).participants }
+    ensures right { IfOk result (λ found. IfSome found (IsStance (plan_in states.now) (past_in states.now))) }
+    ensures well_formed { IfOk result (λ found. IfSome found (ShowsWellFormed (plan_in states.now))) }
+{
+    let standing = states.standing(by);
+    let place = states.place_of(by);
+    let line = line_in(lines, states, by);
+    let awaited = awaited_in(alloc, states, &standing)?;
+    if is_as_before(before, place, line, &standing, &awaited) {
+        return Ok(None);
+    }
+    let stance = stance_of(alloc, states, by, place, line, standing, awaited)?;
+    Ok(Some(stance))
+}
