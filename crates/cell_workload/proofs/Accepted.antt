@@ -131,8 +131,7 @@ not_true false h = refl
 fine : (s : SoFar) (forms : List Form) → all_fine s forms ≡ true → AreFine s forms
 fine s [] h = tt
 fine s (f ∷ forms) h =
-    let p = and_parts (not (may_have (settled s f) f)) (all_fine (after cell_names s f) forms) h in
-    (
+    let p = and_parts (not (may_have (settled s f) f)) (all_fine (after cell_names s f) forms) h in (
       none_had (settled s f) f (says_none (settled s f) f (not_true (may_have (settled s f) f) p.0)),
       fine (after cell_names s f) forms p.1,
     )
@@ -280,8 +279,7 @@ plays_fine d all (cycle ∷ cycles) plays n b places bounds =
     let is = all (cycle % 10 == 0) (cycle % 5 == 0) in
     let s = at_play d plays n b in
     let own = is.places in
-    let entries = is.bounds in
-    (
+    let entries = is.bounds in (
       play_fine d action plays n b is (omega (arith, places)) (omega (arith, bounds)),
       plays_fine d all cycles (plays ++ play_row s.declared action players ∷ []) (places_with s.declared action)
           (bound_with s.declared action) (omega (arith, own, places)) (omega (arith, entries, bounds)),
@@ -297,8 +295,14 @@ accepts_cell cycles few =
     let plays = map play_line numbers in
     on_lines 1 (nothing_yet cell_names) (cell_forms cycles)
     (fine_then (nothing_yet cell_names) to_jams
-    (form.End ∷ to_faces ++ (form.End ∷ to_cellgraph ++ (form.End ∷ actions ++ plays))) jams_fine
-    (jams_end, fine_then (after cell_names at_jams form.End) to_faces (form.End ∷ to_cellgraph ++ (form.End ∷ actions ++ plays)) faces_fine
-    (faces_end, fine_then (after cell_names at_faces form.End) to_cellgraph (form.End ∷ actions ++ plays) cellgraph_fine
-    (cellgraph_end, fine_then before_actions actions plays actions_fine
-    (plays_fine before_plays.declared ready numbers [] 0 0 (omega (arith, counted, few)) (omega (arith, counted, few)))))))
+    (form.End ∷ to_faces ++ (form.End ∷ to_cellgraph ++ (form.End ∷ actions ++ plays))) jams_fine (
+      jams_end,
+      fine_then (after cell_names at_jams form.End) to_faces (form.End ∷ to_cellgraph ++ (form.End ∷ actions ++ plays)) faces_fine (
+        faces_end,
+        fine_then (after cell_names at_faces form.End) to_cellgraph (form.End ∷ actions ++ plays) cellgraph_fine (
+          cellgraph_end,
+          fine_then before_actions actions plays actions_fine
+              (plays_fine before_plays.declared ready numbers [] 0 0 (omega (arith, counted, few)) (omega (arith, counted, few))),
+        ),
+      ),
+    ))

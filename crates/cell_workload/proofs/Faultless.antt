@@ -1,10 +1,9 @@
 -- The graphs of the cell have no cycle, and any two of their exceptions have a least cover.
-use Rattle.std.proofs.Common.{◌≡◌, ◌≢◌, ℕ, ◌<◌, ◌≤◌, ◌⊎◌, inl, inr, Bool, true, ◌&&◌, List, [], ◌∷◌, All, Contains, refl, sym, ap, ◌∙◌, subst, arith}
-use Rattle.std.specs.List.{list_all}
+use Rattle.std.proofs.Common.{◌≡◌, ◌≢◌, ℕ, ◌<◌, ◌≤◌, ◌⊎◌, inl, inr, true, ◌&&◌, List, [], ◌∷◌, All, Contains, refl, sym, subst, arith}
 use Rattle.std.proofs.lemmas.Bool.{and_from, and_parts, cases_eq}
 use Rattle.std.proofs.lemmas.List.Elements.{All-cons, All-contains, All-nil, Contains-get_or}
 use Rattle.cover_table.specs.Cover.{CoverOrder, covers, covers_each, HasLeastCover, IsLeastCover}
-use Rattle.exception_graph.specs.Chains.{Chain, IsDeclared, IsFirstInCycle, IsFirstUnjoined, IsInCycle, IsOrderOf, universal, pair, none, more}
+use Rattle.exception_graph.specs.Chains.{Chain, IsDeclared, IsFirstInCycle, IsFirstUnjoined, IsOrderOf, universal, pair, none, more}
 
 -- ---- any graph
 
@@ -44,11 +43,14 @@ module _ (count : ℕ) (pairs : List (ℕ × ℕ)) where
 
     -- what is over another is the least that covers both
     pub upper_is_least : (a b : ℕ) → a < count → b < count → Chain count pairs a b → HasLeastCover order (a ∷ b ∷ [])
-    upper_is_least a b a_in b_in chain = (a, record {
-      in_range = subst (λ k. a < k) (sym is.counts) a_in;
-      above = both_covered a a b a_in a_in b_in none chain;
-      least = λ y y_in each. (and_parts (covers order y a) (covers order y b && true) each).0;
-    })
+    upper_is_least a b a_in b_in chain = (
+      a,
+      record {
+        in_range = subst (λ k. a < k) (sym is.counts) a_in;
+        above = both_covered a a b a_in a_in b_in none chain;
+        least = λ y y_in each. (and_parts (covers order y a) (covers order y b && true) each).0;
+      },
+    )
 
 -- ---- two exceptions
 
