@@ -1,2 +1,4 @@
+mod Accepted
+mod Faultless
 mod OneMoreEnd
 mod Whole

@@ -1,5 +1,7 @@
 ghost use Rattle.std.specs.Prelude.{◌≡◌, ◌==◌, ◌%◌, ◌<◌, ◌≤◌, ◌+◌, ◌++◌, ◌∷◌, [], map, OnOk, IfOk};
 ghost use Rattle.std.specs.List.{range_with_len};
+ghost use Rattle.script_checker.specs.Compiled.{AreAccepted};
+ghost use Rattle.script_checker.specs.DeclaredSoFar.{nothing_yet};
 ghost use Rattle.cell_workload.specs.CellLines.{cell_lines};
 ghost use Rattle.cell_workload.specs.CellScript.{cell_script, cell_forms, most_cycles, play_line, played, players};
 
@@ -67,14 +69,17 @@ fn cell_lines(alloc: Global) -> Result<Vec<Form>, OutOfMemory>
 /// The script of a production cell that works for so many cycles, from 1 to `MOST_CYCLES`.
 ///
 /// A feeder, a robot and a press play one cycle after another. In most a piece is loaded, formed and counted. In each fifth cycle arm
-/// and press jam at once, so that the piece is scrap; in each tenth the press asks for undo instead. At `Err` no memory was found.
+/// and press jam at once, so that the piece is scrap; in each tenth the press asks for undo instead. The checks accept the script. At
+/// `Err` no memory was found.
 pub fn cell(alloc: Global, cycles: u32) -> Result<Script, OutOfMemory>
     requires some { 0 < cycles }
     requires few { cycles ≤ most_cycles }
-    ensures { IfOk result (λ script. script ≡ cell_script cycles) }
+    ensures value { IfOk result (λ script. script ≡ cell_script cycles) }
+    ensures accepted { IfOk result (λ script. AreAccepted script.names (nothing_yet script.names) script.lines) }
 {
     let names = cell_names(alloc)?;
     let mut forms = cell_lines(alloc)?;
     push_plays(&mut forms, alloc, cycles)?;
-    Script::of_forms(alloc, names, forms)
+    let script = Script::of_forms(alloc, names, forms)?;
+    Ok(script)
 }

@@ -2,6 +2,7 @@ pub mod Accepting
 pub mod Apart
 pub mod Ascending
 pub mod Distinct
+pub mod Lengths
 pub mod MadeWords
 pub mod Naming
 pub mod NumbersApart

@@ -104,11 +104,10 @@ words_named script most whole accepted few low =
 
 -- ---- pairs
 
-pub few_pairs : (n most : ℕ) → HasRoom n most → length (pairs_of n most) ≤ 2 ^ 31
-few_pairs n most fits =
+pub few_pairs : (n most : ℕ) → HasRoom n most → most < 8 → length (pairs_of n most) ≤ 896
+few_pairs n most fits low =
     let many = fits.exceptions in
-    let less = fits.primitives in
-    let pairs = length-pairs n (table n most) (exception_count n most) in
-    let most_of : exception_count n most * n ≤ 128 * 128 =
-    mul-le-mul {n₁ = exception_count n most} {m₁ = n} {n₂ = 128} {m₂ = 128} many (omega (arith, many, less)) in
+    let pairs = length-pairs n most (exception_count n most) in
+    let most_of : exception_count n most * most ≤ 128 * 7 =
+    mul-le-mul {n₁ = exception_count n most} {m₁ = most} {n₂ = 128} {m₂ = 7} many (omega (arith, low)) in
     omega (arith, pairs, most_of)

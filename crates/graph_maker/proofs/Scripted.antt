@@ -36,7 +36,7 @@ module _ (names : List (List ℕ)) where
   good_among : (n : ℕ) → is_good n ≡ true → is_among names (name_at names n) ≡ true
   good_among n good = (and_parts (is_name (name_at names n)) (is_among names (name_at names n)) good).1
 
-  short_name : (word : List ℕ) → is_name word ≡ true → length word ≤ 32
+  pub short_name : (word : List ℕ) → is_name word ≡ true → length word ≤ 32
   short_name word named =
       let a = and_parts (begins_with_letter word) _ named in
       let b = and_parts (nat_le (length word) 32) (list_all is_name_byte word) a.1 in

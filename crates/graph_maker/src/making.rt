@@ -2,7 +2,9 @@
 //! are found by looking for each word among the distinct ones, and not by counting.
 
 ghost use Rattle.std.specs.Prelude.{◌≡◌, ◌<◌, ◌≤◌, ◌+◌, ◌∷◌, ◌++◌, codes, drop, length, map, None, IfOk};
+ghost use Rattle.caa_base.specs.Written.Limits.{most_script_bytes};
 ghost use Rattle.caa_base.specs.Written.Names.{name_at};
+ghost use Rattle.action_script.specs.Forms.Printing.{text_of};
 ghost use Rattle.graph_maker.specs.SetNames.{set_name};
 ghost use Rattle.graph_maker.specs.declared.made_error.MadeCause.TheVariants as cause;
 ghost use Rattle.graph_maker.specs.Refusals.{exceptions_in, graph_of, refusal_of};
@@ -72,6 +74,7 @@ fn script_of_sets(
     ensures own_names { IfOk result (λ made.
         HaveOwnNames (codes "universal" ∷ exception_names (primitive_names script.now) most)) }
     ensures declares { IfOk result (λ made. DeclaresSets script.now most (script_of_sets script.now most)) }
+    ensures fits { IfOk result (λ made. length (text_of (script_of_sets script.now most)) ≤ most_script_bytes) }
 {
     script.are_script();
     let primitives = exceptions.len() as u32;
@@ -91,7 +94,7 @@ fn script_of_sets(
 ///
 /// The script has one `graph` line, at least one `exception` line, `end`, and nothing more. Each of its exceptions keeps its name in
 /// the made script, and a larger set has a made name: `s`, and behind a dash the number of each member. The checks accept the made
-/// script, and its plan has the graph of sets.
+/// script, and its plan has the graph of sets. Its text isn't longer than that of a script may be.
 ///
 /// A line that isn't of this shape is refused before all others, as `BadLine`. Else the first line is refused that has a cause: an
 /// exception whose name is declared already, is `universal` or is made for a set, as `Twice`; and as `Limit` an exception past the
@@ -103,6 +106,7 @@ pub fn make_script(alloc: Global, script: &Script, most: u32) -> Result<Script, 
     ensures own_names { IfOk result (λ made.
         HaveOwnNames (codes "universal" ∷ exception_names (primitive_names script.now) most)) }
     ensures declares { IfOk result (λ made. DeclaresSets script.now most made) }
+    ensures fits { IfOk result (λ made. length (text_of made) ≤ most_script_bytes) }
 {
     let Ok(exceptions) = exceptions_in(alloc, script) else {
         return Err(wanting());

@@ -1,4 +1,7 @@
-use Rattle.std.proofs.Common.{sym, subst, ◌∙◌}
+use Rattle.std.proofs.Common.{◌≤◌, length, sym, subst, ◌∙◌}
+use Rattle.caa_base.specs.Written.Limits.{most_script_bytes}
+use Rattle.action_script.specs.Forms.Printing.{text_of}
+use Rattle.action_script.specs.Forms.ScriptValue.{Script}
 use Rattle.graph_maker.specs.Answers.IsAnswer.{made, refused, wanting}
 use Rattle.graph_maker.specs.MadeGraphs.{DeclaresSets}
 use Rattle.graph_maker.proofs.making.make_script.Goals as goal
@@ -19,3 +22,8 @@ returns-in-Ok-script_of_sets-clause-declares c =
 
 pub returns-clause-value : goal.returns-clause-value
 returns-clause-value c = wanting c.wanting-in-Err.ensures
+
+pub returns-in-Ok-script_of_sets-clause-fits : goal.returns-in-Ok-script_of_sets-clause-fits
+returns-in-Ok-script_of_sets-clause-fits c =
+    subst (λ (s : Script). length (text_of s) ≤ most_script_bytes) (sym c.in-Ok-script_of_sets.ensures.value)
+    c.in-Ok-script_of_sets.ensures.fits

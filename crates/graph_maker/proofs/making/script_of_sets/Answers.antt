@@ -5,6 +5,7 @@ use Rattle.set_graphs.specs.Sets.{exception_count, pairs_below, pairs_of, table}
 use Rattle.graph_maker.specs.Refusals.{graph_of, primitive_count}
 use Rattle.graph_maker.specs.MadeScripts.{exception_names, made_script, words_of}
 use Rattle.graph_maker.specs.SetNames.{set_name}
+use Rattle.graph_maker.proofs.Lengths.{text_fits}
 use Rattle.graph_maker.proofs.MadeWords.{few_pairs, has_room, length-words, words_are, words_named}
 use Rattle.graph_maker.proofs.OwnNames.{own_names}
 use Rattle.graph_maker.proofs.SetsDeclared.{declares_sets}
@@ -142,7 +143,7 @@ graph_script-requires-clause-few_pairs c =
     c.deref-4.ensures.value ∙ c.in_ok-pairs.ensures.pairs
     ∙ ap (λ (l : List ℕ). pairs_below (length ns) l (length l)) (c.deref.ensures.value ∙ c.in_ok-table.ensures)
     ∙ ap (λ k. pairs_of k most) count in
-    let few = few_pairs (primitive_count script) most fits in
+    let few = few_pairs (primitive_count script) most fits c.requires.most_fits in
     let size : length c.deref-4.result.now ≡ length (pairs_of (primitive_count script) most) = ap length pairs in
     omega (arith, few, size)
 
@@ -181,3 +182,15 @@ returns-clause-value c =
     ∙ ap (λ k. pairs_of k most) count in
     c.in_ok-made.ensures ∙ ap (λ (w : List (List ℕ)). made_script w c.deref-4.result.now) words ∙ ap
     (made_script (words_of script most)) pairs
+
+pub returns-clause-fits : goal.returns-clause-fits
+returns-clause-fits c =
+    let script = c.args.script.now in
+    let most = c.args.most in
+    let fits = has_room script most c.requires.some_member c.requires.accepted in
+    let many = fits.exceptions in
+    let less = fits.primitives in
+    let long = length-words script most fits.primitives in
+    text_fits (words_of script most) (pairs_of (primitive_count script) most) (omega arith) (omega (arith, long, many))
+    (words_named script most c.are_script.ensures c.requires.accepted (omega (arith, many, less)) c.requires.most_fits)
+    (few_pairs (primitive_count script) most fits c.requires.most_fits)
