@@ -40,28 +40,36 @@ fn index_in(names: &[u32], name: u32) -> u32 {
     index
 }
 
+/// The role of a line that begins a body or a handler, and the exception of the handler.
+fn head_in(form: &Form) -> Option<(u32, Option<u32>)> {
+    if let Form::Body(role) = form {
+        return Some((*role, None));
+    }
+    if let Form::Handler(role, exception) = form {
+        return Some((*role, Some(*exception)));
+    }
+    None
+}
+
 /// The heads of the bodies and handlers of these lines.
 fn heads_of(alloc: Global, lines: &[Line]) -> Result<Vec<Head>, OutOfMemory> {
     let mut heads = Vec::new(alloc);
     let mut action = 0;
     let mut roles: &[u32] = &[];
     for (index, line) in lines.iter().enumerate() {
-        match &line.form {
-            Form::Action(name) => action = *name,
-            Form::Roles(names) => roles = names.as_slice(),
-            Form::Body(role) => heads.push(Head {
+        if let Form::Action(name) = &line.form {
+            action = *name;
+        }
+        if let Form::Roles(names) = &line.form {
+            roles = names.as_slice();
+        }
+        if let Some((role, exception)) = head_in(&line.form) {
+            heads.push(Head {
                 action,
-                role: index_in(roles, *role),
-                exception: None,
+                role: index_in(roles, role),
+                exception,
                 index,
-            })?,
-            Form::Handler(role, exception) => heads.push(Head {
-                action,
-                role: index_in(roles, *role),
-                exception: Some(*exception),
-                index,
-            })?,
-            _ => {}
+            })?;
         }
     }
     Ok(heads)

@@ -72,10 +72,7 @@ fn declared_by(form: &Form) -> usize
     ensures value { result ≡ length (exception_in form.now) }
     ensures few { result ≤ 1 }
 {
-    match form {
-        Form::Exception(_) => 1,
-        _ => 0,
-    }
+    if let Form::Exception(_) = form { 1 } else { 0 }
 }
 
 /// The first line of a script that has a cause.

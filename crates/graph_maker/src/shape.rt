@@ -65,11 +65,11 @@ pub fn exceptions_in(alloc: Global, script: &Script) -> Result<Vec<u32>, AllocEr
 pub fn graph_of(script: &Script) -> u32
     ensures { result ≡ graph_of script.now.lines }
 {
-    match script.lines().first() {
-        Some(line) => match &line.form {
-            Form::Graph(name) => *name,
-            _ => 0,
-        },
-        None => 0,
-    }
+    let Some(line) = script.lines().first() else {
+        return 0;
+    };
+    let Form::Graph(name) = &line.form else {
+        return 0;
+    };
+    *name
 }

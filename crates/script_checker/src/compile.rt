@@ -36,9 +36,10 @@ pub(crate) fn take(
     ensures refused { IfErr result (λ c. c ≢ cause.OutOfMemory → IsLeastCause so_far.old form.now c) }
 {
     settle(alloc, &mut so_far.block, form)?;
-    match form {
-        Form::End => end(alloc, so_far, rows, names),
-        _ => say(alloc, so_far, names, form),
+    if let Form::End = form {
+        end(alloc, so_far, rows, names)
+    } else {
+        say(alloc, so_far, names, form)
     }
 }
 

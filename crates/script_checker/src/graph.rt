@@ -17,20 +17,14 @@ use std::alloc::AllocError;
 fn is_twice(graph: &OpenGraph, form: &Form) -> bool
     ensures { result ≡ twice_in_graph graph.now form.now }
 {
-    match form {
-        Form::Exception(name) => graph.exceptions().contains(*name),
-        _ => false,
-    }
+    matches!(form, Form::Exception(name) if graph.exceptions().contains(*name))
 }
 
 /// Whether the graph would have too many exceptions.
 fn is_past_limit(graph: &OpenGraph, form: &Form) -> bool
     ensures { result ≡ past_limit_in_graph graph.now form.now }
 {
-    match form {
-        Form::Exception(_) => graph.exceptions().len() as usize >= MOST_EXCEPTIONS,
-        _ => false,
-    }
+    matches!(form, Form::Exception(_)) && graph.exceptions().len() as usize >= MOST_EXCEPTIONS
 }
 
 /// The first cause of a line that doesn't end the graph, where its names are declared.
@@ -55,9 +49,11 @@ pub(crate) fn add(declared: &Declared, graph: &mut OpenGraph, form: &Form) -> Re
     ensures { OnOk result (graph.new ≡ graph_with graph.old form.now) }
 {
     let _ = declared;
-    match form {
-        Form::Exception(name) => graph.add_exception(*name),
-        Form::Cover(upper, lower) => graph.add_cover(*upper, *lower),
-        _ => Ok(()),
+    if let Form::Exception(name) = form {
+        graph.add_exception(*name)
+    } else if let Form::Cover(upper, lower) = form {
+        graph.add_cover(*upper, *lower)
+    } else {
+        Ok(())
     }
 }

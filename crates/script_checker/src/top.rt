@@ -50,20 +50,17 @@ fn is_twice(declared: &Declared, form: &Form) -> bool
 fn is_unfilled(declared: &Declared, form: &Form) -> bool
     ensures { result ≡ unfilled_at_top declared.now form.now }
 {
-    match form {
-        Form::Play(action, who) => !is_filled_by(declared, *action, who.len()),
-        _ => false,
-    }
+    matches!(form, Form::Play(action, who) if !is_filled_by(declared, *action, who.len()))
 }
 
 /// Whether the line fills two roles by one participant.
 fn fills_twice(alloc: Global, form: &Form) -> Result<bool, AllocError>
     ensures { IfOk result (λ yes. yes ≡ filled_twice_at_top form.now) }
 {
-    match form {
-        Form::Play(_, who) => Ok(!all_differ(alloc, who.as_slice())?),
-        _ => Ok(false),
-    }
+    let Form::Play(_, who) = form else {
+        return Ok(false);
+    };
+    Ok(!all_differ(alloc, who.as_slice())?)
 }
 
 /// The places of all plays with one more of an action.
@@ -108,10 +105,7 @@ fn is_past_limit(declared: &Declared, form: &Form) -> bool
 fn is_past_bound(declared: &Declared, form: &Form) -> bool
     ensures { result ≡ past_bound_at_top declared.now form.now }
 {
-    match form {
-        Form::Play(action, _) => bound_with(declared, *action) > MOST_ENTRIES,
-        _ => false,
-    }
+    matches!(form, Form::Play(action, _) if bound_with(declared, *action) > MOST_ENTRIES)
 }
 
 /// The first cause of a line whose names are declared.
@@ -213,7 +207,33 @@ pub(crate) fn declare(
         Form::Graph(name) => declared.graph_names.push(*name)?,
         Form::Action(name) => declared.action_names.push(*name)?,
         Form::Play(action, who) => add_play(alloc, declared, names, *action, who.as_slice())?,
-        _ => {}
+        Form::Exception(_)
+        | Form::Cover(_, _)
+        | Form::End
+        | Form::Internal(_)
+        | Form::Interface(_)
+        | Form::Fault(_)
+        | Form::Uses(_)
+        | Form::Roles(_)
+        | Form::Nest(_, _, _)
+        | Form::Map(_, _, _)
+        | Form::MapUndo(_, _)
+        | Form::MapFailure(_, _)
+        | Form::Alternate(_, _)
+        | Form::Abort(_, _)
+        | Form::AbortTest(_, _, _, _)
+        | Form::Body(_)
+        | Form::Handler(_, _)
+        | Form::ReadStep(_)
+        | Form::PutStep(_, _)
+        | Form::AddStep(_, _)
+        | Form::WorkStep(_)
+        | Form::CheckStep(_, _, _)
+        | Form::RaiseStep(_)
+        | Form::EnterStep(_)
+        | Form::DoneLine
+        | Form::SignalLine(_)
+        | Form::UndoLine => {}
     }
     Ok(())
 }
@@ -226,9 +246,11 @@ pub(crate) fn block_begun(
 ) -> Result<Block, AllocError>
     ensures { IfOk result (λ block. block ≡ block_begun declared.now form.now) }
 {
-    match form {
-        Form::Graph(_) => Ok(Block::Graph(OpenGraph::begun(alloc, declared.universal)?)),
-        Form::Action(name) => Ok(Block::Action(OpenAction::begun(alloc, *name))),
-        _ => Ok(Block::Top),
+    if let Form::Graph(_) = form {
+        Ok(Block::Graph(OpenGraph::begun(alloc, declared.universal)?))
+    } else if let Form::Action(name) = form {
+        Ok(Block::Action(OpenAction::begun(alloc, *name)))
+    } else {
+        Ok(Block::Top)
     }
 }

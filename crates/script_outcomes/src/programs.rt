@@ -19,49 +19,58 @@ pub struct Program<'a> {
     pub said: Said,
 }
 
-/// Whether a line is a step.
-fn is_step(line: &Line) -> bool {
-    matches!(
-        &line.form,
-        Form::ReadStep(_)
-            | Form::PutStep(_, _)
-            | Form::AddStep(_, _)
-            | Form::WorkStep(_)
-            | Form::CheckStep(_, _, _)
-            | Form::RaiseStep(_)
-            | Form::EnterStep(_)
-    )
-}
-
-/// How many of these lines are steps, up to the first that is none.
-fn steps_in(lines: &[Line]) -> usize {
-    for (index, line) in lines.iter().enumerate() {
-        if !is_step(line) {
-            return index;
-        }
-    }
-    lines.len()
-}
-
-/// What a line says that stands behind the steps.
-fn said_by(line: Option<&Line>) -> Said {
-    let Some(line) = line else {
-        return Said::Done;
-    };
+/// What a line says that ends the body or the handler above it; none of a step, which doesn't.
+fn said_by(line: &Line) -> Option<Said> {
     match &line.form {
-        Form::SignalLine(exception) => Said::Signal(*exception),
-        Form::UndoLine => Said::Undo,
-        _ => Said::Done,
+        Form::ReadStep(_)
+        | Form::PutStep(_, _)
+        | Form::AddStep(_, _)
+        | Form::WorkStep(_)
+        | Form::CheckStep(_, _, _)
+        | Form::RaiseStep(_)
+        | Form::EnterStep(_) => None,
+        Form::SignalLine(exception) => Some(Said::Signal(*exception)),
+        Form::UndoLine => Some(Said::Undo),
+        Form::DoneLine
+        | Form::Participant(_)
+        | Form::Object(_, _)
+        | Form::Drill(_, _)
+        | Form::Watch(_)
+        | Form::Graph(_)
+        | Form::Action(_)
+        | Form::Play(_, _)
+        | Form::Exception(_)
+        | Form::Cover(_, _)
+        | Form::End
+        | Form::Internal(_)
+        | Form::Interface(_)
+        | Form::Fault(_)
+        | Form::Uses(_)
+        | Form::Roles(_)
+        | Form::Nest(_, _, _)
+        | Form::Map(_, _, _)
+        | Form::MapUndo(_, _)
+        | Form::MapFailure(_, _)
+        | Form::Alternate(_, _)
+        | Form::Abort(_, _)
+        | Form::AbortTest(_, _, _, _)
+        | Form::Body(_)
+        | Form::Handler(_, _) => Some(Said::Done),
     }
 }
 
 /// The program that begins behind the line of this index.
 fn program_behind(block: &[Line], index: usize) -> Program {
     let lines = block.get(index.saturating_add(1)..).unwrap_or(&[]);
-    let count = steps_in(lines);
+    for (count, line) in lines.iter().enumerate() {
+        if let Some(said) = said_by(line) {
+            let steps = lines.get(..count).unwrap_or(&[]);
+            return Program { steps, said };
+        }
+    }
     Program {
-        steps: lines.get(..count).unwrap_or(&[]),
-        said: said_by(lines.get(count)),
+        steps: lines,
+        said: Said::Done,
     }
 }
 

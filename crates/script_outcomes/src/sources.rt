@@ -294,11 +294,8 @@ pub fn sources_of(alloc: Global, ground: &Ground) -> Result<Vec<Source>, OutOfMe
 pub fn named_in(alloc: Global, block: &[Line]) -> Result<Vec<u32>, OutOfMemory> {
     let mut named = Vec::new(alloc);
     for line in block {
-        match &line.form {
-            Form::Abort(_, exception) | Form::AbortTest(_, _, _, exception) => {
-                named.push(*exception)?
-            }
-            _ => {}
+        if let Form::Abort(_, exception) | Form::AbortTest(_, _, _, exception) = &line.form {
+            named.push(*exception)?;
         }
     }
     Ok(named)

@@ -116,16 +116,15 @@ fn write_actions(page: &mut Page, script: &Script) -> Result<(), OutOfMemory> {
     )])?;
     let mut outer = script.universal();
     for line in script.lines() {
-        match &line.form {
-            Form::Action(action) => {
-                outer = *action;
-                write_action(page, script, outer)?;
-            }
-            Form::Nest(nest, nested, _) => write_nest(page, outer, *nested, *nest, "\"")?,
-            Form::Alternate(nest, nested) => {
-                write_nest(page, outer, *nested, *nest, ", else\", style=dashed")?;
-            }
-            _ => {}
+        if let Form::Action(action) = &line.form {
+            outer = *action;
+            write_action(page, script, outer)?;
+        }
+        if let Form::Nest(nest, nested, _) = &line.form {
+            write_nest(page, outer, *nested, *nest, "\"")?;
+        }
+        if let Form::Alternate(nest, nested) = &line.form {
+            write_nest(page, outer, *nested, *nest, ", else\", style=dashed")?;
         }
     }
     page.say(&[Piece::Text("  }\n")])

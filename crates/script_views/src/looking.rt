@@ -183,10 +183,13 @@ pub fn entered_by(alloc: Global, block: &[Line], role: u32) -> Result<Vec<u32>, 
     let mut nests = Vec::new(alloc);
     let mut is_inside = false;
     for line in block {
-        match &line.form {
-            Form::Body(name) => is_inside = *name == role,
-            Form::EnterStep(nest) if is_inside => nests.push(*nest)?,
-            _ => {}
+        if let Form::Body(name) = &line.form {
+            is_inside = *name == role;
+        }
+        if let Form::EnterStep(nest) = &line.form {
+            if is_inside {
+                nests.push(*nest)?;
+            }
         }
     }
     Ok(nests)

@@ -320,7 +320,7 @@ fn number_name(part: Part) -> &'static str {
     match part {
         Part::Count => "COUNT",
         Part::Rounds => "ROUNDS",
-        _ => "VALUE",
+        Part::Value | Part::Test | Part::Name(_) => "VALUE",
     }
 }
 
@@ -329,7 +329,7 @@ fn least_number(part: Part) -> &'static str {
     match part {
         Part::Count => "1",
         Part::Rounds => "0",
-        _ => "-1000000000000",
+        Part::Value | Part::Test | Part::Name(_) => "-1000000000000",
     }
 }
 
@@ -337,7 +337,7 @@ fn least_number(part: Part) -> &'static str {
 fn most_number(part: Part) -> u64 {
     match part {
         Part::Count | Part::Rounds => u64::from(MOST_COUNT),
-        _ => MOST_MAGNITUDE,
+        Part::Value | Part::Test | Part::Name(_) => MOST_MAGNITUDE,
     }
 }
 

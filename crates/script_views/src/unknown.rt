@@ -86,7 +86,14 @@ fn graph_line_below(scene: &Scene, sort: Sort) -> Option<u32> {
     match sort {
         Sort::Inner => internal_line(block),
         Sort::Outer => interface_line(block),
-        _ => None,
+        Sort::Participant
+        | Sort::Object
+        | Sort::Graph
+        | Sort::Action
+        | Sort::Role
+        | Sort::Nest
+        | Sort::Own
+        | Sort::Told(_) => None,
     }
 }
 
@@ -239,12 +246,21 @@ fn tell_choices(
     names: &[u32],
 ) -> Result<(), OutOfMemory> {
     if names.is_empty() {
-        return match sort {
-            Sort::Role => notes.note(&[Piece::Text(
-                "no `roles` line stands above this line in the action, so it has no roles",
-            )]),
-            _ => notes.note(&[Piece::Text("above this line there is none")]),
+        let why = match sort {
+            Sort::Role => {
+                "no `roles` line stands above this line in the action, so it has no roles"
+            }
+            Sort::Participant
+            | Sort::Object
+            | Sort::Graph
+            | Sort::Action
+            | Sort::Nest
+            | Sort::Own
+            | Sort::Inner
+            | Sort::Outer
+            | Sort::Told(_) => "above this line there is none",
         };
+        return notes.note(&[Piece::Text(why)]);
     }
     let listed = in_listed_order(scene, names)?;
     let first = listed.get(..MOST_CHOICES).unwrap_or(&listed);

@@ -148,10 +148,10 @@ fn is_unfilled(declared: &Declared, action: &OpenAction, form: &Form) -> bool
 fn fills_twice(alloc: Global, form: &Form) -> Result<bool, AllocError>
     ensures { IfOk result (λ yes. yes ≡ filled_twice_in_action form.now) }
 {
-    match form {
-        Form::Nest(_, _, roles) => Ok(!all_differ(alloc, roles.as_slice())?),
-        _ => Ok(false),
-    }
+    let Form::Nest(_, _, roles) = form else {
+        return Ok(false);
+    };
+    Ok(!all_differ(alloc, roles.as_slice())?)
 }
 
 /// Whether the action uses an object, as far as its objects were said.
@@ -200,10 +200,10 @@ fn is_deepest(declared: &Declared, action: u32) -> bool
 fn is_too_deep(declared: &Declared, form: &Form) -> bool
     ensures { result ≡ too_deep_in_action declared.now form.now }
 {
-    match form {
-        Form::Nest(_, nested, _) | Form::Alternate(_, nested) => is_deepest(declared, *nested),
-        _ => false,
-    }
+    matches!(
+        form,
+        Form::Nest(_, nested, _) | Form::Alternate(_, nested) if is_deepest(declared, *nested)
+    )
 }
 
 /// How many actions a nested use has.
@@ -242,16 +242,14 @@ fn is_past_limit(declared: &Declared, action: &OpenAction, form: &Form) -> bool
 fn has_other_face(declared: &Declared, action: &OpenAction, form: &Form) -> bool
     ensures { result ≡ other_face_in_action declared.now action.now form.now }
 {
-    match form {
-        Form::Alternate(nest, nested) => {
-            let graph = match action_of(declared, *nested) {
-                Some(row) => row.interface,
-                None => 0,
-            };
-            graph != face_of(declared, action, *nest)
-        }
-        _ => false,
-    }
+    let Form::Alternate(nest, nested) = form else {
+        return false;
+    };
+    let graph = match action_of(declared, *nested) {
+        Some(row) => row.interface,
+        None => 0,
+    };
+    graph != face_of(declared, action, *nest)
 }
 
 // ---- the first cause

@@ -51,7 +51,33 @@ pub(super) fn step_of(declared: &Declared, action: &OpenAction, form: &Form) -> 
             Some(Step::Raise(inner_number(declared, action, *exception)))
         }
         Form::EnterStep(nest) => Some(Step::Enter(action.nest_names.find(*nest))),
-        _ => None,
+        Form::Participant(_)
+        | Form::Object(_, _)
+        | Form::Drill(_, _)
+        | Form::Watch(_)
+        | Form::Graph(_)
+        | Form::Action(_)
+        | Form::Play(_, _)
+        | Form::Exception(_)
+        | Form::Cover(_, _)
+        | Form::End
+        | Form::Internal(_)
+        | Form::Interface(_)
+        | Form::Fault(_)
+        | Form::Uses(_)
+        | Form::Roles(_)
+        | Form::Nest(_, _, _)
+        | Form::Map(_, _, _)
+        | Form::MapUndo(_, _)
+        | Form::MapFailure(_, _)
+        | Form::Alternate(_, _)
+        | Form::Abort(_, _)
+        | Form::AbortTest(_, _, _, _)
+        | Form::Body(_)
+        | Form::Handler(_, _)
+        | Form::DoneLine
+        | Form::SignalLine(_)
+        | Form::UndoLine => None,
     }
 }
 
