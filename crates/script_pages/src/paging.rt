@@ -162,6 +162,22 @@ fn head_parts(
     Ok(parts)
 }
 
+/// The parts of the page of a script that is refused: no table, no graphs, nobody and nothing of a plan, and no journal.
+fn refused_parts(
+    alloc: Global,
+    subject: &Subject,
+    refusal: &Refusal,
+) -> Result<Vec<Part>, OutOfMemory> {
+    let mut parts = head_parts(alloc, subject, Some(refusal))?;
+    push_bytes(alloc, &mut parts, b"")?;
+    for _ in 0..6 {
+        parts.push(Part::Open)?;
+        parts.push(Part::Close)?;
+    }
+    push_bytes(alloc, &mut parts, subject.told)?;
+    Ok(parts)
+}
+
 /// The page of a script that is refused, of which nothing but its text and its refusal is shown.
 pub fn refused_page(
     alloc: Global,
@@ -170,13 +186,7 @@ pub fn refused_page(
 ) -> Result<Vec<u8>, OutOfMemory>
     ensures { IfOk result (λ text. IsBarePage text.items) }
 {
-    let mut parts = head_parts(alloc, subject, Some(refusal))?;
-    push_bytes(alloc, &mut parts, b"")?;
-    for _ in 0..6 {
-        parts.push(Part::Open)?;
-        parts.push(Part::Close)?;
-    }
-    push_bytes(alloc, &mut parts, subject.told)?;
+    let parts = refused_parts(alloc, subject, refusal)?;
     bare_page(alloc, &parts)
 }
 
