@@ -1,6 +1,6 @@
 //! The outside as traits, what stands for it in memory, and the adapters of the standard streams.
 
-pub(crate) mod count;
+pub mod count;
 pub mod gate;
 pub mod memory;
 pub mod one_byte;

@@ -1,7 +1,9 @@
 -- Lemmas on what a device was sent.
 use Rattle.std.proofs.Common.{◌≡◌, ◌⊎◌, inl, inr, ℕ, ℤ, Result, Ok, Err, is_ok, Bool, true, false, List, [], ◌∷◌, ◌++◌, take, drop, Option, None, Some, append-nil, append_assoc, refl, ap, sym, ◌∙◌, subst, true≢false}
+use mathlib.Core.List.{IsPrefix}
 use Rattle.std.proofs.lemmas.List.{take-append-drop}
 use Rattle.std.specs.Io.KnownBytes.{append_known}
+use Rattle.caa_base.proofs.KnownBytes.{append_known-append_known}
 use Rattle.caa_base.specs.Outside.Counts.{counted_up}
 use Rattle.caa_base.specs.Outside.Writing.{WrotePart}
 use Rattle.caa_base.specs.Written.Names.{name_at}
@@ -20,13 +22,8 @@ use Rattle.line_plant.specs.Answers.{is_well}
 use Rattle.line_plant.specs.Devices.{LayCame}
 use Rattle.line_plant.specs.Lines.{lay_line, asking_line, put_word, restore_word, stop_line}
 use Rattle.line_plant.specs.Wires.{AskCame, WasAnswered, WasStopped, SentStop, SentNoStop}
-use Rattle.line_plant.specs.Sent.{was_done, NoneDone, AsksFor, IsNotLaid, AreLines, IsFront, IsUnanswered, WasSent}
+use Rattle.line_plant.specs.Sent.{was_done, NoneDone, AsksFor, IsNotLaid, AreLines, IsUnanswered, WasSent}
 use Rattle.line_plant.specs.inner.Telling.{Keeps}
-
--- known bytes grow twice
-pub append_twice : (known : Option (List ℕ)) (xs ys : List ℕ) → append_known (append_known known xs) ys ≡ append_known known (xs ++ ys)
-append_twice None xs ys = refl
-append_twice (Some bytes) xs ys = ap Some (append_assoc bytes xs ys)
 
 -- one line more
 pub line_behind : (names : List (List ℕ)) (number : ℕ) (all : List Asked) (after : ℕ) (bytes : List ℕ) (a : Asked) (line : List ℕ)
@@ -76,11 +73,11 @@ pub more_held : {K : Type 0} (sinks : SinkGhosts K) (start : Option (List ℕ)) 
     → sinks.held before ≡ append_known start bytes → sinks.held after ≡ append_known (sinks.held before) text
     → sinks.held after ≡ append_known start (bytes ++ text)
 more_held sinks start bytes text before after held sent =
-    sent ∙ ap (λ known. append_known known text) held ∙ append_twice start bytes text
+    sent ∙ ap (λ known. append_known known text) held ∙ append_known-append_known start bytes text
 
--- a front of some bytes
-pub take_front : (n : ℕ) (bytes : List ℕ) → IsFront (take n bytes) bytes
-take_front n bytes = (drop n bytes, sym (take-append-drop n bytes))
+-- the first bytes of some bytes are a front of them
+pub take_front : (n : ℕ) (bytes : List ℕ) → IsPrefix (take n bytes) bytes
+take_front n bytes = (drop n bytes, take-append-drop n bytes)
 
 -- ---- a wire that holds
 
@@ -190,7 +187,7 @@ pub keeps_answered : {S K : Type 0} (sources : SourceGhosts S) (sinks : SinkGhos
     → Keeps sinks names (record told { asked = told.asked ++ a ∷ [] }) after
 keeps_answered sources sinks names told a before after text answer.Lost k asks undone w =
     keeps_broken sinks names told a after before.next k.bytes text (standing sinks names told before k w.able) undone
-    (inr (text, asks, ([], sym (append-nil text))))
+    (inr (text, asks, ([], append-nil text)))
     (more_held sinks (sinks.held told.opened) k.bytes text before.commands after.commands k.held w.sent) w.broken
 keeps_answered sources sinks names told a before after text answer.Well k asks undone w =
     keeps_whole sinks names (record told { asked = told.asked ++ a ∷ [] }) after (k.bytes ++ text)
@@ -232,7 +229,7 @@ keeps_unasked sinks names told a wire k unlaid undone = by_wire wire.is_broken r
       (unlaid_behind names 0 told.asked wire.next k.bytes a (standing sinks names told wire k is) unlaid) k.held
 
 -- `stop`, or a front of it, is sent behind all else
-pub stop_behind : (names : List (List ℕ)) (all : List Asked) (bytes stop : List ℕ) → WasSent names all [] bytes → IsFront stop stop_line
+pub stop_behind : (names : List (List ℕ)) (all : List Asked) (bytes stop : List ℕ) → WasSent names all [] bytes → IsPrefix stop stop_line
     → WasSent names all stop (bytes ++ stop)
 stop_behind names all bytes stop s front = record {
   answered = s.answered;
@@ -271,7 +268,7 @@ keeps_stopped sinks names told before after k w = by_case w.came where
   unstopped : SentStop sinks before after → WasSent names told.asked [] k.bytes
   unstopped sent = subst (λ stop. WasSent names told.asked stop k.bytes) (k.unstopped sent.uncut sent.first) k.sent
 
-  behind : (stop : List ℕ) → SentStop sinks before after → IsFront stop stop_line
+  behind : (stop : List ℕ) → SentStop sinks before after → IsPrefix stop stop_line
       → sinks.held after.commands ≡ append_known (sinks.held before.commands) stop → Keeps sinks names told after
   behind stop sent front written =
       keeps_spent sinks names told after stop (k.bytes ++ stop) (stop_behind names told.asked k.bytes stop (unstopped sent) front)
@@ -283,7 +280,7 @@ keeps_stopped sinks names told before after k w = by_case w.came where
         → (sinks.held after.commands ≡ append_known (sinks.held before.commands) stop_line)
         ⊎ WrotePart (sinks.held before.commands) (sinks.held after.commands) stop_line
         → Keeps sinks names told after
-    by_write sent (inl whole) = behind stop_line sent ([], sym (append-nil stop_line)) whole
+    by_write sent (inl whole) = behind stop_line sent ([], append-nil stop_line) whole
     by_write sent (inr part) = behind (take part.count stop_line) sent (take_front part.count stop_line) part.front
   by_case (inr none) =
       keeps_spent sinks names told after k.stop k.bytes k.sent (ap sinks.held none.kept ∙ k.held) w.spent w.broken

@@ -1,5 +1,6 @@
 -- What a device was sent, by all that it was ever asked for.
 use Rattle.std.specs.Prelude.{◌≡◌, ◌⊎◌, ℕ, Bool, false, List, [], ◌∷◌, ◌++◌}
+use mathlib.Core.List.{IsPrefix}
 use Rattle.caa_base.specs.Outside.Counts.{counted_up}
 use Rattle.caa_base.specs.Written.Names.{name_at}
 use Rattle.caa_base.specs.declared.outside.plant.Asked.{Asked}
@@ -35,14 +36,10 @@ AreLines names number (a ∷ more) after bytes =
     × (bytes ≡ line ++ behind))
     ⊎ (IsNotLaid a × AreLines names number more after bytes)
 
--- the whole has these bytes at its front
-abbrev pub IsFront : List ℕ → List ℕ → Type 0
-IsFront bytes whole = (rest : List ℕ) × (whole ≡ bytes ++ rest)
-
 -- of what got no answer these bytes were sent: nothing, or a front of the line of the first, which may be all of it
 abbrev pub IsUnanswered : List (List ℕ) → ℕ → List Asked → List ℕ → Type 0
 IsUnanswered names number [] bytes = bytes ≡ []
-IsUnanswered names number (a ∷ more) bytes = (bytes ≡ []) ⊎ ((line : List ℕ) × AsksFor names number a line × IsFront bytes line)
+IsUnanswered names number (a ∷ more) bytes = (bytes ≡ []) ⊎ ((line : List ℕ) × AsksFor names number a line × IsPrefix bytes line)
 
 -- a device was sent these bytes by what it was asked for: a line for each thing, in order, as long as it answered; from the first on
 -- that it didn't answer nothing was done, and nothing was sent but at most a front of the line of that one, and behind it these bytes
@@ -57,5 +54,5 @@ pub record WasSent (names : List (List ℕ)) (all : List Asked) (stop bytes : Li
   pub in_lines : AreLines names 0 answered next lines
   pub last : List ℕ
   pub is_last : IsUnanswered names next unanswered last
-  pub is_front : IsFront stop stop_line
+  pub is_front : IsPrefix stop stop_line
   pub joined : bytes ≡ lines ++ last ++ stop

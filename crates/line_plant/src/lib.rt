@@ -1,7 +1,6 @@
 //! A device that is spoken to in lines: whatever answers on a reader what is asked of it on a writer.
 #![tactic(auto)]
 
-mod count;
 pub mod flushed;
 pub mod heard;
 pub mod hearing;

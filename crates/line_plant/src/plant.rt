@@ -17,13 +17,13 @@ ghost use Rattle.line_plant.specs.Wires.{AskCame, WasStopped};
 ghost use Rattle.line_plant.specs.Devices.{LayCame, PutCame, SinkGot};
 ghost use Rattle.line_plant.specs.inner.Room.{most_put_bytes, HasRoom};
 
-use crate::count::counted_up;
 use crate::heard::HeardLine;
 use crate::hearing::Answer;
 use crate::lines::{make_lay, make_put};
 use crate::names::object_names;
 use crate::told::{Note, Told};
 use crate::wire::Wire;
+use caa_base::outside::count::counted_up;
 use caa_base::outside::plant::{Plant, PlantError};
 use caa_base::outside::sink::Sink;
 use caa_base::outside::source::Source;

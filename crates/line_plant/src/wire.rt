@@ -1,9 +1,9 @@
 ghost use Rattle.std.specs.Prelude.{◌≡◌, true, false};
 ghost use Rattle.line_plant.specs.Wires.{AskCame, WasStopped};
 
-use crate::count::counted_up;
 use crate::heard::HeardLine;
 use crate::hearing::{Answer, hear, hear_rest};
+use caa_base::outside::count::counted_up;
 use caa_base::outside::reading::write_all;
 use caa_base::outside::sink::Sink;
 use caa_base::outside::source::Source;

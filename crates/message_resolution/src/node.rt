@@ -1,5 +1,4 @@
-ghost use Rattle.std.specs.Prelude.{◌≡◌, ◌≢◌, ◌<◌, ◌≤◌, ◌++◌, ◌∷◌, ◌||◌, nat_lt, [], ℕ, List, length, slice_set, All, Contains, IfOk, IfNone, MatchOption};
-ghost use Rattle.std.specs.Option.{ForSome};
+ghost use Rattle.std.specs.Prelude.{◌≡◌, ◌≢◌, ◌<◌, ◌≤◌, ◌++◌, ◌∷◌, ◌||◌, nat_lt, [], ℕ, List, length, slice_set, All, Contains, IfOk, IfSome, IfNone, MatchOption};
 ghost use Rattle.std.specs.List.{list_all};
 ghost use Rattle.cover_table.specs.Cover.{CoverOrder, IsLeastCover};
 ghost use Rattle.message_resolution.specs.Members.LocalEvents.{LocalEvent, raises, receives};
@@ -16,6 +15,7 @@ use crate::node::message::Message;
 use crate::node::sent::Sent;
 use crate::node::state::State;
 use caa_base::written::entry::{Exception, OutOfMemory};
+use core_words::joining::joined;
 use exception_graph::Graph;
 use std::alloc::Global;
 use std::marker::Model;
@@ -56,17 +56,14 @@ impl Model for Node {
 }
 
 /// The least exception that covers one more and what was covered before.
-fn joined(graph: &Graph, cover: Option<Exception>, exception: Exception) -> Exception
+fn cover_with(graph: &Graph, cover: Option<Exception>, exception: Exception) -> Exception
     requires in_range { exception < graph.now.count }
-    requires cover_in { ForSome cover (λ c. c < graph.now.count) }
+    requires cover_in { IfSome cover (λ c. c < graph.now.count) }
     ensures { (xs : List ℕ) → All (λ x. x < graph.now.count) xs → IsCoverOf graph.now xs cover
         → IsLeastCover graph.now (exception ∷ xs) result }
 {
     graph.is_sound();
-    match cover {
-        None => exception,
-        Some(cover) => graph.least(&[exception, cover]),
-    }
+    joined(graph, cover, exception)
 }
 
 /// What is sent at one event: a word, if one is said, and then a resolution.
@@ -160,7 +157,7 @@ impl Node {
         ensures { TakesIn graph.now (raises exception) self.old self.new result }
     {
         self.state = State::Raised(exception);
-        self.cover = Some(joined(graph, self.cover, exception));
+        self.cover = Some(cover_with(graph, self.cover, exception));
         Some(Message::Raised {
             from: self.me,
             exception,
@@ -196,7 +193,7 @@ impl Node {
         ensures { TakesIn graph.now (receives (Message.Raised from exception)) self.old self.new result }
     {
         self.heard[from as usize] = true;
-        self.cover = Some(joined(graph, self.cover, exception));
+        self.cover = Some(cover_with(graph, self.cover, exception));
         self.has_greater = self.is_below(from);
         self.suspend()
     }

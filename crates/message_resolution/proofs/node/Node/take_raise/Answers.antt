@@ -13,5 +13,5 @@ returns c =
     let base : Known = the_view c.self.inside in
     subst
     (λ (old : Known). TakesIn c.args.graph.now (raises c.args.exception) old
-    (record base { state = Raised c.args.exception; cover = Some c.joined.result }) (Some (message.Raised base.me c.args.exception)))
-    c.self.view_is (takes_raise c.args.graph.now base c.args.exception c.joined.result c.requires.in_range c.joined.ensures)
+    (record base { state = Raised c.args.exception; cover = Some c.cover_with.result }) (Some (message.Raised base.me c.args.exception)))
+    c.self.view_is (takes_raise c.args.graph.now base c.args.exception c.cover_with.result c.requires.in_range c.cover_with.ensures)

@@ -17,7 +17,7 @@ returns c =
     subst
     (λ (g : Bool). Suspends (record base {
       heard = slice_set base.heard from true;
-      cover = Some c.joined.result;
+      cover = Some c.cover_with.result;
       has_greater =
           g;
     }) c.suspend.new.self c.suspend.result)
@@ -25,5 +25,5 @@ returns c =
     subst
     (λ (old : Known). TakesIn c.args.graph.now (receives (message.Raised from c.args.exception)) old c.suspend.new.self c.suspend.result)
     c.self.view_is
-    (takes_raised c.args.graph.now base from c.args.exception c.joined.result from_in c.requires.in_range other c.joined.ensures
+    (takes_raised c.args.graph.now base from c.args.exception c.cover_with.result from_in c.requires.in_range other c.cover_with.ensures
     c.suspend.new.self c.suspend.result does)
