@@ -7,3 +7,4 @@ pub mod WellNamed
 pub mod EntryLines
 pub mod ReadingLemmas
 pub mod BadLines
+pub mod LineLengths

@@ -3,3 +3,4 @@ pub mod KnownValues
 pub mod TextSteps
 pub mod Words
 pub mod CommittedValues
+pub mod SaidNames

@@ -1,15 +1,15 @@
-ghost use Rattle.std.specs.Prelude.{◌≡◌, ◌<◌, ◌∷◌, ◌++◌, [], map, length, reverse, codes, decimal, OnOk, IfOk};
+ghost use Rattle.std.specs.Prelude.{◌≡◌, ◌<◌, ◌≤◌, ◌+◌, ◌∷◌, ◌++◌, [], map, length, take, reverse, codes, decimal, OnOk, IfOk};
 ghost use Rattle.std.specs.List.{flat_map, range_with_len};
 ghost use Rattle.caa_base.specs.declared.written.entry.Kind.TheVariants as kind;
 ghost use Rattle.caa_base.specs.Written.Lines.{spaced, line};
-ghost use Rattle.place_plan.specs.Plans.Places.{parent};
 ghost use Rattle.place_plan.specs.RulesOfJournals.Entries.{is_of};
 ghost use Rattle.place_plan.specs.RulesOfJournals.WellFormed.{IsWellFormed, AllWellFormed};
-ghost use Rattle.journal_text.specs.Texts.Text.{action_name, object_name, internal_name, interface_name, kind_word, object_words, restore_word, verdict_words, outcome_words, abort_words, leave_words, field_words, entry_line, object_lines, last_outcome, ending_words, outcome_lines, closing_lines, seen_line, text_of};
+ghost use Rattle.journal_text.specs.Texts.Text.{action_name, object_name, interface_name, kind_word, object_words, verdict_words, outcome_words, entry_line, object_lines, last_outcome, ending_words, outcome_lines, closing_lines, seen_line, text_of};
 ghost use Rattle.journal_text.specs.inner.KnownValues.{value_found};
 ghost use Rattle.journal_text.specs.Watching.Looks.{AreOfPlan};
 
 use crate::looks::seens::{Seen, Seens};
+use crate::texts::entry_writer::{room_for, write_entry};
 use crate::texts::values::{last_values, value_found};
 use caa_base::written::entry::{
     Entry, Exception, Kind, Object, OutOfMemory, Outcome, Place, Verdict,
@@ -17,7 +17,7 @@ use caa_base::written::entry::{
 use caa_base::written::journal::Journal;
 use caa_base::written::line::{end_line, push_number, push_value, push_word};
 use place_plan::plans::plan::Plan;
-use place_plan::rules::one_entry::{outcome_at, verdict_at};
+use place_plan::rules::one_entry::outcome_at;
 use std::alloc::{AllocError, Global};
 
 /// The text of a journal: one line for each entry, with the names of the plan, then the value of each object and the outcome of
@@ -74,9 +74,28 @@ fn push_entries(text: &mut Vec<u8>, plan: &Plan, entries: &[Entry]) -> Result<()
     requires { AllWellFormed plan.now entries.now }
     ensures { OnOk result (text.new.items ≡ text.old.items ++ flat_map (entry_line plan.now) entries.now) }
 {
+    let mut at = text.len();
     for entry in entries {
-        push_entry(text, plan, entry)?;
+        widen(text, at, room_for(plan, entry)?, at)?;
+        at = write_entry(text, at, plan, entry);
     }
+    text.truncate(at);
+    Ok(())
+}
+
+/// Sees that so many bytes of room stand behind `at`; where fewer do, `more` bytes are added too, so that the next lines find them.
+fn widen(text: &mut Vec<u8>, at: usize, room: usize, more: usize) -> Result<(), OutOfMemory>
+    requires { at ≤ length text.old.items }
+    ensures room { OnOk result (at + room ≤ length text.new.items) }
+    ensures kept { OnOk result (take at text.new.items ≡ take at text.old.items) }
+{
+    if text.len() - at >= room {
+        return Ok(());
+    }
+    let Some(end) = at.checked_add(room) else {
+        return Err(OutOfMemory);
+    };
+    text.resize(end.saturating_add(more), 0)?;
     Ok(())
 }
 
@@ -171,16 +190,16 @@ fn is_end(entry: &Entry) -> bool
 
 /// Adds the line of one entry, as it stands in the text of a journal: for whoever prints or logs each entry as it is made.
 ///
-/// Where memory is wanting, what the text had is still there, and part of the line may stand behind it.
+/// Where memory is wanting, the text is as it was.
 pub fn push_entry(text: &mut Vec<u8>, plan: &Plan, entry: &Entry) -> Result<(), OutOfMemory>
     requires { IsWellFormed plan.now entry.now }
     ensures { OnOk result (text.new.items ≡ text.old.items ++ entry_line plan.now entry.now) }
 {
-    text.extend_from_slice(kind_word(entry.kind))?;
-    push_number(text, u64::from(entry.place))?;
-    push_word(text, plan.participant_name(entry.by))?;
-    push_fields(text, plan, entry)?;
-    end_line(text)
+    let at = text.len();
+    widen(text, at, room_for(plan, entry)?, 0)?;
+    let end = write_entry(text, at, plan, entry);
+    text.truncate(end);
+    Ok(())
 }
 
 /// Adds the line of an object with the value that was found for it.
@@ -259,21 +278,6 @@ pub fn push_object(
     push_value(text, value)
 }
 
-/// Adds the name of an exception that is raised in a place.
-fn push_internal(
-    text: &mut Vec<u8>,
-    plan: &Plan,
-    place: Place,
-    exception: Exception,
-) -> Result<(), OutOfMemory>
-    ensures { OnOk result (text.new.items ≡ text.old.items ++ spaced (internal_name plan.now place exception ∷ [])) }
-{
-    push_word(
-        text,
-        plan.exception_name(plan.internal_number(place), exception),
-    )
-}
-
 /// Adds the name of an exception that a place tells outside.
 fn push_interface(
     text: &mut Vec<u8>,
@@ -287,73 +291,6 @@ fn push_interface(
         text,
         plan.exception_name(plan.interface_number(place), exception),
     )
-}
-
-/// Adds what an entry says beside its kind, its place and its maker.
-fn push_fields(text: &mut Vec<u8>, plan: &Plan, entry: &Entry) -> Result<(), OutOfMemory>
-    requires { IsWellFormed plan.now entry.now }
-    ensures { OnOk result (text.new.items ≡ text.old.items ++ spaced (field_words entry.now.kind plan.now entry.now)) }
-{
-    match entry.kind {
-        Kind::Read | Kind::Write | Kind::PutFault => push_object(
-            text,
-            plan,
-            entry.arg,
-            entry.value,
-        ),
-        Kind::Work => {
-            push_number(text, u64::from(entry.arg))?;
-            push_value(text, entry.value)
-        },
-        Kind::Raise | Kind::Resolve | Kind::Handle => push_internal(
-            text,
-            plan,
-            entry.place,
-            entry.arg,
-        ),
-        Kind::Verdict => push_verdict(text, plan, entry.place, verdict_at(entry)),
-        Kind::Abort => push_abort(text, plan, entry),
-        Kind::Restore => push_restore(text, plan, entry),
-        Kind::End => push_outcome(text, plan, entry.place, outcome_at(entry)),
-        Kind::Leave => push_leave(text, plan, entry),
-        Kind::Arrive | Kind::Withdraw | Kind::Start | Kind::Check | Kind::Inform | Kind::Undo => Ok(
-            (),
-        ),
-    }
-}
-
-/// Adds the exception that an Abort names, if it names one.
-fn push_abort(text: &mut Vec<u8>, plan: &Plan, entry: &Entry) -> Result<(), OutOfMemory>
-    ensures { OnOk result (text.new.items ≡ text.old.items ++ spaced (abort_words plan.now entry.now)) }
-{
-    if entry.mark == 1 {
-        push_interface(text, plan, entry.place, entry.arg)?;
-    }
-    Ok(())
-}
-
-/// Adds the exception that a Leave carries into the place round its own, if it carries one.
-fn push_leave(text: &mut Vec<u8>, plan: &Plan, entry: &Entry) -> Result<(), OutOfMemory>
-    ensures { OnOk result (text.new.items
-        ≡ text.old.items ++ spaced (leave_words plan.now (parent plan.now entry.now.place) entry.now)) }
-{
-    match plan.parent(entry.place) {
-        Some(outer) if entry.mark == 1 => push_internal(text, plan, outer, entry.arg),
-        _ => Ok(()),
-    }
-}
-
-/// Adds the object and the value of a restore, and whether the device took it.
-fn push_restore(text: &mut Vec<u8>, plan: &Plan, entry: &Entry) -> Result<(), OutOfMemory>
-    ensures { OnOk result (text.new.items
-        ≡ text.old.items ++ spaced (object_words plan.now entry.now.arg entry.now.value ++ restore_word entry.now.mark ∷ [])) }
-{
-    push_object(text, plan, entry.arg, entry.value)?;
-    if entry.mark == 0 {
-        push_word(text, b"well")
-    } else {
-        push_word(text, b"failed")
-    }
 }
 
 /// Adds the words of a verdict in a place, each after a space.
