@@ -94,7 +94,8 @@ fn drive_in_threads<M: Machine + Send, G: Gate + HandlerGate + Sync, R: Threads 
             requires watch { HasRoomFor (length watchers.items) posts × HasRoomFor (length watchers.items) called }
             requires over { length over.now ≡ length watchers.items }
             ensures done { All (λ s. IsDone M.base_of manager.entry.now s) result.0.items }
-            ensures served { All (λ s. IsServed M.base_of M.journal_of G.was_told G.was_handed manager.entry.now gate.entry.now s) result.0.items }
+            ensures served { All
+                (λ s. IsServed M.base_of M.journal_of G.was_told G.was_handed manager.entry.now gate.entry.now s) result.0.items }
             ensures order { map participant_of result.0.items ≡ map participant_of seats.items }
             ensures tasks { map task_of result.1.items ≡ map task_of watchers.items }
         {
@@ -211,7 +212,8 @@ fn play_opened<M: Machine + Send, G: Gate + HandlerGate + Sync, R: Threads + Wai
 ///
 /// In its journal nothing may be resolved yet, and no play may have ended. The machine that comes back has a legal and complete
 /// journal, which goes on from the old one; its plan and base are as they were. The gate was told of each work that the journal has
-/// more, and of each handler that begins there. With it comes what was seen, right looks of that journal, or the refusal of a publication for which no memory was found.
+/// more, and of each handler that begins there. With it comes what was seen, right looks of that journal, or the refusal of a
+/// publication for which no memory was found.
 ///
 /// The caller itself takes the turns of participants for whom no thread can be started, round by round; a watcher without a thread
 /// looks before the play and at its end. At `Err` no memory was found before the first entry, and the machine is as it was. It need

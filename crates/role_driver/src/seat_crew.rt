@@ -67,7 +67,14 @@ fn drive_unless<M: Machine, G: Gate + HandlerGate, R: Wait, F: Flag>(
 }
 
 /// A thread for a seat, or the seat where none can be started. Then its flag is raised, so that the seat isn't driven here.
-pub fn start<'s, E, M: Machine + Send, G: Gate + HandlerGate + Sync, R: Threads + Wait + Sync, F: Flag + Sync>(
+pub fn start<
+    's,
+    E,
+    M: Machine + Send,
+    G: Gate + HandlerGate + Sync,
+    R: Threads + Wait + Sync,
+    F: Flag + Sync,
+>(
     scope: &'s Scope<'s, E>,
     rt: &'s R,
     manager: &'s Manager<M>,
@@ -77,7 +84,8 @@ pub fn start<'s, E, M: Machine + Send, G: Gate + HandlerGate + Sync, R: Threads 
 ) -> Result<PromisedHandle<Seat<M>, Belongs<M, F, G>>, Seat<M>>
     requires served { IsServed M.base_of M.journal_of G.was_told G.was_handed manager.now gate.now seat }
     ensures ok { IfOk result (λ h.
-        (IsServed M.base_of M.journal_of G.was_told G.was_handed manager.now gate.now h.promise.seat.value × (h.promise.gate.value ≡ gate.now))
+        (IsServed M.base_of M.journal_of G.was_told G.was_handed manager.now gate.now h.promise.seat.value
+        × (h.promise.gate.value ≡ gate.now))
         × (participant_of h.promise.seat.value ≡ participant_of seat)) }
     ensures err { IfErr result (λ s.
         IsServed M.base_of M.journal_of G.was_told G.was_handed manager.now gate.now s × (participant_of s ≡ participant_of seat)) }

@@ -83,7 +83,8 @@ pub(crate) fn take_turn<M: Machine, G: Gate>(
     ensures base { M.base_of machine.new ≡ M.base_of machine.old }
     ensures count { M.count_of machine.old ≤ M.count_of machine.new }
     ensures turn { result ≡ true → TakesTurn (M.plan_of machine.old) (M.journal_of machine.old) (M.journal_of machine.new) first }
-    ensures done { result ≡ false → IsComplete (M.plan_of machine.old) (M.journal_of machine.old) × (M.journal_of machine.new ≡ M.journal_of machine.old) }
+    ensures done { result ≡ false → IsComplete (M.plan_of machine.old) (M.journal_of machine.old)
+        × (M.journal_of machine.new ≡ M.journal_of machine.old) }
     ensures sleep { AllSleep (M.plan_of machine.new) (M.journal_of machine.new) asleep.new }
     ensures told { TellsWork (G.was_told gate.now) (M.journal_of machine.old) (M.journal_of machine.new) }
 {

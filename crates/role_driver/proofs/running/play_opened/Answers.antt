@@ -73,7 +73,8 @@ returns-clause-told g c =
       goes_on = closed.begins.1;
       each =
           all_known (IsTold was_told) begun new closed.begins.0 closed.begins.1 (plan_in manager)
-          (subst (Holds AllWellFormed) (c.plan.ensures ∙ closed.plan) c.is_well_formed.ensures) c.drive_in_threads-seats.result.0.items closed.legal
+          (subst (Holds AllWellFormed) (c.plan.ensures ∙ closed.plan) c.is_well_formed.ensures)
+          c.drive_in_threads-seats.result.0.items closed.legal
           (λ k d low. (driven.served k d low).told) closed.accounts
           (order_has_all (length (plan_in manager).participants) c.drive_in_threads-seats.result.0.items
           (driven.order ∙ c.requires.order));
@@ -92,7 +93,8 @@ returns-clause-handed g c =
       goes_on = closed.begins.1;
       each =
           all_known (IsHanded was_handed) begun new closed.begins.0 closed.begins.1 (plan_in manager)
-          (subst (Holds AllWellFormed) (c.plan.ensures ∙ closed.plan) c.is_well_formed.ensures) c.drive_in_threads-seats.result.0.items closed.legal
+          (subst (Holds AllWellFormed) (c.plan.ensures ∙ closed.plan) c.is_well_formed.ensures)
+          c.drive_in_threads-seats.result.0.items closed.legal
           (λ k d low. (driven.served k d low).handed) closed.accounts
           (order_has_all (length (plan_in manager).participants) c.drive_in_threads-seats.result.0.items
           (driven.order ∙ c.requires.order));

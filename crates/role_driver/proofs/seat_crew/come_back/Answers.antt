@@ -1,5 +1,5 @@
 use Rattle.std.proofs.Common.{subst}
-use Rattle.action_manager.specs.Managers.{handed_in, table_of, terms_in}
+use Rattle.action_manager.specs.Managers.{table_of, terms_in}
 use Rattle.action_manager.specs.Seats.{participant_of, seen_by}
 use Rattle.action_manager.proofs.Beside.{beside_opened}
 use Rattle.role_driver.specs.Handling.{TellsOwnHandlers}

@@ -6,7 +6,7 @@ use Rattle.role_driver.proofs.Served.{served_on}
 use Rattle.role_driver.proofs.seat_crew.join_one.Goals as goal
 
 pub drive-requires : goal.drive-requires
-drive-requires g c = record { opened = c.come_back-seat.ensures.served.opened; }
+drive-requires g c = record { opened = c.come_back-seat.ensures.served.opened }
 
 pub returns-clause-done : goal.returns-clause-done
 returns-clause-done g c =

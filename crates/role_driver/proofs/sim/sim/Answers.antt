@@ -1,4 +1,4 @@
-use Rattle.std.proofs.Common.{◌≡◌, ◌∙◌, ◌/◌, suc, arith, ap, refl, sym, subst, length}
+use Rattle.std.proofs.Common.{◌∙◌, ◌/◌, suc, arith, ap, refl, sym, subst}
 use Rattle.std.proofs.lemmas.Bool.{both_ways}
 use Rattle.caa_base.specs.Written.Mixing.{next_state, state_after, turn_number}
 use Rattle.role_driver.specs.Schedule.{TakesTurn}
@@ -38,6 +38,7 @@ loop-state-preserved g c =
       sleep = c.take_turn.ensures.sleep;
       scheduled = (
         more.0,
-        c.next_state-state-in-loop-state.ensures.value ∙ ap next_state kept.scheduled.1 ∙ ap (λ n. state_after c.args.seed (suc n)) (sym more.1),
+        c.next_state-state-in-loop-state.ensures.value ∙ ap next_state kept.scheduled.1
+            ∙ ap (λ n. state_after c.args.seed (suc n)) (sym more.1),
       );
     }
