@@ -8,7 +8,7 @@ use Rattle.std.proofs.lemmas.List.Folds.{list_any-append}
 use Rattle.std.proofs.lemmas.List.FromFn.{length-range_with_len}
 use mathlib.Core.List.{IsPrefix}
 use Rattle.action_manager.specs.declared.manager.Manager.{Manager}
-use Rattle.action_manager.specs.Managers.{plan_in, IsSeatIn}
+use Rattle.action_manager.specs.Managers.{plan_in}
 use Rattle.caa_base.specs.declared.written.entry.Entry.{Entry}
 use Rattle.caa_base.specs.declared.written.entry.Kind.TheVariants as kind
 use Rattle.place_plan.specs.declared.rules.machine.Base.{Base}
@@ -20,7 +20,7 @@ use Rattle.place_plan.specs.RulesOfJournals.Roles.{is_over, is_over_after}
 use Rattle.place_plan.specs.RulesOfJournals.Journals.{IsComplete}
 use Rattle.action_manager.specs.declared.seat.Seat.{Seat}
 use Rattle.action_manager.specs.Seats.{has_seat, HaveAll, Accounts, participant_of, seen_by}
-use Rattle.role_driver.specs.SeatsDriven.{IsDone}
+use Rattle.role_driver.specs.SeatsDriven.{IsDone, IsServed}
 use Rattle.role_driver.specs.inner.Crew.{IsMember, who_of}
 
 -- what was said once stays said
@@ -67,7 +67,7 @@ reaches f (x ∷ xs) a (suc n) t order low high =
 pub order_has_all : {M : Type 0} (n : ℕ) (seats : List (Seat M)) → map participant_of seats ≡ range_with_len 0 n → HaveAll n seats
 order_has_all n seats order = λ t low. reaches participant_of seats 0 n t order (omega arith) (omega (arith, low))
 
-one_of : (b rest : Bool) (n t : ℕ) (X : Type 0) → (n == t) ≡ b → (b || rest) ≡ true → (n ≡ t → X) → (rest ≡ true → X) → X
+pub one_of : (b rest : Bool) (n t : ℕ) (X : Type 0) → (n == t) ≡ b → (b || rest) ≡ true → (n ≡ t → X) → (rest ≡ true → X) → X
 one_of true rest n t X is there first later = first (grind (arith, nat_tests, is))
 one_of false rest n t X is there first later = later there
 
@@ -103,16 +103,19 @@ pub all_first : {X : Type 0} (P : X → Type 0) (s : X) (xs ys : List X) → ys 
 all_first P s xs ys is all = let here = subst (All P) is all in (here 0 s (omega arith), λ k d low. here (suc k) d (omega (arith, low)))
 
 -- whose seat a started member has
-pub who_is : {M H : Type 0} (f : H → ℕ) (t : ℕ) (P : H → Type 0) (Q : Seat M → Type 0) (r : Result H (Seat M))
-    → IfOk r (λ h. P h × (f h ≡ t)) → IfErr r (λ s. Q s × (participant_of s ≡ t)) → who_of f r ≡ t
-who_is f t P Q (Ok h) ok err = ok.1
-who_is f t P Q (Err s) ok err = err.1
+pub who_is : {M H : Type 0} (seat_of : H → Seat M) (t : ℕ) (P : H → Type 0) (Q : Seat M → Type 0) (r : Result H (Seat M))
+    → IfOk r (λ h. P h × (participant_of (seat_of h) ≡ t)) → IfErr r (λ s. Q s × (participant_of s ≡ t)) → who_of seat_of r ≡ t
+who_is seat_of t P Q (Ok h) ok err = ok.1
+who_is seat_of t P Q (Err s) ok err = err.1
 
-pub member_is : {M H : Type 0} (base_of : M → Base) (manager : Manager M) (seat_of : H → Seat M) (f : H → ℕ) (t : ℕ) (r : Result H (Seat M))
-    → IfOk r (λ h. IsSeatIn base_of manager (seat_of h) × (f h ≡ t))
-    → IfErr r (λ s. IsSeatIn base_of manager s × (participant_of s ≡ t)) → IsMember base_of manager seat_of r
-member_is base_of manager seat_of f t (Ok h) ok err = ok.0
-member_is base_of manager seat_of f t (Err s) ok err = err.0
+pub member_is : {M G H : Type 0} (base_of : M → Base) (journal_of : M → List Entry) (was_told : G → ℕ → ℕ → Type 0)
+    (was_handed : G → ℕ → ℕ → ℕ → Type 0) (manager : Manager M) (gate : G) (went : H → Seat M × G) (t : ℕ) (r : Result H (Seat M))
+    → IfOk r (λ h. (IsServed base_of journal_of was_told was_handed manager gate (went h).0 × ((went h).1 ≡ gate))
+    × (participant_of (went h).0 ≡ t))
+    → IfErr r (λ s. IsServed base_of journal_of was_told was_handed manager gate s × (participant_of s ≡ t))
+    → IsMember base_of journal_of was_told was_handed manager gate went r
+member_is base_of journal_of was_told was_handed manager gate went t (Ok h) ok err = ok.0
+member_is base_of journal_of was_told was_handed manager gate went t (Err s) ok err = err.0
 
 pub order_counts : {X : Type 0} (f : X → ℕ) (xs : List X) (n : ℕ) → map f xs ≡ range_with_len 0 n → length xs ≡ n
 order_counts f xs n order = sym (length-map xs f) ∙ (ap length order ∙ length-range_with_len 0 n)

@@ -31,9 +31,11 @@ round_silent plan past first h has =
     h i.0 i.1 has.entry (sym i.2) has.may
 
 -- who is asked after so many others, where the number from which one goes round is taken by the number of participants first
-pub asked_by : (plan : Plan) (n first others by : ℕ) → n ≡ length plan.participants → by ≡ (first % n + others) % n
-    → by ≡ participant_asked plan first others
-asked_by plan n first others by known is = is ∙ (mod-add-mod first n others ∙ ap (λ m. (first + others) % m) known)
+pub asked_by : (plan : Plan) (n first start others by : ℕ) → n ≡ length plan.participants → others < n → (0 < n → start ≡ first % n)
+    → by ≡ (start + others) % n → by ≡ participant_asked plan first others
+asked_by plan n first start others by known low begins is =
+    is ∙ ap (λ s. (s + others) % n) (begins (omega (arith, low)))
+    ∙ (mod-add-mod first n others ∙ ap (λ m. (first + others) % m) known)
 
 -- one more that was asked is silent
 pub silent_more : (plan : Plan) (past : List Entry) (first others by : ℕ) → by ≡ participant_asked plan first others

@@ -22,3 +22,7 @@ HandsMade was_handed _ = Unit {0}
 -- the new journal goes on from the old one, and the gate was told of all handlers of t that begin in what it has more
 abbrev pub TellsOwnHandlers : (ℕ → ℕ → ℕ → Type 0) → ℕ → List Entry → List Entry → Type 0
 TellsOwnHandlers was_handed t old new = GoesOnWith (IsHandedOf was_handed t) old new
+
+-- the new journal goes on from the old one, and the gate was told of all handlers that begin in what it has more
+abbrev pub TellsHandlers : (ℕ → ℕ → ℕ → Type 0) → List Entry → List Entry → Type 0
+TellsHandlers was_handed old new = GoesOnWith (IsHanded was_handed) old new

@@ -3,7 +3,7 @@ ghost use mathlib.Core.List.{IsPrefix};
 ghost use Rattle.place_plan.specs.RulesOfJournals.Journals.{IsLegal, IsComplete};
 ghost use Rattle.action_manager.specs.Publishing.{Publishes};
 ghost use Rattle.action_manager.specs.Managers.{plan_in, handed_in, book_in, IsSeatIn};
-ghost use Rattle.action_manager.specs.Seats.{participant_of, HaveAll};
+ghost use Rattle.action_manager.specs.Seats.{participant_of, Accounts, HaveAll};
 ghost use Rattle.role_driver.specs.SeatsDriven.{IsDone};
 ghost use Rattle.role_driver.specs.VectorRoom.{HasRoomFor};
 
@@ -43,6 +43,7 @@ pub fn close_done<M: Machine>(manager: Manager<M>, seats: Vec<Seat<M>>) -> Close
     ensures complete { IsComplete (plan_in manager) (M.journal_of result.machine) }
     ensures book { result.writer.publications.book ≡ book_in manager }
     ensures published { Publishes (plan_in manager) (reverse (M.journal_of result.machine)) result.writer }
+    ensures accounts { All (λ s. Accounts (M.journal_of result.machine) s) seats.items }
     ensures stale { result.stale ≡ result.writer.is_stale }
 {
     match manager.close(seats) {

@@ -23,8 +23,7 @@ pub fn finish<M: Machine, G: Gate>(mut machine: M, gate: &G) -> M
     ensures told { TellsWork (G.was_told gate.now) (M.journal_of machine) (M.journal_of result) }
 {
     let mut asleep = nobody();
-    while !machine.complete() {
-        take_turn(&mut machine, 0, &mut asleep, gate);
+    while take_turn(&mut machine, 0, &mut asleep, gate) {
         is_bounded(machine.plan());
     }
     machine

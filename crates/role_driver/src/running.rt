@@ -7,25 +7,30 @@ ghost use Rattle.journal_text.specs.Watching.Looks.{AreOfPlan};
 ghost use Rattle.journal_text.specs.Watching.Right.{first_wrong};
 ghost use Rattle.action_manager.specs.Openings.{IsUnresolved};
 ghost use Rattle.action_manager.specs.Publishing.{Publishes};
-ghost use Rattle.action_manager.specs.Managers.{plan_in, handed_in, IsSeatIn};
+ghost use Rattle.action_manager.specs.Managers.{plan_in, handed_in};
 ghost use Rattle.action_manager.specs.Seats.{participant_of};
 ghost use Rattle.role_driver.specs.inner.CrewRooms.{IsRoomForAll};
+ghost use Rattle.role_driver.specs.SeatsDriven.{IsServed, IsDone};
+ghost use Rattle.role_driver.specs.Handling.{TellsHandlers};
+ghost use Rattle.role_driver.specs.Working.{TellsWork};
 ghost use Rattle.role_driver.specs.VectorRoom.{HasRoomFor};
 ghost use Rattle.role_driver.specs.inner.Watchers.{task_of};
 ghost use Rattle.shared_views.specs.Committing.{placeless};
 ghost use Rattle.role_driver.specs.inner.WatchRooms.{IsRoomFor, observer_of};
 ghost use Rattle.role_driver.specs.inner.Gathering.{task_by};
 
-use crate::all_seats::{close_done, drive_each};
+use crate::all_seats::close_done;
 use crate::assigning::watchers_for;
 use crate::crew_room::CrewRoom;
 use crate::gathering::gather;
+use crate::handling::HandlerGate;
 use crate::posts::{Watch, call_all_back, post_all, raise};
 use crate::seat_crew::{SeatCrew, drive_handed_back, join_all, start_all};
 use crate::watch_room::WatchRoom;
 use crate::watcher::Watcher;
 use action_manager::{Closed, Manager, ManagerError, Opened, Seat};
 use caa_base::outside::gate::Gate;
+use journal_laws::is_well_formed;
 use journal_text::looks::seens::Seens;
 use place_plan::rules::machine::Machine;
 use shared_views::{CommittedWriter, PublicationRefused};
@@ -50,10 +55,10 @@ pub struct RunError<M> {
 }
 
 /// Drives each seat in a thread of its own, and lets the watchers look in theirs until all of these have ended.
-fn drive_in_threads<M: Machine + Send, G: Gate + Sync, R: Threads + Wait + Sync>(
+fn drive_in_threads<M: Machine + Send, G: Gate + HandlerGate + Sync, R: Threads + Wait + Sync>(
     rt: &R,
     manager: &Manager<M>,
-    crew: SeatCrew<M>,
+    crew: SeatCrew<M, G>,
     handed_back: &[AtomicBool],
     watch: Watch,
     over: &[AtomicBool],
@@ -61,10 +66,11 @@ fn drive_in_threads<M: Machine + Send, G: Gate + Sync, R: Threads + Wait + Sync>
 ) -> (Vec<Seat<M>>, Vec<Watcher>)
     requires room { HasRoomFor (length crew.seats.items) crew.members × HasRoomFor (length crew.seats.items) crew.back }
     requires flags { length handed_back.now ≡ length crew.seats.items }
-    requires opened { All (λ s. IsSeatIn M.base_of manager.now s) crew.seats.items }
+    requires served { All (λ s. IsServed M.base_of M.journal_of G.was_told G.was_handed manager.now gate.now s) crew.seats.items }
     requires watch { HasRoomFor (length watch.watchers.items) watch.posts × HasRoomFor (length watch.watchers.items) watch.back }
     requires over { length over.now ≡ length watch.watchers.items }
-    ensures opened { All (λ s. IsSeatIn M.base_of manager.now s) result.0.items }
+    ensures done { All (λ s. IsDone M.base_of manager.now s) result.0.items }
+    ensures served { All (λ s. IsServed M.base_of M.journal_of G.was_told G.was_handed manager.now gate.now s) result.0.items }
     ensures order { map participant_of result.0.items ≡ map participant_of crew.seats.items }
     ensures tasks { map task_of result.1.items ≡ map task_of watch.watchers.items }
 {
@@ -84,10 +90,12 @@ fn drive_in_threads<M: Machine + Send, G: Gate + Sync, R: Threads + Wait + Sync>
         |scope| -> (Vec<Seat<M>>, Vec<Watcher>)
             requires room { HasRoomFor (length seats.items) members × HasRoomFor (length seats.items) back }
             requires flags { length handed_back.now ≡ length seats.items }
-            requires opened { All (λ s. IsSeatIn M.base_of manager.now s) seats.items }
+            requires served { All (λ s. IsServed M.base_of M.journal_of G.was_told G.was_handed manager.now gate.now s) seats.items }
             requires watch { HasRoomFor (length watchers.items) posts × HasRoomFor (length watchers.items) called }
             requires over { length over.now ≡ length watchers.items }
-            ensures opened { All (λ s. IsSeatIn M.base_of manager.entry.now s) result.0.items }
+            ensures done { All (λ s. IsDone M.base_of manager.entry.now s) result.0.items }
+            ensures served { All
+                (λ s. IsServed M.base_of M.journal_of G.was_told G.was_handed manager.entry.now gate.entry.now s) result.0.items }
             ensures order { map participant_of result.0.items ≡ map participant_of seats.items }
             ensures tasks { map task_of result.1.items ≡ map task_of watchers.items }
         {
@@ -127,15 +135,15 @@ fn seens_of<M: Machine>(
 }
 
 /// Plays the machine of a manager to its end by its seats, in order, and its observers, where there is room for all.
-fn play_opened<M: Machine + Send, G: Gate + Sync, R: Threads + Wait + Sync>(
+fn play_opened<M: Machine + Send, G: Gate + HandlerGate + Sync, R: Threads + Wait + Sync>(
     rt: &R,
     opened: Opened<M>,
-    crew_room: CrewRoom<M>,
+    crew_room: CrewRoom<M, G>,
     watch_room: WatchRoom,
     gate: &G,
 ) -> Finished<M>
     requires closed { IsClosed (plan_in opened.manager) }
-    requires seats { All (λ s. IsSeatIn M.base_of opened.manager s) opened.seats.items }
+    requires seats { All (λ s. IsServed M.base_of M.journal_of G.was_told G.was_handed opened.manager gate.now s) opened.seats.items }
     requires order { map participant_of opened.seats.items ≡ range_with_len 0 (length (plan_in opened.manager).participants) }
     requires observers { map placeless opened.observers.items
         ≡ replicate (length (plan_in opened.manager).watches) (observer_of opened.manager) }
@@ -150,6 +158,8 @@ fn play_opened<M: Machine + Send, G: Gate + Sync, R: Threads + Wait + Sync>(
     ensures of_plan { IfSome result.seens (λ s. AreOfPlan (plan_in opened.manager) s.seens) }
     ensures right { IfSome result.seens (λ s.
         first_wrong (plan_in opened.manager) (M.journal_of result.machine) s.seens ≡ None) }
+    ensures told { TellsWork (G.was_told gate.now) (M.journal_of (handed_in opened.manager)) (M.journal_of result.machine) }
+    ensures handed { TellsHandlers (G.was_handed gate.now) (M.journal_of (handed_in opened.manager)) (M.journal_of result.machine) }
 {
     let Opened {
         manager,
@@ -175,12 +185,12 @@ fn play_opened<M: Machine + Send, G: Gate + Sync, R: Threads + Wait + Sync>(
         watch_room.over.as_slice(),
         gate,
     );
-    let seats = drive_each(rt, &manager, seats, crew_room.driven, gate);
     let Closed {
         machine,
         mut writer,
         stale,
     } = close_done(manager, seats);
+    is_well_formed(machine.plan());
     let refused = writer.refusal();
     let seens = seens_of(
         &machine,
@@ -201,11 +211,14 @@ fn play_opened<M: Machine + Send, G: Gate + Sync, R: Threads + Wait + Sync>(
 /// another.
 ///
 /// In its journal nothing may be resolved yet, and no play may have ended. The machine that comes back has a legal and complete
-/// journal, which goes on from the old one; its plan and base are as they were. With it comes what was seen, right looks of that
-/// journal, or the refusal of a publication for which no memory was found. The caller itself takes the turns of participants for
-/// whom no thread can be started, round by round; a watcher without a thread looks before the play and at its end. At `Err` no memory was found
-/// before the first entry, and the machine is as it was. It need not return.
-pub fn run<M: Machine + Send, G: Gate + Sync, R: Threads + Wait + Sync>(
+/// journal, which goes on from the old one; its plan and base are as they were. The gate was told of each work that the journal has
+/// more, and of each handler that begins there. With it comes what was seen, right looks of that journal, or the refusal of a
+/// publication for which no memory was found.
+///
+/// The caller itself takes the turns of participants for whom no thread can be started, round by round; a watcher without a thread
+/// looks before the play and at its end. At `Err` no memory was found before the first entry, and the machine is as it was. It need
+/// not return.
+pub fn run<M: Machine + Send, G: Gate + HandlerGate + Sync, R: Threads + Wait + Sync>(
     rt: &R,
     alloc: Global,
     machine: M,
@@ -222,6 +235,8 @@ pub fn run<M: Machine + Send, G: Gate + Sync, R: Threads + Wait + Sync>(
     ensures of_plan { IfOk result (λ f. IfSome f.seens (λ s. AreOfPlan (M.plan_of machine) s.seens)) }
     ensures right { IfOk result (λ f.
         IfSome f.seens (λ s. first_wrong (M.plan_of machine) (M.journal_of f.machine) s.seens ≡ None)) }
+    ensures told { IfOk result (λ f. TellsWork (G.was_told gate.now) (M.journal_of machine) (M.journal_of f.machine)) }
+    ensures handed { IfOk result (λ f. TellsHandlers (G.was_handed gate.now) (M.journal_of machine) (M.journal_of f.machine)) }
     ensures refused { IfErr result (λ e. e.machine ≡ machine) }
 {
     let count = machine.plan().participants() as usize;

@@ -24,11 +24,10 @@ pub fn sim<M: Machine>(mut machine: M, seed: u32) -> M
     ensures complete { IsComplete (M.plan_of machine) (M.journal_of result) }
     ensures scheduled { GrewBy (turn_number seed) (M.plan_of machine) (M.journal_of machine) (M.journal_of result) }
 {
-    let mut state = seed;
+    let mut state = next_state(seed);
     let mut asleep = nobody();
-    while !machine.complete() {
+    while take_turn(&mut machine, state / 65_536, &mut asleep, &EmptyGate) {
         state = next_state(state);
-        take_turn(&mut machine, state / 65_536, &mut asleep, &EmptyGate);
         is_bounded(machine.plan());
     }
     machine

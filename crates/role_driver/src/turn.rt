@@ -1,4 +1,4 @@
-ghost use Rattle.std.specs.Prelude.{◌≡◌, ◌<◌, ◌≤◌, ◌+◌, ◌%◌, length, MatchOption};
+ghost use Rattle.std.specs.Prelude.{◌≡◌, ◌<◌, ◌≤◌, ◌+◌, ◌%◌, true, false, length, MatchOption};
 ghost use Rattle.place_plan.specs.RulesOfJournals.Journals.{IsComplete};
 ghost use Rattle.role_driver.specs.Schedule.{Acts, IsKept, TakesTurn};
 ghost use Rattle.role_driver.specs.Working.{TellsWork};
@@ -42,6 +42,17 @@ fn act<M: Machine, G: Gate>(machine: &mut M, by: Participant, gate: &G) -> Optio
     }
 }
 
+/// The participant from whom one goes round that begins at this number, of so many participants; where there is nobody, any.
+fn first_asked(first: u32, participants: u32) -> Participant
+    ensures below { 0 < participants → result < participants }
+    ensures value { 0 < participants → result ≡ first % participants }
+{
+    if participants == 0 {
+        return 0;
+    }
+    first % participants
+}
+
 /// The participant that is asked after so many others, going round from this one, of so many participants.
 fn participant_asked(start: Participant, others: u32, participants: u32) -> Participant
     requires start { start < participants }
@@ -60,25 +71,27 @@ fn participant_asked(start: Participant, others: u32, participants: u32) -> Part
 /// Makes the entry of the first participant that has one, going round from this number.
 ///
 /// Nobody is asked of the crew that sleeps: none of it has an entry. Who is asked and has none sleeps until an entry may wake it.
+/// The answer is whether somebody had an entry: where nobody has one, all plays are over, and nothing was made.
 pub(crate) fn take_turn<M: Machine, G: Gate>(
     machine: &mut M,
     first: u32,
     asleep: &mut Crew,
     gate: &G,
-)
-    requires unfinished { IsComplete (M.plan_of machine.old) (M.journal_of machine.old) → ⊥ }
+) -> bool
     requires sleep { AllSleep (M.plan_of machine.old) (M.journal_of machine.old) asleep.old }
     ensures plan { M.plan_of machine.new ≡ M.plan_of machine.old }
     ensures base { M.base_of machine.new ≡ M.base_of machine.old }
     ensures count { M.count_of machine.old ≤ M.count_of machine.new }
-    ensures turn { TakesTurn (M.plan_of machine.old) (M.journal_of machine.old) (M.journal_of machine.new) first }
+    ensures turn { result ≡ true → TakesTurn (M.plan_of machine.old) (M.journal_of machine.old) (M.journal_of machine.new) first }
+    ensures done { result ≡ false → IsComplete (M.plan_of machine.old) (M.journal_of machine.old)
+        × (M.journal_of machine.new ≡ M.journal_of machine.old) }
     ensures sleep { AllSleep (M.plan_of machine.new) (M.journal_of machine.new) asleep.new }
     ensures told { TellsWork (G.was_told gate.now) (M.journal_of machine.old) (M.journal_of machine.new) }
 {
     goes_on(machine.plan());
     machine.plan().is_closed();
     let participants = machine.plan().participants();
-    let start = first % participants;
+    let start = first_asked(first, participants);
     for others in 0..participants {
         let by = participant_asked(start, others, participants);
         if is_in(*asleep, by) {
@@ -88,10 +101,13 @@ pub(crate) fn take_turn<M: Machine, G: Gate>(
             Some(entry) => {
                 sleeps_on(machine.plan());
                 *asleep = unwoken(machine.plan(), &entry, *asleep);
-                return;
+                return true;
             }
             None => *asleep = with(*asleep, by),
         }
+    }
+    if machine.complete() {
+        return false;
     }
     unreachable!()
 }

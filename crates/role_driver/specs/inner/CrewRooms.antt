@@ -3,9 +3,8 @@ use Rattle.std.specs.Prelude.{◌≡◌, ℕ, length}
 use Rattle.role_driver.specs.declared.crew_room.CrewRoom.{CrewRoom}
 use Rattle.role_driver.specs.VectorRoom.{HasRoomFor}
 
--- there is room for so many threads, for their seats when they come back and when they are over, and a flag for each
-pub record IsRoomForAll {M : Type 0} (count : ℕ) (r : CrewRoom M) : Type 0 where
+-- there is room for so many threads, for their seats when they come back, and a flag for each
+pub record IsRoomForAll {M G : Type 0} (count : ℕ) (r : CrewRoom M G) : Type 0 where
   pub members : HasRoomFor count r.members
   pub back : HasRoomFor count r.back
-  pub driven : HasRoomFor count r.driven
   pub flags : length r.handed_back.items ≡ count

@@ -12,7 +12,7 @@ loop-machine-preserved g c =
     let first = g.M.Machine.journal_of c.args.machine in
     let old = g.M.Machine.journal_of c.loop-machine.machine in
     let new = g.M.Machine.journal_of c.take_turn.new.machine in
-    let turn = subst (λ p. TakesTurn p old new 0) kept.plan c.take_turn.ensures.turn in
+    let turn = subst (λ p. TakesTurn p old new 0) kept.plan (c.take_turn.ensures.turn c.loop-machine-test.true) in
     record {
       plan = c.take_turn.ensures.plan ∙ kept.plan;
       base = c.take_turn.ensures.base ∙ kept.base;

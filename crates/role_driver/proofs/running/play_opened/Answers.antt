@@ -1,10 +1,15 @@
-use Rattle.std.proofs.Common.{rules, ◌∙◌, length, sym, ap}
+use Rattle.std.proofs.Common.{rules, ◌∙◌, length, sym, ap, subst}
 use Rattle.std.proofs.lemmas.List.{length-map}
 use Rattle.place_plan.specs.Plans.PlanValue.{Plan}
-use Rattle.action_manager.specs.Managers.{plan_in}
+use Rattle.place_plan.specs.RulesOfJournals.WellFormed.{AllWellFormed}
+use Rattle.journal_laws.specs.Laws.{Holds}
+use Rattle.action_manager.specs.Managers.{handed_in, plan_in}
 use Rattle.action_manager.specs.Seats.{participant_of}
 use Rattle.role_driver.proofs.Complete.{order_counts, order_has_all}
+use Rattle.role_driver.proofs.Served.{all_known}
 use Rattle.role_driver.proofs.WatchTasks.{blanks_known, same_length, tasks_are}
+use Rattle.role_driver.specs.Handling.{IsHanded}
+use Rattle.role_driver.specs.Working.{IsTold}
 use Rattle.role_driver.specs.declared.watch_room.Blank.{Blank}
 use Rattle.role_driver.specs.inner.Watchers.{task_of}
 use Rattle.role_driver.specs.inner.WatchRooms.{task_with, observer_of}
@@ -42,12 +47,6 @@ drive_in_threads-seats-requires-clause-over g c κs within =
     c.watchers_for.result.items blanks c.watchers_for.ensures ∙ (sym (length-map blanks (λ b. b.object)) ∙ ap length room.blanks) in
     ap length c.as_slice-2.ensures.value ∙ room.over ∙ sym many
 
-pub drive_each-seats-requires-clause-room : goal.drive_each-seats-requires-clause-room
-drive_each-seats-requires-clause-room g c =
-    let long = order_counts participant_of c.drive_in_threads-seats.result.0.items _ (c.drive_in_threads-seats.ensures.order
-    ∙ c.requires.order) in
-    search rules
-
 pub seens_of-seens-requires-clause-tasks : goal.seens_of-seens-requires-clause-tasks
 seens_of-seens-requires-clause-tasks g c =
     let closed = c.close_done-machine.ensures in let writer = c.close_done-machine.result.writer in
@@ -58,5 +57,45 @@ seens_of-seens-requires-clause-tasks g c =
 
 pub close_done-machine-requires-clause-all : goal.close_done-machine-requires-clause-all
 close_done-machine-requires-clause-all g c =
-    order_has_all (length (plan_in c.args.opened.manager).participants) c.drive_each-seats.result.items
-    (c.drive_each-seats.ensures.same ∙ (c.drive_in_threads-seats.ensures.order ∙ c.requires.order))
+    order_has_all (length (plan_in c.args.opened.manager).participants) c.drive_in_threads-seats.result.0.items
+    (c.drive_in_threads-seats.ensures.order ∙ c.requires.order)
+
+pub returns-clause-told : goal.returns-clause-told
+returns-clause-told g c =
+    let manager = c.args.opened.manager in
+    let driven = c.drive_in_threads-seats.ensures in
+    let closed = c.close_done-machine.ensures in
+    let begun = g.M.Machine.journal_of (handed_in manager) in
+    let new = g.M.Machine.journal_of c.close_done-machine.result.machine in
+    let was_told = g.G.Gate.was_told c.args.gate.now in
+    record {
+      more = closed.begins.0;
+      goes_on = closed.begins.1;
+      each =
+          all_known (IsTold was_told) begun new closed.begins.0 closed.begins.1 (plan_in manager)
+          (subst (Holds AllWellFormed) (c.plan.ensures ∙ closed.plan) c.is_well_formed.ensures)
+          c.drive_in_threads-seats.result.0.items closed.legal
+          (λ k d low. (driven.served k d low).told) closed.accounts
+          (order_has_all (length (plan_in manager).participants) c.drive_in_threads-seats.result.0.items
+          (driven.order ∙ c.requires.order));
+    }
+
+pub returns-clause-handed : goal.returns-clause-handed
+returns-clause-handed g c =
+    let manager = c.args.opened.manager in
+    let driven = c.drive_in_threads-seats.ensures in
+    let closed = c.close_done-machine.ensures in
+    let begun = g.M.Machine.journal_of (handed_in manager) in
+    let new = g.M.Machine.journal_of c.close_done-machine.result.machine in
+    let was_handed = g.G.HandlerGate.was_handed c.args.gate.now in
+    record {
+      more = closed.begins.0;
+      goes_on = closed.begins.1;
+      each =
+          all_known (IsHanded was_handed) begun new closed.begins.0 closed.begins.1 (plan_in manager)
+          (subst (Holds AllWellFormed) (c.plan.ensures ∙ closed.plan) c.is_well_formed.ensures)
+          c.drive_in_threads-seats.result.0.items closed.legal
+          (λ k d low. (driven.served k d low).handed) closed.accounts
+          (order_has_all (length (plan_in manager).participants) c.drive_in_threads-seats.result.0.items
+          (driven.order ∙ c.requires.order));
+    }

@@ -1,5 +1,6 @@
 use Rattle.std.proofs.Common.{refl, inr}
 use Rattle.action_manager.specs.Seats.{participant_of, seen_by}
+use Rattle.role_driver.specs.Handling.{IsHandedOf}
 use Rattle.role_driver.specs.Working.{IsToldOf}
 use Rattle.role_driver.proofs.HandedBack.{driven_back}
 use Rattle.role_driver.proofs.Told.{goes_nowhere}
@@ -12,6 +13,11 @@ pub returns-then-is_raised-clause-told : goal.returns-then-is_raised-clause-told
 returns-then-is_raised-clause-told g c =
     let seen = seen_by c.args.seat in
     goes_nowhere (IsToldOf (g.G.Gate.was_told c.args.gate.now) (participant_of c.args.seat)) seen seen refl
+
+pub returns-then-is_raised-clause-handed : goal.returns-then-is_raised-clause-handed
+returns-then-is_raised-clause-handed g c =
+    let seen = seen_by c.args.seat in
+    goes_nowhere (IsHandedOf (g.G.HandlerGate.was_handed c.args.gate.now) (participant_of c.args.seat)) seen seen refl
 
 pub returns-else-is_raised-clause-back : goal.returns-else-is_raised-clause-back
 returns-else-is_raised-clause-back g c =

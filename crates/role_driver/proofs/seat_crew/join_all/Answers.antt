@@ -1,7 +1,7 @@
 use Rattle.std.proofs.Common.{◌∙◌, ap, arith, length}
-use Rattle.action_manager.specs.Managers.{IsSeatIn}
 use Rattle.action_manager.specs.Seats.{participant_of}
 use Rattle.action_manager.proofs.Gathered.{all_more}
+use Rattle.role_driver.specs.SeatsDriven.{IsDone, IsServed}
 use Rattle.role_driver.specs.inner.Crew.{IsMember, who_of}
 use Rattle.role_driver.proofs.Complete.{moved_on, all_first}
 use Rattle.role_driver.proofs.seat_crew.join_all.Goals as goal
@@ -16,7 +16,9 @@ join_one-requires g c =
     let manager = c.args.manager.now in let base_of = g.M.Machine.base_of in
     record {
       member =
-          (all_first (λ r. IsMember base_of manager (λ h. h.promise.seat.value) r) c.in-Some.member c.next.new.self.rest.items
+          (all_first (λ r. IsMember base_of g.M.Machine.journal_of g.G.Gate.was_told g.G.HandlerGate.was_handed
+          manager c.args.gate.now (λ h. (h.promise.seat.value, h.promise.gate.value)) r)
+          c.in-Some.member c.next.new.self.rest.items
           c.loop-member.member-iterator.rest.items c.in-Some.ensures.steps.0 c.loop-member.invariant.crew).0;
     }
 
@@ -28,11 +30,15 @@ loop-member-preserved g c =
     let pushed = c.push_reserved.ensures in
     record {
       room = omega (arith, inv.room, one, pushed.len, pushed.capacity);
-      crew = (all_first (λ r. IsMember base_of manager (λ h. h.promise.seat.value) r) c.in-Some.member
+      crew = (all_first (λ r. IsMember base_of g.M.Machine.journal_of g.G.Gate.was_told g.G.HandlerGate.was_handed
+          manager c.args.gate.now (λ h. (h.promise.seat.value, h.promise.gate.value)) r) c.in-Some.member
           c.next.new.self.rest.items c.loop-member.member-iterator.rest.items took inv.crew).1;
-      opened = all_more (IsSeatIn base_of manager) c.loop-member.seats.items c.join_one.result c.push_reserved.new.self.items
-          pushed.items inv.opened c.join_one.ensures.opened;
-      order = moved_on (λ r. who_of (λ h. h.promise.participant) r) participant_of c.loop-member.member-iterator.rest.items
+      done = all_more (IsDone base_of manager) c.loop-member.seats.items c.join_one.result c.push_reserved.new.self.items
+          pushed.items inv.done c.join_one.ensures.done;
+      served = all_more (IsServed base_of g.M.Machine.journal_of g.G.Gate.was_told g.G.HandlerGate.was_handed
+          manager c.args.gate.now) c.loop-member.seats.items
+          c.join_one.result c.push_reserved.new.self.items pushed.items inv.served c.join_one.ensures.served;
+      order = moved_on (λ r. who_of (λ h. h.promise.seat.value) r) participant_of c.loop-member.member-iterator.rest.items
           c.next.new.self.rest.items c.loop-member.seats.items c.push_reserved.new.self.items c.in-Some.member c.join_one.result
           pushed.items took c.join_one.ensures.same ∙ inv.order;
     }

@@ -1,4 +1,4 @@
-use Rattle.std.proofs.Common.{◌≡◌, ◌<◌, ◌≤◌, ◌-◌, ◌^◌, length}
+use Rattle.std.proofs.Common.{◌≡◌, ◌<◌, ◌≤◌, ◌-◌, ◌^◌, suc, length}
 use Rattle.caa_base.specs.Written.Mixing.{state_after, turn_number}
 use Rattle.place_plan.specs.Plans.Bound.{bound}
 use Rattle.role_driver.specs.Schedule.{GrewBy}
@@ -13,7 +13,7 @@ invariant-loop-state g l = record {
   small : l.state < 2 ^ 31;
   sleep : AllSleep (g.M.Machine.plan_of l.machine) (g.M.Machine.journal_of l.machine) l.asleep;
   scheduled : (s : GrewBy (turn_number l.seed) (g.M.Machine.plan_of l.fn.machine) (g.M.Machine.journal_of l.fn.machine)
-      (g.M.Machine.journal_of l.machine)) × (l.state ≡ state_after l.seed (length s.added));
+      (g.M.Machine.journal_of l.machine)) × (l.state ≡ state_after l.seed (suc (length s.added)));
 }
 
 abbrev pub decreases-loop-state : goal.decreases-loop-state

@@ -1,11 +1,14 @@
 use Rattle.std.proofs.Common.{◌≡◌, ◌∙◌, ℕ, true, false, arith, reverse, subst, sym}
 use Rattle.cover_table.specs.Cover.{has_bit}
-use Rattle.place_plan.specs.RulesOfJournals.Journals.{HasNoEntry}
+use Rattle.std.proofs.lemmas.Bool.{both_ways}
+use Rattle.place_plan.specs.RulesOfJournals.Journals.{HasNoEntry, IsComplete}
 use Rattle.journal_laws.specs.Laws.{Holds, GoesOn, SleepsOn, wakes}
 use Rattle.role_driver.specs.Schedule.{Acts}
+use Rattle.role_driver.specs.Working.{IsTold}
 use Rattle.role_driver.specs.inner.Sleeping.{AllSleep}
 use Rattle.role_driver.proofs.GoingRound.{round_silent, asked_by, silent_more}
 use Rattle.role_driver.proofs.SleepOn.{one_more_sleeps, unwoken_sleep}
+use Rattle.role_driver.proofs.Told.{goes_nowhere}
 use Rattle.role_driver.proofs.turn.take_turn.Goals as goal
 
 pub loop-others-preserved-then-is_in : goal.loop-others-preserved-then-is_in
@@ -14,8 +17,9 @@ loop-others-preserved-then-is_in g c =
     let plan = g.M.Machine.plan_of c.args.machine.now in
     let past = reverse (g.M.Machine.journal_of c.args.machine.now) in
     let by = c.participant_asked-by.result in
-    let asked = asked_by plan c.participants-participants.result c.args.first c.loop-others.others by kept.known
-    c.participant_asked-by.ensures.value in
+    let asked =
+    asked_by plan c.participants-participants.result c.args.first c.first_asked-start.result c.loop-others.others by kept.known
+    c.loop-others-test.true c.first_asked-start.ensures.value c.participant_asked-by.ensures.value in
     let silent = kept.sleep by (sym c.is_in.ensures ∙ c.if-is_in.true) in
     record {
       plan = kept.plan;
@@ -33,8 +37,9 @@ loop-others-preserved g c =
     let plan = g.M.Machine.plan_of c.args.machine.now in
     let old = g.M.Machine.journal_of c.args.machine.now in
     let by = c.participant_asked-by.result in
-    let asked = asked_by plan c.participants-participants.result c.args.first c.loop-others.others by kept.known
-    c.participant_asked-by.ensures.value in
+    let asked =
+    asked_by plan c.participants-participants.result c.args.first c.first_asked-start.result c.loop-others.others by kept.known
+    c.loop-others-test.true c.first_asked-start.ensures.value c.participant_asked-by.ensures.value in
     let is = c.in-None.ensures in
     let silent : HasNoEntry plan (reverse old) by =
     subst (λ j. HasNoEntry plan (reverse j) by) kept.journal
@@ -50,13 +55,14 @@ loop-others-preserved g c =
     }
 
 pub returns-in-Some-clause-turn : goal.returns-in-Some-clause-turn
-returns-in-Some-clause-turn g c =
+returns-in-Some-clause-turn g c = λ yes.
     let kept = c.loop-others.invariant in
     let plan = g.M.Machine.plan_of c.args.machine.now in
     let new = g.M.Machine.journal_of c.act.new.machine in
     let by = c.participant_asked-by.result in
-    let asked = asked_by plan c.participants-participants.result c.args.first c.loop-others.others by kept.known
-    c.participant_asked-by.ensures.value in
+    let asked =
+    asked_by plan c.participants-participants.result c.args.first c.first_asked-start.result c.loop-others.others by kept.known
+    c.loop-others-test.true c.first_asked-start.ensures.value c.participant_asked-by.ensures.value in
     let acts = subst (λ j. Acts plan j new by c.in-Some.entry) kept.journal
     (subst (λ p. Acts p (g.M.Machine.journal_of c.loop-others.machine) new by c.in-Some.entry) kept.plan c.in-Some.ensures.acts) in
     record {
@@ -86,10 +92,36 @@ returns-in-Some-clause-sleep g c =
     subst (λ p. AllSleep p new left) (sym same)
     (unwoken_sleep plan old new by c.in-Some.entry crew left law (g.met.M.Machine.legal c.args.machine.now) acts awake kept.sleep leaves)
 
+pub returns-then-complete-clause-done : goal.returns-then-complete-clause-done
+returns-then-complete-clause-done g c = λ no.
+    let kept = c.loop-others.invariant in
+    let plan = g.M.Machine.plan_of c.args.machine.now in (
+      subst (λ j. IsComplete plan j) kept.journal
+          (subst (λ p. IsComplete p (g.M.Machine.journal_of c.loop-others.machine)) kept.plan (c.complete.ensures.0 c.if-complete.true)),
+      kept.journal,
+    )
+
+pub returns-then-complete-clause-sleep : goal.returns-then-complete-clause-sleep
+returns-then-complete-clause-sleep g c =
+    let kept = c.loop-others.invariant in
+    subst (λ j. AllSleep (g.M.Machine.plan_of c.loop-others.machine) j c.loop-others.asleep) (sym kept.journal)
+    (subst (λ p. AllSleep p (g.M.Machine.journal_of c.args.machine.now) c.loop-others.asleep) (sym kept.plan) kept.sleep)
+
+pub returns-then-complete-clause-told : goal.returns-then-complete-clause-told
+returns-then-complete-clause-told g c =
+    goes_nowhere (IsTold (g.G.Gate.was_told c.args.gate.now)) (g.M.Machine.journal_of c.args.machine.now)
+    (g.M.Machine.journal_of c.loop-others.machine) c.loop-others.invariant.journal
+
+-- where nobody has an entry, the plays are over
 pub unreachable-requires : goal.unreachable-requires
 unreachable-requires g c =
     let kept = c.loop-others.invariant in
     let plan = g.M.Machine.plan_of c.args.machine.now in
-    let past = reverse (g.M.Machine.journal_of c.args.machine.now) in
-    let goes_on = subst (Holds GoesOn) c.plan.ensures c.goes_on.ensures past (g.met.M.Machine.legal c.args.machine.now) in
-    round_silent plan past c.args.first (λ i l. kept.before i (omega (arith, kept.known))) (goes_on c.requires.unfinished)
+    let old = g.M.Machine.journal_of c.args.machine.now in
+    let goes_on = subst (Holds GoesOn) c.plan.ensures c.goes_on.ensures (reverse old) (g.met.M.Machine.legal c.args.machine.now) in
+    let unfinished : IsComplete plan old → ⊥ =
+    λ done. both_ways _ c.if-complete.false
+    (c.complete.ensures.1
+    (subst (λ p. IsComplete p (g.M.Machine.journal_of c.loop-others.machine)) (sym kept.plan)
+    (subst (λ j. IsComplete plan j) (sym kept.journal) done))) in
+    round_silent plan (reverse old) c.args.first (λ i l. kept.before i (omega (arith, kept.known))) (goes_on unfinished)
