@@ -12,7 +12,7 @@ pub const FRONT: &[u8] = b"<!doctype html>
 *{box-sizing:border-box}
 body{margin:0;height:100vh;display:grid;grid-template:auto 1fr/26ch minmax(40ch,1fr) 46ch;font:12px/1.5 monospace;background:var(--paper);color:var(--ink)}
 header{grid-column:1/-1;display:flex;flex-wrap:wrap;gap:4px 12px;align-items:center;padding:4px 8px;border-bottom:1px solid var(--rule)}
-header b{font-size:14px}#step{flex:1 1 16ch}#told{min-width:34ch}.bad,#state .waits{color:var(--bad)}#status.bad{font-weight:bold}
+header b{font-size:14px}#step{flex:1 1 16ch}#told{min-width:34ch}.bad,#state .waits{color:var(--bad)}#state .waits{cursor:pointer;text-decoration:underline dotted}.later{opacity:.6}#status.bad{font-weight:bold}
 button,select,input{font:inherit}
 main,aside{overflow:auto;border-right:1px solid var(--rule);position:relative}
 .all{position:relative}.row{position:absolute;left:0;height:20px;line-height:20px;white-space:pre;cursor:pointer;min-width:100%}
@@ -40,11 +40,19 @@ svg{display:block;max-width:none}svg text{fill:currentColor;font:12px monospace;
 <header><b id='file'></b><span id='status'></span><input id='step' type='range' min='0' value='0' aria-label='entries taken in'><span id='told' role='status' aria-live='polite'></span><label>participant <select id='whom'><option value=''>all</option></select></label><label>place <select id='where'><option value=''>all</option></select></label><label>kind <select id='what'><option value=''>all</option></select></label></header>
 <main id='script' aria-label='script'><div class='all'></div></main>
 <main id='journal' aria-label='journal'><div id='heads'></div><div class='all'></div></main>
-<aside><div id='after'><h2>Who may do what</h2><table id='state'></table><h2>Objects</h2><table id='objects'></table></div><pre id='why'></pre><details><summary>Who handles what</summary><pre id='table'></pre></details><details open><summary>Graphs</summary><div id='graphs'></div></details><details><summary>Keys</summary><pre>arrows       a step on or back
+<aside><div id='after'><h2>Who may do what</h2><table id='state'></table><h2>Objects</h2><table id='objects'></table></div><pre id='why'></pre><details><summary>Who handles what</summary><pre id='table'></pre></details><details open><summary>Signs and keys</summary><pre>blue         is in its body
+orange       is in a handler
+hatched      waits
+thin         is in a place, and may go on
+pale         comes later
+red words    for what somebody waits: a click
+             leads to the entry that ends it
+-            folds what is done in a place
+arrows       a step on or back
 shift+arrows the same participant's next entry
 r            the next raise
 f            the next refused restore
-Home, End    the first, the last</pre></details></aside>
+Home, End    the first, the last</pre></details><details open><summary>Graphs</summary><div id='graphs'></div></details></aside>
 <script type='application/json' id='data'>
 [";
 
@@ -72,7 +80,7 @@ const list = (box, count, draw) => { const all = box.querySelector('.all'); let 
   const show = () => { const n = count(), high = Math.min(n * ROW, MOST), seen = Math.ceil(box.clientHeight / ROW) + 2; all.style.height = high + 'px';
     const share = high < n * ROW ? box.scrollTop / Math.max(1, high - box.clientHeight) * (n - seen + 3) : box.scrollTop / ROW, first = Math.max(0, Math.min(Math.floor(share), n - 1)); spare = first;
     all.replaceChildren(); for (let k = first; k < Math.min(n, first + seen); k++) { const row = draw(k, k == first); row.classList.add('row'); row.style.top = (high < n * ROW ? box.scrollTop + (k - first) * ROW : k * ROW) + 'px'; all.append(row); } };
-  const reach = k => { const n = count(), high = Math.min(n * ROW, MOST), seen = Math.floor(box.clientHeight / ROW) - 3; if (k < spare || k >= spare + seen) box.scrollTop = (high < n * ROW ? k / n * high : k * ROW) - box.clientHeight / 2; show(); };
+  const reach = k => { const n = count(), high = Math.min(n * ROW, MOST), seen = Math.floor(box.clientHeight / ROW) - 3; all.style.height = high + 'px'; if (k < spare || k >= spare + seen) box.scrollTop = (high < n * ROW ? k / n * high : k * ROW) - box.clientHeight / 2; show(); };
   box.addEventListener('scroll', show); window.addEventListener('resize', show); return { show, reach }; };
 let now = 0, state = at(0), before = state, rows = null; const folded = new Set();
 const size = () => rows ? rows.length : ENTRIES.length, entry = r => rows ? rows[r] : r, row_of = k => rows ? rows.findLastIndex(it => it <= k) : k;
@@ -90,17 +98,19 @@ let drawn = null;
 const lane = (p, k, w) => { const c = drawn.who[p], e = make('span', 'lane'); e.style.width = wide(p); rounds(c[1]).forEach((n, d) => { const b = make('span', 'place', '', 'place ' + place(n)); b.style.left = 1 + 3 * (rounds(c[1]).length - 1 - d) + 'px'; b.style.right = b.style.left; e.append(b); });
   if (c[1]) e.append(make('span', 'does ' + (c[3] > 2 ? 'waits' : c[2] && sections[c[2] - 1] || 'may'), '', standing(c)[0]));
   if (WHO[p] == w[2]) { const last = w[0] == 'end' ? w[3] : w[0] == 'restore' ? w[5] : ''; e.append(make('span', `sign ${w[0]} ${last}`, last == 'failed' ? '\\u2717' : last == 'undone' ? 'U' : last == 'aborted' ? 'A' : SIGNS[w[0]], w.join(' ')), make('span', '', w[0] == 'arrive' || w[0] == 'start' ? `${w[0]} ${place(+w[1] + 1)}` : w.toSpliced(1, 2).join(' '))); } return e; };
-const journal = list($('journal'), size, (r, first) => { const k = entry(r), w = words(k), row = make('div', k == now - 1 ? 'now' : ''); row.dataset.entry = k + 1; if (first || rows) drawn = at(k + 1); else take(drawn, k);
+const journal = list($('journal'), size, (r, first) => { const k = entry(r), w = words(k), row = make('div', k == now - 1 ? 'now' : k >= now ? 'later' : ''); row.dataset.entry = k + 1; if (first || rows) drawn = at(k + 1); else take(drawn, k);
   row.append(make('span', 'no', String(k + 1))); const n = +w[1] + 1; if (w[0] == 'start' || folded.has(n)) { const b = make('span', 'fold', folded.has(n) ? '+' : '-', (folded.has(n) ? 'show' : 'fold') + ' what is done in place ' + place(n)); b.onclick = e => { e.stopPropagation(); folded.has(n) ? folded.delete(n) : folded.add(n); sift(); }; row.append(b); } else row.append(' ');
   WHO.forEach((_, p) => row.append(lane(p, k, w))); row.onclick = () => go(k + 1); return row; });
 // What is seen: of these participants, places and kinds, without what stands in folded places but their ends.
 const sift = () => { const [whom, where, what] = ['whom', 'where', 'what'].map(id => $(id).value); rows = null; if (whom || where || what || folded.size) { rows = []; ENTRIES.forEach((_, k) => { const w = words(k), all = rounds(+w[1] + 1);
   if ((!whom || w[2] == whom) && (!where || all.includes(+where)) && (!what || w[0] == what) && !all.some((n, d) => folded.has(n) && (d > 0 || w[0] != 'end'))) rows.push(k); }); } journal.reach(Math.max(0, row_of(Math.max(0, now - 1)))); };
 const find = (way, good) => { for (let k = now - 1 + way; k >= 0 && k < ENTRIES.length; k += way) if (good(k)) return go(k + 1); };
+const freed = p => { const s = at(now); for (let n = now; n < ENTRIES.length; n++) { take(s, n); if (s.who[p][3] < 3) return go(n + 1); } };
 const fill = (id, all) => $(id).replaceChildren(...all.map(([name, ...cells]) => { const tr = make('tr', name); cells.forEach(c => tr.append(Array.isArray(c) ? make('td', c[1] ? 'waits' : '', c[0]) : make('td', '', c))); return tr; }));
 const go = n => { now = Math.max(0, Math.min(ENTRIES.length, n)); state = at(now); before = at(Math.max(0, now - 1)); $('step').value = now; const w = now ? words(now - 1) : [];
   $('told').textContent = `after ${now} of ${ENTRIES.length} entries` + (now ? ': ' + w.join(' ') : ''); history.replaceState(null, '', '#' + now);
   fill('state', state.who.map((c, p) => [w[2] == WHO[p] ? 'by' : '', WHO[p], place(c[1]), c[2] ? 'line ' + c[2] : '', standing(c)]));
+  [...$('state').rows].forEach((tr, p) => { const td = tr.querySelector('.waits'); if (td) { td.title = 'go to the entry that lets it go on'; td.onclick = () => freed(p); } });
   fill('objects', OBJECTS.map((o, k) => [state.values[k] != before.values[k] ? 'changed' : '', o[0], state.values[k], state.values[k] != before.values[k] ? 'was ' + before.values[k] : '']));
   if (size()) journal.reach(Math.max(0, row_of(Math.max(0, now - 1)))); const here = state.who.find(c => c[2] && WHO[c[0]] == w[2]) || state.who.find(c => c[2]); if (here) script.reach(here[2] - 1); else script.show(); $('why').hidden = now < ENTRIES.length; };
 onkeydown = e => { const way = { ArrowRight: 1, ArrowDown: 1, ArrowLeft: -1, ArrowUp: -1 }[e.key], by = now ? words(now - 1)[2] : ''; if (e.ctrlKey || e.altKey || e.metaKey) return;
