@@ -6,6 +6,7 @@
 ghost use Rattle.std.specs.Prelude.{◌≡◌, All};
 ghost use Rattle.action_manager.specs.Managers.{IsSeatIn};
 ghost use Rattle.action_manager.specs.Seats.{participant_of, seen_by};
+ghost use Rattle.role_driver.specs.Handling.{TellsOwnHandlers};
 ghost use Rattle.role_driver.specs.Working.{TellsOwnWork};
 ghost use Rattle.worker_pool.specs.Hands.{number_of, opened_in};
 ghost use Rattle.worker_pool.specs.inner.Workers.{IsAtWork};
@@ -15,6 +16,7 @@ use crate::worker::Worker;
 use action_manager::{Manager, Seat};
 use caa_base::outside::gate::Gate;
 use place_plan::rules::machine::{Answer, Machine};
+use role_driver::HandlerGate;
 use role_driver::driving::turn_after;
 use std::sync::Wait;
 
@@ -27,7 +29,7 @@ pub enum Rest {
 }
 
 /// Takes turns for a seat until its participant has no entry for now, or is over. Its work is mixed outside the turns.
-fn step_while_due<M: Machine, G: Gate, R: Wait>(
+fn step_while_due<M: Machine, G: Gate + HandlerGate, R: Wait>(
     rt: &R,
     manager: &Manager<M>,
     seat: &mut Seat<M>,
@@ -37,6 +39,7 @@ fn step_while_due<M: Machine, G: Gate, R: Wait>(
     ensures opened { IsSeatIn M.base_of manager.now seat.new }
     ensures same { participant_of seat.new ≡ participant_of seat.old }
     ensures told { TellsOwnWork (G.was_told gate.now) (participant_of seat.old) (seen_by seat.old) (seen_by seat.new) }
+    ensures handed { TellsOwnHandlers (G.was_handed gate.now) (participant_of seat.old) (seen_by seat.old) (seen_by seat.new) }
 {
     let mut answer = Answer::NotYet;
     for _ in rt.forever() {

@@ -1,6 +1,7 @@
 use Rattle.std.proofs.Common.{◌≡◌}
 use Rattle.action_manager.specs.Managers.{plan_in, IsSeatIn}
 use Rattle.action_manager.specs.Seats.{participant_of, seen_by}
+use Rattle.role_driver.specs.Handling.{TellsOwnHandlers}
 use Rattle.role_driver.specs.Working.{AsksStill, TellsOwnWork}
 use Rattle.worker_pool.proofs.working.step_while_due.Given as goal
 
@@ -10,4 +11,5 @@ invariant-loop g l = record {
   same : participant_of l.seat ≡ participant_of l.initial.seat;
   asks : AsksStill (plan_in l.manager) (seen_by l.seat) (participant_of l.seat) l.answer;
   told : TellsOwnWork (g.G.Gate.was_told l.gate) (participant_of l.initial.seat) (seen_by l.initial.seat) (seen_by l.seat);
+  handed : TellsOwnHandlers (g.G.HandlerGate.was_handed l.gate) (participant_of l.initial.seat) (seen_by l.initial.seat) (seen_by l.seat);
 }
