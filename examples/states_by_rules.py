@@ -180,7 +180,10 @@ def is_cut_shown(program, script, part):
     """Whether each view shows a journal that was cut off."""
     if shown(program, "explain", script + part)[1].count("breaks off") != 1:
         return False
-    return all(shown(program, view, script + part)[0] == 0 for view in ("story", "chart", "where"))
+    status, page = shown(program, "page", script + part)
+    if status != 7 or not page.startswith("<!doctype html>") or "breaks off" not in page:
+        return False
+    return all(shown(program, view, script + part)[0] == 0 for view in ("story", "chart", "where", "trace"))
 
 
 def main():
