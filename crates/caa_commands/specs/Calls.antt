@@ -36,14 +36,6 @@ use Rattle.caa_commands.specs.FailedPlays.{IsPlayed, has_failed_play}
 use Rattle.caa_commands.specs.Scripts.{IsThePlan, IsOnlyPlan, IsRefusedScript, IsRefusedLine}
 use Rattle.caa_commands.specs.OutsideUse.{SourceUse, SinkUse, Left, Call, IsIdle, IsUnplayed}
 
--- a command that is served over the plan of a script that is read; `check` only tells how large that is, `graph` needs none, and
--- `cell` reads none
-abbrev pub NeedsPlan : Command → Type 0
-NeedsPlan command.Check = ⊥
-NeedsPlan (command.Graph most) = ⊥
-NeedsPlan (command.Cell cycles) = ⊥
-NeedsPlan _ = Unit {0}
-
 -- ---- what each command comes to over a plan
 
 -- `check` tells how large the plan is, and does nothing else

@@ -1,5 +1,6 @@
-ghost use Rattle.std.specs.Prelude.{◌≡◌, map, string_bytes, IfSome};
-ghost use Rattle.caa_commands.specs.Commands.{command_of, number_alone, alone, asks_for_threads, without_threads, IsWithinRange};
+ghost use Rattle.std.specs.Prelude.{◌≡◌, true, Some, option_map, map, string_bytes, IfSome};
+ghost use Rattle.caa_commands.specs.Commands.{command_of, number_alone, alone, is_threaded, asks_for_threads, without_threads, IsWithinRange};
+ghost use Rattle.caa_commands.specs.inner.Parts.{quiet_command, threaded_command};
 
 use action_script::words::word::value_of;
 use cell_workload::MOST_CYCLES;
@@ -32,6 +33,76 @@ pub enum Command {
     Pool(u32),
     /// Plays the script of a production cell for so many cycles, from 1 to 2,000.
     Cell(u32),
+}
+
+/// A command that needs no threads.
+#[derive(Clone, Copy)]
+pub enum Quiet {
+    /// `cell`, which reads no input.
+    Cell(u32),
+    OverInput(OverInput),
+}
+
+/// A command over an input that needs no threads.
+#[derive(Clone, Copy)]
+pub enum OverInput {
+    Check,
+    Graph(u32),
+    OverPlan(OverPlan),
+}
+
+/// A command over the plan of the script in its input that needs no threads.
+#[derive(Clone, Copy)]
+pub enum OverPlan {
+    Sim(u32),
+    Audit,
+    Messages(u32),
+}
+
+/// A command over the plan of the script that is its input, which is played in threads and may wait.
+#[derive(Clone, Copy)]
+pub enum Threaded {
+    Run,
+    Pool(u32),
+}
+
+impl Command {
+    /// The command as one that needs no threads.
+    fn quiet(self) -> Option<Quiet>
+        requires { IsWithinRange self }
+        ensures command { option_map quiet_command result ≡ without_threads (Some self) }
+        ensures range { IfSome result (λ c. IsWithinRange (quiet_command c)) }
+    {
+        match self {
+            Command::Check => Some(Quiet::OverInput(OverInput::Check)),
+            Command::Sim(seed) => Some(Quiet::OverInput(OverInput::OverPlan(OverPlan::Sim(seed)))),
+            Command::Audit => Some(Quiet::OverInput(OverInput::OverPlan(OverPlan::Audit))),
+            Command::Graph(most) => Some(Quiet::OverInput(OverInput::Graph(most))),
+            Command::Messages(seed) => {
+                Some(Quiet::OverInput(OverInput::OverPlan(OverPlan::Messages(seed))))
+            }
+            Command::Cell(cycles) => Some(Quiet::Cell(cycles)),
+            Command::Run | Command::Pool(_) => None,
+        }
+    }
+
+    /// The command as one that needs threads.
+    fn threaded(self) -> Option<Threaded>
+        requires { IsWithinRange self }
+        ensures command { is_threaded self ≡ true → option_map threaded_command result ≡ Some self }
+        ensures range { IfSome result (λ c. IsWithinRange (threaded_command c)) }
+    {
+        match self {
+            Command::Run => Some(Threaded::Run),
+            Command::Pool(workers) => Some(Threaded::Pool(workers)),
+            Command::Check
+            | Command::Sim(_)
+            | Command::Audit
+            | Command::Graph(_)
+            | Command::Messages(_)
+            | Command::Cell(_) => None,
+        }
+    }
 }
 
 /// Just a number from the least to the greatest, in decimal digits without a sign and without leading zeros.
@@ -93,13 +164,18 @@ pub fn asks_for_threads(words: &[String]) -> bool
 }
 
 /// The command of these words, where it is one that needs no threads.
-pub fn quiet_command_of(words: &[String]) -> Option<Command>
-    ensures command { result ≡ without_threads (command_of (map string_bytes words.now)) }
-    ensures quiet { without_threads result ≡ result }
-    ensures range { IfSome result IsWithinRange }
+pub fn quiet_command_of(words: &[String]) -> Option<Quiet>
+    ensures command { option_map quiet_command result ≡ without_threads (command_of (map string_bytes words.now)) }
+    ensures range { IfSome result (λ c. IsWithinRange (quiet_command c)) }
 {
-    match command_of(words) {
-        Some(Command::Run | Command::Pool(_)) => None,
-        asked => asked,
-    }
+    command_of(words)?.quiet()
+}
+
+/// The command of these words, where it is one that needs threads.
+pub fn threaded_command_of(words: &[String]) -> Option<Threaded>
+    ensures command { asks_for_threads (command_of (map string_bytes words.now)) ≡ true →
+        option_map threaded_command result ≡ command_of (map string_bytes words.now) }
+    ensures range { IfSome result (λ c. IsWithinRange (threaded_command c)) }
+{
+    command_of(words)?.threaded()
 }

@@ -1,21 +1,22 @@
 //! What the commands that play come to over the input, where the journal is written as they play.
 
-ghost use Rattle.std.specs.Prelude.{◌≡◌, ◌<◌, ◌≤◌, ◌^◌, Some, true, false, IfSome};
+ghost use Rattle.std.specs.Prelude.{◌≡◌, ◌<◌, ◌≤◌, ◌^◌, Some, false, option_map, IfSome};
 ghost use Rattle.entry_log.specs.Logs.{IsFresh};
 ghost use Rattle.caa_commands.specs.declared.command.Command.{Command};
-ghost use Rattle.caa_commands.specs.Commands.{asks_for_input, is_threaded, most_seed, without_threads, IsWithinRange};
+ghost use Rattle.caa_commands.specs.Commands.{asks_for_input, most_seed, IsWithinRange};
+ghost use Rattle.caa_commands.specs.inner.Parts.{quiet_command, threaded_command};
 ghost use Rattle.caa_commands.specs.OutsideUse.{source_use, plant_use, left_of, call_of, IsIdle};
 ghost use Rattle.caa_commands.specs.Calls.{InputComesTo, CameTo};
 ghost use Rattle.caa_commands.specs.declared.logging.LogUse.{LogUse};
 ghost use Rattle.caa_commands.specs.Logging.{WasUsed, ScriptInLog, PlayedInLog};
 
-use crate::command::Command;
+use crate::command::{OverInput, OverPlan, Quiet, Threaded};
 use crate::finding::Finding;
 use crate::logged_playing::{pool_logged, run_logged, simulate_logged};
 use crate::logging::{LogUse, LoggedDecision};
 use crate::playing::Decision;
 use crate::scripts::{NoPlan, plan_of};
-use crate::serving::{decide, most_bytes, unread};
+use crate::serving::{decide, unread};
 use caa_base::outside::gate::Gate;
 use caa_base::outside::plant::Plant;
 use caa_base::outside::reading::read_all;
@@ -102,35 +103,36 @@ fn decide_sim<S: Source, P: Plant, K: Sink + Drop, W: Watch + Drop>(
     }
 }
 
-/// What a command comes to over a source and a device, where `sim` writes to a log. It is none that needs threads.
+/// What a command comes to over a source and a device, where `sim` writes to a log.
 pub fn decide_logged<S: Source, P: Plant, K: Sink + Drop, W: Watch + Drop>(
     alloc: Global,
-    asked: Option<Command>,
+    asked: Option<Quiet>,
     source: &mut S,
     plant: P,
     sink: K,
     watcher: W,
 ) -> LoggedDecision<P, K>
-    requires range { IfSome asked IsWithinRange }
-    requires quiet { without_threads asked ≡ asked }
+    requires range { IfSome asked (λ c. IsWithinRange (quiet_command c)) }
     requires fresh { IsFresh ⟦<K as Sink>⟧ sink }
     ensures came { CameTo
-        (call_of asked
+        (call_of (option_map quiet_command asked)
         (source_use ⟦<S as Source>⟧ source.old source.new)
         (left_of (plant_use ⟦<P as Plant>⟧ plant result.decision.plant) result.decision.journal.entries))
         result.decision.finding }
     ensures logged { WasUsed ⟦<K as Sink>⟧ sink
         (PlayedInLog ⟦<K as Sink>⟧
-        (call_of asked
+        (call_of (option_map quiet_command asked)
         (source_use ⟦<S as Source>⟧ source.old source.new)
         (left_of (plant_use ⟦<P as Plant>⟧ plant result.decision.plant) result.decision.journal.entries))
         result.decision.finding)
         result.decision.finding result.decision.journal.entries result.log }
-    ensures untouched { asks_for_input asked ≡ false → source.new ≡ source.old }
+    ensures untouched { asks_for_input (option_map quiet_command asked) ≡ false → source.new ≡ source.old }
     ensures count { S.faults source.old ≤ S.faults source.new }
 {
     match asked {
-        Some(Command::Sim(seed)) => decide_sim(alloc, seed, source, plant, sink, watcher),
+        Some(Quiet::OverInput(OverInput::OverPlan(OverPlan::Sim(seed)))) => {
+            decide_sim(alloc, seed, source, plant, sink, watcher)
+        }
         asked => LoggedDecision {
             decision: decide(alloc, asked, source, plant),
             log: LogUse::Untouched(sink),
@@ -148,39 +150,38 @@ fn play_script<
 >(
     rt: &R,
     alloc: Global,
-    command: Command,
+    command: Threaded,
     bytes: &[u8],
     plant: P,
     sink: K,
     watcher: W,
     gate: &G,
 ) -> LoggedDecision<P, K>
-    requires range { IsWithinRange command }
-    requires threaded { is_threaded command ≡ true }
+    requires range { IsWithinRange (threaded_command command) }
     requires fresh { IsFresh ⟦<K as Sink>⟧ sink }
-    ensures comes { InputComesTo command bytes.now result.decision.finding
+    ensures comes { InputComesTo (threaded_command command) bytes.now result.decision.finding
         (left_of (plant_use ⟦<P as Plant>⟧ plant result.decision.plant) result.decision.journal.entries) }
     ensures logged { WasUsed ⟦<K as Sink>⟧ sink
-        (ScriptInLog ⟦<K as Sink>⟧ command bytes.now
+        (ScriptInLog ⟦<K as Sink>⟧ (threaded_command command) bytes.now
         (left_of (plant_use ⟦<P as Plant>⟧ plant result.decision.plant) result.decision.journal.entries)
         result.decision.finding)
         result.decision.finding result.decision.journal.entries result.log }
 {
     match plan_of(alloc, bytes) {
         Ok(plan) => match command {
-            Command::Run => run_logged(rt, alloc, plan, plant, sink, watcher, gate),
-            Command::Pool(workers) => {
+            Threaded::Run => run_logged(rt, alloc, plan, plant, sink, watcher, gate),
+            Threaded::Pool(workers) => {
                 pool_logged(rt, alloc, plan, workers, plant, sink, watcher, gate)
             }
-            _ => unreachable!(),
         },
         Err(NoPlan::Refused(refusal)) => unplayed(alloc, Finding::Refused(refusal), plant, sink),
         Err(NoPlan::OutOfMemory) => unplayed(alloc, Finding::OutOfMemory, plant, sink),
     }
 }
 
-/// What a command that needs threads comes to over a source and a device, where it writes to a log. It need not return.
-pub fn decide_logged_in_threads<
+/// What a command comes to that is played in threads, over a source and a device, where it writes to a log. It need not return.
+#[tactic(auto, using(crate::proofs::CommandParts::threaded_reads, crate::proofs::CommandParts::threaded_most))]
+fn play_read<
     S: Source,
     P: Plant + Send,
     K: Sink + Drop + Send,
@@ -190,31 +191,30 @@ pub fn decide_logged_in_threads<
 >(
     rt: &R,
     alloc: Global,
-    command: Command,
+    command: Threaded,
     source: &mut S,
     plant: P,
     sink: K,
     watcher: W,
     gate: &G,
 ) -> LoggedDecision<P, K>
-    requires range { IsWithinRange command }
-    requires threaded { is_threaded command ≡ true }
+    requires range { IsWithinRange (threaded_command command) }
     requires fresh { IsFresh ⟦<K as Sink>⟧ sink }
     ensures came { CameTo
-        (call_of (Some command)
+        (call_of (Some (threaded_command command))
         (source_use ⟦<S as Source>⟧ source.old source.new)
         (left_of (plant_use ⟦<P as Plant>⟧ plant result.decision.plant) result.decision.journal.entries))
         result.decision.finding }
     ensures logged { WasUsed ⟦<K as Sink>⟧ sink
         (PlayedInLog ⟦<K as Sink>⟧
-        (call_of (Some command)
+        (call_of (Some (threaded_command command))
         (source_use ⟦<S as Source>⟧ source.old source.new)
         (left_of (plant_use ⟦<P as Plant>⟧ plant result.decision.plant) result.decision.journal.entries))
         result.decision.finding)
         result.decision.finding result.decision.journal.entries result.log }
     ensures count { S.faults source.old ≤ S.faults source.new }
 {
-    match read_all(alloc, source, most_bytes(command)) {
+    match read_all(alloc, source, MOST_SCRIPT_BYTES) {
         Ok(bytes) => play_script(
             rt,
             alloc,
@@ -226,5 +226,45 @@ pub fn decide_logged_in_threads<
             gate,
         ),
         Err(error) => unplayed(alloc, unread(error), plant, sink),
+    }
+}
+
+/// The same of what was asked for, which may be no such command. It need not return.
+pub fn decide_logged_in_threads<
+    S: Source,
+    P: Plant + Send,
+    K: Sink + Drop + Send,
+    W: Watch + Drop + Send,
+    G: Gate + Sync,
+    R: Threads + Wait + Sync,
+>(
+    rt: &R,
+    alloc: Global,
+    asked: Option<Threaded>,
+    source: &mut S,
+    plant: P,
+    sink: K,
+    watcher: W,
+    gate: &G,
+) -> LoggedDecision<P, K>
+    requires range { IfSome asked (λ c. IsWithinRange (threaded_command c)) }
+    requires fresh { IsFresh ⟦<K as Sink>⟧ sink }
+    ensures came { CameTo
+        (call_of (option_map threaded_command asked)
+        (source_use ⟦<S as Source>⟧ source.old source.new)
+        (left_of (plant_use ⟦<P as Plant>⟧ plant result.decision.plant) result.decision.journal.entries))
+        result.decision.finding }
+    ensures logged { WasUsed ⟦<K as Sink>⟧ sink
+        (PlayedInLog ⟦<K as Sink>⟧
+        (call_of (option_map threaded_command asked)
+        (source_use ⟦<S as Source>⟧ source.old source.new)
+        (left_of (plant_use ⟦<P as Plant>⟧ plant result.decision.plant) result.decision.journal.entries))
+        result.decision.finding)
+        result.decision.finding result.decision.journal.entries result.log }
+    ensures count { S.faults source.old ≤ S.faults source.new }
+{
+    match asked {
+        None => unplayed(alloc, Finding::Usage, plant, sink),
+        Some(command) => play_read(rt, alloc, command, source, plant, sink, watcher, gate),
     }
 }

@@ -5,7 +5,7 @@ ghost use Rattle.caa_commands.specs.Served.{MissesNothing};
 ghost use Rattle.entry_log.specs.Logs.{IsFresh};
 ghost use Rattle.caa_commands.specs.Logging.{TellsAlike, ToldBy, LogAnswers};
 
-use crate::command::{command_of, quiet_command_of};
+use crate::command::{quiet_command_of, threaded_command_of};
 use crate::logged_serving::{decide_logged, decide_logged_in_threads};
 use crate::logging::{LogUse, LoggedDecision, end_log};
 use crate::status::{Ended, Status};
@@ -146,9 +146,7 @@ pub fn top_logged<
         result.status ∥₁ }
     ensures source_count { S.faults source.old ≤ S.faults source.new }
 {
-    let Some(command) = command_of(words) else {
-        unreachable!();
-    };
-    let decided = decide_logged_in_threads(rt, alloc, command, source, plant, sink, watcher, gate);
+    let asked = threaded_command_of(words);
+    let decided = decide_logged_in_threads(rt, alloc, asked, source, plant, sink, watcher, gate);
     tell_logged(alloc, decided)
 }

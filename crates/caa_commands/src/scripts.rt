@@ -56,10 +56,10 @@ fn spelling_of(cause: ScriptCause) -> Result<Fault, OutOfMemory>
 fn declare(names: &mut Vec<u32>, form: &Form) -> Result<(), AllocError>
     ensures { OnOk result (names.new.items ≡ declared_after form.now names.old.items) }
 {
-    match form {
-        Form::Graph(_) => names.clear(),
-        Form::Exception(name) => names.push(*name)?,
-        _ => {}
+    if let Form::Graph(_) = form {
+        names.clear();
+    } else if let Form::Exception(name) = form {
+        names.push(*name)?;
     }
     Ok(())
 }

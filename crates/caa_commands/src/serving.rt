@@ -1,17 +1,18 @@
 //! What the commands come to over the input, before anything is written.
 
-ghost use Rattle.std.specs.Prelude.{◌≡◌, ◌<◌, ◌≤◌, ◌^◌, Some, true, false, IfSome};
+ghost use Rattle.std.specs.Prelude.{◌≡◌, ◌<◌, ◌≤◌, ◌^◌, Some, true, false, option_map, IfSome};
 ghost use Rattle.caa_base.specs.Written.Limits.{most_audit_bytes};
 ghost use Rattle.journal_text.specs.Texts.Naming.{is_well_named};
 ghost use Rattle.message_plays.specs.Texts.{IsPlayedByMessages};
 ghost use Rattle.caa_commands.specs.declared.command.Command.{Command};
-ghost use Rattle.caa_commands.specs.Commands.{asks_for_input, is_threaded, reads_input, without_threads, IsWithinRange};
+ghost use Rattle.caa_commands.specs.Commands.{asks_for_input, IsWithinRange};
 ghost use Rattle.caa_commands.specs.OutsideUse.{source_use, plant_use, left_of, call_of};
-ghost use Rattle.caa_commands.specs.Calls.{AuditComesTo, NeedsPlan, Prints, PlanComesTo, InputComesTo, unread_finding, CameTo};
+ghost use Rattle.caa_commands.specs.Calls.{AuditComesTo, Prints, PlanComesTo, InputComesTo, unread_finding, CameTo};
 ghost use Rattle.caa_commands.specs.Inputs.{most_bytes, script_in};
+ghost use Rattle.caa_commands.specs.inner.Parts.{plan_command, input_command, quiet_command, threaded_command};
 
 use crate::cells::work;
-use crate::command::Command;
+use crate::command::{OverInput, OverPlan, Quiet, Threaded};
 use crate::fault::{Fault, Refusal};
 use crate::finding::Finding;
 use crate::graphs::graph_text;
@@ -101,53 +102,40 @@ fn agree<P: Plant>(alloc: Global, plan: &Plan, seed: u32, plant: P) -> Decision<
     Decision::idle(alloc, finding, plant)
 }
 
-/// Serves a command over a plan, and over all bytes that were read. It is none that needs threads, nor `check`, which only tells
-/// how large the plan is, nor `graph`, which needs none, nor `cell`, which reads no script.
+/// Serves a command over a plan, and over all bytes that were read.
 fn serve_plan<P: Plant>(
     alloc: Global,
-    command: Command,
+    command: OverPlan,
     plan: Plan,
     bytes: &[u8],
     plant: P,
 ) -> Decision<P>
-    requires range { IsWithinRange command }
-    requires quiet { without_threads (Some command) ≡ Some command }
-    requires other { NeedsPlan command }
+    requires range { IsWithinRange (plan_command command) }
     requires named { is_well_named plan ≡ true }
-    ensures { PlanComesTo command plan bytes.now result.finding
+    ensures { PlanComesTo (plan_command command) plan bytes.now result.finding
         (left_of (plant_use ⟦<P as Plant>⟧ plant result.plant) result.journal.entries) }
 {
     match command {
-        Command::Check | Command::Run | Command::Graph(_) | Command::Pool(_) | Command::Cell(_) =>
-            unreachable!(),
-        Command::Sim(seed) => simulate(alloc, plan, seed, plant),
-        Command::Audit => judge_after(alloc, &plan, bytes, plant),
-        Command::Messages(seed) => agree(alloc, &plan, seed, plant),
+        OverPlan::Sim(seed) => simulate(alloc, plan, seed, plant),
+        OverPlan::Audit => judge_after(alloc, &plan, bytes, plant),
+        OverPlan::Messages(seed) => agree(alloc, &plan, seed, plant),
     }
 }
 
 /// Which of the bytes that were read are the script.
-fn script_in(command: Command, bytes: &[u8]) -> &[u8]
-    ensures { result.now ≡ script_in command bytes.now }
+fn script_in(command: OverPlan, bytes: &[u8]) -> &[u8]
+    ensures { result.now ≡ script_in (plan_command command) bytes.now }
 {
     match command {
-        Command::Audit => &bytes[..find_journal(bytes).offset],
-        Command::Check
-        | Command::Sim(_)
-        | Command::Run
-        | Command::Graph(_)
-        | Command::Messages(_)
-        | Command::Pool(_)
-        | Command::Cell(_) => bytes,
+        OverPlan::Audit => &bytes[..find_journal(bytes).offset],
+        OverPlan::Sim(_) | OverPlan::Messages(_) => bytes,
     }
 }
 
-/// Serves a command that needs a plan, and no threads, over the bytes that were read.
-fn serve_script<P: Plant>(alloc: Global, command: Command, bytes: &[u8], plant: P) -> Decision<P>
-    requires range { IsWithinRange command }
-    requires quiet { without_threads (Some command) ≡ Some command }
-    requires other { NeedsPlan command }
-    ensures { InputComesTo command bytes.now result.finding
+/// Serves a command over the plan of the script among the bytes that were read.
+fn serve_script<P: Plant>(alloc: Global, command: OverPlan, bytes: &[u8], plant: P) -> Decision<P>
+    requires range { IsWithinRange (plan_command command) }
+    ensures { InputComesTo (plan_command command) bytes.now result.finding
         (left_of (plant_use ⟦<P as Plant>⟧ plant result.plant) result.journal.entries) }
 {
     match plan_of(alloc, script_in(command, bytes)) {
@@ -157,36 +145,29 @@ fn serve_script<P: Plant>(alloc: Global, command: Command, bytes: &[u8], plant: 
     }
 }
 
-/// Serves a command that reads its input, and needs no threads, over the bytes that were read.
-fn serve<P: Plant>(alloc: Global, command: Command, bytes: &[u8], plant: P) -> Decision<P>
-    requires range { IsWithinRange command }
-    requires quiet { without_threads (Some command) ≡ Some command }
-    requires reads { reads_input command ≡ true }
-    ensures { InputComesTo command bytes.now result.finding
+/// Serves a command over the bytes that were read.
+fn serve<P: Plant>(alloc: Global, command: OverInput, bytes: &[u8], plant: P) -> Decision<P>
+    requires range { IsWithinRange (input_command command) }
+    ensures { InputComesTo (input_command command) bytes.now result.finding
         (left_of (plant_use ⟦<P as Plant>⟧ plant result.plant) result.journal.entries) }
 {
     match command {
-        Command::Check => check(alloc, bytes, plant),
-        Command::Graph(most) => make_graph(alloc, bytes, most, plant),
-        Command::Cell(_) => unreachable!(),
-        _ => serve_script(alloc, command, bytes, plant),
+        OverInput::Check => check(alloc, bytes, plant),
+        OverInput::Graph(most) => make_graph(alloc, bytes, most, plant),
+        OverInput::OverPlan(command) => serve_script(alloc, command, bytes, plant),
     }
 }
 
 /// How many bytes the input of a command may have.
-pub fn most_bytes(command: Command) -> u64
-    ensures value { result ≡ most_bytes command }
+fn most_bytes(command: OverInput) -> u64
+    ensures value { result ≡ most_bytes (input_command command) }
     ensures small { result ≤ most_audit_bytes }
 {
     match command {
-        Command::Audit => MOST_AUDIT_BYTES,
-        Command::Check
-        | Command::Sim(_)
-        | Command::Run
-        | Command::Graph(_)
-        | Command::Messages(_)
-        | Command::Pool(_)
-        | Command::Cell(_) => MOST_SCRIPT_BYTES,
+        OverInput::OverPlan(OverPlan::Audit) => MOST_AUDIT_BYTES,
+        OverInput::Check
+        | OverInput::Graph(_)
+        | OverInput::OverPlan(OverPlan::Sim(_) | OverPlan::Messages(_)) => MOST_SCRIPT_BYTES,
     }
 }
 
@@ -204,27 +185,27 @@ pub fn unread(error: ReadError) -> Finding
     }
 }
 
-/// What a command comes to over a source and a device. It is none that needs threads.
+/// What a command comes to over a source and a device.
+#[tactic(auto, using(crate::proofs::CommandParts::input_reads))]
 pub fn decide<S: Source, P: Plant>(
     alloc: Global,
-    asked: Option<Command>,
+    asked: Option<Quiet>,
     source: &mut S,
     plant: P,
 ) -> Decision<P>
-    requires range { IfSome asked IsWithinRange }
-    requires quiet { without_threads asked ≡ asked }
+    requires range { IfSome asked (λ c. IsWithinRange (quiet_command c)) }
     ensures came { CameTo
-        (call_of asked
+        (call_of (option_map quiet_command asked)
         (source_use ⟦<S as Source>⟧ source.old source.new)
         (left_of (plant_use ⟦<P as Plant>⟧ plant result.plant) result.journal.entries))
         result.finding }
-    ensures untouched { asks_for_input asked ≡ false → source.new ≡ source.old }
+    ensures untouched { asks_for_input (option_map quiet_command asked) ≡ false → source.new ≡ source.old }
     ensures count { S.faults source.old ≤ S.faults source.new }
 {
     let command = match asked {
         None => return Decision::idle(alloc, Finding::Usage, plant),
-        Some(Command::Cell(cycles)) => return work(alloc, cycles, plant),
-        Some(command) => command,
+        Some(Quiet::Cell(cycles)) => return work(alloc, cycles, plant),
+        Some(Quiet::OverInput(command)) => command,
     };
     match read_all(alloc, source, most_bytes(command)) {
         Ok(bytes) => serve(alloc, command, bytes.as_slice(), plant),
@@ -232,51 +213,72 @@ pub fn decide<S: Source, P: Plant>(
     }
 }
 
-/// Plays in threads the script among the bytes that were read. It need not return.
+/// Plays in threads the script in these bytes. It need not return.
 fn play_in_threads<P: Plant + Send, G: Gate + Sync, R: Threads + Wait + Sync>(
     rt: &R,
     alloc: Global,
-    command: Command,
+    command: Threaded,
     bytes: &[u8],
     plant: P,
     gate: &G,
 ) -> Decision<P>
-    requires range { IsWithinRange command }
-    requires threaded { is_threaded command ≡ true }
-    ensures { InputComesTo command bytes.now result.finding
+    requires range { IsWithinRange (threaded_command command) }
+    ensures { InputComesTo (threaded_command command) bytes.now result.finding
         (left_of (plant_use ⟦<P as Plant>⟧ plant result.plant) result.journal.entries) }
 {
-    match plan_of(alloc, script_in(command, bytes)) {
+    match plan_of(alloc, bytes) {
         Ok(plan) => match command {
-            Command::Run => run_plan(rt, alloc, plan, plant, gate),
-            Command::Pool(workers) => pool_plan(rt, alloc, plan, workers, plant, gate),
-            _ => unreachable!(),
+            Threaded::Run => run_plan(rt, alloc, plan, plant, gate),
+            Threaded::Pool(workers) => pool_plan(rt, alloc, plan, workers, plant, gate),
         },
         Err(NoPlan::Refused(refusal)) => Decision::idle(alloc, Finding::Refused(refusal), plant),
         Err(NoPlan::OutOfMemory) => Decision::idle(alloc, Finding::OutOfMemory, plant),
     }
 }
 
-/// What a command that needs threads comes to over a source and a device. It need not return.
-pub fn decide_in_threads<S: Source, P: Plant + Send, G: Gate + Sync, R: Threads + Wait + Sync>(
+/// What a command comes to that is played in threads, over a source and a device. It need not return.
+#[tactic(auto, using(crate::proofs::CommandParts::threaded_reads, crate::proofs::CommandParts::threaded_most))]
+fn play_read<S: Source, P: Plant + Send, G: Gate + Sync, R: Threads + Wait + Sync>(
     rt: &R,
     alloc: Global,
-    command: Command,
+    command: Threaded,
     source: &mut S,
     plant: P,
     gate: &G,
 ) -> Decision<P>
-    requires range { IsWithinRange command }
-    requires threaded { is_threaded command ≡ true }
+    requires range { IsWithinRange (threaded_command command) }
     ensures came { CameTo
-        (call_of (Some command)
+        (call_of (Some (threaded_command command))
         (source_use ⟦<S as Source>⟧ source.old source.new)
         (left_of (plant_use ⟦<P as Plant>⟧ plant result.plant) result.journal.entries))
         result.finding }
     ensures count { S.faults source.old ≤ S.faults source.new }
 {
-    match read_all(alloc, source, most_bytes(command)) {
+    match read_all(alloc, source, MOST_SCRIPT_BYTES) {
         Ok(bytes) => play_in_threads(rt, alloc, command, bytes.as_slice(), plant, gate),
         Err(error) => Decision::idle(alloc, unread(error), plant),
+    }
+}
+
+/// The same of what was asked for, which may be no such command. It need not return.
+pub fn decide_in_threads<S: Source, P: Plant + Send, G: Gate + Sync, R: Threads + Wait + Sync>(
+    rt: &R,
+    alloc: Global,
+    asked: Option<Threaded>,
+    source: &mut S,
+    plant: P,
+    gate: &G,
+) -> Decision<P>
+    requires range { IfSome asked (λ c. IsWithinRange (threaded_command c)) }
+    ensures came { CameTo
+        (call_of (option_map threaded_command asked)
+        (source_use ⟦<S as Source>⟧ source.old source.new)
+        (left_of (plant_use ⟦<P as Plant>⟧ plant result.plant) result.journal.entries))
+        result.finding }
+    ensures count { S.faults source.old ≤ S.faults source.new }
+{
+    match asked {
+        None => Decision::idle(alloc, Finding::Usage, plant),
+        Some(command) => play_read(rt, alloc, command, source, plant, gate),
     }
 }

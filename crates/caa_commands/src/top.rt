@@ -6,7 +6,7 @@ ghost use Rattle.caa_commands.specs.Calls.{Tells, Answers};
 ghost use Rattle.caa_commands.specs.Served.{MissesNothing};
 
 pub use crate::command::asks_for_threads;
-use crate::command::{command_of, quiet_command_of};
+use crate::command::{quiet_command_of, threaded_command_of};
 use crate::playing::Decision;
 use crate::serving::{decide, decide_in_threads};
 use crate::status::{Ended, Status};
@@ -153,9 +153,6 @@ pub fn top<S: Source, K: Sink, P: Plant + Send, G: Gate + Sync, R: Threads + Wai
     ensures source_count { S.faults source.old ≤ S.faults source.new }
     ensures sink_count { K.faults sink.old ≤ K.faults sink.new }
 {
-    let Some(command) = command_of(words) else {
-        unreachable!();
-    };
-    let decision = decide_in_threads(rt, alloc, command, source, plant, gate);
+    let decision = decide_in_threads(rt, alloc, threaded_command_of(words), source, plant, gate);
     tell(alloc, decision, sink)
 }

@@ -1,4 +1,4 @@
-use Rattle.std.proofs.Common.{◌≡◌, ◌∙◌, sym, subst₂}
+use Rattle.std.proofs.Common.{◌≡◌, sym, subst₂}
 use Rattle.std.proofs.Math.Logic.{∥∥₁_map}
 use Rattle.caa_commands.specs.OutsideUse.{source_use, plant_use, left_of, call_of, sink_use}
 use Rattle.caa_commands.specs.Logging.{LogAnswers}
@@ -11,7 +11,7 @@ returns-clause-answer g c =
     subst₂ (λ a p. ∥ LogAnswers
     (call_of a (source_use g.S.Source c.args.source.now c.decide_logged_in_threads-decided.new.source)
     (left_of (plant_use g.P.Plant c.args.plant p) ended.journal.entries))
-    (sink_use g.K.Sink c.args.sink ended.sink) ended.status ∥₁) (sym c.in-Some.is ∙ c.command_of.ensures.command) (sym c.tell_logged.ensures.plant)
+    (sink_use g.K.Sink c.args.sink ended.sink) ended.status ∥₁) (c.threaded_command_of-asked.ensures.command c.requires.threads) (sym c.tell_logged.ensures.plant)
     (log_answered g.K.Sink g.P.Plant _ _ c.args.plant _ _ c.args.sink _ c.requires.fresh c.requires.alike _ _ _ _
     c.decide_logged_in_threads-decided.ensures.came c.decide_logged_in_threads-decided.ensures.logged c.tell_logged.ensures.told)
 
