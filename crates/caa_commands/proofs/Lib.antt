@@ -9,3 +9,4 @@ mod FoundAlone
 mod PlayedHistory
 mod Spared
 mod LoggedCalls
+mod GatesTold

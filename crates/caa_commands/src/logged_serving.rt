@@ -6,6 +6,7 @@ ghost use Rattle.caa_commands.specs.declared.command.Command.{Command};
 ghost use Rattle.caa_commands.specs.Commands.{asks_for_input, is_threaded, most_seed, without_threads, IsWithinRange};
 ghost use Rattle.caa_commands.specs.OutsideUse.{source_use, plant_use, left_of, call_of, IsIdle};
 ghost use Rattle.caa_commands.specs.Calls.{InputComesTo, CameTo};
+ghost use Rattle.caa_commands.specs.Gates.{IsToldByRun};
 ghost use Rattle.caa_commands.specs.declared.logging.LogUse.{LogUse};
 ghost use Rattle.caa_commands.specs.Logging.{WasUsed, ScriptInLog, PlayedInLog};
 
@@ -23,6 +24,7 @@ use caa_base::outside::sink::Sink;
 use caa_base::outside::source::Source;
 use caa_base::written::limits::MOST_SCRIPT_BYTES;
 use entry_log::watched::Watch;
+use role_driver::HandlerGate;
 use std::alloc::Global;
 use std::sync::Wait;
 use std::thread::Threads;
@@ -139,11 +141,12 @@ pub fn decide_logged<S: Source, P: Plant, K: Sink + Drop, W: Watch + Drop>(
 }
 
 /// Plays in threads the script in these bytes. It need not return.
+#[tactic(auto, using(crate::proofs::GatesTold::idle_told))]
 fn play_script<
     P: Plant + Send,
     K: Sink + Drop + Send,
     W: Watch + Drop + Send,
-    G: Gate + Sync,
+    G: Gate + HandlerGate + Sync,
     R: Threads + Wait + Sync,
 >(
     rt: &R,
@@ -165,6 +168,7 @@ fn play_script<
         (left_of (plant_use ⟦<P as Plant>⟧ plant result.decision.plant) result.decision.journal.entries)
         result.decision.finding)
         result.decision.finding result.decision.journal.entries result.log }
+    ensures told { IsToldByRun (Some command) (G.was_told gate.now) (G.was_handed gate.now) result.decision.journal.entries }
 {
     match plan_of(alloc, bytes) {
         Ok(plan) => match command {
@@ -180,12 +184,13 @@ fn play_script<
 }
 
 /// What a command that needs threads comes to over a source and a device, where it writes to a log. It need not return.
+#[tactic(auto, using(crate::proofs::GatesTold::idle_told))]
 pub fn decide_logged_in_threads<
     S: Source,
     P: Plant + Send,
     K: Sink + Drop + Send,
     W: Watch + Drop + Send,
-    G: Gate + Sync,
+    G: Gate + HandlerGate + Sync,
     R: Threads + Wait + Sync,
 >(
     rt: &R,
@@ -212,6 +217,7 @@ pub fn decide_logged_in_threads<
         (left_of (plant_use ⟦<P as Plant>⟧ plant result.decision.plant) result.decision.journal.entries))
         result.decision.finding)
         result.decision.finding result.decision.journal.entries result.log }
+    ensures told { IsToldByRun (Some command) (G.was_told gate.now) (G.was_handed gate.now) result.decision.journal.entries }
     ensures count { S.faults source.old ≤ S.faults source.new }
 {
     match read_all(alloc, source, most_bytes(command)) {

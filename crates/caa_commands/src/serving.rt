@@ -8,6 +8,7 @@ ghost use Rattle.caa_commands.specs.declared.command.Command.{Command};
 ghost use Rattle.caa_commands.specs.Commands.{asks_for_input, is_threaded, reads_input, without_threads, IsWithinRange};
 ghost use Rattle.caa_commands.specs.OutsideUse.{source_use, plant_use, left_of, call_of};
 ghost use Rattle.caa_commands.specs.Calls.{AuditComesTo, NeedsPlan, Prints, PlanComesTo, InputComesTo, unread_finding, CameTo};
+ghost use Rattle.caa_commands.specs.Gates.{IsToldByRun};
 ghost use Rattle.caa_commands.specs.Inputs.{most_bytes, script_in};
 
 use crate::cells::work;
@@ -27,6 +28,7 @@ use caa_base::outside::source::Source;
 use caa_base::written::limits::{MOST_AUDIT_BYTES, MOST_AUDITED, MOST_SCRIPT_BYTES};
 use message_plays::messages_text;
 use place_plan::plans::plan::Plan;
+use role_driver::HandlerGate;
 use script_checker::check_error::CheckCause;
 use std::alloc::Global;
 use std::sync::Wait;
@@ -233,7 +235,8 @@ pub fn decide<S: Source, P: Plant>(
 }
 
 /// Plays in threads the script among the bytes that were read. It need not return.
-fn play_in_threads<P: Plant + Send, G: Gate + Sync, R: Threads + Wait + Sync>(
+#[tactic(auto, using(crate::proofs::GatesTold::idle_told))]
+fn play_in_threads<P: Plant + Send, G: Gate + HandlerGate + Sync, R: Threads + Wait + Sync>(
     rt: &R,
     alloc: Global,
     command: Command,
@@ -243,8 +246,9 @@ fn play_in_threads<P: Plant + Send, G: Gate + Sync, R: Threads + Wait + Sync>(
 ) -> Decision<P>
     requires range { IsWithinRange command }
     requires threaded { is_threaded command ≡ true }
-    ensures { InputComesTo command bytes.now result.finding
+    ensures comes { InputComesTo command bytes.now result.finding
         (left_of (plant_use ⟦<P as Plant>⟧ plant result.plant) result.journal.entries) }
+    ensures told { IsToldByRun (Some command) (G.was_told gate.now) (G.was_handed gate.now) result.journal.entries }
 {
     match plan_of(alloc, script_in(command, bytes)) {
         Ok(plan) => match command {
@@ -258,14 +262,13 @@ fn play_in_threads<P: Plant + Send, G: Gate + Sync, R: Threads + Wait + Sync>(
 }
 
 /// What a command that needs threads comes to over a source and a device. It need not return.
-pub fn decide_in_threads<S: Source, P: Plant + Send, G: Gate + Sync, R: Threads + Wait + Sync>(
-    rt: &R,
-    alloc: Global,
-    command: Command,
-    source: &mut S,
-    plant: P,
-    gate: &G,
-) -> Decision<P>
+#[tactic(auto, using(crate::proofs::GatesTold::idle_told))]
+pub fn decide_in_threads<
+    S: Source,
+    P: Plant + Send,
+    G: Gate + HandlerGate + Sync,
+    R: Threads + Wait + Sync,
+>(rt: &R, alloc: Global, command: Command, source: &mut S, plant: P, gate: &G) -> Decision<P>
     requires range { IsWithinRange command }
     requires threaded { is_threaded command ≡ true }
     ensures came { CameTo
@@ -273,6 +276,7 @@ pub fn decide_in_threads<S: Source, P: Plant + Send, G: Gate + Sync, R: Threads 
         (source_use ⟦<S as Source>⟧ source.old source.new)
         (left_of (plant_use ⟦<P as Plant>⟧ plant result.plant) result.journal.entries))
         result.finding }
+    ensures told { IsToldByRun (Some command) (G.was_told gate.now) (G.was_handed gate.now) result.journal.entries }
     ensures count { S.faults source.old ≤ S.faults source.new }
 {
     match read_all(alloc, source, most_bytes(command)) {
