@@ -1,5 +1,5 @@
 -- What the gate of a call was told, from the play to the end of the call.
-use Rattle.std.proofs.Common.{◌≡◌, ◌∙◌, ℕ, Bool, true, false, if◌then◌else◌, List, [], Option, sym, subst}
+use Rattle.std.proofs.Common.{◌≡◌, ◌∙◌, ℕ, Bool, true, false, if◌then◌else◌, List, [], Option, inl, inr, sym, subst}
 use Rattle.caa_base.specs.declared.outside.sink.Sink.{Ghosts as SinkGhosts}
 use Rattle.caa_base.specs.declared.written.entry.Entry.{Entry}
 use Rattle.place_plan.specs.Plans.PlanValue.{Plan}
