@@ -3,24 +3,24 @@
 
 mod call;
 mod files;
+mod serving;
 mod telling;
 mod watcher;
 
 use crate::call::{Asked, Call, asked_by};
 use crate::files::{files_of, keep_streams};
+use crate::serving::serve;
 use crate::telling::{tell_file_error, tell_play, tell_status};
 use crate::watcher::Watcher;
 use action_script::lines::reader::read;
 use action_script::script_error::ScriptCause;
 use action_script::words::call_words::call_words;
-use caa_base::outside::gate::EmptyGate;
 use caa_base::outside::memory::SureSource;
 use caa_base::outside::reading::write_all;
 use caa_base::outside::standard::{StdSink, StdSource};
 use caa_base::written::entry::OutOfMemory;
-use caa_commands::logged_top::{LoggedEnd, top_logged, top_logged_quiet};
+use caa_commands::logged_top::LoggedEnd;
 use caa_commands::status::Status;
-use caa_commands::top::asks_for_threads;
 use entry_log::file_sink::FileSink;
 use line_plant::flushed::FlushedSink;
 use line_plant::noted::Noted;
@@ -109,27 +109,21 @@ fn play_on<R: Threads + Wait + Sync>(
     let mut operator = rt.stderr();
     let each = if operator.is_terminal() { TOLD_EACH } else { 0 };
     let watcher = Watcher::new(rt.stderr(), &is_over, call.goes_on, each);
-    let words = call.command;
     let sink = FileSink::new(file, call.syncs);
     let LoggedEnd {
         status,
         plant: mut device,
         journal,
         sink: _,
-    } = if asks_for_threads(words) {
-        top_logged(
-            threads,
-            alloc,
-            words,
-            &mut source,
-            sink,
-            device,
-            watcher,
-            &EmptyGate,
-        )
-    } else {
-        top_logged_quiet(alloc, words, &mut source, sink, device, watcher)
-    };
+    } = serve(
+        threads,
+        alloc,
+        call.command,
+        &mut source,
+        sink,
+        device,
+        watcher,
+    );
     device.heed();
     let is_played = !journal.is_empty();
     tell_status(&mut operator, status, call, is_played);

@@ -1,6 +1,7 @@
 -- What an answer of the checker says that is no want of memory.
-use Rattle.std.proofs.Common.{◌≡◌, ◌≢◌, ℕ, List, Some, Ok, Err, Result, IfErr, inr, sym, ◌∙◌, subst}
+use Rattle.std.proofs.Common.{◌≡◌, ◌≢◌, ℕ, List, Some, Ok, Err, Result, IfErr, inr, sym, ap, ◌∙◌, subst}
 use Rattle.action_script.specs.Lines.Spelling.{reading_of}
+use Rattle.action_script.specs.Forms.Printing.{text_of}
 use Rattle.action_script.specs.Forms.ScriptValue.{Script}
 use Rattle.place_plan.specs.Plans.PlanValue.{Plan}
 use Rattle.script_checker.specs.declared.check_error.CheckError.{CheckError}
@@ -10,7 +11,7 @@ use Rattle.graph_maker.specs.declared.made_error.MadeError.{MadeError}
 use Rattle.graph_maker.specs.Refusals.{refusal_of}
 use Rattle.graph_maker.specs.Answers.{IsAnswer as IsMade, made as made_of, refused as refused_for_sets, wanting as wanting_for_sets}
 use Rattle.caa_commands.specs.declared.fault.Refusal.{Refusal}
-use Rattle.caa_commands.specs.Graphs.{IsMadeFault, IsRefusedGraph}
+use Rattle.caa_commands.specs.Graphs.{IsGraphText, IsMadeFault, IsRefusedGraph}
 use Rattle.caa_commands.specs.Scripts.{IsCause, IsRefusedLine, IsRefusedScript, IsUnplanned, HasNoPlan}
 use Rattle.caa_commands.specs.declared.scripts.NoPlan.{NoPlan}
 use Rattle.caa_commands.specs.declared.scripts.NoPlan.TheVariants as no_plan
@@ -73,3 +74,17 @@ unmade most bytes script r error refusal spelled (refused_for_sets {error = x} f
     })
 unmade most bytes script r error refusal spelled (wanting_for_sets {error = x} is) e line fault =
     let same : x ≡ error = cc in absurd (subst (λ (y : MadeError). IsMadeFault y.cause refusal.fault) (sym same ∙ is) fault)
+
+-- where a script is made, its text is that of the graph
+pub made_text : (most : ℕ) (bytes text : List ℕ) (script made : Script) (r : Result Script MadeError) → reading_of bytes ≡ Ok script
+    → IsMade script most r → r ≡ Ok made → text ≡ text_of made → IsGraphText most bytes text
+made_text most bytes text script made r spelled (made_of {made = m} none it) e is =
+    let same : m ≡ made = cc in
+    record {
+      script = script;
+      spelled = spelled;
+      accepted = none;
+      printed = is ∙ ap text_of (sym same ∙ it);
+    }
+made_text most bytes text script made r spelled (refused_for_sets first) e is = absurd cc
+made_text most bytes text script made r spelled (wanting_for_sets lost) e is = absurd cc

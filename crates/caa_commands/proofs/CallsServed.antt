@@ -11,9 +11,8 @@ use Rattle.action_script.specs.Forms.Printing.{text_of}
 use Rattle.action_script.specs.Forms.ScriptValue.{Script}
 use Rattle.graph_maker.specs.MadeScripts.{script_of_sets}
 use Rattle.graph_maker.specs.Refusals.{refusal_of}
-use Rattle.script_checker.specs.Compiled.{IsPlanOf, IsFirstRefused}
+use Rattle.script_checker.specs.Compiled.{IsFirstRefused}
 use Rattle.journal_text.specs.Texts.Text.{text_of as text_of_journal}
-use Rattle.cell_workload.specs.CellScript.{cell_script}
 use Rattle.cell_workload.specs.Summary.{summary_text}
 use Rattle.message_plays.specs.Texts.{IsPlayedByMessages}
 use Rattle.place_plan.specs.Plans.PlanValue.{Plan}
@@ -27,14 +26,14 @@ use Rattle.caa_commands.specs.declared.status.Status.TheVariants as status
 use Rattle.caa_commands.specs.Commands.{reads_input}
 use Rattle.caa_commands.specs.Findings.{status_of, finding_text}
 use Rattle.caa_commands.specs.Inputs.{most_bytes, script_in}
-use Rattle.caa_commands.specs.Scripts.{HasPlan, IsThePlan, IsRefusedScript}
+use Rattle.caa_commands.specs.Scripts.{HasPlan, IsThePlan, IsRefusedScript, SpellAccepted}
 use Rattle.caa_commands.specs.OutsideUse.{SinkUse, Left, Call}
-use Rattle.caa_commands.specs.Graphs.{IsGraphText, IsRefusedGraph}
+use Rattle.caa_commands.specs.Graphs.{IsAcceptedGraph, IsGraphText, IsRefusedGraph}
 use Rattle.caa_commands.specs.Calls.{CheckComesTo, IsRefusedFor, MakesGraph, Prints, EndsWith, DoesNotBegin, AuditComesTo, PlanComesTo, InputComesTo, IsNotServed, IsWorked, IsNotWorked, IsUnread, IsRead, HasStopped, unread_finding, CameTo, with_journal, Tells, Answers}
-use Rattle.caa_commands.specs.Served.{IsGiven, WasTold, IsMakeable, IsServable, IsWorkable, IsUnworkable, ServesPlans, WasPrinted, WasServed, IsToFind, legal_journal, illegal_line, too_many_entries, IsAuditable, HoldsRefused, IsRefusable, WasRefused, MissesNothing}
+use Rattle.caa_commands.specs.Served.{IsGiven, WasTold, IsMakeable, IsServable, IsWorkable, ServesPlans, WasPrinted, WasServed, IsToFind, legal_journal, illegal_line, too_many_entries, IsAuditable, HoldsRefused, IsRefusable, WasRefused, MissesNothing}
 use Rattle.caa_base.proofs.Counting.{counted_up-rose}
-use Rattle.caa_commands.proofs.NotRefused.{plan_not_refused}
-use Rattle.caa_commands.proofs.PlansOfScripts.{plan_short, plan_tells}
+use Rattle.caa_commands.proofs.NotRefused.{accepted_not_refused, plan_accepted}
+use Rattle.caa_commands.proofs.PlansOfScripts.{plan_tells, spelled_short}
 use Rattle.caa_commands.proofs.FoundAlone.{found_alone}
 use Rattle.caa_commands.proofs.Spared.{answer_spared}
 
@@ -102,15 +101,15 @@ was_told found other journal handed sink answer quiet (inr lost) (inl whole) = i
 was_told found other journal handed sink answer quiet one (inr (inl cut)) = absurd (quiet (counted_up-rose _ _ cut.cause))
 was_told found other journal handed sink answer quiet one (inr (inr lost)) = inr lost.answered
 
--- ---- a script that has a plan
+-- ---- a script that is accepted
 
 -- it isn't refused
-not_refused : (bytes : List ℕ) (plan : Plan) (refusal : Refusal) → HasPlan bytes plan → IsRefusedScript bytes refusal → ⊥
-not_refused bytes plan refusal h (inl m) = let both : Ok h.script ≡ Err m.error = sym h.spelled ∙ m.first in absurd cc
-not_refused bytes plan refusal h (inr u) =
+not_refused : (bytes : List ℕ) (refusal : Refusal) → SpellAccepted bytes → IsRefusedScript bytes refusal → ⊥
+not_refused bytes refusal h (inl m) = let both : Ok h.script ≡ Err m.error = sym h.spelled ∙ m.first in absurd cc
+not_refused bytes refusal h (inr u) =
     let both : Ok h.script ≡ Ok u.script = sym h.spelled ∙ u.spelled in
     let same : u.script ≡ h.script = cc in
-    plan_not_refused h.script plan u.refused.error h.compiled
+    accepted_not_refused h.script u.refused.error h.accepted
     (subst (λ (s : Script). IsFirstRefused s u.refused.error) same u.refused.first)
 
 -- a command other than `audit` reads a script
@@ -234,21 +233,21 @@ refused_script (command.Graph most) bytes refusal other h = absurd (other most r
 no_graph : (c : Command) → ServesPlans c → (most : ℕ) → c ≡ command.Graph most → ⊥
 no_graph c plans most same = subst ServesPlans same plans
 
--- a script that has a plan isn't turned away
-not_away : {P : Type 0} (c : Command) (bytes : List ℕ) (plan : Plan) (found : Finding) (left : Left P)
-    → ((most : ℕ) → c ≡ command.Graph most → ⊥) → HasPlan (script_in c bytes) plan → IsNotServed c bytes found left
+-- a script that is accepted isn't turned away
+not_away : {P : Type 0} (c : Command) (bytes : List ℕ) (found : Finding) (left : Left P)
+    → ((most : ℕ) → c ≡ command.Graph most → ⊥) → SpellAccepted (script_in c bytes) → IsNotServed c bytes found left
     → found ≡ finding.OutOfMemory
-not_away c bytes plan (finding.Refused refusal) left other script h =
-    absurd (not_refused (script_in c bytes) plan refusal script (refused_script c bytes refusal other h.0))
-not_away c bytes plan finding.OutOfMemory left other script h = refl
-not_away c bytes plan finding.Usage left other script h = elim h [ ]
-not_away c bytes plan finding.SourceFault left other script h = elim h [ ]
-not_away c bytes plan finding.PlantFault left other script h = elim h [ ]
-not_away c bytes plan (finding.Checked counts) left other script h = elim h [ ]
-not_away c bytes plan (finding.Played failed text) left other script h = elim h [ ]
-not_away c bytes plan (finding.Legal entries) left other script h = elim h [ ]
-not_away c bytes plan (finding.Illegal line) left other script h = elim h [ ]
-not_away c bytes plan (finding.Printed text) left other script h = elim h [ ]
+not_away c bytes (finding.Refused refusal) left other script h =
+    absurd (not_refused (script_in c bytes) refusal script (refused_script c bytes refusal other h.0))
+not_away c bytes finding.OutOfMemory left other script h = refl
+not_away c bytes finding.Usage left other script h = elim h [ ]
+not_away c bytes finding.SourceFault left other script h = elim h [ ]
+not_away c bytes finding.PlantFault left other script h = elim h [ ]
+not_away c bytes (finding.Checked counts) left other script h = elim h [ ]
+not_away c bytes (finding.Played failed text) left other script h = elim h [ ]
+not_away c bytes (finding.Legal entries) left other script h = elim h [ ]
+not_away c bytes (finding.Illegal line) left other script h = elim h [ ]
+not_away c bytes (finding.Printed text) left other script h = elim h [ ]
 
 lost_served : (found : Finding) → found ≡ finding.OutOfMemory → WasServed (status_of found)
 lost_served found lost = inr (inr (ap status_of lost))
@@ -257,14 +256,14 @@ found_served : {P : Type 0} (call : Call P) (sink : SinkUse) (h : IsServable cal
     → CameTo (with_journal call journal) found → WasServed (status_of found)
 found_served call sink h journal found came =
     let short : length h.bytes ≤ most_bytes h.served =
-    subst (λ n. length h.bytes ≤ n) (sym (most_of_script h.served h.plans)) (plan_short h.bytes h.plan h.script) in
-    let script : HasPlan (script_in h.served h.bytes) h.plan =
-    subst (λ b. HasPlan b h.plan) (sym (script_of_script h.served h.bytes h.plans)) h.script in
+    subst (λ n. length h.bytes ≤ n) (sym (most_of_script h.served h.plans)) (spelled_short h.bytes h.script.script h.script.spelled) in
+    let script : SpellAccepted (script_in h.served h.bytes) =
+    subst SpellAccepted (sym (script_of_script h.served h.bytes h.plans)) h.script in
     let left = (with_journal call journal).left in
     elim (input_comes (with_journal call journal) sink h.served h.bytes (given_with call sink h.served h.bytes h.given journal)
     found (plans_read h.served h.plans) short came) [
       | inl (inl served) ↦ plan_served h.served served.plan h.bytes found left h.plans h.laid served.comes
-      | inl (inr (inl away)) ↦ lost_served found (not_away h.served h.bytes h.plan found left (no_graph h.served h.plans) script away)
+      | inl (inr (inl away)) ↦ lost_served found (not_away h.served h.bytes found left (no_graph h.served h.plans) script away)
       | inl (inr (inr graph)) ↦ absurd (no_graph h.served h.plans graph.most graph.asked)
       | inr lost ↦ lost_served found lost
     ]
@@ -317,7 +316,8 @@ found_audited call sink found other h journal came =
     (given_with call sink command.Audit h.bytes h.given journal) other refl h.fits came) [
       | inl (inl served) ↦ as_to_find call sink found other left h served.plan served.script
           (audited served.plan h.bytes other left served.comes)
-      | inl (inr (inl away)) ↦ inr (not_away command.Audit h.bytes h.plan other left (λ most same. cc) h.script away)
+      | inl (inr (inl away)) ↦ inr (not_away command.Audit h.bytes other left (λ most same. cc)
+          (plan_accepted (script_in command.Audit h.bytes) h.plan h.script) away)
       | inl (inr (inr graph)) ↦ let same = graph.asked in absurd cc
       | inr lost ↦ inr lost
     ]
@@ -349,15 +349,15 @@ refused_away c bytes (finding.Printed text) left h = elim h [ ]
 
 -- a command that is served over a plan isn't refused
 not_both : {P : Type 0} (c : Command) (bytes : List ℕ) (plan : Plan) (refusal : Refusal) (found : Finding) (left : Left P)
-    → HasPlan (script_in c bytes) plan → PlanComesTo c plan bytes found left → IsRefusedFor c bytes refusal → ⊥
+    → SpellAccepted (script_in c bytes) → PlanComesTo c plan bytes found left → IsRefusedFor c bytes refusal → ⊥
 not_both (command.Graph most) bytes plan refusal found left script comes h = comes
 not_both (command.Cell cycles) bytes plan refusal found left script comes h = comes
-not_both command.Check bytes plan refusal found left script comes h = not_refused bytes plan refusal script h
-not_both (command.Sim seed) bytes plan refusal found left script comes h = not_refused bytes plan refusal script h
-not_both command.Run bytes plan refusal found left script comes h = not_refused bytes plan refusal script h
-not_both command.Audit bytes plan refusal found left script comes h = not_refused (script_in command.Audit bytes) plan refusal script h
-not_both (command.Messages seed) bytes plan refusal found left script comes h = not_refused bytes plan refusal script h
-not_both (command.Pool workers) bytes plan refusal found left script comes h = not_refused bytes plan refusal script h
+not_both command.Check bytes plan refusal found left script comes h = not_refused bytes refusal script h
+not_both (command.Sim seed) bytes plan refusal found left script comes h = not_refused bytes refusal script h
+not_both command.Run bytes plan refusal found left script comes h = not_refused bytes refusal script h
+not_both command.Audit bytes plan refusal found left script comes h = not_refused (script_in command.Audit bytes) refusal script h
+not_both (command.Messages seed) bytes plan refusal found left script comes h = not_refused bytes refusal script h
+not_both (command.Pool workers) bytes plan refusal found left script comes h = not_refused bytes refusal script h
 
 -- a script of which a text is made isn't refused
 no_text : (most : ℕ) (bytes text : List ℕ) (refusal : Refusal) → IsGraphText most bytes text → IsRefusedGraph most bytes refusal → ⊥
@@ -370,8 +370,9 @@ no_text most bytes text refusal made (inr u) =
     absurd cc
 
 printed_refused : {P : Type 0} (most : ℕ) (bytes : List ℕ) (refusal : Refusal) (found : Finding) (left : Left P)
-    → Prints (IsGraphText most bytes) found left → IsRefusedGraph most bytes refusal → IsRefusal found
-printed_refused most bytes refusal (finding.Printed text) left h refused = absurd (no_text most bytes text.items refusal h.0 refused)
+    → Prints (IsAcceptedGraph most bytes) found left → IsRefusedGraph most bytes refusal → IsRefusal found
+printed_refused most bytes refusal (finding.Printed text) left h refused =
+    absurd (no_text most bytes text.items refusal h.0.made refused)
 printed_refused most bytes refusal finding.OutOfMemory left h refused = inr refl
 printed_refused most bytes refusal finding.Usage left h refused = elim h [ ]
 printed_refused most bytes refusal finding.SourceFault left h refused = elim h [ ]
@@ -405,7 +406,8 @@ module _ {P : Type 0} (call : Call P) (sink : SinkUse) (c : Command) (bytes : Li
 
   script_refused : reads_input c ≡ true → HoldsRefused c bytes → CameTo call found → IsRefusal found
   script_refused reads h came = elim (input_comes call sink c bytes given found reads h.fits came) [
-    | inl (inl served) ↦ absurd (not_both c bytes served.plan h.refusal found call.left served.script.has served.comes h.script)
+    | inl (inl served) ↦ absurd (not_both c bytes served.plan h.refusal found call.left
+        (plan_accepted (script_in c bytes) served.plan served.script.has) served.comes h.script)
     | inl (inr (inl away)) ↦ refused_away c bytes found call.left away
     | inl (inr (inr graph)) ↦ graph_refused c bytes h.refusal found call.left graph h.script
     | inr lost ↦ inr lost
@@ -447,12 +449,12 @@ module _ {P : Type 0} (call : Call P) (cycles : ℕ) (asked : call.asked ≡ Som
       let two : false ≡ true = sym (ap reads_input same) ∙ reads in
       absurd cc
 
-  cell_comes : CameTo call found → (IsWorked cycles found call.left) ⊎ (IsNotWorked cycles found call.left)
+  cell_comes : CameTo call found → (IsWorked cycles found call.left) ⊎ (IsNotWorked found call.left)
   cell_comes (inl usage) = let none : Some (command.Cell cycles) ≡ None = sym asked ∙ usage.cause in absurd cc
   cell_comes (inr (inl cell)) =
       let both : Some (command.Cell cell.cycles) ≡ Some (command.Cell cycles) = sym cell.given ∙ asked in
       let same : cell.cycles ≡ cycles = cc in
-      subst (λ n. (IsWorked n found call.left) ⊎ (IsNotWorked n found call.left)) same cell.comes
+      subst (λ n. (IsWorked n found call.left) ⊎ (IsNotWorked found call.left)) same cell.comes
   cell_comes (inr (inr (inl u))) = absurd (not_read u.command u.given u.reads)
   cell_comes (inr (inr (inr r))) = absurd (not_read r.command r.given r.reads)
 
@@ -463,20 +465,18 @@ worked_served cycles found left laid w = elim w.comes [
   | inr unopened ↦ begun_served w.plan found left laid unopened
 ]
 
--- a cell whose script has a plan isn't turned away
-not_unworked : {P : Type 0} (cycles : ℕ) (plan : Plan) (found : Finding) (left : Left P) → IsPlanOf (cell_script cycles) plan
-    → IsNotWorked cycles found left → found ≡ finding.OutOfMemory
-not_unworked cycles plan (finding.Refused refusal) left script h =
-    absurd (plan_not_refused (cell_script cycles) plan h.0.error script h.0.first)
-not_unworked cycles plan finding.OutOfMemory left script h = refl
-not_unworked cycles plan finding.Usage left script h = elim h [ ]
-not_unworked cycles plan finding.SourceFault left script h = elim h [ ]
-not_unworked cycles plan finding.PlantFault left script h = elim h [ ]
-not_unworked cycles plan (finding.Checked counts) left script h = elim h [ ]
-not_unworked cycles plan (finding.Played failed text) left script h = elim h [ ]
-not_unworked cycles plan (finding.Legal entries) left script h = elim h [ ]
-not_unworked cycles plan (finding.Illegal line) left script h = elim h [ ]
-not_unworked cycles plan (finding.Printed text) left script h = elim h [ ]
+-- a cell isn't turned away
+not_worked : {P : Type 0} (found : Finding) (left : Left P) → IsNotWorked found left → found ≡ finding.OutOfMemory
+not_worked finding.OutOfMemory left h = refl
+not_worked finding.Usage left h = elim h [ ]
+not_worked finding.SourceFault left h = elim h [ ]
+not_worked finding.PlantFault left h = elim h [ ]
+not_worked (finding.Refused refusal) left h = elim h [ ]
+not_worked (finding.Checked counts) left h = elim h [ ]
+not_worked (finding.Played failed text) left h = elim h [ ]
+not_worked (finding.Legal entries) left h = elim h [ ]
+not_worked (finding.Illegal line) left h = elim h [ ]
+not_worked (finding.Printed text) left h = elim h [ ]
 
 found_worked : {P : Type 0} (call : Call P) (sink : SinkUse) (h : IsWorkable call sink) (journal : List Entry) (found : Finding)
     → CameTo (with_journal call journal) found → WasServed (status_of found)
@@ -484,38 +484,13 @@ found_worked call sink h journal found came =
     let left = (with_journal call journal).left in
     elim (cell_comes (with_journal call journal) h.cycles h.given.asked found came) [
       | inl worked ↦ worked_served h.cycles found left h.laid worked
-      | inr away ↦ lost_served found (not_unworked h.cycles h.plan found left h.script away)
+      | inr away ↦ lost_served found (not_worked found left away)
     ]
 
 answer_worked : {P : Type 0} (call : Call P) (sink : SinkUse) (answer : Status) → Answers call sink answer
     → IsWorkable call sink → WasServed answer
 answer_worked call sink answer a h =
     served_answer call sink answer a h.given.written (found_worked call sink h a.journal a.finding a.came)
-
-unworked_away : {P : Type 0} (cycles : ℕ) (found : Finding) (left : Left P) → IsNotWorked cycles found left → IsRefusal found
-unworked_away cycles (finding.Refused refusal) left h = inl refl
-unworked_away cycles finding.OutOfMemory left h = inr refl
-unworked_away cycles finding.Usage left h = elim h [ ]
-unworked_away cycles finding.SourceFault left h = elim h [ ]
-unworked_away cycles finding.PlantFault left h = elim h [ ]
-unworked_away cycles (finding.Checked counts) left h = elim h [ ]
-unworked_away cycles (finding.Played failed text) left h = elim h [ ]
-unworked_away cycles (finding.Legal entries) left h = elim h [ ]
-unworked_away cycles (finding.Illegal line) left h = elim h [ ]
-unworked_away cycles (finding.Printed text) left h = elim h [ ]
-
-found_unworked : {P : Type 0} (call : Call P) (sink : SinkUse) (h : IsUnworkable call sink) (journal : List Entry)
-    (found : Finding) → CameTo (with_journal call journal) found → IsRefusal found
-found_unworked call sink h journal found came =
-    elim (cell_comes (with_journal call journal) h.cycles h.given.asked found came) [
-      | inl worked ↦ absurd (plan_not_refused (cell_script h.cycles) worked.plan h.script.error worked.script.has h.script.first)
-      | inr away ↦ unworked_away h.cycles found (with_journal call journal).left away
-    ]
-
-answer_unworked : {P : Type 0} (call : Call P) (sink : SinkUse) (answer : Status) → Answers call sink answer
-    → IsUnworkable call sink → WasRefused answer
-answer_unworked call sink answer a h =
-    refused_answer call sink answer a h.given.written (found_unworked call sink h a.journal a.finding a.came)
 
 -- ---- `graph`
 
@@ -544,8 +519,8 @@ abbrev IsText : List ℕ → Finding → Type 0
 IsText text found = ((status_of found ≡ status.Done) × (finding_text found ≡ text)) ⊎ (found ≡ finding.OutOfMemory)
 
 printed_text : {P : Type 0} (most : ℕ) (bytes text : List ℕ) (found : Finding) (left : Left P) → IsGraphText most bytes text
-    → Prints (IsGraphText most bytes) found left → IsText text found
-printed_text most bytes text (finding.Printed other) left made h = inl (refl, one_text most bytes text other.items made h.0)
+    → Prints (IsAcceptedGraph most bytes) found left → IsText text found
+printed_text most bytes text (finding.Printed other) left made h = inl (refl, one_text most bytes text other.items made h.0.made)
 printed_text most bytes text finding.OutOfMemory left made h = inr refl
 printed_text most bytes text finding.Usage left made h = elim h [ ]
 printed_text most bytes text finding.SourceFault left made h = elim h [ ]
@@ -561,7 +536,7 @@ made_text : {P : Type 0} (most : ℕ) (bytes text : List ℕ) (found : Finding) 
 made_text most bytes text found left made graph =
     let asked : command.Graph most ≡ command.Graph graph.most = graph.asked in
     let same : graph.most ≡ most = cc in
-    printed_text most bytes text found left made (subst (λ m. Prints (IsGraphText m bytes) found left) same graph.prints)
+    printed_text most bytes text found left made (subst (λ m. Prints (IsAcceptedGraph m bytes) found left) same graph.prints)
 
 found_text : {P : Type 0} (call : Call P) (sink : SinkUse) (text : List ℕ) (h : IsMakeable call sink text)
     (journal : List Entry) (found : Finding) → CameTo (with_journal call journal) found → IsText text found
@@ -596,6 +571,5 @@ complete call sink answer a =
       audited =
           (λ found. answer_audited call sink found answer a);
       refused = answer_refused call sink answer a;
-      unworked = answer_unworked call sink answer a;
       spared = answer_spared call sink answer a;
     }

@@ -1,5 +1,5 @@
 -- What each part of the commands reads.
-use Rattle.std.proofs.Common.{◌≡◌, true, List, ℕ, refl}
+use Rattle.std.proofs.Common.{◌≡◌, true, refl}
 use Rattle.caa_base.specs.Written.Limits.{most_script_bytes}
 use Rattle.caa_commands.specs.declared.command.OverInput.{OverInput}
 use Rattle.caa_commands.specs.declared.command.OverInput.TheVariants as input

@@ -10,3 +10,4 @@ mod PlayedHistory
 mod Spared
 mod LoggedCalls
 mod CommandParts
+mod GatesTold

@@ -248,7 +248,6 @@ module _ {P : Type 0} (call : Call P) (sink : SinkUse) (answer : Status) where
     printed = λ text s. inr left.answered;
     audited = λ found s. inr left.answered;
     refused = λ s. inr left.answered;
-    unworked = λ s. inr left.answered;
     spared = spared_too left;
   }
 
@@ -261,7 +260,6 @@ module _ {P : Type 0} (call : Call P) (sink : SinkUse) (answer : Status) where
         printed = λ text s. absurd (s.given.written rose);
         audited = λ found s. absurd (s.given.written rose);
         refused = λ s. absurd (s.given.written rose);
-        unworked = λ s. absurd (s.given.written rose);
         spared = λ s. absurd (s.written rose);
       }
 

@@ -107,13 +107,17 @@ too_long_first : {T E : Type 0} (t : Bool) (e : E) (r : Result T E) (v : T) → 
 too_long_first true e r v h = absurd cc
 too_long_first false e r v h = (refl, h)
 
+-- a text that spells a script isn't longer than one may be
+pub spelled_short : (bytes : List ℕ) (script : Script) → reading_of bytes ≡ Ok script → length bytes ≤ most_script_bytes
+spelled_short bytes script spelled =
+    ltb-false most_script_bytes (length bytes) (too_long_first (nat_lt most_script_bytes (length bytes)) _ _ script spelled).0
+
 module _ (bytes : List ℕ) (plan : Plan) (h : HasPlan bytes plan) where
   read : (nat_lt most_script_bytes (length bytes) ≡ false) × (script_of (said_from 1 section.Top (lines_of bytes)) ≡ Ok h.script)
   read = too_long_first (nat_lt most_script_bytes (length bytes)) _ _ h.script h.spelled
 
-  -- it isn't longer than a script may be
-  pub plan_short : length bytes ≤ most_script_bytes
-  plan_short = ltb-false most_script_bytes (length bytes) read.0
+  plan_short : length bytes ≤ most_script_bytes
+  plan_short = spelled_short bytes h.script h.spelled
 
   are_script : AreScript h.script.names (forms_of h.script.lines)
   are_script =

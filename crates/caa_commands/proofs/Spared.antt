@@ -149,10 +149,9 @@ module _ {P : Type 0} (left : Left P) (laid : Rose left.plant.lay_faults_before 
   away_quiet c bytes finding.OutOfMemory h = (refl, empty_quiet left.journal h.unplayed)
   away_quiet c bytes _ h = elim h [ ]
 
-  unworked_quiet : (cycles : ℕ) (found : Finding) → IsNotWorked cycles found left → IsQuiet found left.journal
-  unworked_quiet cycles (finding.Refused refusal) h = (refl, empty_quiet left.journal h.1.unplayed)
-  unworked_quiet cycles finding.OutOfMemory h = (refl, empty_quiet left.journal h.unplayed)
-  unworked_quiet cycles _ h = elim h [ ]
+  unworked_quiet : (found : Finding) → IsNotWorked found left → IsQuiet found left.journal
+  unworked_quiet finding.OutOfMemory h = (refl, empty_quiet left.journal h.unplayed)
+  unworked_quiet _ h = elim h [ ]
 
   cell_quiet : (plan : Plan) (cycles : ℕ) (found : Finding) → CellComesTo plan cycles found left → IsQuiet found left.journal
   cell_quiet plan cycles found (inl played) = ended_quiet plan _ found played.0.played played.1
@@ -195,7 +194,7 @@ module _ {P : Type 0} (call : Call P) (sink : SinkUse) (nothing : NothingFailed 
       (ap (λ f. tells_fault (status_of f)) usage.finding, inr (empty_quiet call.left.journal usage.idle.unplayed))
   came_quiet found (inr (inl cell)) = elim cell.comes [
     | inl worked ↦ let q = cell_quiet call.left nothing.laid nothing.put worked.plan cell.cycles found worked.comes in (q.0, inr q.1)
-    | inr away ↦ let q = unworked_quiet call.left nothing.laid nothing.put cell.cycles found away in (q.0, inr q.1)
+    | inr away ↦ let q = unworked_quiet call.left nothing.laid nothing.put found away in (q.0, inr q.1)
   ]
   came_quiet found (inr (inr (inl u))) = (by u.error u.finding u.cause, inr (empty_quiet call.left.journal u.idle.unplayed))
     where

@@ -26,14 +26,14 @@ use Rattle.caa_commands.specs.declared.finding.Finding.TheVariants as finding
 use Rattle.caa_commands.specs.declared.status.Status.{Status}
 use Rattle.caa_commands.specs.declared.status.Status.TheVariants as status
 use Rattle.caa_commands.specs.declared.fault.Refusal.{Refusal}
-use Rattle.caa_commands.specs.Graphs.{IsGraphText, IsRefusedGraph}
+use Rattle.caa_commands.specs.Graphs.{IsAcceptedGraph, IsRefusedGraph}
 use Rattle.caa_commands.specs.Commands.{reads_input}
 use Rattle.caa_commands.specs.Findings.{status_of, finding_text, is_played, needs_memory}
 use Rattle.action_script.specs.Words.JournalStarts.{journal_part}
 use Rattle.caa_commands.specs.Inputs.{most_bytes, script_in}
 use Rattle.caa_commands.specs.Judging.{IsLawful, IsIllegal, HasTooManyEntries}
 use Rattle.caa_commands.specs.FailedPlays.{IsPlayed, has_failed_play}
-use Rattle.caa_commands.specs.Scripts.{IsThePlan, IsOnlyPlan, IsRefusedScript, IsRefusedLine}
+use Rattle.caa_commands.specs.Scripts.{IsThePlan, IsOnlyPlan, IsRefusedScript}
 use Rattle.caa_commands.specs.OutsideUse.{SourceUse, SinkUse, Left, Call, IsIdle, IsUnplayed}
 
 -- ---- what each command comes to over a plan
@@ -143,11 +143,11 @@ IsNotServed command bytes (finding.Refused refusal) left = IsRefusedFor command 
 IsNotServed command bytes finding.OutOfMemory left = IsIdle left
 IsNotServed command bytes _ left = ⊥
 
--- `graph` makes a script of sets and prints it
+-- `graph` makes a script of sets and prints it; the checks accept what is printed
 pub record MakesGraph {P : Type 0} (given : Command) (bytes : List ℕ) (found : Finding) (left : Left P) : Type 0 where
   pub most : ℕ
   pub asked : given ≡ command.Graph most
-  pub prints : Prints (IsGraphText most bytes) found left
+  pub prints : Prints (IsAcceptedGraph most bytes) found left
 
 -- the script is served, or it isn't, or a graph is made of it
 abbrev pub InputComesTo : {P : Type 0} → Command → List ℕ → Finding → Left P → Type 0
@@ -162,11 +162,10 @@ pub record IsWorked {P : Type 0} (cycles : ℕ) (found : Finding) (left : Left P
   pub script : IsOnlyPlan (cell_script cycles) plan
   pub comes : CellComesTo plan cycles found left
 
--- a line of that script is refused, or no memory was found for its plan. No line is, as a run with the most cycles shows
-abbrev pub IsNotWorked : {P : Type 0} → ℕ → Finding → Left P → Type 0
-IsNotWorked cycles (finding.Refused refusal) left = IsRefusedLine (cell_script cycles) refusal × IsIdle left
-IsNotWorked cycles finding.OutOfMemory left = IsIdle left
-IsNotWorked cycles _ left = ⊥
+-- no memory was found for that plan; no line of the script is refused
+abbrev pub IsNotWorked : {P : Type 0} → Finding → Left P → Type 0
+IsNotWorked finding.OutOfMemory left = IsIdle left
+IsNotWorked _ left = ⊥
 
 -- ---- what a call comes to, in the order in which things are tried
 
@@ -184,7 +183,7 @@ pub record IsCell {P : Type 0} (call : Call P) (found : Finding) : Type 0 where
   pub given : call.asked ≡ Some (command.Cell cycles)
   pub unread : call.source.left_after ≡ call.source.left_before
   pub unfailed : call.source.faults_after ≡ call.source.faults_before
-  pub comes : IsWorked cycles found call.left ⊎ IsNotWorked cycles found call.left
+  pub comes : IsWorked cycles found call.left ⊎ IsNotWorked found call.left
 
 -- a reading came to no end: one read failed; or none did, and the input has more bytes than that of the command may have, or no
 -- memory was found

@@ -15,7 +15,7 @@ use Rattle.caa_commands.specs.declared.fault.Fault.TheVariants as fault
 use Rattle.caa_commands.specs.declared.fault.Refusal.{Refusal}
 use Rattle.caa_commands.specs.declared.scripts.NoPlan.{NoPlan}
 use Rattle.caa_commands.specs.declared.scripts.NoPlan.TheVariants as no_plan
-use Rattle.caa_commands.specs.Scripts.{IsMisspelled}
+use Rattle.caa_commands.specs.Scripts.{IsMisspelled, SpellAccepted}
 
 -- what the bytes spell isn't refused, and this is the text of the script of its sets of at most so many members
 pub record IsGraphText (most : ℕ) (bytes text : List ℕ) : Type 0 where
@@ -23,6 +23,11 @@ pub record IsGraphText (most : ℕ) (bytes text : List ℕ) : Type 0 where
   pub spelled : reading_of bytes ≡ Ok script
   pub accepted : refusal_of script most ≡ None
   pub printed : text ≡ text_of (script_of_sets script most)
+
+-- this is that text, and it spells a script that is accepted
+pub record IsAcceptedGraph (most : ℕ) (bytes text : List ℕ) : Type 0 where
+  pub made : IsGraphText most bytes text
+  pub accepted : SpellAccepted text
 
 -- the fault is this one of a script of which no graph is made
 abbrev pub IsMadeFault : MadeCause → Fault → Type 0

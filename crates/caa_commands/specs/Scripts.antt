@@ -12,7 +12,8 @@ use Rattle.script_checker.specs.declared.check_error.CheckError.{CheckError}
 use Rattle.script_checker.specs.declared.check_error.CheckCause.{CheckCause}
 use Rattle.script_checker.specs.declared.check_error.CheckCause.TheVariants as cause
 use Rattle.script_checker.specs.declared.plan_counts.PlanCounts.{PlanCounts}
-use Rattle.script_checker.specs.Compiled.{IsPlanOf, IsFirstRefused}
+use Rattle.script_checker.specs.DeclaredSoFar.{nothing_yet}
+use Rattle.script_checker.specs.Compiled.{AreAccepted, IsPlanOf, IsFirstRefused}
 use Rattle.script_checker.specs.PlanSizes.{counts_of}
 use Rattle.place_plan.specs.Plans.PlanValue.{Plan}
 use Rattle.caa_commands.specs.declared.fault.Fault.{Fault}
@@ -20,6 +21,14 @@ use Rattle.caa_commands.specs.declared.fault.Fault.TheVariants as fault
 use Rattle.caa_commands.specs.declared.fault.Refusal.{Refusal}
 use Rattle.caa_commands.specs.declared.scripts.NoPlan.{NoPlan}
 use Rattle.caa_commands.specs.declared.scripts.NoPlan.TheVariants as no_plan
+
+-- ---- a script that is accepted
+
+-- the bytes spell a script, none of whose lines has a cause to be refused
+pub record SpellAccepted (bytes : List ℕ) : Type 0 where
+  pub script : Script
+  pub spelled : reading_of bytes ≡ Ok script
+  pub accepted : AreAccepted script.names (nothing_yet script.names) script.lines
 
 -- ---- a script that has a plan
 

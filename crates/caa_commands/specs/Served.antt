@@ -5,8 +5,6 @@ use Rattle.caa_base.specs.Outside.Counts.{Rose}
 use Rattle.caa_base.specs.declared.written.entry.Entry.{Entry}
 use Rattle.place_plan.specs.Plans.PlanValue.{Plan}
 use Rattle.place_plan.specs.RulesOfJournals.Journals.{faults_in}
-use Rattle.script_checker.specs.Compiled.{IsPlanOf}
-use Rattle.cell_workload.specs.CellScript.{cell_script}
 use Rattle.caa_commands.specs.declared.command.Command.{Command}
 use Rattle.caa_commands.specs.declared.command.Command.TheVariants as command
 use Rattle.caa_commands.specs.declared.fault.Refusal.{Refusal}
@@ -21,7 +19,7 @@ use Rattle.caa_commands.specs.Inputs.{most_bytes, script_in}
 use Rattle.caa_commands.specs.Judging.{IsLawful, IsIllegal, HasTooManyEntries}
 use Rattle.caa_commands.specs.Calls.{IsRefusedFor}
 use Rattle.caa_commands.specs.Graphs.{IsGraphText}
-use Rattle.caa_commands.specs.Scripts.{HasPlan, IsRefusedLine}
+use Rattle.caa_commands.specs.Scripts.{HasPlan, SpellAccepted}
 use Rattle.caa_commands.specs.OutsideUse.{SinkUse, Call}
 
 -- the words are this command, the source tells these bytes, and no count of failed reads or failed writes rose
@@ -39,21 +37,20 @@ WasTold found sink answer =
 
 -- ---- `check`, `sim SEED`, `run`, `messages SEED` and `pool W`
 
--- a command that serves each script which it reads and which has a plan
+-- a command that serves each script which it reads and which is accepted
 abbrev pub ServesPlans : Command → Type 0
 ServesPlans command.Audit = ⊥
 ServesPlans (command.Graph most) = ⊥
 ServesPlans (command.Cell cycles) = ⊥
 ServesPlans _ = Unit {0}
 
--- the bytes spell a script with a plan, and the device didn't refuse to be laid out
+-- the bytes spell a script that is accepted, and the device didn't refuse to be laid out
 pub record IsServable {P : Type 0} (call : Call P) (sink : SinkUse) : Type 0 where
   pub served : Command
   pub plans : ServesPlans served
   pub bytes : List ℕ
   pub given : IsGiven call sink served bytes
-  pub plan : Plan
-  pub script : HasPlan bytes plan
+  pub script : SpellAccepted bytes
   pub laid : Rose call.left.plant.lay_faults_before call.left.plant.lay_faults_after → ⊥
 
 -- the command was served, or no memory was found
@@ -67,20 +64,11 @@ pub record IsCellAsked {P : Type 0} (call : Call P) (sink : SinkUse) (cycles : �
   pub asked : call.asked ≡ Some (command.Cell cycles)
   pub written : Rose sink.faults_before sink.faults_after → ⊥
 
--- the script of the cell has a plan, and the device didn't refuse to be laid out
+-- that is all that is needed: the script of the cell is accepted, whatever the number; and the device didn't refuse to be laid out
 pub record IsWorkable {P : Type 0} (call : Call P) (sink : SinkUse) : Type 0 where
   pub cycles : ℕ
   pub given : IsCellAsked call sink cycles
-  pub plan : Plan
-  pub script : IsPlanOf (cell_script cycles) plan
   pub laid : Rose call.left.plant.lay_faults_before call.left.plant.lay_faults_after → ⊥
-
--- a line of that script is refused
-pub record IsUnworkable {P : Type 0} (call : Call P) (sink : SinkUse) : Type 0 where
-  pub cycles : ℕ
-  pub given : IsCellAsked call sink cycles
-  pub refusal : Refusal
-  pub script : IsRefusedLine (cell_script cycles) refusal
 
 -- ---- `graph K`
 
@@ -163,5 +151,4 @@ pub record MissesNothing {P : Type 0} (call : Call P) (sink : SinkUse) (answer :
   pub printed : (text : List ℕ) → IsMakeable call sink text → WasPrinted text sink answer
   pub audited : (found : Finding) → IsAuditable call sink found → WasTold found sink answer
   pub refused : IsRefusable call sink → WasRefused answer
-  pub unworked : IsUnworkable call sink → WasRefused answer
   pub spared : NothingFailed call sink → IsSpared call answer

@@ -1,7 +1,7 @@
 //! The graph of sets that a script of primitive exceptions comes to, as a text.
 
 ghost use Rattle.std.specs.Prelude.{◌≡◌, ◌≤◌, IfOk, IfErr};
-ghost use Rattle.caa_commands.specs.Graphs.{HasNoGraph, IsGraphText, IsMadeFault};
+ghost use Rattle.caa_commands.specs.Graphs.{HasNoGraph, IsAcceptedGraph, IsMadeFault};
 
 use crate::fault::{Fault, Refusal};
 use crate::scripts::{NoPlan, script_of};
@@ -36,11 +36,12 @@ fn refusal_of(alloc: Global, error: MadeError) -> Result<Refusal, OutOfMemory>
     })
 }
 
-/// The text of the graph of all sets of at most so many of the exceptions that a script declares, which these bytes spell.
+/// The text of the graph of all sets of at most so many of the exceptions that a script declares, which these bytes spell. It isn't
+/// longer than a script may be, and the checks accept it.
 pub fn graph_text(alloc: Global, bytes: &[u8], most: u32) -> Result<Vec<u8>, NoPlan>
     requires some { 1 ≤ most }
     requires few { most ≤ 7 }
-    ensures text { IfOk result (λ text. IsGraphText most bytes.now text.items) }
+    ensures text { IfOk result (λ text. IsAcceptedGraph most bytes.now text.items) }
     ensures refused { IfErr result (HasNoGraph most bytes.now) }
 {
     let script = script_of(alloc, bytes)?;

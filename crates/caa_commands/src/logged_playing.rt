@@ -5,6 +5,7 @@ ghost use Rattle.entry_log.specs.Logs.{IsFresh, Tells};
 ghost use Rattle.journal_replay.specs.Hall.{plan_in, plant_in, journal_in, base_in};
 ghost use Rattle.caa_commands.specs.OutsideUse.{plant_use, left_of};
 ghost use Rattle.caa_commands.specs.Calls.{DoesNotBegin, SimComesTo, RunComesTo, PoolComesTo};
+ghost use Rattle.caa_commands.specs.Gates.{WasToldAll};
 ghost use Rattle.caa_commands.specs.Logging.{IsLogged, WasUsed};
 
 use crate::logging::{LogUse, LoggedDecision};
@@ -19,6 +20,7 @@ use entry_log::watched::{Watch, Watched};
 use journal_laws::{is_well_formed, keeps_laws};
 use journal_text::looks::seens::Seens;
 use place_plan::plans::plan::Plan;
+use role_driver::HandlerGate;
 use role_driver::running::{Finished, RunError, run};
 use role_driver::sim::sim;
 use std::alloc::Global;
@@ -105,7 +107,7 @@ pub fn run_logged<
     P: Plant + Send,
     K: Sink + Drop + Send,
     W: Watch + Drop + Send,
-    G: Gate + Sync,
+    G: Gate + HandlerGate + Sync,
     R: Threads + Wait + Sync,
 >(
     rt: &R,
@@ -122,6 +124,7 @@ pub fn run_logged<
     ensures logged { WasUsed ⟦<K as Sink>⟧ sink
         (IsLogged ⟦<K as Sink>⟧ plan result.decision.journal.entries result.decision.finding)
         result.decision.finding result.decision.journal.entries result.log }
+    ensures told { WasToldAll (G.was_told gate.now) (G.was_handed gate.now) result.decision.journal.entries }
 {
     keeps_laws(&plan);
     is_well_formed(&plan);

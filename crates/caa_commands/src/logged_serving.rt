@@ -7,6 +7,7 @@ ghost use Rattle.caa_commands.specs.Commands.{asks_for_input, most_seed, IsWithi
 ghost use Rattle.caa_commands.specs.inner.Parts.{quiet_command, threaded_command};
 ghost use Rattle.caa_commands.specs.OutsideUse.{source_use, plant_use, left_of, call_of, IsIdle};
 ghost use Rattle.caa_commands.specs.Calls.{InputComesTo, CameTo};
+ghost use Rattle.caa_commands.specs.Gates.{IsToldByRun};
 ghost use Rattle.caa_commands.specs.declared.logging.LogUse.{LogUse};
 ghost use Rattle.caa_commands.specs.Logging.{WasUsed, ScriptInLog, PlayedInLog};
 
@@ -24,6 +25,7 @@ use caa_base::outside::sink::Sink;
 use caa_base::outside::source::Source;
 use caa_base::written::limits::MOST_SCRIPT_BYTES;
 use entry_log::watched::Watch;
+use role_driver::HandlerGate;
 use std::alloc::Global;
 use std::sync::Wait;
 use std::thread::Threads;
@@ -141,11 +143,12 @@ pub fn decide_logged<S: Source, P: Plant, K: Sink + Drop, W: Watch + Drop>(
 }
 
 /// Plays in threads the script in these bytes. It need not return.
+#[tactic(auto, using(crate::proofs::GatesTold::idle_told))]
 fn play_script<
     P: Plant + Send,
     K: Sink + Drop + Send,
     W: Watch + Drop + Send,
-    G: Gate + Sync,
+    G: Gate + HandlerGate + Sync,
     R: Threads + Wait + Sync,
 >(
     rt: &R,
@@ -166,6 +169,7 @@ fn play_script<
         (left_of (plant_use ⟦<P as Plant>⟧ plant result.decision.plant) result.decision.journal.entries)
         result.decision.finding)
         result.decision.finding result.decision.journal.entries result.log }
+    ensures told { IsToldByRun (Some (threaded_command command)) (G.was_told gate.now) (G.was_handed gate.now) result.decision.journal.entries }
 {
     match plan_of(alloc, bytes) {
         Ok(plan) => match command {
@@ -180,13 +184,13 @@ fn play_script<
 }
 
 /// What a command comes to that is played in threads, over a source and a device, where it writes to a log. It need not return.
-#[tactic(auto, using(crate::proofs::CommandParts::threaded_reads, crate::proofs::CommandParts::threaded_most))]
+#[tactic(auto, using(crate::proofs::CommandParts::threaded_reads, crate::proofs::CommandParts::threaded_most, crate::proofs::GatesTold::idle_told))]
 fn play_read<
     S: Source,
     P: Plant + Send,
     K: Sink + Drop + Send,
     W: Watch + Drop + Send,
-    G: Gate + Sync,
+    G: Gate + HandlerGate + Sync,
     R: Threads + Wait + Sync,
 >(
     rt: &R,
@@ -212,6 +216,7 @@ fn play_read<
         (left_of (plant_use ⟦<P as Plant>⟧ plant result.decision.plant) result.decision.journal.entries))
         result.decision.finding)
         result.decision.finding result.decision.journal.entries result.log }
+    ensures told { IsToldByRun (Some (threaded_command command)) (G.was_told gate.now) (G.was_handed gate.now) result.decision.journal.entries }
     ensures count { S.faults source.old ≤ S.faults source.new }
 {
     match read_all(alloc, source, MOST_SCRIPT_BYTES) {
@@ -230,12 +235,13 @@ fn play_read<
 }
 
 /// The same of what was asked for, which may be no such command. It need not return.
+#[tactic(auto, using(crate::proofs::GatesTold::idle_told))]
 pub fn decide_logged_in_threads<
     S: Source,
     P: Plant + Send,
     K: Sink + Drop + Send,
     W: Watch + Drop + Send,
-    G: Gate + Sync,
+    G: Gate + HandlerGate + Sync,
     R: Threads + Wait + Sync,
 >(
     rt: &R,
@@ -261,6 +267,8 @@ pub fn decide_logged_in_threads<
         (left_of (plant_use ⟦<P as Plant>⟧ plant result.decision.plant) result.decision.journal.entries))
         result.decision.finding)
         result.decision.finding result.decision.journal.entries result.log }
+    ensures told { IsToldByRun (option_map threaded_command asked) (G.was_told gate.now) (G.was_handed gate.now)
+        result.decision.journal.entries }
     ensures count { S.faults source.old ≤ S.faults source.new }
 {
     match asked {

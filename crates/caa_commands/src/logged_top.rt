@@ -1,5 +1,6 @@
 ghost use Rattle.std.specs.Prelude.{◌≡◌, ◌≤◌, true, false, map, string_bytes};
 ghost use Rattle.caa_commands.specs.Commands.{command_of, asks_for_input, asks_for_threads, without_threads};
+ghost use Rattle.caa_commands.specs.Gates.{IsToldByRun};
 ghost use Rattle.caa_commands.specs.OutsideUse.{sink_use, call_over};
 ghost use Rattle.caa_commands.specs.Served.{MissesNothing};
 ghost use Rattle.entry_log.specs.Logs.{IsFresh};
@@ -16,6 +17,7 @@ use caa_base::outside::sink::Sink;
 use caa_base::outside::source::Source;
 use caa_base::written::journal::Journal;
 use entry_log::watched::Watch;
+use role_driver::HandlerGate;
 use std::alloc::Global;
 use std::sync::Wait;
 use std::thread::Threads;
@@ -119,7 +121,7 @@ pub fn top_logged<
     K: Sink + Drop + Send,
     P: Plant + Send,
     W: Watch + Drop + Send,
-    G: Gate + Sync,
+    G: Gate + HandlerGate + Sync,
     R: Threads + Wait + Sync,
 >(
     rt: &R,
@@ -144,6 +146,8 @@ pub fn top_logged<
         source.old source.new plant result.plant result.journal.entries)
         (sink_use ⟦<K as Sink>⟧ sink result.sink)
         result.status ∥₁ }
+    ensures told { IsToldByRun (command_of (map string_bytes words.now)) (G.was_told gate.now) (G.was_handed gate.now)
+        result.journal.entries }
     ensures source_count { S.faults source.old ≤ S.faults source.new }
 {
     let asked = threaded_command_of(words);

@@ -8,6 +8,7 @@ ghost use Rattle.journal_replay.specs.Hall.{plan_in, plant_in, journal_in, base_
 ghost use Rattle.journal_replay.specs.Device.{attempts_in, history_after};
 ghost use Rattle.caa_commands.specs.declared.finding.Finding.{Finding};
 ghost use Rattle.caa_commands.specs.FailedPlays.{is_failed_play, has_failed_play};
+ghost use Rattle.caa_commands.specs.Gates.{WasToldAll};
 ghost use Rattle.caa_commands.specs.OutsideUse.{plant_use, left_of, IsIdle};
 ghost use Rattle.cell_workload.specs.CellScript.{most_cycles};
 ghost use Rattle.caa_commands.specs.Calls.{EndsAs, EndsWith, DoesNotBegin, IsSimulated, SimComesTo, CellComesTo, RunComesTo, PoolComesTo};
@@ -24,6 +25,7 @@ use journal_replay::hall::OpenCause;
 use journal_text::looks::seens::Seens;
 use journal_text::texts::text_writer::write;
 use place_plan::plans::plan::Plan;
+use role_driver::HandlerGate;
 use role_driver::running::{Finished, RunError, run};
 use role_driver::sim::sim;
 use std::alloc::Global;
@@ -242,8 +244,8 @@ pub fn ended_in_threads<P: Plant>(
 }
 
 /// Plays a plan to its end, each participant in a thread of its own, and writes the text of its journal with what the watchers
-/// saw. It need not return.
-pub fn run_plan<P: Plant + Send, G: Gate + Sync, R: Threads + Wait + Sync>(
+/// saw. The gate is told of each work and each handler. It need not return.
+pub fn run_plan<P: Plant + Send, G: Gate + HandlerGate + Sync, R: Threads + Wait + Sync>(
     rt: &R,
     alloc: Global,
     plan: Plan,
@@ -251,8 +253,9 @@ pub fn run_plan<P: Plant + Send, G: Gate + Sync, R: Threads + Wait + Sync>(
     gate: &G,
 ) -> Decision<P>
     requires { is_well_named plan ≡ true }
-    ensures { RunComesTo plan result.finding
+    ensures comes { RunComesTo plan result.finding
         (left_of (plant_use ⟦<P as Plant>⟧ plant result.plant) result.journal.entries) }
+    ensures told { WasToldAll (G.was_told gate.now) (G.was_handed gate.now) result.journal.entries }
 {
     keeps_laws(&plan);
     is_well_formed(&plan);

@@ -8,6 +8,7 @@ ghost use Rattle.caa_commands.specs.declared.command.Command.{Command};
 ghost use Rattle.caa_commands.specs.Commands.{asks_for_input, IsWithinRange};
 ghost use Rattle.caa_commands.specs.OutsideUse.{source_use, plant_use, left_of, call_of};
 ghost use Rattle.caa_commands.specs.Calls.{AuditComesTo, Prints, PlanComesTo, InputComesTo, unread_finding, CameTo};
+ghost use Rattle.caa_commands.specs.Gates.{IsToldByRun};
 ghost use Rattle.caa_commands.specs.Inputs.{most_bytes, script_in};
 ghost use Rattle.caa_commands.specs.inner.Parts.{plan_command, input_command, quiet_command, threaded_command};
 
@@ -28,6 +29,7 @@ use caa_base::outside::source::Source;
 use caa_base::written::limits::{MOST_AUDIT_BYTES, MOST_AUDITED, MOST_SCRIPT_BYTES};
 use message_plays::messages_text;
 use place_plan::plans::plan::Plan;
+use role_driver::HandlerGate;
 use script_checker::check_error::CheckCause;
 use std::alloc::Global;
 use std::sync::Wait;
@@ -214,7 +216,8 @@ pub fn decide<S: Source, P: Plant>(
 }
 
 /// Plays in threads the script in these bytes. It need not return.
-fn play_in_threads<P: Plant + Send, G: Gate + Sync, R: Threads + Wait + Sync>(
+#[tactic(auto, using(crate::proofs::GatesTold::idle_told))]
+fn play_in_threads<P: Plant + Send, G: Gate + HandlerGate + Sync, R: Threads + Wait + Sync>(
     rt: &R,
     alloc: Global,
     command: Threaded,
@@ -223,8 +226,9 @@ fn play_in_threads<P: Plant + Send, G: Gate + Sync, R: Threads + Wait + Sync>(
     gate: &G,
 ) -> Decision<P>
     requires range { IsWithinRange (threaded_command command) }
-    ensures { InputComesTo (threaded_command command) bytes.now result.finding
+    ensures comes { InputComesTo (threaded_command command) bytes.now result.finding
         (left_of (plant_use ⟦<P as Plant>⟧ plant result.plant) result.journal.entries) }
+    ensures told { IsToldByRun (Some (threaded_command command)) (G.was_told gate.now) (G.was_handed gate.now) result.journal.entries }
 {
     match plan_of(alloc, bytes) {
         Ok(plan) => match command {
@@ -237,8 +241,8 @@ fn play_in_threads<P: Plant + Send, G: Gate + Sync, R: Threads + Wait + Sync>(
 }
 
 /// What a command comes to that is played in threads, over a source and a device. It need not return.
-#[tactic(auto, using(crate::proofs::CommandParts::threaded_reads, crate::proofs::CommandParts::threaded_most))]
-fn play_read<S: Source, P: Plant + Send, G: Gate + Sync, R: Threads + Wait + Sync>(
+#[tactic(auto, using(crate::proofs::CommandParts::threaded_reads, crate::proofs::CommandParts::threaded_most, crate::proofs::GatesTold::idle_told))]
+fn play_read<S: Source, P: Plant + Send, G: Gate + HandlerGate + Sync, R: Threads + Wait + Sync>(
     rt: &R,
     alloc: Global,
     command: Threaded,
@@ -252,6 +256,7 @@ fn play_read<S: Source, P: Plant + Send, G: Gate + Sync, R: Threads + Wait + Syn
         (source_use ⟦<S as Source>⟧ source.old source.new)
         (left_of (plant_use ⟦<P as Plant>⟧ plant result.plant) result.journal.entries))
         result.finding }
+    ensures told { IsToldByRun (Some (threaded_command command)) (G.was_told gate.now) (G.was_handed gate.now) result.journal.entries }
     ensures count { S.faults source.old ≤ S.faults source.new }
 {
     match read_all(alloc, source, MOST_SCRIPT_BYTES) {
@@ -261,7 +266,8 @@ fn play_read<S: Source, P: Plant + Send, G: Gate + Sync, R: Threads + Wait + Syn
 }
 
 /// The same of what was asked for, which may be no such command. It need not return.
-pub fn decide_in_threads<S: Source, P: Plant + Send, G: Gate + Sync, R: Threads + Wait + Sync>(
+#[tactic(auto, using(crate::proofs::GatesTold::idle_told))]
+pub fn decide_in_threads<S: Source, P: Plant + Send, G: Gate + HandlerGate + Sync, R: Threads + Wait + Sync>(
     rt: &R,
     alloc: Global,
     asked: Option<Threaded>,
@@ -275,6 +281,8 @@ pub fn decide_in_threads<S: Source, P: Plant + Send, G: Gate + Sync, R: Threads 
         (source_use ⟦<S as Source>⟧ source.old source.new)
         (left_of (plant_use ⟦<P as Plant>⟧ plant result.plant) result.journal.entries))
         result.finding }
+    ensures told { IsToldByRun (option_map threaded_command asked) (G.was_told gate.now) (G.was_handed gate.now)
+        result.journal.entries }
     ensures count { S.faults source.old ≤ S.faults source.new }
 {
     match asked {

@@ -1,6 +1,7 @@
 ghost use Rattle.std.specs.Prelude.{◌≡◌, ◌≤◌, [], if◌then◌else◌, true, false, map, string_bytes};
 ghost use Rattle.caa_commands.specs.Commands.{command_of, asks_for_input, asks_for_threads, without_threads};
 ghost use Rattle.caa_commands.specs.Findings.{is_played};
+ghost use Rattle.caa_commands.specs.Gates.{IsToldByRun};
 ghost use Rattle.caa_commands.specs.OutsideUse.{sink_use, call_over};
 ghost use Rattle.caa_commands.specs.Calls.{Tells, Answers};
 ghost use Rattle.caa_commands.specs.Served.{MissesNothing};
@@ -16,6 +17,7 @@ use caa_base::outside::reading::write_all;
 use caa_base::outside::sink::Sink;
 use caa_base::outside::source::Source;
 use caa_base::written::journal::Journal;
+use role_driver::HandlerGate;
 use std::alloc::Global;
 use std::sync::Wait;
 use std::thread::Threads;
@@ -126,7 +128,13 @@ pub fn top_quiet<S: Source, K: Sink, P: Plant>(
 /// and plays it to its end by W workers, each in a thread of its own, who take the seats of participants by turns and call the gate
 /// in the same way. It writes the text of the journal too, and nobody watches. Things are tried in the same order as for `sim`, and
 /// what is handed back is the same.
-pub fn top<S: Source, K: Sink, P: Plant + Send, G: Gate + Sync, R: Threads + Wait + Sync>(
+pub fn top<
+    S: Source,
+    K: Sink,
+    P: Plant + Send,
+    G: Gate + HandlerGate + Sync,
+    R: Threads + Wait + Sync,
+>(
     rt: &R,
     alloc: Global,
     words: &[String],
@@ -149,6 +157,9 @@ pub fn top<S: Source, K: Sink, P: Plant + Send, G: Gate + Sync, R: Threads + Wai
         (sink_use ⟦<K as Sink>⟧ sink.old sink.new)
         result.status }
 
+    // With `run` the gate was told of each work in the journal, and of each handler that begins there.
+    ensures told { IsToldByRun (command_of (map string_bytes words.now)) (G.was_told gate.now) (G.was_handed gate.now)
+        result.journal.entries }
     ensures room { K.room sink.new ≡ K.room sink.old }
     ensures source_count { S.faults source.old ≤ S.faults source.new }
     ensures sink_count { K.faults sink.old ≤ K.faults sink.new }

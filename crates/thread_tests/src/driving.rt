@@ -89,6 +89,38 @@ fn threads_call_the_gate(rt: HostRuntime) -> Result<(), Fail> {
     Ok(())
 }
 
+/// A gate that counts the handlers for `mid` in the place 0, and all others as 1,000 each.
+#[derive(Drop)]
+struct Handlers {
+    calls: AtomicU64,
+}
+
+impl Gate for Handlers {
+    fn work(&self, _by: Participant, _place: Place) {}
+
+    fn handle(&self, _by: Participant, place: Place, exception: Exception) {
+        let call = if place == 0 && exception == MID {
+            1
+        } else {
+            1000
+        };
+        self.calls.fetch_add(call, Ordering::SeqCst);
+    }
+}
+
+/// The gate is told once of each of the two handlers.
+#[test]
+fn threads_tell_of_handlers(rt: HostRuntime) -> Result<(), Fail> {
+    let gate = Handlers {
+        calls: AtomicU64::new(0),
+    };
+    ended(run(&rt, rt.alloc(), hall(rt.alloc(), TWO_SIBLINGS)?, &gate))?;
+    assert_eq!(rt; gate.calls.load(Ordering::SeqCst), 2);
+    ended(pool(&rt, rt.alloc(), hall(rt.alloc(), TWO_SIBLINGS)?, 1, &gate))?;
+    assert_eq!(rt; gate.calls.load(Ordering::SeqCst), 4);
+    Ok(())
+}
+
 /// A manager of a machine that has no entry yet, with its seats and with one observer.
 fn opened<M: Machine + Drop, R: Wait + Abort>(
     rt: &R,

@@ -1,11 +1,15 @@
-use Rattle.std.proofs.Common.{IfOk, IfErr, subst}
-use Rattle.caa_commands.specs.Scripts.{IsOnlyPlan, IsUnplanned}
+use Rattle.std.proofs.Common.{subst}
+use Rattle.action_script.specs.Forms.ScriptValue.{Script}
+use Rattle.caa_commands.specs.Scripts.{IsOnlyPlan, IsRefusedLine, IsUnplanned}
+use Rattle.caa_commands.proofs.NotRefused.{accepted_not_refused}
 use Rattle.caa_commands.proofs.cells.cell_plan.Goals as goal
 
-pub returns-clause-plan : goal.returns-clause-plan
-returns-clause-plan c =
-    subst (λ s. IfOk c.plan_of_script.result (IsOnlyPlan s)) c.in_ok-script.ensures c.plan_of_script.ensures.plan
+pub returns-in-Ok : goal.returns-in-Ok
+returns-in-Ok c = subst (λ (s : Script). IsOnlyPlan s c.in-Ok.plan) c.in_ok-script.ensures.value c.in-Ok.ensures.plan
 
-pub returns-clause-refused : goal.returns-clause-refused
-returns-clause-refused c =
-    subst (λ s. IfErr c.plan_of_script.result (IsUnplanned s)) c.in_ok-script.ensures c.plan_of_script.ensures.refused
+pub unreachable-requires : goal.unreachable-requires
+unreachable-requires c =
+    let script = c.in_ok-script.script in
+    let refused : IsRefusedLine script c.in-Err-Refused.field-0-0 =
+    subst (IsUnplanned script) c.in-Err-Refused.field-0-is c.in-Err-Refused.ensures.refused in
+    accepted_not_refused script refused.error c.in_ok-script.ensures.accepted refused.first

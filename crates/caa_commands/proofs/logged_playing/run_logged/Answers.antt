@@ -11,6 +11,9 @@ use Rattle.caa_commands.specs.OutsideUse.{Left, plant_use, left_of}
 use Rattle.caa_commands.specs.FailedPlays.{IsPlayed}
 use Rattle.caa_commands.specs.Calls.{EndsAs, RunComesTo}
 use Rattle.caa_commands.specs.Logging.{IsLogged}
+use Rattle.role_driver.specs.Handling.{TellsHandlers}
+use Rattle.role_driver.specs.Working.{TellsWork}
+use Rattle.caa_commands.proofs.GatesTold.{begins_none, nothing_told}
 use Rattle.caa_commands.proofs.PlayedHistory.{went_on, only_laid, nothing_played}
 use Rattle.caa_commands.proofs.Reversed.{all_well_formed}
 use Rattle.place_plan.specs.Plans.PlanValue.{Plan}
@@ -141,3 +144,26 @@ returns-in-Err-run-clause-logged g c =
       seens = [];
       ends = subst (EndsAs c.args.plan c.unplayed.result.journal.entries []) (sym left.finding) tt;
     }
+
+pub returns-clause-told : goal.returns-clause-told
+returns-clause-told g c =
+    let ran = c.in-Ok-run.ensures in
+    let begun = ap journal_in c.new-logged.ensures.machine ∙ c.in-Ok.ensures.journal in
+    let left = c.ended_in_threads.ensures.journal ∙ c.into_parts-plan.ensures.journal ∙ ap journal_in c.into_parts-hall-2.ensures.machine in
+    record {
+      works = subst₂ (TellsWork (g.G.Gate.was_told c.args.gate.now)) begun (sym left) ran.told;
+      handlers = subst₂ (TellsHandlers (g.G.HandlerGate.was_handed c.args.gate.now)) begun (sym left) ran.handed;
+    }
+
+pub returns-in-Err-clause-told : goal.returns-in-Err-clause-told
+returns-in-Err-clause-told g c =
+    let decision = c.in-Err.unopened.decision in
+    nothing_told (g.G.Gate.was_told c.args.gate.now) (g.G.HandlerGate.was_handed c.args.gate.now) decision.journal.entries
+    (begins_none c.args.plan decision.finding (left_of (plant_use g.P.Plant c.args.plant decision.plant) decision.journal.entries)
+    c.in-Err.ensures.refused)
+
+pub returns-in-Err-run-clause-told : goal.returns-in-Err-run-clause-told
+returns-in-Err-run-clause-told g c =
+    let same = c.into_parts-hall.ensures.machine ∙ ap (λ l. l.machine) c.in-Err-run.ensures.refused ∙ c.new-logged.ensures.machine in
+    nothing_told (g.G.Gate.was_told c.args.gate.now) (g.G.HandlerGate.was_handed c.args.gate.now) c.unplayed.result.journal.entries
+    (c.unplayed.ensures.journal ∙ ap journal_in same ∙ c.in-Ok.ensures.journal)

@@ -1,7 +1,8 @@
-use Rattle.std.proofs.Common.{◌≡◌, sym, subst₂}
+use Rattle.std.proofs.Common.{◌≡◌, ◌∙◌, sym, subst₂}
 use Rattle.std.proofs.Math.Logic.{∥∥₁_map}
 use Rattle.caa_commands.specs.OutsideUse.{source_use, plant_use, left_of, call_of, sink_use}
 use Rattle.caa_commands.specs.Logging.{LogAnswers}
+use Rattle.caa_commands.proofs.GatesTold.{log_told}
 use Rattle.caa_commands.proofs.LoggedCalls.{log_answered, log_complete}
 use Rattle.caa_commands.proofs.logged_top.top_logged.Goals as goal
 
@@ -17,3 +18,8 @@ returns-clause-answer g c =
 
 pub returns-clause-completeness : goal.returns-clause-completeness
 returns-clause-completeness g c = ∥∥₁_map (returns-clause-answer g c) (λ a. log_complete _ _ _ a)
+
+pub returns-clause-told : goal.returns-clause-told
+returns-clause-told g c = λ is.
+    log_told (g.G.Gate.was_told c.args.gate.now) (g.G.HandlerGate.was_handed c.args.gate.now) g.K.Sink _ _ _ _ _ _
+    (c.decide_logged_in_threads-decided.ensures.told (c.threaded_command_of-asked.ensures.command c.requires.threads ∙ is)) c.tell_logged.ensures.told

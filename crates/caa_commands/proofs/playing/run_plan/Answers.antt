@@ -12,6 +12,9 @@ use Rattle.caa_commands.specs.Findings.{is_played}
 use Rattle.caa_commands.specs.FailedPlays.{IsPlayed}
 use Rattle.caa_commands.specs.OutsideUse.{Left, plant_use, left_of}
 use Rattle.caa_commands.specs.Calls.{EndsAs, RunComesTo}
+use Rattle.role_driver.specs.Handling.{TellsHandlers}
+use Rattle.role_driver.specs.Working.{TellsWork}
+use Rattle.caa_commands.proofs.GatesTold.{begins_none, nothing_told}
 use Rattle.caa_commands.proofs.PlayedHistory.{went_on, only_laid, nothing_played}
 use Rattle.caa_commands.proofs.Reversed.{all_well_formed}
 use Rattle.caa_commands.proofs.playing.run_plan.Goals as goal
@@ -35,8 +38,8 @@ comes plan left found None played right ends lost =
       ends = subst (EndsAs plan left.journal []) (sym lost) tt;
     })
 
-pub returns : goal.returns
-returns g c =
+pub returns-clause-comes : goal.returns-clause-comes
+returns-clause-comes g c =
     let parts = c.into_parts-plan.ensures in
     let opened = c.in-Ok.ensures in
     let ran = c.in-Ok-run.ensures in
@@ -68,8 +71,8 @@ returns g c =
     subst₂ (λ q j. RunComesTo plan finding (left_of (plant_use g.P.Plant c.args.plant q) j)) (sym told.plant) (sym told.journal)
     (comes plan (left_of (plant_use g.P.Plant c.args.plant plant) journal) finding seens played right ends told.refused)
 
-pub returns-in-Err-run : goal.returns-in-Err-run
-returns-in-Err-run g c =
+pub returns-in-Err-run-clause-comes : goal.returns-in-Err-run-clause-comes
+returns-in-Err-run-clause-comes g c =
     let opened = c.in-Ok.ensures in
     let same = c.in-Err-run.ensures.refused in
     let left = c.unplayed.ensures in
@@ -95,3 +98,23 @@ pub ended_in_threads-requires-clause-watches : goal.ended_in_threads-requires-cl
 ended_in_threads-requires-clause-watches g c =
     let ran = c.in-Ok-run.ensures in
     subst (λ p. IfSome c.in-Ok-run.finished.seens (λ s. AreOfPlan p s.seens)) (sym (c.into_parts-plan.ensures.plan ∙ ran.plan)) ran.of_plan
+
+pub returns-clause-told : goal.returns-clause-told
+returns-clause-told g c =
+    let ran = c.in-Ok-run.ensures in
+    let left = c.ended_in_threads.ensures.journal ∙ c.into_parts-plan.ensures.journal in
+    record {
+      works = subst₂ (TellsWork (g.G.Gate.was_told c.args.gate.now)) c.in-Ok.ensures.journal (sym left) ran.told;
+      handlers = subst₂ (TellsHandlers (g.G.HandlerGate.was_handed c.args.gate.now)) c.in-Ok.ensures.journal (sym left) ran.handed;
+    }
+
+pub returns-in-Err-clause-told : goal.returns-in-Err-clause-told
+returns-in-Err-clause-told g c =
+    let left = left_of (plant_use g.P.Plant c.args.plant c.in-Err.unopened.plant) c.in-Err.unopened.journal.entries in
+    nothing_told (g.G.Gate.was_told c.args.gate.now) (g.G.HandlerGate.was_handed c.args.gate.now) c.in-Err.unopened.journal.entries
+    (begins_none c.args.plan c.in-Err.unopened.finding left c.in-Err.ensures.refused)
+
+pub returns-in-Err-run-clause-told : goal.returns-in-Err-run-clause-told
+returns-in-Err-run-clause-told g c =
+    nothing_told (g.G.Gate.was_told c.args.gate.now) (g.G.HandlerGate.was_handed c.args.gate.now) c.unplayed.result.journal.entries
+    (c.unplayed.ensures.journal ∙ ap journal_in c.in-Err-run.ensures.refused ∙ c.in-Ok.ensures.journal)

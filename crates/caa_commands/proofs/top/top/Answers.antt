@@ -1,4 +1,6 @@
+use Rattle.std.proofs.Common.{◌∙◌}
 use Rattle.caa_commands.proofs.CallsServed.{complete}
+use Rattle.caa_commands.proofs.GatesTold.{kept_told}
 use Rattle.caa_commands.proofs.ToldCalls.{answered}
 use Rattle.caa_commands.proofs.top.top.Goals as goal
 
@@ -10,3 +12,8 @@ returns-clause-answer g c =
 
 pub returns-clause-completeness : goal.returns-clause-completeness
 returns-clause-completeness g c = complete _ _ _ (returns-clause-answer g c)
+
+pub returns-clause-told : goal.returns-clause-told
+returns-clause-told g c = λ is.
+    kept_told (g.G.Gate.was_told c.args.gate.now) (g.G.HandlerGate.was_handed c.args.gate.now) _ _ _ _ _
+    (c.decide_in_threads-decision.ensures.told (c.threaded_command_of.ensures.command c.requires.threads ∙ is)) c.tell.ensures.tells
