@@ -1,7 +1,8 @@
 //! The page of an input, and its trace.
 
-ghost use Rattle.std.specs.Prelude.{IfOk};
+ghost use Rattle.std.specs.Prelude.{◌≡◌, true, IfOk};
 ghost use Rattle.place_plan.specs.RulesOfJournals.WellFormed.{AllWellFormed};
+ghost use Rattle.journal_text.specs.Texts.Naming.{is_well_named};
 
 use crate::judging::Scene;
 use crate::lines::Lines;
@@ -53,8 +54,9 @@ fn show_scene(
     bytes: &[u8],
     script_text: &[u8],
     start: Option<JournalStart>,
-) -> Result<Shown, OutOfMemory> {
-    has_own_names(scene.script, scene.plan);
+) -> Result<Shown, OutOfMemory>
+    requires { is_well_named scene.now.plan.now ≡ true }
+{
     let told = show_plan(alloc, View::Explain, scene, file, bytes, start)?;
     let subject = Subject {
         file,
@@ -84,6 +86,7 @@ pub fn show_page(
 ) -> Result<Shown, OutOfMemory> {
     match look(alloc, file, script_text)? {
         Seen::Accepted(script, plan) => {
+            has_own_names(&script, &plan);
             let scene = Scene {
                 script: &script,
                 plan: &plan,
