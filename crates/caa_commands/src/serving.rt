@@ -267,14 +267,12 @@ fn play_read<S: Source, P: Plant + Send, G: Gate + HandlerGate + Sync, R: Thread
 
 /// The same of what was asked for, which may be no such command. It need not return.
 #[tactic(auto, using(crate::proofs::GatesTold::idle_told))]
-pub fn decide_in_threads<S: Source, P: Plant + Send, G: Gate + HandlerGate + Sync, R: Threads + Wait + Sync>(
-    rt: &R,
-    alloc: Global,
-    asked: Option<Threaded>,
-    source: &mut S,
-    plant: P,
-    gate: &G,
-) -> Decision<P>
+pub fn decide_in_threads<
+    S: Source,
+    P: Plant + Send,
+    G: Gate + HandlerGate + Sync,
+    R: Threads + Wait + Sync,
+>(rt: &R, alloc: Global, asked: Option<Threaded>, source: &mut S, plant: P, gate: &G) -> Decision<P>
     requires range { IfSome asked (λ c. IsWithinRange (threaded_command c)) }
     ensures came { CameTo
         (call_of (option_map threaded_command asked)
