@@ -43,7 +43,7 @@ fn call<
     requires alike { TellsAlike ⟦<K as Sink>⟧ }
     ensures answer { ∥ LogAnswers
         (call_over ⟦<S as Source>⟧ ⟦<Noted<'a, A, C, O> as Plant>⟧ (served_of (command_of (map string_bytes words.now)))
-        source.old source.new device result.plant result.journal.entries)
+        source.old source.new device.entry result.plant result.journal.entries)
         (sink_use ⟦<K as Sink>⟧ sink result.sink)
         result.status ∥₁ }
 {
@@ -80,11 +80,11 @@ pub fn serve<
     requires alike { TellsAlike ⟦<K as Sink>⟧ }
     ensures answer { ∥ LogAnswers
         (call_over ⟦<S as Source>⟧ ⟦<Noted<'a, A, C, O> as Plant>⟧ (served_of (command_of (map string_bytes words.now)))
-        source.old source.new device result.plant result.journal.entries)
+        source.old source.new device.entry result.plant result.journal.entries)
         (sink_use ⟦<K as Sink>⟧ sink result.sink)
         result.status ∥₁ }
     ensures wire { ∥ IsOnWire ⟦<C as Sink>⟧
-        (plant_use ⟦<Noted<'a, A, C, O> as Plant>⟧ device result.plant)
+        (plant_use ⟦<Noted<'a, A, C, O> as Plant>⟧ device.entry result.plant)
         result.plant.plant ∥₁ }
 {
     let end = call(rt, alloc, words, source, sink, device, watcher);
