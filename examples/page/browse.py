@@ -192,7 +192,8 @@ def open_long(browser, program, player, entries, folder):
     browser.open(page)
     opened, steps = time.monotonic(), browser.run(STEPS)
     count = int(browser.run("document.getElementById('step').max"))
-    print(f"a page of {count} entries: {size} bytes, made in {made - begin:.1f} s, opens in {opened - made:.1f} s, a step in {steps:.0f} ms")
+    took = f"made in {made - begin:.1f} s, opens in {opened - made:.1f} s, a step in {steps:.0f} ms"
+    print(f"a page of {count} entries: {size} bytes, {took}")
     wrong = [f"long: {it}" for it in browser.errors()]
     if browser.run("location.hash") != "#20" or count < entries * 9 // 10:
         wrong.append(f"long: a page of {entries} entries doesn't step")
