@@ -45,11 +45,11 @@ orange       is in a handler
 hatched      waits
 thin         is in a place, and may go on
 pale         comes later
-red words    for what somebody waits: a click
-             leads to the entry that ends it
+red words    what is waited for; a click
+             leads to what ends the wait
 -            folds what is done in a place
 arrows       a step on or back
-shift+arrows the same participant's next entry
+shift+arrows the same maker's next entry
 r            the next raise
 f            the next refused restore
 Home, End    the first, the last</pre></details><details open><summary>Graphs</summary><div id='graphs'></div></details></aside>
