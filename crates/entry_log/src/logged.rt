@@ -5,7 +5,7 @@ ghost use Rattle.caa_base.specs.declared.written.entry.Entry.{Entry as JournalEn
 ghost use Rattle.entry_log.specs.Telling.{after_answer, MadeWell};
 
 use crate::log::Log;
-use caa_base::written::entry::{Entry, Object, Participant};
+use caa_base::written::entry::{Entry, Object, Participant, Place};
 use caa_base::written::work::WorkDone;
 use journal_laws::is_well_formed;
 use place_plan::plans::plan::Plan;
@@ -77,6 +77,14 @@ impl<M: Machine, L: Log> Machine for Logged<M, L> {
         let answer = self.machine.next(by, hint);
         tell(&mut self.log, self.machine.plan(), &answer);
         answer
+    }
+
+    /// Has the machine add the entry, and tells the log of it.
+    fn work(&mut self, by: Participant, place: Place, done: &WorkDone) -> Entry {
+        is_well_formed(self.machine.plan());
+        let entry = self.machine.work(by, place, done);
+        tell(&mut self.log, self.machine.plan(), &Answer::Did(entry));
+        entry
     }
 
     fn journal_len(&self) -> u64 {

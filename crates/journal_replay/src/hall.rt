@@ -24,7 +24,9 @@ use crate::past::Past;
 use crate::records::Records;
 use crate::rule::turn;
 use caa_base::outside::plant::{Plant, PlantError};
-use caa_base::written::entry::{Drill, Entry, Failed, Kind, Object, OutOfMemory, Participant};
+use caa_base::written::entry::{
+    Drill, Entry, Failed, Kind, Object, OutOfMemory, Participant, Place,
+};
 use caa_base::written::journal::Journal;
 use caa_base::written::work::WorkDone;
 use journal_laws::{is_bounded, is_well_formed, last_put_is_value};
@@ -389,6 +391,17 @@ impl<P: Plant, R: Records> Machine for Played<P, R> {
                 Due::Put { well, fault } => Answer::Did(self.ask(well, fault)),
             },
         }
+    }
+
+    fn work(&mut self, by: Participant, place: Place, done: &WorkDone) -> Entry {
+        let work = Work {
+            place,
+            rounds: done.rounds(),
+            from: done.from(),
+        };
+        let entry = work.entry(by, done);
+        self.add(entry);
+        entry
     }
 
     fn journal_len(&self) -> u64 {

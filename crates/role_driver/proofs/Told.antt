@@ -12,7 +12,7 @@ use Rattle.place_plan.specs.declared.rules.machine.Answer.{Answer}
 use Rattle.place_plan.specs.declared.rules.machine.Answer.TheVariants as answer
 use Rattle.action_manager.specs.OwnEntries.{Journal, entries_by}
 use Rattle.action_manager.specs.Stepping.{GrowsWithout, Steps, did_work, AnswersOn, AnswersTurn}
-use Rattle.role_driver.specs.Working.{asks_for_work, AsksStill, IsTold, IsToldOf, GoesOnWith, TellsWork, TellsOwnWork}
+use Rattle.role_driver.specs.Working.{asks_for_work, AsksStill, IsTold, IsToldOf, GoesOnWith, TellsOwnWork}
 use Rattle.role_driver.proofs.SameWork.{none_added, work_place, work_stays}
 
 all_both : (P : Entry → Type 0) (xs ys : List Entry) → AllByRecursion P xs → AllByRecursion P ys → AllByRecursion P (xs ++ ys)
@@ -54,10 +54,6 @@ turned P plan old new t hint a h one two =
     by : (more : Bool) → AnswersOn plan h.mid new t h.first a more → GoesOnWith P h.mid new
     by true k = answered P plan h.mid new t None a k two
     by false k = goes_nowhere P h.mid new k.0
-
--- a journal that stays has no more of anybody
-stays : (old : Journal) (t : ℕ) → GrowsWithout old old t
-stays old t = record { begins = ([], append-nil old); alone = refl }
 
 -- entries of others alone
 others_each : (P : Entry → Type 0) (t : ℕ) (more : List Entry) → filter (λ (e : Entry). e.by == t) more ≡ []
@@ -102,14 +98,6 @@ module _ (was_told : ℕ → ℕ → Type 0) where
   work_is_told plan old before new t p k from hint asked told alone e did is =
       subst (λ q. was_told e.by q) (sym (work_place plan old before t p k from e asked alone did.may is did.own))
       (subst (λ b. was_told b p) (sym did.own) told)
-
-  -- an answer that asks for work, and then one with a hint
-  pub hinted : (plan : Plan) (old mid new : Journal) (t p k : ℕ) (from : ℤ) (hint : Option Worked) (a : Answer)
-      → Answers plan old mid t None (answer.Work p k from) → was_told t p → Answers plan mid new t hint a → TellsWork was_told old new
-  hinted plan old mid new t p k from hint a first told second =
-      let asked = subst (λ xs. MayFollow plan (reverse xs) (work_entry p t k from)) (sym first.kept) first.may in
-      goes_further (IsTold was_told) old mid new (goes_nowhere (IsTold was_told) old mid first.kept)
-      (answered (IsTold was_told) plan mid new t hint a second (work_is_told plan mid mid new t p k from hint asked told (stays mid t)))
 
   -- a step that brings the work that was asked for
   pub work_told : (plan : Plan) (seen new : Journal) (t p k : ℕ) (from : ℤ) (hint : Option Worked) (a : Answer)

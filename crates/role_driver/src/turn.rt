@@ -9,7 +9,7 @@ use action_manager::unwoken;
 use caa_base::outside::gate::Gate;
 use caa_base::written::entry::{Entry, Participant};
 use core_words::crew::{Crew, is_in, with};
-use journal_laws::{at_most_one, goes_on, sleeps_on};
+use journal_laws::{goes_on, sleeps_on};
 use place_plan::rules::machine::{Answer, Machine};
 
 /// Lets a participant make its entry, if it has one, and gives it. Mixing work is done here, once the gate was called.
@@ -23,7 +23,6 @@ fn act<M: Machine, G: Gate>(machine: &mut M, by: Participant, gate: &G) -> Optio
         (Acts (M.plan_of machine.old) (M.journal_of machine.old) (M.journal_of machine.new) by) }
     ensures told { TellsWork (G.was_told gate.now) (M.journal_of machine.old) (M.journal_of machine.new) }
 {
-    at_most_one(machine.plan());
     match machine.next(by, None) {
         Answer::Did(entry) => Some(entry),
         Answer::NotYet | Answer::Over => None,
@@ -32,12 +31,8 @@ fn act<M: Machine, G: Gate>(machine: &mut M, by: Participant, gate: &G) -> Optio
             rounds,
             from,
         } => {
-            let work = mix(gate, by, place, from, rounds);
-            if let Answer::Did(entry) = machine.next(by, Some(work)) {
-                Some(entry)
-            } else {
-                unreachable!()
-            }
+            let done = mix(gate, by, place, from, rounds);
+            Some(machine.work(by, place, &done))
         }
     }
 }

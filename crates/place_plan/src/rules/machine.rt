@@ -1,4 +1,4 @@
-ghost use Rattle.std.specs.Prelude.{◌≡◌, ◌<◌, ◌≤◌, ◌+◌, ◌-◌, ◌^◌, ℕ, List, length, slice_index_or, reverse, IsTrue, ◌↔◌};
+ghost use Rattle.std.specs.Prelude.{◌≡◌, ◌<◌, ◌≤◌, ◌+◌, ◌-◌, ◌^◌, ◌∷◌, ◌++◌, [], ℕ, List, length, slice_index_or, reverse, IsTrue, ◌↔◌};
 ghost use Rattle.caa_base.specs.declared.written.entry.Entry.{Entry as JournalEntry};
 ghost use Rattle.place_plan.specs.Plans.Bound.{bound};
 ghost use Rattle.place_plan.specs.Plans.PlanValue.{Plan as PlanValue};
@@ -6,7 +6,8 @@ ghost use Rattle.place_plan.specs.declared.rules.machine.Base.{Base as BaseValue
 ghost use Rattle.place_plan.specs.RulesOfJournals.Objects.{value_of};
 ghost use Rattle.place_plan.specs.RulesOfJournals.Journals.{LegalPast, IsComplete, faults_in};
 ghost use Rattle.caa_base.specs.Outside.Counts.{CountsFault};
-ghost use Rattle.place_plan.specs.RulesOfJournals.Machine.{Answers, made_fault};
+ghost use Rattle.place_plan.specs.RulesOfJournals.Rules.{MayFollow};
+ghost use Rattle.place_plan.specs.RulesOfJournals.Machine.{Answers, made_fault, work_entry};
 
 use crate::plans::plan::Plan;
 use caa_base::outside::plant::Asked;
@@ -77,6 +78,15 @@ pub trait Machine {
         // The device counts a fault in this call just where the entry of a refused put or restore is made.
         ensures count { CountsFault (made_fault result) (count_of self.old) (count_of self.new) }
         ensures answer { Answers (plan_of self.old) (journal_of self.old) (journal_of self.new) by hint result };
+
+    /// Adds the entry of the mixing work that is next for a participant, which is done. What is next isn't looked up again.
+    fn work(&mut self, by: Participant, place: Place, done: &WorkDone) -> Entry
+        requires may { MayFollow (plan_of self.old) (reverse (journal_of self.old)) (work_entry place by done.now.rounds done.now.from) }
+        ensures plan { plan_of self.new ≡ plan_of self.old }
+        ensures base { base_of self.new ≡ base_of self.old }
+        ensures count { count_of self.new ≡ count_of self.old }
+        ensures entry { result ≡ work_entry place by done.now.rounds done.now.from }
+        ensures journal { journal_of self.new ≡ journal_of self.old ++ result ∷ [] };
 
     /// How many entries the journal has: no more than the plan's bound.
     fn journal_len(&self) -> u64
