@@ -5,7 +5,6 @@ use Rattle.std.proofs.lemmas.List.{take-append-drop}
 use Rattle.std.specs.Io.KnownBytes.{append_known}
 use Rattle.caa_base.proofs.KnownBytes.{append_known-append_known}
 use Rattle.caa_base.specs.Outside.Counts.{counted_up}
-use Rattle.caa_base.specs.Outside.Writing.{WrotePart}
 use Rattle.caa_base.specs.Written.Names.{name_at}
 use Rattle.caa_base.specs.declared.written.entry.Drill.{Drill}
 use Rattle.caa_base.specs.declared.outside.plant.Asked.{Asked}
@@ -21,7 +20,7 @@ use Rattle.line_plant.specs.declared.wire.Wire.{Wire}
 use Rattle.line_plant.specs.Answers.{is_well}
 use Rattle.line_plant.specs.Devices.{LayCame}
 use Rattle.line_plant.specs.Lines.{lay_line, asking_line, put_word, restore_word, stop_line}
-use Rattle.line_plant.specs.Wires.{AskCame, WasAnswered, WasStopped, SentStop, SentNoStop}
+use Rattle.line_plant.specs.Wires.{AskCame, WasAnswered, WroteLine, WroteLinePart, WasStopped, SentStop, SentNoStop}
 use Rattle.line_plant.specs.Sent.{was_done, NoneDone, AsksFor, IsNotLaid, AreLines, IsUnanswered, WasSent}
 use Rattle.line_plant.specs.inner.Telling.{Keeps}
 
@@ -277,11 +276,11 @@ keeps_stopped sinks names told before after k w = by_case w.came where
   by_case : SentStop sinks before after ⊎ SentNoStop before after → Keeps sinks names told after
   by_case (inl sent) = by_write sent sent.sent where
     by_write : SentStop sinks before after
-        → (sinks.held after.commands ≡ append_known (sinks.held before.commands) stop_line)
-        ⊎ WrotePart (sinks.held before.commands) (sinks.held after.commands) stop_line
+        → WroteLine sinks before.commands after.commands stop_line ⊎ WroteLinePart sinks before.commands after.commands stop_line
         → Keeps sinks names told after
-    by_write sent (inl whole) = behind stop_line sent ([], append-nil stop_line) whole
-    by_write sent (inr part) = behind (take part.count stop_line) sent (take_front part.count stop_line) part.front
+    by_write sent (inl wrote) = behind stop_line sent ([], append-nil stop_line) wrote.whole
+    by_write sent (inr cut) =
+        behind (take cut.part.count stop_line) sent (take_front cut.part.count stop_line) cut.part.front
   by_case (inr none) =
       keeps_spent sinks names told after k.stop k.bytes k.sent (ap sinks.held none.kept ∙ k.held) w.spent w.broken
 

@@ -56,12 +56,21 @@ abbrev pub AskCame : {S K : Type 0} → SourceGhosts S → SinkGhosts K → Wire
 AskCame sources sinks before after text answer =
     WasAnswered sources sinks before after text answer ⊎ IsUnasked sinks before after text answer
 
--- `stop` was sent, or a part of it where the write failed
+-- the whole of a line was written
+pub record WroteLine {K : Type 0} (sinks : SinkGhosts K) (before after : K) (text : List ℕ) : Type 0 where
+  pub whole : sinks.held after ≡ append_known (sinks.held before) text
+  pub unfailed : sinks.faults after ≡ sinks.faults before
+
+-- a write failed, and a part of a line was written
+pub record WroteLinePart {K : Type 0} (sinks : SinkGhosts K) (before after : K) (text : List ℕ) : Type 0 where
+  pub part : WrotePart (sinks.held before) (sinks.held after) text
+  pub cause : sinks.faults after ≡ counted_up (sinks.faults before)
+
+-- `stop` was sent, or a part of it where a write failed
 pub record SentStop {S K : Type 0} (sinks : SinkGhosts K) (before after : Wire S K) : Type 0 where
   pub uncut : before.is_cut ≡ false
   pub first : before.was_stopped ≡ false
-  pub sent : (sinks.held after.commands ≡ append_known (sinks.held before.commands) stop_line)
-      ⊎ WrotePart (sinks.held before.commands) (sinks.held after.commands) stop_line
+  pub sent : WroteLine sinks before.commands after.commands stop_line ⊎ WroteLinePart sinks before.commands after.commands stop_line
 
 -- `stop` was sent before, or a line was cut off, behind which it could be taken for a part of that line; nothing was sent
 pub record SentNoStop {S K : Type 0} (before after : Wire S K) : Type 0 where
