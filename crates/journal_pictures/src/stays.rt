@@ -38,7 +38,21 @@ fn stays_of(alloc: Global, entries: &[Entry]) -> Result<Vec<Stay>, OutOfMemory> 
                 to: entries.len() as u64,
             })?,
             Kind::Leave | Kind::Withdraw => end_stay(&mut stays, entry, number as u64),
-            _ => {},
+            Kind::Start
+            | Kind::Read
+            | Kind::Work
+            | Kind::Write
+            | Kind::Check
+            | Kind::PutFault
+            | Kind::Raise
+            | Kind::Inform
+            | Kind::Resolve
+            | Kind::Handle
+            | Kind::Verdict
+            | Kind::Abort
+            | Kind::Undo
+            | Kind::Restore
+            | Kind::End => {},
         }
     }
     Ok(stays)

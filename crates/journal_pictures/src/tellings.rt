@@ -1,12 +1,12 @@
 //! How each entry is told.
 
-use crate::words::{carried_name, interface_name, internal_name};
+use crate::words::{interface_name, internal_name};
 use caa_base::written::entry::{
     Entry, Exception, Kind, OutOfMemory, Outcome, Participant, Place, Verdict,
 };
 use caa_base::written::line::{push_number, push_value, push_word};
 use journal_states::words::participant_name;
-use journal_text::texts::text_writer::object_name;
+use journal_text::texts::text_writer::{carried_name, object_name, told_name};
 use place_plan::plans::plan::Plan;
 use place_plan::rules::one_entry::{outcome_at, verdict_at};
 use std::alloc::Global;
@@ -176,9 +176,9 @@ fn push_abort(
     entry: &Entry,
 ) -> Result<(), OutOfMemory> {
     push_word(text, b"gave up")?;
-    if entry.mark == 1 {
+    if let Some(name) = told_name(plan, entry) {
         push_word(text, b"and named")?;
-        push_word(text, interface_name(plan, entry.place, entry.arg))?;
+        push_word(text, name)?;
     }
     push_cause(text, plan, past, entry.place)
 }
@@ -247,9 +247,9 @@ fn push_arrival(
 /// Adds that somebody left, and what it carried out.
 fn push_leave(text: &mut Vec<u8>, plan: &Plan, entry: &Entry) -> Result<(), OutOfMemory> {
     push_word(text, b"left")?;
-    if entry.mark == 1 {
+    if let Some(name) = carried_name(plan, entry) {
         push_word(text, b"and raised")?;
-        push_word(text, carried_name(plan, entry))?;
+        push_word(text, name)?;
         push_word(text, b"outside")?;
     }
     Ok(())
@@ -268,10 +268,23 @@ pub fn push_event(
         Kind::Resolve => push_resolve(alloc, text, plan, past, entry),
         Kind::Restore => push_restore(text, plan, entry),
         Kind::End => push_end(text, plan, entry),
-        _ => {
+        Kind::Undo => {
             text.extend_from_slice(b"all is being undone")?;
             Ok(())
         },
+        Kind::Arrive
+        | Kind::Withdraw
+        | Kind::Start
+        | Kind::Read
+        | Kind::Work
+        | Kind::Write
+        | Kind::Check
+        | Kind::Raise
+        | Kind::Inform
+        | Kind::Handle
+        | Kind::Verdict
+        | Kind::Abort
+        | Kind::Leave => Ok(()),
     }
 }
 

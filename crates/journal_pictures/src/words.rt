@@ -2,7 +2,9 @@
 
 use caa_base::written::entry::{Entry, Exception, Kind, OutOfMemory, Place};
 use caa_base::written::line::push_word;
-use journal_text::texts::text_writer::{kind_word, push_object, push_outcome, push_verdict};
+use journal_text::texts::text_writer::{
+    carried_name, kind_word, push_object, push_outcome, push_verdict, told_name,
+};
 use place_plan::plans::plan::Plan;
 use place_plan::rules::one_entry::{outcome_at, verdict_at};
 use std::alloc::Global;
@@ -15,14 +17,6 @@ pub fn internal_name(plan: &Plan, place: Place, exception: Exception) -> &[u8] {
 /// The name of an exception that a place tells outside.
 pub fn interface_name(plan: &Plan, place: Place, exception: Exception) -> &[u8] {
     plan.exception_name(plan.interface_number(place), exception)
-}
-
-/// The name of the exception that a Leave carries out of a place.
-pub fn carried_name<'a>(plan: &'a Plan, entry: &Entry) -> &'a [u8] {
-    match plan.parent(entry.place) {
-        Some(outer) => internal_name(plan, outer, entry.arg),
-        None => b"",
-    }
 }
 
 /// What stands beside the mark of an entry.
@@ -46,10 +40,10 @@ fn push_label(text: &mut Vec<u8>, plan: &Plan, entry: &Entry) -> Result<(), OutO
             push_word(text, internal_name(plan, entry.place, entry.arg))
         },
         Kind::Verdict => push_verdict(text, plan, entry.place, verdict_at(entry)),
-        Kind::Abort if entry.mark == 1 => push_word(
-            text,
-            interface_name(plan, entry.place, entry.arg),
-        ),
+        Kind::Abort => match told_name(plan, entry) {
+            Some(name) => push_word(text, name),
+            None => Ok(()),
+        },
         Kind::Restore => {
             push_object(text, plan, entry.arg, entry.value)?;
             if entry.mark == 0 {
@@ -59,11 +53,20 @@ fn push_label(text: &mut Vec<u8>, plan: &Plan, entry: &Entry) -> Result<(), OutO
             }
         },
         Kind::End => push_outcome(text, plan, entry.place, outcome_at(entry)),
-        Kind::Leave if entry.mark == 1 => {
-            push_word(text, b"with")?;
-            push_word(text, carried_name(plan, entry))
+        Kind::Leave => match carried_name(plan, entry) {
+            Some(name) => {
+                push_word(text, b"with")?;
+                push_word(text, name)
+            }
+            None => Ok(()),
         },
-        _ => Ok(()),
+        Kind::Arrive
+        | Kind::Withdraw
+        | Kind::Start
+        | Kind::Work
+        | Kind::Check
+        | Kind::Inform
+        | Kind::Undo => Ok(()),
     }
 }
 

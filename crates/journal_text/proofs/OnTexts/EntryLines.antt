@@ -17,7 +17,7 @@ use Rattle.caa_base.specs.Written.Limits.{IsValue}
 use Rattle.caa_base.specs.Written.Marks.{verdict_mark, verdict_of_mark, outcome_mark, outcome_of_mark}
 use Rattle.journal_text.specs.declared.texts.entry_line.Fields.{Fields}
 use Rattle.journal_text.specs.Texts.Naming.{watch_in, is_well_named}
-use Rattle.journal_text.specs.Texts.Text.{participant_name, object_name, watched_object, seen_line, kind_word, object_words, restore_word, verdict_words, outcome_words, leave_words, field_words, entry_line}
+use Rattle.journal_text.specs.Texts.Text.{participant_name, object_name, watched_object, seen_line, kind_word, object_words, restore_word, verdict_words, outcome_words, carried_name, name_words, field_words, entry_line}
 use Rattle.journal_text.specs.inner.Words.{word_in, after_word, next_word, after_next, number_in, value_in, participant_in, object_in, exception_in, kind_in, nothing_more, naming, object_fields, work_fields, restore_mark, marked_fields, verdict_in, outcome_in, named_fields, leave_fields, fields_in, entry_with, entry_after, entry_in, seen_in, is_gap}
 use Rattle.journal_text.proofs.OnTexts.WordLemmas.{is_whole, word_in-whole, after_word-whole, begins-line, next_word-line, after_next-line, whole-decimal, whole-signed, number_in-decimal}
 use Rattle.journal_text.proofs.OnTexts.NamingLemmas.{participants-named, objects-named, exceptions-named, watches-named}
@@ -116,7 +116,8 @@ work-read e more arg mark fit =
 -- an exception that may be named, at mark 1
 named-read : (plan : Plan) (g : ℕ) (e : Entry) (m : ℕ) (more : List ℕ) → is_well_named plan ≡ true
     → MayShowException (graph_at plan g) 1 2 e → e.mark ≡ m
-    → named_fields plan g (rest_of (cond (m == 1) (exception_name plan g e.arg ∷ []) []) more) ≡ fields e.arg e.mark e.value
+    → named_fields plan g (rest_of (name_words (cond (m == 1) (Some (exception_name plan g e.arg)) None)) more)
+    ≡ fields e.arg e.mark e.value
 named-read plan g e zero more h fit same =
     fields-same 0 e.arg 0 e.mark (pos 0) e.value (sym (fit.bare (λ one. omega (arith, one, same)))) (sym same) (sym fit.value)
 named-read plan g e (suc zero) more h fit same =
@@ -172,7 +173,7 @@ restore-read plan e (suc zero) more h l fit small same =
 restore-read plan e (suc (suc m)) more h l fit small same = absurd (omega arith)
 
 leave-read : (plan : Plan) (outer : Option ℕ) (e : Entry) (more : List ℕ) → is_well_named plan ≡ true
-    → MayCarry plan outer e → leave_fields plan outer (rest_of (leave_words plan outer e) more)
+    → MayCarry plan outer e → leave_fields plan outer (rest_of (name_words (carried_name plan outer e)) more)
     ≡ fields e.arg e.mark e.value
 leave-read plan None e more h fit = plain-read e fit
 leave-read plan (Some q) e more h fit = named-read plan (action_at plan q).internal e e.mark more h fit refl
@@ -323,7 +324,7 @@ exception-whole plan g x h l = all-one (exception_name plan g x) ((exceptions-na
 
 named-whole : (plan : Plan) (g : ℕ) (e : Entry) (m : ℕ) → is_well_named plan ≡ true
     → MayShowException (graph_at plan g) 1 2 e → e.mark ≡ m
-    → list_all is_whole (cond (m == 1) (exception_name plan g e.arg ∷ []) []) ≡ true
+    → list_all is_whole (name_words (cond (m == 1) (Some (exception_name plan g e.arg)) None)) ≡ true
 named-whole plan g e zero h fit same = refl
 named-whole plan g e (suc zero) h fit same = exception-whole plan g e.arg h (fit.named same)
 named-whole plan g e (suc (suc m)) h fit same = absurd (omega (arith, fit.mark, same))
@@ -353,7 +354,7 @@ restore-whole (suc zero) h = refl
 restore-whole (suc (suc m)) h = absurd (omega arith)
 
 leave-whole : (plan : Plan) (outer : Option ℕ) (e : Entry) → is_well_named plan ≡ true → MayCarry plan outer e
-    → list_all is_whole (leave_words plan outer e) ≡ true
+    → list_all is_whole (name_words (carried_name plan outer e)) ≡ true
 leave-whole plan None e h fit = refl
 leave-whole plan (Some q) e h fit = named-whole plan (action_at plan q).internal e e.mark h fit refl
 

@@ -1,12 +1,12 @@
 -- How long the line of an entry is.
 use Rattle.std.proofs.Common.{◌≡◌, ℕ, ℤ, pos, negsuc, ◌<◌, ◌≤◌, ◌+◌, ◌^◌, ◌==◌, Bool, true, false, if◌then◌else◌, suc, List, [], ◌∷◌, ◌++◌, length, codes, decimal, Option, Some, None, ap, ◌∙◌, arith}
 use Rattle.std.specs.Fmt.{signed_decimal}
+use Rattle.std.specs.Option.{unwrap_or}
 use Rattle.std.proofs.lemmas.Fmt.{length-decimal-le, length_signed_le}
 use Rattle.std.proofs.lemmas.Int.{ints}
 use Rattle.std.proofs.lemmas.List.{length-append}
 use Rattle.caa_base.specs.Written.Limits.{IsValue, most_count}
 use Rattle.caa_base.specs.Written.Lines.{spaced, line}
-use Rattle.caa_base.specs.Written.Marks.{naming_mark}
 use Rattle.caa_base.specs.declared.written.entry.Entry.{Entry}
 use Rattle.caa_base.specs.declared.written.entry.Kind.{Kind}
 use Rattle.caa_base.specs.declared.written.entry.Kind.TheVariants as kind
@@ -15,8 +15,8 @@ use Rattle.caa_base.specs.declared.written.entry.Outcome.TheVariants as outcome
 use Rattle.place_plan.specs.Plans.PlanValue.{Plan}
 use Rattle.place_plan.specs.Plans.Places.{parent}
 use Rattle.place_plan.specs.RulesOfJournals.WellFormed.{FieldsFit, IsWellFormed}
-use Rattle.journal_text.specs.Texts.Text.{participant_name, object_name, internal_name, interface_name, kind_word, object_words, verdict_words, outcome_words, leave_words, field_words, entry_line}
-use Rattle.journal_text.specs.inner.SaidNames.{carried_name, said_name}
+use Rattle.journal_text.specs.Texts.Text.{participant_name, object_name, internal_name, interface_name, kind_word, object_words, verdict_words, outcome_words, told_name, carried_name, name_words, field_words, entry_line}
+use Rattle.journal_text.specs.inner.SaidNames.{said_name}
 
 -- ---- words
 
@@ -67,30 +67,28 @@ work_length : (n : ℕ) (z : ℤ) → n ≤ most_count → IsValue z → length 
 work_length n z few h =
     omega (arith, two_words (decimal n) (signed_decimal z), value_length z h, length-decimal-le 7 n (omega arith) (omega arith) (omega arith))
 
-named_length : (b : Bool) (w : List ℕ) → length (spaced (if b then w ∷ [] else [])) ≤ length (if b then w else []) + 23
-named_length true w = omega (arith, one_word w)
-named_length false w = omega arith
+name_length : (o : Option (List ℕ)) → length (spaced (name_words o)) ≤ length (unwrap_or o []) + 23
+name_length None = omega arith
+name_length (Some w) = omega (arith, one_word w)
 
 verdict_length : (plan : Plan) (p x : ℕ) (a b : Bool) →
     length (spaced (verdict_words plan p (if a then verdict.Done else (if b then verdict.Signal x else verdict.Undo))))
-    ≤ length (if b then interface_name plan p x else []) + 23
-verdict_length plan p x true b = omega arith
+    ≤ length (unwrap_or (if b then Some (interface_name plan p x) else None) []) + 23
+verdict_length plan p x true true = omega arith
+verdict_length plan p x true false = omega arith
 verdict_length plan p x false true = omega (arith, two_words (codes "signal") (interface_name plan p x))
 verdict_length plan p x false false = omega arith
 
 outcome_length : (plan : Plan) (p x : ℕ) (a b c d : Bool) →
     length (spaced (outcome_words plan p (if a then outcome.Commit else (if b then outcome.Signal x
     else (if c then outcome.Undone else (if d then outcome.Aborted else outcome.Failed))))))
-    ≤ length (if b then interface_name plan p x else []) + 23
-outcome_length plan p x true b c d = omega arith
+    ≤ length (unwrap_or (if b then Some (interface_name plan p x) else None) []) + 23
+outcome_length plan p x true true c d = omega arith
+outcome_length plan p x true false c d = omega arith
 outcome_length plan p x false true c d = omega (arith, two_words (codes "signal") (interface_name plan p x))
 outcome_length plan p x false false true d = omega arith
 outcome_length plan p x false false false true = omega arith
 outcome_length plan p x false false false false = omega arith
-
-leave_length : (plan : Plan) (o : Option ℕ) (e : Entry) → length (spaced (leave_words plan o e)) ≤ length (carried_name plan o e) + 23
-leave_length plan None e = omega arith
-leave_length plan (Some q) e = named_length (e.mark == naming_mark) (internal_name plan q e.arg)
 
 fields_length : (plan : Plan) (e : Entry) (k : Kind) → FieldsFit k plan e
     → length (spaced (field_words k plan e)) ≤ length (said_name k plan e) + 23
@@ -107,11 +105,11 @@ fields_length plan e kind.Inform h = omega arith
 fields_length plan e kind.Resolve h = omega (arith, one_word (internal_name plan e.place e.arg))
 fields_length plan e kind.Handle h = omega (arith, one_word (internal_name plan e.place e.arg))
 fields_length plan e kind.Verdict h = verdict_length plan e.place e.arg (e.mark == 0) (e.mark == 1)
-fields_length plan e kind.Abort h = named_length (e.mark == naming_mark) (interface_name plan e.place e.arg)
+fields_length plan e kind.Abort h = name_length (told_name plan e)
 fields_length plan e kind.Undo h = omega arith
 fields_length plan e kind.Restore h = restore_length (object_name plan e.arg) (e.mark == 0) e.value h.0.value
 fields_length plan e kind.End h = outcome_length plan e.place e.arg (e.mark == 0) (e.mark == 1) (e.mark == 2) (e.mark == 3)
-fields_length plan e kind.Leave h = leave_length plan (parent plan e.place) e
+fields_length plan e kind.Leave h = name_length (carried_name plan (parent plan e.place) e)
 
 -- ---- lines
 

@@ -87,14 +87,23 @@ outcome_words plan p outcome.Undone = codes "undone" ∷ []
 outcome_words plan p outcome.Aborted = codes "aborted" ∷ []
 outcome_words plan p outcome.Failed = codes "failed" ∷ []
 
--- the exception that an Abort names, if it names one
-abbrev pub abort_words : Plan → Entry → List (List ℕ)
-abort_words plan e = if e.mark == naming_mark then interface_name plan e.place e.arg ∷ [] else []
+-- the exception of graph g that an entry names, if its mark says that it names one
+abbrev pub marked_name : Plan → ℕ → Entry → Option (List ℕ)
+marked_name plan g e = if e.mark == naming_mark then Some (exception_name plan g e.arg) else None
+
+-- the exception that a Verdict, an Abort or an End tells outside, if it names one
+abbrev pub told_name : Plan → Entry → Option (List ℕ)
+told_name plan e = marked_name plan (action_at plan e.place).interface e
 
 -- the exception that a Leave carries into the place round its own, if it carries one; nothing is carried out of a play
-abbrev pub leave_words : Plan → Option ℕ → Entry → List (List ℕ)
-leave_words plan None e = []
-leave_words plan (Some q) e = if e.mark == naming_mark then internal_name plan q e.arg ∷ [] else []
+abbrev pub carried_name : Plan → Option ℕ → Entry → Option (List ℕ)
+carried_name plan None e = None
+carried_name plan (Some q) e = marked_name plan (action_at plan q).internal e
+
+-- a name, if there is one
+abbrev pub name_words : Option (List ℕ) → List (List ℕ)
+name_words None = []
+name_words (Some name) = name ∷ []
 
 -- what an entry says further, by its kind
 abbrev pub field_words : Kind → Plan → Entry → List (List ℕ)
@@ -106,10 +115,10 @@ field_words kind.Raise plan e = internal_name plan e.place e.arg ∷ []
 field_words kind.Resolve plan e = internal_name plan e.place e.arg ∷ []
 field_words kind.Handle plan e = internal_name plan e.place e.arg ∷ []
 field_words kind.Verdict plan e = verdict_words plan e.place (verdict_at e)
-field_words kind.Abort plan e = abort_words plan e
+field_words kind.Abort plan e = name_words (told_name plan e)
 field_words kind.Restore plan e = object_words plan e.arg e.value ++ restore_word e.mark ∷ []
 field_words kind.End plan e = outcome_words plan e.place (outcome_at e)
-field_words kind.Leave plan e = leave_words plan (parent plan e.place) e
+field_words kind.Leave plan e = name_words (carried_name plan (parent plan e.place) e)
 field_words _ plan e = []
 
 -- the line of an entry: its kind, its place, who made it, and what it says further

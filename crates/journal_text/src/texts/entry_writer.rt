@@ -1,15 +1,15 @@
 //! The line of an entry, written into room that stands ready.
 
 ghost use Rattle.std.specs.Prelude.{◌≡◌, ◌≤◌, ◌+◌, ◌∷◌, ◌++◌, [], length, take, true, IfOk};
+ghost use Rattle.std.specs.Option.{option_copied};
 ghost use Rattle.caa_base.specs.Written.Lines.{spaced};
-ghost use Rattle.place_plan.specs.Plans.Places.{parent};
 ghost use Rattle.place_plan.specs.RulesOfJournals.WellFormed.{IsWellFormed};
-ghost use Rattle.journal_text.specs.Texts.Text.{internal_name, interface_name, object_words, restore_word, verdict_words, outcome_words, abort_words, leave_words, field_words, entry_line};
+ghost use Rattle.journal_text.specs.Texts.Text.{internal_name, interface_name, object_words, restore_word, verdict_words, outcome_words, name_words, field_words, entry_line};
 ghost use Rattle.journal_text.specs.Texts.Room.{Fits, spare};
-ghost use Rattle.journal_text.specs.inner.SaidNames.{carried_name, name_if, said_name};
+ghost use Rattle.journal_text.specs.inner.SaidNames.{said_name};
 
 use crate::texts::line_room::{put_bytes, put_line_end, put_number, put_value, put_word};
-use crate::texts::text_writer::{kind_word, object_name};
+use crate::texts::text_writer::{carried_name, kind_word, object_name, told_name};
 use caa_base::written::entry::{
     Entry, Exception, Kind, Object, OutOfMemory, Outcome, Place, Verdict,
 };
@@ -43,11 +43,8 @@ fn said_name<'a>(plan: &'a Plan, entry: &Entry) -> &'a [u8]
         Kind::Raise | Kind::Resolve | Kind::Handle => {
             plan.exception_name(plan.internal_number(entry.place), entry.arg)
         }
-        Kind::Verdict | Kind::Abort | Kind::End => {
-            let name = plan.exception_name(plan.interface_number(entry.place), entry.arg);
-            name_if(entry.mark, name)
-        }
-        Kind::Leave => carried_name(plan, plan.parent(entry.place), entry),
+        Kind::Verdict | Kind::Abort | Kind::End => told_name(plan, entry).unwrap_or(b""),
+        Kind::Leave => carried_name(plan, entry).unwrap_or(b""),
         Kind::Arrive
         | Kind::Withdraw
         | Kind::Start
@@ -55,26 +52,6 @@ fn said_name<'a>(plan: &'a Plan, entry: &Entry) -> &'a [u8]
         | Kind::Check
         | Kind::Inform
         | Kind::Undo => b"",
-    }
-}
-
-/// The name, where the mark says that it stands there.
-fn name_if(mark: u32, name: &[u8]) -> &[u8]
-    ensures { result.now ≡ name_if mark name.now }
-{
-    if mark == 1 { name } else { b"" }
-}
-
-/// The name that a Leave carries into the place round its own.
-fn carried_name<'a>(plan: &'a Plan, outer: Option<Place>, entry: &Entry) -> &'a [u8]
-    ensures { result.now ≡ carried_name plan.now outer entry.now }
-{
-    match outer {
-        Some(outer) => {
-            let name = plan.exception_name(plan.internal_number(outer), entry.arg);
-            name_if(entry.mark, name)
-        }
-        None => b"",
     }
 }
 
@@ -114,10 +91,10 @@ fn put_fields(room: &mut [u8], at: usize, plan: &Plan, entry: &Entry) -> usize
             put_internal(room, at, plan, entry.place, entry.arg)
         }
         Kind::Verdict => put_verdict(room, at, plan, entry.place, verdict_at(entry)),
-        Kind::Abort => put_abort(room, at, plan, entry),
+        Kind::Abort => put_name(room, at, told_name(plan, entry)),
         Kind::Restore => put_restore(room, at, plan, entry),
         Kind::End => put_outcome(room, at, plan, entry.place, outcome_at(entry)),
-        Kind::Leave => put_leave(room, at, plan, entry),
+        Kind::Leave => put_name(room, at, carried_name(plan, entry)),
         Kind::Arrive | Kind::Withdraw | Kind::Start | Kind::Check | Kind::Inform | Kind::Undo => at,
     }
 }
@@ -173,31 +150,16 @@ fn put_interface(
     )
 }
 
-/// The exception that an Abort names, if it names one.
-fn put_abort(room: &mut [u8], at: usize, plan: &Plan, entry: &Entry) -> usize
-    requires { Fits at (spaced (abort_words plan.now entry.now)) room.old }
-    ensures at { result ≡ at + length (spaced (abort_words plan.now entry.now)) }
-    ensures written { take result room.new ≡ take at room.old ++ spaced (abort_words plan.now entry.now) }
+/// A name, if there is one.
+fn put_name(room: &mut [u8], at: usize, name: Option<&[u8]>) -> usize
+    requires { Fits at (spaced (name_words (option_copied name))) room.old }
+    ensures at { result ≡ at + length (spaced (name_words (option_copied name.entry))) }
+    ensures written { take result room.new ≡ take at room.old ++ spaced (name_words (option_copied name.entry)) }
     ensures kept { length room.new ≡ length room.old }
 {
-    if entry.mark == 1 {
-        put_interface(room, at, plan, entry.place, entry.arg)
-    } else {
-        at
-    }
-}
-
-/// The exception that a Leave carries into the place round its own, if it carries one.
-fn put_leave(room: &mut [u8], at: usize, plan: &Plan, entry: &Entry) -> usize
-    requires { Fits at (spaced (leave_words plan.now (parent plan.now entry.now.place) entry.now)) room.old }
-    ensures at { result ≡ at + length (spaced (leave_words plan.now (parent plan.now entry.now.place) entry.now)) }
-    ensures written { take result room.new
-        ≡ take at room.old ++ spaced (leave_words plan.now (parent plan.now entry.now.place) entry.now) }
-    ensures kept { length room.new ≡ length room.old }
-{
-    match plan.parent(entry.place) {
-        Some(outer) if entry.mark == 1 => put_internal(room, at, plan, outer, entry.arg),
-        _ => at,
+    match name {
+        Some(name) => put_word(room, at, name),
+        None => at,
     }
 }
 

@@ -1,10 +1,12 @@
 ghost use Rattle.std.specs.Prelude.{◌≡◌, ◌<◌, ◌≤◌, ◌+◌, ◌∷◌, ◌++◌, [], map, length, take, reverse, codes, decimal, OnOk, IfOk};
 ghost use Rattle.std.specs.List.{flat_map, range_with_len};
+ghost use Rattle.std.specs.Option.{option_copied};
 ghost use Rattle.caa_base.specs.declared.written.entry.Kind.TheVariants as kind;
 ghost use Rattle.caa_base.specs.Written.Lines.{spaced, line};
+ghost use Rattle.place_plan.specs.Plans.Places.{parent};
 ghost use Rattle.place_plan.specs.RulesOfJournals.Entries.{is_of};
 ghost use Rattle.place_plan.specs.RulesOfJournals.WellFormed.{IsWellFormed, AllWellFormed};
-ghost use Rattle.journal_text.specs.Texts.Text.{action_name, object_name, interface_name, kind_word, object_words, verdict_words, outcome_words, entry_line, object_lines, last_outcome, ending_words, outcome_lines, closing_lines, seen_line, text_of};
+ghost use Rattle.journal_text.specs.Texts.Text.{action_name, object_name, interface_name, marked_name, told_name, carried_name, kind_word, object_words, verdict_words, outcome_words, entry_line, object_lines, last_outcome, ending_words, outcome_lines, closing_lines, seen_line, text_of};
 ghost use Rattle.journal_text.specs.inner.KnownValues.{value_found};
 ghost use Rattle.journal_text.specs.Watching.Looks.{AreOfPlan};
 
@@ -260,6 +262,34 @@ pub fn object_name(plan: &Plan, object: Object) -> &[u8]
         plan.object_name(object)
     } else {
         b""
+    }
+}
+
+/// The name of an exception in a graph that an entry names, if its mark says that it names one.
+fn marked_name<'a>(plan: &'a Plan, graph: u32, entry: &Entry) -> Option<&'a [u8]>
+    ensures { option_copied result ≡ marked_name plan.now graph entry.now }
+{
+    if entry.mark == 1 {
+        Some(plan.exception_name(graph, entry.arg))
+    } else {
+        None
+    }
+}
+
+/// The name of the exception that a Verdict, an Abort or an End tells outside, if it names one.
+pub fn told_name<'a>(plan: &'a Plan, entry: &Entry) -> Option<&'a [u8]>
+    ensures { option_copied result ≡ told_name plan.now entry.now }
+{
+    marked_name(plan, plan.interface_number(entry.place), entry)
+}
+
+/// The name of the exception that a Leave carries into the place round its own, if it carries one.
+pub fn carried_name<'a>(plan: &'a Plan, entry: &Entry) -> Option<&'a [u8]>
+    ensures { option_copied result ≡ carried_name plan.now (parent plan.now entry.now.place) entry.now }
+{
+    match plan.parent(entry.place) {
+        Some(outer) => marked_name(plan, plan.internal_number(outer), entry),
+        None => None,
     }
 }
 
