@@ -12,10 +12,9 @@ use Rattle.script_checker.specs.declared.declared.Block.{Block}
 use Rattle.script_checker.specs.declared.declared.Block.TheVariants as block
 use Rattle.script_checker.specs.declared.open_graph.DeclaredGraph.{DeclaredGraph}
 use Rattle.script_checker.specs.InAction.{enters_otherwise_in_action, not_held_in_action, too_deep_in_action, other_face_in_action}
-use Rattle.script_checker.specs.Causes.{HasCause, is_unknown, is_twice, is_unfilled, fills_twice, is_past_limit, is_past_bound, in_action, EndsGraph}
+use Rattle.script_checker.specs.Causes.{HasCause, is_unknown, is_twice, is_unfilled, fills_twice, is_past_limit, is_past_bound, in_action, EndsGraph, number_of}
 use Rattle.script_checker.specs.inner.Chosen.{cause_if, size_cause, part_cause, first_cause, is_end}
 use Rattle.script_checker.specs.inner.Ends.{IsGraphRefusal, IsFaultless}
-use Rattle.script_checker.specs.Phrases.{number_of}
 use Rattle.script_checker.specs.Compiled.{HasNoneBelow, IsLeast, HasNone}
 
 module _ (s : SoFar) (f : Form) where

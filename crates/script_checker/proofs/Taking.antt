@@ -18,7 +18,7 @@ use Rattle.script_checker.specs.InAction.{goes_on}
 use Rattle.script_checker.specs.RefusedLines.{IsRefusedAt, IsRefusedLine}
 use Rattle.script_checker.specs.declared.declared.Block.{Block}
 use Rattle.script_checker.specs.inner.Rows.{parted}
-use Rattle.script_checker.specs.Phrases.{number_of}
+use Rattle.script_checker.specs.Causes.{number_of}
 use Rattle.script_checker.specs.Compiled.{IsAccepted, AreAccepted, IsLeastCause, declared_after, AreRowsOf, IsDeclared, IsDraftOf, IsPlanOf, IsFirstRefused, IsAnswer}
 use Rattle.script_checker.specs.Compiled.IsAnswer.{refused, wanting}
 

@@ -16,9 +16,8 @@ use Rattle.script_checker.specs.declared.check_error.CheckError.{CheckError}
 use Rattle.script_checker.specs.declared.open_graph.DeclaredGraph.{DeclaredGraph}
 use Rattle.script_checker.specs.declared.declared.SoFar.{SoFar}
 use Rattle.script_checker.specs.declared.declared.Declared.{Declared}
-use Rattle.script_checker.specs.Phrases.{number_of}
 use Rattle.script_checker.specs.DeclaredSoFar.{nothing_yet}
-use Rattle.script_checker.specs.Causes.{HasCause}
+use Rattle.script_checker.specs.Causes.{HasCause, number_of}
 use Rattle.script_checker.specs.After.{settled, after}
 
 -- ---- one line

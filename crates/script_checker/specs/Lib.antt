@@ -6,7 +6,6 @@ pub mod DeclaredSoFar
 pub mod InAction
 pub mod InGraph
 pub mod Numbers
-pub mod Phrases
 pub mod PlanSizes
 pub mod PlaySizes
 pub mod RefusedLines

@@ -14,7 +14,7 @@ use Rattle.script_checker.specs.declared.declared.Declared.{Declared}
 use Rattle.script_checker.specs.DeclaredSoFar.{nothing_yet}
 use Rattle.script_checker.specs.AtTop.{places_with, bound_with}
 use Rattle.script_checker.specs.After.{settled, with_said}
-use Rattle.script_checker.specs.Phrases.{number_of}
+use Rattle.script_checker.specs.Causes.{number_of}
 use Rattle.script_checker.specs.Compiled.{HasNoneBelow, declared_after, AreAccepted, IsDraftOf}
 
 -- this is declared when a line of the script comes that plays this action; the lines before it have no cause, and it has none of a

@@ -1,5 +1,5 @@
 ghost use Rattle.std.specs.Prelude.{◌≡◌};
-ghost use Rattle.script_checker.specs.Phrases.{phrase_of};
+ghost use Rattle.script_checker.specs.Causes.{phrase_of};
 ghost use Rattle.script_checker.specs.declared.check_error.CheckCause.TheVariants as cause;
 
 use caa_base::written::entry::OutOfMemory;
