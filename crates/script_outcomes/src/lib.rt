@@ -4,6 +4,6 @@
 pub mod covering;
 pub mod outlooks;
 pub mod programs;
-mod sources;
+pub mod sources;
 pub mod table;
 pub mod ways;

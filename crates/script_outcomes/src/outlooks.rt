@@ -1,5 +1,8 @@
 //! What the text of a script tells of each of its actions.
 
+ghost use Rattle.std.specs.Prelude.{◌≡◌};
+ghost use Rattle.script_outcomes.specs.Endings.{can_be_undone, ends_undone};
+
 use crate::covering::Exceptions;
 use crate::programs::{Program, body_of, handler_of};
 use crate::sources::{Ground, Source, named_in, set_back_by, sources_of};
@@ -39,8 +42,24 @@ pub struct Outlook {
     pub ways: Vec<Way>,
 }
 
+impl Outlook {
+    /// Whether a place of it can end undone.
+    fn ends_undone(&self) -> bool
+        ensures { result ≡ ends_undone self.now }
+    {
+        self.ways.iter().any(|way| way.is_undone())
+    }
+}
+
+/// Whether a place of the action of this name can end undone, unless it is known that it can't: then no alternate is tried behind it.
+pub fn can_be_undone(known: &[Outlook], action: u32) -> bool
+    ensures { result ≡ can_be_undone known.now action }
+{
+    known.iter().all(|outlook| outlook.action != action || outlook.ends_undone())
+}
+
 /// The interface graph that an action names.
-fn interface_of(block: &[Line]) -> Option<u32> {
+pub fn interface_of(block: &[Line]) -> Option<u32> {
     for line in block {
         if let Form::Interface(graph) = &line.form {
             return Some(*graph);

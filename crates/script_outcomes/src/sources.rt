@@ -1,6 +1,6 @@
 //! What can raise an exception in the places of an action.
 
-use crate::outlooks::Outlook;
+use crate::outlooks::{Outlook, can_be_undone};
 use crate::programs::body_of;
 use crate::ways::Way;
 use action_script::forms::form::Form;
@@ -21,10 +21,10 @@ pub struct Source {
 
 /// A nested use: its line, its name, and the actions that are tried in it, one after the other.
 #[derive(Drop)]
-struct Use {
-    line: u32,
-    nest: u32,
-    actions: Vec<u32>,
+pub struct Use {
+    pub line: u32,
+    pub nest: u32,
+    pub actions: Vec<u32>,
 }
 
 /// What the uses of an action are looked up in: its lines, what is known of the actions above, and the number of `universal`.
@@ -36,7 +36,7 @@ pub struct Ground<'a> {
 }
 
 /// What is known of an action.
-fn outlook_of(known: &[Outlook], action: u32) -> Option<&Outlook> {
+pub fn outlook_of(known: &[Outlook], action: u32) -> Option<&Outlook> {
     known.iter().find(|outlook| outlook.action == action)
 }
 
@@ -49,7 +49,7 @@ fn add(sources: &mut Vec<Source>, source: Source) -> Result<(), OutOfMemory> {
 }
 
 /// What a refused put raises.
-fn fault_of(block: &[Line], universal: u32) -> u32 {
+pub fn fault_of(block: &[Line], universal: u32) -> u32 {
     for line in block {
         if let Form::Fault(exception) = &line.form {
             return *exception;
@@ -138,7 +138,7 @@ fn actions_of(
 }
 
 /// The nested uses that each of their roles comes to.
-fn uses_of(alloc: Global, block: &[Line]) -> Result<Vec<Use>, OutOfMemory> {
+pub fn uses_of(alloc: Global, block: &[Line]) -> Result<Vec<Use>, OutOfMemory> {
     let mut uses = Vec::new(alloc);
     for line in block {
         if let Form::Nest(nest, action, roles) = &line.form {
@@ -158,16 +158,8 @@ fn uses_of(alloc: Global, block: &[Line]) -> Result<Vec<Use>, OutOfMemory> {
     Ok(uses)
 }
 
-/// Whether an action can be undone, so that its alternate is tried.
-fn can_be_undone(known: &[Outlook], action: u32) -> bool {
-    match outlook_of(known, action) {
-        Some(outlook) => outlook.ways.as_slice().contains(&Way::Undone),
-        None => true,
-    }
-}
-
 /// How many actions of a use can be tried: each further one where the one before it can be undone.
-fn tried_in(known: &[Outlook], actions: &[u32]) -> usize {
+pub fn tried_in(known: &[Outlook], actions: &[u32]) -> usize {
     for (index, action) in actions.iter().enumerate() {
         if !can_be_undone(known, *action) {
             return index.saturating_add(1);
@@ -177,7 +169,7 @@ fn tried_in(known: &[Outlook], actions: &[u32]) -> usize {
 }
 
 /// What a use carries out where an action of it ends so; none where nothing is carried out.
-fn carried(ground: &Ground, nest: u32, way: Way, is_last: bool) -> Option<u32> {
+pub fn carried(ground: &Ground, nest: u32, way: Way, is_last: bool) -> Option<u32> {
     match way {
         Way::Commit => None,
         Way::Signal(told) => Some(map_of(ground, nest, told)),

@@ -1,5 +1,8 @@
 //! How a place of an action can end.
 
+ghost use Rattle.std.specs.Prelude.{◌≡◌};
+ghost use Rattle.script_outcomes.specs.Endings.{is_undone};
+
 use crate::covering::Exceptions;
 use crate::programs::{Program, Said};
 use caa_base::written::entry::OutOfMemory;
@@ -15,6 +18,18 @@ pub enum Way {
     Undone,
     /// They were to be set back, and the device refused one.
     Failed,
+}
+
+impl Way {
+    /// Whether all objects are set back.
+    pub fn is_undone(self) -> bool
+        ensures { result ≡ is_undone self }
+    {
+        match self {
+            Way::Undone => true,
+            Way::Commit | Way::Signal(_) | Way::Failed => false,
+        }
+    }
 }
 
 /// Adds a way, unless it is there.
