@@ -1,0 +1,3 @@
+pub mod Reversed
+pub mod Counting
+pub mod JournalsCounted
