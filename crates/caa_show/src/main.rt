@@ -5,11 +5,13 @@ mod judging;
 mod lines;
 mod misread;
 mod paging;
+mod plays;
 mod reading;
 mod showing;
 mod whereabouts;
 mod words;
 
+use crate::plays::{PlayCall, play_asked, show_plays};
 use crate::showing::{Shown, Status, show};
 use crate::words::{Alone, USAGE, VERSION, View, asked, asked_alone};
 use action_script::words::call_words::call_words;
@@ -57,14 +59,37 @@ fn show_read(alloc: Global, view: View, file: &str, read: Result<Vec<u8>, ReadEr
             Ok(shown) => shown,
             Err(_) => told(alloc, Status::OutOfMemory, "", b""),
         },
-        Err(ReadError::Fault) => told(
+        Err(error) => unread(alloc, file, error),
+    }
+}
+
+/// What a view of plays shows of what was read.
+fn show_played(
+    alloc: Global,
+    call: &PlayCall,
+    file: &str,
+    read: Result<Vec<u8>, ReadError>,
+) -> Shown {
+    match read {
+        Ok(bytes) => match show_plays(alloc, call, file.as_bytes(), &bytes) {
+            Ok(shown) => shown,
+            Err(_) => told(alloc, Status::OutOfMemory, "", b""),
+        },
+        Err(error) => unread(alloc, file, error),
+    }
+}
+
+/// What is told of an input that can't be read.
+fn unread(alloc: Global, file: &str, error: ReadError) -> Shown {
+    match error {
+        ReadError::Fault => told(
             alloc,
             Status::SourceFault,
             file,
             b": the input can't be read\n",
         ),
-        Err(ReadError::TooLong) => told(alloc, Status::Refused, file, b": the input is too long\n"),
-        Err(ReadError::OutOfMemory) => told(alloc, Status::OutOfMemory, "", b""),
+        ReadError::TooLong => told(alloc, Status::Refused, file, b": the input is too long\n"),
+        ReadError::OutOfMemory => told(alloc, Status::OutOfMemory, "", b""),
     }
 }
 
@@ -88,20 +113,38 @@ fn show_alone(alloc: Global, alone: Alone) -> Shown {
     }
 }
 
+/// The bytes of a file, or of standard input where none is named.
+fn read_input(rt: &HostRuntime, file: Option<&str>) -> Result<Vec<u8>, ReadError> {
+    match file {
+        Some(path) => read_file(rt, path),
+        None => read_all(
+            rt.alloc(),
+            &mut StdSource::new(rt.stdin()),
+            MOST_AUDIT_BYTES,
+        ),
+    }
+}
+
+/// What a view of plays comes to.
+fn serve_played(rt: &HostRuntime, call: &PlayCall) -> Shown {
+    let name = call.file.unwrap_or(STANDARD_INPUT);
+    show_played(rt.alloc(), call, name, read_input(rt, call.file))
+}
+
 /// What the words come to, and whether it belongs into the output: why a picture or a graph isn't there doesn't.
 fn serve(rt: &HostRuntime, words: &[String]) -> (Shown, bool) {
     let alloc = rt.alloc();
     if let Some(alone) = asked_alone(words) {
         return (show_alone(alloc, alone), true);
     }
+    if let Some(call) = play_asked(words) {
+        return (serve_played(rt, &call), true);
+    }
     match asked(words) {
         None => (told(alloc, Status::Usage, "", USAGE), true),
         Some((view, file)) => {
             let name = file.unwrap_or(STANDARD_INPUT);
-            let read = match file {
-                Some(path) => read_file(rt, path),
-                None => read_all(alloc, &mut StdSource::new(rt.stdin()), MOST_AUDIT_BYTES),
-            };
+            let read = read_input(rt, file);
             let shown = show_read(alloc, view, name, read);
             let is_output = !view.is_for_machine() || shown.status == Status::Done;
             (shown, is_output)

@@ -10,6 +10,7 @@ use crate::paging::{draw_trace, show_page};
 use crate::reading::{Break, Input, Reading, read_journal};
 use crate::whereabouts::tell_moments;
 use crate::words::View;
+use action_script::forms::script::Script;
 use action_script::words::journal_start::{JournalStart, find_journal};
 use caa_base::written::entry::OutOfMemory;
 use caa_base::written::journal::Journal;
@@ -23,12 +24,15 @@ use script_views::characters::tell_nothing;
 use script_views::dot::dot;
 use script_views::explaining::{Seen, look};
 use script_views::page::{Page, Piece};
+use script_warnings::warnings::warnings;
 use std::alloc::Global;
 
 /// How a call of the program ends.
 #[derive(Clone, Copy, PartialEq, Eq)]
 pub enum Status {
     Done = 0,
+    /// What was found counts against the script.
+    Found = 1,
     /// The words are no command.
     Usage = 2,
     /// The input can't be read.
@@ -113,7 +117,9 @@ fn draw_journal(
         View::Story => Ok(Some(story(alloc, scene.plan, journal)?)),
         View::Where(moments) => Ok(Some(tell_moments(alloc, scene, journal, moments)?)),
         View::Trace => Ok(Some(draw_trace(alloc, scene, journal)?)),
-        View::Explain | View::Table | View::Graph | View::Page => Ok(None),
+        View::Explain | View::Table | View::Warn { notes: _ } | View::Graph | View::Page => Ok(
+            None,
+        ),
     }
 }
 
@@ -235,6 +241,17 @@ fn script_text(bytes: &[u8], start: Option<JournalStart>) -> &[u8] {
     }
 }
 
+/// What the author of a script may not have meant.
+fn show_warnings(alloc: Global, script: &Script, notes: bool) -> Result<Shown, OutOfMemory> {
+    let warned = warnings(alloc, script, notes)?;
+    let status = if warned.warnings == 0 {
+        Status::Done
+    } else {
+        Status::Found
+    };
+    Ok(with_status(status, warned.text))
+}
+
 /// What a view shows of an input; `file` is what the input is called.
 pub fn show(alloc: Global, view: View, file: &[u8], bytes: &[u8]) -> Result<Shown, OutOfMemory> {
     let start = journal_behind(bytes);
@@ -250,6 +267,7 @@ pub fn show(alloc: Global, view: View, file: &[u8], bytes: &[u8]) -> Result<Show
     }
     match view {
         View::Table => Ok(with_status(Status::Done, tables(alloc, &script)?)),
+        View::Warn { notes } => show_warnings(alloc, &script, notes),
         View::Graph => Ok(with_status(Status::Done, dot(alloc, &script)?)),
         View::Explain
         | View::Chart { first: _, count: _ }

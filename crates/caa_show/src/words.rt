@@ -10,6 +10,8 @@ pub enum View {
     Explain,
     /// Who handles what.
     Table,
+    /// What the author of a script may not have meant; with notes where they are asked for.
+    Warn { notes: bool },
     /// The graphs and the nesting, for `dot`.
     Graph,
     /// A picture of so many entries of a journal, from the entry of this number on, counted from 0.
@@ -40,7 +42,7 @@ impl View {
 
 /// The usage line.
 pub const USAGE: &[u8] =
-    b"usage: explain [FILE] | table [FILE] | graph [FILE] | chart [FILE [FIRST COUNT]] | story [FILE] | where [FILE [FIRST COUNT]] | page [FILE] | trace [FILE] | lines | --help | --version\n";
+    b"usage: explain [FILE] | table [FILE] | warn [FILE [notes]] | graph [FILE] | chart [FILE [FIRST COUNT]] | story [FILE] | where [FILE [FIRST COUNT]] | page [FILE] | trace [FILE] | rehearse [FILE [COUNT [csv]]] | playing FILE NUMBER [bare] [OBJECT NTH .. [on] | from N] | lines | --help | --version\n";
 
 /// The program and its version.
 pub const VERSION: &[u8] = b"caa_show 1.0\n";
@@ -50,6 +52,7 @@ fn view_of(word: &str) -> Option<View> {
     match word {
         "explain" => Some(View::Explain),
         "table" => Some(View::Table),
+        "warn" => Some(View::Warn { notes: false }),
         "graph" => Some(View::Graph),
         "chart" => Some(View::Chart {
             first: 0,
@@ -109,6 +112,10 @@ pub fn asked(words: &[String]) -> Option<(View, Option<&str>)> {
     match words {
         [view] => Some((view_of(view.as_str())?, None)),
         [view, file] => Some((view_of(view.as_str())?, Some(file.as_str()))),
+        [view, file, more] => match (view.as_str(), more.as_str()) {
+            ("warn", "notes") => Some((View::Warn { notes: true }, Some(file.as_str()))),
+            _ => None,
+        },
         [view, file, first, count] => {
             let view = part_of(view.as_str(), first.as_str(), count.as_str())?;
             Some((view, Some(file.as_str())))
