@@ -2,10 +2,12 @@
 #![tactic(auto)]
 
 mod rounds;
-mod worn_press;
+mod slow_press;
+mod stroke;
 
 use crate::rounds::play_in_rounds;
-use crate::worn_press::WornPress;
+use crate::slow_press::SlowPress;
+use crate::stroke::Stroke;
 use action_script::lines::reader::read;
 use caa_base::outside::reading::read_all;
 use caa_base::outside::standard::{StdSink, StdSource};
@@ -42,11 +44,13 @@ fn play(rt: &HostRuntime) -> Status {
     let Ok(plan) = compile(rt.alloc(), &script) else {
         return Status::Refused;
     };
-    let Ok(mut hall) = PlainHall::open(rt.alloc(), plan, WornPress::default()) else {
+    let stroke = Stroke::new();
+    let press = SlowPress::new(&stroke);
+    let Ok(mut hall) = PlainHall::open(rt.alloc(), plan, press) else {
         return Status::Unopened;
     };
     let mut line = Vec::new(rt.alloc());
-    match play_in_rounds(&mut hall, &mut line, &mut sink) {
+    match play_in_rounds(&mut hall, &stroke, &mut line, &mut sink) {
         Ok(()) => Status::Done,
         Err(_) => Status::Unwritten,
     }

@@ -122,7 +122,7 @@ fn threads_tell_of_handlers(rt: HostRuntime) -> Result<(), Fail> {
 }
 
 /// A manager of a machine that has no entry yet, with its seats and with one observer.
-fn opened<M: Machine + Drop, R: Wait + Abort>(
+pub fn opened<M: Machine + Drop, R: Wait + Abort>(
     rt: &R,
     alloc: Global,
     machine: M,
@@ -148,7 +148,7 @@ fn opened<M: Machine + Drop, R: Wait + Abort>(
 }
 
 /// What a manager gives back that is closed with all its seats.
-fn closed<M: Machine, R: Abort>(rt: &R, manager: Manager<M>, seats: Vec<Seat<M>>) -> Closed<M>
+pub fn closed<M: Machine, R: Abort>(rt: &R, manager: Manager<M>, seats: Vec<Seat<M>>) -> Closed<M>
     requires opened { All (λ s. IsSeatIn M.base_of manager s) seats.items }
     ensures ours { result.writer.publications.book ≡ book_in manager }
 {

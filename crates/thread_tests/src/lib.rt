@@ -9,6 +9,8 @@ mod machines;
 #[cfg(test)]
 mod relays;
 #[cfg(test)]
+mod sleeping;
+#[cfg(test)]
 mod views;
 #[cfg(test)]
 mod watching;

@@ -9,6 +9,7 @@ use Rattle.caa_base.specs.declared.written.entry.Kind.{Kind}
 use Rattle.caa_base.specs.declared.written.entry.Kind.TheVariants as kind
 use Rattle.caa_base.specs.declared.written.entry.Verdict.TheVariants as verdict
 use Rattle.place_plan.specs.declared.drafts.draft_rows.RoleRow.{RoleRow}
+use Rattle.place_plan.specs.declared.drafts.draft_rows.Step.TheVariants as step
 use Rattle.place_plan.specs.declared.drafts.draft.Draft.{Draft}
 use Rattle.place_plan.specs.Plans.PlanValue.{Plan}
 use Rattle.place_plan.specs.Plans.Bound.{action_bound}
@@ -16,13 +17,13 @@ use Rattle.place_plan.specs.Plans.Places.{parent, roles_of, internal_of, handler
 use Rattle.place_plan.specs.RulesOfJournals.Entries.{code_of, is_in, is_by, newest}
 use Rattle.place_plan.specs.RulesOfJournals.Whereabouts.{inside, has_ended, is_undoing, is_going, is_left_in_silence}
 use Rattle.place_plan.specs.RulesOfJournals.Raising.{has_handled, exceptions_raised, is_doomed, is_hot, exception_resolved}
-use Rattle.place_plan.specs.RulesOfJournals.Objects.{value_of}
-use Rattle.place_plan.specs.RulesOfJournals.Roles.{register, all_have_given, wants_undo, signals, has_aborted}
-use Rattle.place_plan.specs.RulesOfJournals.Rules.{Row, Names, abort_of, SignalsLeast, EndsUndone, outcome_mapped}
+use Rattle.place_plan.specs.RulesOfJournals.Objects.{value_of, holder_of}
+use Rattle.place_plan.specs.RulesOfJournals.Roles.{register, next_step, all_have_given, wants_undo, signals, has_aborted}
+use Rattle.place_plan.specs.RulesOfJournals.Rules.{Row, Names, put_of, abort_of, SignalsLeast, EndsUndone, outcome_mapped}
 use Rattle.place_plan.specs.Plans.Unfolding.{unfold_at}
 use Rattle.place_plan.specs.Drafts.DraftRules.{depth_within}
 use Rattle.place_plan.specs.RulesOfJournals.Journals.{LegalPast, IsLegal}
-use Rattle.journal_laws.specs.Laws.{Holds, Splits, as_taken, AtMostOne, ResolutionLaw, InnerFirstLaw}
+use Rattle.journal_laws.specs.Laws.{Holds, Splits, as_taken, AtMostOne, StopLaw, ResolutionLaw, InnerFirstLaw}
 use Rattle.journal_laws.proofs.Playable.{IsTree}
 use Rattle.journal_laws.proofs.Phases.{is_open}
 use Rattle.journal_laws.proofs.Frozen.{frozen}
@@ -63,6 +64,51 @@ entries_before index journal = reverse (take index journal)
 
 abbrev pub entries_after : ℕ → List Entry → List Entry
 entries_after index journal = reverse (drop (suc index) journal)
+
+-- ---- a put once something was raised
+--
+-- Machines stop before they recover. If a role still moves something once another has raised, it moves while the others recover.
+
+-- the rule of a put, but for the condition that the role is able to go on: in its body, that nothing was raised
+pub record PutsOn (plan : Plan) (past : List Entry) (e : Entry) : Type 0 where
+  pub here : inside plan past e.by ≡ Some e.place
+  pub puts : put_of (next_step plan past e.place e.by) (register plan past e.place e.by) ≡ Some (e.arg, e.value)
+  pub holds : holder_of plan past e.arg ≡ Some e.place
+  pub mark : e.mark ≡ 0
+
+abbrev pub puts_on : RuleBook
+puts_on kind.Write = PutsOn
+puts_on k = Row k
+
+-- the two siblings, of whom ann puts x in its body and raises nothing
+abbrev pub putting_draft : Draft
+putting_draft =
+    record two_siblings.draft {
+      actions =
+          (record two_siblings.duo_action {
+            roles = record two_siblings.duo_a { body = program (step.Put x (pos 7) ∷ []) verdict.Done } ∷ two_siblings.duo_b ∷ [];
+          }) ∷ [];
+    }
+
+abbrev pub putting : Plan
+putting = record two_siblings.plan { actions = putting_draft.actions }
+
+putting_unfold : UnfoldsInto putting_draft putting
+unfolding unfold_at depth_within action_bound
+putting_unfold = record { whole = refl; same = refl }
+
+-- bob raises, and ann puts x all the same
+abbrev pub ann_puts_on : List Entry
+ann_puts_on = arrive 0 ann ∷ arrive 0 bob ∷ start 0 bob ∷ raise 0 bob right ∷ write 0 ann x 7 ∷ []
+
+pub puts_on_is_too_lax : IsTooLax puts_on StopLaw putting ann_puts_on
+puts_on_is_too_lax = record {
+  lets_through = assumption;
+  refused = λ h. absurd (false≢true (rule_at putting ann_puts_on 4 h).can);
+  breaks =
+      λ law. absurd (false≢true
+      (law.stopped 0 (entries_after 4 ann_puts_on) (entries_before 4 ann_puts_on) (write 0 ann x 7) refl refl refl refl).1);
+}
 
 -- ---- a Resolve that doesn't wait for all roles
 --

@@ -1,29 +1,40 @@
 ghost use Rattle.std.specs.Prelude.{None};
 
+use crate::stroke::Stroke;
 use caa_base::outside::plant::{Plant, PlantError};
 use caa_base::written::entry::{Drill, Failed, Object};
 use std::alloc::Global;
 
-/// Which strokes are refused: each of this number, and its multiples.
-const WORN: u64 = 3;
-
-/// A device of our own: a press that refuses each third stroke. It tells no values, as most devices don't.
-#[derive(Debug, Default, Drop)]
-pub struct WornPress {
+/// A device of our own: a press that begins a stroke at a put, and refuses one while another is under way. It tells no values, as most
+/// devices don't.
+#[derive(Drop)]
+pub struct SlowPress<'a> {
+    stroke: &'a Stroke,
     objects: u64,
     calls: u64,
     room: u64,
     faults: u64,
 }
 
-impl WornPress {
-    /// Whether the press makes this stroke.
+impl<'a> SlowPress<'a> {
+    /// A press whose strokes are these.
+    pub fn new(stroke: &'a Stroke) -> SlowPress<'a> {
+        SlowPress {
+            stroke,
+            objects: 0,
+            calls: 0,
+            room: 0,
+            faults: 0,
+        }
+    }
+
+    /// Whether the press begins this stroke.
     fn strikes(&self, _object: Object, _value: i64) -> bool {
-        self.calls % WORN != 0
+        self.stroke.begin()
     }
 }
 
-impl Plant for WornPress {
+impl<'a> Plant for SlowPress<'a> {
     ghost lay_faults = { λ _. 0 };
 
     ghost faults = { λ p. p.faults };
