@@ -26,7 +26,7 @@ use Rattle.caa_commands.specs.declared.status.Status.TheVariants as status
 use Rattle.caa_commands.specs.Commands.{reads_input}
 use Rattle.caa_commands.specs.Findings.{status_of, finding_text}
 use Rattle.caa_commands.specs.Inputs.{most_bytes, script_in}
-use Rattle.caa_commands.specs.Scripts.{HasPlan, IsThePlan, IsRefusedScript, SpellAccepted}
+use Rattle.caa_commands.specs.Scripts.{IsThePlan, IsRefusedScript, SpellAccepted}
 use Rattle.caa_commands.specs.OutsideUse.{SinkUse, Left, Call}
 use Rattle.caa_commands.specs.Graphs.{IsAcceptedGraph, IsGraphText, IsRefusedGraph}
 use Rattle.caa_commands.specs.Calls.{CheckComesTo, IsRefusedFor, MakesGraph, Prints, EndsWith, DoesNotBegin, AuditComesTo, PlanComesTo, InputComesTo, IsNotServed, IsWorked, IsNotWorked, IsUnread, IsRead, HasStopped, unread_finding, CameTo, with_journal, Tells, Answers}

@@ -1,5 +1,5 @@
 -- What the gate of a call was told, from the play to the end of the call.
-use Rattle.std.proofs.Common.{◌≡◌, ◌∙◌, ℕ, Bool, true, false, if◌then◌else◌, List, [], Option, inl, inr, sym, subst}
+use Rattle.std.proofs.Common.{◌≡◌, ℕ, Bool, true, false, if◌then◌else◌, List, [], Option, inl, inr, sym, subst}
 use Rattle.caa_base.specs.declared.outside.sink.Sink.{Ghosts as SinkGhosts}
 use Rattle.caa_base.specs.declared.written.entry.Entry.{Entry}
 use Rattle.place_plan.specs.Plans.PlanValue.{Plan}
@@ -12,7 +12,7 @@ use Rattle.caa_commands.specs.declared.finding.Finding.TheVariants as finding
 use Rattle.caa_commands.specs.declared.logging.LogUse.{LogUse}
 use Rattle.caa_commands.specs.declared.logging.LogUse.TheVariants as log
 use Rattle.caa_commands.specs.declared.status.Status.{Status}
-use Rattle.caa_commands.specs.Calls.{DoesNotBegin, Tells, journal_kept}
+use Rattle.caa_commands.specs.Calls.{DoesNotBegin, Tells}
 use Rattle.caa_commands.specs.Findings.{is_played}
 use Rattle.caa_commands.specs.Gates.{WasToldAll, IsToldByRun}
 use Rattle.caa_commands.specs.Logging.{ToldBy}

@@ -1,5 +1,5 @@
 -- What a call with a log answers.
-use Rattle.std.proofs.Common.{◌≡◌, ◌⊎◌, inl, inr, ℕ, true, false, List, [], ◌++◌, length, take, reverse, append_assoc, Option, Some, None, IfSome, is_some, refl, sym, ap, ◌∙◌, subst, subst₂, arith, if◌then◌else◌}
+use Rattle.std.proofs.Common.{◌≡◌, inl, inr, ℕ, true, false, List, [], ◌++◌, length, reverse, append_assoc, Option, Some, None, IfSome, is_some, refl, sym, ap, ◌∙◌, subst, subst₂, arith, if◌then◌else◌}
 use Rattle.std.specs.Io.KnownBytes.{append_known}
 use Rattle.std.specs.List.{flat_map}
 use Rattle.std.proofs.Math.Logic.{∥∥₁_map}
@@ -27,7 +27,7 @@ use Rattle.caa_commands.specs.declared.status.Status.{Status}
 use Rattle.caa_commands.specs.declared.status.Status.TheVariants as status
 use Rattle.caa_commands.specs.Findings.{status_of, finding_text, is_played}
 use Rattle.caa_commands.specs.OutsideUse.{SourceUse, SinkUse, Left, Call, sink_use, plant_use, left_of, call_of}
-use Rattle.caa_commands.specs.Calls.{EndsAs, DoesNotBegin, PlanComesTo, CameTo, Answers, Tells, IsServed, InputComesTo}
+use Rattle.caa_commands.specs.Calls.{EndsAs, PlanComesTo, CameTo, Answers, Tells}
 use Rattle.caa_commands.specs.Served.{NothingFailed, MissesNothing, IsSpared}
 use Rattle.caa_commands.specs.Logging.{TellsAlike, WasUsed, PlayedInLog, TookFront, EndsLog, ToldBy, WasLeftOff, WasNotBegun, LogAnswers}
 use Rattle.caa_commands.proofs.CallsServed.{complete}

@@ -2,7 +2,7 @@
 use Rattle.std.specs.Prelude.{ℕ, Bool, true, false, List, [], ◌∷◌, codes, decimal}
 use Rattle.caa_base.specs.Written.Lines.{line}
 use Rattle.action_script.specs.Phrases.{phrase_of as spelling_phrase}
-use Rattle.script_checker.specs.Phrases.{phrase_of as check_phrase}
+use Rattle.script_checker.specs.Causes.{phrase_of as check_phrase}
 use Rattle.script_checker.specs.declared.plan_counts.PlanCounts.{PlanCounts}
 use Rattle.caa_commands.specs.declared.fault.Fault.{Fault}
 use Rattle.caa_commands.specs.declared.fault.Fault.TheVariants as fault

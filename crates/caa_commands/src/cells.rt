@@ -2,7 +2,6 @@
 
 ghost use Rattle.std.specs.Prelude.{◌<◌, ◌≤◌, ◌⊎◌, IfOk};
 ghost use Rattle.cell_workload.specs.CellScript.{cell_script, most_cycles};
-ghost use Rattle.journal_text.specs.Texts.Naming.{is_well_named};
 ghost use Rattle.caa_commands.specs.OutsideUse.{plant_use, left_of};
 ghost use Rattle.caa_commands.specs.Calls.{IsWorked, IsNotWorked};
 ghost use Rattle.caa_commands.specs.Scripts.{IsOnlyPlan};

@@ -1,6 +1,6 @@
 //! What the commands that play come to over the input, where the journal is written as they play.
 
-ghost use Rattle.std.specs.Prelude.{◌≡◌, ◌<◌, ◌≤◌, ◌^◌, Some, false, option_map, IfSome};
+ghost use Rattle.std.specs.Prelude.{◌≡◌, ◌<◌, ◌≤◌, Some, false, option_map, IfSome};
 ghost use Rattle.entry_log.specs.Logs.{IsFresh};
 ghost use Rattle.caa_commands.specs.declared.command.Command.{Command};
 ghost use Rattle.caa_commands.specs.Commands.{asks_for_input, most_seed, IsWithinRange};

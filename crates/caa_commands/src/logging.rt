@@ -1,6 +1,6 @@
 //! The log that a play is written to as it goes, and its end.
 
-ghost use Rattle.std.specs.Prelude.{◌≡◌, ◌≤◌, List};
+ghost use Rattle.std.specs.Prelude.{◌≡◌, List};
 ghost use Rattle.caa_base.specs.declared.written.entry.Entry.{Entry};
 ghost use Rattle.place_plan.specs.Plans.PlanValue.{Plan};
 ghost use Rattle.journal_text.specs.declared.looks.seens.Seen.{Seen};

@@ -1,9 +1,8 @@
 //! Plays of a plan over a device, and what they come to.
 
-ghost use Rattle.std.specs.Prelude.{◌≡◌, ◌<◌, ◌≤◌, ◌^◌, ℕ, List, [], true, is_some, IfSome, IfNone, IfOk, IfErr};
+ghost use Rattle.std.specs.Prelude.{◌≡◌, ◌<◌, ◌≤◌, ◌^◌, ℕ, List, [], is_some, IfSome, IfNone, IfOk, IfErr};
 ghost use Rattle.place_plan.specs.RulesOfJournals.WellFormed.{AllWellFormed};
 ghost use Rattle.journal_text.specs.Watching.Looks.{AreOfPlan};
-ghost use Rattle.journal_text.specs.Texts.Naming.{is_well_named};
 ghost use Rattle.journal_replay.specs.Hall.{plan_in, plant_in, journal_in, base_in};
 ghost use Rattle.journal_replay.specs.Device.{attempts_in, history_after};
 ghost use Rattle.caa_commands.specs.declared.finding.Finding.{Finding};
@@ -252,7 +251,6 @@ pub fn run_plan<P: Plant + Send, G: Gate + HandlerGate + Sync, R: Threads + Wait
     plant: P,
     gate: &G,
 ) -> Decision<P>
-    requires { is_well_named plan ≡ true }
     ensures comes { RunComesTo plan result.finding
         (left_of (plant_use ⟦<P as Plant>⟧ plant result.plant) result.journal.entries) }
     ensures told { WasToldAll (G.was_told gate.now) (G.was_handed gate.now) result.journal.entries }

@@ -1,4 +1,4 @@
-use Rattle.std.proofs.Common.{◌≡◌, ap, ◌∙◌, inl}
+use Rattle.std.proofs.Common.{ap, ◌∙◌, inl}
 use Rattle.journal_replay.specs.Device.{attempts_in}
 use Rattle.caa_commands.specs.OutsideUse.{plant_use, left_of}
 use Rattle.caa_commands.proofs.PlayedHistory.{only_laid, nothing_played}

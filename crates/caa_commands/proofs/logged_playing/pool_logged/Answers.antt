@@ -8,7 +8,6 @@ use Rattle.entry_log.specs.Logs.{Tells}
 use Rattle.caa_commands.specs.OutsideUse.{plant_use, left_of}
 use Rattle.caa_commands.specs.FailedPlays.{IsPlayed}
 use Rattle.caa_commands.specs.Calls.{EndsAs}
-use Rattle.caa_commands.specs.Logging.{IsLogged}
 use Rattle.caa_commands.proofs.PlayedHistory.{went_on, only_laid, nothing_played}
 use Rattle.caa_commands.proofs.Reversed.{all_well_formed}
 use Rattle.caa_commands.proofs.logged_playing.pool_logged.Goals as goal

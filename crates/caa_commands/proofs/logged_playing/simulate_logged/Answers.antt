@@ -9,7 +9,6 @@ use Rattle.role_driver.specs.Schedule.{GrewBy}
 use Rattle.entry_log.specs.Logs.{Tells}
 use Rattle.caa_commands.specs.OutsideUse.{plant_use, left_of}
 use Rattle.caa_commands.specs.Calls.{EndsAs, IsSimulated}
-use Rattle.caa_commands.specs.Logging.{IsLogged}
 use Rattle.caa_commands.proofs.PlayedHistory.{went_on}
 use Rattle.caa_commands.proofs.Reversed.{all_well_formed}
 use Rattle.caa_commands.proofs.logged_playing.simulate_logged.Goals as goal

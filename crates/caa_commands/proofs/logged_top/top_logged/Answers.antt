@@ -1,4 +1,4 @@
-use Rattle.std.proofs.Common.{◌≡◌, ◌∙◌, sym, subst₂}
+use Rattle.std.proofs.Common.{◌∙◌, sym, subst₂}
 use Rattle.std.proofs.Math.Logic.{∥∥₁_map}
 use Rattle.caa_commands.specs.OutsideUse.{source_use, plant_use, left_of, call_of, sink_use}
 use Rattle.caa_commands.specs.Logging.{LogAnswers}
