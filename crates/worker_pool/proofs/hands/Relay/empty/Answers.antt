@@ -1,8 +1,9 @@
-use Rattle.std.proofs.Common.{◌≤◌, ◌∙◌, ◌++◌, length, map, All, sym, ap, subst}
+use Rattle.std.proofs.Common.{◌≤◌, ◌∙◌, ◌++◌, length, length-append, map, All, sym, ap, subst}
 use Rattle.crossbeam_queue.specs.Passes.{view}
 use Rattle.worker_pool.specs.Relays.{all_parts, IsOfTheirs}
 use Rattle.action_manager.specs.Seats.{participant_of}
 use native.Mathlib.Omega.{arith}
+use Rattle.std.proofs.lemmas.List.{length-map}
 use Rattle.std.proofs.lemmas.List.Elements.{All-push}
 use Rattle.worker_pool.specs.declared.hand_view.HandView.{HandView}
 use Rattle.worker_pool.proofs.Keeping.{takes, are_all}
@@ -32,3 +33,16 @@ pub returns-in-None-pop_as-clause-once : goal.returns-in-None-pop_as-clause-once
 returns-in-None-pop_as-clause-once g c h =
     let rule = c.in-None-pop_as.ensures.rule in
     at_end (view c.loop.pass) _ _ _ _ c.loop.invariant.opened c.loop.invariant.held rule.1.1 rule.1.2 h
+
+pub returns-in-None-pop_as-clause-theirs : goal.returns-in-None-pop_as-clause-theirs
+returns-in-None-pop_as-clause-theirs g c = c.loop.invariant.theirs
+
+pub returns-in-None-pop_as-clause-room : goal.returns-in-None-pop_as-clause-room
+returns-in-None-pop_as-clause-room g c = c.loop.invariant.room
+
+pub push_reserved-requires : goal.push_reserved-requires
+push_reserved-requires g c =
+    let rule = c.in-Some-pop_as.ensures.rule in let inv = c.loop.invariant in
+    let before = (view c.args.pass).held in let seats = c.loop.seats.items in
+    let many = ap length inv.held ∙ length-append before (map participant_of seats) in
+    omega (arith, rule.room, many, length-map seats participant_of, ap length inv.opened, inv.room, c.loop.seats.ok.0)
