@@ -10,7 +10,7 @@ use Rattle.script_outcomes.specs.declared.outlooks.Row.{Row}
 use Rattle.script_warnings.specs.declared.subject.Part.{Part}
 
 -- a handler for this exception begins
-pub handles : ℕ → Form → Bool
+abbrev pub handles : ℕ → Form → Bool
 handles exception (form.Handler role what) = what == exception
 handles exception other = false
 
@@ -27,7 +27,7 @@ abbrev pub can_come_in : List Row → ℕ → Bool
 can_come_in rows exception = list_any (λ row. row.exception == exception && row.can_come) rows
 
 -- this is that graph
-pub is_graph : ℕ → Option ℕ → Bool
+abbrev pub is_graph : ℕ → Option ℕ → Bool
 is_graph graph None = false
 is_graph graph (Some name) = name == graph
 

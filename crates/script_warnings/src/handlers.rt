@@ -11,7 +11,7 @@ use action_script::forms::form::Form;
 use action_script::forms::script::Line;
 use caa_base::written::entry::OutOfMemory;
 use script_outcomes::outlooks::{Row, handlers_of};
-use script_outcomes::programs::handler_of;
+use script_outcomes::programs::{Program, Said, handler_of};
 use script_views::looking::{first_line, roles_of};
 use script_views::page::Piece;
 use std::alloc::Global;
@@ -34,6 +34,13 @@ fn handles(line: &Line, exception: u32) -> bool
     matches!(&line.form, Form::Handler(_, what) if *what == exception)
 }
 
+/// Whether some role has a handler for an exception.
+fn has_handler(block: &[Line], exception: u32) -> bool
+    ensures { result ≡ list_any (λ l. handles exception l.form) block.now }
+{
+    block.iter().any(|line| handles(line, exception))
+}
+
 /// The first line at which a handler for an exception begins, or that of the action.
 fn first_handler(block: &[Line], exception: u32) -> u32 {
     match block.iter().find(|line| handles(line, exception)) {
@@ -46,7 +53,7 @@ fn first_handler(block: &[Line], exception: u32) -> u32 {
 fn is_never_begun(block: &[Line], row: &Row) -> bool
     ensures { result ≡ is_never_begun block.now row.now }
 {
-    !row.can_come && block.iter().any(|line| handles(line, row.exception))
+    !row.can_come && has_handler(block, row.exception)
 }
 
 /// Tells that there are handlers for an exception that can't be resolved.
@@ -88,38 +95,39 @@ pub fn can_come_in(rows: &[Row], exception: u32) -> bool
         .any(|row| row.exception == exception && row.can_come)
 }
 
-/// Whether an exception can come and each role has a handler for it.
-fn is_handled(alloc: Global, part: &Part, exception: u32) -> Result<bool, OutOfMemory> {
-    let can_come = can_come_in(&part.outlook.rows, exception);
-    let handlers = handlers_of(alloc, part.block, exception)?;
-    Ok(can_come && handlers.iter().all(|handler| handler.is_some()))
-}
-
-/// Tells that a line of a handler, which says undo or raises, has all set back.
-fn say_undone(
+/// Tells that all is set back by a handler that says undo.
+fn say_undo(
     tells: &mut Tells,
     part: &Part,
-    line: &Line,
+    line: u32,
     role: u32,
     exception: u32,
 ) -> Result<(), OutOfMemory> {
-    if matches!(&line.form, Form::UndoLine) {
-        return tells.say(
-            Rule::HandledAndUndone,
-            line.number,
-            &[
-                Piece::Named(part.outlook.action),
-                Piece::Text(": every role handles "),
-                Piece::Named(exception),
-                Piece::Text(", and "),
-                Piece::Named(role),
-                Piece::Text(" says undo: all is set back, also what the handlers put"),
-            ],
-        );
-    }
     tells.say(
         Rule::HandledAndUndone,
-        line.number,
+        line,
+        &[
+            Piece::Named(part.outlook.action),
+            Piece::Text(": every role handles "),
+            Piece::Named(exception),
+            Piece::Text(", and "),
+            Piece::Named(role),
+            Piece::Text(" says undo: all is set back, also what the handlers put"),
+        ],
+    )
+}
+
+/// Tells that all is set back by a handler that raises.
+fn say_raise(
+    tells: &mut Tells,
+    part: &Part,
+    line: u32,
+    role: u32,
+    exception: u32,
+) -> Result<(), OutOfMemory> {
+    tells.say(
+        Rule::HandledAndUndone,
+        line,
         &[
             Piece::Named(part.outlook.action),
             Piece::Text(": every role handles "),
@@ -131,25 +139,56 @@ fn say_undone(
     )
 }
 
+/// The line at which the handler of a role for an exception says undo, or that of the action.
+fn undo_line(block: &[Line], role: u32, exception: u32) -> u32 {
+    let mut is_inside = false;
+    for line in block {
+        if let Form::Handler(who, what) = &line.form {
+            is_inside = *who == role && *what == exception;
+        }
+        if is_inside && matches!(&line.form, Form::UndoLine) {
+            return line.number;
+        }
+    }
+    first_line(block)
+}
+
+/// Tells that a handler for an exception that each role handles has all set back, if it raises or says undo.
+fn tell_undone_by(
+    tells: &mut Tells,
+    part: &Part,
+    role: u32,
+    exception: u32,
+    handler: &Program,
+) -> Result<(), OutOfMemory> {
+    match handler.reached().last() {
+        Some(last) if handler.raises() => say_raise(tells, part, last.number, role, exception),
+        _ if handler.said == Said::Undo => {
+            let line = undo_line(part.block, role, exception);
+            say_undo(tells, part, line, role, exception)
+        }
+        _ => Ok(()),
+    }
+}
+
+/// Tells which handlers of a row have all set back, where the exception can come and each role has a handler for it.
+fn tell_row_undone(tells: &mut Tells, part: &Part, row: &Row) -> Result<(), OutOfMemory> {
+    let handlers = handlers_of(tells.alloc, part.block, row.exception)?;
+    if !row.can_come || handlers.iter().any(|handler| handler.is_none()) {
+        return Ok(());
+    }
+    for (role, handler) in roles_of(part.block).iter().zip(handlers.iter()) {
+        if let Some(handler) = handler {
+            tell_undone_by(tells, part, *role, row.exception, handler)?;
+        }
+    }
+    Ok(())
+}
+
 /// Tells of which exceptions each role has a handler, and all is set back all the same.
 pub fn tell_handled_and_undone(tells: &mut Tells, part: &Part) -> Result<(), OutOfMemory> {
-    let mut inside = None;
-    for line in part.block {
-        if let Form::Handler(role, exception) = &line.form {
-            inside = if is_handled(tells.alloc, part, *exception)? {
-                Some((*role, *exception))
-            } else {
-                None
-            };
-        }
-        if matches!(&line.form, Form::Body(_)) {
-            inside = None;
-        }
-        if let Some((role, exception)) = inside {
-            if matches!(&line.form, Form::UndoLine | Form::RaiseStep(_)) {
-                say_undone(tells, part, line, role, exception)?;
-            }
-        }
+    for row in part.outlook.rows.iter() {
+        tell_row_undone(tells, part, row)?;
     }
     Ok(())
 }

@@ -1,6 +1,8 @@
 //! What is told of the nested uses of an action.
 
 ghost use Rattle.std.specs.Prelude.{◌≡◌, ◌≤◌, length, true};
+ghost use Rattle.std.specs.List.{list_all};
+ghost use Rattle.script_outcomes.specs.Endings.{can_be_undone};
 ghost use Rattle.script_warnings.specs.Never.{is_never_tried};
 
 use crate::rule::Rule;
@@ -14,14 +16,21 @@ use script_views::looking::{first_line, nest_roles};
 use script_views::page::{Page, Piece};
 use std::alloc::Global;
 
+/// Whether each of these actions can end undone.
+fn can_all_be_undone(outlooks: &[Outlook], actions: &[u32]) -> bool
+    ensures { result ≡ list_all (can_be_undone outlooks.now) actions.now }
+{
+    actions
+        .iter()
+        .all(|action| can_be_undone(outlooks, *action))
+}
+
 /// Whether the action of this index is never tried, since one before it can't end undone.
 fn is_never_tried(outlooks: &[Outlook], actions: &[u32], index: usize) -> bool
     requires { index ≤ length actions.now }
     ensures { result ≡ is_never_tried outlooks.now actions.now index }
 {
-    !actions[..index]
-        .iter()
-        .all(|action| can_be_undone(outlooks, *action))
+    !can_all_be_undone(outlooks, &actions[..index])
 }
 
 /// Tells that the action of this index is never tried.
