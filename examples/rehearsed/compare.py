@@ -63,7 +63,7 @@ def compare(show, caa, path, count):
     for number, (journal, judged) in enumerate(played, 1):
         if not judged.startswith("legal "):
             print(f"{os.path.basename(path)}: order {number}: {judged.strip()}")
-            wrong = 1
+            wrong += 1
         for fact in facts_of(script, journal):
             seen[fact] += 1
             first.setdefault(fact, number)
@@ -71,20 +71,20 @@ def compare(show, caa, path, count):
     rows = {tuple(row) for row in csv.reader(output(show, "rehearse", path, str(count), "csv").splitlines()[1:])}
     for row in sorted(wanted ^ rows):
         print(f"{os.path.basename(path)}: {'no row' if row in wanted else 'a row'} {' '.join(row)}")
-        wrong = 1
+        wrong += 1
     return wrong
 
 
 def main():
     show, caa, count, *scripts = sys.argv[1:]
-    wrong = 0
-    for path in scripts or SCRIPTS:
-        wrong |= compare(show, caa, path, int(count))
+    scripts = scripts or SCRIPTS
+    wrong = sum(compare(show, caa, path, int(count)) for path in scripts)
     late = output(show, "rehearse", os.path.join(HERE, "slow_press"), "10", "csv")
     if "\nresolve,take_out,plate_open," not in late:
         print("slow_press: the late robot isn't among the first ten orders")
-        wrong = 1
-    sys.exit(wrong)
+        wrong += 1
+    print(f"{len(scripts)} scripts, {len(scripts) * int(count)} orders, {wrong} wrong")
+    sys.exit(1 if wrong else 0)
 
 
 if __name__ == "__main__":
