@@ -17,8 +17,11 @@ use crate::words::{Alone, USAGE, VERSION, View, asked, asked_alone};
 use action_script::words::call_words::call_words;
 use caa_base::outside::reading::{ReadError, read_all, write_all};
 use caa_base::outside::standard::{StdSink, StdSource};
+use caa_base::written::entry::OutOfMemory;
 use caa_base::written::limits::MOST_AUDIT_BYTES;
+use fault_trials::trials::Progress;
 use script_views::line_table::line_table;
+use script_views::page::{Page, Piece};
 use std::alloc::Global;
 use std::fs;
 use std::io::ErrorKind;
@@ -64,14 +67,15 @@ fn show_read(alloc: Global, view: View, file: &str, read: Result<Vec<u8>, ReadEr
 }
 
 /// What a view of plays shows of what was read.
-fn show_played(
+fn show_played<P: Progress>(
     alloc: Global,
     call: &PlayCall,
     file: &str,
     read: Result<Vec<u8>, ReadError>,
+    progress: &mut P,
 ) -> Shown {
     match read {
-        Ok(bytes) => match show_plays(alloc, call, file.as_bytes(), &bytes) {
+        Ok(bytes) => match show_plays(alloc, call, file.as_bytes(), &bytes, progress) {
             Ok(shown) => shown,
             Err(_) => told(alloc, Status::OutOfMemory, "", b""),
         },
@@ -125,10 +129,53 @@ fn read_input(rt: &HostRuntime, file: Option<&str>) -> Result<Vec<u8>, ReadError
     }
 }
 
+/// After so many entries at most it is told how far a view of plays has come.
+const EACH: u64 = 100_000_000;
+
+/// Tells on standard error how far a view of plays has come.
+#[derive(Drop)]
+struct Teller<'a> {
+    rt: &'a HostRuntime,
+    /// How many entries are played before the next line.
+    next: u64,
+}
+
+impl<'a> Progress for Teller<'a> {
+    fn tell(&mut self, done: u32, schedules: u32, entries: u64) {
+        if entries < self.next {
+            return;
+        }
+        self.next = entries.saturating_add(EACH);
+        if let Ok(line) = progress_line(self.rt.alloc(), done, schedules) {
+            write_shown(self.rt, &line, false);
+        }
+    }
+}
+
+/// A line that tells how far a view of plays has come.
+fn progress_line(alloc: Global, done: u32, schedules: u32) -> Result<Vec<u8>, OutOfMemory> {
+    let mut page = Page::new(alloc, &[]);
+    page.say(&[
+        Piece::Text("faults: "),
+        Piece::Number(u64::from(done)),
+        Piece::Text(" of "),
+        Piece::Number(u64::from(schedules)),
+        Piece::Text(" schedules\n"),
+    ])?;
+    Ok(page.into_text())
+}
+
 /// What a view of plays comes to.
 fn serve_played(rt: &HostRuntime, call: &PlayCall) -> Shown {
     let name = call.file.unwrap_or(STANDARD_INPUT);
-    show_played(rt.alloc(), call, name, read_input(rt, call.file))
+    let mut teller = Teller { rt, next: EACH };
+    show_played(
+        rt.alloc(),
+        call,
+        name,
+        read_input(rt, call.file),
+        &mut teller,
+    )
 }
 
 /// What the words come to, and whether it belongs into the output: why a picture or a graph isn't there doesn't.

@@ -5,6 +5,8 @@ use crate::words::USAGE;
 use action_script::forms::script::Script;
 use action_script::words::journal_start::find_journal;
 use caa_base::written::entry::OutOfMemory;
+use fault_trials::trials::Progress;
+use fault_views::asking::{FaultsTold, show_faults};
 use place_plan::plans::plan::Plan;
 use rehearsal_views::asking::{Told, show_playing, show_rehearsal};
 use script_views::explaining::{Seen, look};
@@ -16,6 +18,8 @@ use std::alloc::Global;
 pub enum PlayView {
     /// What comes by so many schedules.
     Rehearse,
+    /// What comes of each put that is refused.
+    Faults,
     /// The journal of one schedule.
     Playing,
 }
@@ -32,6 +36,7 @@ pub struct PlayCall<'a> {
 fn play_view_of(word: &str) -> Option<PlayView> {
     match word {
         "rehearse" => Some(PlayView::Rehearse),
+        "faults" => Some(PlayView::Faults),
         "playing" => Some(PlayView::Playing),
         _ => None,
     }
@@ -71,21 +76,6 @@ fn too_many(alloc: Global, file: &[u8], most: u64) -> Result<Shown, OutOfMemory>
     Ok(with_status(Status::Refused, page.into_text()))
 }
 
-/// What a view tells of a script.
-fn tell_plays(
-    alloc: Global,
-    call: &PlayCall,
-    script: &Script,
-    plan: Plan,
-    file: &[u8],
-    text: &[u8],
-) -> Result<Told, OutOfMemory> {
-    match call.view {
-        PlayView::Rehearse => show_rehearsal(alloc, script, plan, file, call.words),
-        PlayView::Playing => show_playing(alloc, script, plan, text, call.words),
-    }
-}
-
 /// What a view told, with its status.
 fn shown_of(alloc: Global, file: &[u8], told: Told) -> Result<Shown, OutOfMemory> {
     match told {
@@ -98,20 +88,75 @@ fn shown_of(alloc: Global, file: &[u8], told: Told) -> Result<Shown, OutOfMemory
     }
 }
 
-/// What a view of plays shows of an input.
-pub fn show_plays(
+/// What a table of faults came to, with its status.
+fn shown_faults(alloc: Global, file: &[u8], told: FaultsTold) -> Result<Shown, OutOfMemory> {
+    match told {
+        FaultsTold::Told(told) => shown_of(alloc, file, told),
+        FaultsTold::WentAnotherWay => {
+            let mut page = Page::new(alloc, &[]);
+            page.say(&[
+                Piece::Word(file),
+                Piece::Text(
+                    ": a schedule went another way before the put that was refused, which is a mistake of this program\n",
+                ),
+            ])?;
+            Ok(with_status(Status::Illegal, page.into_text()))
+        }
+    }
+}
+
+/// What a view of plays shows of a script.
+fn show_script<P: Progress>(
+    alloc: Global,
+    call: &PlayCall,
+    scene: Played,
+    file: &[u8],
+    text: &[u8],
+    progress: &mut P,
+) -> Result<Shown, OutOfMemory> {
+    let Played { script, plan } = scene;
+    match call.view {
+        PlayView::Rehearse => {
+            let told = show_rehearsal(alloc, &script, plan, file, call.words)?;
+            shown_of(alloc, file, told)
+        }
+        PlayView::Faults => {
+            let told = show_faults(alloc, &script, plan, file, call.words, progress)?;
+            shown_faults(alloc, file, told)
+        }
+        PlayView::Playing => {
+            let told = show_playing(alloc, &script, plan, text, call.words)?;
+            shown_of(alloc, file, told)
+        }
+    }
+}
+
+/// A script that is played, with its plan.
+#[derive(Drop)]
+struct Played {
+    script: Script,
+    plan: Plan,
+}
+
+/// What a view of plays shows of an input. Who waits is told how far it has come.
+pub fn show_plays<P: Progress>(
     alloc: Global,
     call: &PlayCall,
     file: &[u8],
     bytes: &[u8],
+    progress: &mut P,
 ) -> Result<Shown, OutOfMemory> {
     let start = find_journal(bytes);
     let text = bytes.get(..start.offset).unwrap_or(bytes);
     match look(alloc, file, text)? {
-        Seen::Accepted(script, plan) => {
-            let told = tell_plays(alloc, call, &script, plan, file, text)?;
-            shown_of(alloc, file, told)
-        }
+        Seen::Accepted(script, plan) => show_script(
+            alloc,
+            call,
+            Played { script, plan },
+            file,
+            text,
+            progress,
+        ),
         Seen::Refused(refusal) => Ok(with_status(Status::Refused, refusal.text)),
     }
 }

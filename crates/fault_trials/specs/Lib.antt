@@ -1,0 +1,3 @@
+pub mod Puts
+pub mod Classes
+pub mod Tables
