@@ -1,0 +1,3 @@
+pub mod ListsAlone
+pub mod StepsReached
+pub mod Unpassed
