@@ -1,3 +1,4 @@
 pub mod ListsAlone
 pub mod StepsReached
 pub mod Unpassed
+pub mod Planned

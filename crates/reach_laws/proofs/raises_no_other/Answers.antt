@@ -2,12 +2,12 @@ use Rattle.journal_laws.proofs.PlayablePlan.{is_playable}
 use Rattle.journal_laws.proofs.CoreKept.{core}
 use Rattle.reach_laws.proofs.ListsAlone.{member_either}
 use Rattle.reach_laws.proofs.Unpassed.{unpassed, refused_breaks}
+use Rattle.reach_laws.proofs.Planned.{is_planned}
 use Rattle.reach_laws.proofs.raises_no_other.Goals as goal
 
 pub returns : goal.returns
 returns c =
     let plan = c.args.plan.now in
     let playable = is_playable plan c.is_closed.ensures in
-    let u = unpassed plan playable (core plan playable) in
-    let r = refused_breaks plan playable (core plan playable) in
+    let planned = is_planned plan c.is_closed.ensures in
     ?
