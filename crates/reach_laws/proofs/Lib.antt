@@ -2,3 +2,7 @@ pub mod ListsAlone
 pub mod StepsReached
 pub mod Unpassed
 pub mod Planned
+pub mod Verdicts
+pub mod Rows
+pub mod Ends
+pub mod Carried

@@ -1,8 +1,8 @@
 -- Where the members of lists stand, and what some of them passes.
-use Rattle.std.proofs.Common.{◌≡◌, ℕ, ◌==◌, ◌<◌, ◌≤◌, Bool, true, false, cond, ◌||◌, List, [], ◌∷◌, ◌++◌, length, slice_index_or, slice_get, Some, None, Option, zero, suc, refl, sym, ap, ◌∙◌, subst, arith, inl, inr, ◌⊎◌, is_none}
-use Rattle.std.specs.List.{list_any}
-use Rattle.std.proofs.lemmas.Bool.{or_cases, or_left, or_right, eqb-true, eq-eqb, false≢true}
-use Rattle.caa_base.specs.Written.Lists.{member, first_of, next_after}
+use Rattle.std.proofs.Common.{◌≡◌, ℕ, ◌==◌, ◌<◌, ◌≤◌, Bool, true, false, not, cond, ◌||◌, List, [], ◌∷◌, ◌++◌, length, slice_index_or, slice_get, Some, None, Option, zero, suc, refl, sym, ap, ◌∙◌, subst, arith, inl, inr, ◌⊎◌, is_none}
+use Rattle.std.specs.List.{list_all, list_any}
+use Rattle.std.proofs.lemmas.Bool.{and_from, or_cases, or_left, or_right, eqb-true, eq-eqb, false≢true}
+use Rattle.caa_base.specs.Written.Lists.{member, is_empty, first_of, next_after}
 use Rattle.caa_base.specs.inner.Lists.{Rises}
 use Rattle.caa_base.proofs.ListLemmas.{chosen, member_above}
 
@@ -99,3 +99,37 @@ member_either y (x ∷ xs) ys m = elim (or_cases (x == y) (member y (xs ++ ys)) 
 pub only_here : (b : Bool) (x y : ℕ) → member y (cond b (x ∷ []) []) ≡ true → (b ≡ true) × (x ≡ y)
 only_here true x y m = elim (or_cases (x == y) false m) [ inl e ↦ (refl, eqb-true x y e) | inr e ↦ absurd (false≢true e) ]
 only_here false x y m = absurd (false≢true m)
+
+-- what each row passes, all pass
+pub rows_all : {A : Type 0} (test : A → Bool) (xs : List A) (d : A)
+    → ((i : ℕ) → i < length xs → test (slice_index_or xs i d) ≡ true) → list_all test xs ≡ true
+rows_all test [] d h = refl
+rows_all test (x ∷ xs) d h =
+    and_from (test x) (list_all test xs) (h zero (omega arith)) (rows_all test xs d (λ i l. h (suc i) (omega arith)))
+
+-- what a member passes, some pass, and what some pass, a member passes
+pub any_at : (test : ℕ → Bool) (xs : List ℕ) (x : ℕ) → member x xs ≡ true → test x ≡ true → list_any test xs ≡ true
+any_at test [] x m h = absurd (false≢true m)
+any_at test (y ∷ ys) x m h = elim (or_cases (y == x) (member x ys) m) [
+  | inl e ↦ or_left _ _ (subst (λ z. test z ≡ true) (sym (eqb-true y x e)) h)
+  | inr e ↦ or_right _ _ (any_at test ys x e h)
+]
+
+pub any_is : (test : ℕ → Bool) (xs : List ℕ) → list_any test xs ≡ true → (x : ℕ) × (member x xs ≡ true) × (test x ≡ true)
+any_is test [] h = absurd (false≢true h)
+any_is test (y ∷ ys) h = elim (or_cases (test y) (list_any test ys) h) [
+  | inl e ↦ (y, or_left _ _ (eq-eqb y y refl), e)
+  | inr e ↦ later (any_is test ys e)
+]
+  where
+    later : (x : ℕ) × (member x ys ≡ true) × (test x ≡ true) → (x : ℕ) × (member x (y ∷ ys) ≡ true) × (test x ≡ true)
+    later found = (found.0, or_right _ _ found.1, found.2)
+
+-- a list with a member isn't empty
+pub some_there : (xs : List ℕ) (x : ℕ) → member x xs ≡ true → is_empty xs ≡ false
+some_there [] x m = absurd (false≢true m)
+some_there (y ∷ ys) x m = refl
+
+pub some_long : (xs : List ℕ) → not (is_empty xs) ≡ true → (0 < length xs) × ((x : ℕ) × (member x xs ≡ true))
+some_long [] h = absurd (false≢true h)
+some_long (x ∷ xs) h = (omega arith, (x, or_left _ _ (eq-eqb x x refl)))

@@ -1,7 +1,6 @@
 use Rattle.journal_laws.proofs.PlayablePlan.{is_playable}
 use Rattle.journal_laws.proofs.CoreKept.{core}
-use Rattle.reach_laws.proofs.ListsAlone.{member_either}
-use Rattle.reach_laws.proofs.Unpassed.{unpassed, refused_breaks}
+use Rattle.reach_laws.proofs.Verdicts.{said_after, said_calmly}
 use Rattle.reach_laws.proofs.Planned.{is_planned}
 use Rattle.reach_laws.proofs.raises_no_other.Goals as goal
 
@@ -10,4 +9,5 @@ returns c =
     let plan = c.args.plan.now in
     let playable = is_playable plan c.is_closed.ensures in
     let planned = is_planned plan c.is_closed.ensures in
+    let s = said_after plan playable (core plan playable) in
     ?
