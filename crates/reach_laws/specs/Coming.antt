@@ -83,7 +83,7 @@ mutual
 
   -- the exception can be raised in a place of the action
   pub data CanBeRaised (plan : Plan) : ℕ → ℕ → Type 0 where
-    from : (a x : ℕ) (source : Source) → CanRaise plan a source x → CanBeRaised plan a x
+    by_source : (a x : ℕ) (source : Source) → CanRaise plan a source x → CanBeRaised plan a x
 
   -- the exception can be resolved in a place of the action: it is the least cover of some that can be raised there
   pub data CanBeResolved (plan : Plan) : ℕ → ℕ → Type 0 where

@@ -1,0 +1,323 @@
+-- Whatever comes in a place can come there: by induction over the past, what is raised has a source, places end as their actions can, and
+-- where roles give up, something else can be raised round their place.
+use Rattle.std.proofs.Common.{◌≡◌, ℕ, ◌==◌, ◌<◌, Bool, true, false, not, ◌&&◌, ◌||◌, List, [], ◌∷◌, Some, None, Option, refl, sym, ap, ◌∙◌, subst, inl, inr}
+use Rattle.std.specs.List.{list_any}
+use Rattle.std.proofs.lemmas.Bool.{and_parts, or_cases, or_left, or_right, eqb-true, eq-eqb, false≢true, not-true, cases_order, both_ways, false_from_ne_true}
+use Rattle.caa_base.specs.declared.written.entry.Entry.{Entry}
+use Rattle.caa_base.specs.declared.written.entry.Kind.{Kind}
+use Rattle.caa_base.specs.declared.written.entry.Kind.TheVariants as kind
+use Rattle.caa_base.specs.declared.written.entry.Outcome.TheVariants as outcome
+use Rattle.place_plan.specs.declared.drafts.draft_rows.ActionRow.{ActionRow}
+use Rattle.place_plan.specs.declared.drafts.draft_rows.Program.{Program}
+use Rattle.place_plan.specs.declared.drafts.draft_rows.Step.{Step}
+use Rattle.place_plan.specs.Plans.PlanValue.{Plan}
+use Rattle.caa_base.specs.Written.Lists.{member, first_of}
+use Rattle.place_plan.specs.Plans.Places.{around, parent, roles_of, role_row, body_of, fault_of, alternates_of, nest_number, next_in, next_alternate}
+use Rattle.place_plan.specs.RulesOfJournals.Entries.{is_in, is_by, has, has_by, newest}
+use Rattle.place_plan.specs.RulesOfJournals.Whereabouts.{inside, outcome_at, has_ended, is_left_in_silence}
+use Rattle.place_plan.specs.RulesOfJournals.Raising.{has_handled, carries_into, raises_in, exceptions_raised, is_raised, is_doomed, is_halted, exception_resolved}
+use Rattle.place_plan.specs.RulesOfJournals.Roles.{position, register, program_in, program_of, next_step}
+use Rattle.place_plan.specs.RulesOfJournals.Rules.{Row, MayRaise, MayPut, MayLeave, MayAbort, MayFollow, is_deaf, exception_carried}
+use Rattle.place_plan.specs.RulesOfJournals.Journals.{LegalPast}
+use Rattle.journal_laws.specs.Laws.{Holds}
+use Rattle.journal_laws.proofs.Playable.{IsPlayable}
+use Rattle.journal_laws.proofs.Core.{Core}
+use Rattle.caa_base.proofs.ListLemmas.{all_at, at_same, chosen}
+use Rattle.place_plan.proofs.OnJournals.EntryKinds.{of_kind, both_same}
+use Rattle.journal_laws.proofs.Arrivals.{around_parent, inside_arrived, left_arrived, left_ended}
+use Rattle.journal_laws.proofs.Busy.{doom_stays}
+use Rattle.journal_laws.proofs.Frozen.{carrying_parts}
+use Rattle.journal_laws.proofs.Holding.{ended_started}
+use Rattle.journal_laws.proofs.Makers.{maker_role}
+use Rattle.journal_laws.proofs.Newest.{stands_newest, newest_stands, newest_none}
+use Rattle.journal_laws.proofs.Options.{some_apart, some_same}
+use Rattle.journal_laws.proofs.Phases.{going_parts}
+use Rattle.journal_laws.proofs.Raised.{role_inside}
+use Rattle.journal_laws.proofs.Said.{has_maker}
+use Rattle.journal_laws.proofs.Silence.{silence_stays}
+use Rattle.journal_laws.proofs.Uses.{body_step}
+use Rattle.reach_laws.specs.Steps.{can_raise, body_raises}
+use Rattle.reach_laws.specs.Coming.{action_of, Source, step_of_role, nested_use, CanRaise, CanBeRaised, CanEnd, by_step, by_source}
+use Rattle.reach_laws.specs.Reach.{action_number, RaisesNoOther, ResolvesNoOther, EndsNotOtherwise, TriesNoOther}
+use Rattle.reach_laws.proofs.ListsAlone.{after_is, member_either, only_here, some_long}
+use Rattle.reach_laws.proofs.StepsReached.{NoRaise, is_reached, put_step, raise_step}
+use Rattle.reach_laws.proofs.Unpassed.{unpassed}
+use Rattle.reach_laws.proofs.Planned.{IsPlanned}
+use Rattle.reach_laws.proofs.Rows.{role_any}
+use Rattle.reach_laws.proofs.Ends.{spared_before, resolvable, end_can, given_up}
+use Rattle.reach_laws.proofs.Carried.{AllEnd, HaveOthers, HasOther, IsUsed, named_some, silent_can, carried_can}
+
+module _ (plan : Plan) (playable : IsPlayable plan) (core : Holds Core plan) (planned : IsPlanned plan) where
+  -- where a nested use has raised something in p, a place of it was left aloud
+  abbrev pub CameFrom : List Entry → ℕ → Source → Type 0
+  CameFrom past p step_of_role = Unit {0}
+  CameFrom past p (nested_use k) =
+      (c : ℕ) × (parent plan c ≡ Some p) × (nest_number plan c ≡ k) × (has kind.Leave past c ≡ true)
+      × (is_left_in_silence plan past c ≡ false)
+
+  -- what was raised in p can be raised there by a source that came to it
+  pub record Explained (past : List Entry) (p y : ℕ) : Type 0 where
+    pub source : Source
+    pub can : CanRaise plan (action_number plan p) source y
+    pub came : CameFrom past p source
+
+  pub record Reached (past : List Entry) : Type 0 where
+    pub explained : (p y : ℕ) → member y (exceptions_raised plan past p) ≡ true → Explained past p y
+    pub ended : AllEnd plan playable core planned past
+    pub beside : HaveOthers plan playable core planned past
+
+  -- ---- what came stays
+
+  came_on : (past : List Entry) (e : Entry) (p : ℕ) (source : Source) → LegalPast plan past → MayFollow plan past e
+      → CameFrom past p source → CameFrom (e ∷ past) p source
+  came_on past e p step_of_role legal h came = tt
+  came_on past e p (nested_use k) legal h (c, up, same_use, left, aloud) = (
+    c,
+    up,
+    same_use,
+    or_right _ _ left,
+    silence_stays plan playable.tree past e c legal h ((core past legal).visits.left c left) ∙ aloud,
+  )
+
+  explained_on : (past : List Entry) (e : Entry) (p y : ℕ) → LegalPast plan past → MayFollow plan past e → Explained past p y
+      → Explained (e ∷ past) p y
+  explained_on past e p y legal h was =
+      record { source = was.source; can = was.can; came = came_on past e p was.source legal h was.came }
+
+  -- ---- what a step raises
+
+  -- who is not halted in p has begun no handler there
+  running_unhandled : (past : List Entry) → LegalPast plan past → (p t : ℕ) → member t (roles_of plan p) ≡ true
+      → is_halted plan past p t ≡ false → has_handled past p t ≡ false
+  running_unhandled past legal p t m running = false_from_ne_true _ (λ handled.
+      let some = stands_newest (is_by kind.Handle p t) past handled in
+      let resolution = ((core past legal).raises.handles p t some.0 some.1).0 in
+      both_ways _ running
+      (all_at (is_halted plan past p) (roles_of plan p) t ((core past legal).raises.resolves p some.0 resolution).0 m))
+
+  step_can : (past : List Entry) → LegalPast plan past → (p t x : ℕ) (s : Step) → member t (roles_of plan p) ≡ true
+      → has_handled past p t ≡ false → next_step plan past p t ≡ Some s
+      → can_raise (action_of plan (action_number plan p)).fault x s ≡ true
+      → CanRaise plan (action_number plan p) step_of_role x
+  step_can past legal p t x s m unhandled next raises =
+      let fault = (action_of plan (action_number plan p)).fault in
+      let body : program_of plan past p t ≡ body_of plan p t =
+      ap (program_in plan p t) (newest_none (is_by kind.Handle p t) past unhandled) in
+      let free =
+      subst (λ (g : Program). NoRaise g.steps (position plan past p t)) body (unpassed plan playable core past legal p t) in
+      by_step (action_number plan p) x
+      (role_any plan planned p t (body_raises fault x) m
+      (is_reached (can_raise fault x) (body_of plan p t).steps (position plan past p t) s free
+      (sym (body_step plan past p t unhandled) ∙ next) raises))
+
+  by_raise : (past : List Entry) (e : Entry) → LegalPast plan past → MayRaise plan past e
+      → CanRaise plan (action_number plan e.place) step_of_role e.arg
+  by_raise past e legal h =
+      let m = role_inside plan playable.tree past legal e.by e.place h.here in
+      let raising = raise_step (next_step plan past e.place e.by) (register plan past e.place e.by) e.arg h.raises in
+      step_can past legal e.place e.by e.arg raising.0 m (running_unhandled past legal e.place e.by m h.running) raising.1
+      (raising.2.0 (action_of plan (action_number plan e.place)).fault)
+
+  by_fault : (past : List Entry) (e : Entry) → LegalPast plan past → MayPut plan past e → has_handled past e.place e.by ≡ false
+      → CanRaise plan (action_number plan e.place) step_of_role (fault_of plan e.place)
+  by_fault past e legal h unhandled =
+      let m = role_inside plan playable.tree past legal e.by e.place h.here in
+      let fault = (action_of plan (action_number plan e.place)).fault in
+      let put = put_step (next_step plan past e.place e.by) (register plan past e.place e.by) (e.arg, e.value) h.puts in
+      let same : fault ≡ fault_of plan e.place = sym (ap (λ (a : ActionRow). a.fault) (planned.actions e.place e.by m)) in
+      subst (CanRaise plan (action_number plan e.place) step_of_role) same
+      (step_can past legal e.place e.by fault put.0 m unhandled put.1 (put.2.1 fault))
+
+  -- ---- what a leave carries
+
+  leave_explained : (past : List Entry) (e : Entry) (p : ℕ) → LegalPast plan past → Reached past
+      → MayLeave plan past (of_kind kind.Leave e) → carries_into plan p e ≡ true
+      → Explained (of_kind kind.Leave e ∷ past) p e.arg
+  leave_explained past e p legal was h carries =
+      let parts = and_parts _ (e.mark == 1) carries in
+      let up : parent plan e.place ≡ Some p = at_same _ _ parts.0 in
+      let loud = carrying_parts plan past (of_kind kind.Leave e) h parts.1 in
+      let spared : is_doomed plan past p ≡ false = subst (λ o. is_deaf plan past o ≡ false) up loud.0 in
+      let named = named_some (of_kind kind.Leave e) (exception_carried plan past e.place e.by) h.carries parts.1 in
+      record {
+        source = nested_use (nest_number plan e.place);
+        can =
+            elim (chosen (is_deaf plan past (parent plan e.place) || is_left_in_silence plan past e.place) None _ (Some e.arg) named) [
+              | inl z ↦ absurd (some_apart z.1)
+              | inr z ↦ carried_can plan playable core planned past legal was.ended p e.place e.by e.arg
+                  (record { up = up; here = h.here; started = ended_started plan playable.tree past legal e.place h.when })
+                  was.beside spared loud.1 z.1
+            ];
+        came = (e.place, up, refl, or_left _ _ (eq-eqb e.place e.place refl), loud.1);
+      }
+
+  -- ---- what was raised is explained
+
+  new_by : (past : List Entry) (k : Kind) (e : Entry) (p y : ℕ) → LegalPast plan past → Reached past
+      → Row k plan past (of_kind k e) → member y (raises_in plan past p (of_kind k e) k) ≡ true
+      → Explained (of_kind k e ∷ past) p y
+  new_by past kind.Raise e p y legal was h m =
+      let here = only_here (e.place == p) e.arg y m in
+      record {
+        source = step_of_role;
+        can =
+            subst (CanRaise plan (action_number plan p) step_of_role) here.1
+            (subst (λ a. CanRaise plan (action_number plan a) step_of_role e.arg) (eqb-true e.place p here.0)
+            (by_raise past (of_kind kind.Raise e) legal h));
+        came = tt;
+      }
+  new_by past kind.PutFault e p y legal was h m =
+      let here = only_here ((e.place == p) && not (has_handled past p e.by)) (fault_of plan p) y m in
+      let parts = and_parts (e.place == p) (not (has_handled past p e.by)) here.0 in
+      let same : e.place ≡ p = eqb-true e.place p parts.0 in
+      let unhandled : has_handled past e.place e.by ≡ false =
+      subst (λ a. has_handled past a e.by ≡ false) (sym same) (not-true _ parts.1) in
+      record {
+        source = step_of_role;
+        can =
+            subst (CanRaise plan (action_number plan p) step_of_role) here.1
+            (subst (λ a. CanRaise plan (action_number plan a) step_of_role (fault_of plan a)) same
+            (by_fault past (of_kind kind.PutFault e) legal h unhandled));
+        came = tt;
+      }
+  new_by past kind.Leave e p y legal was h m =
+      let here = only_here (carries_into plan p e) e.arg y m in
+      subst (Explained (of_kind kind.Leave e ∷ past) p) here.1 (leave_explained past e p legal was h here.0)
+  new_by past _ e p y legal was h m = absurd (false≢true m)
+
+  explained_by : (past : List Entry) (k : Kind) (e : Entry) (p y : ℕ) → LegalPast plan past → Reached past
+      → Row k plan past (of_kind k e) → member y (exceptions_raised plan (of_kind k e ∷ past) p) ≡ true
+      → Explained (of_kind k e ∷ past) p y
+  explained_by past k e p y legal was h m =
+      elim (member_either y (raises_in plan past p (of_kind k e) k) (exceptions_raised plan past p) m) [
+        | inl x ↦ new_by past k e p y legal was h x
+        | inr x ↦ explained_on past (of_kind k e) p y legal h (was.explained p y x)
+      ]
+
+  -- ---- places that have ended
+
+  all_can : (past : List Entry) (p : ℕ) → Reached past → (y : ℕ) → member y (exceptions_raised plan past p) ≡ true
+      → CanBeRaised plan (action_number plan p) y
+  all_can past p was y m = let found = was.explained p y m in by_source (action_number plan p) y found.source found.can
+
+  ended_by : (past : List Entry) (k : Kind) (e : Entry) (p : ℕ) (f : Entry) → LegalPast plan past → Reached past
+      → Row k plan past (of_kind k e) → newest (is_in kind.End p) (of_kind k e ∷ past) ≡ Some f
+      → has kind.Abort past p ≡ false → CanEnd plan (action_number plan p) (outcome_at f)
+  ended_by past kind.End e p f legal was h w spared =
+      elim (chosen (e.place == p) (Some (of_kind kind.End e)) (newest (is_in kind.End p) past) (Some f) w) [
+        | inl x ↦
+            let here : e.place ≡ p = eqb-true e.place p x.0 in
+            subst (λ g. CanEnd plan (action_number plan p) (outcome_at g)) (some_same x.1)
+            (subst (λ a. CanEnd plan (action_number plan a) (outcome_at (of_kind kind.End e))) here
+            (end_can plan playable core planned past (of_kind kind.End e) legal (all_can past e.place was) h
+            (subst (λ a. has kind.Abort past a ≡ false) (sym here) spared)))
+        | inr x ↦ was.ended p f x.1 spared
+      ]
+  ended_by past _ e p f legal was h w spared = was.ended p f w spared
+
+  -- ---- places in which roles gave up
+
+  -- the place has not ended, and somebody is in it: so nothing came out of its use
+  nothing_out : (past : List Entry) → LegalPast plan past → (p c t : ℕ) → parent plan c ≡ Some p → inside plan past t ≡ Some c
+      → has_ended past c ≡ false → CameFrom past p (nested_use (nest_number plan c)) → ⊥
+  nothing_out past legal p c t up here lasts (d, up_d, same_use, left, aloud) = elim (cases_order d c) [
+    | inl same ↦ both_ways _ lasts (subst (λ a. has_ended past a ≡ true) same ((core past legal).visits.left d left))
+    | inr (inl below) ↦
+        both_ways _ aloud ((core past legal).visits.turn p d c t up_d up same_use below
+        (inside_arrived plan playable.tree past legal c t here)).1
+    | inr (inr above) ↦
+        let some = has_maker kind.Leave d past left in
+        both_ways _ lasts (left_ended plan playable.tree past legal c some.0
+        ((core past legal).visits.turn p c d some.0 up up_d (sym same_use) above
+        (left_arrived plan playable.tree past legal d some.0 some.1)).0)
+  ]
+
+  gives_up : (past : List Entry) (e : Entry) (p : ℕ) → LegalPast plan past → Reached past → MayAbort plan past e
+      → parent plan e.place ≡ Some p → is_doomed plan past p ≡ false
+      → HasOther plan playable core planned p (nest_number plan e.place)
+  gives_up past e p legal was h up spared =
+      let round : is_raised plan past p || is_doomed plan past p ≡ true =
+      subst (λ qs. list_any (λ q. is_raised plan past q) qs ≡ true) (around_parent plan playable.tree p e.place up) h.doom in
+      elim (or_cases (is_raised plan past p) (is_doomed plan past p) round) [
+        | inl x ↦
+            let some = (some_long (exceptions_raised plan past p) x).1 in
+            let found = was.explained p some.0 some.1 in (
+              found.source,
+              some.0,
+              found.can,
+              λ same. nothing_out past legal p e.place e.by up h.here (going_parts past e.place h.when).lasts
+                  (subst (CameFrom past p) same found.came),
+            )
+        | inr x ↦ absurd (both_ways _ spared x)
+      ]
+
+  beside_by : (past : List Entry) (k : Kind) (e : Entry) (c p : ℕ) → LegalPast plan past → Reached past
+      → Row k plan past (of_kind k e) → has kind.Abort (of_kind k e ∷ past) c ≡ true → parent plan c ≡ Some p
+      → is_doomed plan past p ≡ false → HasOther plan playable core planned p (nest_number plan c)
+  beside_by past kind.Abort e c p legal was h gave up spared = elim (or_cases (e.place == c) (has kind.Abort past c) gave) [
+    | inl x ↦
+        let same : e.place ≡ c = eqb-true e.place c x in
+        subst (λ a. HasOther plan playable core planned p (nest_number plan a)) same
+        (gives_up past (of_kind kind.Abort e) p legal was h (subst (λ a. parent plan a ≡ Some p) (sym same) up) spared)
+    | inr x ↦ was.beside c p x up spared
+  ]
+  beside_by past _ e c p legal was h gave up spared = was.beside c p gave up spared
+
+  -- ---- all of it
+
+  pub reached : (past : List Entry) → LegalPast plan past → Reached past
+  reached [] legal = record {
+    explained = λ p y m. absurd (false≢true m);
+    ended = λ p f w spared. absurd (some_apart w);
+    beside = λ c p gave up spared. absurd (false≢true gave);
+  }
+  reached (e ∷ past) legal =
+      let was = reached past legal.0 in
+      record {
+        explained = λ p y. explained_by past e.kind e p y legal.0 was legal.1;
+        ended = λ p f w spared. ended_by past e.kind e p f legal.0 was legal.1 w (spared_before past e.kind e p spared);
+        beside = λ c p gave up spared. beside_by past e.kind e c p legal.0 was legal.1 gave up
+            (false_from_ne_true _ (λ doom. both_ways _ spared (doom_stays plan p e past doom)));
+      }
+
+  -- ---- the laws
+
+  -- who has an entry in p has a role there
+  makers : (past : List Entry) → LegalPast plan past → (k : Kind) (p t : ℕ) → has_by k past p t ≡ true
+      → member t (roles_of plan p) ≡ true
+  makers [] legal k p t w = absurd (false≢true w)
+  makers (e ∷ past) legal k p t w = elim (or_cases (is_by k p t e) (has_by k past p t) w) [
+    | inl x ↦
+        let parts = and_parts (is_in k p e) (e.by == t) x in
+        let place : e.place ≡ p = eqb-true e.place p (and_parts _ (e.place == p) parts.0).1 in
+        subst (λ a. member a (roles_of plan p) ≡ true) (eqb-true e.by t parts.1)
+        (subst (λ a. member e.by (roles_of plan a) ≡ true) place (maker_role plan playable.tree past e legal.0 legal.1))
+    | inr x ↦ makers past legal.0 k p t x
+  ]
+
+  pub raises_no_other : Holds RaisesNoOther plan
+  raises_no_other past legal p x m = all_can past p (reached past legal) x m
+
+  pub resolves_no_other : Holds ResolvesNoOther plan
+  resolves_no_other past legal p x w =
+      let some = has_maker kind.Resolve p past (newest_stands (is_in kind.Resolve p) past x w) in
+      resolvable plan playable core planned past legal p some.0 x (makers past legal kind.Resolve p some.0 some.1)
+      (all_can past p (reached past legal)) w
+
+  pub ends_not_otherwise : Holds EndsNotOtherwise plan
+  ends_not_otherwise past legal =
+      record { ended = (reached past legal).ended; given_up = given_up plan playable core planned past legal }
+
+  pub tries_no_other : Holds TriesNoOther plan
+  tries_no_other past legal c d next came = by_parent (parent plan c) refl next
+    where
+      by_parent : (o : Option ℕ) → parent plan c ≡ o → next_in plan c o ≡ Some d → CanEnd plan (action_number plan c) outcome.Undone
+      by_parent None up next = absurd (some_apart next)
+      by_parent (Some q) up next =
+          let k = nest_number plan c in
+          let after = after_is 0 (alternates_of plan q k) c d (playable.in_row q k) next in
+          let placed = playable.placed q k d after.1 in
+          let up_d : parent plan d ≡ Some q = ap first_of placed.0 in
+          let some = has_maker kind.Arrive d past came in
+          let turn = (core past legal).visits.turn q c d some.0 up up_d (sym placed.1) after.0 some.1 in
+          silent_can plan playable core planned past legal (reached past legal).ended c turn.1
