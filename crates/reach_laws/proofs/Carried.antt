@@ -51,7 +51,7 @@ use Rattle.reach_laws.proofs.Ends.{given_up}
 
 -- ---- what an entry names
 
-named_some : (e : Entry) (o : Option ℕ) → Names e o → (e.mark == 1) ≡ true → o ≡ Some e.arg
+pub named_some : (e : Entry) (o : Option ℕ) → Names e o → (e.mark == 1) ≡ true → o ≡ Some e.arg
 named_some e None h m = let one = eqb-true e.mark 1 m in absurd (omega (arith, h.0))
 named_some e (Some x) h m = ap Some (sym h.1)
 

@@ -6,3 +6,4 @@ pub mod Verdicts
 pub mod Rows
 pub mod Ends
 pub mod Carried
+pub mod Explained
