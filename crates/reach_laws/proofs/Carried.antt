@@ -1,7 +1,6 @@
 -- What is carried out of a nested use can be raised by it.
-use Rattle.std.proofs.Common.{◌≡◌, ℕ, ℤ, ◌==◌, ◌<◌, ◌⊎◌, Bool, true, false, not, cond, ◌&&◌, ◌||◌, List, [], ◌∷◌, length, slice_index_or, slice_get, Some, None, Option, suc, refl, sym, ap, ◌∙◌, subst, arith, inl, inr, is_none}
-use Rattle.std.specs.List.{list_all}
-use Rattle.std.proofs.lemmas.Bool.{and_parts, or_parts, eqb-true, eq-eqb, false≢true, cases_Bool, both_ways, false_from_ne_true, not-false, not_from_false}
+use Rattle.std.proofs.Common.{◌≡◌, ℕ, ℤ, ◌==◌, ◌<◌, Bool, true, false, not, cond, ◌&&◌, List, [], ◌∷◌, length, slice_index_or, slice_get, Some, None, Option, suc, refl, sym, ap, ◌∙◌, subst, arith, inl, inr, is_none}
+use Rattle.std.proofs.lemmas.Bool.{and_parts, eqb-true, eq-eqb, false≢true, cases_Bool, both_ways, false_from_ne_true, not-false}
 use Rattle.caa_base.specs.declared.written.entry.Entry.{Entry}
 use Rattle.caa_base.specs.declared.written.entry.Kind.{Kind}
 use Rattle.caa_base.specs.declared.written.entry.Kind.TheVariants as kind
@@ -19,35 +18,33 @@ use Rattle.place_plan.specs.Plans.PlanValue.{Plan}
 use Rattle.caa_base.specs.Written.Lists.{member, is_empty, first_of}
 use Rattle.place_plan.specs.Plans.Places.{parent, action_at, roles_of, role_row, body_of, abort_row, alternates_of, nest_number, nest_in, nest_of, next_in, next_alternate, map_signal, no_role}
 use Rattle.place_plan.specs.RulesOfJournals.Entries.{is_in, is_by, has, has_by, newest}
-use Rattle.place_plan.specs.RulesOfJournals.Whereabouts.{inside, outcome_at, has_started, has_ended, is_undone, is_left_in_silence}
-use Rattle.place_plan.specs.RulesOfJournals.Raising.{has_handled, carries_into, is_doomed, is_halted}
-use Rattle.place_plan.specs.RulesOfJournals.Roles.{position, program_in, program_of, next_step, register, meets}
-use Rattle.place_plan.specs.RulesOfJournals.Rules.{Row, MayLeave, Names, abort_of, abort_mapped, mapped_by_outcome, outcome_mapped, is_deaf, exception_carried}
+use Rattle.place_plan.specs.RulesOfJournals.Whereabouts.{inside, outcome_at, has_started, is_undone, is_left_in_silence}
+use Rattle.place_plan.specs.RulesOfJournals.Raising.{has_handled, is_doomed, is_halted}
+use Rattle.place_plan.specs.RulesOfJournals.Roles.{position, program_in, program_of, register, meets}
+use Rattle.place_plan.specs.RulesOfJournals.Rules.{Row, Names, abort_of, abort_mapped, mapped_by_outcome, outcome_mapped}
 use Rattle.place_plan.specs.RulesOfJournals.Journals.{LegalPast}
 use Rattle.journal_laws.specs.Laws.{Holds}
 use Rattle.journal_laws.proofs.Playable.{IsPlayable}
 use Rattle.journal_laws.proofs.Core.{Core}
-use Rattle.caa_base.proofs.ListLemmas.{all_at, all_from, at_same, chosen}
+use Rattle.caa_base.proofs.ListLemmas.{all_at, all_from, chosen}
 use Rattle.place_plan.proofs.OnJournals.EntryKinds.{of_kind, both_same}
 use Rattle.place_plan.proofs.OnPlans.Casts.{in_picked}
 use Rattle.place_plan.proofs.OnPlans.Subtrees.{use_of}
 use Rattle.journal_laws.proofs.Arrivals.{one_has, inside_arrived}
-use Rattle.journal_laws.proofs.Frozen.{carrying_parts}
-use Rattle.journal_laws.proofs.Holding.{ended_started}
 use Rattle.journal_laws.proofs.Newest.{stands_newest, newest_none}
 use Rattle.journal_laws.proofs.Options.{some_apart, some_same, none_is}
 use Rattle.journal_laws.proofs.Outcome.{newest_any}
 use Rattle.journal_laws.proofs.Raised.{role_inside, busy_inside, parent_round}
 use Rattle.journal_laws.proofs.Uses.{AtStep, body_step}
-use Rattle.reach_laws.specs.Steps.{enters, body_enters, names_at_abort}
-use Rattle.reach_laws.specs.Coming.{action_of, use_in, is_entered, can_name, made_of, Source, nested_use, CanRaise, CanEnd, CanBeTried, by_use, by_abort, by_failure, in_turn}
+use Rattle.reach_laws.specs.ReachedSteps.{enters, body_enters, names_at_abort}
+use Rattle.reach_laws.specs.CanCome.{action_of, use_in, is_entered, can_name, made_of, Source, nested_use, CanRaise, CanEnd, CanBeTried, by_use, by_abort, by_failure, in_turn}
 use Rattle.reach_laws.specs.Reach.{action_number}
 use Rattle.reach_laws.proofs.ListsAlone.{stands_at, at_member, stands_below, below_end, rises_by, last_stands}
 use Rattle.reach_laws.proofs.StepsReached.{NoRaise, is_reached, no_further}
 use Rattle.reach_laws.proofs.Unpassed.{unpassed}
 use Rattle.reach_laws.proofs.Planned.{IsPlanned}
-use Rattle.reach_laws.proofs.Rows.{role_any, row_played}
-use Rattle.reach_laws.proofs.Ends.{given_up}
+use Rattle.reach_laws.proofs.RoleRows.{role_any, row_played}
+use Rattle.reach_laws.proofs.EndsExplained.{given_up}
 
 -- ---- what an entry names
 

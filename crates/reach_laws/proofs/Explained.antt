@@ -1,6 +1,6 @@
 -- Whatever comes in a place can come there: by induction over the past, what is raised has a source, places end as their actions can, and
 -- where roles give up, something else can be raised round their place.
-use Rattle.std.proofs.Common.{◌≡◌, ℕ, ◌==◌, ◌<◌, Bool, true, false, not, ◌&&◌, ◌||◌, List, [], ◌∷◌, Some, None, Option, refl, sym, ap, ◌∙◌, subst, inl, inr}
+use Rattle.std.proofs.Common.{◌≡◌, ℕ, ◌==◌, true, false, not, ◌&&◌, ◌||◌, List, [], ◌∷◌, Some, None, Option, refl, sym, ap, ◌∙◌, subst, inl, inr}
 use Rattle.std.specs.List.{list_any}
 use Rattle.std.proofs.lemmas.Bool.{and_parts, or_cases, or_left, or_right, eqb-true, eq-eqb, false≢true, not-true, cases_order, both_ways, false_from_ne_true}
 use Rattle.caa_base.specs.declared.written.entry.Entry.{Entry}
@@ -12,10 +12,10 @@ use Rattle.place_plan.specs.declared.drafts.draft_rows.Program.{Program}
 use Rattle.place_plan.specs.declared.drafts.draft_rows.Step.{Step}
 use Rattle.place_plan.specs.Plans.PlanValue.{Plan}
 use Rattle.caa_base.specs.Written.Lists.{member, first_of}
-use Rattle.place_plan.specs.Plans.Places.{around, parent, roles_of, role_row, body_of, fault_of, alternates_of, nest_number, next_in, next_alternate}
+use Rattle.place_plan.specs.Plans.Places.{parent, roles_of, body_of, fault_of, alternates_of, nest_number, next_in, next_alternate}
 use Rattle.place_plan.specs.RulesOfJournals.Entries.{is_in, is_by, has, has_by, newest}
-use Rattle.place_plan.specs.RulesOfJournals.Whereabouts.{inside, outcome_at, has_ended, is_left_in_silence}
-use Rattle.place_plan.specs.RulesOfJournals.Raising.{has_handled, carries_into, raises_in, exceptions_raised, is_raised, is_doomed, is_halted, exception_resolved}
+use Rattle.place_plan.specs.RulesOfJournals.Whereabouts.{inside, outcome_at, has_started, has_ended, is_left_in_silence}
+use Rattle.place_plan.specs.RulesOfJournals.Raising.{has_handled, carries_into, raises_in, exceptions_raised, is_raised, is_doomed, is_halted}
 use Rattle.place_plan.specs.RulesOfJournals.Roles.{position, register, program_in, program_of, next_step}
 use Rattle.place_plan.specs.RulesOfJournals.Rules.{Row, MayRaise, MayPut, MayLeave, MayAbort, MayFollow, is_deaf, exception_carried}
 use Rattle.place_plan.specs.RulesOfJournals.Journals.{LegalPast}
@@ -23,7 +23,7 @@ use Rattle.journal_laws.specs.Laws.{Holds}
 use Rattle.journal_laws.proofs.Playable.{IsPlayable}
 use Rattle.journal_laws.proofs.Core.{Core}
 use Rattle.caa_base.proofs.ListLemmas.{all_at, at_same, chosen}
-use Rattle.place_plan.proofs.OnJournals.EntryKinds.{of_kind, both_same}
+use Rattle.place_plan.proofs.OnJournals.EntryKinds.{of_kind}
 use Rattle.journal_laws.proofs.Arrivals.{around_parent, inside_arrived, left_arrived, left_ended}
 use Rattle.journal_laws.proofs.Busy.{doom_stays}
 use Rattle.journal_laws.proofs.Frozen.{carrying_parts}
@@ -36,16 +36,16 @@ use Rattle.journal_laws.proofs.Raised.{role_inside}
 use Rattle.journal_laws.proofs.Said.{has_maker}
 use Rattle.journal_laws.proofs.Silence.{silence_stays}
 use Rattle.journal_laws.proofs.Uses.{body_step}
-use Rattle.reach_laws.specs.Steps.{can_raise, body_raises}
-use Rattle.reach_laws.specs.Coming.{action_of, Source, step_of_role, nested_use, CanRaise, CanBeRaised, CanEnd, by_step, by_source}
+use Rattle.reach_laws.specs.ReachedSteps.{can_raise, body_raises}
+use Rattle.reach_laws.specs.CanCome.{action_of, Source, step_of_role, nested_use, CanRaise, CanBeRaised, CanEnd, CanBeTried, by_step, by_source}
 use Rattle.reach_laws.specs.Reach.{action_number, RaisesNoOther, ResolvesNoOther, EndsNotOtherwise, TriesNoOther}
-use Rattle.reach_laws.proofs.ListsAlone.{after_is, member_either, only_here, some_long}
+use Rattle.reach_laws.proofs.ListsAlone.{stands_at, after_is, member_either, only_here, some_long}
 use Rattle.reach_laws.proofs.StepsReached.{NoRaise, is_reached, put_step, raise_step}
 use Rattle.reach_laws.proofs.Unpassed.{unpassed}
 use Rattle.reach_laws.proofs.Planned.{IsPlanned}
-use Rattle.reach_laws.proofs.Rows.{role_any}
-use Rattle.reach_laws.proofs.Ends.{spared_before, resolvable, end_can, given_up}
-use Rattle.reach_laws.proofs.Carried.{AllEnd, HaveOthers, HasOther, IsUsed, named_some, silent_can, carried_can}
+use Rattle.reach_laws.proofs.RoleRows.{role_any}
+use Rattle.reach_laws.proofs.EndsExplained.{spared_before, resolvable, end_can, given_up}
+use Rattle.reach_laws.proofs.Carried.{AllEnd, HaveOthers, HasOther, named_some, silent_can, can_be_tried, carried_can}
 
 module _ (plan : Plan) (playable : IsPlayable plan) (core : Holds Core plan) (planned : IsPlanned plan) where
   -- where a nested use has raised something in p, a place of it was left aloud
@@ -283,7 +283,7 @@ module _ (plan : Plan) (playable : IsPlayable plan) (core : Holds Core plan) (pl
   -- ---- the laws
 
   -- who has an entry in p has a role there
-  makers : (past : List Entry) → LegalPast plan past → (k : Kind) (p t : ℕ) → has_by k past p t ≡ true
+  pub makers : (past : List Entry) → LegalPast plan past → (k : Kind) (p t : ℕ) → has_by k past p t ≡ true
       → member t (roles_of plan p) ≡ true
   makers [] legal k p t w = absurd (false≢true w)
   makers (e ∷ past) legal k p t w = elim (or_cases (is_by k p t e) (has_by k past p t) w) [
@@ -308,8 +308,9 @@ module _ (plan : Plan) (playable : IsPlayable plan) (core : Holds Core plan) (pl
   ends_not_otherwise past legal =
       record { ended = (reached past legal).ended; given_up = given_up plan playable core planned past legal }
 
-  pub tries_no_other : Holds TriesNoOther plan
-  tries_no_other past legal c d next came = by_parent (parent plan c) refl next
+  tries_behind : (past : List Entry) → LegalPast plan past → (c d : ℕ) → next_alternate plan c ≡ Some d
+      → has kind.Arrive past d ≡ true → CanEnd plan (action_number plan c) outcome.Undone
+  tries_behind past legal c d next came = by_parent (parent plan c) refl next
     where
       by_parent : (o : Option ℕ) → parent plan c ≡ o → next_in plan c o ≡ Some d → CanEnd plan (action_number plan c) outcome.Undone
       by_parent None up next = absurd (some_apart next)
@@ -321,3 +322,30 @@ module _ (plan : Plan) (playable : IsPlayable plan) (core : Holds Core plan) (pl
           let some = has_maker kind.Arrive d past came in
           let turn = (core past legal).visits.turn q c d some.0 up up_d (sym placed.1) after.0 some.1 in
           silent_can plan playable core planned past legal (reached past legal).ended c turn.1
+
+  -- the place can be tried at some turn of its use
+  abbrev HasTurn : ℕ → ℕ → Type 0
+  HasTurn p c = (turn : ℕ) × CanBeTried plan (action_number plan p) (nest_number plan c) turn (action_number plan c)
+
+  starts_by : (past : List Entry) (k : Kind) (e : Entry) (p c : ℕ) → LegalPast plan (of_kind k e ∷ past) → parent plan c ≡ Some p
+      → (has_started past c ≡ true → HasTurn p c) → Row k plan past (of_kind k e)
+      → has_started (of_kind k e ∷ past) c ≡ true → HasTurn p c
+  starts_by past kind.Start e p c legal up ih h w = elim (or_cases (e.place == c) (has_started past c) w) [
+    | inl x ↦
+        let now = of_kind kind.Start e ∷ past in
+        let index = stands_at (alternates_of plan p (nest_number plan c)) c (playable.back p c up) in
+        let here : inside plan now e.by ≡ Some c = h.here ∙ ap Some (eqb-true e.place c x) in (
+          index.0,
+          can_be_tried plan playable core planned now legal (reached now legal).ended p c e.by index.0
+              (record { up = up; here = here; started = w }) index.1,
+        )
+    | inr x ↦ ih x
+  ]
+  starts_by past _ e p c legal up ih h w = ih w
+
+  starts : (past : List Entry) → LegalPast plan past → (p c : ℕ) → parent plan c ≡ Some p → has_started past c ≡ true → HasTurn p c
+  starts [] legal p c up w = absurd (false≢true w)
+  starts (e ∷ past) legal p c up w = starts_by past e.kind e p c legal up (starts past legal.0 p c up) legal.1 w
+
+  pub tries_no_other : Holds TriesNoOther plan
+  tries_no_other past legal = record { behind = tries_behind past legal; started = starts past legal }

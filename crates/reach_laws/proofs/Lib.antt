@@ -2,8 +2,9 @@ pub mod ListsAlone
 pub mod StepsReached
 pub mod Unpassed
 pub mod Planned
-pub mod Verdicts
-pub mod Rows
-pub mod Ends
+pub mod SaidByRows
+pub mod RoleRows
+pub mod EndsExplained
 pub mod Carried
 pub mod Explained
+pub mod TableTells

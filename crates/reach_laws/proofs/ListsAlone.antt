@@ -1,5 +1,5 @@
 -- Where the members of lists stand, and what some of them passes.
-use Rattle.std.proofs.Common.{◌≡◌, ℕ, ◌==◌, ◌<◌, ◌≤◌, Bool, true, false, not, cond, ◌||◌, List, [], ◌∷◌, ◌++◌, length, slice_index_or, slice_get, Some, None, Option, zero, suc, refl, sym, ap, ◌∙◌, subst, arith, inl, inr, ◌⊎◌, is_none}
+use Rattle.std.proofs.Common.{◌≡◌, ℕ, ◌==◌, ◌<◌, Bool, true, false, not, cond, List, [], ◌∷◌, ◌++◌, length, slice_index_or, slice_get, Some, None, zero, suc, refl, sym, ap, ◌∙◌, subst, arith, inl, inr, ◌⊎◌}
 use Rattle.std.specs.List.{list_all, list_any}
 use Rattle.std.proofs.lemmas.Bool.{and_from, or_cases, or_left, or_right, eqb-true, eq-eqb, false≢true}
 use Rattle.caa_base.specs.Written.Lists.{member, is_empty, first_of, next_after}

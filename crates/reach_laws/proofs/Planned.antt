@@ -1,6 +1,6 @@
 -- What the laws of what can come need of a plan: each place is played by its roles in order, and the alternates of a use stand in the
 -- order of its actions.
-use Rattle.std.proofs.Common.{◌≡◌, ℕ, ◌+◌, ◌<◌, ◌≤◌, ◌==◌, nat_lt, true, false, List, [], ◌∷◌, ◌++◌, length, slice_index_or, slice_get, Some, zero, suc, refl, sym, ap, ◌∙◌, subst, inl, inr, arith}
+use Rattle.std.proofs.Common.{◌≡◌, ℕ, ◌+◌, ◌<◌, ◌≤◌, ◌==◌, nat_lt, true, List, [], ◌∷◌, length, slice_index_or, slice_get, Some, zero, suc, refl, sym, ap, ◌∙◌, subst, inl, inr, arith}
 use Rattle.std.proofs.lemmas.Bool.{and_parts, or_cases, eqb-true, false≢true, ltb-true}
 use Rattle.place_plan.specs.declared.drafts.draft.Draft.{Draft}
 use Rattle.place_plan.specs.declared.drafts.draft_rows.PlaceRow.{PlaceRow}
@@ -23,7 +23,7 @@ use Rattle.place_plan.proofs.OnPlans.Casts.{action_is, all_cast, use_there, only
 use Rattle.place_plan.proofs.OnPlans.ClosedPlan.{keeps_of, of_plan, made_players}
 use Rattle.journal_laws.proofs.Options.{some_apart, some_same}
 use Rattle.journal_laws.proofs.Ranges.{place_known}
-use Rattle.reach_laws.specs.Coming.{action_of}
+use Rattle.reach_laws.specs.CanCome.{action_of}
 use Rattle.reach_laws.specs.Reach.{action_number}
 use Rattle.reach_laws.proofs.ListsAlone.{stands_at, at_member}
 

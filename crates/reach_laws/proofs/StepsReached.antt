@@ -1,5 +1,5 @@
 -- Steps that somebody comes to, since no step before them is a raise.
-use Rattle.std.proofs.Common.{◌≡◌, ℕ, ℤ, ◌==◌, ◌<◌, Bool, true, false, cond, ◌||◌, List, [], ◌∷◌, slice_get, Some, None, Option, zero, suc, refl, sym, subst, arith, inl, inr, ◌⊎◌}
+use Rattle.std.proofs.Common.{◌≡◌, ℕ, ℤ, ◌<◌, Bool, true, false, cond, ◌||◌, List, [], ◌∷◌, slice_get, Some, None, Option, zero, suc, refl, sym, subst, arith, inl, inr, ◌⊎◌}
 use Rattle.std.specs.List.{list_any}
 use Rattle.std.proofs.lemmas.Bool.{or_left, or_right, eq-eqb, false≢true, cases_lt}
 use Rattle.place_plan.specs.declared.drafts.draft_rows.Step.{Step}
@@ -8,7 +8,7 @@ use Rattle.place_plan.specs.RulesOfJournals.Roles.{raise_of, meets}
 use Rattle.place_plan.specs.RulesOfJournals.Rules.{put_of, is_check}
 use Rattle.caa_base.proofs.ListLemmas.{chosen}
 use Rattle.journal_laws.proofs.Options.{some_apart, some_same}
-use Rattle.reach_laws.specs.Steps.{is_raise, reached, can_raise, can_break}
+use Rattle.reach_laws.specs.ReachedSteps.{is_raise, reached, can_raise, can_break}
 
 -- no step before this number is a raise
 abbrev pub NoRaise : List Step → ℕ → Type 0

@@ -1,5 +1,5 @@
 -- Nobody passes a raise, and a handler in which a put was refused has a step that puts.
-use Rattle.std.proofs.Common.{◌≡◌, ℕ, ◌==◌, ◌<◌, Bool, true, false, cond, ◌&&◌, List, [], ◌∷◌, slice_get, Some, None, Option, suc, refl, sym, ◌∙◌, subst, subst₂, arith, inl, inr}
+use Rattle.std.proofs.Common.{◌≡◌, ℕ, ◌==◌, Bool, true, false, cond, ◌&&◌, List, [], ◌∷◌, Some, Option, suc, refl, sym, ◌∙◌, subst, subst₂, arith, inl, inr}
 use Rattle.std.specs.List.{list_any}
 use Rattle.std.proofs.lemmas.Bool.{and_parts, eqb-true, false≢true, cases_Bool, both_ways}
 use Rattle.caa_base.specs.declared.written.entry.Entry.{Entry}
@@ -16,13 +16,12 @@ use Rattle.place_plan.specs.RulesOfJournals.Journals.{LegalPast}
 use Rattle.journal_laws.specs.Laws.{Holds}
 use Rattle.journal_laws.proofs.Playable.{IsPlayable}
 use Rattle.journal_laws.proofs.Core.{Core}
-use Rattle.caa_base.proofs.ListLemmas.{chosen}
 use Rattle.place_plan.proofs.OnJournals.EntryKinds.{of_kind, both_same}
 use Rattle.journal_laws.proofs.Options.{some_same}
 use Rattle.journal_laws.proofs.Raised.{parent_round}
 use Rattle.journal_laws.proofs.Arrivals.{inside_arrived, inside_not_left}
 use Rattle.journal_laws.proofs.Uses.{AtStep, steps_out}
-use Rattle.reach_laws.specs.Steps.{is_raise, reached, can_break}
+use Rattle.reach_laws.specs.ReachedSteps.{is_raise, reached, can_break}
 use Rattle.reach_laws.proofs.StepsReached.{NoRaise, one_further, is_reached, put_step, check_step}
 
 -- the next step, where there is one, is no raise

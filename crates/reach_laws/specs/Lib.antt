@@ -1,3 +1,4 @@
-pub mod Steps
-pub mod Coming
+pub mod ReachedSteps
+pub mod CanCome
 pub mod Reach
+pub mod ReachTable

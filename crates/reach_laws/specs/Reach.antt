@@ -5,11 +5,11 @@ use Rattle.caa_base.specs.declared.written.entry.Kind.TheVariants as kind
 use Rattle.caa_base.specs.declared.written.entry.Outcome.TheVariants as outcome
 use Rattle.place_plan.specs.Plans.PlanValue.{Plan}
 use Rattle.caa_base.specs.Written.Lists.{member, is_empty}
-use Rattle.place_plan.specs.Plans.Places.{place_at, objects_of, next_alternate}
+use Rattle.place_plan.specs.Plans.Places.{place_at, parent, objects_of, nest_number, next_alternate}
 use Rattle.place_plan.specs.RulesOfJournals.Entries.{is_in, has, newest}
-use Rattle.place_plan.specs.RulesOfJournals.Whereabouts.{outcome_at}
+use Rattle.place_plan.specs.RulesOfJournals.Whereabouts.{outcome_at, has_started}
 use Rattle.place_plan.specs.RulesOfJournals.Raising.{exceptions_raised, exception_resolved}
-use Rattle.reach_laws.specs.Coming.{CanBeRaised, CanBeResolved, CanEnd}
+use Rattle.reach_laws.specs.CanCome.{CanBeRaised, CanBeResolved, CanEnd, CanBeTried}
 
 -- the number of the action that p is an instance of
 abbrev pub action_number : Plan → ℕ → ℕ
@@ -33,8 +33,11 @@ pub record EndsNotOtherwise (plan : Plan) (past : List Entry) : Type 0 where
   pub given_up : (p : ℕ) (e : Entry) → newest (is_in kind.End p) past ≡ Some e → has kind.Abort past p ≡ true
       → (outcome_at e ≡ outcome.Aborted) ⊎ ((outcome_at e ≡ outcome.Failed) × (is_empty (objects_of plan p) ≡ false))
 
--- nobody comes to the alternate behind one whose action can't end undone
-abbrev pub TriesNoOther : Plan → List Entry → Type 0
-TriesNoOther plan past =
-    (c d : ℕ) → next_alternate plan c ≡ Some d → has kind.Arrive past d ≡ true
-    → CanEnd plan (action_number plan c) outcome.Undone
+-- no place of a nested use is entered but as its action can be tried
+pub record TriesNoOther (plan : Plan) (past : List Entry) : Type 0 where
+  -- nobody comes to the alternate behind one whose action can't end undone
+  pub behind : (c d : ℕ) → next_alternate plan c ≡ Some d → has kind.Arrive past d ≡ true
+      → CanEnd plan (action_number plan c) outcome.Undone
+  -- a place of a nested use starts only where its action can be tried there
+  pub started : (p c : ℕ) → parent plan c ≡ Some p → has_started past c ≡ true
+      → (turn : ℕ) × CanBeTried plan (action_number plan p) (nest_number plan c) turn (action_number plan c)

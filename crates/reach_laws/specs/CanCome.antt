@@ -1,8 +1,8 @@
 -- What can come in the places of an action, by the plan alone and whatever the device answers: what is raised and resolved there,
 -- how they end, and which alternates are entered.
-use Rattle.std.specs.Prelude.{◌≡◌, ℕ, ◌==◌, ◌<◌, Bool, true, false, not, if◌then◌else◌, List, [], ◌∷◌, map, length, slice_index_or, slice_get, Option, Some, None, suc}
+use Rattle.std.specs.Prelude.{◌≡◌, ℕ, ◌==◌, ◌<◌, Bool, true, false, not, if◌then◌else◌, List, map, length, slice_index_or, slice_get, Option, Some, None, suc}
 use Rattle.std.specs.List.{list_all, list_any}
-use Rattle.cover_table.specs.Cover.{CoverOrder, IsLeastCover}
+use Rattle.cover_table.specs.Cover.{IsLeastCover}
 use Rattle.caa_base.specs.declared.written.entry.Outcome.{Outcome}
 use Rattle.caa_base.specs.declared.written.entry.Outcome.TheVariants as outcome
 use Rattle.caa_base.specs.declared.written.entry.Verdict.{Verdict}
@@ -12,7 +12,7 @@ use Rattle.place_plan.specs.declared.drafts.draft_rows.RoleRow.{RoleRow}
 use Rattle.place_plan.specs.Plans.PlanValue.{Plan}
 use Rattle.caa_base.specs.Written.Lists.{member, is_empty}
 use Rattle.place_plan.specs.Plans.Places.{graph_at, no_action, no_nest, no_role}
-use Rattle.reach_laws.specs.Steps.{is_endless, body_raises, body_enters, answer_to, can_fail_at, names_at_abort, EndsBy}
+use Rattle.reach_laws.specs.ReachedSteps.{is_endless, body_raises, body_enters, answer_to, can_fail_at, names_at_abort, EndsBy}
 
 -- ---- actions
 

@@ -1,5 +1,5 @@
 -- The players of a place and the rows of its action: what is said of the one is said of the other.
-use Rattle.std.proofs.Common.{◌≡◌, ℕ, ◌<◌, Bool, true, false, ◌||◌, List, [], ◌∷◌, ◌++◌, map, length, slice_index_or, Some, zero, suc, refl, sym, ap, ap₂, ◌∙◌, subst, arith}
+use Rattle.std.proofs.Common.{◌≡◌, ℕ, ◌<◌, Bool, true, ◌||◌, List, [], ◌∷◌, ◌++◌, map, length, slice_index_or, Some, zero, suc, refl, ap, ap₂, subst, arith}
 use Rattle.std.specs.List.{list_all, list_any}
 use Rattle.std.proofs.lemmas.Bool.{or_left, or_right}
 use Rattle.caa_base.specs.declared.written.entry.Entry.{Entry}
@@ -13,8 +13,8 @@ use Rattle.place_plan.specs.RulesOfJournals.Roles.{verdict_of, is_undo, wants_un
 use Rattle.place_plan.proofs.OnPlans.Casts.{member_at}
 use Rattle.place_plan.proofs.OnPlans.ClosedPlan.{member_index}
 use Rattle.journal_laws.proofs.EnterSteps.{index_is}
-use Rattle.reach_laws.specs.Steps.{ask_for_undo, all_signals}
-use Rattle.reach_laws.specs.Coming.{action_of}
+use Rattle.reach_laws.specs.ReachedSteps.{ask_for_undo, all_signals}
+use Rattle.reach_laws.specs.CanCome.{action_of}
 use Rattle.reach_laws.specs.Reach.{action_number}
 use Rattle.reach_laws.proofs.ListsAlone.{row_any, rows_all}
 use Rattle.reach_laws.proofs.Planned.{IsPlanned}

@@ -26,7 +26,7 @@ use Rattle.journal_laws.proofs.Options.{some_apart, some_same, none_is}
 use Rattle.journal_laws.proofs.Phases.{not_hot, not_calm}
 use Rattle.journal_laws.proofs.Busy.{raised_stays}
 use Rattle.journal_laws.proofs.Raised.{plain_calm}
-use Rattle.reach_laws.specs.Steps.{is_raise, reached, can_break, is_endless, answer_by, answer_to, is_breakable, can_fail_at}
+use Rattle.reach_laws.specs.ReachedSteps.{is_raise, reached, can_break, is_endless, answer_by, answer_to, is_breakable, can_fail_at}
 use Rattle.reach_laws.proofs.ListsAlone.{get_any}
 use Rattle.reach_laws.proofs.StepsReached.{is_reached, has_no_raise, raise_step}
 use Rattle.reach_laws.proofs.Unpassed.{unpassed, refused_breaks}

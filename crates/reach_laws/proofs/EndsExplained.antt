@@ -1,20 +1,17 @@
 -- How a place ends is how its action can end.
-use Rattle.std.proofs.Common.{◌≡◌, ℕ, ◌==◌, ◌<◌, ◌⊎◌, Bool, true, false, not, cond, ◌&&◌, ◌||◌, List, [], ◌∷◌, map, length, Some, None, Option, refl, sym, ap, ◌∙◌, subst, arith, inl, inr, MatchBool, is_none}
-use Rattle.std.specs.List.{list_any}
+use Rattle.std.proofs.Common.{◌≡◌, ℕ, ◌==◌, ◌<◌, ◌⊎◌, Bool, true, false, not, cond, ◌&&◌, List, [], ◌∷◌, map, length, Some, refl, sym, ap, ◌∙◌, subst, arith, inl, inr, MatchBool}
 use Rattle.std.proofs.lemmas.Bool.{and_parts, or_cases, or_parts, eqb-true, false≢true, cases_Bool, both_ways, not_from_false}
-use Rattle.cover_table.specs.Cover.{CoverOrder, IsLeastCover}
+use Rattle.cover_table.specs.Cover.{IsLeastCover}
 use Rattle.caa_base.specs.declared.written.entry.Entry.{Entry}
 use Rattle.caa_base.specs.declared.written.entry.Kind.{Kind}
 use Rattle.caa_base.specs.declared.written.entry.Kind.TheVariants as kind
-use Rattle.caa_base.specs.declared.written.entry.Outcome.{Outcome}
 use Rattle.caa_base.specs.declared.written.entry.Outcome.TheVariants as outcome
 use Rattle.caa_base.specs.declared.written.entry.Verdict.{Verdict}
-use Rattle.caa_base.specs.declared.written.entry.Verdict.TheVariants as verdict
 use Rattle.place_plan.specs.declared.drafts.draft_rows.ActionRow.{ActionRow}
 use Rattle.place_plan.specs.declared.drafts.draft_rows.RoleRow.{RoleRow}
 use Rattle.place_plan.specs.Plans.PlanValue.{Plan}
 use Rattle.caa_base.specs.Written.Lists.{member, is_empty}
-use Rattle.place_plan.specs.Plans.Places.{action_at, roles_of, role_row, objects_of, graph_at, internal_of, interface_of}
+use Rattle.place_plan.specs.Plans.Places.{action_at, roles_of, role_row, objects_of, graph_at, interface_of}
 use Rattle.place_plan.specs.RulesOfJournals.Entries.{is_in, has, has_by, newest}
 use Rattle.place_plan.specs.RulesOfJournals.Whereabouts.{outcome_at, has_ended, is_undoing}
 use Rattle.place_plan.specs.RulesOfJournals.Raising.{exceptions_raised, is_raised, exception_resolved}
@@ -35,13 +32,13 @@ use Rattle.journal_laws.proofs.Outcome.{newest_any}
 use Rattle.journal_laws.proofs.Phases.{going_parts}
 use Rattle.journal_laws.proofs.Raised.{role_inside}
 use Rattle.journal_laws.proofs.Said.{has_maker}
-use Rattle.reach_laws.specs.Steps.{is_endless, answer_to, can_fail_at, ask_for_undo, all_signals, EndsBy}
-use Rattle.reach_laws.specs.Coming.{action_of, bodies_end, body_verdicts, answers, CanBeRaised, CanBeResolved, CanEnd, least_of, calmly, by_answers, broken_off, not_taken_back}
+use Rattle.reach_laws.specs.ReachedSteps.{is_endless, answer_to, can_fail_at, ask_for_undo, all_signals, EndsBy}
+use Rattle.reach_laws.specs.CanCome.{action_of, bodies_end, CanBeRaised, CanBeResolved, CanEnd, least_of, calmly, by_answers, broken_off, not_taken_back}
 use Rattle.reach_laws.specs.Reach.{action_number}
 use Rattle.reach_laws.proofs.ListsAlone.{any_at, any_is, some_there, some_long}
 use Rattle.reach_laws.proofs.Planned.{IsPlanned}
-use Rattle.reach_laws.proofs.Rows.{AllSay, all_signal, all_ask, role_any, role_all, role_asks}
-use Rattle.reach_laws.proofs.Verdicts.{Answers, said_some, said_calmly, said_after}
+use Rattle.reach_laws.proofs.RoleRows.{AllSay, all_signal, all_ask, role_any, role_all, role_asks}
+use Rattle.reach_laws.proofs.SaidByRows.{Answers, said_some, said_calmly, said_after}
 
 -- ---- what the mark of an End says
 
