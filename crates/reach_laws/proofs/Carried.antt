@@ -37,7 +37,7 @@ use Rattle.journal_laws.proofs.Outcome.{newest_any}
 use Rattle.journal_laws.proofs.Raised.{role_inside, busy_inside, parent_round}
 use Rattle.journal_laws.proofs.Uses.{AtStep, body_step}
 use Rattle.reach_laws.specs.ReachedSteps.{enters, body_enters, names_at_abort}
-use Rattle.reach_laws.specs.CanCome.{action_of, use_in, is_entered, can_name, made_of, Source, nested_use, CanRaise, CanEnd, CanBeTried, by_use, by_abort, by_failure, in_turn}
+use Rattle.reach_laws.specs.CanCome.{action_of, use_in, is_entered, can_name, made_of, Source, nested_use, CanRaise, CanBeRaised, CanEnd, CanBeTried, by_use, by_source, by_abort, by_failure, in_turn}
 use Rattle.reach_laws.specs.Reach.{action_number}
 use Rattle.reach_laws.proofs.ListsAlone.{stands_at, at_member, stands_below, below_end, rises_by, last_stands}
 use Rattle.reach_laws.proofs.StepsReached.{NoRaise, is_reached, no_further}
@@ -294,7 +294,7 @@ module _ (plan : Plan) (playable : IsPlayable plan) (core : Holds Core plan) (pl
 
   module _ (past : List Entry) (legal : LegalPast plan past) (all : AllEnd past) (p c t x : ℕ) (used : IsUsed past p c t) where
     abbrev can : Type 0
-    can = CanRaise plan (action_number plan p) (nested_use (nest_number plan c)) x
+    can = CanBeRaised plan (action_number plan p) x
 
     role : member t (roles_of plan c) ≡ true
     role = role_inside plan playable.tree past legal t c used.here
@@ -308,10 +308,11 @@ module _ (plan : Plan) (playable : IsPlayable plan) (core : Holds Core plan) (pl
     same_use : nest_of plan c ≡ use_in (action_of plan (action_number plan p)) (nest_number plan c)
     same_use = use_is past legal p c t used
 
-    -- nobody gave up in the place
+    -- nobody gave up in the place: the use raises it by itself
     kept_raises : (f : Entry) → newest (is_in kind.End c) past ≡ Some f → has kind.Abort past c ≡ false
         → is_left_in_silence plan past c ≡ false
-        → mapped_by_outcome plan c (newest (is_by kind.Abort c t) past) (outcome_at f) ≡ Some x → can
+        → mapped_by_outcome plan c (newest (is_by kind.Abort c t) past) (outcome_at f) ≡ Some x
+        → CanRaise plan (action_number plan p) (nested_use (nest_number plan c)) x
     kept_raises f w spared aloud h =
         let k = nest_number plan c in
         let inner = use_in (action_of plan (action_number plan p)) k in
@@ -334,7 +335,7 @@ module _ (plan : Plan) (playable : IsPlayable plan) (core : Holds Core plan) (pl
               role_any plan planned c t (λ (row : RoleRow). names_at_abort g.arg row.abort) role (aborts plan past legal c t g w z.0) in
               let value : slice_index_or (use_in (action_of plan (action_number plan p)) k).maps g.arg 0 ≡ x =
               ap (λ (n : NestRow). slice_index_or n.maps g.arg 0) (sym same_use) ∙ some_same z.1 in
-              subst (CanRaise plan (action_number plan p) (nested_use k)) value
+              subst (CanBeRaised plan (action_number plan p)) value
               (by_abort (action_number plan p) k index.0 (action_number plan c) g.arg other y turned others apart names)
           | inr z ↦ absurd (some_apart z.1)
         ]
@@ -344,18 +345,31 @@ module _ (plan : Plan) (playable : IsPlayable plan) (core : Holds Core plan) (pl
         → (nest_of plan c).failure ≡ x → can
     failure_raises (other, y, others, apart) some value =
         let k = nest_number plan c in
-        subst (CanRaise plan (action_number plan p) (nested_use k)) (ap (λ (n : NestRow). n.failure) (sym same_use) ∙ value)
+        subst (CanBeRaised plan (action_number plan p)) (ap (λ (n : NestRow). n.failure) (sym same_use) ∙ value)
         (by_failure (action_number plan p) k index.0 (action_number plan c) other y turned others apart
         (subst (λ (a : ActionRow). is_empty a.objects ≡ false) (planned.actions c t role) some))
 
-    -- what t carries out of the place
-    pub carried_can : HaveOthers past → is_doomed plan past p ≡ false → is_left_in_silence plan past c ≡ false
-        → outcome_mapped plan c (newest (is_in kind.End c) past) (newest (is_by kind.Abort c t) past) ≡ Some x → can
-    carried_can beside spared aloud h = by_end (newest (is_in kind.End c) past) refl h
+    -- what t carries out of a place in which nobody gave up
+    pub own_can : has kind.Abort past c ≡ false → is_left_in_silence plan past c ≡ false
+        → outcome_mapped plan c (newest (is_in kind.End c) past) (newest (is_by kind.Abort c t) past) ≡ Some x
+        → CanRaise plan (action_number plan p) (nested_use (nest_number plan c)) x
+    own_can kept aloud h = by_end (newest (is_in kind.End c) past) refl h
       where
-        gave_up : (f : Entry) → newest (is_in kind.End c) past ≡ Some f → has kind.Abort past c ≡ true
-            → mapped_by_outcome plan c (newest (is_by kind.Abort c t) past) (outcome_at f) ≡ Some x → can
-        gave_up f w gave h = elim (given_up plan playable core planned past legal c f w gave) [
+        by_end : (o : Option Entry) → newest (is_in kind.End c) past ≡ o
+            → outcome_mapped plan c o (newest (is_by kind.Abort c t) past) ≡ Some x
+            → CanRaise plan (action_number plan p) (nested_use (nest_number plan c)) x
+        by_end None w h = absurd (some_apart h)
+        by_end (Some f) w h = kept_raises f w kept aloud h
+
+    -- and out of one in which the roles did
+    gave_up_can : HaveOthers past → is_doomed plan past p ≡ false → has kind.Abort past c ≡ true
+        → outcome_mapped plan c (newest (is_in kind.End c) past) (newest (is_by kind.Abort c t) past) ≡ Some x → can
+    gave_up_can beside spared gave h = by_end (newest (is_in kind.End c) past) refl h
+      where
+        by_end : (o : Option Entry) → newest (is_in kind.End c) past ≡ o
+            → outcome_mapped plan c o (newest (is_by kind.Abort c t) past) ≡ Some x → can
+        by_end None w h = absurd (some_apart h)
+        by_end (Some f) w h = elim (given_up plan playable core planned past legal c f w gave) [
           | inl how ↦
               abort_raises (beside c p gave used.up spared) (newest (is_by kind.Abort c t) past) refl
               (subst (λ o. mapped_by_outcome plan c (newest (is_by kind.Abort c t) past) o ≡ Some x) how h)
@@ -364,10 +378,10 @@ module _ (plan : Plan) (playable : IsPlayable plan) (core : Holds Core plan) (pl
               (some_same (subst (λ o. mapped_by_outcome plan c (newest (is_by kind.Abort c t) past) o ≡ Some x) how.0 h))
         ]
 
-        by_end : (o : Option Entry) → newest (is_in kind.End c) past ≡ o
-            → outcome_mapped plan c o (newest (is_by kind.Abort c t) past) ≡ Some x → can
-        by_end None w h = absurd (some_apart h)
-        by_end (Some f) w h = elim (cases_Bool (has kind.Abort past c)) [
-          | inl gave ↦ gave_up f w gave h
-          | inr kept ↦ kept_raises f w kept aloud h
-        ]
+    -- what t carries out of the place
+    pub carried_can : HaveOthers past → is_doomed plan past p ≡ false → is_left_in_silence plan past c ≡ false
+        → outcome_mapped plan c (newest (is_in kind.End c) past) (newest (is_by kind.Abort c t) past) ≡ Some x → can
+    carried_can beside spared aloud h = elim (cases_Bool (has kind.Abort past c)) [
+      | inl gave ↦ gave_up_can beside spared gave h
+      | inr kept ↦ by_source (action_number plan p) x (nested_use (nest_number plan c)) (own_can kept aloud h)
+    ]

@@ -1,8 +1,8 @@
--- Whatever comes in a place can come there: by induction over the past, what is raised has a source, places end as their actions can, and
--- where roles give up, something else can be raised round their place.
-use Rattle.std.proofs.Common.{◌≡◌, ℕ, ◌==◌, true, false, not, ◌&&◌, ◌||◌, List, [], ◌∷◌, Some, None, Option, refl, sym, ap, ◌∙◌, subst, inl, inr}
+-- Whatever comes in a place can come there: by induction over the past, what is raised can be raised, first of all by a source that
+-- needs no other; places end as their actions can; and where roles give up, something else can be raised round their place.
+use Rattle.std.proofs.Common.{◌≡◌, ℕ, ◌==◌, Bool, true, false, not, cond, ◌&&◌, ◌||◌, List, [], ◌∷◌, ◌++◌, Some, None, Option, refl, sym, ap, ◌∙◌, subst, inl, inr}
 use Rattle.std.specs.List.{list_any}
-use Rattle.std.proofs.lemmas.Bool.{and_parts, or_cases, or_left, or_right, eqb-true, eq-eqb, false≢true, not-true, cases_order, both_ways, false_from_ne_true}
+use Rattle.std.proofs.lemmas.Bool.{and_parts, or_cases, or_left, or_right, eqb-true, eq-eqb, false≢true, not-true, cases_Bool, cases_order, both_ways, false_from_ne_true}
 use Rattle.caa_base.specs.declared.written.entry.Entry.{Entry}
 use Rattle.caa_base.specs.declared.written.entry.Kind.{Kind}
 use Rattle.caa_base.specs.declared.written.entry.Kind.TheVariants as kind
@@ -11,13 +11,13 @@ use Rattle.place_plan.specs.declared.drafts.draft_rows.ActionRow.{ActionRow}
 use Rattle.place_plan.specs.declared.drafts.draft_rows.Program.{Program}
 use Rattle.place_plan.specs.declared.drafts.draft_rows.Step.{Step}
 use Rattle.place_plan.specs.Plans.PlanValue.{Plan}
-use Rattle.caa_base.specs.Written.Lists.{member, first_of}
+use Rattle.caa_base.specs.Written.Lists.{member, is_empty, is_at, first_of}
 use Rattle.place_plan.specs.Plans.Places.{parent, roles_of, body_of, fault_of, alternates_of, nest_number, next_in, next_alternate}
 use Rattle.place_plan.specs.RulesOfJournals.Entries.{is_in, is_by, has, has_by, newest}
 use Rattle.place_plan.specs.RulesOfJournals.Whereabouts.{inside, outcome_at, has_started, has_ended, is_left_in_silence}
 use Rattle.place_plan.specs.RulesOfJournals.Raising.{has_handled, carries_into, raises_in, exceptions_raised, is_raised, is_doomed, is_halted}
 use Rattle.place_plan.specs.RulesOfJournals.Roles.{position, register, program_in, program_of, next_step}
-use Rattle.place_plan.specs.RulesOfJournals.Rules.{Row, MayRaise, MayPut, MayLeave, MayAbort, MayFollow, is_deaf, exception_carried}
+use Rattle.place_plan.specs.RulesOfJournals.Rules.{Row, MayRaise, MayPut, MayLeave, MayAbort, MayFollow, is_deaf, outcome_mapped, exception_carried}
 use Rattle.place_plan.specs.RulesOfJournals.Journals.{LegalPast}
 use Rattle.journal_laws.specs.Laws.{Holds}
 use Rattle.journal_laws.proofs.Playable.{IsPlayable}
@@ -25,7 +25,7 @@ use Rattle.journal_laws.proofs.Core.{Core}
 use Rattle.caa_base.proofs.ListLemmas.{all_at, at_same, chosen}
 use Rattle.place_plan.proofs.OnJournals.EntryKinds.{of_kind}
 use Rattle.journal_laws.proofs.Arrivals.{around_parent, inside_arrived, left_arrived, left_ended}
-use Rattle.journal_laws.proofs.Busy.{doom_stays}
+use Rattle.journal_laws.proofs.Busy.{doom_stays, abort_doomed}
 use Rattle.journal_laws.proofs.Frozen.{carrying_parts}
 use Rattle.journal_laws.proofs.Holding.{ended_started}
 use Rattle.journal_laws.proofs.Makers.{maker_role}
@@ -39,13 +39,13 @@ use Rattle.journal_laws.proofs.Uses.{body_step}
 use Rattle.reach_laws.specs.ReachedSteps.{can_raise, body_raises}
 use Rattle.reach_laws.specs.CanCome.{action_of, Source, step_of_role, nested_use, CanRaise, CanBeRaised, CanEnd, CanBeTried, by_step, by_source}
 use Rattle.reach_laws.specs.Reach.{action_number, RaisesNoOther, ResolvesNoOther, EndsNotOtherwise, TriesNoOther}
-use Rattle.reach_laws.proofs.ListsAlone.{stands_at, after_is, member_either, only_here, some_long}
+use Rattle.reach_laws.proofs.ListsAlone.{stands_at, after_is, member_either, only_here}
 use Rattle.reach_laws.proofs.StepsReached.{NoRaise, is_reached, put_step, raise_step}
 use Rattle.reach_laws.proofs.Unpassed.{unpassed}
 use Rattle.reach_laws.proofs.Planned.{IsPlanned}
 use Rattle.reach_laws.proofs.RoleRows.{role_any}
 use Rattle.reach_laws.proofs.EndsExplained.{spared_before, resolvable, end_can, given_up}
-use Rattle.reach_laws.proofs.Carried.{AllEnd, HaveOthers, HasOther, named_some, silent_can, can_be_tried, carried_can}
+use Rattle.reach_laws.proofs.Carried.{AllEnd, HaveOthers, HasOther, IsUsed, named_some, silent_can, can_be_tried, own_can, carried_can}
 
 module _ (plan : Plan) (playable : IsPlayable plan) (core : Holds Core plan) (planned : IsPlanned plan) where
   -- where a nested use has raised something in p, a place of it was left aloud
@@ -55,14 +55,16 @@ module _ (plan : Plan) (playable : IsPlayable plan) (core : Holds Core plan) (pl
       (c : ℕ) × (parent plan c ≡ Some p) × (nest_number plan c ≡ k) × (has kind.Leave past c ≡ true)
       × (is_left_in_silence plan past c ≡ false)
 
-  -- what was raised in p can be raised there by a source that came to it
-  pub record Explained (past : List Entry) (p y : ℕ) : Type 0 where
+  -- what was raised first in p, a source that came to it can raise by itself
+  pub record First (past : List Entry) (p : ℕ) : Type 0 where
     pub source : Source
-    pub can : CanRaise plan (action_number plan p) source y
+    pub exception : ℕ
+    pub can : CanRaise plan (action_number plan p) source exception
     pub came : CameFrom past p source
 
   pub record Reached (past : List Entry) : Type 0 where
-    pub explained : (p y : ℕ) → member y (exceptions_raised plan past p) ≡ true → Explained past p y
+    pub raised : (p y : ℕ) → member y (exceptions_raised plan past p) ≡ true → CanBeRaised plan (action_number plan p) y
+    pub first : (p : ℕ) → is_raised plan past p ≡ true → First past p
     pub ended : AllEnd plan playable core planned past
     pub beside : HaveOthers plan playable core planned past
 
@@ -79,10 +81,14 @@ module _ (plan : Plan) (playable : IsPlayable plan) (core : Holds Core plan) (pl
     silence_stays plan playable.tree past e c legal h ((core past legal).visits.left c left) ∙ aloud,
   )
 
-  explained_on : (past : List Entry) (e : Entry) (p y : ℕ) → LegalPast plan past → MayFollow plan past e → Explained past p y
-      → Explained (e ∷ past) p y
-  explained_on past e p y legal h was =
-      record { source = was.source; can = was.can; came = came_on past e p was.source legal h was.came }
+  first_on : (past : List Entry) (e : Entry) (p : ℕ) → LegalPast plan past → MayFollow plan past e → First past p → First (e ∷ past) p
+  first_on past e p legal h was =
+      record {
+        source = was.source;
+        exception = was.exception;
+        can = was.can;
+        came = came_on past e p was.source legal h was.came;
+      }
 
   -- ---- what a step raises
 
@@ -128,77 +134,142 @@ module _ (plan : Plan) (playable : IsPlayable plan) (core : Holds Core plan) (pl
       subst (CanRaise plan (action_number plan e.place) step_of_role) same
       (step_can past legal e.place e.by fault put.0 m unhandled put.1 (put.2.1 fault))
 
+  -- the same, told by the test that stands in what is raised in p
+  by_fault_in : (past : List Entry) (e : Entry) (p : ℕ) → LegalPast plan past → MayPut plan past e
+      → ((e.place == p) && not (has_handled past p e.by)) ≡ true → CanRaise plan (action_number plan p) step_of_role (fault_of plan p)
+  by_fault_in past e p legal h here =
+      let parts = and_parts (e.place == p) (not (has_handled past p e.by)) here in
+      let same : e.place ≡ p = eqb-true e.place p parts.0 in
+      subst (λ a. CanRaise plan (action_number plan a) step_of_role (fault_of plan a)) same
+      (by_fault past e legal h (subst (λ a. has_handled past a e.by ≡ false) (sym same) (not-true _ parts.1)))
+
   -- ---- what a leave carries
 
-  leave_explained : (past : List Entry) (e : Entry) (p : ℕ) → LegalPast plan past → Reached past
-      → MayLeave plan past (of_kind kind.Leave e) → carries_into plan p e ≡ true
-      → Explained (of_kind kind.Leave e ∷ past) p e.arg
-  leave_explained past e p legal was h carries =
-      let parts = and_parts _ (e.mark == 1) carries in
+  record Carries (past : List Entry) (e : Entry) (p : ℕ) : Type 0 where
+    pub used : IsUsed plan playable core planned past p e.place e.by
+    pub spared : is_doomed plan past p ≡ false
+    pub aloud : is_left_in_silence plan past e.place ≡ false
+    pub mapped : outcome_mapped plan e.place (newest (is_in kind.End e.place) past) (newest (is_by kind.Abort e.place e.by) past)
+        ≡ Some e.arg
+
+  carries_parts : (past : List Entry) (e : Entry) (p : ℕ) → LegalPast plan past → MayLeave plan past e
+      → carries_into plan p e ≡ true → Carries past e p
+  carries_parts past e p legal h carries =
+      let parts = and_parts (is_at (parent plan e.place) p) (e.mark == 1) carries in
       let up : parent plan e.place ≡ Some p = at_same _ _ parts.0 in
-      let loud = carrying_parts plan past (of_kind kind.Leave e) h parts.1 in
-      let spared : is_doomed plan past p ≡ false = subst (λ o. is_deaf plan past o ≡ false) up loud.0 in
-      let named = named_some (of_kind kind.Leave e) (exception_carried plan past e.place e.by) h.carries parts.1 in
+      let loud = carrying_parts plan past e h parts.1 in
+      let named = named_some e (exception_carried plan past e.place e.by) h.carries parts.1 in
       record {
-        source = nested_use (nest_number plan e.place);
-        can =
+        used = record { up = up; here = h.here; started = ended_started plan playable.tree past legal e.place h.when };
+        spared = subst (λ o. is_deaf plan past o ≡ false) up loud.0;
+        aloud = loud.1;
+        mapped =
             elim (chosen (is_deaf plan past (parent plan e.place) || is_left_in_silence plan past e.place) None _ (Some e.arg) named) [
               | inl z ↦ absurd (some_apart z.1)
-              | inr z ↦ carried_can plan playable core planned past legal was.ended p e.place e.by e.arg
-                  (record { up = up; here = h.here; started = ended_started plan playable.tree past legal e.place h.when })
-                  was.beside spared loud.1 z.1
+              | inr z ↦ z.1
             ];
-        came = (e.place, up, refl, or_left _ _ (eq-eqb e.place e.place refl), loud.1);
       }
 
-  -- ---- what was raised is explained
+  -- ---- what was raised can be raised
 
   new_by : (past : List Entry) (k : Kind) (e : Entry) (p y : ℕ) → LegalPast plan past → Reached past
       → Row k plan past (of_kind k e) → member y (raises_in plan past p (of_kind k e) k) ≡ true
-      → Explained (of_kind k e ∷ past) p y
+      → CanBeRaised plan (action_number plan p) y
   new_by past kind.Raise e p y legal was h m =
       let here = only_here (e.place == p) e.arg y m in
-      record {
-        source = step_of_role;
-        can =
-            subst (CanRaise plan (action_number plan p) step_of_role) here.1
-            (subst (λ a. CanRaise plan (action_number plan a) step_of_role e.arg) (eqb-true e.place p here.0)
-            (by_raise past (of_kind kind.Raise e) legal h));
-        came = tt;
-      }
+      subst (CanBeRaised plan (action_number plan p)) here.1
+      (subst (λ a. CanBeRaised plan (action_number plan a) e.arg) (eqb-true e.place p here.0)
+      (by_source (action_number plan e.place) e.arg step_of_role (by_raise past (of_kind kind.Raise e) legal h)))
   new_by past kind.PutFault e p y legal was h m =
       let here = only_here ((e.place == p) && not (has_handled past p e.by)) (fault_of plan p) y m in
-      let parts = and_parts (e.place == p) (not (has_handled past p e.by)) here.0 in
-      let same : e.place ≡ p = eqb-true e.place p parts.0 in
-      let unhandled : has_handled past e.place e.by ≡ false =
-      subst (λ a. has_handled past a e.by ≡ false) (sym same) (not-true _ parts.1) in
-      record {
-        source = step_of_role;
-        can =
-            subst (CanRaise plan (action_number plan p) step_of_role) here.1
-            (subst (λ a. CanRaise plan (action_number plan a) step_of_role (fault_of plan a)) same
-            (by_fault past (of_kind kind.PutFault e) legal h unhandled));
-        came = tt;
-      }
+      subst (CanBeRaised plan (action_number plan p)) here.1
+      (by_source (action_number plan p) (fault_of plan p) step_of_role
+      (by_fault_in past (of_kind kind.PutFault e) p legal h here.0))
   new_by past kind.Leave e p y legal was h m =
       let here = only_here (carries_into plan p e) e.arg y m in
-      subst (Explained (of_kind kind.Leave e ∷ past) p) here.1 (leave_explained past e p legal was h here.0)
+      let carries = carries_parts past (of_kind kind.Leave e) p legal h here.0 in
+      subst (CanBeRaised plan (action_number plan p)) here.1
+      (carried_can plan playable core planned past legal was.ended p e.place e.by e.arg carries.used was.beside carries.spared
+      carries.aloud carries.mapped)
   new_by past _ e p y legal was h m = absurd (false≢true m)
 
-  explained_by : (past : List Entry) (k : Kind) (e : Entry) (p y : ℕ) → LegalPast plan past → Reached past
+  raised_by : (past : List Entry) (k : Kind) (e : Entry) (p y : ℕ) → LegalPast plan past → Reached past
       → Row k plan past (of_kind k e) → member y (exceptions_raised plan (of_kind k e ∷ past) p) ≡ true
-      → Explained (of_kind k e ∷ past) p y
-  explained_by past k e p y legal was h m =
+      → CanBeRaised plan (action_number plan p) y
+  raised_by past k e p y legal was h m =
       elim (member_either y (raises_in plan past p (of_kind k e) k) (exceptions_raised plan past p) m) [
         | inl x ↦ new_by past k e p y legal was h x
-        | inr x ↦ explained_on past (of_kind k e) p y legal h (was.explained p y x)
+        | inr x ↦ was.raised p y x
       ]
 
-  -- ---- places that have ended
+  -- ---- what was raised first
 
-  all_can : (past : List Entry) (p : ℕ) → Reached past → (y : ℕ) → member y (exceptions_raised plan past p) ≡ true
-      → CanBeRaised plan (action_number plan p) y
-  all_can past p was y m = let found = was.explained p y m in by_source (action_number plan p) y found.source found.can
+  -- where nothing was raised before, the entry raises
+  now_raises : (b : Bool) (x : ℕ) (ys : List ℕ) → not (is_empty ys) ≡ false → not (is_empty (cond b (x ∷ []) [] ++ ys)) ≡ true → b ≡ true
+  now_raises true x ys cold h = refl
+  now_raises false x ys cold h = absurd (both_ways _ cold h)
+
+  -- what is carried out of a place right inside p, where nothing was raised in p, its use raises by itself
+  carries_first : (past : List Entry) (e : Entry) (p : ℕ) → LegalPast plan past → Reached past
+      → MayLeave plan past (of_kind kind.Leave e) → is_raised plan past p ≡ false → carries_into plan p e ≡ true
+      → First (of_kind kind.Leave e ∷ past) p
+  carries_first past e p legal was h cold carrying =
+      let carries = carries_parts past (of_kind kind.Leave e) p legal h carrying in
+      record {
+        source = nested_use (nest_number plan e.place);
+        exception = e.arg;
+        can =
+            own_can plan playable core planned past legal was.ended p e.place e.by e.arg carries.used
+            (nobody_gave_up carries) carries.aloud carries.mapped;
+        came = (e.place, carries.used.up, refl, or_left _ _ (eq-eqb e.place e.place refl), carries.aloud);
+      }
+    where
+      nobody_gave_up : Carries past (of_kind kind.Leave e) p → has kind.Abort past e.place ≡ false
+      nobody_gave_up carries = false_from_ne_true _ (λ gave.
+          let some = has_maker kind.Abort e.place past gave in
+          let round : is_raised plan past p || is_doomed plan past p ≡ true =
+          subst (λ qs. list_any (λ q. is_raised plan past q) qs ≡ true)
+          (around_parent plan playable.tree p e.place carries.used.up)
+          (abort_doomed plan playable.tree past legal e.place some.0 some.1) in
+          elim (or_cases (is_raised plan past p) (is_doomed plan past p) round) [
+            | inl x ↦ both_ways _ cold x
+            | inr x ↦ both_ways _ carries.spared x
+          ])
+
+  first_new : (past : List Entry) (k : Kind) (e : Entry) (p : ℕ) → LegalPast plan past → Reached past
+      → Row k plan past (of_kind k e) → is_raised plan past p ≡ false → is_raised plan (of_kind k e ∷ past) p ≡ true
+      → First (of_kind k e ∷ past) p
+  first_new past kind.Raise e p legal was h cold raised =
+      let here = now_raises (e.place == p) e.arg (exceptions_raised plan past p) cold raised in
+      record {
+        source = step_of_role;
+        exception = e.arg;
+        can =
+            subst (λ a. CanRaise plan (action_number plan a) step_of_role e.arg) (eqb-true e.place p here)
+            (by_raise past (of_kind kind.Raise e) legal h);
+        came = tt;
+      }
+  first_new past kind.PutFault e p legal was h cold raised =
+      let here =
+      now_raises ((e.place == p) && not (has_handled past p e.by)) (fault_of plan p) (exceptions_raised plan past p) cold raised in
+      record {
+        source = step_of_role;
+        exception = fault_of plan p;
+        can = by_fault_in past (of_kind kind.PutFault e) p legal h here;
+        came = tt;
+      }
+  first_new past kind.Leave e p legal was h cold raised =
+      carries_first past e p legal was h cold (now_raises (carries_into plan p e) e.arg (exceptions_raised plan past p) cold raised)
+  first_new past _ e p legal was h cold raised = absurd (both_ways _ cold raised)
+
+  first_by : (past : List Entry) (k : Kind) (e : Entry) (p : ℕ) → LegalPast plan past → Reached past
+      → Row k plan past (of_kind k e) → is_raised plan (of_kind k e ∷ past) p ≡ true → First (of_kind k e ∷ past) p
+  first_by past k e p legal was h raised = elim (cases_Bool (is_raised plan past p)) [
+    | inl r ↦ first_on past (of_kind k e) p legal h (was.first p r)
+    | inr cold ↦ first_new past k e p legal was h cold raised
+  ]
+
+  -- ---- places that have ended
 
   ended_by : (past : List Entry) (k : Kind) (e : Entry) (p : ℕ) (f : Entry) → LegalPast plan past → Reached past
       → Row k plan past (of_kind k e) → newest (is_in kind.End p) (of_kind k e ∷ past) ≡ Some f
@@ -209,7 +280,7 @@ module _ (plan : Plan) (playable : IsPlayable plan) (core : Holds Core plan) (pl
             let here : e.place ≡ p = eqb-true e.place p x.0 in
             subst (λ g. CanEnd plan (action_number plan p) (outcome_at g)) (some_same x.1)
             (subst (λ a. CanEnd plan (action_number plan a) (outcome_at (of_kind kind.End e))) here
-            (end_can plan playable core planned past (of_kind kind.End e) legal (all_can past e.place was) h
+            (end_can plan playable core planned past (of_kind kind.End e) legal (was.raised e.place) h
             (subst (λ a. has kind.Abort past a ≡ false) (sym here) spared)))
         | inr x ↦ was.ended p f x.1 spared
       ]
@@ -240,10 +311,9 @@ module _ (plan : Plan) (playable : IsPlayable plan) (core : Holds Core plan) (pl
       subst (λ qs. list_any (λ q. is_raised plan past q) qs ≡ true) (around_parent plan playable.tree p e.place up) h.doom in
       elim (or_cases (is_raised plan past p) (is_doomed plan past p) round) [
         | inl x ↦
-            let some = (some_long (exceptions_raised plan past p) x).1 in
-            let found = was.explained p some.0 some.1 in (
+            let found = was.first p x in (
               found.source,
-              some.0,
+              found.exception,
               found.can,
               λ same. nothing_out past legal p e.place e.by up h.here (going_parts past e.place h.when).lasts
                   (subst (CameFrom past p) same found.came),
@@ -267,14 +337,16 @@ module _ (plan : Plan) (playable : IsPlayable plan) (core : Holds Core plan) (pl
 
   pub reached : (past : List Entry) → LegalPast plan past → Reached past
   reached [] legal = record {
-    explained = λ p y m. absurd (false≢true m);
+    raised = λ p y m. absurd (false≢true m);
+    first = λ p w. absurd (false≢true w);
     ended = λ p f w spared. absurd (some_apart w);
     beside = λ c p gave up spared. absurd (false≢true gave);
   }
   reached (e ∷ past) legal =
       let was = reached past legal.0 in
       record {
-        explained = λ p y. explained_by past e.kind e p y legal.0 was legal.1;
+        raised = λ p y. raised_by past e.kind e p y legal.0 was legal.1;
+        first = λ p. first_by past e.kind e p legal.0 was legal.1;
         ended = λ p f w spared. ended_by past e.kind e p f legal.0 was legal.1 w (spared_before past e.kind e p spared);
         beside = λ c p gave up spared. beside_by past e.kind e c p legal.0 was legal.1 gave up
             (false_from_ne_true _ (λ doom. both_ways _ spared (doom_stays plan p e past doom)));
@@ -296,13 +368,13 @@ module _ (plan : Plan) (playable : IsPlayable plan) (core : Holds Core plan) (pl
   ]
 
   pub raises_no_other : Holds RaisesNoOther plan
-  raises_no_other past legal p x m = all_can past p (reached past legal) x m
+  raises_no_other past legal p x m = (reached past legal).raised p x m
 
   pub resolves_no_other : Holds ResolvesNoOther plan
   resolves_no_other past legal p x w =
       let some = has_maker kind.Resolve p past (newest_stands (is_in kind.Resolve p) past x w) in
       resolvable plan playable core planned past legal p some.0 x (makers past legal kind.Resolve p some.0 some.1)
-      (all_can past p (reached past legal)) w
+      ((reached past legal).raised p) w
 
   pub ends_not_otherwise : Holds EndsNotOtherwise plan
   ends_not_otherwise past legal =

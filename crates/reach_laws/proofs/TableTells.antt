@@ -240,13 +240,12 @@ failure_told nest raised action h some =
     ]
 
 -- the alternate at j is the last
-last_at : List ℕ → ℕ → Bool
+abbrev last_at : List ℕ → ℕ → Bool
 last_at [] j = false
 last_at (b ∷ rest) zero = is_empty rest
 last_at (b ∷ rest) (suc j) = last_at rest j
 
 at_end : (acts : List ℕ) (j b : ℕ) → slice_get acts j ≡ Some b → suc j ≡ length acts → last_at acts j ≡ true
-unfolding last_at
 at_end [] j b h e = absurd (some_apart h)
 at_end (c ∷ []) zero b h e = refl
 at_end (c ∷ d ∷ rest) zero b h e = absurd (omega arith)
@@ -254,29 +253,33 @@ at_end (c ∷ rest) (suc j) b h e = at_end rest j b h (omega arith)
 
 module _ (plan : Plan) (table : List ReachRow) where
   -- what is told of the alternate at j, where each before it can be undone
-  turn_told : (nest : NestRow) (raised : List ℕ) (beside : Bool) (acts : List ℕ) (j b : ℕ)
-      → tells_alternates plan table nest raised beside acts ≡ true → slice_get acts j ≡ Some b
-      → ((i c : ℕ) → i < j → slice_get acts i ≡ Some c → (row_of table c).undone ≡ true)
-      → (tells_ends nest raised (last_at acts j) (row_of table b) ≡ true)
-      × (beside ≡ true → tells_given_up nest raised (action_of plan b) ≡ true)
-  unfolding last_at
-  turn_told nest raised beside [] j b h at_j earlier = absurd (some_apart at_j)
-  turn_told nest raised beside (c ∷ rest) zero b h at_j earlier =
+  abbrev Told : NestRow → ReachRow → ℕ → List ℕ → ℕ → ℕ → Type 0
+  Told nest row k acts j b =
+      (tells_ends nest (slice_index_or row.by_uses k []) (last_at acts j) (row_of table b) ≡ true)
+      × (has_beside row k ≡ true → tells_given_up nest row.given_up (action_of plan b) ≡ true)
+
+  turn_told : (nest : NestRow) (row : ReachRow) (k : ℕ) (acts : List ℕ) (j b : ℕ)
+      → tells_alternates plan table nest row k acts ≡ true → slice_get acts j ≡ Some b
+      → ((i c : ℕ) → i < j → slice_get acts i ≡ Some c → (row_of table c).undone ≡ true) → Told nest row k acts j b
+  turn_told nest row k [] j b h at_j earlier = absurd (some_apart at_j)
+  turn_told nest row k (c ∷ rest) zero b h at_j earlier =
       let same : c ≡ b = some_same at_j in
+      let raised = slice_index_or row.by_uses k [] in
       let parts =
       and_parts (tells_ends nest raised (is_empty rest) (row_of table c)
-      && (not beside || tells_given_up nest raised (action_of plan c))) _ h in
+      && (not (has_beside row k) || tells_given_up nest row.given_up (action_of plan c))) _ h in
       let here = and_parts (tells_ends nest raised (is_empty rest) (row_of table c)) _ parts.0 in (
         subst (λ d. tells_ends nest raised (is_empty rest) (row_of table d) ≡ true) same here.0,
-        λ e. subst (λ d. tells_given_up nest raised (action_of plan d) ≡ true) same
-            (implied beside (tells_given_up nest raised (action_of plan c)) here.1 e),
+        λ e. subst (λ d. tells_given_up nest row.given_up (action_of plan d) ≡ true) same
+            (implied (has_beside row k) (tells_given_up nest row.given_up (action_of plan c)) here.1 e),
       )
-  turn_told nest raised beside (c ∷ rest) (suc j) b h at_j earlier =
+  turn_told nest row k (c ∷ rest) (suc j) b h at_j earlier =
+      let raised = slice_index_or row.by_uses k [] in
       let parts =
       and_parts (tells_ends nest raised (is_empty rest) (row_of table c)
-      && (not beside || tells_given_up nest raised (action_of plan c))) _ h in
-      turn_told nest raised beside rest j b
-      (implied (row_of table c).undone (tells_alternates plan table nest raised beside rest) parts.1
+      && (not (has_beside row k) || tells_given_up nest row.given_up (action_of plan c))) _ h in
+      turn_told nest row k rest j b
+      (implied (row_of table c).undone (tells_alternates plan table nest row k rest) parts.1
       (earlier zero c (omega arith) refl)) at_j (λ i d l at_i. earlier (suc i) d (omega arith) at_i)
 
   -- the source can raise x, by the table
@@ -286,9 +289,14 @@ module _ (plan : Plan) (table : List ReachRow) where
 
   -- what any source raises is among all that can be raised
   source_in_all : (row : ReachRow) (source : Source) (x : ℕ) → tells_source row source x ≡ true → member x (all_raised row) ≡ true
-  source_in_all row step_of_role x m = member_left x row.by_steps (joined row.by_uses) m
+  source_in_all row step_of_role x m = member_left x row.by_steps (joined row.by_uses ++ row.given_up) m
   source_in_all row (nested_use k) x m =
-      member_right x row.by_steps (joined row.by_uses) (joined_has x row.by_uses k m)
+      member_right x row.by_steps (joined row.by_uses ++ row.given_up)
+      (member_left x (joined row.by_uses) row.given_up (joined_has x row.by_uses k m))
+
+  given_in_all : (row : ReachRow) (x : ℕ) → member x row.given_up ≡ true → member x (all_raised row) ≡ true
+  given_in_all row x m =
+      member_right x row.by_steps (joined row.by_uses ++ row.given_up) (member_right x (joined row.by_uses) row.given_up m)
 
   -- and where it is no use of this number, something can be raised beside that use
   source_beside : (row : ReachRow) (k : ℕ) (source : Source) (x : ℕ) → (source ≡ nested_use k → ⊥)
@@ -307,10 +315,7 @@ module _ (plan : Plan) (table : List ReachRow) where
   module _ (all : LeavesNothingOut plan table) where
     -- what is told of an alternate that can be tried
     turn_of : (a k j b : ℕ) → IsTurn a k j b
-        → (tells_ends (use_in (action_of plan a) k) (slice_index_or (row_of table a).by_uses k [])
-        (last_at (use_in (action_of plan a) k).actions j) (row_of table b) ≡ true)
-        × (has_beside (row_of table a) k ≡ true
-        → tells_given_up (use_in (action_of plan a) k) (slice_index_or (row_of table a).by_uses k []) (action_of plan b) ≡ true)
+        → Told (use_in (action_of plan a) k) (row_of table a) k (use_in (action_of plan a) k).actions j b
     turn_of a k j b turn =
         let action = action_of plan a in
         let nest = use_in action k in
@@ -318,8 +323,9 @@ module _ (plan : Plan) (table : List ReachRow) where
         let below = use_there action.nests k b (at_member nest.actions j b turn.there) in
         let used =
         range_passes (tells_use plan table action row) 0 (length action.nests) k (all a).uses (omega arith) (omega (arith, below)) in
-        turn_told nest (slice_index_or row.by_uses k []) (has_beside row k) nest.actions j b
-        (implied (is_entered action k) _ used turn.entered) turn.there turn.earlier
+        turn_told nest row k nest.actions j b
+        (implied (is_entered action k) (tells_alternates plan table nest row k nest.actions) used turn.entered) turn.there
+        turn.earlier
 
     mutual
       raise_told : (a : ℕ) (source : Source) (x : ℕ) → CanRaise plan a source x → tells_source (row_of table a) source x ≡ true
@@ -331,17 +337,19 @@ module _ (plan : Plan) (table : List ReachRow) where
           made_told nest (slice_index_or (row_of table a).by_uses k []) (suc j == length nest.actions)
           (last_at nest.actions j) (row_of table b) how x (turn_of a k j b turn).0
           (λ e. at_end nest.actions j b turn.there (eqb-true (suc j) (length nest.actions) e)) (end_told b how can) made
-      raise_told a source x (by_abort _ k j b z other y tried others apart names) =
-          names_told (use_in (action_of plan a) k) (slice_index_or (row_of table a).by_uses k []) z (action_of plan b)
-          ((turn_of a k j b (tried_told a k j b tried)).1
-          (source_beside (row_of table a) k other y apart (raise_told a other y others))) names
-      raise_told a source x (by_failure _ k j b other y tried others apart some) =
-          failure_told (use_in (action_of plan a) k) (slice_index_or (row_of table a).by_uses k []) (action_of plan b)
-          ((turn_of a k j b (tried_told a k j b tried)).1
-          (source_beside (row_of table a) k other y apart (raise_told a other y others))) some
 
       raised_told : (a x : ℕ) → CanBeRaised plan a x → member x (all_raised (row_of table a)) ≡ true
       raised_told a x (by_source _ _ source can) = source_in_all (row_of table a) source x (raise_told a source x can)
+      raised_told a x (by_abort _ k j b z other y tried others apart names) =
+          given_in_all (row_of table a) (slice_index_or (use_in (action_of plan a) k).maps z 0)
+          (names_told (use_in (action_of plan a) k) (row_of table a).given_up z (action_of plan b)
+          ((turn_of a k j b (tried_told a k j b tried)).1
+          (source_beside (row_of table a) k other y apart (raise_told a other y others))) names)
+      raised_told a x (by_failure _ k j b other y tried others apart some) =
+          given_in_all (row_of table a) (use_in (action_of plan a) k).failure
+          (failure_told (use_in (action_of plan a) k) (row_of table a).given_up (action_of plan b)
+          ((turn_of a k j b (tried_told a k j b tried)).1
+          (source_beside (row_of table a) k other y apart (raise_told a other y others))) some)
 
       resolved_told : (a x : ℕ) → CanBeResolved plan a x
           → (tells_resolved (graph_at plan (action_of plan a).internal) (graph_at plan (action_of plan a).interface)

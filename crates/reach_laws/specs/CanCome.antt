@@ -64,7 +64,7 @@ pub data Source : Type 0 where
   nested_use : ℕ → Source
 
 mutual
-  -- the source can raise the exception in a place of the action
+  -- the source can raise the exception in a place of the action, also where nothing else is raised there
   pub data CanRaise (plan : Plan) : ℕ → Source → ℕ → Type 0 where
     -- a step that somebody comes to raises it
     by_step : (a x : ℕ) → steps_raise (action_of plan a) x ≡ true → CanRaise plan a step_of_role x
@@ -72,18 +72,18 @@ mutual
     by_use : (a k j b x : ℕ) (how : Outcome) → CanBeTried plan a k j b → CanEnd plan b how
         → made_of (use_in (action_of plan a) k) (suc j == length (use_in (action_of plan a) k).actions) how ≡ Some x
         → CanRaise plan a (nested_use k) x
-    -- the use is given up, since something else was raised round it: what a role names is carried out
-    by_abort : (a k j b z : ℕ) (other : Source) (y : ℕ) → CanBeTried plan a k j b → CanRaise plan a other y
-        → (other ≡ nested_use k → ⊥) → can_name (action_of plan b) z ≡ true
-        → CanRaise plan a (nested_use k) (slice_index_or (use_in (action_of plan a) k).maps z 0)
-    -- and where it has objects, its undo can fail
-    by_failure : (a k j b : ℕ) (other : Source) (y : ℕ) → CanBeTried plan a k j b → CanRaise plan a other y
-        → (other ≡ nested_use k → ⊥) → is_empty (action_of plan b).objects ≡ false
-        → CanRaise plan a (nested_use k) (use_in (action_of plan a) k).failure
 
   -- the exception can be raised in a place of the action
   pub data CanBeRaised (plan : Plan) : ℕ → ℕ → Type 0 where
     by_source : (a x : ℕ) (source : Source) → CanRaise plan a source x → CanBeRaised plan a x
+    -- a use is given up, since something else was raised round it: what a role names is carried out
+    by_abort : (a k j b z : ℕ) (other : Source) (y : ℕ) → CanBeTried plan a k j b → CanRaise plan a other y
+        → (other ≡ nested_use k → ⊥) → can_name (action_of plan b) z ≡ true
+        → CanBeRaised plan a (slice_index_or (use_in (action_of plan a) k).maps z 0)
+    -- and where it has objects, its undo can fail
+    by_failure : (a k j b : ℕ) (other : Source) (y : ℕ) → CanBeTried plan a k j b → CanRaise plan a other y
+        → (other ≡ nested_use k → ⊥) → is_empty (action_of plan b).objects ≡ false
+        → CanBeRaised plan a (use_in (action_of plan a) k).failure
 
   -- the exception can be resolved in a place of the action: it is the least cover of some that can be raised there
   pub data CanBeResolved (plan : Plan) : ℕ → ℕ → Type 0 where

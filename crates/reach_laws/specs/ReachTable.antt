@@ -27,11 +27,12 @@ use Rattle.reach_laws.specs.Reach.{action_number}
 
 -- ---- what a table says
 
--- of an action: what its steps raise, and what each of its uses carries out; whether a place of it can end with a commit, with which
--- signals, undone and failed
+-- of an action: what its steps raise, what each of its uses carries out, and what they carry out where they are given up; whether a place
+-- of it can end with a commit, with which signals, undone and failed
 pub record ReachRow : Type 0 where
   pub by_steps : List ℕ
   pub by_uses : List (List ℕ)
+  pub given_up : List ℕ
   pub commits : Bool
   pub signals : List ℕ
   pub undone : Bool
@@ -39,7 +40,7 @@ pub record ReachRow : Type 0 where
 
 -- of an action without roles, as there is none: it commits
 abbrev pub no_reach : ReachRow
-no_reach = record { by_steps = []; by_uses = []; commits = true; signals = []; undone = false; failed = false }
+no_reach = record { by_steps = []; by_uses = []; given_up = []; commits = true; signals = []; undone = false; failed = false }
 
 -- of the action of this number
 abbrev pub row_of : List ReachRow → ℕ → ReachRow
@@ -60,7 +61,7 @@ joined (xs ∷ rest) = xs ++ joined rest
 
 -- all that can be raised
 abbrev pub all_raised : ReachRow → List ℕ
-all_raised row = row.by_steps ++ joined row.by_uses
+all_raised row = row.by_steps ++ (joined row.by_uses ++ row.given_up)
 
 -- x can be resolved where these can be raised: it is the least cover of those that it covers
 abbrev pub can_resolve : CoverOrder → List ℕ → ℕ → Bool
@@ -109,17 +110,17 @@ tells_given_up nest raised action =
     && (is_empty action.objects || member nest.failure raised)
 
 -- all of this is told of an alternate, and of those behind it where it can be undone
-abbrev pub tells_alternates : Plan → List ReachRow → NestRow → List ℕ → Bool → List ℕ → Bool
-tells_alternates plan table nest raised beside [] = true
-tells_alternates plan table nest raised beside (b ∷ rest) =
-    (tells_ends nest raised (is_empty rest) (row_of table b) && (not beside || tells_given_up nest raised (action_of plan b)))
-    && (not (row_of table b).undone || tells_alternates plan table nest raised beside rest)
+abbrev pub tells_alternates : Plan → List ReachRow → NestRow → ReachRow → ℕ → List ℕ → Bool
+tells_alternates plan table nest row k [] = true
+tells_alternates plan table nest row k (b ∷ rest) =
+    (tells_ends nest (slice_index_or row.by_uses k []) (is_empty rest) (row_of table b)
+    && (not (has_beside row k) || tells_given_up nest row.given_up (action_of plan b)))
+    && (not (row_of table b).undone || tells_alternates plan table nest row k rest)
 
 -- and so of a use that all its roles come to
 abbrev pub tells_use : Plan → List ReachRow → ActionRow → ReachRow → ℕ → Bool
 tells_use plan table action row k =
-    not (is_entered action k)
-    || tells_alternates plan table (use_in action k) (slice_index_or row.by_uses k []) (has_beside row k) (use_in action k).actions
+    not (is_entered action k) || tells_alternates plan table (use_in action k) row k (use_in action k).actions
 
 -- an end by what is signalled is told
 abbrev pub tells_signals : CoverOrder → ReachRow → List ℕ → Bool
@@ -155,7 +156,8 @@ LeavesNothingOut plan table = (a : ℕ) → TellsAll plan table (action_of plan 
 
 -- whatever comes in a place is told of its action
 pub record TellsWhatComes (plan : Plan) (table : List ReachRow) (past : List Entry) : Type 0 where
-  pub raised : (p x : ℕ) → member x (exceptions_raised plan past p) ≡ true → member x (all_raised (row_of table (action_number plan p))) ≡ true
+  pub raised : (p x : ℕ) → member x (exceptions_raised plan past p) ≡ true
+      → member x (all_raised (row_of table (action_number plan p))) ≡ true
   pub resolved : (p x : ℕ) → exception_resolved past p ≡ Some x
       → can_resolve (internal_of plan p) (all_raised (row_of table (action_number plan p))) x ≡ true
   pub ended : (p : ℕ) (e : Entry) → newest (is_in kind.End p) past ≡ Some e → has kind.Abort past p ≡ false

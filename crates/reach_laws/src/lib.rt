@@ -29,16 +29,16 @@ pub fn ends_not_otherwise(plan: &Plan)
     plan.is_closed();
 }
 
-/// No place of a nested use is entered but as its action can be tried: nobody comes to a further alternate where the one before it can't end
-/// undone, and a place starts only where each of its roles comes to the step that enters it.
+/// No place of a nested use is entered but as its action can be tried: nobody comes to a further alternate where the one before
+/// it can't end undone, and a place starts only where each of its roles comes to the step that enters it.
 pub fn tries_no_other(plan: &Plan)
     ensures { Holds TriesNoOther plan.now }
 {
     plan.is_closed();
 }
 
-/// A table of what can come in the places of each action that leaves nothing out tells whatever comes in a legal journal: so what it doesn't
-/// tell never comes, whatever the order of the entries and the answers of the device.
+/// A table of what can come in the places of each action, where it leaves nothing out, tells whatever comes in a legal journal.
+/// So what it doesn't tell never comes, whatever the order of the entries and the answers of the device.
 pub fn tables_tell(plan: &Plan)
     ensures { Holds TablesTell plan.now }
 {
