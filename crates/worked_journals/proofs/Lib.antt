@@ -1,6 +1,7 @@
 -- Journals worked by hand from the rules, shown legal and complete by computing.
 pub mod Notation
 pub mod Alternates
+pub mod WorkedReach
 pub mod AlternateNotAfterFailure
 pub mod EndedNotAllLeft
 pub mod FailureHandled
