@@ -1,5 +1,5 @@
 -- A table that leaves nothing out tells all that can come.
-use Rattle.std.proofs.Common.{◌≡◌, ℕ, ◌==◌, ◌+◌, ◌<◌, ◌≤◌, Bool, true, false, not, cond, ◌&&◌, ◌||◌, List, [], ◌∷◌, ◌++◌, length, slice_index_or, slice_get, Some, None, Option, zero, suc, refl, sym, ap, ◌∙◌, subst, arith, inl, inr}
+use Rattle.std.proofs.Common.{◌≡◌, ℕ, ◌==◌, ◌+◌, ◌<◌, ◌≤◌, Bool, true, false, not, cond, ◌&&◌, ◌||◌, List, [], ◌∷◌, ◌++◌, length, slice_index_or, slice_get, Some, None, zero, suc, refl, sym, ap, ◌∙◌, subst, arith, inl, inr}
 use Rattle.std.specs.List.{list_all, list_any, range_with_len, filter}
 use Rattle.std.proofs.lemmas.Bool.{and_parts, and_from, or_cases, or_left, or_right, eqb-true, eq-eqb, false≢true, cases_eq}
 use Rattle.cover_table.specs.Cover.{CoverOrder, IsLeastCover, covers}
@@ -21,12 +21,12 @@ use Rattle.place_plan.proofs.OnPlans.Casts.{use_there}
 use Rattle.journal_laws.specs.Due.{is_least}
 use Rattle.journal_laws.proofs.LeastOf.{is_least_from}
 use Rattle.journal_laws.proofs.Options.{some_apart, some_same}
-use Rattle.reach_laws.specs.ReachedSteps.{reached, can_raise, body_raises, can_fail_at, names_at_abort, ask_for_undo, all_signals, EndsBy}
+use Rattle.reach_laws.specs.ReachedSteps.{reached, can_raise, body_raises, can_fail_at, names_at_abort, all_signals, EndsBy}
 use Rattle.reach_laws.specs.CanCome.{action_of, use_in, is_entered, bodies_end, body_verdicts, answers, can_name, made_of, Source, step_of_role, nested_use, CanRaise, CanBeRaised, CanBeResolved, CanEnd, CanBeTried, by_step, by_use, by_abort, by_failure, by_source, least_of, calmly, by_answers, broken_off, not_taken_back, in_turn}
-use Rattle.reach_laws.specs.ReachTable.{ReachRow, row_of, tells_end, joined, all_raised, can_resolve, other_carries, has_beside, tells_step, tells_role, tells_abort, tells_ends, tells_given_up, tells_alternates, tells_use, tells_signals, tells_verdicts, tells_resolved, TellsAll, LeavesNothingOut, TellsWhatComes, TablesTell}
+use Rattle.reach_laws.specs.ReachTable.{ReachRow, row_of, tells_end, joined, all_raised, can_resolve, other_carries, has_beside, tells_step, tells_role, tells_abort, tells_ends, tells_given_up, tells_alternates, tells_use, tells_signals, tells_verdicts, tells_resolved, LeavesNothingOut, TellsWhatComes, TablesTell}
 use Rattle.caa_base.specs.declared.written.entry.Entry.{Entry}
 use Rattle.caa_base.specs.declared.written.entry.Kind.TheVariants as kind
-use Rattle.place_plan.specs.RulesOfJournals.Entries.{is_in, has}
+use Rattle.place_plan.specs.RulesOfJournals.Entries.{is_in}
 use Rattle.place_plan.specs.RulesOfJournals.Whereabouts.{outcome_at}
 use Rattle.place_plan.specs.RulesOfJournals.Journals.{LegalPast}
 use Rattle.journal_laws.specs.Laws.{Holds}

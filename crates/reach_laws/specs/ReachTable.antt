@@ -1,5 +1,5 @@
 -- A table of what can come in the places of each action, and when it leaves nothing out.
-use Rattle.std.specs.Prelude.{◌≡◌, ℕ, ◌==◌, Bool, true, false, not, ◌&&◌, ◌||◌, if◌then◌else◌, List, [], ◌∷◌, ◌++◌, length, slice_index_or, Some, zero, suc}
+use Rattle.std.specs.Prelude.{◌≡◌, ℕ, Bool, true, false, not, ◌&&◌, ◌||◌, if◌then◌else◌, List, [], ◌∷◌, ◌++◌, length, slice_index_or, Some, zero, suc}
 use Rattle.std.specs.List.{list_all, list_any, range_with_len, filter}
 use Rattle.cover_table.specs.Cover.{CoverOrder, covers}
 use Rattle.caa_base.specs.declared.written.entry.Entry.{Entry}
