@@ -1,4 +1,5 @@
--- What can come in the places of small actions, worked out by hand: what can't come is shown not to.
+-- What can come in the places of small actions, worked out by hand: what can't come is shown not to, and a table of all that can is shown
+-- to leave nothing out.
 --
 -- The scripts: that of Alternates.antt, and the same with this action in place of `bad`:
 --   action quiet / use x / roles r / body r / read x / end
@@ -16,7 +17,8 @@ use Rattle.place_plan.specs.declared.drafts.draft_rows.RoleRow.{RoleRow}
 use Rattle.place_plan.specs.declared.drafts.draft_rows.Step.TheVariants as step
 use Rattle.reach_laws.specs.ReachedSteps.{EndsBy}
 use Rattle.reach_laws.specs.CanCome.{action_of, use_in, steps_raise, body_verdicts, answers, Source, CanRaise, CanBeRaised, CanBeResolved, CanEnd, CanBeTried, by_step, by_use, by_abort, by_failure, by_source, least_of, calmly, by_answers, broken_off, not_taken_back, in_turn}
-use Rattle.worked_journals.proofs.Notation.{program, role, action}
+use Rattle.reach_laws.specs.ReachTable.{ReachRow, LeavesNothingOut}
+use Rattle.worked_journals.proofs.Notation.{universal, program, role, action}
 use Rattle.worked_journals.proofs.Alternates.{x, plan, good_action, outer_action}
 
 -- ---- an action that asks for an undo: the one behind it can be tried
@@ -106,3 +108,36 @@ pub never_tried : (a k j b : ℕ) → CanBeTried quiet_plan a k j b → a ≡ 2 
 never_tried a k j b (in_turn _ _ _ _ entered at earlier) e f g =
     let first : slice_get (use_in (action_of quiet_plan a) k).actions 0 ≡ Some 0 = rw (e, f) refl in
     quiet_stays 0 outcome.Undone (earlier 0 0 (omega (arith, g)) first) refl refl
+
+-- ---- a table of all that can come in the first script
+
+-- `bad` is refused its put, or says undo
+abbrev pub bad_reach : ReachRow
+bad_reach = record { by_steps = universal ∷ []; by_uses = []; given_up = []; commits = false; signals = []; undone = true; failed = true }
+
+-- `good` can be refused its add
+abbrev pub good_reach : ReachRow
+good_reach = record { by_steps = universal ∷ []; by_uses = []; given_up = []; commits = true; signals = []; undone = true; failed = true }
+
+-- `outer` hears of an undo of `good`, or of a failure of either
+abbrev pub outer_reach : ReachRow
+outer_reach =
+    record {
+      by_steps = [];
+      by_uses = (universal ∷ []) ∷ [];
+      given_up = [];
+      commits = true;
+      signals = [];
+      undone = true;
+      failed = true;
+    }
+
+pub nothing_left_out : LeavesNothingOut plan (bad_reach ∷ good_reach ∷ outer_reach ∷ [])
+nothing_left_out zero = record { steps = refl; uses = refl; calm = refl; resolved = refl; failures = refl }
+nothing_left_out (suc zero) = record { steps = refl; uses = refl; calm = refl; resolved = refl; failures = refl }
+nothing_left_out (suc (suc zero)) = record { steps = refl; uses = refl; calm = refl; resolved = refl; failures = refl }
+nothing_left_out (suc (suc (suc a))) = record { steps = refl; uses = refl; calm = refl; resolved = refl; failures = refl }
+
+-- without what the use carries out, something is left out
+pub left_out : LeavesNothingOut plan (bad_reach ∷ good_reach ∷ record outer_reach { by_uses = [] } ∷ []) → ⊥
+left_out all = false≢true (all 2).uses
