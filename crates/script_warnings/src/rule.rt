@@ -49,24 +49,24 @@ impl Rule {
         )
     }
 
-    /// Its number and its name.
+    /// Of which kind it is, and its name.
     pub fn words(self) -> &'static str {
         match self {
-            Rule::BehindRaise => "W2 behind-raise",
-            Rule::NeverTried => "W3 never-tried",
-            Rule::NeverBegun => "W4 never-begun",
-            Rule::HandledAndUndone => "W5 handled-and-undone",
-            Rule::LeftOn => "W8 left-on",
-            Rule::EitherFirst => "W9 either-first",
-            Rule::SetBackOrder => "W12 set-back-order",
-            Rule::AsksAgain => "W14 asks-again",
-            Rule::NeverComes => "W15 never-comes",
-            Rule::NeverPlayed => "N1 never-played",
-            Rule::Unnamed => "N6 unnamed",
-            Rule::OneFaultForMany => "N7 one-fault-for-many",
-            Rule::SideBySide => "N10 side-by-side",
-            Rule::IdleRole => "N11 idle-role",
-            Rule::NextPlay => "N13 next-play",
+            Rule::BehindRaise => "warning behind-raise",
+            Rule::NeverTried => "warning never-tried",
+            Rule::NeverBegun => "warning never-begun",
+            Rule::HandledAndUndone => "warning handled-and-undone",
+            Rule::LeftOn => "warning left-on",
+            Rule::EitherFirst => "warning either-first",
+            Rule::SetBackOrder => "warning set-back-order",
+            Rule::AsksAgain => "warning asks-again",
+            Rule::NeverComes => "warning never-comes",
+            Rule::NeverPlayed => "note never-played",
+            Rule::Unnamed => "note unnamed",
+            Rule::OneFaultForMany => "note one-fault-for-many",
+            Rule::SideBySide => "note side-by-side",
+            Rule::IdleRole => "note idle-role",
+            Rule::NextPlay => "note next-play",
         }
     }
 }
