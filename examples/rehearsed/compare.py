@@ -1,6 +1,7 @@
 #!/usr/bin/env python3
 """Holds the counts of `caa_show rehearse` against the journals that `playing` prints for the same numbers, and has `caa audit` judge each
-of these; then looks for what docs/rehearse.md says comes among the first orders of slow_press.
+of these, and the lines of `caa_show faults` against the journals of their schedules and drills, as faults.py tells; then looks for what
+docs/rehearse.md says comes among the first orders of slow_press.
 
     python3 -B examples/rehearsed/compare.py CAA_SHOW CAA COUNT [SCRIPT ..]
 
@@ -14,8 +15,10 @@ import sys
 
 HERE = os.path.dirname(os.path.abspath(__file__))
 sys.path.insert(0, os.path.dirname(HERE))
+import faults  # noqa: E402
 import play_by_rules  # noqa: E402
 
+FAULT_ORDERS = 2
 SCRIPTS = [os.path.join(HERE, it) for it in ("slow_press", "mended_station")]
 SCRIPTS += [os.path.join(os.path.dirname(HERE), "cases", it) for it in ("jam_and_slip", "spare_gripper")]
 
@@ -83,7 +86,11 @@ def main():
     if "\nresolve,take_out,plate_open," not in late:
         print("slow_press: the late robot isn't among the first ten orders")
         wrong += 1
-    print(f"{len(scripts)} scripts, {len(scripts) * int(count)} orders, {wrong} wrong")
+    lines = 0
+    for path in scripts:
+        more, mistakes = faults.compare(output, show, caa, path, FAULT_ORDERS)
+        lines, wrong = lines + more, wrong + mistakes
+    print(f"{len(scripts)} scripts, {len(scripts) * int(count)} orders, {lines} lines of faults, {wrong} wrong")
     sys.exit(1 if wrong else 0)
 
 
