@@ -87,6 +87,7 @@ impl Effect {
     pub fn is_as(&self, other: &Effect) -> bool {
         self.goes_as(other)
             && self.play == other.play
+            && self.play_action == other.play_action
             && self.class == other.class
             && are_same(&self.away, &other.away)
             && are_same(&self.short, &other.short)

@@ -1,6 +1,7 @@
 //! Failure modes of a device and their effects: each put of the journals of a plan is refused in turn.
 #![tactic(auto)]
 
+pub mod backs;
 pub mod effects;
 pub mod endings;
 pub mod measure;

@@ -8,6 +8,7 @@ ghost use Rattle.fault_trials.specs.Classes.{class_of};
 ghost use Rattle.fault_trials.specs.Puts.{IsPutAt};
 ghost use Rattle.fault_trials.specs.Tables.{Grown, Added, IsTried, AllTried, IsWhole, Tabled, TriesAt};
 
+use crate::backs::Backs;
 use crate::effects::{Effect, Refused, effect_of};
 use crate::measure::Measure;
 use crate::modes::{Class, Example, Mode, Spot, Tried};
@@ -51,6 +52,7 @@ pub struct Began {
 #[derive(Drop)]
 pub struct Counts {
     pub resolved: Vec<Began>,
+    pub backs: Backs,
     /// How many puts stood in the journals without a fault.
     pub puts: u64,
     pub playings: u64,
@@ -114,6 +116,11 @@ fn refusals_of(alloc: Global, tried: Tried) -> Result<Refusals, OutOfMemory> {
     Ok(Refusals { drills, trouble })
 }
 
+/// Whether a try refuses one put.
+fn is_one(tried: Tried) -> bool {
+    matches!(tried, Tried::One(_))
+}
+
 /// Adds an exception that was resolved, unless it is among these.
 fn add_began(resolved: &mut Vec<Began>, began: Began) -> Result<(), OutOfMemory> {
     if !resolved.iter().any(|other| *other == began) {
@@ -127,16 +134,38 @@ impl Counts {
     fn new(alloc: Global) -> Self {
         Counts {
             resolved: Vec::new(alloc),
+            backs: Backs::new(alloc),
             puts: 0,
             playings: 0,
             entries: 0,
         }
     }
 
-    /// Counts a journal, and takes note of what it resolves.
-    fn note(&mut self, plan: &Plan, journal: &Journal) -> Result<(), OutOfMemory> {
+    /// Takes note of what a journal sets back. Its order is looked at only where one put is refused at most.
+    fn note_backs(
+        &mut self,
+        alloc: Global,
+        plan: &Plan,
+        journal: &Journal,
+        is_single: bool,
+    ) -> Result<(), OutOfMemory> {
+        if is_single {
+            self.backs.note_crossings(plan, journal)?;
+        }
+        self.backs.note_leavings(alloc, plan, journal)
+    }
+
+    /// Counts a journal, and takes note of what it resolves and sets back.
+    fn note(
+        &mut self,
+        alloc: Global,
+        plan: &Plan,
+        journal: &Journal,
+        is_single: bool,
+    ) -> Result<(), OutOfMemory> {
         self.playings = self.playings.saturating_add(1);
         self.entries = self.entries.saturating_add(journal.len());
+        self.note_backs(alloc, plan, journal, is_single)?;
         for entry in journal.as_slice() {
             if entry.kind == Kind::Resolve && entry.place < plan.places() {
                 let began = Began {
@@ -164,7 +193,8 @@ fn play(
 {
     let refusals = refusals_of(alloc, example.refused)?;
     let played = play_numbered(alloc, plan, example.schedule, bench.length, refusals)?;
-    counts.note(&played.plan, &played.journal)?;
+    let is_single = is_one(example.refused);
+    counts.note(alloc, &played.plan, &played.journal, is_single)?;
     Ok(played)
 }
 
@@ -512,7 +542,7 @@ fn play_base(
     } = known;
     let played = play_numbered(alloc, plan, number, fair_length, Refusals::none(alloc))?;
     measure.note(alloc, &played.plan, &played.journal)?;
-    counts.note(&played.plan, &played.journal)?;
+    counts.note(alloc, &played.plan, &played.journal, true)?;
     let Played { plan, journal } = played;
     bases.push(Base { number, journal })?;
     Ok(Bases {
