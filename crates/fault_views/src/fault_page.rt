@@ -17,7 +17,7 @@ use script_views::page::{Page, Piece};
 use std::alloc::Global;
 
 /// The word for a class.
-fn class_word(class: Class) -> &'static str {
+pub fn class_word(class: Class) -> &'static str {
     match class {
         Class::Same => "same",
         Class::Told => "told",
@@ -117,24 +117,36 @@ fn sorted_ways(alloc: Global, ways: &[Way]) -> Result<Vec<Way>, OutOfMemory> {
 
 /// How a play ends, and how often.
 #[derive(Clone, Copy)]
-struct Ending {
+pub struct Ending {
+    /// The number of the action of the first play that ended so.
+    play_action: u32,
     outcome: Option<Outcome>,
     times: u32,
 }
 
-/// Counts an ending.
-fn note_ending(
+/// Whether plays end as this one. A signal is one of the action of its play.
+fn ends_as(ending: &Ending, effect: &Effect) -> bool {
+    let is_signal = matches!(effect.play, Some(Outcome::Signal(_)));
+    ending.outcome == effect.play && (!is_signal || ending.play_action == effect.play_action)
+}
+
+/// Counts the ending of the play of an effect.
+pub fn note_ending(
     endings: &mut Vec<Ending>,
-    outcome: Option<Outcome>,
+    effect: &Effect,
     times: u32,
 ) -> Result<(), OutOfMemory> {
     for ending in endings.iter_mut() {
-        if ending.outcome == outcome {
+        if ends_as(ending, effect) {
             ending.times = ending.times.saturating_add(times);
             return Ok(());
         }
     }
-    endings.push(Ending { outcome, times })?;
+    endings.push(Ending {
+        play_action: effect.play_action,
+        outcome: effect.play,
+        times,
+    })?;
     Ok(())
 }
 
@@ -270,7 +282,7 @@ impl<'a> FaultTelling<'a> {
     }
 
     /// Says what is refused, with the action that it is of.
-    fn say_title(&self, page: &mut Page, spot: Spot) -> Result<(), OutOfMemory> {
+    pub fn say_title(&self, page: &mut Page, spot: Spot) -> Result<(), OutOfMemory> {
         self.book.say_action(page, action_of(spot))?;
         page.say(&[Piece::Text(": ")])?;
         say_item(&self.book, page, spot)
@@ -324,34 +336,43 @@ impl<'a> FaultTelling<'a> {
         way: Option<&Effect>,
     ) -> Result<(), OutOfMemory> {
         let mut endings = Vec::new(alloc);
-        let mut play_action = 0;
         for seen in &row.seen {
             let counts = match way {
                 Some(first) => seen.effect.goes_as(first),
                 None => true,
             };
             if seen.mode == mode && counts {
-                note_ending(&mut endings, seen.effect.play, seen.times)?;
-                play_action = seen.effect.play_action;
+                note_ending(&mut endings, seen.effect, seen.times)?;
             }
         }
-        let endings = sorted_endings(alloc, &endings)?;
+        let has_counts = endings.len() > 1;
+        self.say_counted(alloc, page, &endings, has_counts)
+    }
+
+    /// Says these endings, the worst first.
+    pub fn say_counted(
+        &self,
+        alloc: Global,
+        page: &mut Page,
+        endings: &[Ending],
+        has_counts: bool,
+    ) -> Result<(), OutOfMemory> {
         if endings.is_empty() {
             return page.say(&[Piece::Text("-")]);
         }
-        for (index, ending) in endings.iter().enumerate() {
+        for (index, ending) in sorted_endings(alloc, endings)?.iter().enumerate() {
             if index > 0 {
                 page.say(&[Piece::Text(", ")])?;
             }
-            if endings.len() > 1 {
+            if has_counts {
                 page.say(&[Piece::Number(u64::from(ending.times)), Piece::Text("x ")])?;
             }
-            self.say_ending(page, play_action, ending.outcome)?;
+            self.say_ending(page, ending.play_action, ending.outcome)?;
         }
         Ok(())
     }
 
-    fn say_standings(
+    pub fn say_standings(
         &self,
         page: &mut Page,
         standings: &[Standing],
@@ -475,7 +496,7 @@ impl<'a> FaultTelling<'a> {
     }
 
     /// Says where a spot stands: its line, or what is set back.
-    fn say_where(&self, page: &mut Page, spot: Spot) -> Result<(), OutOfMemory> {
+    pub fn say_where(&self, page: &mut Page, spot: Spot) -> Result<(), OutOfMemory> {
         let line = line_of(&self.book, spot);
         if line > 0 {
             page.number(u64::from(line))
@@ -599,41 +620,8 @@ impl<'a> FaultTelling<'a> {
         page.say(&[Piece::Text("\n")])
     }
 
-    /// How bad a put alone can be.
-    fn class_alone(&self, spot: Spot) -> u32 {
-        let mut worst = 0;
-        for row in self.rows {
-            for seen in &row.seen {
-                if row.spot == spot && seen.mode == Mode::Once {
-                    worst = worst.max(rank_of(seen.effect.class));
-                }
-            }
-        }
-        worst
-    }
-
-    /// Says a pair that comes to a worse class than either alone.
-    fn say_pair(&self, page: &mut Page, spot: Spot, seen: &Seen) -> Result<(), OutOfMemory> {
-        let Some(second) = seen.second else {
-            return Ok(());
-        };
-        page.say(&[
-            Piece::Text("  "),
-            Piece::Text(class_word(seen.effect.class)),
-            Piece::Text("  "),
-        ])?;
-        self.say_where(page, spot)?;
-        page.say(&[Piece::Text(" ")])?;
-        self.say_title(page, spot)?;
-        page.say(&[Piece::Text(", ")])?;
-        self.say_where(page, second)?;
-        page.say(&[Piece::Text(" ")])?;
-        self.say_title(page, second)?;
-        self.say_example(page, seen.example)
-    }
-
     /// Says how a try is had again.
-    fn say_example(&self, page: &mut Page, example: Example) -> Result<(), OutOfMemory> {
+    pub fn say_example(&self, page: &mut Page, example: Example) -> Result<(), OutOfMemory> {
         page.say(&[
             Piece::Text(" (schedule "),
             Piece::Number(u64::from(example.schedule)),
@@ -665,31 +653,6 @@ impl<'a> FaultTelling<'a> {
         }
     }
 
-    /// Says the pairs of steps of bodies and handlers that come to a worse class than either alone.
-    fn say_pairs(&self, page: &mut Page) -> Result<(), OutOfMemory> {
-        page.say(&[Piece::Text(
-            "two puts refused that come to a worse class than either alone:\n",
-        )])?;
-        let mut has_any = false;
-        for row in self.rows {
-            let alone = self.class_alone(row.spot);
-            for seen in &row.seen {
-                let Some(second) = seen.second else {
-                    continue;
-                };
-                let least = alone.max(self.class_alone(second));
-                if rank_of(seen.effect.class) > least {
-                    self.say_pair(page, row.spot, seen)?;
-                    has_any = true;
-                }
-            }
-        }
-        if !has_any {
-            page.say(&[Piece::Text("  none\n")])?;
-        }
-        Ok(())
-    }
-
     /// The page.
     pub fn page(&self, alloc: Global, file: &[u8]) -> Result<Vec<u8>, OutOfMemory> {
         let mut page = self.new_page(alloc);
@@ -712,8 +675,9 @@ impl<'a> FaultTelling<'a> {
         self.say_away(alloc, &mut page, Mode::Once)?;
         page.say(&[Piece::Text("stands away when the line dies at the put of line:\n")])?;
         self.say_away(alloc, &mut page, Mode::Dead)?;
+        self.say_backs(&mut page)?;
         if self.trial.bench.has_pairs {
-            self.say_pairs(&mut page)?;
+            self.say_pairs(alloc, &mut page)?;
         }
         page.say(&[Piece::Text("handlers not begun in these playings (they may still be):")])?;
         self.say_idle(&mut page, true)?;

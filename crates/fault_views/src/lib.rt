@@ -4,5 +4,7 @@
 pub mod asking;
 pub mod fault_page;
 mod rows;
+mod set_back;
 mod spots;
 mod tables;
+mod two_puts;
