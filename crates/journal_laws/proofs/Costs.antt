@@ -7,8 +7,7 @@ use Rattle.caa_base.specs.declared.written.entry.Entry.{Entry}
 use Rattle.caa_base.specs.declared.written.entry.Kind.TheVariants as kind
 use Rattle.place_plan.specs.declared.drafts.draft_rows.RoleRow.{RoleRow}
 use Rattle.place_plan.specs.declared.drafts.draft_rows.HandlerRow.{HandlerRow}
-use Rattle.place_plan.specs.declared.drafts.draft_rows.PlaceRow.{PlaceRow}
-use Rattle.place_plan.specs.Plans.PlanValue.{Plan}
+use Rattle.place_plan.specs.Plans.PlanValue.{Plan, PlaceRow}
 use Rattle.caa_base.specs.Written.Lists.{member, index_of}
 use Rattle.caa_base.specs.inner.Lists.{one_if}
 use Rattle.place_plan.specs.Plans.Places.{roles_of, objects_of, action_at, action_in, place_at, no_role, no_place, handler_in, body_of, handler_of}

@@ -4,7 +4,6 @@ use Rattle.std.specs.List.{list_all}
 use Rattle.std.proofs.lemmas.Bool.{and_parts, or_cases, eqb-true, false≢true, ltb-true, lt-ltb, not-true, cases_Bool}
 use Rattle.place_plan.specs.declared.drafts.draft.Draft.{Draft}
 use Rattle.place_plan.specs.declared.drafts.draft_rows.ObjectRow.{ObjectRow}
-use Rattle.place_plan.specs.declared.drafts.draft_rows.PlaceRow.{PlaceRow}
 use Rattle.place_plan.specs.declared.drafts.draft_rows.ActionRow.{ActionRow}
 use Rattle.place_plan.specs.declared.drafts.draft_rows.NestRow.{NestRow}
 use Rattle.place_plan.specs.declared.drafts.draft_rows.RoleRow.{RoleRow}
@@ -12,7 +11,7 @@ use Rattle.place_plan.specs.declared.drafts.draft_rows.HandlerRow.{HandlerRow}
 use Rattle.place_plan.specs.declared.drafts.draft_rows.Program.{Program}
 use Rattle.place_plan.specs.declared.drafts.draft_rows.Step.{Step}
 use Rattle.place_plan.specs.declared.drafts.draft_rows.Step.TheVariants as step
-use Rattle.place_plan.specs.Plans.PlanValue.{Plan}
+use Rattle.place_plan.specs.Plans.PlanValue.{Plan, PlaceRow}
 use Rattle.caa_base.specs.Written.Lists.{member, index_of, is_empty, first_of}
 use Rattle.caa_base.specs.inner.Lists.{Rises}
 use Rattle.place_plan.specs.Plans.Places.{place_at, action_at, around, parent, roles_of, role_row, body_of, handler_in, abort_row, objects_of, uses, alternates_of, nest_number, nest_of, nest_in, internal_of, interface_of, fault_of, map_signal, initial_of, no_action, no_role, no_nest, no_place, no_object}

@@ -14,12 +14,11 @@ use Rattle.caa_base.specs.declared.written.entry.Outcome.{Outcome}
 use Rattle.caa_base.specs.declared.written.entry.Outcome.TheVariants as outcome
 use Rattle.caa_base.specs.declared.written.entry.Verdict.{Verdict}
 use Rattle.caa_base.specs.declared.written.entry.Verdict.TheVariants as verdict
-use Rattle.place_plan.specs.declared.drafts.draft_rows.PlaceRow.{PlaceRow}
 use Rattle.place_plan.specs.declared.drafts.draft_rows.AbortRow.{AbortRow}
 use Rattle.place_plan.specs.declared.drafts.draft_rows.AbortRow.TheVariants as abort
 use Rattle.place_plan.specs.declared.drafts.draft_rows.Step.{Step}
 use Rattle.place_plan.specs.declared.drafts.draft_rows.Step.TheVariants as step
-use Rattle.place_plan.specs.Plans.PlanValue.{Plan}
+use Rattle.place_plan.specs.Plans.PlanValue.{Plan, PlaceRow}
 use Rattle.caa_base.specs.Written.Lists.{member, is_at}
 use Rattle.place_plan.specs.Plans.Places.{parent, roles_of, no_place, internal_of, interface_of, fault_of, handler_of, map_signal, nest_of}
 use Rattle.place_plan.specs.RulesOfJournals.Entries.{is_in, is_by, newest}

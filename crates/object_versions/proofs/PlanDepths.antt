@@ -8,8 +8,7 @@ use Rattle.caa_base.proofs.ListLemmas.{all_at, all_imply}
 use Rattle.place_plan.specs.declared.drafts.draft.Draft.{Draft}
 use Rattle.place_plan.specs.declared.drafts.draft_rows.ActionRow.{ActionRow}
 use Rattle.place_plan.specs.declared.drafts.draft_rows.NestRow.{NestRow}
-use Rattle.place_plan.specs.declared.drafts.draft_rows.PlaceRow.{PlaceRow}
-use Rattle.place_plan.specs.Plans.PlanValue.{Plan}
+use Rattle.place_plan.specs.Plans.PlanValue.{Plan, PlaceRow}
 use Rattle.place_plan.specs.Plans.Places.{around, place_at, alternates_of, objects_of, uses, no_action, no_nest, no_place}
 use Rattle.place_plan.specs.Plans.Unfolding.{plan_of}
 use Rattle.place_plan.specs.Plans.Closed.{IsClosed}

@@ -7,6 +7,7 @@ pub mod Casts
 pub mod Counted
 pub mod Weighing
 pub mod Unfolds
+pub mod PlaceLists
 pub mod MadePlan
 pub mod ClosedPlan
 pub mod SmallParts

@@ -8,8 +8,7 @@ use Rattle.std.proofs.lemmas.Bool.{false≢true, true≢false}
 use Rattle.caa_base.specs.declared.written.entry.Entry.{Entry}
 use Rattle.caa_base.specs.declared.written.entry.Kind.TheVariants as kind
 use Rattle.place_plan.specs.declared.drafts.draft_rows.ActionRow.{ActionRow}
-use Rattle.place_plan.specs.declared.drafts.draft_rows.PlaceRow.{PlaceRow}
-use Rattle.place_plan.specs.Plans.PlanValue.{Plan}
+use Rattle.place_plan.specs.Plans.PlanValue.{Plan, PlaceRow}
 use Rattle.caa_base.specs.Written.Lists.{first_not}
 use Rattle.place_plan.specs.Plans.Places.{objects_of, no_action}
 use Rattle.place_plan.specs.RulesOfJournals.Entries.{has}

@@ -5,8 +5,7 @@ use Rattle.place_plan.specs.declared.drafts.draft.Draft.{Draft}
 use Rattle.place_plan.specs.declared.drafts.draft_rows.PlayRow.{PlayRow}
 use Rattle.place_plan.specs.declared.drafts.draft_rows.NestRow.{NestRow}
 use Rattle.place_plan.specs.declared.drafts.draft_rows.ActionRow.{ActionRow}
-use Rattle.place_plan.specs.declared.drafts.draft_rows.PlaceRow.{PlaceRow}
-use Rattle.place_plan.specs.Plans.PlanValue.{Plan}
+use Rattle.place_plan.specs.Plans.PlanValue.{Plan, PlaceRow}
 use Rattle.caa_base.specs.Written.Lists.{member}
 use Rattle.place_plan.specs.Plans.Places.{place_at, action_at, action_in, around, roles_of, no_action, no_nest, no_place}
 use Rattle.place_plan.specs.Plans.Unfolding.{plan_of, cast_of}

@@ -3,8 +3,8 @@ use Rattle.std.proofs.Common.{◌≡◌, ℕ, ◌≤◌, nat_le, List, length, N
 use Rattle.std.proofs.lemmas.Bool.{and_parts, leb-true}
 use Rattle.caa_base.specs.Written.Limits.{most_places}
 use Rattle.place_plan.specs.declared.drafts.draft.Draft.{Draft}
-use Rattle.place_plan.specs.declared.drafts.draft_rows.PlaceRow.{PlaceRow}
 use Rattle.place_plan.specs.declared.plans.plan.Plan.TheInside.{Inside}
+use Rattle.place_plan.specs.Plans.PlanValue.{PlaceRow}
 use Rattle.place_plan.specs.inner.PlanView.{plan_view, IsKept}
 use Rattle.place_plan.specs.Plans.Bound.{bound}
 use Rattle.place_plan.specs.Plans.Unfolding.{plan_of}

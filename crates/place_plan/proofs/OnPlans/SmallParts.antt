@@ -11,8 +11,7 @@ use Rattle.place_plan.specs.declared.drafts.draft_rows.ActionRow.{ActionRow}
 use Rattle.place_plan.specs.declared.drafts.draft_rows.NestRow.{NestRow}
 use Rattle.place_plan.specs.declared.drafts.draft_rows.HandlerRow.{HandlerRow}
 use Rattle.place_plan.specs.declared.drafts.draft_rows.Program.{Program}
-use Rattle.place_plan.specs.declared.drafts.draft_rows.PlaceRow.{PlaceRow}
-use Rattle.place_plan.specs.Plans.PlanValue.{Plan}
+use Rattle.place_plan.specs.Plans.PlanValue.{Plan, PlaceRow}
 use Rattle.place_plan.specs.Plans.Places.{around, place_at, action_at, alternates_of, role_row, roles_of, objects_of, idle, handler_in, no_action, no_nest, no_place, no_role}
 use Rattle.place_plan.specs.Plans.Unfolding.{plan_of}
 use Rattle.place_plan.specs.Drafts.DraftRules.{is_rising, is_rising_above, objects_in_range, action_fits, role_fits, program_fits, deepest, deepest_of, depth_within, KeepsParts}

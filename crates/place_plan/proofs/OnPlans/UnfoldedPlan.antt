@@ -3,10 +3,9 @@ use Rattle.std.proofs.Common.{◌≡◌, ℕ, ◌+◌, ◌<◌, ◌≤◌, ◌==
 use Rattle.std.specs.List.{list_all}
 use Rattle.std.proofs.lemmas.Bool.{and_parts, or_cases, or_left, or_right, eqb-true, eq-eqb, false≢true, leb-true}
 use Rattle.place_plan.specs.declared.drafts.draft.Draft.{Draft}
-use Rattle.place_plan.specs.declared.drafts.draft_rows.PlaceRow.{PlaceRow}
 use Rattle.place_plan.specs.declared.drafts.draft_rows.PlayRow.{PlayRow}
 use Rattle.place_plan.specs.declared.drafts.draft_rows.ActionRow.{ActionRow}
-use Rattle.place_plan.specs.Plans.PlanValue.{Plan}
+use Rattle.place_plan.specs.Plans.PlanValue.{Plan, PlaceRow}
 use Rattle.caa_base.specs.Written.Lists.{member}
 use Rattle.caa_base.specs.inner.Lists.{Rises}
 use Rattle.place_plan.specs.Plans.Places.{place_at, around, nest_number, alternates_of, no_action, no_place}

@@ -7,7 +7,7 @@ use Rattle.caa_base.specs.Written.Limits.{most_depth}
 use Rattle.place_plan.specs.declared.drafts.draft.Draft.{Draft}
 use Rattle.place_plan.specs.declared.drafts.draft_rows.NestRow.{NestRow}
 use Rattle.place_plan.specs.declared.drafts.draft_rows.PlayRow.{PlayRow}
-use Rattle.place_plan.specs.declared.drafts.draft_rows.PlaceRow.{PlaceRow}
+use Rattle.place_plan.specs.Plans.PlanValue.{PlaceRow}
 use Rattle.caa_base.specs.Written.Lists.{member}
 use Rattle.place_plan.specs.Plans.Places.{no_action, no_nest}
 use Rattle.place_plan.specs.Plans.Unfolding.{Unfolding, cast_of, alternates_from, use_from, uses_from, children_from, unfold_at, plays_from, plan_of}

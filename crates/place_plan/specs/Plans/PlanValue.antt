@@ -4,7 +4,16 @@ use Rattle.caa_base.specs.declared.written.entry.Drill.{Drill}
 use Rattle.place_plan.specs.declared.drafts.draft_rows.ObjectRow.{ObjectRow}
 use Rattle.place_plan.specs.declared.drafts.draft_rows.GraphRow.{GraphRow}
 use Rattle.place_plan.specs.declared.drafts.draft_rows.ActionRow.{ActionRow}
-use Rattle.place_plan.specs.declared.drafts.draft_rows.PlaceRow.{PlaceRow}
+
+-- an instance of an action: the places round it, the innermost first, of which a play has none; which nested use of the enclosing
+-- action it is, 0 for a play; the number of the action; the participants that play its roles, in the order of the roles; and the places
+-- of its nested uses in their order, of each use one for each of its actions
+pub record PlaceRow : Type 0 where
+  pub around : List ℕ
+  pub nest : ℕ
+  pub action : ℕ
+  pub roles : List ℕ
+  pub children : List (List ℕ)
 
 -- the names of the participants, the objects, the graphs, the actions, the places into which the plays unfold, which of
 -- these are the plays, the puts that the device is to refuse, and the objects that are watched

@@ -2,11 +2,10 @@
 use Rattle.std.specs.Prelude.{ℕ, ◌+◌, List, [], ◌∷◌, ◌++◌, map, length, slice_index_or, zero, suc}
 use Rattle.caa_base.specs.Written.Limits.{most_depth}
 use Rattle.place_plan.specs.declared.drafts.draft.Draft.{Draft}
-use Rattle.place_plan.specs.declared.drafts.draft_rows.PlaceRow.{PlaceRow}
 use Rattle.place_plan.specs.declared.drafts.draft_rows.PlayRow.{PlayRow}
 use Rattle.place_plan.specs.declared.drafts.draft_rows.ActionRow.{ActionRow}
 use Rattle.place_plan.specs.declared.drafts.draft_rows.NestRow.{NestRow}
-use Rattle.place_plan.specs.Plans.PlanValue.{Plan}
+use Rattle.place_plan.specs.Plans.PlanValue.{Plan, PlaceRow}
 use Rattle.place_plan.specs.Plans.Places.{no_action}
 
 -- the places of an instance of an action, with all that is nested in it: from the action, the participants of its roles, the places

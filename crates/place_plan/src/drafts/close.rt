@@ -3,8 +3,7 @@
 //! interface graph is asked last.
 //!
 //! A draft may have tens of thousands of plays. That nobody plays two roles is asked by comparing each participant with those
-//! behind it, since at most sixteen play one action. A play that nests nothing takes over its participants as they stand in the
-//! draft; where it nests others they are copied, since the places inside are filled from them.
+//! behind it, since at most sixteen play one action.
 
 ghost use Rattle.std.specs.Prelude.{◌≡◌, None, Some, IfOk, IfSome, MatchOption, MatchResult, is_some};
 ghost use Rattle.place_plan.specs.Plans.Bound.{bound};

@@ -158,18 +158,3 @@ pub struct PlayRow {
     /// The participants that play its roles, in the order of the roles.
     pub who: Rows<Participant>,
 }
-
-/// An instance of an action.
-#[derive(Drop)]
-pub struct PlaceRow {
-    /// The places round it, the innermost first; a play has none.
-    pub around: Rows<u32>,
-    /// Which nested use of the enclosing action it is; 0 for a play.
-    pub nest: u32,
-    /// The number of the action.
-    pub action: u32,
-    /// The participants that play its roles, in the order of the roles.
-    pub roles: Rows<Participant>,
-    /// The places of its nested uses in their order, of each use one for each of its actions.
-    pub children: Rows<Rows<u32>>,
-}

@@ -9,8 +9,9 @@ ghost use Rattle.place_plan.specs.Plans.Closed.{AreSound, IsClosed};
 use crate::drafts::close::broken_rule;
 use crate::drafts::draft::Draft;
 use crate::drafts::draft_rows::{
-    AbortRow, ActionRow, GraphRow, HandlerRow, NestRow, ObjectRow, PlaceRow, Program, RoleRow,
+    AbortRow, ActionRow, GraphRow, HandlerRow, NestRow, ObjectRow, Program, RoleRow,
 };
+use crate::plans::places::Places;
 use crate::plans::unfolded::unfolded;
 use crate::plans::unfolding::unfold_plays;
 use crate::rules::member::is_member;
@@ -31,7 +32,7 @@ pub struct Plan {
     objects: Rows<ObjectRow>,
     graphs: Rows<GraphRow>,
     actions: Rows<ActionRow>,
-    places: Rows<PlaceRow>,
+    places: Places,
     plays: Rows<Place>,
     drills: Rows<Drill>,
     watches: Rows<Object>,
@@ -177,13 +178,13 @@ impl Plan {
             drills,
             watches,
         } = draft;
-        let (places, tops) = unfold_plays(alloc, actions.as_slice(), plays)?;
+        let (places, tops) = unfold_plays(alloc, actions.as_slice(), plays.as_slice())?;
         Ok(Plan {
             participants,
             objects,
             graphs,
             actions,
-            places: Rows::from_vec(places),
+            places,
             plays: Rows::from_vec(tops),
             drills,
             watches,
@@ -325,41 +326,28 @@ impl Plan {
     pub fn around(&self, place: Place) -> &[Place]
         ensures { result.now ≡ around self.now place }
     {
-        match self.places.as_slice().get(place as usize) {
-            Some(row) => row.around.as_slice(),
-            None => &[],
-        }
+        self.places.around(place)
     }
 
     /// The place right round this one; none for a play.
     pub fn parent(&self, place: Place) -> Option<Place>
         ensures { result ≡ parent self.now place }
     {
-        let row = self.places.as_slice().get(place as usize)?;
-        row.around.as_slice().first().copied()
+        self.places.around(place).first().copied()
     }
 
     /// Whether a place is the outer one, or inside it.
     pub(crate) fn is_within(&self, place: Place, outer: Place) -> bool
         ensures { result ≡ is_within self.now place outer }
     {
-        if place == outer {
-            return true;
-        }
-        match self.places.as_slice().get(place as usize) {
-            Some(row) => is_member(outer, row.around.as_slice()),
-            None => false,
-        }
+        place == outer || is_member(outer, self.places.around(place))
     }
 
     /// The play that a place is part of.
     pub fn top_of(&self, place: Place) -> Place
         ensures { result ≡ top_of self.now place }
     {
-        match self.places.as_slice().get(place as usize) {
-            Some(row) => last_or(place, row.around.as_slice()),
-            None => place,
-        }
+        last_or(place, self.places.around(place))
     }
 
     /// The number of the action that a place is an instance of.
@@ -367,15 +355,18 @@ impl Plan {
         requires { place < length self.now.places }
         ensures { result ≡ (place_at self.now place).action }
     {
-        self.places.as_slice()[place as usize].action
+        match self.places.action(place) {
+            Some(action) => action,
+            None => unreachable!(),
+        }
     }
 
     /// The action that a place is an instance of, if there is such a place.
     fn action_at(&self, place: Place) -> Option<&ActionRow>
         ensures { unwrap_or (option_copied result) no_action ≡ action_at self.now place }
     {
-        let row = self.places.as_slice().get(place as usize)?;
-        self.actions.as_slice().get(row.action as usize)
+        let action = self.places.action(place)?;
+        self.actions.as_slice().get(action as usize)
     }
 
     /// The name of the action that a place is an instance of.
@@ -392,10 +383,7 @@ impl Plan {
     pub fn roles_of(&self, place: Place) -> &[Participant]
         ensures { result.now ≡ roles_of self.now place }
     {
-        match self.places.as_slice().get(place as usize) {
-            Some(row) => row.roles.as_slice(),
-            None => &[],
-        }
+        self.places.roles(place)
     }
 
     /// The number of the role that a participant plays in a place, if it has one there.
@@ -479,10 +467,7 @@ impl Plan {
     pub fn alternates_of(&self, place: Place, nest: u32) -> &[Place]
         ensures { result.now ≡ alternates_of self.now place nest }
     {
-        let Some(row) = self.places.as_slice().get(place as usize) else {
-            return &[];
-        };
-        match row.children.as_slice().get(nest as usize) {
+        match self.places.uses(place).get(nest as usize) {
             Some(places) => places.as_slice(),
             None => &[],
         }
@@ -508,19 +493,23 @@ impl Plan {
     pub fn next_alternate(&self, place: Place) -> Option<Place>
         ensures { result ≡ next_alternate self.now place }
     {
-        let row = self.places.as_slice().get(place as usize)?;
-        let enclosing = row.around.as_slice().first()?;
-        next_after(place, self.alternates_of(*enclosing, row.nest))
+        let enclosing = self.parent(place)?;
+        next_after(
+            place,
+            self.alternates_of(enclosing, self.places.nest(place)),
+        )
     }
 
     /// The use of the enclosing action that a place is, if it is nested.
     fn nest_of(&self, place: Place) -> Option<&NestRow>
         ensures { unwrap_or (option_copied result) no_nest ≡ nest_of self.now place }
     {
-        let row = self.places.as_slice().get(place as usize)?;
-        let enclosing = row.around.as_slice().first()?;
-        let action = self.action_at(*enclosing)?;
-        action.nests.as_slice().get(row.nest as usize)
+        let enclosing = self.parent(place)?;
+        let action = self.action_at(enclosing)?;
+        action
+            .nests
+            .as_slice()
+            .get(self.places.nest(place) as usize)
     }
 
     /// What an exception that a nested place tells outside is in the place round it; 0 for a play.

@@ -13,26 +13,27 @@ decreases-unfold_use l = 2 * l.depth + 1
 abbrev pub invariant-unfold-loop-number : goal.invariant-unfold-loop-number
 invariant-unfold-loop-number l = record {
   rows :
-      l.places.items ++ uses_from (unfold_at (l.depth - 1) l.actions) l.who l.outer.items l.number
-      (length l.places.items) (drop l.number l.nests)
-      ≡ l.fn.places.items ++ bare_place l.action l.who l.around l.nest ∷ uses_from
-      (unfold_at (l.depth - 1) l.actions) l.who l.outer.items 0 (length l.fn.places.items + 1) l.nests;
+      l.places ++ uses_from (unfold_at (l.depth - 1) l.actions) l.who l.outer.items l.number
+      (length l.places) (drop l.number l.nests)
+      ≡ l.fn.places ++ bare_place l.action l.who l.around l.nest ∷ uses_from
+      (unfold_at (l.depth - 1) l.actions) l.who l.outer.items 0 (length l.fn.places + 1) l.nests;
   numbers :
       l.children.items ++ children_from (unfold_at (l.depth - 1) l.actions) l.who l.outer.items l.number
-      (length l.places.items) (drop l.number l.nests)
-      ≡ children_from (unfold_at (l.depth - 1) l.actions) l.who l.outer.items 0 (length l.fn.places.items + 1) l.nests;
+      (length l.places) (drop l.number l.nests)
+      ≡ children_from (unfold_at (l.depth - 1) l.actions) l.who l.outer.items 0 (length l.fn.places + 1) l.nests;
 }
 
 -- the places and the numbers so far, with those of the alternates that are left
 abbrev pub invariant-unfold_use-loop-action : goal.invariant-unfold_use-loop-action
 invariant-unfold_use-loop-action l = record {
   rows :
-      l.places.items ++ alternates_from (unfold_at l.depth l.actions) l.cast.items l.around l.nest
-      (length l.places.items) (drop l.action-index l.action-items)
-      ≡ l.fn.places.items ++ alternates_from (unfold_at l.depth l.actions) l.cast.items l.around l.nest
-      (length l.fn.places.items) l.action-items;
+      l.places ++ alternates_from (unfold_at l.depth l.actions) l.cast.items l.around l.nest
+      (length l.places) (drop l.action-index l.action-items)
+      ≡ l.fn.places ++ alternates_from (unfold_at l.depth l.actions) l.cast.items l.around l.nest
+      (length l.fn.places) l.action-items;
+  count : length l.numbers ≡ l.action-index;
   numbers :
-      l.numbers.items ++ numbers_from (unfold_at l.depth l.actions) l.cast.items l.around l.nest (length l.places.items)
+      l.numbers ++ numbers_from (unfold_at l.depth l.actions) l.cast.items l.around l.nest (length l.places)
       (drop l.action-index l.action-items)
-      ≡ numbers_from (unfold_at l.depth l.actions) l.cast.items l.around l.nest (length l.fn.places.items) l.action-items;
+      ≡ numbers_from (unfold_at l.depth l.actions) l.cast.items l.around l.nest (length l.fn.places) l.action-items;
 }

@@ -13,13 +13,13 @@ unfolded-size-requires c = (keeps_rules c.args.draft c.requires).0
 pub unfold_plays-requires-clause-few : goal.unfold_plays-requires-clause-few
 unfold_plays-requires-clause-few c =
     let draft = c.args.draft in
-    subst (λ actions. length (plays_from (unfold_at most_depth actions) 0 draft.plays) ≤ most_places)
-    (sym c.as_slice-2.ensures) (few_made draft c.requires)
+    subst₂ (λ actions plays. length (plays_from (unfold_at most_depth actions) 0 plays) ≤ most_places)
+    (sym c.as_slice-2.ensures) (sym c.as_slice-3.ensures) (few_made draft c.requires)
 
 pub invariant_of-result : goal.invariant_of-result
 invariant_of-result c =
-    kept c.args.draft c.requires (subst AreSound c.as_slice.ensures c.are_sound.ensures) c.from_vec.result c.from_vec-2.result _
-    (subst₂ (IsMade c.args.draft.actions c.args.draft.plays) (sym c.from_vec.ensures) (sym c.from_vec-2.ensures)
-    (subst (λ actions. IsMade actions c.args.draft.plays c.in_ok-places.places.items
-    c.in_ok-places.tops.items) c.as_slice-2.ensures c.in_ok-places.ensures))
+    kept c.args.draft c.requires (subst AreSound c.as_slice.ensures c.are_sound.ensures) c.in_ok-places.places c.from_vec.result _
+    (subst (IsMade c.args.draft.actions c.args.draft.plays c.in_ok-places.places) (sym c.from_vec.ensures)
+    (subst₂ (λ actions plays. IsMade actions plays c.in_ok-places.places c.in_ok-places.tops.items)
+    c.as_slice-2.ensures c.as_slice-3.ensures c.in_ok-places.ensures))
     c.unfolded-size.ensures.bound
