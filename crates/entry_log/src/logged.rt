@@ -99,6 +99,10 @@ impl<M: Machine, L: Log> Machine for Logged<M, L> {
         self.machine.complete()
     }
 
+    fn gathers(&self, entry: &Entry) -> bool {
+        self.machine.gathers(entry)
+    }
+
     fn value(&self, object: Object) -> i64 {
         self.machine.value(object)
     }

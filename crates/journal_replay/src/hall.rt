@@ -21,6 +21,7 @@ use crate::audit::all_are_over;
 use crate::duty::{Turn, Work};
 use crate::look_back::LookBack;
 use crate::past::Past;
+use crate::questions::gathers;
 use crate::records::Records;
 use crate::rule::turn;
 use caa_base::outside::plant::{Plant, PlantError};
@@ -415,6 +416,10 @@ impl<P: Plant, R: Records> Machine for Played<P, R> {
 
     fn complete(&self) -> bool {
         all_are_over(&self.past())
+    }
+
+    fn gathers(&self, entry: &Entry) -> bool {
+        gathers(&self.past(), entry)
     }
 
     fn value(&self, object: Object) -> i64 {

@@ -9,7 +9,7 @@ ghost use Rattle.place_plan.specs.RulesOfJournals.Entries.{is_by, is_in, newest}
 ghost use Rattle.place_plan.specs.RulesOfJournals.Whereabouts.{inside, is_inside, all_are_inside, has_ended, is_left_in_silence};
 ghost use Rattle.place_plan.specs.RulesOfJournals.Raising.{has_handled, is_raised, all_are_halted};
 ghost use Rattle.place_plan.specs.RulesOfJournals.Objects.{holder_of, objects_are_ready};
-ghost use Rattle.place_plan.specs.RulesOfJournals.Roles.{register, or_idle, program_of, next_step, all_have_given, all_have_aborted, is_over};
+ghost use Rattle.place_plan.specs.RulesOfJournals.Roles.{register, or_idle, program_of, next_step, all_have_given, all_have_aborted, gathers, is_over};
 ghost use Rattle.place_plan.specs.RulesOfJournals.Rules.{abort_mapped, mapped_by_outcome, is_deaf, exception_carried};
 ghost use Rattle.journal_replay.specs.PastParts.{plan_of, entries_of};
 ghost use Rattle.journal_replay.specs.Questions.{outcome_of_end, name_of_abort};
@@ -18,7 +18,7 @@ ghost use Rattle.journal_replay.specs.inner.Composed.{tells_undone, name_mapped,
 use crate::past::Past;
 use crate::programs::{program_in, step_at};
 use crate::records::Records;
-use caa_base::written::entry::{Exception, Object, Outcome, Participant, Place};
+use caa_base::written::entry::{Entry, Exception, Kind, Object, Outcome, Participant, Place};
 use place_plan::drafts::draft_rows::{Program, Step};
 use place_plan::plans::plan::Plan;
 
@@ -177,6 +177,20 @@ pub fn all_have_aborted<R: Records>(past: &Past<'_, R>, place: Place) -> bool
         .roles_of(place)
         .iter()
         .all(|by| R::has_aborted(past, place, *by))
+}
+
+/// Whether the last entry gathers the roles of its place, for one of the kinds with which they wait for each other. Others do.
+pub fn gathers<R: Records>(past: &Past<'_, R>, entry: &Entry) -> bool
+    ensures { result ≡ gathers (plan_of past.now) (entries_of past.now) entry.now.place entry.now.kind }
+{
+    let place = entry.place;
+    match entry.kind {
+        Kind::Arrive => all_are_inside(past, place),
+        Kind::Inform => all_are_halted(past, place),
+        Kind::Verdict => all_have_given(past, place, R::course_of(past, place).is_raised),
+        Kind::Abort => all_have_aborted(past, place),
+        _ => true,
+    }
 }
 
 // ---- what is carried out of a place

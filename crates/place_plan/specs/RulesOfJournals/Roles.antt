@@ -16,8 +16,8 @@ use Rattle.place_plan.specs.Plans.PlanValue.{Plan}
 use Rattle.caa_base.specs.Written.Lists.{is_at, first_not, last_of}
 use Rattle.place_plan.specs.Plans.Places.{idle, parent, roles_of, body_of, handler_of, plays_of}
 use Rattle.place_plan.specs.RulesOfJournals.Entries.{is_in, is_by, has, has_by}
-use Rattle.place_plan.specs.RulesOfJournals.Whereabouts.{is_left_in_silence}
-use Rattle.place_plan.specs.RulesOfJournals.Raising.{exception_handled, is_raised, is_calm, is_hot}
+use Rattle.place_plan.specs.RulesOfJournals.Whereabouts.{all_are_inside, is_left_in_silence}
+use Rattle.place_plan.specs.RulesOfJournals.Raising.{exception_handled, is_raised, is_calm, is_hot, all_are_halted}
 
 -- ---- steps
 
@@ -165,6 +165,17 @@ has_aborted past p t = has_by kind.Abort past p t
 -- each role of p has given up
 abbrev pub all_have_aborted : Plan → List Entry → ℕ → Bool
 all_have_aborted plan past p = list_all (has_aborted past p) (roles_of plan p)
+
+-- ---- all together
+
+-- an entry of this kind in p, the newest of the past, gathers the roles of p: with it each of them is in p, was halted there, has given
+-- its verdict, or has given up; the roles of p wait for each other with no other kind, so any entry of those does
+abbrev pub gathers : Plan → List Entry → ℕ → Kind → Bool
+gathers plan past p kind.Arrive = all_are_inside plan past p
+gathers plan past p kind.Inform = all_are_halted plan past p
+gathers plan past p kind.Verdict = all_have_given plan past p
+gathers plan past p kind.Abort = all_have_aborted plan past p
+gathers plan past p _ = true
 
 -- ---- plays
 

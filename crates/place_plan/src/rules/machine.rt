@@ -4,6 +4,7 @@ ghost use Rattle.place_plan.specs.Plans.Bound.{bound};
 ghost use Rattle.place_plan.specs.Plans.PlanValue.{Plan as PlanValue};
 ghost use Rattle.place_plan.specs.declared.rules.machine.Base.{Base as BaseValue};
 ghost use Rattle.place_plan.specs.RulesOfJournals.Objects.{value_of};
+ghost use Rattle.place_plan.specs.RulesOfJournals.Roles.{gathers};
 ghost use Rattle.place_plan.specs.RulesOfJournals.Journals.{LegalPast, IsComplete, faults_in};
 ghost use Rattle.caa_base.specs.Outside.Counts.{CountsFault};
 ghost use Rattle.place_plan.specs.RulesOfJournals.Rules.{MayFollow};
@@ -101,6 +102,12 @@ pub trait Machine {
     /// Whether each participant is over.
     fn complete(&self) -> bool
         ensures { IsTrue result ↔ IsComplete (plan_of self.now) (journal_of self.now) };
+
+    /// Whether the last entry of the journal gathers the roles of its place. An arrival does where all of them are in the place now,
+    /// an inform where all were halted there, a verdict where all have given theirs, an abort where all have given up. An entry of
+    /// any other kind does.
+    fn gathers(&self, entry: &Entry) -> bool
+        ensures { result ≡ gathers (plan_of self.now) (reverse (journal_of self.now)) entry.now.place entry.now.kind };
 
     /// The value of an object by the journal.
     fn value(&self, object: Object) -> i64
