@@ -130,11 +130,12 @@ impl<M: Machine> Housed<M> {
     /// Who of a crew sleeps on after an answer to a participant: all whom its entry doesn't wake, and it, where it has none now.
     pub fn asleep_after(&self, by: Participant, answer: Answer, asleep: Crew) -> Crew
         requires { by < length (M.plan_of self.now.machine).participants }
-        ensures { (t : ℕ) → has_bit result t ≡ true → SleepsOn (M.plan_of self.now.machine) by answer asleep t }
+        ensures { (t : ℕ) → has_bit result t ≡ true
+            → SleepsOn (M.plan_of self.now.machine) (M.journal_of self.now.machine) by answer asleep t }
     {
         self.machine.plan().is_closed();
         match answer {
-            Answer::Did(entry) => unwoken(self.machine.plan(), &entry, asleep),
+            Answer::Did(entry) => unwoken(&self.machine, &entry, asleep),
             Answer::NotYet => with(asleep, by),
             Answer::Work { .. } | Answer::Over => asleep,
         }

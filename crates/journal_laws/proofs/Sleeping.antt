@@ -14,7 +14,7 @@ use Rattle.place_plan.specs.RulesOfJournals.Entries.{is_in, is_by, has, has_by}
 use Rattle.place_plan.specs.RulesOfJournals.Whereabouts.{inside, inside_after, is_inside, all_are_inside, has_started, has_ended, is_undoing}
 use Rattle.place_plan.specs.RulesOfJournals.Raising.{has_handled, raises_in, exceptions_raised, is_raised, is_doomed, halts_in, is_halted, all_are_halted, exception_resolved, exception_handled}
 use Rattle.place_plan.specs.RulesOfJournals.Objects.{holder_of, holder_after, objects_are_ready, next_restore}
-use Rattle.place_plan.specs.RulesOfJournals.Roles.{advances, gives_value, position, register, program_in, next_step, next_raise, raise_of, has_given, has_given_after, all_have_given, was_refused_in_handler, verdict_at, verdict_of, is_undo, wants_undo, signal_in, signals, has_aborted, all_have_aborted, next_play}
+use Rattle.place_plan.specs.RulesOfJournals.Roles.{advances, gives_value, position, register, program_in, next_step, next_raise, raise_of, has_given, has_given_after, all_have_given, was_refused_in_handler, verdict_at, verdict_of, is_undo, wants_undo, signal_in, signals, has_aborted, all_have_aborted, gathers, next_play}
 use Rattle.place_plan.specs.RulesOfJournals.Rules.{Row, MayFollow, breaks_off}
 use Rattle.place_plan.specs.RulesOfJournals.Journals.{LegalPast, HasNoEntry}
 use Rattle.journal_laws.specs.Laws.{Holds, has_role_in, wakes_by, wakes, SleepsOn}
@@ -64,7 +64,11 @@ others_stay plan _ p was = refl
 
 -- ---- places in which t has a role, and those that an entry that doesn't wake t leaves alone
 
-module _ (plan : Plan) (t : ℕ) where
+-- an entry of this kind, in the place of x, doesn't wake t; `now` are the entries with it
+abbrev Unwoken : Plan → ℕ → List Entry → Kind → Entry → Type 0
+Unwoken plan t now k x = gathers plan now x.place k && wakes_by plan k x.place t ≡ false
+
+module _ (plan : Plan) (t : ℕ) (now : List Entry) where
   place_apart : (x p : ℕ) → member t (roles_of plan x) ≡ false → member t (roles_of plan p) ≡ true → (x == p) ≡ false
   place_apart x p off m =
       false_from_ne_true _ (λ s. both_ways _ off (subst (λ a. member t (roles_of plan a) ≡ true) (sym (eqb-true x p s)) m))
@@ -77,17 +81,37 @@ module _ (plan : Plan) (t : ℕ) where
   same_apart None p off m = refl
   same_apart (Some x) p off m = place_apart x p off m
 
-  said_apart : (k : Kind) (x : Entry) (p : ℕ) → wakes_by plan k x.place t ≡ false → member t (roles_of plan p) ≡ true
-      → is_in kind.Verdict p (of_kind k x) ≡ false
-  said_apart kind.Verdict x p w m = place_apart x.place p w m
-  said_apart _ x p w m = refl
+  -- what would wake t in p, if all roles were together there, comes elsewhere; or they aren't
+  still_missing : (together : ℕ → Bool) (x p : ℕ) → together x && member t (roles_of plan x) ≡ false
+      → member t (roles_of plan p) ≡ true → ((x == p) ≡ false) ⊎ (together p ≡ false)
+  still_missing together x p w m = elim (cases_Bool (x == p)) [
+    | inl s ↦
+        let here = subst (λ a. together a && member t (roles_of plan a) ≡ false) (eqb-true x p s) w in
+        inr (false_from_ne_true (together p) (λ all. both_ways _ here (and_from _ _ all m)))
+    | inr apart ↦ inl apart
+  ]
 
-  abort_apart : (k : Kind) (x : Entry) (p : ℕ) → wakes_by plan k x.place t ≡ false → member t (roles_of plan p) ≡ true
-      → is_in kind.Abort p (of_kind k x) ≡ false
-  abort_apart kind.Abort x p w m = place_apart x.place p w m
-  abort_apart _ x p w m = refl
+  arrives_apart : (k : Kind) (x : Entry) (p : ℕ) → Unwoken plan t now k x → member t (roles_of plan p) ≡ true
+      → (is_in kind.Arrive p (of_kind k x) ≡ false) ⊎ (all_are_inside plan now p ≡ false)
+  arrives_apart kind.Arrive x p w m = still_missing (all_are_inside plan now) x.place p w m
+  arrives_apart _ x p w m = inl refl
 
-  raises_apart : (past : List Entry) (k : Kind) (x : Entry) (p : ℕ) → wakes_by plan k x.place t ≡ false
+  informs_apart : (k : Kind) (x : Entry) (p : ℕ) → Unwoken plan t now k x → member t (roles_of plan p) ≡ true
+      → (is_in kind.Inform p (of_kind k x) ≡ false) ⊎ (all_are_halted plan now p ≡ false)
+  informs_apart kind.Inform x p w m = still_missing (all_are_halted plan now) x.place p w m
+  informs_apart _ x p w m = inl refl
+
+  says_apart : (k : Kind) (x : Entry) (p : ℕ) → Unwoken plan t now k x → member t (roles_of plan p) ≡ true
+      → (is_in kind.Verdict p (of_kind k x) ≡ false) ⊎ (all_have_given plan now p ≡ false)
+  says_apart kind.Verdict x p w m = still_missing (all_have_given plan now) x.place p w m
+  says_apart _ x p w m = inl refl
+
+  aborts_apart : (k : Kind) (x : Entry) (p : ℕ) → Unwoken plan t now k x → member t (roles_of plan p) ≡ true
+      → (is_in kind.Abort p (of_kind k x) ≡ false) ⊎ (all_have_aborted plan now p ≡ false)
+  aborts_apart kind.Abort x p w m = still_missing (all_have_aborted plan now) x.place p w m
+  aborts_apart _ x p w m = inl refl
+
+  raises_apart : (past : List Entry) (k : Kind) (x : Entry) (p : ℕ) → Unwoken plan t now k x
       → member t (roles_of plan p) ≡ true → raises_in plan past p (of_kind k x) k ≡ []
   raises_apart past kind.Raise x p w m = passed _ _ _ (place_apart x.place p w m)
   raises_apart past kind.PutFault x p w m =
@@ -95,29 +119,30 @@ module _ (plan : Plan) (t : ℕ) where
   raises_apart past kind.Leave x p w m = ap (λ b. cond (b && (x.mark == 1)) (x.arg ∷ []) []) (at_apart (parent plan x.place) p w m)
   raises_apart past _ x p w m = refl
 
-  halts_apart : (past : List Entry) (k : Kind) (x : Entry) (p : ℕ) → wakes_by plan k x.place t ≡ false
-      → member t (roles_of plan p) ≡ true → halts_in plan past p (of_kind k x) k ≡ false
-  halts_apart past kind.Raise x p w m = place_apart x.place p w m
-  halts_apart past kind.Inform x p w m = place_apart x.place p w m
-  halts_apart past kind.PutFault x p w m = ap (λ b. b && not (has_handled past p x.by)) (place_apart x.place p w m)
-  halts_apart past kind.Leave x p w m = ap (λ b. b && (x.mark == 1)) (at_apart (parent plan x.place) p w m)
-  halts_apart past _ x p w m = refl
+  halts_apart : (past : List Entry) (k : Kind) (x : Entry) (p : ℕ) → Unwoken plan t now k x → member t (roles_of plan p) ≡ true
+      → is_in kind.Inform p (of_kind k x) ≡ false → halts_in plan past p (of_kind k x) k ≡ false
+  halts_apart past kind.Raise x p w m off = place_apart x.place p w m
+  halts_apart past kind.Inform x p w m off = off
+  halts_apart past kind.PutFault x p w m off = ap (λ b. b && not (has_handled past p x.by)) (place_apart x.place p w m)
+  halts_apart past kind.Leave x p w m off = ap (λ b. b && (x.mark == 1)) (at_apart (parent plan x.place) p w m)
+  halts_apart past _ x p w m off = refl
 
-  -- who is in p afterwards was in it before
-  inside_before : (k : Kind) (x : Entry) (p : ℕ) (own : Bool) (was : Option ℕ) → wakes_by plan k x.place t ≡ false
-      → member t (roles_of plan p) ≡ true → is_at (inside_after plan k x.place own was) p ≡ true → is_at was p ≡ true
-  inside_before kind.Arrive x p true was w m h = absurd (both_ways _ (place_apart x.place p w m) h)
-  inside_before kind.Arrive x p false was w m h = h
-  inside_before kind.Withdraw x p true was w m h = absurd (both_ways _ (at_apart (parent plan x.place) p w m) h)
-  inside_before kind.Withdraw x p false was w m h = h
-  inside_before kind.Leave x p true was w m h = absurd (both_ways _ (at_apart (parent plan x.place) p w m) h)
-  inside_before kind.Leave x p false was w m h = h
-  inside_before _ x p own was w m h = h
+  -- who is in p afterwards, where nobody arrives there, was in it before
+  inside_before : (k : Kind) (x : Entry) (p : ℕ) (own : Bool) (was : Option ℕ) → Unwoken plan t now k x
+      → member t (roles_of plan p) ≡ true → is_in kind.Arrive p (of_kind k x) ≡ false
+      → is_at (inside_after plan k x.place own was) p ≡ true → is_at was p ≡ true
+  inside_before kind.Arrive x p true was w m off h = absurd (both_ways _ off h)
+  inside_before kind.Arrive x p false was w m off h = h
+  inside_before kind.Withdraw x p true was w m off h = absurd (both_ways _ (at_apart (parent plan x.place) p w m) h)
+  inside_before kind.Withdraw x p false was w m off h = h
+  inside_before kind.Leave x p true was w m off h = absurd (both_ways _ (at_apart (parent plan x.place) p w m) h)
+  inside_before kind.Leave x p false was w m off h = h
+  inside_before _ x p own was w m off h = h
 
 -- ---- one entry, and somebody else who has none
 
 module _ (plan : Plan) (playable : IsPlayable plan) (past : List Entry) (legal : LegalPast plan past) (e : Entry)
-    (may : MayFollow plan past e) (t : ℕ) (other : (e.by == t) ≡ false) (unwoken : wakes plan e t ≡ false)
+    (may : MayFollow plan past e) (t : ℕ) (other : (e.by == t) ≡ false) (unwoken : wakes plan (e ∷ past) e t ≡ false)
     (silent : HasNoEntry plan past t) where
   -- ---- what is t's own
 
@@ -159,13 +184,16 @@ module _ (plan : Plan) (playable : IsPlayable plan) (past : List Entry) (legal :
   inside_same = ap (λ own. inside_after plan e.kind e.place own (inside plan past t)) other
       ∙ others_stay plan e.kind e.place (inside plan past t)
 
+  own_halted : (p : ℕ) → is_halted plan (e ∷ past) p t ≡ is_halted plan past p t
+  own_halted p = let still = and_right (halts_in plan past p e e.kind) _ other in (λ i. still i || is_halted plan past p t)
+
   play_same : next_play plan (e ∷ past) t ≡ next_play plan past t
   play_same = λ i. first_not (λ p. had_same kind.Arrive p i) (plays_of plan t)
 
   -- ---- places in which t has a role
 
   raised_same : (p : ℕ) → member t (roles_of plan p) ≡ true → exceptions_raised plan (e ∷ past) p ≡ exceptions_raised plan past p
-  raised_same p m = λ i. raises_apart plan t past e.kind e p unwoken m i ++ exceptions_raised plan past p
+  raised_same p m = λ i. raises_apart plan t (e ∷ past) past e.kind e p unwoken m i ++ exceptions_raised plan past p
 
   hot_same : (p : ℕ) → member t (roles_of plan p) ≡ true → is_raised plan (e ∷ past) p ≡ is_raised plan past p
   hot_same p m = λ i. not (is_empty (raised_same p m i))
@@ -175,27 +203,39 @@ module _ (plan : Plan) (playable : IsPlayable plan) (past : List Entry) (legal :
       any_same (λ q. is_raised plan (e ∷ past) q) (λ q. is_raised plan past q) (around plan p)
       (λ q r. hot_same q (playable.tree.roles_in q p t r m))
 
-  halted_same : (p r : ℕ) → member t (roles_of plan p) ≡ true → is_halted plan (e ∷ past) p r ≡ is_halted plan past p r
-  halted_same p r m = λ i. (halts_apart plan t past e.kind e p unwoken m i && (e.by == r)) || is_halted plan past p r
+  all_halted_same : (p : ℕ) → member t (roles_of plan p) ≡ true → is_in kind.Inform p e ≡ false
+      → all_are_halted plan (e ∷ past) p ≡ all_are_halted plan past p
+  all_halted_same p m apart =
+      let still = halts_apart plan t (e ∷ past) past e.kind e p unwoken m apart in
+      (λ i. list_all (λ r. (still i && (e.by == r)) || is_halted plan past p r) (roles_of plan p))
 
-  all_halted_same : (p : ℕ) → member t (roles_of plan p) ≡ true → all_are_halted plan (e ∷ past) p ≡ all_are_halted plan past p
-  all_halted_same p m = λ i. list_all (λ r. halted_same p r m i) (roles_of plan p)
+  not_all_aborted : (p : ℕ) → member t (roles_of plan p) ≡ true → all_have_aborted plan past p ≡ false
+      → all_have_aborted plan (e ∷ past) p ≡ false
+  not_all_aborted p m off = elim (aborts_apart plan t (e ∷ past) e.kind e p unwoken m) [
+    | inl apart ↦ (λ i. list_all (λ r. (apart i && (e.by == r)) || has_aborted past p r) (roles_of plan p)) ∙ off
+    | inr still ↦ still
+  ]
 
-  verdict_same : (p r : ℕ) → member t (roles_of plan p) ≡ true → verdict_of (e ∷ past) p r ≡ verdict_of past p r
-  verdict_same p r m = λ i. cond (said_apart plan t e.kind e p unwoken m i && (e.by == r)) (Some (verdict_at e)) (verdict_of past p r)
+  together_before : (p : ℕ) → member t (roles_of plan p) ≡ true → all_are_inside plan (e ∷ past) p ≡ true
+      → all_are_inside plan past p ≡ true
+  together_before p m w = elim (arrives_apart plan t (e ∷ past) e.kind e p unwoken m) [
+    | inl apart ↦
+        all_up (is_inside plan (e ∷ past) p) (is_inside plan past p) (roles_of plan p)
+        (λ r. inside_before plan t (e ∷ past) e.kind e p (e.by == r) (inside plan past r) unwoken m apart) w
+    | inr still ↦ absurd (both_ways _ still w)
+  ]
 
-  wants_same : (p : ℕ) → member t (roles_of plan p) ≡ true → wants_undo plan (e ∷ past) p ≡ wants_undo plan past p
-  wants_same p m = λ i. list_any (λ r. is_undo (verdict_same p r m i)) (roles_of plan p)
+  -- ---- places in which no verdict is given
 
-  signals_same : (p : ℕ) → member t (roles_of plan p) ≡ true → (rs : List ℕ) → signals (e ∷ past) p rs ≡ signals past p rs
-  signals_same p m [] = refl
-  signals_same p m (r ∷ rs) = let rest = signals_same p m rs in (λ i. signal_in (verdict_same p r m i) ++ rest i)
+  verdict_same : (p r : ℕ) → is_in kind.Verdict p e ≡ false → verdict_of (e ∷ past) p r ≡ verdict_of past p r
+  verdict_same p r apart = λ i. cond (apart i && (e.by == r)) (Some (verdict_at e)) (verdict_of past p r)
 
-  aborted_same : (p r : ℕ) → member t (roles_of plan p) ≡ true → has_aborted (e ∷ past) p r ≡ has_aborted past p r
-  aborted_same p r m = λ i. (abort_apart plan t e.kind e p unwoken m i && (e.by == r)) || has_aborted past p r
+  wants_same : (p : ℕ) → is_in kind.Verdict p e ≡ false → wants_undo plan (e ∷ past) p ≡ wants_undo plan past p
+  wants_same p apart = λ i. list_any (λ r. is_undo (verdict_same p r apart i)) (roles_of plan p)
 
-  all_aborted_same : (p : ℕ) → member t (roles_of plan p) ≡ true → all_have_aborted plan (e ∷ past) p ≡ all_have_aborted plan past p
-  all_aborted_same p m = λ i. list_all (λ r. aborted_same p r m i) (roles_of plan p)
+  signals_same : (p : ℕ) → is_in kind.Verdict p e ≡ false → (rs : List ℕ) → signals (e ∷ past) p rs ≡ signals past p rs
+  signals_same p apart [] = refl
+  signals_same p apart (r ∷ rs) = let rest = signals_same p apart rs in (λ i. signal_in (verdict_same p r apart i) ++ rest i)
 
   -- ---- the place that t is in
 
@@ -247,7 +287,7 @@ module _ (plan : Plan) (playable : IsPlayable plan) (past : List Entry) (legal :
     round_wakes None u = refl
     round_wakes (Some q) u = role_around q u
 
-    end_apart_by : (k : Kind) (x : Entry) → wakes_by plan k x.place t ≡ false → is_in kind.End p (of_kind k x) ≡ false
+    end_apart_by : (k : Kind) (x : Entry) → Unwoken plan t (e ∷ past) k x → is_in kind.End p (of_kind k x) ≡ false
     end_apart_by kind.End x w = false_from_ne_true _ (λ s.
         both_ways _ w (subst (λ a. is_none (parent plan a) || has_role_in plan t (parent plan a) ≡ true) (sym (eqb-true x.place p s))
         (round_wakes (parent plan p) refl)))
@@ -271,34 +311,28 @@ module _ (plan : Plan) (playable : IsPlayable plan) (past : List Entry) (legal :
     resolved_same : exception_resolved (e ∷ past) p ≡ exception_resolved past p
     resolved_same = λ i. cond (resolve_apart i) (Some e.arg) (exception_resolved past p)
 
-    said : is_in kind.Verdict p e ≡ false
-    said = said_apart plan t e.kind e p unwoken role
-
-    given_same : (r : ℕ) → has_given plan (e ∷ past) p r ≡ has_given plan past p r
-    given_same r =
+    given_same : (r : ℕ) → is_by kind.Verdict p r e ≡ false → has_given plan (e ∷ past) p r ≡ has_given plan past p r
+    given_same r apart =
         λ i. cond (hot_same p role i)
-        (cond (resolve_apart i) false (cond (said i && (e.by == r)) (has kind.Resolve past p) (has_given_after past p r)))
-        ((said i && (e.by == r)) || has_by kind.Verdict past p r)
+        (cond (resolve_apart i) false (cond (apart i) (has kind.Resolve past p) (has_given_after past p r)))
+        (apart i || has_by kind.Verdict past p r)
 
-    all_given_same : all_have_given plan (e ∷ past) p ≡ all_have_given plan past p
-    all_given_same = λ i. list_all (λ r. given_same r i) (roles_of plan p)
+    own_given : has_given plan (e ∷ past) p t ≡ has_given plan past p t
+    own_given = given_same t (own_not kind.Verdict p)
 
-    agreed_same : due_agreed plan (e ∷ past) p t ≡ due_agreed plan past p t
-    agreed_same =
-        λ i. cond (not (all_given_same i)) None
-        (cond (wants_same p role i) (Some (plainly kind.Undo p t)) (due_end plan p t (signals_same p role (roles_of plan p) i)))
+    all_given_same : is_in kind.Verdict p e ≡ false → all_have_given plan (e ∷ past) p ≡ all_have_given plan past p
+    all_given_same apart = λ i. list_all (λ r. given_same r (λ j. apart j && (e.by == r)) i) (roles_of plan p)
 
-    -- ---- all together, and objects that are there
+    agreed_same : is_in kind.Verdict p e ≡ false → due_agreed plan (e ∷ past) p t ≡ due_agreed plan past p t
+    agreed_same apart =
+        λ i. cond (not (all_given_same apart i)) None
+        (cond (wants_same p apart i) (Some (plainly kind.Undo p t)) (due_end plan p t (signals_same p apart (roles_of plan p) i)))
 
-    not_together : all_are_inside plan past p ≡ false → all_are_inside plan (e ∷ past) p ≡ false
-    not_together off = false_from_ne_true _ (λ w.
-        both_ways _ off
-        (all_up (is_inside plan (e ∷ past) p) (is_inside plan past p) (roles_of plan p)
-        (λ r. inside_before plan t e.kind e p (e.by == r) (inside plan past r) unwoken role) w))
+    -- ---- objects that are there
 
     -- an object that goes over to p is its own, and p started earlier; or a place right inside p ended, which wakes t
     held_before : (k : Kind) (x : Entry) (o : ℕ) (was : Option ℕ) → is_in kind.Start p (of_kind k x) ≡ false
-        → wakes_by plan k x.place t ≡ false → same_option (holder_after plan k x.place o was) (Some p) ≡ true
+        → Unwoken plan t (e ∷ past) k x → same_option (holder_after plan k x.place o was) (Some p) ≡ true
         → same_option was (Some p) ≡ true
     held_before kind.Start x o was s w h = by_use (uses plan x.place o) h
       where
@@ -309,7 +343,7 @@ module _ (plan : Plan) (playable : IsPlayable plan) (past : List Entry) (legal :
       where
         by_use : (b : Bool) → same_option (cond b (parent plan x.place) was) (Some p) ≡ true → same_option was (Some p) ≡ true
         by_use true h =
-            absurd (both_ways _ (same_apart plan t (parent plan x.place) p (or_parts (is_none (parent plan x.place)) _ w).1 role) h)
+            absurd (both_ways _ (same_apart plan t (e ∷ past) (parent plan x.place) p (or_parts (is_none (parent plan x.place)) _ w).1 role) h)
         by_use false h = h
     held_before _ x o was s w h = h
 
@@ -336,10 +370,10 @@ module _ (plan : Plan) (playable : IsPlayable plan) (past : List Entry) (legal :
 
         by_parent : (u : Option ℕ) → parent plan p ≡ u → same_option o u ≡ true → ⊥
         by_parent None u h = free o (or_parts (is_none o) _ w).0 h
-        by_parent (Some q) u h = both_ways _ (same_apart plan t o q (or_parts (is_none o) _ w).1 (role_around q u)) h
+        by_parent (Some q) u h = both_ways _ (same_apart plan t (e ∷ past) o q (or_parts (is_none o) _ w).1 (role_around q u)) h
 
     ready_before : (k : Kind) (x : Entry) (o : ℕ) (was : Option ℕ) → Row k plan past (of_kind k x)
-        → wakes_by plan k x.place t ≡ false → same_option (holder_after plan k x.place o was) (parent plan p) ≡ true
+        → Unwoken plan t (e ∷ past) k x → same_option (holder_after plan k x.place o was) (parent plan p) ≡ true
         → same_option was (parent plan p) ≡ true
     ready_before kind.Start x o was row w h = by_use (uses plan x.place o) h
       where
@@ -389,11 +423,17 @@ module _ (plan : Plan) (playable : IsPlayable plan) (past : List Entry) (legal :
     body_on None d =
         ap (due_forward plan (e ∷ past) p t) (step_same p) ∙ forward_on (next_step plan past p t) d
 
+    agreed_on : due_agreed plan past p t ≡ None → due_agreed plan (e ∷ past) p t ≡ None
+    agreed_on d = elim (says_apart plan t (e ∷ past) e.kind e p unwoken role) [
+      | inl apart ↦ agreed_same apart ∙ d
+      | inr still ↦ not_taken _ _ _ still
+    ]
+
     calm_on : due_calm plan past p t ≡ None → due_calm plan (e ∷ past) p t ≡ None
     calm_on d = elim (cases_Bool (has_given plan past p t)) [
-      | inl g ↦ taken _ _ _ (given_same t ∙ g) ∙ agreed_same ∙ sym (taken _ _ _ g) ∙ d
+      | inl g ↦ taken _ _ _ (own_given ∙ g) ∙ agreed_on (sym (taken _ _ _ g) ∙ d)
       | inr g ↦
-          passed _ _ _ (given_same t ∙ g) ∙ ap (due_body plan (e ∷ past) p t) (raise_same p)
+          passed _ _ _ (own_given ∙ g) ∙ ap (due_body plan (e ∷ past) p t) (raise_same p)
           ∙ body_on (next_raise plan past p t) (sym (passed _ _ _ g) ∙ d)
     ]
 
@@ -405,8 +445,8 @@ module _ (plan : Plan) (playable : IsPlayable plan) (past : List Entry) (legal :
 
     resolved_on : (x : ℕ) → due_resolved plan past p t x ≡ None → due_resolved plan (e ∷ past) p t x ≡ None
     resolved_on x d = elim (cases_Bool (has_given plan past p t)) [
-      | inl g ↦ taken _ _ _ (given_same t ∙ g) ∙ agreed_same ∙ sym (taken _ _ _ g) ∙ d
-      | inr g ↦ passed _ _ _ (given_same t ∙ g) ∙ by_handler (cases_Bool (has_handled past p t)) (sym (passed _ _ _ g) ∙ d)
+      | inl g ↦ taken _ _ _ (own_given ∙ g) ∙ agreed_on (sym (taken _ _ _ g) ∙ d)
+      | inr g ↦ passed _ _ _ (own_given ∙ g) ∙ by_handler (cases_Bool (has_handled past p t)) (sym (passed _ _ _ g) ∙ d)
     ]
       where
         by_handler : (has_handled past p t ≡ true) ⊎ (has_handled past p t ≡ false)
@@ -417,8 +457,11 @@ module _ (plan : Plan) (playable : IsPlayable plan) (past : List Entry) (legal :
 
     halted_on : (x : Option ℕ) → due_halted plan past p t x ≡ None → due_halted plan (e ∷ past) p t x ≡ None
     halted_on (Some x) d = resolved_on x d
-    halted_on None d =
-        (λ i. cond (all_halted_same p role i) (due_resolve p t (least_of (internal_of plan p) (raised_same p role i))) None) ∙ d
+    halted_on None d = elim (informs_apart plan t (e ∷ past) e.kind e p unwoken role) [
+      | inl apart ↦
+          (λ i. cond (all_halted_same p role apart i) (due_resolve p t (least_of (internal_of plan p) (raised_same p role i))) None) ∙ d
+      | inr still ↦ passed _ _ _ still
+    ]
 
     runs : (x : Option ℕ) → due_running p t x ≡ None → ⊥
     runs None d = cc
@@ -427,7 +470,7 @@ module _ (plan : Plan) (playable : IsPlayable plan) (past : List Entry) (legal :
     hot_on : due_hot plan past p t ≡ None → due_hot plan (e ∷ past) p t ≡ None
     hot_on d = elim (cases_Bool (is_halted plan past p t)) [
       | inl h ↦
-          not_passed _ _ _ (halted_same p t role ∙ h) ∙ ap (due_halted plan (e ∷ past) p t) resolved_same
+          not_passed _ _ _ (own_halted p ∙ h) ∙ ap (due_halted plan (e ∷ past) p t) resolved_same
           ∙ halted_on (exception_resolved past p) (sym (not_passed _ _ _ h) ∙ d)
       | inr h ↦ absurd (runs (next_raise plan past p t) (sym (not_taken _ _ _ h) ∙ d))
     ]
@@ -435,11 +478,12 @@ module _ (plan : Plan) (playable : IsPlayable plan) (past : List Entry) (legal :
     doomed_on : due_doomed plan past p t ≡ None → due_doomed plan (e ∷ past) p t ≡ None
     doomed_on d = elim (cases_Bool (has_aborted past p t)) [
       | inl a ↦
-          taken _ _ _ (aborted_same p t role ∙ a)
-          ∙ passed _ _ _ (all_aborted_same p role ∙ failed _ _ (sym (taken _ _ _ a) ∙ d))
+          taken _ _ _ (had_same kind.Abort p ∙ a)
+          ∙ passed _ _ _ (not_all_aborted p role (failed _ _ (sym (taken _ _ _ a) ∙ d)))
       | inr a ↦
-          passed _ _ _ (aborted_same p t role ∙ a)
-          ∙ passed _ _ _ (not_together (failed _ _ (sym (passed _ _ _ a) ∙ d)))
+          let apart = failed _ _ (sym (passed _ _ _ a) ∙ d) in
+          passed _ _ _ (had_same kind.Abort p ∙ a)
+          ∙ passed _ _ _ (false_from_ne_true _ (λ w. both_ways _ apart (together_before p role w)))
     ]
 
     waiting_on : due_waiting plan past p t ≡ None → due_waiting plan (e ∷ past) p t ≡ None
@@ -449,10 +493,7 @@ module _ (plan : Plan) (playable : IsPlayable plan) (past : List Entry) (legal :
         passed _ _ _ (doom_same p role ∙ parts.0)
         ∙ passed _ _ _ (false_from_ne_true (all_are_inside plan (e ∷ past) p && objects_are_ready plan (e ∷ past) p) (λ w.
         let both = and_parts (all_are_inside plan (e ∷ past) p) _ w in
-        both_ways _ off (and_from _ _
-        (all_up (is_inside plan (e ∷ past) p) (is_inside plan past p) (roles_of plan p)
-        (λ r. inside_before plan t e.kind e p (e.by == r) (inside plan past r) unwoken role) both.0)
-        (ready_then both.1))))
+        both_ways _ off (and_from _ _ (together_before p role both.0) (ready_then both.1))))
 
     inside_on : due_inside plan past p t ≡ None → due_inside plan (e ∷ past) p t ≡ None
     inside_on d = by_phase (phase_of plan past p) parts.1

@@ -15,6 +15,7 @@ use Rattle.place_plan.specs.RulesOfJournals.Entries.{is_of, is_in, is_by, has, h
 use Rattle.place_plan.specs.RulesOfJournals.Whereabouts.{inside, stays, is_live, has_ended, has_started}
 use Rattle.place_plan.specs.RulesOfJournals.Raising.{exceptions_raised, is_raised, has_handled, all_are_halted, exception_resolved}
 use Rattle.place_plan.specs.RulesOfJournals.Objects.{holder_of, value_of, writes, has_failed}
+use Rattle.place_plan.specs.RulesOfJournals.Roles.{gathers}
 use Rattle.place_plan.specs.RulesOfJournals.Rules.{MayFollow}
 use Rattle.place_plan.specs.RulesOfJournals.Journals.{LegalPast, AllOver, HasNoEntry, is_put, plays_ended, committed_value}
 use Rattle.place_plan.specs.Plans.Bound.{bound}
@@ -90,14 +91,14 @@ wakes_by plan kind.Leave p t = has_role_in plan t (parent plan p)
 wakes_by plan kind.End p t = is_none (parent plan p) || has_role_in plan t (parent plan p)
 wakes_by plan _ p t = false
 
--- the entry may wake t
-abbrev pub wakes : Plan → Entry → ℕ → Bool
-wakes plan e t = wakes_by plan e.kind e.place t
+-- the entry, the newest of the past, may wake t: it gathers the roles of its place, and may bring what t waits for
+abbrev pub wakes : Plan → List Entry → Entry → ℕ → Bool
+wakes plan past e t = gathers plan past e.place e.kind && wakes_by plan e.kind e.place t
 
 -- who has no entry still has none after an entry of somebody else that doesn't wake it
 abbrev pub SleepsOn : Plan → List Entry → Type 0
 SleepsOn plan past =
-    (e : Entry) (t : ℕ) → MayFollow plan past e → (e.by == t) ≡ false → wakes plan e t ≡ false
+    (e : Entry) (t : ℕ) → MayFollow plan past e → (e.by == t) ≡ false → wakes plan (e ∷ past) e t ≡ false
     → HasNoEntry plan past t → HasNoEntry plan (e ∷ past) t
 
 -- ---- stop law

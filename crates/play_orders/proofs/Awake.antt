@@ -81,4 +81,4 @@ unwoken_sleep plan old new t e crew left law legal acts awake sleep leaves s w =
     let other : (e.by == s) ≡ false =
     false_from_ne_true _ (λ same. both_ways _ (subst (λ a. has_bit crew a ≡ false) (sym acts.own ∙ eqb-true e.by s same) awake) kept.0) in
     let past : reverse new ≡ e ∷ reverse old = ap reverse acts.added ∙ reverse-append old (e ∷ []) in
-    subst (λ es. HasNoEntry plan es s) (sym past) (law (reverse old) legal e s acts.may other (kept.1 plan) (sleep s kept.0))
+    subst (λ es. HasNoEntry plan es s) (sym past) (law (reverse old) legal e s acts.may other (kept.1 plan (e ∷ reverse old)) (sleep s kept.0))

@@ -32,6 +32,6 @@ pub record WasAdded (plan : Plan) (old new : List Entry) : Type 0 where
   pub added : new ≡ old ++ entry ∷ []
   pub may : MayFollow plan (reverse old) entry
 
--- the entry wakes t by no plan
+-- the entry wakes t by no plan, whatever came before
 abbrev pub WakesNobody : Entry → ℕ → Type 0
-WakesNobody e t = (plan : Plan) → wakes plan e t ≡ false
+WakesNobody e t = (plan : Plan) (past : List Entry) → wakes plan past e t ≡ false

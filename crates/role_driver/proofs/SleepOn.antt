@@ -22,10 +22,11 @@ one_more_sleeps plan journal crew more t added sleep silent s w = elim (or_cases
 -- those whom the entry of one who was awake doesn't wake
 pub unwoken_sleep : (plan : Plan) (old new : List Entry) (t : ℕ) (e : Entry) (crew left : ℕ) → Holds SleepsOn plan
     → LegalPast plan (reverse old) → Acts plan old new t e → has_bit crew t ≡ false → AllSleep plan old crew
-    → ((s : ℕ) → has_bit left s ≡ true → (has_bit crew s ≡ true) × (wakes plan e s ≡ false)) → AllSleep plan new left
+    → ((s : ℕ) → has_bit left s ≡ true → (has_bit crew s ≡ true) × (wakes plan (reverse new) e s ≡ false)) → AllSleep plan new left
 unwoken_sleep plan old new t e crew left law legal acts awake sleep leaves s w =
     let kept = leaves s w in
     let other : (e.by == s) ≡ false =
     false_from_ne_true _ (λ same. both_ways _ (subst (λ a. has_bit crew a ≡ false) (sym acts.own ∙ eqb-true e.by s same) awake) kept.0) in
     let past : reverse new ≡ e ∷ reverse old = ap reverse acts.added ∙ reverse-append old (e ∷ []) in
-    subst (λ es. HasNoEntry plan es s) (sym past) (law (reverse old) legal e s acts.may other kept.1 (sleep s kept.0))
+    let unwoken = subst (λ es. wakes plan es e s ≡ false) past kept.1 in
+    subst (λ es. HasNoEntry plan es s) (sym past) (law (reverse old) legal e s acts.may other unwoken (sleep s kept.0))

@@ -95,7 +95,7 @@ pub(crate) fn take_turn<M: Machine, G: Gate>(
         match act(machine, by, gate) {
             Some(entry) => {
                 sleeps_on(machine.plan());
-                *asleep = unwoken(machine.plan(), &entry, *asleep);
+                *asleep = unwoken(machine, &entry, *asleep);
                 return true;
             }
             None => *asleep = with(*asleep, by),

@@ -87,8 +87,8 @@ returns-in-Some-clause-sleep g c =
     let law = subst (Holds SleepsOn) (c.plan-in-Some.ensures ∙ same) c.sleeps_on.ensures in
     let awake : has_bit crew by ≡ false = sym c.is_in.ensures ∙ c.if-is_in.false in
     let leaves =
-    subst (λ p. (s : ℕ) → has_bit left s ≡ true → (has_bit crew s ≡ true) × (wakes p c.in-Some.entry s ≡ false))
-    (c.plan-in-Some-2.ensures ∙ same) c.unwoken.ensures in
+    subst (λ p. (s : ℕ) → has_bit left s ≡ true → (has_bit crew s ≡ true) × (wakes p (reverse new) c.in-Some.entry s ≡ false))
+    same c.unwoken.ensures in
     subst (λ p. AllSleep p new left) (sym same)
     (unwoken_sleep plan old new by c.in-Some.entry crew left law (g.met.M.Machine.legal c.args.machine.now) acts awake kept.sleep leaves)
 
