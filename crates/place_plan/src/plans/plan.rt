@@ -322,6 +322,20 @@ impl Plan {
         self.plays.as_slice()
     }
 
+    /// The rows of all actions, as they were drafted.
+    pub fn action_rows(&self) -> &[ActionRow]
+        ensures { result.now ≡ self.now.actions }
+    {
+        self.actions.as_slice()
+    }
+
+    /// The rows of all graphs, as they were drafted.
+    pub fn graph_rows(&self) -> &[GraphRow]
+        ensures { result.now ≡ self.now.graphs }
+    {
+        self.graphs.as_slice()
+    }
+
     /// The places round this one, the innermost first; a play has none.
     pub fn around(&self, place: Place) -> &[Place]
         ensures { result.now ≡ around self.now place }
