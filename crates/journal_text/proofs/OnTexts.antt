@@ -2,9 +2,14 @@
 pub mod TextLemmas
 pub mod ValueLemmas
 pub mod WordLemmas
+pub mod DigitLemmas
 pub mod NamingLemmas
 pub mod WellNamed
+pub mod TokenLemmas
+pub mod FieldTokens
 pub mod EntryLines
+pub mod EntryTokens
+pub mod SeenTokens
 pub mod ReadingLemmas
 pub mod BadLines
 pub mod LineLengths

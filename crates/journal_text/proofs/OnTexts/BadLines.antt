@@ -15,10 +15,9 @@ use Rattle.journal_text.specs.declared.texts.text_reader.TextError.{TextError}
 use Rattle.journal_text.specs.declared.texts.text_reader.TextError.TheVariants as error
 use Rattle.journal_text.specs.Watching.Looks.{Looks, AreInOrder, InOrderFrom, AreOfPlan, IsOfPlan, last_watch}
 use Rattle.journal_text.specs.Texts.Text.{seen_line, closing_lines, first_line, text_of}
-use Rattle.journal_text.specs.inner.Words.{seen_in}
 use Rattle.journal_text.specs.Texts.TextOfJournal.{lines_shared, HasText, IsText, HasTooMany, IsFirstBad, Refuses, Reads, ReadsBack, TextsDiffer}
 use Rattle.journal_text.specs.inner.TextSteps.{BeginsNoEntry, BeginsNoSeen, MayCome, EntriesRead, SeensRead, RefusesAfter}
-use Rattle.journal_text.proofs.OnTexts.EntryLines.{seen_in-line, IsLine, seen_line-is}
+use Rattle.journal_text.proofs.OnTexts.EntryLines.{seen-told, IsLine, seen_line-is}
 use Rattle.journal_text.proofs.OnTexts.ReadingLemmas.{Tells, entry_lines, EachFits, tail_of, tail-no-entry, entries-same, entries-front, entries-shared, front-longest, shared-line, shared-none, shared-nothing, shared-front, shared-no_front}
 
 -- ---- looks
@@ -45,7 +44,7 @@ seens-fit plan seens order watches =
 
 same-seen : (plan : Plan) (s m : Seen) (x y : List ℕ) → Tells plan → IsOfPlan plan s → IsOfPlan plan m
     → seen_line plan s ++ x ≡ seen_line plan m ++ y → s ≡ m
-same-seen plan s m x y t fs fm same = sym (seen_in-line plan s x t.named fs) ∙ ap (seen_in plan) same ∙ seen_in-line plan m y t.named fm
+same-seen plan s m x y t fs fm same = seen-told plan s m x y t.named fs fm same
 
 seens-same : (plan : Plan) (low : ℕ) (ss ms : List Seen) (r : List ℕ) → Tells plan → SeensFit plan low ss
     → SeensFit plan low ms → BeginsNoSeen plan (last_watch low ss) r
@@ -125,8 +124,8 @@ texts-differ plan t limit es js ss ms h k same =
     let rest = append_cancel_left first_line (entry_lines plan es ++ tail_of plan es ss) (entry_lines plan js ++ tail_of plan js ms) cut in
     let entries =
     entries-same plan es js (tail_of plan es ss) (tail_of plan js ms) t (each plan es h.entries)
-    (each plan js k.entries) (tail-no-entry plan es ss t.named t.small)
-    (tail-no-entry plan js ms t.named t.small) rest in
+    (each plan js k.entries) (tail-no-entry plan es ss)
+    (tail-no-entry plan js ms) rest in
     let tails : tail_of plan es ss ≡ tail_of plan es ms = entries.1 ∙ ap (λ ks. tail_of plan ks ms) (sym entries.0) in
     let looks = append_cancel_left (closing_lines plan (reverse es)) (seen_lines plan ss) (seen_lines plan ms) tails in
     let seens =
@@ -158,7 +157,7 @@ first-bad plan limit bytes es r ss number t far fit best other is = record {
   most =
       λ js ms h. within js ms h
       (entries-shared plan es js r (tail_of plan js ms) t (each plan es far.fit) (each plan js h.entries) far.all
-      (tail-no-entry plan js ms t.named t.small));
+      (tail-no-entry plan js ms));
 }
   where
     shared : (js : List Entry) (ms : List Seen)
@@ -187,7 +186,7 @@ first-bad plan limit bytes es r ss number t far fit best other is = record {
         let rest = append_cancel_left first_line (entry_lines plan es ++ r) (entry_lines plan js ++ tail_of plan js ms) cut in
         let two =
         entries-same plan es js r (tail_of plan js ms) t (each plan es far.fit) (each plan js h.fit.entries) far.all
-        (tail-no-entry plan js ms t.named t.small) rest in
+        (tail-no-entry plan js ms) rest in
         other ms h.fit.order h.fit.watches (two.1 ∙ ap (λ ks. tail_of plan ks ms) (sym two.0))
 
     no_more : HasTooMany plan limit bytes → ⊥
@@ -303,7 +302,7 @@ reads-back plan limit bytes (Err (error.TooMany line)) t h js ms k =
     let rest = append_cancel_left first_line (entry_lines plan js ++ tail_of plan js ms) (entry_lines plan h.1.journal ++ h.1.rest) cut in
     let less =
     front-longest plan js h.1.journal (tail_of plan js ms) h.1.rest t (each plan js k.fit.entries)
-    (each plan h.1.journal h.1.entries) (tail-no-entry plan js ms t.named t.small) rest in
+    (each plan h.1.journal h.1.entries) (tail-no-entry plan js ms) rest in
     absurd (omega (arith, less, k.fit.few, h.1.many))
 reads-back plan limit bytes (Err (error.BadLine line)) t h js ms k = absurd (h.none js ms k)
 reads-back plan limit bytes (Err error.OutOfMemory) t h js ms k = refl

@@ -12,8 +12,7 @@ use Rattle.place_plan.specs.Plans.PlanValue.{Plan}
 use Rattle.place_plan.specs.Plans.Places.{no_graph, graph_at, exception_name}
 use Rattle.journal_text.specs.Texts.Naming.{index_among, watch_in, is_own_name, are_names, is_named_graph, is_own_watch, is_well_named}
 use Rattle.journal_text.specs.Texts.Text.{participant_name, object_name, watched_object}
-use Rattle.journal_text.specs.inner.Words.{is_gap}
-use Rattle.journal_text.proofs.OnTexts.WordLemmas.{is_whole}
+use Rattle.journal_text.specs.inner.Tokens.{is_gap, is_whole}
 
 -- ---- a name has no gap
 
@@ -129,6 +128,21 @@ pub range_fail : (test : ℕ → Bool) (from n : ℕ) → from < n → test from
 range_fail test from n within fail =
     let left : n - from ≡ suc (n - (from + 1)) = omega arith in
     rw left (sym (and_left (test from) _ fail))
+
+-- ---- a number that is found has the name
+
+pub index-named : (name_of : ℕ → List ℕ) (word : List ℕ) (from left : ℕ) → index_among name_of word from left < from + left
+    → name_of (index_among name_of word from left) ≡ word
+index-named name_of word from zero low = absurd (omega (arith, low))
+index-named name_of word from (suc left) low =
+    by (bytes_eq (name_of from) word) refl (λ less. index-named name_of word (suc from) left less) low
+  where
+    by : (b : Bool) → bytes_eq (name_of from) word ≡ b
+        → (index_among name_of word (suc from) left < suc from + left → name_of (index_among name_of word (suc from) left) ≡ word)
+        → (if b then from else index_among name_of word (suc from) left) < from + suc left
+        → name_of (if b then from else index_among name_of word (suc from) left) ≡ word
+    by true e later less = (bytes_eq-Decides (name_of from) word).0 e
+    by false e later less = later (omega (arith, less))
 
 -- ---- a plan whose names differ is well named
 

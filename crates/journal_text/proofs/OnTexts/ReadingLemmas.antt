@@ -4,20 +4,21 @@ use Rattle.std.specs.List.{AllByRecursion, flat_map, range_with_len}
 use Rattle.std.proofs.lemmas.Bool.{cond-true, cond-false, cases_eq, cases_Bool, and_parts, eq-eqb, ne_eqb, not-true, false≢true}
 use Rattle.std.proofs.lemmas.Slice.Eq.{bytes_eq-Decides}
 use Rattle.std.specs.Fmt.{signed_decimal}
-use Rattle.std.proofs.lemmas.List.{append_cancel_left, drop_all}
+use Rattle.std.proofs.lemmas.List.{append_cancel_left, drop_all, length-append}
 use Rattle.place_plan.specs.RulesOfJournals.Objects.{value_of}
 use Rattle.caa_base.specs.Written.Lines.{spaced, line}
 use Rattle.caa_base.specs.declared.written.entry.Entry.{Entry}
+use Rattle.caa_base.specs.declared.written.entry.Kind.{Kind}
 use Rattle.place_plan.specs.Plans.PlanValue.{Plan}
 use Rattle.place_plan.specs.RulesOfJournals.WellFormed.{IsWellFormed}
 use Rattle.journal_text.specs.declared.looks.seens.Seen.{Seen}
 use Rattle.journal_text.specs.Texts.Naming.{is_well_named}
-use Rattle.journal_text.specs.Texts.Text.{entry_line, seen_line, object_line, object_words, object_name, watched_object, action_name, ending_words, last_outcome, outcome_line, closing_lines}
-use Rattle.journal_text.specs.inner.Words.{word_in, after_word, kind_in, entry_after, entry_in, seen_in}
+use Rattle.journal_text.specs.Texts.Text.{kind_word, participant_name, field_words, entry_line, seen_line, object_line, object_words, object_name, watched_object, action_name, ending_words, last_outcome, outcome_line, closing_lines}
+use Rattle.journal_text.specs.inner.Tokens.{is_whole, BeginsWithGap}
 use Rattle.journal_text.specs.Texts.TextOfJournal.{lines_shared}
-use Rattle.journal_text.specs.inner.TextSteps.{BeginsNoEntry, BeginsNoSeen, MayCome}
-use Rattle.journal_text.proofs.OnTexts.WordLemmas.{word_in-whole, begins-line, is_whole}
-use Rattle.journal_text.proofs.OnTexts.EntryLines.{entry_in-line, seen_in-line, line-words, IsLine, is_unbroken, entry_line-is}
+use Rattle.journal_text.specs.inner.TextSteps.{BeginsNoEntry}
+use Rattle.journal_text.proofs.OnTexts.WordLemmas.{word-told, begins-line, line-words}
+use Rattle.journal_text.proofs.OnTexts.EntryLines.{kind_in, not_kind, kind-whole, entry-told, IsLine, is_unbroken, entry_line-is}
 
 -- ---- lines that two texts share
 
@@ -111,63 +112,59 @@ shared-end text other i h = ap (lines_shared (drop i text)) (drop_all i other h)
 
 -- ---- what is no entry line
 
-pub no-entry : (plan : Plan) (text : List ℕ) (o : Option Entry) → is_well_named plan ≡ true
-    → length plan.places < 2 ^ 32 → o ≡ entry_in plan text
-    → ((e : Entry) (rest : List ℕ) → o ≡ Some e → IsWellFormed plan e → text ≡ entry_line plan e ++ rest → ⊥) → BeginsNoEntry plan text
-no-entry plan text o h small is n e rest fit same = n e rest (is ∙ ap (entry_in plan) same ∙ entry_in-line plan e rest h small fit) fit same
+-- the text begins with the word of no kind
+abbrev BeginsNoKind : List ℕ → Type 0
+BeginsNoKind text = (k : Kind) (rest : List ℕ) → BeginsWithGap rest → text ≡ kind_word k ++ rest → ⊥
 
-pub no-seen : (plan : Plan) (low : ℕ) (text : List ℕ) (o : Seen) → is_well_named plan ≡ true → o ≡ seen_in plan text
-    → ((s : Seen) (rest : List ℕ) → o ≡ s → MayCome plan low s → text ≡ seen_line plan s ++ rest → ⊥) → BeginsNoSeen plan low text
-no-seen plan low text o h is n s rest fit same = n s rest (is ∙ ap (seen_in plan) same ∙ seen_in-line plan s rest h fit.1) fit same
-
--- no kind has the first word
-no-kind : (plan : Plan) (text : List ℕ) → is_well_named plan ≡ true → length plan.places < 2 ^ 32
-    → kind_in (word_in text) ≡ None → BeginsNoEntry plan text
-no-kind plan text h small none =
-    no-entry plan text None h small (sym (ap (option_map (entry_after plan (after_word text))) none))
-    (λ e rest q fit same. cc)
+no-kind : (plan : Plan) (text : List ℕ) → BeginsNoKind text → BeginsNoEntry plan text
+no-kind plan text none e rest fit same =
+    let words = decimal e.place ∷ participant_name plan e.by ∷ field_words e.kind plan e in
+    none e.kind (spaced words ++ 10 ∷ rest) (begins-line words rest) (same ∙ line-words (kind_word e.kind) words rest)
 
 line-none : (first : List ℕ) (words : List (List ℕ)) (rest : List ℕ) → is_whole first ≡ true → kind_in first ≡ None
-    → kind_in (word_in (line first words ++ rest)) ≡ None
-line-none first words rest whole none =
-    ap (λ t. kind_in (word_in t)) (line-words first words rest)
-    ∙ ap kind_in (word_in-whole first (spaced words ++ 10 ∷ rest) whole (begins-line words rest)) ∙ none
+    → BeginsNoKind (line first words ++ rest)
+line-none first words rest whole none k more gap same =
+    let cut : first ++ (spaced words ++ 10 ∷ rest) ≡ kind_word k ++ more = sym (line-words first words rest) ∙ same in
+    not_kind k first none
+    (sym (word-told first (kind_word k) (spaced words ++ 10 ∷ rest) more whole (kind-whole k) (begins-line words rest) gap cut).0)
 
 lines-none : {A : Type 0} (line_of : A → List ℕ) (xs : List A) (rest : List ℕ)
-    → ((x : A) (more : List ℕ) → kind_in (word_in (line_of x ++ more)) ≡ None) → kind_in (word_in rest) ≡ None
-    → kind_in (word_in (flat_map line_of xs ++ rest)) ≡ None
+    → ((x : A) (more : List ℕ) → BeginsNoKind (line_of x ++ more)) → BeginsNoKind rest
+    → BeginsNoKind (flat_map line_of xs ++ rest)
 lines-none line_of [] rest each none = none
 lines-none line_of (x ∷ xs) rest each none =
-    ap (λ t. kind_in (word_in t)) (append_assoc (line_of x) (flat_map line_of xs) rest)
-    ∙ each x (flat_map line_of xs ++ rest)
+    subst BeginsNoKind (sym (append_assoc (line_of x) (flat_map line_of xs) rest)) (each x (flat_map line_of xs ++ rest))
+
+nothing-none : BeginsNoKind []
+nothing-none k [] gap same = gap
+nothing-none k (b ∷ rest) gap same = absurd (omega (arith, ap length same, length-append (kind_word k) (b ∷ rest)))
 
 -- what follows the entries in a text
 abbrev pub tail_of : Plan → List Entry → List Seen → List ℕ
 tail_of plan journal seens = closing_lines plan (reverse journal) ++ flat_map (seen_line plan) seens
 
-seens-none : (plan : Plan) (seens : List Seen) → kind_in (word_in (flat_map (seen_line plan) seens)) ≡ None
-seens-none plan [] = refl
+seens-none : (plan : Plan) (seens : List Seen) → BeginsNoKind (flat_map (seen_line plan) seens)
+seens-none plan [] = nothing-none
 seens-none plan (s ∷ seens) =
     line-none (codes "seen")
     (object_name plan (watched_object plan s.watch) ∷ decimal s.ends ∷ signed_decimal s.value ∷ [])
     (flat_map (seen_line plan) seens) refl refl
 
-tail-none : (plan : Plan) (journal : List Entry) (seens : List Seen) → kind_in (word_in (tail_of plan journal seens)) ≡ None
+tail-none : (plan : Plan) (journal : List Entry) (seens : List Seen) → BeginsNoKind (tail_of plan journal seens)
 tail-none plan journal seens =
     let past = reverse journal in
     let objects = flat_map (object_line plan past) (range_with_len 0 (length plan.objects)) in
     let outcomes = flat_map (outcome_line plan past) (range_with_len 0 (length plan.places)) in
     let rest = flat_map (seen_line plan) seens in
-    ap (λ t. kind_in (word_in t)) (append_assoc objects outcomes rest)
-    ∙ lines-none (object_line plan past) (range_with_len 0 (length plan.objects)) (outcomes ++ rest)
+    subst BeginsNoKind (sym (append_assoc objects outcomes rest))
+    (lines-none (object_line plan past) (range_with_len 0 (length plan.objects)) (outcomes ++ rest)
     (λ o more. line-none (codes "object") (object_words plan o (value_of plan past o)) more refl refl)
     (lines-none (outcome_line plan past) (range_with_len 0 (length plan.places)) rest
     (λ p more. line-none (codes "outcome") (decimal p ∷ action_name plan p ∷ ending_words plan p (last_outcome past p)) more refl refl)
-    (seens-none plan seens))
+    (seens-none plan seens)))
 
-pub tail-no-entry : (plan : Plan) (journal : List Entry) (seens : List Seen) → is_well_named plan ≡ true
-    → length plan.places < 2 ^ 32 → BeginsNoEntry plan (tail_of plan journal seens)
-tail-no-entry plan journal seens h small = no-kind plan (tail_of plan journal seens) h small (tail-none plan journal seens)
+pub tail-no-entry : (plan : Plan) (journal : List Entry) (seens : List Seen) → BeginsNoEntry plan (tail_of plan journal seens)
+tail-no-entry plan journal seens = no-kind plan (tail_of plan journal seens) (tail-none plan journal seens)
 
 -- ---- entries
 
@@ -184,10 +181,7 @@ EachFits plan entries = AllByRecursion (IsWellFormed plan) entries
 
 same-entry : (plan : Plan) (e j : Entry) (x y : List ℕ) → Tells plan → IsWellFormed plan e → IsWellFormed plan j
     → entry_line plan e ++ x ≡ entry_line plan j ++ y → e ≡ j
-same-entry plan e j x y t fe fj same =
-    let q : Some e ≡ Some j =
-    sym (entry_in-line plan e x t.named t.small fe) ∙ ap (entry_in plan) same
-    ∙ entry_in-line plan j y t.named t.small fj in cc
+same-entry plan e j x y t fe fj same = entry-told plan e j x y t.named t.small fe fj same
 
 pub entries-same : (plan : Plan) (es js : List Entry) (r x : List ℕ) → Tells plan → EachFits plan es → EachFits plan js
     → BeginsNoEntry plan r → BeginsNoEntry plan x

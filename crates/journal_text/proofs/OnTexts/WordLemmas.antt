@@ -1,58 +1,82 @@
--- Words, numbers and names that were written are taken out of a line again.
-use Rattle.std.proofs.Common.{◌≡◌, ℕ, ℤ, pos, negsuc, ◌<◌, ◌≤◌, ◌+◌, ◌-◌, ◌%◌, ◌^◌, Bool, true, false, not, List, [], ◌∷◌, ◌++◌, bytes_eq, decimal, refl, sym, ap, ◌∙◌, arith, rules, suc, add-one, append_assoc}
+-- Words up to a gap: a text tells each of them, and what follows it.
+use Rattle.std.proofs.Common.{◌≡◌, ℕ, ℤ, pos, negsuc, ◌<◌, ◌≤◌, ◌+◌, ◌-◌, ◌%◌, ◌^◌, Bool, true, false, not, List, [], ◌∷◌, ◌++◌, bytes_eq, decimal, refl, sym, ap, ◌∙◌, subst, arith, suc, add-one, append_assoc, append-nil}
 use Rattle.std.specs.List.{list_all}
 use Rattle.std.specs.Fmt.{signed_decimal}
-use Rattle.std.specs.Str.Parse.{AllDigits}
-use Rattle.std.proofs.lemmas.Bool.{cond-true, cond-false, and_parts, and_from, le-leb, not-true}
+use Rattle.std.proofs.lemmas.Bool.{cond-false, and_parts, and_from, not-true, false≢true}
 use Rattle.std.proofs.lemmas.Bool.Decides.{nat_tests}
-use Rattle.std.proofs.lemmas.Fmt.{decimal_by_steps, digits_value-decimal}
-use Rattle.std.proofs.lemmas.Str.Parse.{IsNumeralModel, numerals_by_fold, tells_digits}
+use Rattle.std.proofs.lemmas.Fmt.{decimal_by_steps}
 use Rattle.std.proofs.lemmas.Int.{ints}
-use Rattle.caa_base.specs.Written.Lines.{spaced, digits_after}
+use Rattle.caa_base.specs.Written.Lines.{spaced, line}
 use Rattle.caa_base.specs.Written.Limits.{IsValue}
 use Rattle.journal_text.specs.Texts.Naming.{index_among}
-use Rattle.journal_text.specs.inner.Words.{is_gap, word_in, after_word, next_word, after_next, number_in}
+use Rattle.journal_text.specs.inner.Tokens.{is_gap, is_whole, BeginsWithGap}
 
 -- ---- words
 
--- no gap stands in the word
-abbrev pub is_whole : List ℕ → Bool
-is_whole word = list_all (λ b. not (is_gap b)) word
+no_gap_inside : (b : ℕ) (rest : List ℕ) → is_whole (b ∷ rest) ≡ true → is_gap b ≡ true → ⊥
+no_gap_inside b rest w g = false≢true (sym (not-true (is_gap b) (and_parts (not (is_gap b)) (is_whole rest) w).0) ∙ g)
 
--- a gap stands first
-abbrev pub Begins : List ℕ → Type 0
-Begins [] = ⊥
-Begins (b ∷ text) = is_gap b ≡ true
+rest_whole : (b : ℕ) (rest : List ℕ) → is_whole (b ∷ rest) ≡ true → is_whole rest ≡ true
+rest_whole b rest w = (and_parts (not (is_gap b)) (is_whole rest) w).1
 
-pub word_in-whole : (word text : List ℕ) → is_whole word ≡ true → Begins text → word_in (word ++ text) ≡ word
-word_in-whole [] [] w g = absurd g
-word_in-whole [] (b ∷ text) w g = cond-true (is_gap b) _ _ g
-word_in-whole (c ∷ word) text w g =
-    let p = and_parts (not (is_gap c)) (is_whole word) w in
-    cond-false (is_gap c) [] (c ∷ word_in (word ++ text)) (not-true (is_gap c) p.0) ∙ ap (λ rest. c ∷ rest) (word_in-whole word text p.1 g)
+-- a whole word that stands in front is a front of any word that stands there up to a gap
+pub front-told : (w v x y : List ℕ) → is_whole w ≡ true → BeginsWithGap y → w ++ x ≡ v ++ y
+    → (z : List ℕ) × (v ≡ w ++ z) × (x ≡ z ++ y)
+front-told [] v x y h g e = (v, refl, e)
+front-told (b ∷ w) [] x y h g e = absurd (no_gap_inside b w h (subst BeginsWithGap (sym e) g))
+front-told (b ∷ w) (c ∷ v) x y h g e =
+    let first : b ≡ c = cc in
+    let same : w ++ x ≡ v ++ y = cc in
+    let told = front-told w v x y (rest_whole b w h) g same in
+    let is : v ≡ w ++ told.0 = told.1 in
+    (told.0, cc, told.2)
 
-pub after_word-whole : (word text : List ℕ) → is_whole word ≡ true → Begins text → after_word (word ++ text) ≡ text
-after_word-whole [] [] w g = absurd g
-after_word-whole [] (b ∷ text) w g = cond-true (is_gap b) _ _ g
-after_word-whole (c ∷ word) text w g =
-    let p = and_parts (not (is_gap c)) (is_whole word) w in
-    cond-false (is_gap c) (c ∷ (word ++ text)) (after_word (word ++ text)) (not-true (is_gap c) p.0) ∙ after_word-whole word text p.1 g
+-- a text tells the word in front of it, up to a gap
+pub word-told : (w v x y : List ℕ) → is_whole w ≡ true → is_whole v ≡ true → BeginsWithGap x → BeginsWithGap y
+    → w ++ x ≡ v ++ y → (w ≡ v) × (x ≡ y)
+word-told [] [] x y hw hv gx gy e = (refl, e)
+word-told [] (c ∷ v) x y hw hv gx gy e = absurd (no_gap_inside c v hv (subst BeginsWithGap e gx))
+word-told (b ∷ w) [] x y hw hv gx gy e = absurd (no_gap_inside b w hw (subst BeginsWithGap (sym e) gy))
+word-told (b ∷ w) (c ∷ v) x y hw hv gx gy e =
+    let first : b ≡ c = cc in
+    let same : w ++ x ≡ v ++ y = cc in
+    let told = word-told w v x y (rest_whole b w hw) (rest_whole c v hv) gx gy same in
+    let is : w ≡ v = told.0 in
+    (cc, told.1)
+
+-- ---- lines of words
 
 -- the rest of a line of words begins with a gap
-pub begins-line : (words : List (List ℕ)) (text : List ℕ) → Begins (spaced words ++ 10 ∷ text)
+pub begins-line : (words : List (List ℕ)) (text : List ℕ) → BeginsWithGap (spaced words ++ 10 ∷ text)
 begins-line [] text = refl
 begins-line (word ∷ words) text = refl
 
-pub next_word-line : (word : List ℕ) (words : List (List ℕ)) (text : List ℕ) → is_whole word ≡ true
-    → next_word (spaced (word ∷ words) ++ 10 ∷ text) ≡ word
-next_word-line word words text w =
-    ap word_in (append_assoc word (spaced words) (10 ∷ text)) ∙ word_in-whole word (spaced words ++ 10 ∷ text) w (begins-line words text)
+-- a word after a space, and what follows it in a line
+pub next-word : (word : List ℕ) (words : List (List ℕ)) (text : List ℕ)
+    → spaced (word ∷ words) ++ 10 ∷ text ≡ 32 ∷ word ++ (spaced words ++ 10 ∷ text)
+next-word word words text = ap (λ t. 32 ∷ t) (append_assoc word (spaced words) (10 ∷ text))
 
-pub after_next-line : (word : List ℕ) (words : List (List ℕ)) (text : List ℕ) → is_whole word ≡ true
-    → after_next (spaced (word ∷ words) ++ 10 ∷ text) ≡ spaced words ++ 10 ∷ text
-after_next-line word words text w =
-    ap after_word (append_assoc word (spaced words) (10 ∷ text))
-    ∙ after_word-whole word (spaced words ++ 10 ∷ text) w (begins-line words text)
+-- a line and what follows it, as words
+pub line-words : (first : List ℕ) (words : List (List ℕ)) (more : List ℕ) → line first words ++ more ≡ first ++ (spaced words ++ 10 ∷ more)
+line-words first words more = append_assoc (first ++ spaced words) (10 ∷ []) more ∙ append_assoc first (spaced words) (10 ∷ more)
+
+-- a text tells the words of the line with which it begins
+pub words-told : (ws vs : List (List ℕ)) (x y : List ℕ) → list_all is_whole ws ≡ true → list_all is_whole vs ≡ true
+    → spaced ws ++ 10 ∷ x ≡ spaced vs ++ 10 ∷ y → (ws ≡ vs) × (x ≡ y)
+words-told [] [] x y hw hv e = (refl, cc)
+words-told [] (v ∷ vs) x y hw hv e = cc
+words-told (w ∷ ws) [] x y hw hv e = cc
+words-told (w ∷ ws) (v ∷ vs) x y hw hv e =
+    let one = and_parts (is_whole w) (list_all is_whole ws) hw in
+    let two = and_parts (is_whole v) (list_all is_whole vs) hv in
+    let whole : 32 ∷ w ++ (spaced ws ++ 10 ∷ x) ≡ 32 ∷ v ++ (spaced vs ++ 10 ∷ y) = sym (next-word w ws x) ∙ e ∙ next-word v vs y in
+    let same : w ++ (spaced ws ++ 10 ∷ x) ≡ v ++ (spaced vs ++ 10 ∷ y) = cc in
+    let told =
+    word-told w v (spaced ws ++ 10 ∷ x) (spaced vs ++ 10 ∷ y) one.0 two.0 (begins-line ws x) (begins-line vs y) same in
+    let later = words-told ws vs x y one.1 two.1 told.1 in
+    let first : w ≡ v = told.0 in
+    let rest : ws ≡ vs = later.0 in
+    (cc, later.1)
 
 -- ---- numbers
 
@@ -71,14 +95,6 @@ whole-decimal n h =
 pub whole-signed : (z : ℤ) → IsValue z → is_whole (signed_decimal z) ≡ true
 whole-signed (pos n) h = whole-decimal n (omega (arith, ints, h.1))
 whole-signed (negsuc n) h = whole-decimal (suc n) (omega (arith, ints, h.0))
-
-own : IsNumeralModel (AllDigits 10) (digits_after 0)
-own = numerals_by_fold (AllDigits 10) tells_digits digits_after (search rules)
-
-pub number_in-decimal : (most n : ℕ) → n ≤ most → n < 2 ^ 64 → number_in most (decimal n) ≡ n
-number_in-decimal most n fits small =
-    let is : digits_after 0 (decimal n) ≡ n = digits_value-decimal own n small in
-    rw (is, le-leb n most fits) refl
 
 -- ---- names
 

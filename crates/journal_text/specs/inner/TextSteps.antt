@@ -1,10 +1,9 @@
 -- What each step of reading a text finds.
-use Rattle.std.specs.Prelude.{◌≡◌, ◌≤◌, ◌<◌, ◌+◌, ℕ, suc, List, ◌++◌, length, Option, Some, None, MatchOption}
+use Rattle.std.specs.Prelude.{◌≡◌, ◌≤◌, ◌+◌, ℕ, suc, List, ◌++◌, length, Option, Some, None, MatchOption}
 use Rattle.std.specs.List.{flat_map}
 use Rattle.caa_base.specs.declared.written.entry.Entry.{Entry}
 use Rattle.place_plan.specs.Plans.PlanValue.{Plan}
 use Rattle.place_plan.specs.RulesOfJournals.WellFormed.{IsWellFormed, AllWellFormed}
-use Rattle.caa_base.specs.Written.Limits.{IsValue}
 use Rattle.journal_text.specs.declared.looks.seens.Seen.{Seen}
 use Rattle.journal_text.specs.declared.texts.text_reader.TextError.{TextError}
 use Rattle.journal_text.specs.declared.texts.text_reader.TextError.TheVariants as error
@@ -23,10 +22,6 @@ BeginsNoEntry plan text = (e : Entry) (rest : List ℕ) → IsWellFormed plan e 
 -- a look that may come where this is the least watch
 abbrev pub MayCome : Plan → ℕ → Seen → Type 0
 MayCome plan low s = (low ≤ s.watch) × IsOfPlan plan s
-
--- the same but for the number of plays that had ended
-abbrev pub MayStand : Plan → ℕ → Seen → Type 0
-MayStand plan low s = (low ≤ s.watch) × (s.watch < length plan.watches) × IsValue s.value
 
 -- the text doesn't begin with the line of such a look
 abbrev pub BeginsNoSeen : Plan → ℕ → List ℕ → Type 0

@@ -1,35 +1,43 @@
-ghost use Rattle.std.specs.Prelude.{◌≡◌, ◌<◌, ◌↔◌, IsTrue, length};
+ghost use Rattle.std.specs.Prelude.{◌≡◌, ◌<◌, ◌∷◌, true, length, option_map};
 ghost use Rattle.journal_text.specs.Texts.Text.{object_name, watched_object};
-ghost use Rattle.journal_text.specs.Texts.Naming.{watch_in};
-ghost use Rattle.journal_text.specs.inner.Words.{seen_in};
-ghost use Rattle.journal_text.specs.inner.TextSteps.{MayStand};
+ghost use Rattle.journal_text.specs.Texts.Naming.{is_well_named, watch_in};
+ghost use Rattle.journal_text.specs.inner.TextSteps.{SeenFound};
+ghost use Rattle.journal_text.specs.inner.Tokens.{TokenRead};
 
 use crate::looks::seens::Seen;
 use crate::texts::text_writer::object_name;
-use crate::texts::words::{next_word, number_in, split_word, value_in};
-use caa_base::written::limits::is_value;
+use crate::texts::tokens::{after_byte, after_front, number_at, value_at, word_after_space};
 use place_plan::plans::plan::Plan;
 
-/// The look that a text seems to begin with. Whether it does is seen by writing the look again.
-pub fn seen_in(plan: &Plan, text: &[u8]) -> Seen
-    ensures { result ≡ seen_in plan.now text.now }
+/// The look whose line a text begins with, where its watch is none before the least, and the rest of the text.
+pub fn seen_at<'a>(plan: &Plan, least: u32, text: &'a [u8]) -> Option<(Seen, &'a [u8])>
+    requires { is_well_named plan.now ≡ true }
+    ensures { SeenFound plan.now least text.now (option_map (λ r. (r.0, r.1.now)) result) }
 {
-    let (_, rest) = split_word(text);
-    let (name, rest) = next_word(rest);
-    let (ends, rest) = next_word(rest);
-    let (value, _) = next_word(rest);
-    Seen {
-        watch: watch_in(plan, name),
-        ends: number_in(ends, u64::MAX),
-        value: value_in(value),
+    let fields = after_front(text, b"seen")?;
+    let (watch, text) = watch_at(plan, fields)?;
+    let (ends, text) = number_at(text, u64::MAX)?;
+    let (value, text) = value_at(text)?;
+    let rest = after_byte(text, b'\n')?;
+    if watch < least {
+        return None;
     }
+    Some((Seen { watch, ends, value }, rest))
 }
 
-/// Whether a look may stand where this is the least watch.
-pub fn may_stand(plan: &Plan, least: u32, seen: &Seen) -> bool
-    ensures { IsTrue result ↔ MayStand plan.now least seen.now }
+/// The watch whose object's name stands after a space.
+fn watch_at<'a>(plan: &Plan, text: &'a [u8]) -> Option<(u32, &'a [u8])>
+    requires { is_well_named plan.now ≡ true }
+    ensures { TokenRead (λ r. r.now) (λ w. w < length plan.now.watches) (λ w. 32 ∷ object_name plan.now (watched_object plan.now w))
+        text.now result }
 {
-    least <= seen.watch && seen.watch < plan.watches() && is_value(seen.value)
+    let (word, rest) = word_after_space(text)?;
+    let watch = watch_in(plan, word);
+    if watch < plan.watches() {
+        Some((watch, rest))
+    } else {
+        None
+    }
 }
 
 /// The watch whose object has this name, or a number past the last one.

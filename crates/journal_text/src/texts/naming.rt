@@ -6,7 +6,7 @@ ghost use Rattle.journal_text.specs.Texts.Text.{participant_name, object_name};
 ghost use Rattle.journal_text.specs.Texts.Naming.{is_own_name, are_names, is_named_graph, is_own_watch, is_well_named};
 
 use crate::looks::seen_line::{watch_in, watched_name};
-use crate::texts::entry_line::{exception_in, object_in, participant_in};
+use crate::texts::name_tokens::{exception_in, object_in, participant_in};
 use caa_base::written::entry::{Exception, Object, Participant};
 use caa_base::written::name::is_name;
 use place_plan::plans::plan::Plan;

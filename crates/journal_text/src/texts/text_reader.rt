@@ -1,20 +1,20 @@
-ghost use Rattle.std.specs.Prelude.{◌≡◌, ◌≤◌, [], true, ◌<◌, length, reverse, option_map, IfOk, IfErr};
+ghost use Rattle.std.specs.Prelude.{◌≡◌, ◌≤◌, [], true, length, reverse, IfOk, IfErr};
 ghost use Rattle.caa_base.specs.declared.written.entry.OutOfMemory.{OutOfMemory};
-ghost use Rattle.place_plan.specs.RulesOfJournals.WellFormed.{IsWellFormed, AllWellFormed};
+ghost use Rattle.place_plan.specs.RulesOfJournals.WellFormed.{AllWellFormed};
 ghost use Rattle.journal_text.specs.Texts.Naming.{is_well_named};
 ghost use Rattle.journal_text.specs.Texts.Text.{text_of};
 ghost use Rattle.journal_text.specs.Watching.Looks.{AreOfPlan};
 ghost use Rattle.journal_text.specs.Texts.TextOfJournal.{lines_shared, Reads, ReadsBack, TextsDiffer};
-ghost use Rattle.journal_text.specs.inner.TextSteps.{IsAfter, EntryFound, SeenFound, EntriesRead, SeensRead, StopsEntries, RefusesAfter};
+ghost use Rattle.journal_text.specs.inner.TextSteps.{EntriesRead, SeensRead, StopsEntries, RefusesAfter};
 
-use crate::looks::seen_line::{may_stand, seen_in};
+use crate::looks::seen_line::seen_at;
 use crate::looks::seens::{Seen, Seens};
-use crate::texts::entry_line::entry_in;
-use crate::texts::text_writer::{push_closing, push_entry, push_seen, write_text};
+use crate::texts::entry_at::entry_at;
+use crate::texts::text_writer::{push_closing, write_text};
+use crate::texts::tokens::after_front;
 use caa_base::written::entry::{Entry, OutOfMemory};
 use caa_base::written::journal::Journal;
 use place_plan::plans::plan::Plan;
-use place_plan::rules::well_formed::is_well_formed;
 use std::alloc::{AllocError, AllocFailed, Global};
 use thiserror::Error;
 
@@ -63,61 +63,6 @@ impl From<OutOfMemory> for TextError {
     }
 }
 
-/// What a text is left as after this front, where it begins with that.
-fn after_front<'a>(text: &'a [u8], front: &[u8]) -> Option<&'a [u8]>
-    ensures { IsAfter (λ r. r.now) front.now text.now result }
-{
-    text.strip_prefix(front)
-}
-
-/// The well-formed entry whose line a text begins with, and the rest of the text. The line is written again into `line`, whose
-/// memory serves one line after another.
-fn next_entry<'a>(
-    plan: &Plan,
-    text: &'a [u8],
-    line: &mut Vec<u8>,
-) -> Result<Option<(Entry, &'a [u8])>, OutOfMemory>
-    requires { is_well_named plan.now ≡ true }
-    ensures { IfOk result (λ found. EntryFound plan.now text.now (option_map (λ r. (r.0, r.1.now)) found)) }
-{
-    plan.places();
-    let Some(entry) = entry_in(plan, text) else {
-        return Ok(None);
-    };
-    if !is_well_formed(plan, &entry) {
-        return Ok(None);
-    }
-    line.clear();
-    push_entry(line, plan, &entry)?;
-    match after_front(text, line.as_slice()) {
-        Some(rest) => Ok(Some((entry, rest))),
-        None => Ok(None),
-    }
-}
-
-/// The look whose line a text begins with, where its watch is none before the least, and the rest of the text. The line is written
-/// again into `line`, whose memory serves one line after another.
-fn next_seen<'a>(
-    plan: &Plan,
-    text: &'a [u8],
-    least: u32,
-    line: &mut Vec<u8>,
-) -> Result<Option<(Seen, &'a [u8])>, OutOfMemory>
-    requires { is_well_named plan.now ≡ true }
-    ensures { IfOk result (λ found. SeenFound plan.now least text.now (option_map (λ r. (r.0, r.1.now)) found)) }
-{
-    let seen = seen_in(plan, text);
-    if !may_stand(plan, least, &seen) {
-        return Ok(None);
-    }
-    line.clear();
-    push_seen(line, plan, &seen)?;
-    match after_front(text, line.as_slice()) {
-        Some(rest) => Ok(Some((seen, rest))),
-        None => Ok(None),
-    }
-}
-
 /// All entries whose lines a text begins with, and the rest of the text; or that there are more than the limit.
 fn read_entries<'a>(
     alloc: Global,
@@ -131,8 +76,7 @@ fn read_entries<'a>(
 {
     let mut entries = Vec::new(alloc);
     let mut rest = text;
-    let mut line = Vec::new(alloc);
-    while let Some((entry, after)) = next_entry(plan, rest, &mut line)? {
+    while let Some((entry, after)) = entry_at(plan, rest) {
         if entries.len() as u64 == limit {
             return Err(TextError::TooMany { line: limit + 2 });
         }
@@ -154,8 +98,7 @@ fn read_seens<'a>(
     let mut seens = Vec::new(alloc);
     let mut rest = text;
     let mut least = 0;
-    let mut line = Vec::new(alloc);
-    while let Some((seen, after)) = next_seen(plan, rest, least, &mut line)? {
+    while let Some((seen, after)) = seen_at(plan, least, rest) {
         seens.push(seen)?;
         rest = after;
         least = seen.watch;

@@ -243,7 +243,7 @@ fn push_ending(
 }
 
 /// Adds the line of a look.
-pub(crate) fn push_seen(text: &mut Vec<u8>, plan: &Plan, seen: &Seen) -> Result<(), OutOfMemory>
+fn push_seen(text: &mut Vec<u8>, plan: &Plan, seen: &Seen) -> Result<(), OutOfMemory>
     requires { seen.now.watch < length plan.now.watches }
     ensures { OnOk result (text.new.items ≡ text.old.items ++ seen_line plan.now seen.now) }
 {

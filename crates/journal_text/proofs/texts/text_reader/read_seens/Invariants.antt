@@ -4,11 +4,11 @@ use Rattle.journal_text.specs.Watching.Looks.{AreInOrder, AreOfPlan, last_watch}
 use Rattle.journal_text.specs.Texts.Text.{seen_line}
 use Rattle.journal_text.proofs.texts.text_reader.read_seens.Given as goal
 
-abbrev pub decreases-loop-line : goal.decreases-loop-line
-decreases-loop-line l = length l.rest
+abbrev pub decreases-loop-seen : goal.decreases-loop-seen
+decreases-loop-seen l = length l.rest
 
-abbrev pub invariant-loop-line : goal.invariant-loop-line
-invariant-loop-line l = record {
+abbrev pub invariant-loop-seen : goal.invariant-loop-seen
+invariant-loop-seen l = record {
   order : AreInOrder l.seens.items;
   fit : AreOfPlan l.plan l.seens.items;
   least : l.least ≡ last_watch 0 l.seens.items;
