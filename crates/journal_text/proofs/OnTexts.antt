@@ -13,3 +13,5 @@ pub mod SeenTokens
 pub mod ReadingLemmas
 pub mod BadLines
 pub mod LineLengths
+pub mod ShortLines
+pub mod BlockLemmas

@@ -6,6 +6,7 @@ pub(crate) mod kind_tokens;
 pub(crate) mod line_room;
 pub(crate) mod name_tokens;
 pub mod naming;
+pub mod text_blocks;
 pub mod text_reader;
 pub mod text_writer;
 pub(crate) mod tokens;

@@ -1,5 +1,5 @@
 -- Numbers as they are spelled: what the digits in front of a text say of a number, and the other way round.
-use Rattle.std.proofs.Common.{◌≡◌, ℕ, ℤ, pos, negsuc, neg_ℤ, ◌+◌, ◌-◌, ◌*◌, ◌<◌, ◌≤◌, ◌^◌, ◌%◌, Bool, true, false, not, List, [], ◌∷◌, ◌++◌, length, take, drop, get_or, decimal, Option, Some, None, to_z, of_z, w64, refl, sym, ap, ◌∙◌, subst, arith, inl, inr, suc, zero, get_or-take, append-nil}
+use Rattle.std.proofs.Common.{◌≡◌, ℕ, ℤ, pos, negsuc, neg_ℤ, ◌+◌, ◌-◌, ◌*◌, ◌<◌, ◌≤◌, ◌^◌, ◌%◌, true, false, not, List, [], ◌∷◌, ◌++◌, length, take, drop, get_or, decimal, Some, None, to_z, of_z, w64, refl, sym, ap, ◌∙◌, subst, arith, inl, inr, suc, zero, get_or-take, append-nil}
 use Rattle.std.specs.Fmt.{signed_decimal}
 use Rattle.std.specs.Str.Parse.{AllDigits, digits_value}
 use Rattle.std.proofs.lemmas.Bool.{cases_lt, and_from, false≢true}

@@ -1,5 +1,5 @@
 -- The line of an entry: that it tells the entry, and that it is one whole line.
-use Rattle.std.proofs.Common.{◌≡◌, ℕ, ℤ, pos, negsuc, ◌<◌, ◌≤◌, ◌+◌, ◌%◌, ◌^◌, ◌==◌, Bool, true, false, cond, not, List, [], ◌∷◌, ◌++◌, length, bytes_eq, codes, decimal, Option, Some, None, refl, sym, ap, ◌∙◌, subst, arith, suc, zero, append_assoc}
+use Rattle.std.proofs.Common.{◌≡◌, ℕ, ℤ, pos, negsuc, ◌<◌, ◌^◌, ◌==◌, Bool, true, false, cond, not, List, [], ◌∷◌, ◌++◌, length, bytes_eq, codes, decimal, Option, Some, None, refl, sym, ap, ◌∙◌, subst, arith, suc, zero}
 use Rattle.std.specs.List.{list_all, find}
 use Rattle.std.specs.Fmt.{signed_decimal}
 use Rattle.std.proofs.lemmas.Bool.{and_from, and_parts, or_parts, not-true, not_from_false, false≢true}

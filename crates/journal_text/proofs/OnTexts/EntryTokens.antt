@@ -1,5 +1,5 @@
 -- What the tokens of a line tell of the entry.
-use Rattle.std.proofs.Common.{◌≡◌, ℕ, ◌<◌, ◌^◌, true, List, [], ◌∷◌, ◌++◌, length, decimal, Option, Some, None, refl, sym, ap, ◌∙◌, subst, arith}
+use Rattle.std.proofs.Common.{◌≡◌, ℕ, ◌<◌, ◌^◌, true, List, ◌∷◌, ◌++◌, length, decimal, Option, Some, None, sym, ap, ◌∙◌, subst, arith}
 use Rattle.std.specs.Option.{option_map}
 use Rattle.std.proofs.lemmas.Fmt.{decimal_injective}
 use Rattle.caa_base.specs.Written.Lines.{spaced}
@@ -10,7 +10,7 @@ use Rattle.place_plan.specs.RulesOfJournals.WellFormed.{FieldsFit, IsWellFormed}
 use Rattle.journal_text.specs.Texts.Naming.{is_well_named}
 use Rattle.journal_text.specs.Texts.Text.{participant_name, kind_word, field_words, entry_line}
 use Rattle.journal_text.specs.inner.TextSteps.{BeginsNoEntry, EntryFound}
-use Rattle.journal_text.specs.inner.Tokens.{BeginsWithGap, IsOf, TokenRead, LineRead}
+use Rattle.journal_text.specs.inner.Tokens.{IsOf, TokenRead, LineRead}
 use Rattle.journal_text.proofs.OnTexts.WordLemmas.{word-told, begins-line, line-words, whole-decimal}
 use Rattle.journal_text.proofs.OnTexts.NamingLemmas.{participants-named}
 use Rattle.journal_text.proofs.OnTexts.TokenLemmas.{rest_of, first-there, passed, joined}

@@ -1,5 +1,5 @@
 -- What bytes share with texts, and that a text tells its journal.
-use Rattle.std.proofs.Common.{◌≡◌, ℕ, ◌<◌, ◌≤◌, ◌+◌, ◌^◌, ◌==◌, true, false, cond, not, List, [], ◌∷◌, ◌++◌, length, reverse, codes, bytes_eq, Option, Some, None, option_map, refl, sym, ap, ◌∙◌, subst, inl, inr, ◌⊎◌, arith, suc, append_assoc, drop, decimal}
+use Rattle.std.proofs.Common.{◌≡◌, ℕ, ◌<◌, ◌≤◌, ◌+◌, ◌^◌, ◌==◌, true, false, cond, not, List, [], ◌∷◌, ◌++◌, length, reverse, codes, bytes_eq, None, refl, sym, ap, ◌∙◌, subst, inl, inr, ◌⊎◌, arith, suc, append_assoc, drop, decimal}
 use Rattle.std.specs.List.{AllByRecursion, flat_map, range_with_len}
 use Rattle.std.proofs.lemmas.Bool.{cond-true, cond-false, cases_eq, cases_Bool, and_parts, eq-eqb, ne_eqb, not-true, false≢true}
 use Rattle.std.proofs.lemmas.Slice.Eq.{bytes_eq-Decides}

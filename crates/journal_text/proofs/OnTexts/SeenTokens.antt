@@ -1,5 +1,5 @@
 -- What the tokens of a line tell of the look.
-use Rattle.std.proofs.Common.{◌≡◌, ℕ, ℤ, ◌<◌, ◌≤◌, ◌-◌, ◌^◌, true, List, [], ◌∷◌, ◌++◌, length, codes, decimal, Option, Some, None, refl, sym, ap, ◌∙◌, arith}
+use Rattle.std.proofs.Common.{◌≡◌, ℕ, ℤ, ◌<◌, ◌≤◌, ◌-◌, ◌^◌, true, List, [], ◌∷◌, ◌++◌, length, codes, decimal, Some, None, sym, ap, ◌∙◌, arith}
 use Rattle.std.specs.Fmt.{signed_decimal}
 use Rattle.std.proofs.lemmas.Fmt.{decimal_injective}
 use Rattle.std.proofs.lemmas.List.{append_cancel_left}
@@ -15,7 +15,7 @@ use Rattle.journal_text.specs.inner.Tokens.{TokenRead}
 use Rattle.journal_text.proofs.OnTexts.WordLemmas.{begins-line, line-words, whole-decimal, whole-signed}
 use Rattle.journal_text.proofs.OnTexts.NamingLemmas.{watches-named}
 use Rattle.journal_text.proofs.OnTexts.TokenLemmas.{rest_of, first-there, passed, joined}
-use Rattle.journal_text.proofs.OnTexts.EntryLines.{name-told, value-told}
+use Rattle.journal_text.proofs.OnTexts.EntryLines.{name-told}
 
 -- the name of the object of a watch
 abbrev watched_name : Plan → ℕ → List ℕ

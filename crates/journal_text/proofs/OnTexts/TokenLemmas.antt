@@ -1,5 +1,5 @@
 -- What one token after another tells of a line.
-use Rattle.std.proofs.Common.{◌≡◌, ℕ, ◌<◌, ◌≤◌, true, List, [], ◌∷◌, ◌++◌, Option, Some, None, sym, ap, ◌∙◌, subst, arith}
+use Rattle.std.proofs.Common.{◌≡◌, ℕ, ◌<◌, ◌≤◌, true, List, ◌∷◌, ◌++◌, Option, Some, None, sym, ap, ◌∙◌, arith}
 use Rattle.caa_base.specs.Written.Lines.{spaced}
 use Rattle.journal_text.specs.Texts.Naming.{index_among}
 use Rattle.journal_text.specs.inner.Tokens.{is_whole, BeginsWithGap, TokenRead, LineRead}

@@ -173,6 +173,14 @@ seen_line plan s =
 abbrev pub first_line : List ℕ
 first_line = codes "journal" ++ 10 ∷ []
 
+-- the text of the entries: the first line, and one line for each
+abbrev pub entries_text : Plan → List Entry → List ℕ
+entries_text plan journal = first_line ++ flat_map (entry_line plan) journal
+
+-- what stands behind it: the lines that follow from the entries, and one for each look
+abbrev pub rest_lines : Plan → List Entry → List Seen → List ℕ
+rest_lines plan journal seens = closing_lines plan (reverse journal) ++ flat_map (seen_line plan) seens
+
 -- the first line, one line for each entry, the lines that follow from the entries, and one for each look
 abbrev pub text_of : Plan → List Entry → List Seen → List ℕ
 text_of plan journal seens =

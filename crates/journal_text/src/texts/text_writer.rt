@@ -6,7 +6,7 @@ ghost use Rattle.caa_base.specs.Written.Lines.{spaced, line};
 ghost use Rattle.place_plan.specs.Plans.Places.{parent};
 ghost use Rattle.place_plan.specs.RulesOfJournals.Entries.{is_of};
 ghost use Rattle.place_plan.specs.RulesOfJournals.WellFormed.{IsWellFormed, AllWellFormed};
-ghost use Rattle.journal_text.specs.Texts.Text.{action_name, object_name, interface_name, marked_name, told_name, carried_name, kind_word, object_words, verdict_words, outcome_words, entry_line, object_lines, last_outcome, ending_words, outcome_lines, closing_lines, seen_line, text_of};
+ghost use Rattle.journal_text.specs.Texts.Text.{action_name, object_name, interface_name, marked_name, told_name, carried_name, kind_word, object_words, verdict_words, outcome_words, entry_line, object_lines, last_outcome, ending_words, outcome_lines, closing_lines, seen_line, rest_lines, text_of};
 ghost use Rattle.journal_text.specs.inner.KnownValues.{value_found};
 ghost use Rattle.journal_text.specs.Watching.Looks.{AreOfPlan};
 
@@ -67,6 +67,21 @@ fn push_text(
 {
     text.extend_from_slice(b"journal\n")?;
     push_entries(text, plan, entries)?;
+    push_rest(alloc, text, plan, entries, seens)
+}
+
+/// Adds what stands behind the lines of the entries.
+pub(crate) fn push_rest(
+    alloc: Global,
+    text: &mut Vec<u8>,
+    plan: &Plan,
+    entries: &[Entry],
+    seens: &[Seen],
+) -> Result<(), OutOfMemory>
+    requires entries { AllWellFormed plan.now entries.now }
+    requires watches { AreOfPlan plan.now seens.now }
+    ensures { OnOk result (text.new.items ≡ text.old.items ++ rest_lines plan.now entries.now seens.now) }
+{
     push_closing(alloc, text, plan, entries)?;
     push_seens(text, plan, seens)
 }

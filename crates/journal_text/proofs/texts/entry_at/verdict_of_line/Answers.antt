@@ -1,10 +1,9 @@
-use Rattle.std.proofs.Common.{ℕ, ◌≡◌, ◌<◌, List, [], ◌∷◌, ◌++◌, codes, sym, ap, subst, ◌∙◌}
+use Rattle.std.proofs.Common.{◌≡◌, ◌<◌, [], ◌∷◌, ◌++◌, codes, sym, subst, ◌∙◌}
 use Rattle.std.proofs.lemmas.List.{append_cancel_left}
 use Rattle.place_plan.specs.Plans.Places.{action_at, graph_at, exception_name}
 use Rattle.journal_text.specs.inner.Tokens.{BeginsWithGap}
-use Rattle.journal_text.proofs.OnTexts.WordLemmas.{begins-line}
 use Rattle.journal_text.proofs.OnTexts.NamingLemmas.{exceptions-named}
-use Rattle.journal_text.proofs.OnTexts.TokenLemmas.{rest_of, first-there, passed, joined}
+use Rattle.journal_text.proofs.OnTexts.TokenLemmas.{rest_of, passed}
 use Rattle.journal_text.proofs.OnTexts.FieldTokens.{verdict-lacks}
 use Rattle.journal_text.proofs.texts.entry_at.verdict_of_line.Goals as goal
 

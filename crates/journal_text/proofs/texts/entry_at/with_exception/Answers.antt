@@ -1,4 +1,4 @@
-use Rattle.std.proofs.Common.{[], ◌∷◌, refl}
+use Rattle.std.proofs.Common.{[], refl}
 use Rattle.place_plan.specs.Plans.Places.{exception_name}
 use Rattle.journal_text.proofs.OnTexts.DigitLemmas.{nothing-kept}
 use Rattle.journal_text.proofs.OnTexts.WordLemmas.{begins-line}

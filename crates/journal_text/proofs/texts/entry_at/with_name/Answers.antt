@@ -1,4 +1,4 @@
-use Rattle.std.proofs.Common.{ℕ, ◌≡◌, ◌<◌, List, [], ◌∷◌, ◌++◌, refl, sym, ap, ◌∙◌, arith}
+use Rattle.std.proofs.Common.{[], ◌∷◌, ◌++◌, refl, sym, ap, ◌∙◌, arith}
 use Rattle.caa_base.specs.Written.Lines.{spaced}
 use Rattle.place_plan.specs.Plans.Places.{graph_at, exception_name}
 use Rattle.journal_text.proofs.OnTexts.DigitLemmas.{nothing-kept}

@@ -1,4 +1,4 @@
-use Rattle.std.proofs.Common.{ℕ, List, Bor, length, arith}
+use Rattle.std.proofs.Common.{ℕ, List, Bor, arith}
 use Rattle.place_plan.specs.Plans.Places.{graph_at, exception_name}
 use Rattle.journal_text.proofs.OnTexts.NamingLemmas.{exceptions-named}
 use Rattle.journal_text.proofs.OnTexts.TokenLemmas.{name-found, name-none}
