@@ -1,5 +1,5 @@
 -- How bad it is what comes of a refused put, by how its play ends.
-use Rattle.std.specs.Prelude.{ℕ, ℤ, pos, zero, suc, ◌==◌, Bool, true, false, not, ◌&&◌, ◌||◌, if◌then◌else◌, List, [], ◌∷◌, Option, None, Some, slice_get, slice_index_or, take}
+use Rattle.std.specs.Prelude.{ℕ, ℤ, zero, suc, ◌==◌, Bool, true, false, not, ◌&&◌, ◌||◌, if◌then◌else◌, List, [], ◌∷◌, Option, None, Some, slice_get, take}
 use Rattle.std.specs.List.{list_any}
 use Rattle.std.specs.Ordering.{int_eq}
 use Rattle.caa_base.specs.Written.Lists.{member, is_empty}
@@ -11,7 +11,7 @@ use Rattle.caa_base.specs.declared.written.entry.Outcome.TheVariants as outcome
 use Rattle.place_plan.specs.Plans.PlanValue.{Plan}
 use Rattle.place_plan.specs.Plans.Places.{initials_of, objects_of}
 use Rattle.place_plan.specs.RulesOfJournals.Entries.{is_in}
-use Rattle.rehearsals.specs.Facts.{values_after}
+use Rattle.rehearsals.specs.Facts.{value_in, values_after}
 use Rattle.fault_trials.specs.declared.measure.Left.{Left}
 use Rattle.fault_trials.specs.declared.measure.Way.{Way}
 use Rattle.fault_trials.specs.declared.modes.Class.{Class}
@@ -44,10 +44,6 @@ outcome_in journal p = outcome_by (slice_get journal (end_of p journal))
 -- the values of the device when p ended
 abbrev pub values_at_end : Plan → List Entry → ℕ → List ℤ
 values_at_end plan journal p = values_after (initials_of plan) (take (end_of p journal) journal)
-
--- the value of an object
-abbrev pub value_in : List ℤ → ℕ → ℤ
-value_in values o = slice_index_or values o (pos 0)
 
 -- ---- what plays without a fault leave
 

@@ -1,12 +1,11 @@
 //! What journals set back: values that a failed play had left, and objects that moved first and are set back first.
 
 use crate::effects::Standing;
-use crate::endings::value_in;
 use crate::puts::action_number;
 use caa_base::written::entry::{Entry, Kind, Object, OutOfMemory, Outcome, Place};
 use caa_base::written::journal::Journal;
 use place_plan::plans::plan::Plan;
-use rehearsals::facts::{note_put, takes_put};
+use rehearsals::facts::{note_put, takes_put, value_in};
 use std::alloc::Global;
 
 /// Two objects of an action: the first moved first, and was set back first, while the second was still away.

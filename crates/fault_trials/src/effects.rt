@@ -4,12 +4,13 @@ ghost use Rattle.std.specs.Prelude.{◌≡◌, IfOk, true, false, not, ◌&&◌,
 ghost use Rattle.place_plan.specs.Plans.Places.{top_of, initials_of, objects_of};
 ghost use Rattle.fault_trials.specs.Classes.{class_told, class_by, class_with, class_of, end_of, outcome_in, values_at_end};
 
-use crate::endings::{ending_of, outcome_of, value_in, values_at_end};
+use crate::endings::{ending_of, outcome_of, values_at_end};
 use crate::measure::{Measure, Values};
 use crate::modes::{Class, Spot};
 use crate::puts::action_number;
 use caa_base::written::entry::{Entry, Exception, Kind, Object, OutOfMemory, Outcome, Place};
 use place_plan::plans::plan::Plan;
+use rehearsals::facts::value_in;
 use std::alloc::Global;
 
 /// What a refused put raises.

@@ -2,14 +2,12 @@
 
 ghost use Rattle.std.specs.Prelude.{◌≡◌, ◌≤◌, length, IfOk, slice_get};
 ghost use Rattle.caa_base.specs.declared.written.entry.Kind.TheVariants as kind;
-ghost use Rattle.place_plan.specs.Plans.Places.{initials_of};
 ghost use Rattle.place_plan.specs.RulesOfJournals.Entries.{is_in};
-ghost use Rattle.rehearsals.specs.Facts.{values_after};
-ghost use Rattle.fault_trials.specs.Classes.{end_of, outcome_by, outcome_in, values_at_end, value_in};
+ghost use Rattle.fault_trials.specs.Classes.{end_of, outcome_by, outcome_in, values_at_end};
 
-use caa_base::written::entry::{Entry, Kind, Object, OutOfMemory, Outcome, Place};
+use caa_base::written::entry::{Entry, Kind, OutOfMemory, Outcome, Place};
 use place_plan::plans::plan::Plan;
-use rehearsals::facts::note_put;
+use rehearsals::facts::values_after;
 use std::alloc::Global;
 
 /// Whether an entry is the end of a place.
@@ -59,17 +57,6 @@ pub fn outcome_of(entries: &[Entry], place: Place) -> Option<Outcome>
     outcome_by(ending_of(entries, place))
 }
 
-/// The values of the device after these entries.
-fn values_after(alloc: Global, plan: &Plan, entries: &[Entry]) -> Result<Vec<i64>, OutOfMemory>
-    ensures { IfOk result (λ values. values.items ≡ values_after (initials_of plan.now) entries.now) }
-{
-    let mut values = plan.initials(alloc)?;
-    for entry in entries {
-        note_put(&mut values, entry);
-    }
-    Ok(values)
-}
-
 /// The values of the device when a place ended, or at the end of the journal.
 pub fn values_at_end(
     alloc: Global,
@@ -81,14 +68,4 @@ pub fn values_at_end(
 {
     let count = end_of(entries, place);
     values_after(alloc, plan, &entries[..count])
-}
-
-/// The value of an object; 0 where there is none.
-pub fn value_in(values: &[i64], object: Object) -> i64
-    ensures { result ≡ value_in values.now object }
-{
-    match values.get(object as usize) {
-        Some(value) => *value,
-        None => 0,
-    }
 }

@@ -5,11 +5,10 @@ ghost use Rattle.std.specs.List.{list_any};
 ghost use Rattle.caa_base.specs.Written.Lists.{member};
 ghost use Rattle.fault_trials.specs.Classes.{is_same_left, is_same_way, is_usual, is_way, is_away, is_short, has_to_be_off, is_left, has_left, is_strange, has_strange};
 
-use crate::endings::value_in;
 use caa_base::written::entry::{Entry, Kind, Object, OutOfMemory, Place};
 use caa_base::written::journal::Journal;
 use place_plan::plans::plan::Plan;
-use rehearsals::facts::note_put;
+use rehearsals::facts::{note_put, value_in};
 use std::alloc::Global;
 use std::marker::Model;
 

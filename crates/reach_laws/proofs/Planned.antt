@@ -3,11 +3,10 @@
 use Rattle.std.proofs.Common.{◌≡◌, ℕ, ◌+◌, ◌<◌, ◌≤◌, ◌==◌, nat_lt, true, List, [], ◌∷◌, length, slice_index_or, slice_get, Some, zero, suc, refl, sym, ap, ◌∙◌, subst, inl, inr, arith}
 use Rattle.std.proofs.lemmas.Bool.{and_parts, or_cases, eqb-true, false≢true, ltb-true}
 use Rattle.place_plan.specs.declared.drafts.draft.Draft.{Draft}
-use Rattle.place_plan.specs.declared.drafts.draft_rows.PlaceRow.{PlaceRow}
 use Rattle.place_plan.specs.declared.drafts.draft_rows.PlayRow.{PlayRow}
 use Rattle.place_plan.specs.declared.drafts.draft_rows.ActionRow.{ActionRow}
 use Rattle.place_plan.specs.declared.drafts.draft_rows.NestRow.{NestRow}
-use Rattle.place_plan.specs.Plans.PlanValue.{Plan}
+use Rattle.place_plan.specs.Plans.PlanValue.{Plan, PlaceRow}
 use Rattle.caa_base.specs.Written.Lists.{member}
 use Rattle.caa_base.specs.Written.Limits.{most_depth}
 use Rattle.place_plan.specs.Plans.Places.{place_at, action_at, action_in, roles_of, alternates_of, no_action, no_place, no_nest}

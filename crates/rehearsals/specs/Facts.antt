@@ -39,10 +39,14 @@ abbrev pub values_after : List ℤ → List Entry → List ℤ
 values_after values [] = values
 values_after values (e ∷ later) = values_after (values_with values e) later
 
+-- the value of an object; 0 where there is none
+abbrev pub value_in : List ℤ → ℕ → ℤ
+value_in values o = slice_index_or values o (pos 0)
+
 -- the values of the first so many objects
 abbrev pub last_facts : List ℤ → ℕ → List Fact
 last_facts values zero = []
-last_facts values (suc n) = last_facts values n ++ fact.Last n (slice_index_or values n (pos 0)) ∷ []
+last_facts values (suc n) = last_facts values n ++ fact.Last n (value_in values n) ∷ []
 
 -- what a journal shows: what its entries show, and the values of all objects at its end
 abbrev pub facts_of : Plan → List ℕ → List Entry → List Fact

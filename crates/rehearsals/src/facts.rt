@@ -1,10 +1,10 @@
 //! What a journal shows of each path and each object, once however often it comes.
 
-ghost use Rattle.std.specs.Prelude.{◌≡◌, ◌++◌, [], pos, IfOk, OnOk, filter_map, slice_index_or, slice_set};
+ghost use Rattle.std.specs.Prelude.{◌≡◌, ◌++◌, [], IfOk, OnOk, filter_map, slice_set};
 ghost use Rattle.std.specs.List.{cons_option};
 ghost use Rattle.place_plan.specs.Plans.Places.{initials_of};
 ghost use Rattle.rehearsals.specs.declared.facts.Fact.TheVariants as fact;
-ghost use Rattle.rehearsals.specs.Facts.{fact_of, facts_of, takes_put, values_with, values_after};
+ghost use Rattle.rehearsals.specs.Facts.{fact_of, facts_of, takes_put, values_with, values_after, value_in};
 
 use crate::paths::path_of;
 use caa_base::written::entry::{Entry, Exception, Kind, Object, OutOfMemory, Outcome, Place};
@@ -78,8 +78,8 @@ pub fn note_put(values: &mut Vec<i64>, entry: &Entry)
     }
 }
 
-/// The value of each object at the end of a journal.
-fn last_values(alloc: Global, plan: &Plan, entries: &[Entry]) -> Result<Vec<i64>, OutOfMemory>
+/// The value of each object after these entries.
+pub fn values_after(alloc: Global, plan: &Plan, entries: &[Entry]) -> Result<Vec<i64>, OutOfMemory>
     ensures { IfOk result (λ values. values.items ≡ values_after (initials_of plan.now) entries.now) }
 {
     let mut values = plan.initials(alloc)?;
@@ -116,11 +116,11 @@ fn entry_facts(
     Ok(facts)
 }
 
-/// The value at an index; 0 where there is none.
-fn value_at(values: &[i64], index: u32) -> i64
-    ensures { result ≡ slice_index_or values.now index (pos 0) }
+/// The value of an object; 0 where there is none.
+pub fn value_in(values: &[i64], object: Object) -> i64
+    ensures { result ≡ value_in values.now object }
 {
-    match values.get(index as usize) {
+    match values.get(object as usize) {
         Some(value) => *value,
         None => 0,
     }
@@ -128,9 +128,9 @@ fn value_at(values: &[i64], index: u32) -> i64
 
 /// The value of an object at the end, as a fact.
 fn last_fact(values: &[i64], object: Object) -> Fact
-    ensures { result ≡ fact.Last object (slice_index_or values.now object (pos 0)) }
+    ensures { result ≡ fact.Last object (value_in values.now object) }
 {
-    let value = value_at(values, object);
+    let value = value_in(values, object);
     Fact::Last(object, value)
 }
 
@@ -145,7 +145,7 @@ pub fn facts_of(
 {
     let entries = journal.as_slice();
     let mut facts = entry_facts(alloc, plan, paths, entries)?;
-    let values = last_values(alloc, plan, entries)?;
+    let values = values_after(alloc, plan, entries)?;
     for object in 0..plan.objects() {
         facts.push(last_fact(&values, object))?;
     }

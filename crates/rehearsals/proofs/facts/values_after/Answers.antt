@@ -3,7 +3,7 @@ use Rattle.caa_base.specs.declared.written.entry.Entry.{Entry}
 use Rattle.caa_base.specs.declared.written.entry.Kind.TheVariants as kind
 use Rattle.place_plan.specs.Plans.Places.{initials_of}
 use Rattle.rehearsals.proofs.JournalsCounted.{values_step}
-use Rattle.rehearsals.proofs.facts.last_values.Goals as goal
+use Rattle.rehearsals.proofs.facts.values_after.Goals as goal
 
 -- what stands past the last entry
 abbrev blank : Entry
