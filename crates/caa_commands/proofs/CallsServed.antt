@@ -94,9 +94,13 @@ module _ {P : Type 0} (call : Call P) (sink : SinkUse) (c : Command) (bytes : Li
 -- where this was found, or want of memory, it was told
 was_told : (found other : Finding) (journal handed : List Entry) (sink : SinkUse) (answer : Status)
     → (Rose sink.faults_before sink.faults_after → ⊥)
-    → (other ≡ found) ⊎ (other ≡ finding.OutOfMemory) → Tells other journal handed sink answer → WasTold found sink answer
+    → (other ≡ found) ⊎ (other ≡ finding.OutOfMemory) → Tells other journal handed sink answer → WasTold found handed sink answer
 was_told found other journal handed sink answer quiet (inl same) (inl whole) =
-    inl (whole.answered ∙ ap status_of same, whole.written ∙ ap (λ f. append_known sink.held_before (finding_text f)) same)
+    inl (
+      whole.answered ∙ ap status_of same,
+      whole.written ∙ ap (λ f. append_known sink.held_before (finding_text f journal)) same
+          ∙ ap (λ j. append_known sink.held_before (finding_text found j)) (sym whole.kept),
+    )
 was_told found other journal handed sink answer quiet (inr lost) (inl whole) = inr (whole.answered ∙ ap status_of lost)
 was_told found other journal handed sink answer quiet one (inr (inl cut)) = absurd (quiet (counted_up-rose _ _ cut.cause))
 was_told found other journal handed sink answer quiet one (inr (inr lost)) = inr lost.answered
@@ -323,7 +327,7 @@ found_audited call sink found other h journal came =
     ]
 
 answer_audited : {P : Type 0} (call : Call P) (sink : SinkUse) (found : Finding) (answer : Status) → Answers call sink answer
-    → IsAuditable call sink found → WasTold found sink answer
+    → IsAuditable call sink found → WasTold found call.left.journal sink answer
 answer_audited call sink found answer a h =
     was_told found a.finding a.journal call.left.journal sink answer h.given.written
     (found_audited call sink found a.finding h a.journal a.came) a.tells
@@ -514,13 +518,14 @@ one_text most bytes text other made more =
     let same : made.script ≡ more.script = cc in
     more.printed ∙ ap (λ (s : Script). text_of (script_of_sets s most)) (sym same) ∙ sym made.printed
 
--- this text is found, or want of memory
+-- this text is found, whatever the journal, or want of memory
 abbrev IsText : List ℕ → Finding → Type 0
-IsText text found = ((status_of found ≡ status.Done) × (finding_text found ≡ text)) ⊎ (found ≡ finding.OutOfMemory)
+IsText text found =
+    ((status_of found ≡ status.Done) × ((journal : List Entry) → finding_text found journal ≡ text)) ⊎ (found ≡ finding.OutOfMemory)
 
 printed_text : {P : Type 0} (most : ℕ) (bytes text : List ℕ) (found : Finding) (left : Left P) → IsGraphText most bytes text
     → Prints (IsAcceptedGraph most bytes) found left → IsText text found
-printed_text most bytes text (finding.Printed other) left made h = inl (refl, one_text most bytes text other.items made h.0.made)
+printed_text most bytes text (finding.Printed other) left made h = inl (refl, λ journal. one_text most bytes text other.items made h.0.made)
 printed_text most bytes text finding.OutOfMemory left made h = inr refl
 printed_text most bytes text finding.Usage left made h = elim h [ ]
 printed_text most bytes text finding.SourceFault left made h = elim h [ ]
@@ -555,7 +560,7 @@ answer_text : {P : Type 0} (call : Call P) (sink : SinkUse) (text : List ℕ) (a
 answer_text call sink text answer a h = by (found_text call sink text h a.journal a.finding a.came) a.tells
   where
     by : IsText text a.finding → Tells a.finding a.journal call.left.journal sink answer → WasPrinted text sink answer
-    by (inl is) (inl whole) = inl (whole.answered ∙ is.0, whole.written ∙ ap (append_known sink.held_before) is.1)
+    by (inl is) (inl whole) = inl (whole.answered ∙ is.0, whole.written ∙ ap (append_known sink.held_before) (is.1 a.journal))
     by (inr lost) (inl whole) = inr (whole.answered ∙ ap status_of lost)
     by one (inr (inl cut)) = absurd (h.given.written (counted_up-rose _ _ cut.cause))
     by one (inr (inr lost)) = inr lost.answered

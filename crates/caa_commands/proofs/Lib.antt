@@ -8,6 +8,7 @@ mod PlansOfScripts
 mod FoundAlone
 mod PlayedHistory
 mod Spared
+mod Tellable
 mod LoggedCalls
 mod CommandParts
 mod GatesTold

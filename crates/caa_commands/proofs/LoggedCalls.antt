@@ -1,7 +1,6 @@
 -- What a call with a log answers.
-use Rattle.std.proofs.Common.{◌≡◌, inl, inr, ℕ, true, false, List, [], ◌++◌, length, reverse, append_assoc, Option, Some, None, IfSome, is_some, refl, sym, ap, ◌∙◌, subst, subst₂, arith, if◌then◌else◌}
+use Rattle.std.proofs.Common.{◌≡◌, inl, inr, ℕ, true, false, List, [], length, Option, Some, None, IfSome, is_some, refl, sym, ap, ◌∙◌, subst, subst₂, arith, if◌then◌else◌}
 use Rattle.std.specs.Io.KnownBytes.{append_known}
-use Rattle.std.specs.List.{flat_map}
 use Rattle.std.proofs.Math.Logic.{∥∥₁_map}
 use Rattle.std.proofs.lemmas.List.{append-nil, take_all}
 use Rattle.caa_base.specs.Outside.Counts.{Rose}
@@ -12,11 +11,12 @@ use Rattle.caa_base.specs.declared.outside.sink.Sink.{Ghosts as SinkGhosts}
 use Rattle.caa_base.specs.declared.written.entry.Entry.{Entry}
 use Rattle.place_plan.specs.Plans.PlanValue.{Plan}
 use Rattle.journal_text.specs.declared.looks.seens.Seen.{Seen}
-use Rattle.journal_text.specs.Texts.Text.{first_line, closing_lines, seen_line, text_of}
+use Rattle.journal_text.specs.Texts.Text.{first_line, entries_text}
+use Rattle.journal_text.proofs.OnTexts.BlockLemmas.{append_known-nothing}
 use Rattle.entry_log.specs.declared.sink_log.LogState.{LogState}
 use Rattle.entry_log.specs.declared.sink_log.LogState.TheVariants as state
-use Rattle.entry_log.specs.Logs.{log_text, SinkLog, IsFresh, TellsBy, WasCut, WasWritten, Tells as LogTells}
-use Rattle.entry_log.proofs.LogLemmas.{append_known-nothing, stopped_part}
+use Rattle.entry_log.specs.Logs.{SinkLog, IsFresh, HasStopped, TellsBy, WasCut, WasWritten, Tells as LogTells}
+use Rattle.entry_log.proofs.LogLemmas.{stopped_part}
 use Rattle.caa_commands.specs.declared.command.Command.{Command}
 use Rattle.caa_commands.specs.declared.command.Command.TheVariants as command
 use Rattle.caa_commands.specs.declared.finding.Finding.{Finding}
@@ -35,27 +35,28 @@ use Rattle.caa_commands.proofs.ToldCalls.{answered}
 
 -- ---- the end of a log
 
--- the text of a journal begins with that of its entries
-pub text_behind : (plan : Plan) (journal : List Entry) (seens : List Seen)
-    → text_of plan journal seens
-    ≡ log_text plan journal ++ (closing_lines plan (reverse journal) ++ flat_map (seen_line plan) seens)
-text_behind plan journal seens = append_assoc (log_text plan journal) (closing_lines plan (reverse journal)) (flat_map (seen_line plan) seens)
-
 module _ {K : Type 0} (sinks : SinkGhosts K) (kept : SinkLog K) (plan : Plan) (journal : List Entry) where
+  -- where it has stopped, that isn't all of the text of the entries
+  cut_front : HasStopped sinks kept plan journal
+      → WrotePart (sinks.held kept.opened) (sinks.held kept.sink) (entries_text plan journal)
+  cut_front stopped =
+      subst (WrotePart (sinks.held kept.opened) (sinks.held kept.sink)) (append-nil (entries_text plan journal))
+      (stopped_part sinks plan journal [] kept stopped)
+
   -- whatever a log tells, the sink took a front of the text of the entries
   pub took_front : (s : LogState) → TellsBy s sinks kept plan journal
-      → TookFront (log_text plan journal) (sink_use sinks kept.opened kept.sink)
+      → TookFront (entries_text plan journal) (sink_use sinks kept.opened kept.sink)
   took_front state.Whole told = record {
-    count = length (log_text plan journal);
+    count = length (entries_text plan journal);
     within = omega arith;
-    front = told.lines.written ∙ ap (append_known (sinks.held kept.opened)) (sym (take_all (length (log_text plan journal)) (log_text plan journal) (omega arith)));
-    cause = inl told.lines.unfailed;
+    front = told.written ∙ ap (append_known (sinks.held kept.opened)) (sym (take_all (length (entries_text plan journal)) (entries_text plan journal) (omega arith)));
+    cause = inl told.unfailed;
   }
   took_front state.Failed told =
-      let part = stopped_part sinks plan journal (log_text plan journal) [] (sym (append-nil (log_text plan journal))) kept told.0 in
+      let part = cut_front told.0 in
       record { count = part.count; within = omega (arith, part.proper); front = part.front; cause = inr (told.1, part.proper) }
   took_front state.NoMemory told =
-      let part = stopped_part sinks plan journal (log_text plan journal) [] (sym (append-nil (log_text plan journal))) kept told.0 in
+      let part = cut_front told.0 in
       record { count = part.count; within = omega (arith, part.proper); front = part.front; cause = inl told.1 }
 
   -- no memory was found for the rest
@@ -64,7 +65,7 @@ module _ {K : Type 0} (sinks : SinkGhosts K) (kept : SinkLog K) (plan : Plan) (j
   left_off found answer is told = inr (is, took_front kept.state told.1)
 
   -- the rest was written, and so the text
-  pub all_told : (new : K) (found : Finding) (answer : Status) (bytes : List ℕ) → bytes ≡ finding_text found
+  pub all_told : (new : K) (found : Finding) (answer : Status) (bytes : List ℕ) → bytes ≡ finding_text found journal
       → answer ≡ status_of found → WasWritten sinks kept.opened new bytes
       → EndsLog plan found journal (sink_use sinks kept.opened new) answer
   all_told new found answer bytes is status came = inl (inl (record {
@@ -75,7 +76,7 @@ module _ {K : Type 0} (sinks : SinkGhosts K) (kept : SinkLog K) (plan : Plan) (j
   }))
 
   -- a write failed, now or before
-  pub cut_told : (new : K) (found : Finding) (answer : Status) (bytes : List ℕ) → bytes ≡ finding_text found → is_played found ≡ true
+  pub cut_told : (new : K) (found : Finding) (answer : Status) (bytes : List ℕ) → bytes ≡ finding_text found journal → is_played found ≡ true
       → answer ≡ status.SinkFault → WasCut sinks kept.opened new bytes
       → EndsLog plan found journal (sink_use sinks kept.opened new) answer
   cut_told new found answer bytes is played status came = inl (inr (inl (record {

@@ -23,12 +23,14 @@ use Rattle.caa_commands.specs.declared.command.Command.TheVariants as command
 use Rattle.caa_commands.specs.declared.fault.Fault.TheVariants as fault
 use Rattle.caa_commands.specs.declared.finding.Finding.{Finding}
 use Rattle.caa_commands.specs.declared.finding.Finding.TheVariants as finding
+use Rattle.caa_commands.specs.declared.finding.Text.{Text}
+use Rattle.caa_commands.specs.declared.finding.Text.TheVariants as text
 use Rattle.caa_commands.specs.declared.status.Status.{Status}
 use Rattle.caa_commands.specs.declared.status.Status.TheVariants as status
 use Rattle.caa_commands.specs.declared.fault.Refusal.{Refusal}
 use Rattle.caa_commands.specs.Graphs.{IsAcceptedGraph, IsRefusedGraph}
 use Rattle.caa_commands.specs.Commands.{reads_input}
-use Rattle.caa_commands.specs.Findings.{status_of, finding_text, is_played, needs_memory}
+use Rattle.caa_commands.specs.Findings.{text_bytes, IsWritable, status_of, finding_text, is_played, needs_memory}
 use Rattle.action_script.specs.Words.JournalStarts.{journal_part}
 use Rattle.caa_commands.specs.Inputs.{most_bytes, script_in}
 use Rattle.caa_commands.specs.Judging.{IsLawful, IsIllegal, HasTooManyEntries}
@@ -49,9 +51,15 @@ Prints holds (finding.Printed text) left = holds text.items × IsIdle left
 Prints holds finding.OutOfMemory left = IsIdle left
 Prints holds _ left = ⊥
 
--- a play that ended: status clause, and printed clause with this text. The text may have found no memory
+-- a text of this plan, if it is that of a journal
+abbrev pub IsOfPlan : Plan → Text → Type 0
+IsOfPlan plan (text.OfJournal own rest) = own ≡ plan
+IsOfPlan plan _ = Unit {0}
+
+-- a play that ended: status clause, and printed clause with this text, which can be written. The text may have found no memory
 abbrev pub EndsWith : Plan → List Entry → List ℕ → Finding → Type 0
-EndsWith plan journal printed (finding.Played failed text) = (failed ≡ has_failed_play plan journal) × (text.items ≡ printed)
+EndsWith plan journal printed (finding.Played failed text) =
+    (failed ≡ has_failed_play plan journal) × ((text_bytes text journal ≡ printed) × (IsOfPlan plan text × IsWritable text journal))
 EndsWith plan journal printed finding.OutOfMemory = Unit {0}
 EndsWith plan journal printed _ = ⊥
 
@@ -243,14 +251,14 @@ journal_kept found journal = if is_played found then journal else []
 pub record WroteAll (found : Finding) (journal handed : List Entry) (sink : SinkUse) (answer : Status) : Type 0 where
   pub kept : handed ≡ journal
   pub answered : answer ≡ status_of found
-  pub written : sink.held_after ≡ append_known sink.held_before (finding_text found)
+  pub written : sink.held_after ≡ append_known sink.held_before (finding_text found journal)
   pub unfailed : sink.faults_after ≡ sink.faults_before
 
 -- one write failed, and the sink took a part of the text of what was found
 pub record WasCutOff (found : Finding) (journal handed : List Entry) (sink : SinkUse) (answer : Status) : Type 0 where
   pub kept : handed ≡ journal_kept found journal
   pub answered : answer ≡ status.SinkFault
-  pub part : WrotePart sink.held_before sink.held_after (finding_text found)
+  pub part : WrotePart sink.held_before sink.held_after (finding_text found journal)
   pub cause : sink.faults_after ≡ counted_up sink.faults_before
 
 -- no memory was found for the text of what was found, and nothing was written

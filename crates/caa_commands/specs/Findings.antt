@@ -1,7 +1,11 @@
 -- What a call of the program may come to: the status and the text of each.
-use Rattle.std.specs.Prelude.{ℕ, Bool, true, false, List, [], ◌∷◌, codes, decimal}
+use Rattle.std.specs.Prelude.{◌≡◌, ℕ, Bool, true, false, List, [], ◌∷◌, ◌++◌, codes, decimal}
 use Rattle.caa_base.specs.Written.Lines.{line}
+use Rattle.caa_base.specs.declared.written.entry.Entry.{Entry}
 use Rattle.action_script.specs.Phrases.{phrase_of as spelling_phrase}
+use Rattle.place_plan.specs.RulesOfJournals.WellFormed.{AllWellFormed}
+use Rattle.journal_text.specs.Texts.Naming.{is_well_named}
+use Rattle.journal_text.specs.Texts.Text.{entries_text}
 use Rattle.script_checker.specs.Causes.{phrase_of as check_phrase}
 use Rattle.script_checker.specs.declared.plan_counts.PlanCounts.{PlanCounts}
 use Rattle.caa_commands.specs.declared.fault.Fault.{Fault}
@@ -14,10 +18,16 @@ use Rattle.caa_commands.specs.declared.finding.Text.TheVariants as text
 use Rattle.caa_commands.specs.declared.status.Status.{Status}
 use Rattle.caa_commands.specs.declared.status.Status.TheVariants as status
 
--- the bytes of a text
-abbrev pub text_bytes : Text → List ℕ
-text_bytes (text.Fixed bytes) = bytes.now
-text_bytes (text.Written bytes) = bytes.items
+-- the bytes of a text; if it is that of a journal, then of this one
+abbrev pub text_bytes : Text → List Entry → List ℕ
+text_bytes (text.Fixed bytes) journal = bytes.now
+text_bytes (text.Written bytes) journal = bytes.items
+text_bytes (text.OfJournal plan rest) journal = entries_text plan journal ++ rest.items
+
+-- a text can be written with this journal: if it is that of one, the plan is well named and each entry is well formed
+abbrev pub IsWritable : Text → List Entry → Type 0
+IsWritable (text.OfJournal plan rest) journal = (is_well_named plan ≡ true) × AllWellFormed plan journal
+IsWritable _ journal = Unit {0}
 
 -- ---- refusals
 
@@ -50,18 +60,23 @@ checked_text counts =
 abbrev pub numbered_text : List ℕ → ℕ → List ℕ
 numbered_text word number = line word (decimal number ∷ [])
 
--- what is printed
-abbrev pub finding_text : Finding → List ℕ
-finding_text finding.Usage = codes "usage: check | sim SEED | run | audit | cell N | graph K | messages SEED | pool W\n"
-finding_text finding.SourceFault = codes "fault source\n"
-finding_text (finding.Refused refusal) = refusal_text refusal
-finding_text (finding.Checked counts) = checked_text counts
-finding_text finding.PlantFault = codes "fault plant\n"
-finding_text (finding.Played failed text) = text.items
-finding_text (finding.Printed text) = text.items
-finding_text (finding.Legal entries) = numbered_text (codes "legal") entries
-finding_text (finding.Illegal line) = numbered_text (codes "illegal") line
-finding_text finding.OutOfMemory = []
+-- what is printed, where this is the journal that was found with it
+abbrev pub finding_text : Finding → List Entry → List ℕ
+finding_text finding.Usage journal = codes "usage: check | sim SEED | run | audit | cell N | graph K | messages SEED | pool W\n"
+finding_text finding.SourceFault journal = codes "fault source\n"
+finding_text (finding.Refused refusal) journal = refusal_text refusal
+finding_text (finding.Checked counts) journal = checked_text counts
+finding_text finding.PlantFault journal = codes "fault plant\n"
+finding_text (finding.Played failed text) journal = text_bytes text journal
+finding_text (finding.Printed text) journal = text.items
+finding_text (finding.Legal entries) journal = numbered_text (codes "legal") entries
+finding_text (finding.Illegal line) journal = numbered_text (codes "illegal") line
+finding_text finding.OutOfMemory journal = []
+
+-- what was found can be told with this journal
+abbrev pub CanBeTold : Finding → List Entry → Type 0
+CanBeTold (finding.Played failed text) journal = IsWritable text journal
+CanBeTold _ journal = Unit {0}
 
 -- the status that is answered
 abbrev pub status_of : Finding → Status

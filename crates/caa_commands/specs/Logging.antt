@@ -7,8 +7,8 @@ use Rattle.caa_base.specs.declared.outside.sink.Sink.{Ghosts as SinkGhosts}
 use Rattle.caa_base.specs.declared.written.entry.Entry.{Entry}
 use Rattle.place_plan.specs.Plans.PlanValue.{Plan}
 use Rattle.journal_text.specs.declared.looks.seens.Seen.{Seen}
-use Rattle.journal_text.specs.Texts.Text.{first_line}
-use Rattle.entry_log.specs.Logs.{log_text, SinkLog, WasCut, Tells as LogTells}
+use Rattle.journal_text.specs.Texts.Text.{first_line, entries_text}
+use Rattle.entry_log.specs.Logs.{SinkLog, WasCut, Tells as LogTells}
 use Rattle.caa_commands.specs.declared.command.Command.{Command}
 use Rattle.caa_commands.specs.declared.finding.Finding.{Finding}
 use Rattle.caa_commands.specs.declared.finding.Finding.TheVariants as finding
@@ -73,7 +73,7 @@ pub record TookFront (bytes : List ℕ) (sink : SinkUse) : Type 0 where
 -- sink took a front
 abbrev pub EndsLog : Plan → Finding → List Entry → SinkUse → Status → Type 0
 EndsLog plan found journal sink answer =
-    Tells found journal journal sink answer ⊎ ((answer ≡ status.OutOfMemory) × TookFront (log_text plan journal) sink)
+    Tells found journal journal sink answer ⊎ ((answer ≡ status.OutOfMemory) × TookFront (entries_text plan journal) sink)
 
 -- what was found is told where this became of the sink: as without a log; or the first line couldn't be written; or in the log, which
 -- told of the journal
@@ -100,7 +100,7 @@ pub record WasLeftOff {P : Type 0} (call : Call P) (sink : SinkUse) (answer : St
   pub script : IsThePlan (script_in command bytes) plan
   pub comes : PlanComesTo command plan bytes finding.OutOfMemory call.left
   pub answered : answer ≡ status.OutOfMemory
-  pub front : TookFront (log_text plan call.left.journal) sink
+  pub front : TookFront (entries_text plan call.left.journal) sink
 
 -- a write of the first line failed, so nothing was played; the rest is as where no memory is found for a play
 pub record WasNotBegun {P : Type 0} (call : Call P) (sink : SinkUse) (answer : Status) : Type 0 where

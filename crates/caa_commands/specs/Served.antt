@@ -29,10 +29,10 @@ pub record IsGiven {P : Type 0} (call : Call P) (sink : SinkUse) (command : Comm
   pub read : Rose call.source.faults_before call.source.faults_after → ⊥
   pub written : Rose sink.faults_before sink.faults_after → ⊥
 
--- this was found and told, or no memory was found
-abbrev pub WasTold : Finding → SinkUse → Status → Type 0
-WasTold found sink answer =
-    ((answer ≡ status_of found) × (sink.held_after ≡ append_known sink.held_before (finding_text found)))
+-- this was found with this journal and told, or no memory was found
+abbrev pub WasTold : Finding → List Entry → SinkUse → Status → Type 0
+WasTold found journal sink answer =
+    ((answer ≡ status_of found) × (sink.held_after ≡ append_known sink.held_before (finding_text found journal)))
     ⊎ (answer ≡ status.OutOfMemory)
 
 -- ---- `check`, `sim SEED`, `run`, `messages SEED` and `pool W`
@@ -149,6 +149,6 @@ pub record MissesNothing {P : Type 0} (call : Call P) (sink : SinkUse) (answer :
   pub served : IsServable call sink → WasServed answer
   pub worked : IsWorkable call sink → WasServed answer
   pub printed : (text : List ℕ) → IsMakeable call sink text → WasPrinted text sink answer
-  pub audited : (found : Finding) → IsAuditable call sink found → WasTold found sink answer
+  pub audited : (found : Finding) → IsAuditable call sink found → WasTold found call.left.journal sink answer
   pub refused : IsRefusable call sink → WasRefused answer
   pub spared : NothingFailed call sink → IsSpared call answer

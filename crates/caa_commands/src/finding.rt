@@ -1,10 +1,19 @@
-ghost use Rattle.std.specs.Prelude.{◌≡◌, true, IfOk, IsErr};
-ghost use Rattle.caa_commands.specs.Findings.{text_bytes, status_of, is_played, needs_memory, checked_text, numbered_text, finding_text};
+ghost use Rattle.std.specs.Prelude.{◌≡◌, true, List, is_err, IfOk, IsErr, OnOk, OnErr};
+ghost use Rattle.std.specs.Io.KnownBytes.{append_known};
+ghost use Rattle.caa_base.specs.Outside.Counts.{CountsFault};
+ghost use Rattle.caa_base.specs.Outside.Writing.{WrotePart};
+ghost use Rattle.caa_base.specs.declared.written.entry.Entry.{Entry};
+ghost use Rattle.caa_commands.specs.Findings.{text_bytes, IsWritable, CanBeTold, status_of, is_played, needs_memory, checked_text, numbered_text, finding_text};
 
 use crate::fault::Refusal;
 use crate::status::Status;
-use caa_base::written::entry::OutOfMemory;
+use caa_base::outside::reading::write_all;
+use caa_base::outside::sink::Sink;
+use caa_base::written::entry::{Failed, OutOfMemory};
+use caa_base::written::journal::Journal;
 use caa_base::written::line::{end_line, push_number, push_word};
+use journal_text::texts::text_blocks::write_in_blocks;
+use place_plan::plans::plan::Plan;
 use script_checker::plan_counts::PlanCounts;
 use std::alloc::Global;
 
@@ -21,8 +30,8 @@ pub enum Finding {
     Checked(PlanCounts),
     /// The device refused to be laid out.
     PlantFault,
-    /// The script was played; whether a play failed, and the text of the journal.
-    Played { failed: bool, text: Vec<u8> },
+    /// The script was played; whether a play failed, and what is printed of the journal.
+    Played { failed: bool, text: Text },
     /// What the command prints of the script is this text.
     Printed(Vec<u8>),
     /// The journal is legal and complete, and has so many entries.
@@ -33,21 +42,30 @@ pub enum Finding {
     OutOfMemory,
 }
 
-/// The text of a finding: one that is always the same, or one that was written for it.
+/// The text of a finding: one that is always the same; one that was written for it; or that of a journal of this plan, of which what
+/// stands behind the entries was written, and the lines of the entries are made as they go out.
 #[derive(Drop)]
 pub enum Text {
     Fixed(&'static [u8]),
     Written(Vec<u8>),
+    OfJournal { plan: Plan, rest: Vec<u8> },
 }
 
 impl Text {
-    /// The bytes of the text.
-    pub fn bytes(&self) -> &[u8]
-        ensures { result.now ≡ text_bytes self.now }
+    /// Writes the text to a sink, where it is that of a journal that of this one. It takes no memory.
+    ///
+    /// Where a write fails, only a part of the text was written, from its front and not to its end.
+    pub fn write<K: Sink>(&self, sink: &mut K, journal: &Journal) -> Result<(), Failed>
+        requires { IsWritable self.now journal.now.entries }
+        ensures done { OnOk result (K.held sink.new ≡ append_known (K.held sink.old) (text_bytes self.now journal.now.entries)) }
+        ensures part { OnErr result (WrotePart (K.held sink.old) (K.held sink.new) (text_bytes self.now journal.now.entries)) }
+        ensures count { CountsFault (is_err result) (K.faults sink.old) (K.faults sink.new) }
+        ensures room { K.room sink.new ≡ K.room sink.old }
     {
         match self {
-            Text::Fixed(bytes) => bytes,
-            Text::Written(bytes) => bytes.as_slice(),
+            Text::Fixed(bytes) => write_all(sink, bytes),
+            Text::Written(bytes) => write_all(sink, bytes.as_slice()),
+            Text::OfJournal { plan, rest } => write_in_blocks(sink, plan, journal, rest.as_slice()),
         }
     }
 }
@@ -113,7 +131,8 @@ impl Finding {
 
     /// Its text. One that is always the same needs no memory, nor does one that was written before.
     pub fn into_text(self, alloc: Global) -> Result<Text, OutOfMemory>
-        ensures text { IfOk result (λ text. text_bytes text ≡ finding_text self) }
+        ensures text { IfOk result (λ text. (journal : List Entry) → text_bytes text journal ≡ finding_text self journal) }
+        ensures writable { IfOk result (λ text. (journal : List Entry) → CanBeTold self journal → IsWritable text journal) }
         ensures wanting { IsErr result → needs_memory self ≡ true }
     {
         match self {
@@ -123,7 +142,8 @@ impl Finding {
             Finding::SourceFault => Ok(Text::Fixed(b"fault source\n")),
             Finding::PlantFault => Ok(Text::Fixed(b"fault plant\n")),
             Finding::OutOfMemory => Ok(Text::Fixed(b"")),
-            Finding::Played { failed: _, text } | Finding::Printed(text) => Ok(Text::Written(text)),
+            Finding::Played { failed: _, text } => Ok(text),
+            Finding::Printed(text) => Ok(Text::Written(text)),
             Finding::Refused(refusal) => Ok(Text::Written(refusal.text(alloc)?)),
             Finding::Checked(counts) => Ok(Text::Written(checked(alloc, counts)?)),
             Finding::Legal { entries } => Ok(Text::Written(numbered(alloc, b"legal", entries)?)),

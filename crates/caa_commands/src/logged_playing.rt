@@ -1,7 +1,8 @@
 //! Plays that are written to a log as they go.
 
-ghost use Rattle.std.specs.Prelude.{◌≡◌, ◌<◌, ◌≤◌, ◌^◌, [], is_some, IfOk, IfErr};
+ghost use Rattle.std.specs.Prelude.{◌≡◌, ◌<◌, ◌≤◌, ◌^◌, true, [], is_some, IfOk, IfErr};
 ghost use Rattle.entry_log.specs.Logs.{IsFresh, Tells};
+ghost use Rattle.journal_text.specs.Texts.Naming.{is_well_named};
 ghost use Rattle.journal_replay.specs.Hall.{plan_in, plant_in, journal_in, base_in};
 ghost use Rattle.caa_commands.specs.OutsideUse.{plant_use, left_of};
 ghost use Rattle.caa_commands.specs.Calls.{DoesNotBegin, SimComesTo, RunComesTo, PoolComesTo};
@@ -78,6 +79,7 @@ pub fn simulate_logged<P: Plant, K: Sink + Drop, W: Watch + Drop>(
     watcher: W,
 ) -> LoggedDecision<P, K>
     requires seed { seed < 2 ^ 31 }
+    requires named { is_well_named plan ≡ true }
     requires fresh { IsFresh ⟦<K as Sink>⟧ sink }
     ensures comes { SimComesTo plan seed result.decision.finding
         (left_of (plant_use ⟦<P as Plant>⟧ plant result.decision.plant) result.decision.journal.entries) }
@@ -96,7 +98,7 @@ pub fn simulate_logged<P: Plant, K: Sink + Drop, W: Watch + Drop>(
     let Watched { log, watcher: _ } = watched;
     let (plan, plant, journal) = hall.into_parts();
     LoggedDecision {
-        decision: ended(alloc, &plan, plant, journal, &Seens::empty(alloc)),
+        decision: ended(alloc, plan, plant, journal, &Seens::empty(alloc)),
         log: LogUse::Kept(log),
     }
 }
@@ -118,6 +120,7 @@ pub fn run_logged<
     watcher: W,
     gate: &G,
 ) -> LoggedDecision<P, K>
+    requires named { is_well_named plan ≡ true }
     requires fresh { IsFresh ⟦<K as Sink>⟧ sink }
     ensures comes { RunComesTo plan result.decision.finding
         (left_of (plant_use ⟦<P as Plant>⟧ plant result.decision.plant) result.decision.journal.entries) }
@@ -152,7 +155,7 @@ pub fn run_logged<
     let Watched { log, watcher: _ } = watched;
     let (plan, plant, journal) = hall.into_parts();
     LoggedDecision {
-        decision: ended_in_threads(alloc, &plan, plant, journal, seens),
+        decision: ended_in_threads(alloc, plan, plant, journal, seens),
         log: LogUse::Kept(log),
     }
 }
@@ -176,6 +179,7 @@ pub fn pool_logged<
 ) -> LoggedDecision<P, K>
     requires one { 1 ≤ workers }
     requires few { workers ≤ 16 }
+    requires named { is_well_named plan ≡ true }
     requires fresh { IsFresh ⟦<K as Sink>⟧ sink }
     ensures comes { PoolComesTo plan result.decision.finding
         (left_of (plant_use ⟦<P as Plant>⟧ plant result.decision.plant) result.decision.journal.entries) }
@@ -209,7 +213,7 @@ pub fn pool_logged<
     let Watched { log, watcher: _ } = watched;
     let (plan, plant, journal) = hall.into_parts();
     LoggedDecision {
-        decision: ended(alloc, &plan, plant, journal, &Seens::empty(alloc)),
+        decision: ended(alloc, plan, plant, journal, &Seens::empty(alloc)),
         log: LogUse::Kept(log),
     }
 }

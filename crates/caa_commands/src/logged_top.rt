@@ -1,5 +1,6 @@
 ghost use Rattle.std.specs.Prelude.{◌≡◌, ◌≤◌, true, false, map, string_bytes};
 ghost use Rattle.caa_commands.specs.Commands.{command_of, asks_for_input, asks_for_threads, without_threads};
+ghost use Rattle.caa_commands.specs.Findings.{CanBeTold};
 ghost use Rattle.caa_commands.specs.Gates.{IsToldByRun};
 ghost use Rattle.caa_commands.specs.OutsideUse.{sink_use, call_over};
 ghost use Rattle.caa_commands.specs.Served.{MissesNothing};
@@ -39,6 +40,7 @@ fn tell_logged<K: Sink + Drop, P: Plant>(
     alloc: Global,
     decided: LoggedDecision<P, K>,
 ) -> LoggedEnd<P, K>
+    requires { CanBeTold decided.decision.finding decided.decision.journal.entries }
     ensures told { ToldBy ⟦<K as Sink>⟧ decided.decision.finding decided.decision.journal.entries result.journal.entries decided.log
         result.sink result.status }
     ensures plant { result.plant ≡ decided.decision.plant }

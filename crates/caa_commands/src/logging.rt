@@ -9,7 +9,7 @@ ghost use Rattle.caa_commands.specs.OutsideUse.{sink_use};
 ghost use Rattle.caa_commands.specs.Calls.{EndsAs};
 ghost use Rattle.caa_commands.specs.Logging.{EndsLog};
 
-use crate::finding::Finding;
+use crate::finding::{Finding, Text};
 use crate::playing::Decision;
 use crate::status::Status;
 use caa_base::outside::sink::Sink;
@@ -41,13 +41,17 @@ pub fn end_log<K: Sink + Drop>(log: &mut SinkLog<K>, finding: &Finding) -> Statu
         → EndsAs plan journal seens finding.now
         → EndsLog plan finding.now journal (sink_use ⟦<K as Sink>⟧ log.old.opened log.new.sink) result }
 {
-    let Finding::Played { failed: _, text } = finding else {
+    let Finding::Played {
+        failed: _,
+        text: Text::OfJournal { plan: _, rest },
+    } = finding
+    else {
         return Status::OutOfMemory;
     };
     if log.state() == LogState::NoMemory {
         return Status::OutOfMemory;
     }
-    match log.complete(text.as_slice()) {
+    match log.complete(rest.as_slice()) {
         Ok(()) => finding.status(),
         Err(Failed) => Status::SinkFault,
     }

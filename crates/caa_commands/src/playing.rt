@@ -1,7 +1,8 @@
 //! Plays of a plan over a device, and what they come to.
 
-ghost use Rattle.std.specs.Prelude.{◌≡◌, ◌<◌, ◌≤◌, ◌^◌, ℕ, List, [], is_some, IfSome, IfNone, IfOk, IfErr};
+ghost use Rattle.std.specs.Prelude.{◌≡◌, ◌<◌, ◌≤◌, ◌^◌, true, ℕ, List, [], is_some, IfSome, IfNone, IfOk, IfErr};
 ghost use Rattle.place_plan.specs.RulesOfJournals.WellFormed.{AllWellFormed};
+ghost use Rattle.journal_text.specs.Texts.Naming.{is_well_named};
 ghost use Rattle.journal_text.specs.Watching.Looks.{AreOfPlan};
 ghost use Rattle.journal_replay.specs.Hall.{plan_in, plant_in, journal_in, base_in};
 ghost use Rattle.journal_replay.specs.Device.{attempts_in, history_after};
@@ -12,7 +13,7 @@ ghost use Rattle.caa_commands.specs.OutsideUse.{plant_use, left_of, IsIdle};
 ghost use Rattle.cell_workload.specs.CellScript.{most_cycles};
 ghost use Rattle.caa_commands.specs.Calls.{EndsAs, EndsWith, DoesNotBegin, IsSimulated, SimComesTo, CellComesTo, RunComesTo, PoolComesTo};
 
-use crate::finding::Finding;
+use crate::finding::{Finding, Text};
 use action_core::Hall;
 use caa_base::outside::gate::Gate;
 use caa_base::outside::plant::Plant;
@@ -22,7 +23,7 @@ use cell_workload::summary;
 use journal_laws::{is_well_formed, keeps_laws};
 use journal_replay::hall::OpenCause;
 use journal_text::looks::seens::Seens;
-use journal_text::texts::text_writer::write;
+use journal_text::texts::text_blocks::write_rest;
 use place_plan::plans::plan::Plan;
 use role_driver::HandlerGate;
 use role_driver::running::{Finished, RunError, run};
@@ -103,8 +104,40 @@ pub fn open<P: Plant>(alloc: Global, plan: Plan, plant: P) -> Result<Hall<P>, De
     }
 }
 
+/// What a play comes to that has ended with this journal and these looks.
+pub fn ended<P: Plant>(
+    alloc: Global,
+    plan: Plan,
+    plant: P,
+    journal: Journal,
+    seens: &Seens,
+) -> Decision<P>
+    requires named { is_well_named plan ≡ true }
+    requires entries { AllWellFormed plan journal.entries }
+    requires watches { AreOfPlan plan seens.now.seens }
+    ensures ends { EndsAs plan journal.entries seens.now.seens result.finding }
+    ensures plant { result.plant ≡ plant }
+    ensures journal { result.journal.entries ≡ journal.entries }
+{
+    match write_rest(alloc, &plan, &journal, seens) {
+        Ok(rest) => Decision {
+            finding: Finding::Played {
+                failed: has_failed_play(&plan, &journal),
+                text: Text::OfJournal { plan, rest },
+            },
+            plant,
+            journal,
+        },
+        Err(_) => Decision {
+            finding: Finding::OutOfMemory,
+            plant,
+            journal,
+        },
+    }
+}
+
 /// What a play comes to that has ended with this journal, and of which this is to be printed, where memory was found for it.
-fn ended_with<P: Plant>(
+fn summed_up<P: Plant>(
     plan: &Plan,
     plant: P,
     journal: Journal,
@@ -117,7 +150,7 @@ fn ended_with<P: Plant>(
     let finding = match text {
         Ok(text) => Finding::Played {
             failed: has_failed_play(plan, &journal),
-            text,
+            text: Text::Written(text),
         },
         Err(_) => Finding::OutOfMemory,
     };
@@ -126,24 +159,6 @@ fn ended_with<P: Plant>(
         plant,
         journal,
     }
-}
-
-/// What a play comes to that has ended with this journal and these looks.
-pub fn ended<P: Plant>(
-    alloc: Global,
-    plan: &Plan,
-    plant: P,
-    journal: Journal,
-    seens: &Seens,
-) -> Decision<P>
-    requires entries { AllWellFormed plan.now journal.entries }
-    requires watches { AreOfPlan plan.now seens.now.seens }
-    ensures ends { EndsAs plan.now journal.entries seens.now.seens result.finding }
-    ensures plant { result.plant ≡ plant }
-    ensures journal { result.journal.entries ≡ journal.entries }
-{
-    let text = write(alloc, plan, &journal, seens);
-    ended_with(plan, plant, journal, text)
 }
 
 /// Plays a plan to its end by the schedule of a seed, and gives the plan, the device and the journal; or no play begins.
@@ -172,12 +187,13 @@ fn play_by_seed<P: Plant>(
 
 /// Plays a plan to its end by the schedule of a seed, and writes the text of its journal.
 pub fn simulate<P: Plant>(alloc: Global, plan: Plan, seed: u32, plant: P) -> Decision<P>
-    requires { seed < 2 ^ 31 }
+    requires seed { seed < 2 ^ 31 }
+    requires named { is_well_named plan ≡ true }
     ensures { SimComesTo plan seed result.finding
         (left_of (plant_use ⟦<P as Plant>⟧ plant result.plant) result.journal.entries) }
 {
     match play_by_seed(alloc, plan, seed, plant) {
-        Ok((plan, plant, journal)) => ended(alloc, &plan, plant, journal, &Seens::empty(alloc)),
+        Ok((plan, plant, journal)) => ended(alloc, plan, plant, journal, &Seens::empty(alloc)),
         Err(decision) => decision,
     }
 }
@@ -191,7 +207,7 @@ pub fn play_cell<P: Plant>(alloc: Global, plan: Plan, cycles: u32, plant: P) -> 
     match play_by_seed(alloc, plan, cycles, plant) {
         Ok((plan, plant, journal)) => {
             let text = summary(alloc, &plan, &journal, cycles);
-            ended_with(&plan, plant, journal, text)
+            summed_up(&plan, plant, journal, text)
         }
         Err(decision) => decision,
     }
@@ -220,14 +236,15 @@ pub fn unplayed<P: Plant>(hall: Hall<P>) -> Decision<P>
 /// and it comes to want of memory.
 pub fn ended_in_threads<P: Plant>(
     alloc: Global,
-    plan: &Plan,
+    plan: Plan,
     plant: P,
     journal: Journal,
     seens: Option<Seens>,
 ) -> Decision<P>
-    requires entries { AllWellFormed plan.now journal.entries }
-    requires watches { IfSome seens (λ s. AreOfPlan plan.now s.seens) }
-    ensures ends { IfSome seens (λ s. EndsAs plan.now journal.entries s.seens result.finding) }
+    requires named { is_well_named plan ≡ true }
+    requires entries { AllWellFormed plan journal.entries }
+    requires watches { IfSome seens (λ s. AreOfPlan plan s.seens) }
+    ensures ends { IfSome seens (λ s. EndsAs plan journal.entries s.seens result.finding) }
     ensures refused { IfNone seens (result.finding ≡ Finding.OutOfMemory) }
     ensures plant { result.plant ≡ plant }
     ensures journal { result.journal.entries ≡ journal.entries }
@@ -251,6 +268,7 @@ pub fn run_plan<P: Plant + Send, G: Gate + HandlerGate + Sync, R: Threads + Wait
     plant: P,
     gate: &G,
 ) -> Decision<P>
+    requires { is_well_named plan ≡ true }
     ensures comes { RunComesTo plan result.finding
         (left_of (plant_use ⟦<P as Plant>⟧ plant result.plant) result.journal.entries) }
     ensures told { WasToldAll (G.was_told gate.now) (G.was_handed gate.now) result.journal.entries }
@@ -270,7 +288,7 @@ pub fn run_plan<P: Plant + Send, G: Gate + HandlerGate + Sync, R: Threads + Wait
         Err(RunError { machine }) => return unplayed(machine),
     };
     let (plan, plant, journal) = machine.into_parts();
-    ended_in_threads(alloc, &plan, plant, journal, seens)
+    ended_in_threads(alloc, plan, plant, journal, seens)
 }
 
 /// Plays a plan to its end by so many workers, and writes the text of its journal. It need not return.
@@ -284,6 +302,7 @@ pub fn pool_plan<P: Plant + Send, G: Gate + Sync, R: Threads + Wait + Sync>(
 ) -> Decision<P>
     requires one { 1 ≤ workers }
     requires few { workers ≤ 16 }
+    requires named { is_well_named plan ≡ true }
     ensures { PoolComesTo plan result.finding
         (left_of (plant_use ⟦<P as Plant>⟧ plant result.plant) result.journal.entries) }
 {
@@ -304,5 +323,5 @@ pub fn pool_plan<P: Plant + Send, G: Gate + Sync, R: Threads + Wait + Sync>(
         Err(RunError { machine }) => return unplayed(machine),
     };
     let (plan, plant, journal) = played.into_parts();
-    ended(alloc, &plan, plant, journal, &Seens::empty(alloc))
+    ended(alloc, plan, plant, journal, &Seens::empty(alloc))
 }

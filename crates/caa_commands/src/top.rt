@@ -1,6 +1,6 @@
 ghost use Rattle.std.specs.Prelude.{◌≡◌, ◌≤◌, [], if◌then◌else◌, true, false, map, string_bytes};
 ghost use Rattle.caa_commands.specs.Commands.{command_of, asks_for_input, asks_for_threads, without_threads};
-ghost use Rattle.caa_commands.specs.Findings.{is_played};
+ghost use Rattle.caa_commands.specs.Findings.{is_played, CanBeTold};
 ghost use Rattle.caa_commands.specs.Gates.{IsToldByRun};
 ghost use Rattle.caa_commands.specs.OutsideUse.{sink_use, call_over};
 ghost use Rattle.caa_commands.specs.Calls.{Tells, Answers};
@@ -13,7 +13,6 @@ use crate::serving::{decide, decide_in_threads};
 use crate::status::{Ended, Status};
 use caa_base::outside::gate::Gate;
 use caa_base::outside::plant::Plant;
-use caa_base::outside::reading::write_all;
 use caa_base::outside::sink::Sink;
 use caa_base::outside::source::Source;
 use caa_base::written::journal::Journal;
@@ -39,6 +38,7 @@ pub(crate) fn tell<K: Sink, P: Plant>(
     decision: Decision<P>,
     sink: &mut K,
 ) -> Ended<P>
+    requires { CanBeTold decision.finding decision.journal.entries }
     ensures tells { Tells decision.finding decision.journal.entries result.journal.entries
         (sink_use ⟦<K as Sink>⟧ sink.old sink.new) result.status }
     ensures plant { result.plant ≡ decision.plant }
@@ -59,7 +59,7 @@ pub(crate) fn tell<K: Sink, P: Plant>(
             journal: Journal::empty(alloc),
         };
     };
-    match write_all(sink, text.bytes()) {
+    match text.write(sink, &journal) {
         Ok(()) => Ended {
             status,
             plant,

@@ -1,26 +1,19 @@
 -- What a log in a sink tells of a journal.
-use Rattle.std.specs.Prelude.{◌≡◌, ◌<◌, ◌^◌, ℕ, length, List, [], ◌∷◌, ◌++◌, IfSome, Result, Ok, Err}
+use Rattle.std.specs.Prelude.{◌≡◌, ℕ, List, [], ◌∷◌, ◌++◌, IfSome, Result, Ok, Err}
 use Rattle.std.specs.Io.KnownBytes.{append_known}
-use Rattle.std.specs.List.{flat_map}
 use Rattle.caa_base.specs.Outside.Counts.{counted_up}
 use Rattle.caa_base.specs.Outside.Writing.{WrotePart}
 use Rattle.caa_base.specs.declared.outside.sink.Sink.{Ghosts as SinkGhosts}
 use Rattle.caa_base.specs.declared.written.entry.Entry.{Entry}
 use Rattle.place_plan.specs.Plans.PlanValue.{Plan}
-use Rattle.journal_text.specs.Texts.Text.{first_line, entry_line}
+use Rattle.journal_text.specs.Texts.Text.{entry_line, entries_text}
 use Rattle.entry_log.specs.declared.sink_log.LogState.{LogState}
 use Rattle.entry_log.specs.declared.sink_log.LogState.TheVariants as state
 
--- the text of the entries so far: the first line, and one line for each entry
-abbrev pub log_text : Plan → List Entry → List ℕ
-log_text plan journal = first_line ++ flat_map (entry_line plan) journal
-
--- a log in a sink: the sink, what it was when the log was opened, how many bytes of whole lines were written since, as far as that
--- can be counted, and whether the log still writes
+-- a log in a sink: the sink, what it was when the log was opened, and whether the log still writes
 pub record SinkLog (K : Type 0) : Type 0 where
   pub sink : K
   pub opened : K
-  pub written : ℕ
   pub state : LogState
 
 -- all of these bytes were written, and no write failed
@@ -39,9 +32,8 @@ TextCame sinks before after bytes (Ok v) = WasWritten sinks before after bytes
 TextCame sinks before after bytes (Err e) = WasCut sinks before after bytes
 
 -- since it was opened just the text of the entries so far was written, and no write failed
-pub record IsWhole {K : Type 0} (sinks : SinkGhosts K) (log : SinkLog K) (plan : Plan) (journal : List Entry) : Type 0 where
-  pub lines : WasWritten sinks log.opened log.sink (log_text plan journal)
-  pub count : length (log_text plan journal) < 2 ^ 64 → log.written ≡ length (log_text plan journal)
+abbrev pub IsWhole : {K : Type 0} → SinkGhosts K → SinkLog K → Plan → List Entry → Type 0
+IsWhole sinks log plan journal = WasWritten sinks log.opened log.sink (entries_text plan journal)
 
 -- it has stopped at one of the entries: the text of the entries before it was written, and of its line at most a front and not all;
 -- nothing was written since
@@ -51,7 +43,7 @@ pub record HasStopped {K : Type 0} (sinks : SinkGhosts K) (log : SinkLog K) (pla
   pub after : List Entry
   pub all : journal ≡ before ++ entry ∷ after
   pub part :
-      WrotePart (append_known (sinks.held log.opened) (log_text plan before)) (sinks.held log.sink) (entry_line plan entry)
+      WrotePart (append_known (sinks.held log.opened) (entries_text plan before)) (sinks.held log.sink) (entry_line plan entry)
 
 -- what a log of each state tells of a journal: it is whole; or it has stopped, and one write failed, or no memory was found for a line
 -- and no write failed
@@ -70,8 +62,8 @@ IsFresh sinks sink = (sinks.faults sink ≡ 0) × IfSome (sinks.held sink) (λ b
 abbrev pub Tells : {K : Type 0} → SinkGhosts K → SinkLog K → Plan → List Entry → Type 0
 Tells sinks log plan journal = IsFresh sinks log.opened × TellsBy log.state sinks log plan journal
 
--- what writing a line comes to, which was put together in memory
-abbrev pub LineCame : {K : Type 0} → SinkGhosts K → K → K → List ℕ → List ℕ → LogState → Type 0
-LineCame sinks before after line memory state.Whole = WasWritten sinks before after line × (memory ≡ line)
-LineCame sinks before after line memory state.Failed = WasCut sinks before after line
-LineCame sinks before after line memory state.NoMemory = after ≡ before
+-- what writing a line comes to, for which memory is wanted
+abbrev pub LineCame : {K : Type 0} → SinkGhosts K → K → K → List ℕ → LogState → Type 0
+LineCame sinks before after line state.Whole = WasWritten sinks before after line
+LineCame sinks before after line state.Failed = WasCut sinks before after line
+LineCame sinks before after line state.NoMemory = after ≡ before

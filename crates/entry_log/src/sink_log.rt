@@ -1,10 +1,10 @@
-ghost use Rattle.std.specs.Prelude.{◌≡◌, ℕ, List, [], ◌++◌, IfOk, IfErr};
+ghost use Rattle.std.specs.Prelude.{◌≡◌, List, [], ◌++◌, IfOk, IfErr};
 ghost use Rattle.caa_base.specs.declared.written.entry.Entry.{Entry as JournalEntry};
 ghost use Rattle.place_plan.specs.Plans.PlanValue.{Plan as PlanValue};
 ghost use Rattle.place_plan.specs.RulesOfJournals.WellFormed.{IsWellFormed};
-ghost use Rattle.journal_text.specs.Texts.Text.{first_line, entry_line};
+ghost use Rattle.journal_text.specs.Texts.Text.{first_line, entry_line, entries_text};
 ghost use Rattle.entry_log.specs.declared.sink_log.LogState.{LogState};
-ghost use Rattle.entry_log.specs.Logs.{log_text, IsFresh, Tells, TextCame, WasCut, LineCame};
+ghost use Rattle.entry_log.specs.Logs.{IsFresh, Tells, TextCame, WasCut, LineCame};
 
 use crate::log::Log;
 use caa_base::outside::reading::write_all;
@@ -36,7 +36,6 @@ pub struct SinkLog<K> {
     sink: K,
     line: Vec<u8>,
     opened: Snapshot<K>,
-    written: usize,
     state: LogState,
 }
 
@@ -45,7 +44,7 @@ impl<K> Model for SinkLog<K> {
 
     ghost Value = { SinkLog K };
 
-    ghost view = { λ l. record { sink = l.sink; opened = l.opened.value; written = l.written; state = l.state } };
+    ghost view = { λ l. record { sink = l.sink; opened = l.opened.value; state = l.state } };
 }
 
 /// The sink in which a log couldn't be opened, since its first line wasn't written.
@@ -69,7 +68,6 @@ impl<K: Sink + Drop> SinkLog<K> {
                 sink,
                 line: Vec::new(alloc),
                 opened,
-                written: 8,
                 state: LogState::Whole,
             }),
             Err(Failed) => Err(Unopened { sink }),
@@ -85,15 +83,14 @@ impl<K: Sink + Drop> SinkLog<K> {
 
     /// Writes what stands behind the entries in the text of the journal, so that all of the text is written. Where a write fails or
     /// had failed, a front of the text was written and not all.
-    pub fn complete(&mut self, text: &[u8]) -> Result<(), Failed>
+    pub fn complete(&mut self, rest: &[u8]) -> Result<(), Failed>
         requires memory { self.old.state ≡ LogState.NoMemory → ⊥ }
         ensures opened { self.new.opened ≡ self.old.opened }
-        ensures came { (plan : PlanValue) (journal : List JournalEntry) (rest : List ℕ)
-            → Tells ⟦<K as Sink>⟧ self.old plan journal → text.now ≡ log_text plan journal ++ rest
-            → TextCame ⟦<K as Sink>⟧ self.old.opened self.new.sink text.now result }
+        ensures came { (plan : PlanValue) (journal : List JournalEntry) → Tells ⟦<K as Sink>⟧ self.old plan journal
+            → TextCame ⟦<K as Sink>⟧ self.old.opened self.new.sink (entries_text plan journal ++ rest.now) result }
     {
         match self.state {
-            LogState::Whole => write_all(&mut self.sink, &text[self.written.min(text.len())..]),
+            LogState::Whole => write_all(&mut self.sink, rest),
             LogState::Failed => Err(Failed),
             LogState::NoMemory => unreachable!(),
         }
@@ -110,7 +107,7 @@ impl<K: Sink + Drop> SinkLog<K> {
 /// Writes the line of an entry by one call.
 fn write_line<K: Sink>(sink: &mut K, line: &mut Vec<u8>, plan: &Plan, entry: &Entry) -> LogState
     requires { IsWellFormed plan.now entry.now }
-    ensures { LineCame ⟦<K as Sink>⟧ sink.old sink.new (entry_line plan.now entry.now) line.new.items result }
+    ensures { LineCame ⟦<K as Sink>⟧ sink.old sink.new (entry_line plan.now entry.now) result }
 {
     line.clear();
     match push_entry(line, plan, entry) {
@@ -129,7 +126,6 @@ impl<K: Sink> Log for SinkLog<K> {
         match self.state {
             LogState::Whole => {
                 self.state = write_line(&mut self.sink, &mut self.line, plan, entry);
-                self.written = self.written.saturating_add(self.line.len());
             }
             LogState::Failed | LogState::NoMemory => {}
         }

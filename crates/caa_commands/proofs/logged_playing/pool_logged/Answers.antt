@@ -1,9 +1,10 @@
-use Rattle.std.proofs.Common.{◌≡◌, ◌+◌, [], reverse, sym, ap, ◌∙◌, subst, subst₂, inl, inr, IfSome}
+use Rattle.std.proofs.Common.{◌≡◌, ◌+◌, true, [], reverse, sym, ap, ◌∙◌, subst, subst₂, inl, inr, IfSome}
 use Rattle.std.proofs.Math.Logic.{∥∥₁_map}
 use Rattle.place_plan.specs.RulesOfJournals.Journals.{IsLegal, IsComplete, faults_in}
 use Rattle.place_plan.specs.declared.rules.machine.Base.{Base}
 use Rattle.journal_replay.specs.Device.{attempts_in, HasValues, HasDrills}
 use Rattle.journal_replay.specs.Hall.{plan_in, plant_in, journal_in, base_in}
+use Rattle.journal_text.specs.Texts.Naming.{is_well_named}
 use Rattle.entry_log.specs.Logs.{Tells}
 use Rattle.caa_commands.specs.OutsideUse.{plant_use, left_of}
 use Rattle.caa_commands.specs.FailedPlays.{IsPlayed}
@@ -18,6 +19,12 @@ ended-requires-clause-entries g c =
     all_well_formed c.args.plan _ c.into_parts-plan.result.2.entries
     (parts.plan ∙ ap plan_in c.into_parts-hall-2.ensures.machine ∙ c.in-Ok-pool.ensures.plan ∙ ap plan_in c.new-logged.ensures.machine
     ∙ c.in-Ok.ensures.plan) parts.legal c.is_well_formed.ensures
+
+pub ended-requires-clause-named : goal.ended-requires-clause-named
+ended-requires-clause-named g c =
+    subst (λ p. is_well_named p ≡ true)
+    (sym (c.into_parts-plan.ensures.plan ∙ ap plan_in c.into_parts-hall-2.ensures.machine ∙ c.in-Ok-pool.ensures.plan
+    ∙ ap plan_in c.new-logged.ensures.machine ∙ c.in-Ok.ensures.plan)) c.requires.named
 
 pub returns-clause-comes : goal.returns-clause-comes
 returns-clause-comes g c =

@@ -22,6 +22,7 @@ use Rattle.journal_text.specs.Watching.Right.{first_wrong}
 use Rattle.caa_commands.specs.declared.finding.Finding.{Finding}
 use Rattle.caa_commands.specs.declared.finding.Finding.TheVariants as finding
 use Rattle.caa_commands.specs.Findings.{is_played}
+use Rattle.journal_text.specs.Texts.Naming.{is_well_named}
 use Rattle.caa_commands.proofs.logged_playing.run_logged.Goals as goal
 
 pub ended_in_threads-requires-clause-entries : goal.ended_in_threads-requires-clause-entries
@@ -167,3 +168,9 @@ returns-in-Err-run-clause-told g c =
     let same = c.into_parts-hall.ensures.machine ∙ ap (λ l. l.machine) c.in-Err-run.ensures.refused ∙ c.new-logged.ensures.machine in
     nothing_told (g.G.Gate.was_told c.args.gate.now) (g.G.HandlerGate.was_handed c.args.gate.now) c.unplayed.result.journal.entries
     (c.unplayed.ensures.journal ∙ ap journal_in same ∙ c.in-Ok.ensures.journal)
+
+pub ended_in_threads-requires-clause-named : goal.ended_in_threads-requires-clause-named
+ended_in_threads-requires-clause-named g c =
+    subst (λ p. is_well_named p ≡ true)
+    (sym (c.into_parts-plan.ensures.plan ∙ ap plan_in c.into_parts-hall-2.ensures.machine ∙ c.in-Ok-run.ensures.plan
+    ∙ ap plan_in c.new-logged.ensures.machine ∙ c.in-Ok.ensures.plan)) c.requires.named

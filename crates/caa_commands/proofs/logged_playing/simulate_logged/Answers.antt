@@ -1,4 +1,4 @@
-use Rattle.std.proofs.Common.{◌≡◌, ◌+◌, [], reverse, sym, ap, ◌∙◌, subst, subst₂, inl, IfSome}
+use Rattle.std.proofs.Common.{◌≡◌, ◌+◌, true, [], reverse, sym, ap, ◌∙◌, subst, subst₂, inl, IfSome}
 use Rattle.std.proofs.Math.Logic.{∥∥₁_map}
 use Rattle.caa_base.specs.Written.Mixing.{turn_number}
 use Rattle.place_plan.specs.RulesOfJournals.Journals.{IsLegal, IsComplete, faults_in}
@@ -11,6 +11,7 @@ use Rattle.caa_commands.specs.OutsideUse.{plant_use, left_of}
 use Rattle.caa_commands.specs.Calls.{EndsAs, IsSimulated}
 use Rattle.caa_commands.proofs.PlayedHistory.{went_on}
 use Rattle.caa_commands.proofs.Reversed.{all_well_formed}
+use Rattle.journal_text.specs.Texts.Naming.{is_well_named}
 use Rattle.caa_commands.proofs.logged_playing.simulate_logged.Goals as goal
 
 pub ended-requires-clause-entries : goal.ended-requires-clause-entries
@@ -80,3 +81,9 @@ returns-clause-logged g c =
       seens = [];
       ends = subst (λ j. EndsAs c.args.plan j [] finding) (sym told.journal) seen;
     }
+
+pub ended-requires-clause-named : goal.ended-requires-clause-named
+ended-requires-clause-named g c =
+    subst (λ p. is_well_named p ≡ true)
+    (sym (c.into_parts-plan.ensures.plan ∙ ap plan_in c.into_parts-hall.ensures.machine ∙ c.sim.ensures.plan
+    ∙ ap plan_in c.new-logged.ensures.machine ∙ c.in-Ok.ensures.plan)) c.requires.named

@@ -4,6 +4,7 @@ use Rattle.caa_commands.specs.OutsideUse.{source_use, plant_use, left_of, call_o
 use Rattle.caa_commands.specs.Logging.{LogAnswers}
 use Rattle.caa_commands.proofs.GatesTold.{log_told}
 use Rattle.caa_commands.proofs.LoggedCalls.{log_answered, log_complete}
+use Rattle.caa_commands.proofs.Tellable.{came_told}
 use Rattle.caa_commands.proofs.logged_top.top_logged.Goals as goal
 
 pub returns-clause-answer : goal.returns-clause-answer
@@ -23,3 +24,6 @@ pub returns-clause-told : goal.returns-clause-told
 returns-clause-told g c = λ is.
     log_told (g.G.Gate.was_told c.args.gate.now) (g.G.HandlerGate.was_handed c.args.gate.now) g.K.Sink _ _ _ _ _ _
     (c.decide_logged_in_threads-decided.ensures.told (c.threaded_command_of-asked.ensures.command c.requires.threads ∙ is)) c.tell_logged.ensures.told
+
+pub tell_logged-requires : goal.tell_logged-requires
+tell_logged-requires g c = came_told _ _ c.decide_logged_in_threads-decided.ensures.came

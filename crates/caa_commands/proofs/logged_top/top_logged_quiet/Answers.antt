@@ -3,6 +3,7 @@ use Rattle.std.proofs.Math.Logic.{∥∥₁_map}
 use Rattle.caa_commands.specs.OutsideUse.{source_use, plant_use, left_of, call_of, sink_use}
 use Rattle.caa_commands.specs.Logging.{LogAnswers}
 use Rattle.caa_commands.proofs.LoggedCalls.{log_answered, log_complete}
+use Rattle.caa_commands.proofs.Tellable.{came_told}
 use Rattle.caa_commands.proofs.logged_top.top_logged_quiet.Goals as goal
 
 pub returns-clause-answer : goal.returns-clause-answer
@@ -17,3 +18,6 @@ returns-clause-answer g c =
 
 pub returns-clause-completeness : goal.returns-clause-completeness
 returns-clause-completeness g c = ∥∥₁_map (returns-clause-answer g c) (λ a. log_complete _ _ _ a)
+
+pub tell_logged-requires : goal.tell_logged-requires
+tell_logged-requires g c = came_told _ _ c.decide_logged-decided.ensures.came

@@ -7,10 +7,10 @@ use Rattle.caa_commands.proofs.playing.play_cell.Goals as goal
 pub returns-in-Ok : goal.returns-in-Ok
 returns-in-Ok g c =
     let played = c.in-Ok.ensures in
-    let told = c.ended_with.ensures in
+    let told = c.summed_up.ensures in
     let plan = c.args.plan in
     let cycles = c.args.cycles in
-    let finding = c.ended_with.result.finding in
+    let finding = c.summed_up.result.finding in
     let journal = c.in-Ok.journal.entries in
     let seen = subst (λ p. EndsWith p journal (summary_text p journal cycles) finding) played.plan
     (told.ends (summary_text c.in-Ok.plan journal cycles) c.summary-text.ensures) in

@@ -1,4 +1,4 @@
-use Rattle.std.proofs.Common.{◌≡◌, ◌+◌, [], reverse, sym, ap, ◌∙◌, subst, subst₂, inl, inr, IfSome}
+use Rattle.std.proofs.Common.{◌≡◌, ◌+◌, true, [], reverse, sym, ap, ◌∙◌, subst, subst₂, inl, inr, IfSome}
 use Rattle.place_plan.specs.RulesOfJournals.Journals.{IsLegal, IsComplete, faults_in}
 use Rattle.place_plan.specs.declared.rules.machine.Base.{Base}
 use Rattle.journal_replay.specs.Device.{attempts_in, HasValues, HasDrills}
@@ -8,6 +8,7 @@ use Rattle.caa_commands.specs.OutsideUse.{plant_use, left_of}
 use Rattle.caa_commands.specs.Calls.{EndsAs}
 use Rattle.caa_commands.proofs.PlayedHistory.{went_on, only_laid, nothing_played}
 use Rattle.caa_commands.proofs.Reversed.{all_well_formed}
+use Rattle.journal_text.specs.Texts.Naming.{is_well_named}
 use Rattle.caa_commands.proofs.playing.pool_plan.Goals as goal
 
 pub ended-requires-clause-entries : goal.ended-requires-clause-entries
@@ -71,3 +72,8 @@ returns-in-Err-pool g c =
         drills = left.tells_drilling ∙ ap (λ h. (base_in h).tells_drills) same ∙ opened.tells_drilling;
       };
     }))
+
+pub ended-requires-clause-named : goal.ended-requires-clause-named
+ended-requires-clause-named g c =
+    subst (λ p. is_well_named p ≡ true) (sym (c.into_parts-plan.ensures.plan ∙ c.in-Ok-pool.ensures.plan ∙ c.in-Ok.ensures.plan))
+    c.requires.named

@@ -17,6 +17,7 @@ use Rattle.role_driver.specs.Working.{TellsWork}
 use Rattle.caa_commands.proofs.GatesTold.{begins_none, nothing_told}
 use Rattle.caa_commands.proofs.PlayedHistory.{went_on, only_laid, nothing_played}
 use Rattle.caa_commands.proofs.Reversed.{all_well_formed}
+use Rattle.journal_text.specs.Texts.Naming.{is_well_named}
 use Rattle.caa_commands.proofs.playing.run_plan.Goals as goal
 
 pub ended_in_threads-requires-clause-entries : goal.ended_in_threads-requires-clause-entries
@@ -118,3 +119,7 @@ pub returns-in-Err-run-clause-told : goal.returns-in-Err-run-clause-told
 returns-in-Err-run-clause-told g c =
     nothing_told (g.G.Gate.was_told c.args.gate.now) (g.G.HandlerGate.was_handed c.args.gate.now) c.unplayed.result.journal.entries
     (c.unplayed.ensures.journal ∙ ap journal_in c.in-Err-run.ensures.refused ∙ c.in-Ok.ensures.journal)
+
+pub ended_in_threads-requires-clause-named : goal.ended_in_threads-requires-clause-named
+ended_in_threads-requires-clause-named g c =
+    subst (λ p. is_well_named p ≡ true) (sym (c.into_parts-plan.ensures.plan ∙ c.in-Ok-run.ensures.plan ∙ c.in-Ok.ensures.plan)) c.requires

@@ -1,6 +1,7 @@
-use Rattle.std.proofs.Common.{[], sym, subst, subst₂, inl}
+use Rattle.std.proofs.Common.{◌≡◌, true, [], sym, subst, subst₂, inl}
 use Rattle.caa_commands.specs.OutsideUse.{plant_use, left_of}
 use Rattle.caa_commands.specs.Calls.{EndsAs, IsSimulated}
+use Rattle.journal_text.specs.Texts.Naming.{is_well_named}
 use Rattle.caa_commands.proofs.playing.simulate.Goals as goal
 
 pub returns-in-Ok : goal.returns-in-Ok
@@ -15,3 +16,6 @@ returns-in-Ok g c =
           played.played,
       subst (λ j. EndsAs plan j [] finding) (sym told.journal) seen,
     )
+
+pub ended-requires-clause-named : goal.ended-requires-clause-named
+ended-requires-clause-named g c = subst (λ p. is_well_named p ≡ true) (sym c.in-Ok.ensures.plan) c.requires.named

@@ -2,6 +2,7 @@ use Rattle.std.proofs.Common.{◌∙◌}
 use Rattle.caa_commands.proofs.CallsServed.{complete}
 use Rattle.caa_commands.proofs.GatesTold.{kept_told}
 use Rattle.caa_commands.proofs.ToldCalls.{answered}
+use Rattle.caa_commands.proofs.Tellable.{came_told}
 use Rattle.caa_commands.proofs.top.top.Goals as goal
 
 pub returns-clause-answer : goal.returns-clause-answer
@@ -17,3 +18,6 @@ pub returns-clause-told : goal.returns-clause-told
 returns-clause-told g c = λ is.
     kept_told (g.G.Gate.was_told c.args.gate.now) (g.G.HandlerGate.was_handed c.args.gate.now) _ _ _ _ _
     (c.decide_in_threads-decision.ensures.told (c.threaded_command_of.ensures.command c.requires.threads ∙ is)) c.tell.ensures.tells
+
+pub tell-requires : goal.tell-requires
+tell-requires g c = came_told _ _ c.decide_in_threads-decision.ensures.came
