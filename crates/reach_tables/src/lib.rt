@@ -1,0 +1,4 @@
+//! Tables of what can come in the places of each action of a plan.
+#![tactic(auto)]
+
+pub mod steps;

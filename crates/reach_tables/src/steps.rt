@@ -1,0 +1,168 @@
+//! What somebody comes to in the steps of a program, and whether a table tells what is raised there.
+
+ghost use Rattle.std.specs.Prelude.{◌≡◌, option_copied};
+ghost use Rattle.std.specs.List.{list_all, list_any};
+ghost use Rattle.caa_base.specs.Written.Lists.{member};
+ghost use Rattle.place_plan.specs.Plans.Places.{handler_in};
+ghost use Rattle.reach_laws.specs.ReachedSteps.{is_raise, reached, enters, can_break, body_enters, is_endless, answer_by, answer_to, is_breakable, can_fail_at};
+ghost use Rattle.reach_laws.specs.ReachTable.{tells_step, tells_role};
+
+use caa_base::written::entry::{Exception, Verdict};
+use place_plan::drafts::draft_rows::{HandlerRow, Program, RoleRow, Step};
+
+/// Whether a number is in a list.
+pub fn is_member(number: u32, list: &[u32]) -> bool
+    ensures { result ≡ member number list.now }
+{
+    list.iter().any(|item| *item == number)
+}
+
+/// Whether a step raises, whatever the register of its maker is.
+fn is_raise(step: &Step) -> bool
+    ensures { result ≡ is_raise step.now }
+{
+    match step {
+        Step::Raise(_) => true,
+        Step::Read(_)
+        | Step::Put(_, _)
+        | Step::Add(_, _)
+        | Step::Work(_)
+        | Step::Check { .. }
+        | Step::Enter(_) => false,
+    }
+}
+
+/// Whether what a step can raise is told; `fault` is what a refused put raises.
+fn tells_step(fault: Exception, raised: &[Exception], step: &Step) -> bool
+    ensures { result ≡ tells_step fault raised.now step.now }
+{
+    match step {
+        Step::Put(_, _) | Step::Add(_, _) => is_member(fault, raised),
+        Step::Check { exception, .. } => is_member(*exception, raised),
+        Step::Raise(exception) => is_member(*exception, raised),
+        Step::Read(_) | Step::Work(_) | Step::Enter(_) => true,
+    }
+}
+
+/// Whether what these steps raise is told, up to the first raise.
+fn tells_steps(fault: Exception, raised: &[Exception], steps: &[Step]) -> bool
+    ensures { result ≡ list_all (tells_step fault raised.now) (reached steps.now) }
+{
+    for step in steps {
+        if !tells_step(fault, raised, step) {
+            return false;
+        }
+        if is_raise(step) {
+            return true;
+        }
+    }
+    true
+}
+
+/// Whether what the body of a role raises is told.
+pub fn tells_role(fault: Exception, raised: &[Exception], role: &RoleRow) -> bool
+    ensures { result ≡ tells_role fault raised.now role.now }
+{
+    tells_steps(fault, raised, role.body.steps.as_slice())
+}
+
+/// Whether a step enters the use of this number.
+fn enters(nest: u32, step: &Step) -> bool
+    ensures { result ≡ enters nest step.now }
+{
+    match step {
+        Step::Enter(number) => *number == nest,
+        Step::Read(_)
+        | Step::Put(_, _)
+        | Step::Add(_, _)
+        | Step::Work(_)
+        | Step::Check { .. }
+        | Step::Raise(_) => false,
+    }
+}
+
+/// Whether somebody comes to a step that enters the use of this number.
+fn steps_enter(nest: u32, steps: &[Step]) -> bool
+    ensures { result ≡ list_any (enters nest) (reached steps.now) }
+{
+    for step in steps {
+        if enters(nest, step) {
+            return true;
+        }
+        if is_raise(step) {
+            return false;
+        }
+    }
+    false
+}
+
+/// Whether a role comes to the step that enters the use of this number.
+pub fn body_enters(nest: u32, role: &RoleRow) -> bool
+    ensures { result ≡ body_enters nest role.now }
+{
+    steps_enter(nest, role.body.steps.as_slice())
+}
+
+/// Whether nobody comes to the end of a program, since it has a raise.
+pub fn is_endless(program: &Program) -> bool
+    ensures { result ≡ is_endless program.now }
+{
+    program.steps.iter().any(|step| is_raise(step))
+}
+
+/// Whether a handler can be broken off at a step.
+fn can_break(step: &Step) -> bool
+    ensures { result ≡ can_break step.now }
+{
+    match step {
+        Step::Put(_, _) | Step::Add(_, _) | Step::Check { .. } => true,
+        Step::Read(_) | Step::Work(_) | Step::Raise(_) | Step::Enter(_) => false,
+    }
+}
+
+/// Whether somebody comes to a step at which a handler can be broken off.
+fn steps_break(steps: &[Step]) -> bool
+    ensures { result ≡ list_any can_break (reached steps.now) }
+{
+    for step in steps {
+        if can_break(step) {
+            return true;
+        }
+        if is_raise(step) {
+            return false;
+        }
+    }
+    false
+}
+
+/// The program of the handler for an exception.
+fn handler_in(handlers: &[HandlerRow], exception: Exception) -> Option<&Program>
+    ensures { option_copied result ≡ handler_in exception handlers.now }
+{
+    for handler in handlers {
+        if handler.exception == exception {
+            return Some(&handler.program);
+        }
+    }
+    None
+}
+
+/// What a role says once an exception is resolved, unless its handler is broken off.
+pub fn answer_to(exception: Exception, role: &RoleRow) -> Verdict
+    ensures { result ≡ answer_to exception role.now }
+{
+    match handler_in(role.handlers.as_slice(), exception) {
+        Some(program) if !is_endless(program) => program.verdict,
+        _ => Verdict::Undo,
+    }
+}
+
+/// Whether the handler of a role for an exception can be broken off.
+pub fn can_fail_at(exception: Exception, role: &RoleRow) -> bool
+    ensures { result ≡ can_fail_at exception role.now }
+{
+    match handler_in(role.handlers.as_slice(), exception) {
+        Some(program) => steps_break(program.steps.as_slice()),
+        None => false,
+    }
+}
