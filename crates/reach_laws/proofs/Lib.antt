@@ -7,4 +7,3 @@ pub mod RoleRows
 pub mod EndsExplained
 pub mod Carried
 pub mod Explained
-pub mod TableTells

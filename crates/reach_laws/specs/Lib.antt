@@ -1,4 +1,3 @@
 pub mod ReachedSteps
 pub mod CanCome
 pub mod Reach
-pub mod ReachTable

@@ -4,7 +4,6 @@
 
 ghost use Rattle.journal_laws.specs.Laws.{Holds};
 ghost use Rattle.reach_laws.specs.Reach.{RaisesNoOther, ResolvesNoOther, EndsNotOtherwise, TriesNoOther};
-ghost use Rattle.reach_laws.specs.ReachTable.{TablesTell};
 
 use place_plan::plans::plan::Plan;
 
@@ -33,14 +32,6 @@ pub fn ends_not_otherwise(plan: &Plan)
 /// it can't end undone, and a place starts only where each of its roles comes to the step that enters it.
 pub fn tries_no_other(plan: &Plan)
     ensures { Holds TriesNoOther plan.now }
-{
-    plan.is_closed();
-}
-
-/// A table of what can come in the places of each action, where it leaves nothing out, tells whatever comes in a legal journal.
-/// So what it doesn't tell never comes, whatever the order of the entries and the answers of the device.
-pub fn tables_tell(plan: &Plan)
-    ensures { Holds TablesTell plan.now }
 {
     plan.is_closed();
 }

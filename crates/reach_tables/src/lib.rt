@@ -2,3 +2,5 @@
 #![tactic(auto)]
 
 pub mod steps;
+pub mod table;
+pub mod telling;

@@ -5,7 +5,7 @@ ghost use Rattle.std.specs.List.{list_all, list_any};
 ghost use Rattle.caa_base.specs.Written.Lists.{member};
 ghost use Rattle.place_plan.specs.Plans.Places.{handler_in};
 ghost use Rattle.reach_laws.specs.ReachedSteps.{is_raise, reached, enters, can_break, body_enters, is_endless, answer_by, answer_to, is_breakable, can_fail_at};
-ghost use Rattle.reach_laws.specs.ReachTable.{tells_step, tells_role};
+ghost use Rattle.reach_tables.specs.ReachTable.{tells_step, tells_role};
 
 use caa_base::written::entry::{Exception, Verdict};
 use place_plan::drafts::draft_rows::{HandlerRow, Program, RoleRow, Step};

@@ -17,7 +17,8 @@ use Rattle.place_plan.specs.declared.drafts.draft_rows.RoleRow.{RoleRow}
 use Rattle.place_plan.specs.declared.drafts.draft_rows.Step.TheVariants as step
 use Rattle.reach_laws.specs.ReachedSteps.{EndsBy}
 use Rattle.reach_laws.specs.CanCome.{action_of, use_in, steps_raise, body_verdicts, answers, Source, CanRaise, CanBeRaised, CanBeResolved, CanEnd, CanBeTried, by_step, by_use, by_abort, by_failure, by_source, least_of, calmly, by_answers, broken_off, not_taken_back, in_turn}
-use Rattle.reach_laws.specs.ReachTable.{ReachRow, LeavesNothingOut}
+use Rattle.reach_tables.specs.declared.table.ReachRow.{ReachRow}
+use Rattle.reach_tables.specs.ReachTable.{LeavesNothingOut}
 use Rattle.worked_journals.proofs.Notation.{universal, program, role, action}
 use Rattle.worked_journals.proofs.Alternates.{x, plan, good_action, outer_action}
 

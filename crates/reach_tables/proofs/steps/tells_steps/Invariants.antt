@@ -1,7 +1,7 @@
 use Rattle.std.proofs.Common.{◌≡◌, drop}
 use Rattle.std.specs.List.{list_all}
 use Rattle.reach_laws.specs.ReachedSteps.{reached}
-use Rattle.reach_laws.specs.ReachTable.{tells_step}
+use Rattle.reach_tables.specs.ReachTable.{tells_step}
 use Rattle.reach_tables.proofs.steps.tells_steps.Given as goal
 
 abbrev pub invariant-loop-step : goal.invariant-loop-step

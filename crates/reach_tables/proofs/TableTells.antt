@@ -1,7 +1,7 @@
 -- A table that leaves nothing out tells all that can come.
-use Rattle.std.proofs.Common.{◌≡◌, ℕ, ◌==◌, ◌+◌, ◌<◌, ◌≤◌, Bool, true, false, not, cond, ◌&&◌, ◌||◌, List, [], ◌∷◌, ◌++◌, length, slice_index_or, slice_get, Some, None, zero, suc, refl, sym, ap, ◌∙◌, subst, arith, inl, inr}
+use Rattle.std.proofs.Common.{◌≡◌, ℕ, ◌==◌, ◌+◌, ◌<◌, ◌≤◌, Bool, true, false, not, cond, ◌&&◌, ◌||◌, List, [], ◌∷◌, ◌++◌, length, slice_index_or, slice_get, Some, None, zero, suc, refl, sym, ap, ◌∙◌, subst, arith, inl, inr, add-zero, zero-add}
 use Rattle.std.specs.List.{list_all, list_any, range_with_len, filter}
-use Rattle.std.proofs.lemmas.Bool.{and_parts, and_from, or_cases, or_left, or_right, eqb-true, eq-eqb, false≢true, cases_eq}
+use Rattle.std.proofs.lemmas.Bool.{and_parts, and_from, or_cases, or_left, or_right, eqb-true, eq-eqb, false≢true, false_from_ne_true, cases_eq}
 use Rattle.cover_table.specs.Cover.{CoverOrder, IsLeastCover, covers}
 use Rattle.caa_base.specs.declared.written.entry.Outcome.{Outcome}
 use Rattle.caa_base.specs.declared.written.entry.Outcome.TheVariants as outcome
@@ -15,7 +15,7 @@ use Rattle.place_plan.specs.declared.drafts.draft_rows.Step.{Step}
 use Rattle.place_plan.specs.declared.drafts.draft_rows.Step.TheVariants as step
 use Rattle.place_plan.specs.Plans.PlanValue.{Plan}
 use Rattle.caa_base.specs.Written.Lists.{member, is_empty}
-use Rattle.place_plan.specs.Plans.Places.{graph_at}
+use Rattle.place_plan.specs.Plans.Places.{graph_at, no_nest}
 use Rattle.caa_base.proofs.ListLemmas.{all_at, all_from, chosen}
 use Rattle.place_plan.proofs.OnPlans.Casts.{use_there}
 use Rattle.journal_laws.specs.Due.{is_least}
@@ -23,7 +23,7 @@ use Rattle.journal_laws.proofs.LeastOf.{is_least_from}
 use Rattle.journal_laws.proofs.Options.{some_apart, some_same}
 use Rattle.reach_laws.specs.ReachedSteps.{reached, can_raise, body_raises, can_fail_at, names_at_abort, all_signals, EndsBy}
 use Rattle.reach_laws.specs.CanCome.{action_of, use_in, is_entered, bodies_end, body_verdicts, answers, can_name, made_of, Source, step_of_role, nested_use, CanRaise, CanBeRaised, CanBeResolved, CanEnd, CanBeTried, by_step, by_use, by_abort, by_failure, by_source, least_of, calmly, by_answers, broken_off, not_taken_back, in_turn}
-use Rattle.reach_laws.specs.ReachTable.{ReachRow, row_of, tells_end, joined, all_raised, can_resolve, other_carries, has_beside, tells_step, tells_role, tells_abort, tells_ends, tells_given_up, tells_alternates, tells_use, tells_signals, tells_verdicts, tells_resolved, LeavesNothingOut, TellsWhatComes, TablesTell}
+use Rattle.reach_tables.specs.ReachTable.{row_of, tells_end, joined, all_raised, can_resolve, other_carries, has_beside, tells_step, tells_role, tells_abort, tells_ends, tells_given_up, tells_alternates, tells_use, tells_uses, tells_signals, tells_verdicts, tells_resolved, LeavesNothingOut, TellsWhatComes, TablesTell}
 use Rattle.caa_base.specs.declared.written.entry.Entry.{Entry}
 use Rattle.caa_base.specs.declared.written.entry.Kind.TheVariants as kind
 use Rattle.place_plan.specs.RulesOfJournals.Entries.{is_in}
@@ -35,6 +35,7 @@ use Rattle.journal_laws.proofs.Core.{Core}
 use Rattle.journal_laws.proofs.Newest.{newest_stands}
 use Rattle.journal_laws.proofs.Said.{has_maker}
 use Rattle.reach_laws.specs.Reach.{action_number}
+use Rattle.reach_tables.specs.declared.table.ReachRow.{ReachRow}
 use Rattle.reach_laws.proofs.ListsAlone.{at_member, some_there}
 use Rattle.reach_laws.proofs.Planned.{IsPlanned}
 use Rattle.reach_laws.proofs.Explained.{makers, raises_no_other, resolves_no_other, ends_not_otherwise, tries_no_other}
@@ -88,19 +89,15 @@ joined_has y [] k m = absurd (false≢true m)
 joined_has y (xs ∷ rest) zero m = member_left y xs (joined rest) m
 joined_has y (xs ∷ rest) (suc k) m = member_right y xs (joined rest) (joined_has y rest k m)
 
-some_carries : (y : ℕ) (uses : List (List ℕ)) (k : ℕ) → member y (slice_index_or uses k []) ≡ true
-    → list_any (λ ys. not (is_empty ys)) uses ≡ true
-some_carries y [] k m = absurd (false≢true m)
-some_carries y (xs ∷ rest) zero m = or_left _ _ (not_empty (is_empty xs) (some_there xs y m))
-some_carries y (xs ∷ rest) (suc k) m = or_right _ _ (some_carries y rest k m)
-
-others_carry : (y k other : ℕ) (uses : List (List ℕ)) → (other ≡ k → ⊥) → member y (slice_index_or uses other []) ≡ true
-    → other_carries k uses ≡ true
-others_carry y k other [] apart m = absurd (false≢true m)
-others_carry y zero zero (xs ∷ rest) apart m = absurd (apart refl)
-others_carry y zero (suc other) (xs ∷ rest) apart m = some_carries y rest other m
-others_carry y (suc k) zero (xs ∷ rest) apart m = or_left _ _ (not_empty (is_empty xs) (some_there xs y m))
-others_carry y (suc k) (suc other) (xs ∷ rest) apart m = or_right _ _ (others_carry y k other rest (λ e. apart (ap suc e)) m)
+others_carry : (y k n other : ℕ) (uses : List (List ℕ)) → (n + other ≡ k → ⊥) → member y (slice_index_or uses other []) ≡ true
+    → other_carries k n uses ≡ true
+others_carry y k n other [] apart m = absurd (false≢true m)
+others_carry y k n zero (xs ∷ rest) apart m =
+    or_left _ _ (and_from (not (n == k)) (not (is_empty xs))
+    (not_empty (n == k) (false_from_ne_true (n == k) (λ e. apart (let same = eqb-true n k e in omega arith))))
+    (not_empty (is_empty xs) (some_there xs y m)))
+others_carry y k n (suc other) (xs ∷ rest) apart m =
+    or_right _ _ (others_carry y k (suc n) other rest (λ e. apart (omega (arith, e))) m)
 
 -- ---- what is resolved
 
@@ -282,6 +279,19 @@ module _ (plan : Plan) (table : List ReachRow) where
       (implied (row_of table c).undone (tells_alternates plan table nest row k rest) parts.1
       (earlier zero c (omega arith) refl)) at_j (λ i d l at_i. earlier (suc i) d (omega arith) at_i)
 
+  -- what is told of all uses is told of each
+  use_told : (action : ActionRow) (row : ReachRow) (n k : ℕ) (nests : List NestRow)
+      → tells_uses plan table action row n nests ≡ true → k < length nests
+      → tells_use plan table action row (n + k) (slice_index_or nests k no_nest) ≡ true
+  use_told action row n k [] h l = absurd (omega arith)
+  use_told action row n zero (nest ∷ nests) h l =
+      rw add-zero (and_parts (tells_use plan table action row n nest) (tells_uses plan table action row (suc n) nests) h).0
+  use_told action row n (suc k) (nest ∷ nests) h l =
+      let same : suc n + k ≡ n + suc k = omega arith in
+      subst (λ z. tells_use plan table action row z (slice_index_or nests k no_nest) ≡ true) same
+      (use_told action row (suc n) k nests
+      (and_parts (tells_use plan table action row n nest) (tells_uses plan table action row (suc n) nests) h).1 (omega arith))
+
   -- the source can raise x, by the table
   abbrev pub tells_source : ReachRow → Source → ℕ → Bool
   tells_source row step_of_role x = member x row.by_steps
@@ -304,7 +314,8 @@ module _ (plan : Plan) (table : List ReachRow) where
   source_beside row k step_of_role x apart m =
       or_left _ _ (not_empty (is_empty row.by_steps) (some_there row.by_steps x m))
   source_beside row k (nested_use other) x apart m =
-      or_right _ _ (others_carry x k other row.by_uses (λ e. apart (ap nested_use e)) m)
+      or_right _ _ (others_carry x k 0 other row.by_uses
+      (λ e. apart (let same : other ≡ k = omega (arith, e) in ap nested_use same)) m)
 
   -- an alternate can be tried, by the table
   pub record IsTurn (a k j b : ℕ) : Type 0 where
@@ -321,11 +332,10 @@ module _ (plan : Plan) (table : List ReachRow) where
         let nest = use_in action k in
         let row = row_of table a in
         let below = use_there action.nests k b (at_member nest.actions j b turn.there) in
-        let used =
-        range_passes (tells_use plan table action row) 0 (length action.nests) k (all a).uses (omega arith) (omega (arith, below)) in
         turn_told nest row k nest.actions j b
-        (implied (is_entered action k) (tells_alternates plan table nest row k nest.actions) used turn.entered) turn.there
-        turn.earlier
+        (implied (is_entered action k) (tells_alternates plan table nest row k nest.actions)
+        (subst (λ z. tells_use plan table action row z nest ≡ true) (zero-add k)
+        (use_told action row 0 k action.nests (all a).uses below)) turn.entered) turn.there turn.earlier
 
     mutual
       raise_told : (a : ℕ) (source : Source) (x : ℕ) → CanRaise plan a source x → tells_source (row_of table a) source x ≡ true

@@ -1,8 +1,8 @@
 use Rattle.journal_laws.proofs.PlayablePlan.{is_playable}
 use Rattle.journal_laws.proofs.CoreKept.{core}
 use Rattle.reach_laws.proofs.Planned.{is_planned}
-use Rattle.reach_laws.proofs.TableTells.{tables_tell}
-use Rattle.reach_laws.proofs.tables_tell.Goals as goal
+use Rattle.reach_tables.proofs.TableTells.{tables_tell}
+use Rattle.reach_tables.proofs.table.tables_tell.Goals as goal
 
 pub returns : goal.returns
 returns c =

@@ -1,5 +1,5 @@
 -- A table of what can come in the places of each action, and when it leaves nothing out.
-use Rattle.std.specs.Prelude.{◌≡◌, ℕ, Bool, true, false, not, ◌&&◌, ◌||◌, if◌then◌else◌, List, [], ◌∷◌, ◌++◌, length, slice_index_or, Some, zero, suc}
+use Rattle.std.specs.Prelude.{◌≡◌, ℕ, ◌==◌, Bool, true, false, not, ◌&&◌, ◌||◌, if◌then◌else◌, List, [], ◌∷◌, ◌++◌, length, slice_index_or, Some, zero, suc}
 use Rattle.std.specs.List.{list_all, list_any, range_with_len, filter}
 use Rattle.cover_table.specs.Cover.{CoverOrder, covers}
 use Rattle.caa_base.specs.declared.written.entry.Entry.{Entry}
@@ -16,27 +16,17 @@ use Rattle.place_plan.specs.declared.drafts.draft_rows.Step.{Step}
 use Rattle.place_plan.specs.declared.drafts.draft_rows.Step.TheVariants as step
 use Rattle.place_plan.specs.Plans.PlanValue.{Plan}
 use Rattle.caa_base.specs.Written.Lists.{member, is_empty}
-use Rattle.place_plan.specs.Plans.Places.{graph_at, internal_of, next_alternate}
+use Rattle.place_plan.specs.Plans.Places.{graph_at, internal_of, next_alternate, no_role}
 use Rattle.place_plan.specs.RulesOfJournals.Entries.{is_in, has, newest}
 use Rattle.place_plan.specs.RulesOfJournals.Whereabouts.{outcome_at}
 use Rattle.place_plan.specs.RulesOfJournals.Raising.{exceptions_raised, exception_resolved}
 use Rattle.journal_laws.specs.Due.{is_least}
-use Rattle.reach_laws.specs.ReachedSteps.{reached, can_fail_at, ask_for_undo, all_signals}
+use Rattle.reach_laws.specs.ReachedSteps.{reached, body_enters, can_fail_at, ask_for_undo, all_signals}
 use Rattle.reach_laws.specs.CanCome.{action_of, use_in, is_entered, bodies_end, body_verdicts, answers}
 use Rattle.reach_laws.specs.Reach.{action_number}
+use Rattle.reach_tables.specs.declared.table.ReachRow.{ReachRow}
 
 -- ---- what a table says
-
--- of an action: what its steps raise, what each of its uses carries out, and what they carry out where they are given up; whether a place
--- of it can end with a commit, with which signals, undone and failed
-pub record ReachRow : Type 0 where
-  pub by_steps : List ℕ
-  pub by_uses : List (List ℕ)
-  pub given_up : List ℕ
-  pub commits : Bool
-  pub signals : List ℕ
-  pub undone : Bool
-  pub failed : Bool
 
 -- of an action without roles, as there is none: it commits
 abbrev pub no_reach : ReachRow
@@ -67,15 +57,14 @@ all_raised row = row.by_steps ++ (joined row.by_uses ++ row.given_up)
 abbrev pub can_resolve : CoverOrder → List ℕ → ℕ → Bool
 can_resolve order raised x = not (is_empty (filter (covers order x) raised)) && is_least order (filter (covers order x) raised) x
 
--- some use but this one carries something out
-abbrev pub other_carries : ℕ → List (List ℕ) → Bool
-other_carries k [] = false
-other_carries zero (xs ∷ rest) = list_any (λ ys. not (is_empty ys)) rest
-other_carries (suc k) (xs ∷ rest) = not (is_empty xs) || other_carries k rest
+-- some use but this one carries something out; `n` is the number of the first
+abbrev pub other_carries : ℕ → ℕ → List (List ℕ) → Bool
+other_carries k n [] = false
+other_carries k n (xs ∷ rest) = (not (n == k) && not (is_empty xs)) || other_carries k (suc n) rest
 
 -- something can be raised beside what this use carries out
 abbrev pub has_beside : ReachRow → ℕ → Bool
-has_beside row k = not (is_empty row.by_steps) || other_carries k row.by_uses
+has_beside row k = not (is_empty row.by_steps) || other_carries k 0 row.by_uses
 
 -- ---- when it leaves nothing out
 
@@ -117,10 +106,19 @@ tells_alternates plan table nest row k (b ∷ rest) =
     && (not (has_beside row k) || tells_given_up nest row.given_up (action_of plan b)))
     && (not (row_of table b).undone || tells_alternates plan table nest row k rest)
 
+-- each role of the use comes to the step that enters it
+abbrev pub all_enter : ActionRow → ℕ → NestRow → Bool
+all_enter action k nest = list_all (λ r. body_enters k (slice_index_or action.roles r no_role)) nest.roles
+
 -- and so of a use that all its roles come to
-abbrev pub tells_use : Plan → List ReachRow → ActionRow → ReachRow → ℕ → Bool
-tells_use plan table action row k =
-    not (is_entered action k) || tells_alternates plan table (use_in action k) row k (use_in action k).actions
+abbrev pub tells_use : Plan → List ReachRow → ActionRow → ReachRow → ℕ → NestRow → Bool
+tells_use plan table action row k nest = not (all_enter action k nest) || tells_alternates plan table nest row k nest.actions
+
+-- and of all uses; `n` is the number of the first
+abbrev pub tells_uses : Plan → List ReachRow → ActionRow → ReachRow → ℕ → List NestRow → Bool
+tells_uses plan table action row n [] = true
+tells_uses plan table action row n (nest ∷ nests) =
+    tells_use plan table action row n nest && tells_uses plan table action row (suc n) nests
 
 -- an end by what is signalled is told
 abbrev pub tells_signals : CoverOrder → ReachRow → List ℕ → Bool
@@ -141,7 +139,7 @@ tells_resolved internal interface action row x =
 -- all of this is told of an action
 pub record TellsAll (plan : Plan) (table : List ReachRow) (action : ActionRow) (row : ReachRow) : Type 0 where
   pub steps : list_all (tells_role action.fault row.by_steps) action.roles ≡ true
-  pub uses : list_all (tells_use plan table action row) (range_with_len 0 (length action.nests)) ≡ true
+  pub uses : tells_uses plan table action row 0 action.nests ≡ true
   pub calm : not (bodies_end action) || tells_verdicts (graph_at plan action.interface) row (body_verdicts action) ≡ true
   pub resolved : list_all
       (tells_resolved (graph_at plan action.internal) (graph_at plan action.interface) action row)
