@@ -67,11 +67,11 @@ pub fn tells_role(fault: Exception, raised: &[Exception], role: &RoleRow) -> boo
 }
 
 /// Whether a step enters the use of this number.
-fn enters(nest: u32, step: &Step) -> bool
+fn enters(nest: usize, step: &Step) -> bool
     ensures { result ≡ enters nest step.now }
 {
     match step {
-        Step::Enter(number) => *number == nest,
+        Step::Enter(number) => *number as usize == nest,
         Step::Read(_)
         | Step::Put(_, _)
         | Step::Add(_, _)
@@ -82,7 +82,7 @@ fn enters(nest: u32, step: &Step) -> bool
 }
 
 /// Whether somebody comes to a step that enters the use of this number.
-fn steps_enter(nest: u32, steps: &[Step]) -> bool
+fn steps_enter(nest: usize, steps: &[Step]) -> bool
     ensures { result ≡ list_any (enters nest) (reached steps.now) }
 {
     for step in steps {
@@ -97,7 +97,7 @@ fn steps_enter(nest: u32, steps: &[Step]) -> bool
 }
 
 /// Whether a role comes to the step that enters the use of this number.
-pub fn body_enters(nest: u32, role: &RoleRow) -> bool
+pub fn body_enters(nest: usize, role: &RoleRow) -> bool
     ensures { result ≡ body_enters nest role.now }
 {
     steps_enter(nest, role.body.steps.as_slice())
