@@ -1,1 +1,3 @@
 pub mod TableTells
+pub mod Checked
+pub mod NeverComes

@@ -361,7 +361,7 @@ module _ (plan : Plan) (table : List ReachRow) where
           ((turn_of a k j b (tried_told a k j b tried)).1
           (source_beside (row_of table a) k other y apart (raise_told a other y others))) some)
 
-      resolved_told : (a x : ℕ) → CanBeResolved plan a x
+      pub resolved_told : (a x : ℕ) → CanBeResolved plan a x
           → (tells_resolved (graph_at plan (action_of plan a).internal) (graph_at plan (action_of plan a).interface)
           (action_of plan a) (row_of table a) x ≡ true)
           × (can_resolve (graph_at plan (action_of plan a).internal) (all_raised (row_of table a)) x ≡ true)

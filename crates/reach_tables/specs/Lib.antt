@@ -1,1 +1,3 @@
 pub mod ReachTable
+pub mod Never
+pub mod inner

@@ -1,5 +1,5 @@
 -- A table of what can come in the places of each action, and when it leaves nothing out.
-use Rattle.std.specs.Prelude.{◌≡◌, ℕ, ◌==◌, Bool, true, false, not, ◌&&◌, ◌||◌, if◌then◌else◌, List, [], ◌∷◌, ◌++◌, length, slice_index_or, Some, zero, suc}
+use Rattle.std.specs.Prelude.{◌≡◌, ℕ, ◌==◌, Bool, true, false, not, ◌&&◌, ◌||◌, if◌then◌else◌, List, [], ◌∷◌, ◌++◌, slice_index_or, Some, suc}
 use Rattle.std.specs.List.{list_all, list_any, range_with_len, filter}
 use Rattle.cover_table.specs.Cover.{CoverOrder, covers}
 use Rattle.caa_base.specs.declared.written.entry.Entry.{Entry}
@@ -22,7 +22,7 @@ use Rattle.place_plan.specs.RulesOfJournals.Whereabouts.{outcome_at}
 use Rattle.place_plan.specs.RulesOfJournals.Raising.{exceptions_raised, exception_resolved}
 use Rattle.journal_laws.specs.Due.{is_least}
 use Rattle.reach_laws.specs.ReachedSteps.{reached, body_enters, can_fail_at, ask_for_undo, all_signals}
-use Rattle.reach_laws.specs.CanCome.{action_of, use_in, is_entered, bodies_end, body_verdicts, answers}
+use Rattle.reach_laws.specs.CanCome.{action_of, bodies_end, body_verdicts, answers}
 use Rattle.reach_laws.specs.Reach.{action_number}
 use Rattle.reach_tables.specs.declared.table.ReachRow.{ReachRow}
 

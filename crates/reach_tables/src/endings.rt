@@ -5,7 +5,7 @@ ghost use Rattle.std.specs.List.{All, filter, list_all, list_any, range_with_len
 ghost use Rattle.cover_table.specs.Cover.{covers};
 ghost use Rattle.place_plan.specs.RulesOfJournals.Roles.{is_undo};
 ghost use Rattle.journal_laws.specs.Due.{is_least};
-ghost use Rattle.reach_laws.specs.ReachedSteps.{answer_to, can_fail_at, ask_for_undo, all_signals};
+ghost use Rattle.reach_laws.specs.ReachedSteps.{is_endless, answer_to, can_fail_at, ask_for_undo, all_signals};
 ghost use Rattle.reach_laws.specs.CanCome.{bodies_end, body_verdicts, answers};
 ghost use Rattle.reach_tables.specs.ReachTable.{joined, all_raised, can_resolve, tells_signals, tells_verdicts, tells_resolved};
 
@@ -175,10 +175,7 @@ pub fn bodies_end(action: &ActionRow) -> bool
 pub fn can_fail(action: &ActionRow, exception: Exception) -> bool
     ensures { result ≡ list_any (can_fail_at exception) action.now.roles }
 {
-    action
-        .roles
-        .iter()
-        .any(|role| can_fail_at(exception, role))
+    action.roles.iter().any(|role| can_fail_at(exception, role))
 }
 
 /// Whether an end by what is signalled is told.

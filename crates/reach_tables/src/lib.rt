@@ -1,6 +1,10 @@
 //! Tables of what can come in the places of each action of a plan.
 #![tactic(auto)]
 
+pub mod checking;
+pub mod endings;
+pub mod never;
+pub mod search;
 pub mod steps;
 pub mod table;
 pub mod telling;

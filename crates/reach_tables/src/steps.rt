@@ -18,7 +18,7 @@ pub fn is_member(number: u32, list: &[u32]) -> bool
 }
 
 /// Whether a step raises, whatever the register of its maker is.
-fn is_raise(step: &Step) -> bool
+pub fn is_raise(step: &Step) -> bool
     ensures { result ≡ is_raise step.now }
 {
     match step {

@@ -209,7 +209,7 @@ fn tells_use(
 }
 
 /// Whether all of this is told of all uses of an action.
-fn tells_uses(
+pub fn tells_uses(
     plan: &Plan,
     table: &[ReachRow],
     action: &ActionRow,
