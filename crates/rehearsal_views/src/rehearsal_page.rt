@@ -1,7 +1,8 @@
-//! A rehearsal, told path by path: what was seen, what wasn't, and what never comes by the text.
+//! A rehearsal, told path by path: what was seen, what wasn't, and what never comes by the plan.
 
 use crate::script_names::{Book, say_value, say_way};
 use caa_base::written::entry::{Exception, Object, OutOfMemory, Outcome, Place};
+use reach_tables::never::Nevers;
 use rehearsals::facts::Fact;
 use rehearsals::paths::number_of;
 use rehearsals::rehearsing::Rehearsal;
@@ -45,20 +46,13 @@ fn say_seen(page: &mut Page, row: &Row, total: u32) -> Result<(), OutOfMemory> {
     ])
 }
 
-/// A rehearsal, with the names of its script and what its text tells of each action, in their order.
+/// A rehearsal, with the names of its script, what its text tells of each action, in their order, and what its plan never resolves.
 #[derive(Clone, Copy)]
 pub struct Telling<'a> {
     pub book: Book<'a>,
     pub rehearsal: &'a Rehearsal,
     pub outlooks: &'a [Outlook],
-}
-
-/// Whether an exception of this name can be resolved, by the text.
-fn may_resolve(outlook: &Outlook, exception: u32) -> bool {
-    outlook
-        .rows
-        .iter()
-        .any(|row| row.exception == exception && row.can_come)
+    pub nevers: &'a Nevers,
 }
 
 /// A row as it is put in order: the kind, the count turned round so that the commonest comes first, and where it stands.
@@ -258,51 +252,35 @@ impl<'a> Telling<'a> {
             .any(|role| self.book.handles(action, *role, exception))
     }
 
-    /// Says an exception that a place of a path never resolved, by its name.
+    /// Says an exception that no place of a path resolved.
     fn say_missing(
         &self,
         page: &mut Page,
         path: Place,
-        action: u32,
-        exception: u32,
+        exception: Exception,
     ) -> Result<(), OutOfMemory> {
+        let action = self.book.action_of(path);
+        let name = self.book.internal_name(action, exception);
         page.say(&[Piece::Text("  ")])?;
         self.book.say_path(page, path)?;
-        page.say(&[Piece::Text(" resolved "), Piece::Named(exception)])?;
-        self.say_handlers(page, action, exception)?;
+        page.say(&[Piece::Text(" resolved "), Piece::Named(name)])?;
+        self.say_handlers(page, action, name)?;
         page.say(&[Piece::Text("\n")])
     }
 
-    /// Whether a path never resolved an exception that is to be told: one that may come, or one that never does and has a handler.
-    fn is_missing(
-        &self,
-        path: Place,
-        outlook: &Outlook,
-        exception: Exception,
-        may_come: bool,
-    ) -> bool {
-        let action = self.book.action_of(path);
-        let name = self.book.internal_name(action, exception);
-        may_resolve(outlook, name) == may_come
-            && (may_come || self.is_handled(action, name))
-            && self.tally().row(&Fact::Resolved(path, exception)).is_none()
+    /// Whether no place of a path resolved an exception, though it may come.
+    fn is_unseen(&self, path: Place, exception: Exception) -> bool {
+        let nevers = self.nevers.of_action(self.book.action_of(path));
+        !nevers.contains(&exception) && self.tally().row(&Fact::Resolved(path, exception)).is_none()
     }
 
-    /// Says what a path never resolved, of what may come or of what never does; tells whether there was anything.
-    fn say_unresolved(
-        &self,
-        page: &mut Page,
-        path: Place,
-        outlook: &Outlook,
-        may_come: bool,
-    ) -> Result<bool, OutOfMemory> {
+    /// Says what no place of a path resolved, though it may come; tells whether there was anything.
+    fn say_unresolved(&self, page: &mut Page, path: Place) -> Result<bool, OutOfMemory> {
         let mut has_any = false;
-        let action = self.book.action_of(path);
         let graph = self.book.plan.internal_number(path);
         for exception in 0..self.book.plan.exceptions_of(graph) {
-            if self.is_missing(path, outlook, exception, may_come) {
-                let name = self.book.internal_name(action, exception);
-                self.say_missing(page, path, action, name)?;
+            if self.is_unseen(path, exception) {
+                self.say_missing(page, path, exception)?;
                 has_any = true;
             }
         }
@@ -357,17 +335,22 @@ impl<'a> Telling<'a> {
         let Some(outlook) = self.outlooks.get(self.book.action_of(path) as usize) else {
             return Ok(false);
         };
-        let has_unresolved = self.say_unresolved(page, path, outlook, true)?;
+        let has_unresolved = self.say_unresolved(page, path)?;
         let has_unended = self.say_unended(page, path, outlook)?;
         Ok(has_unresolved || has_unended)
     }
 
-    /// Says what no place of a path can resolve, by the text; tells whether there was anything.
+    /// Says what has handlers that no place of a path begins, since it is never resolved; tells whether there was anything.
     fn say_never(&self, page: &mut Page, path: Place) -> Result<bool, OutOfMemory> {
-        match self.outlooks.get(self.book.action_of(path) as usize) {
-            Some(outlook) => self.say_unresolved(page, path, outlook, false),
-            None => Ok(false),
+        let mut has_any = false;
+        let action = self.book.action_of(path);
+        for exception in self.nevers.of_action(action) {
+            if self.is_handled(action, self.book.internal_name(action, *exception)) {
+                self.say_missing(page, path, *exception)?;
+                has_any = true;
+            }
         }
+        Ok(has_any)
     }
 
     /// Whether a place stands for its path.
@@ -412,7 +395,7 @@ impl<'a> Telling<'a> {
             Piece::Text(" schedules (it may still come):\n"),
         ])?;
         self.say_all_unseen(&mut page, true)?;
-        page.say(&[Piece::Text("never, whatever the order and the device (by the text):\n")])?;
+        page.say(&[Piece::Text("never, whatever the order and the device:\n")])?;
         self.say_all_unseen(&mut page, false)?;
         Ok(page.into_text())
     }
