@@ -1,5 +1,5 @@
 -- What is carried out of a nested use can be raised by it.
-use Rattle.std.proofs.Common.{◌≡◌, ℕ, ℤ, ◌==◌, ◌<◌, Bool, true, false, not, cond, ◌&&◌, List, [], ◌∷◌, length, slice_index_or, slice_get, Some, None, Option, suc, refl, sym, ap, ◌∙◌, subst, arith, inl, inr, is_none}
+use Rattle.std.proofs.Common.{◌≡◌, ℕ, ℤ, ◌==◌, ◌<◌, Bool, true, false, not, cond, ◌&&◌, List, [], ◌∷◌, length, slice_index_or, slice_get, Some, None, Option, suc, refl, sym, ap, ◌∙◌, subst, arith, inl, inr, ◌⊎◌, is_none}
 use Rattle.std.proofs.lemmas.Bool.{and_parts, eqb-true, eq-eqb, false≢true, cases_Bool, both_ways, false_from_ne_true, not-false}
 use Rattle.caa_base.specs.declared.written.entry.Entry.{Entry}
 use Rattle.caa_base.specs.declared.written.entry.Kind.{Kind}
@@ -37,11 +37,12 @@ use Rattle.journal_laws.proofs.Outcome.{newest_any}
 use Rattle.journal_laws.proofs.Raised.{role_inside, busy_inside, parent_round}
 use Rattle.journal_laws.proofs.Uses.{AtStep, body_step}
 use Rattle.reach_laws.specs.ReachedSteps.{enters, body_enters, names_at_abort}
-use Rattle.reach_laws.specs.CanCome.{action_of, use_in, is_entered, can_name, made_of, Source, nested_use, CanRaise, CanBeRaised, CanEnd, CanBeTried, by_use, by_source, by_abort, by_failure, in_turn}
+use Rattle.reach_laws.specs.CanCome.{action_of, use_in, is_entered, can_name, made_of, Source, nested_use, given_up_use, AreTogether, CanRaise, CanBeRaised, CanEnd, CanBeTried, by_use, by_itself, by_abort, by_failure, in_turn}
 use Rattle.reach_laws.specs.Reach.{action_number}
 use Rattle.reach_laws.proofs.ListsAlone.{stands_at, at_member, stands_below, below_end, rises_by, last_stands}
 use Rattle.reach_laws.proofs.StepsReached.{NoRaise, is_reached, no_further}
 use Rattle.reach_laws.proofs.Unpassed.{unpassed}
+use Rattle.reach_laws.proofs.Standing.{carried_by, alike}
 use Rattle.reach_laws.proofs.Planned.{IsPlanned}
 use Rattle.reach_laws.proofs.RoleRows.{role_any, row_played}
 use Rattle.reach_laws.proofs.EndsExplained.{given_up}
@@ -240,10 +241,11 @@ module _ (plan : Plan) (playable : IsPlayable plan) (core : Holds Core plan) (pl
 
   -- ---- what is carried out
 
-  -- something else can be raised in p than what the use carries out
+  -- something else can be raised in p beside what the use carries out
   abbrev pub HasOther : ℕ → ℕ → Type 0
   HasOther p k =
-      (other : Source) × (y : ℕ) × CanRaise plan (action_number plan p) other y × (other ≡ nested_use k → ⊥)
+      (other : Source) × (y : ℕ) × CanRaise plan (action_number plan p) other y
+      × AreTogether (action_of plan (action_number plan p)) other (nested_use k)
 
   -- where somebody gave up in a place right inside p, and nothing is raised round p
   abbrev pub HaveOthers : List Entry → Type 0
@@ -293,8 +295,12 @@ module _ (plan : Plan) (playable : IsPlayable plan) (core : Holds Core plan) (pl
   made_from past c t last outcome.Failed x spared l h = h
 
   module _ (past : List Entry) (legal : LegalPast plan past) (all : AllEnd past) (p c t x : ℕ) (used : IsUsed past p c t) where
-    abbrev can : Type 0
-    can = CanBeRaised plan (action_number plan p) x
+    -- t carries it out of the use as all do, or since it named it as it gave up
+    abbrev pub CarriesIt : Type 0
+    CarriesIt =
+        (CanBeRaised plan (action_number plan p) (nested_use (nest_number plan c)) x
+        × ((u : ℕ) → carried_by plan playable core past c u ≡ Some x))
+        ⊎ CanBeRaised plan (action_number plan p) (given_up_use (nest_number plan c)) x
 
     role : member t (roles_of plan c) ≡ true
     role = role_inside plan playable.tree past legal t c used.here
@@ -325,7 +331,7 @@ module _ (plan : Plan) (playable : IsPlayable plan) (core : Holds Core plan) (pl
 
     -- the roles gave up, and one named something
     abort_raises : HasOther p (nest_number plan c) → (o : Option Entry) → newest (is_by kind.Abort c t) past ≡ o
-        → abort_mapped plan c o ≡ Some x → can
+        → abort_mapped plan c o ≡ Some x → CanBeRaised plan (action_number plan p) (given_up_use (nest_number plan c)) x
     abort_raises (other, y, others, apart) None w h = absurd (some_apart h)
     abort_raises (other, y, others, apart) (Some g) w h =
         elim (chosen (g.mark == 1) (Some (map_signal plan c g.arg)) None (Some x) h) [
@@ -335,17 +341,17 @@ module _ (plan : Plan) (playable : IsPlayable plan) (core : Holds Core plan) (pl
               role_any plan planned c t (λ (row : RoleRow). names_at_abort g.arg row.abort) role (aborts plan past legal c t g w z.0) in
               let value : slice_index_or (use_in (action_of plan (action_number plan p)) k).maps g.arg 0 ≡ x =
               ap (λ (n : NestRow). slice_index_or n.maps g.arg 0) (sym same_use) ∙ some_same z.1 in
-              subst (CanBeRaised plan (action_number plan p)) value
+              subst (CanBeRaised plan (action_number plan p) (given_up_use k)) value
               (by_abort (action_number plan p) k index.0 (action_number plan c) g.arg other y turned others apart names)
           | inr z ↦ absurd (some_apart z.1)
         ]
 
     -- they gave up, and a restore was refused
     failure_raises : HasOther p (nest_number plan c) → is_empty (action_at plan c).objects ≡ false
-        → (nest_of plan c).failure ≡ x → can
+        → (nest_of plan c).failure ≡ x → CanBeRaised plan (action_number plan p) (nested_use (nest_number plan c)) x
     failure_raises (other, y, others, apart) some value =
         let k = nest_number plan c in
-        subst (CanBeRaised plan (action_number plan p)) (ap (λ (n : NestRow). n.failure) (sym same_use) ∙ value)
+        subst (CanBeRaised plan (action_number plan p) (nested_use k)) (ap (λ (n : NestRow). n.failure) (sym same_use) ∙ value)
         (by_failure (action_number plan p) k index.0 (action_number plan c) other y turned others apart
         (subst (λ (a : ActionRow). is_empty a.objects ≡ false) (planned.actions c t role) some))
 
@@ -363,25 +369,33 @@ module _ (plan : Plan) (playable : IsPlayable plan) (core : Holds Core plan) (pl
 
     -- and out of one in which the roles did
     gave_up_can : HaveOthers past → is_doomed plan past p ≡ false → has kind.Abort past c ≡ true
-        → outcome_mapped plan c (newest (is_in kind.End c) past) (newest (is_by kind.Abort c t) past) ≡ Some x → can
+        → carried_by plan playable core past c t ≡ Some x → CarriesIt
     gave_up_can beside spared gave h = by_end (newest (is_in kind.End c) past) refl h
       where
         by_end : (o : Option Entry) → newest (is_in kind.End c) past ≡ o
-            → outcome_mapped plan c o (newest (is_by kind.Abort c t) past) ≡ Some x → can
+            → outcome_mapped plan c o (newest (is_by kind.Abort c t) past) ≡ Some x → CarriesIt
         by_end None w h = absurd (some_apart h)
         by_end (Some f) w h = elim (given_up plan playable core planned past legal c f w gave) [
           | inl how ↦
-              abort_raises (beside c p gave used.up spared) (newest (is_by kind.Abort c t) past) refl
-              (subst (λ o. mapped_by_outcome plan c (newest (is_by kind.Abort c t) past) o ≡ Some x) how h)
+              inr (abort_raises (beside c p gave used.up spared) (newest (is_by kind.Abort c t) past) refl
+              (subst (λ o. mapped_by_outcome plan c (newest (is_by kind.Abort c t) past) o ≡ Some x) how h))
           | inr how ↦
-              failure_raises (beside c p gave used.up spared) how.1
-              (some_same (subst (λ o. mapped_by_outcome plan c (newest (is_by kind.Abort c t) past) o ≡ Some x) how.0 h))
+              let failure : Some (nest_of plan c).failure ≡ Some x =
+              subst (λ o. mapped_by_outcome plan c (newest (is_by kind.Abort c t) past) o ≡ Some x) how.0 h in
+              inl (
+                failure_raises (beside c p gave used.up spared) how.1 (some_same failure),
+                λ u. rw (w, how.0) failure,
+              )
         ]
 
     -- what t carries out of the place
     pub carried_can : HaveOthers past → is_doomed plan past p ≡ false → is_left_in_silence plan past c ≡ false
-        → outcome_mapped plan c (newest (is_in kind.End c) past) (newest (is_by kind.Abort c t) past) ≡ Some x → can
+        → carried_by plan playable core past c t ≡ Some x → CarriesIt
     carried_can beside spared aloud h = elim (cases_Bool (has kind.Abort past c)) [
       | inl gave ↦ gave_up_can beside spared gave h
-      | inr kept ↦ by_source (action_number plan p) x (nested_use (nest_number plan c)) (own_can kept aloud h)
+      | inr kept ↦
+          inl (
+            by_itself (action_number plan p) x (nested_use (nest_number plan c)) (own_can kept aloud h),
+            λ u. alike plan playable core past c u t kept ∙ h,
+          )
     ]

@@ -14,7 +14,7 @@ use Rattle.caa_base.specs.Written.Lists.{member, is_empty}
 use Rattle.place_plan.specs.Plans.Places.{action_at, roles_of, role_row, objects_of, graph_at, interface_of}
 use Rattle.place_plan.specs.RulesOfJournals.Entries.{is_in, has, has_by, newest}
 use Rattle.place_plan.specs.RulesOfJournals.Whereabouts.{outcome_at, has_ended, is_undoing}
-use Rattle.place_plan.specs.RulesOfJournals.Raising.{exceptions_raised, is_raised, exception_resolved}
+use Rattle.place_plan.specs.RulesOfJournals.Raising.{is_raised, exception_resolved}
 use Rattle.place_plan.specs.RulesOfJournals.Objects.{is_tried, has_failed}
 use Rattle.place_plan.specs.RulesOfJournals.Roles.{has_given, has_given_after, all_have_given, verdict_of, is_undo, wants_undo, signals, has_aborted}
 use Rattle.place_plan.specs.RulesOfJournals.Rules.{Row, MayEnd, EndsUndone, EndsAgreed, SignalsLeast, undone_mark}
@@ -33,9 +33,9 @@ use Rattle.journal_laws.proofs.Phases.{going_parts}
 use Rattle.journal_laws.proofs.Raised.{role_inside}
 use Rattle.journal_laws.proofs.Said.{has_maker}
 use Rattle.reach_laws.specs.ReachedSteps.{is_endless, answer_to, can_fail_at, ask_for_undo, all_signals, EndsBy}
-use Rattle.reach_laws.specs.CanCome.{action_of, bodies_end, CanBeRaised, CanBeResolved, CanEnd, least_of, calmly, by_answers, broken_off, not_taken_back}
+use Rattle.reach_laws.specs.CanCome.{action_of, bodies_end, CanBeResolved, CanEnd, calmly, by_answers, broken_off, not_taken_back}
 use Rattle.reach_laws.specs.Reach.{action_number}
-use Rattle.reach_laws.proofs.ListsAlone.{any_at, any_is, some_there, some_long}
+use Rattle.reach_laws.proofs.ListsAlone.{any_at, any_is, some_there}
 use Rattle.reach_laws.proofs.Planned.{IsPlanned}
 use Rattle.reach_laws.proofs.RoleRows.{AllSay, all_signal, all_ask, role_any, role_all, role_asks}
 use Rattle.reach_laws.proofs.SaidByRows.{Answers, said_some, said_calmly, said_after}
@@ -102,21 +102,9 @@ given_said plan past p t g = elim (cases_Bool (has_by kind.Verdict past p t)) [
 module _ (plan : Plan) (playable : IsPlayable plan) (core : Holds Core plan) (planned : IsPlanned plan) where
   -- ---- what can be resolved
 
-  -- all that is raised in p can be raised in its action
-  abbrev pub AllCanBeRaised : List Entry → ℕ → Type 0
-  AllCanBeRaised past p = (y : ℕ) → member y (exceptions_raised plan past p) ≡ true → CanBeRaised plan (action_number plan p) y
-
-  -- so what p is resolved to can be resolved
-  pub resolvable : (past : List Entry) → LegalPast plan past → (p t x : ℕ) → member t (roles_of plan p) ≡ true
-      → AllCanBeRaised past p → exception_resolved past p ≡ Some x → CanBeResolved plan (action_number plan p) x
-  resolvable past legal p t x m can w =
-      let resolved = (core past legal).raises.resolves p x w in
-      least_of (action_number plan p) x (exceptions_raised plan past p)
-      (some_long (exceptions_raised plan past p) resolved.1).0 can
-      (subst (λ (a : ActionRow). IsLeastCover (graph_at plan a.internal) (exceptions_raised plan past p) x)
-      (planned.actions p t m) resolved.2)
-
-  -- ---- what the roles have said
+  -- whatever p is resolved to can be resolved in its action
+  abbrev pub IsResolvable : List Entry → ℕ → Type 0
+  IsResolvable past p = (x : ℕ) → exception_resolved past p ≡ Some x → CanBeResolved plan (action_number plan p) x
 
   -- where nothing is raised, all have said the verdicts of their bodies, which come to their ends
   record Calm (past : List Entry) (p : ℕ) : Type 0 where
@@ -180,11 +168,11 @@ module _ (plan : Plan) (playable : IsPlayable plan) (core : Holds Core plan) (pl
           absurd (both_ways _ kept (any_at (λ t. is_undo (verdict_of past p t)) (roles_of plan p) t m asks))
 
   agreed_can : (past : List Entry) (e : Entry) (t : ℕ) → LegalPast plan past → member t (roles_of plan e.place) ≡ true
-      → AllCanBeRaised past e.place → EndsAgreed plan past e → CanEnd plan (action_number plan e.place) (outcome_at e)
+      → IsResolvable past e.place → EndsAgreed plan past e → CanEnd plan (action_number plan e.place) (outcome_at e)
   agreed_can past e t legal m can h = elim (cases_Bool (is_raised plan past e.place)) [
     | inl r ↦
         let x = resolved_to past e.place t r h.agreed m in
-        by_answers (action_number plan e.place) x.0 (outcome_at e) (resolvable past legal e.place t x.0 m can x.1)
+        by_answers (action_number plan e.place) x.0 (outcome_at e) (can x.0 x.1)
         (ends_by past e t (answer_to x.0) m
         (no_undo past e.place x.0 h.kept (all_answer past legal e.place x.0 r h.agreed x.1)) h)
     | inr r ↦
@@ -196,7 +184,7 @@ module _ (plan : Plan) (playable : IsPlayable plan) (core : Holds Core plan) (pl
 
   -- ---- where one asks for it
 
-  asked_can : (past : List Entry) (p : ℕ) → LegalPast plan past → AllCanBeRaised past p → all_have_given plan past p ≡ true
+  asked_can : (past : List Entry) (p : ℕ) → LegalPast plan past → IsResolvable past p → all_have_given plan past p ≡ true
       → wants_undo plan past p ≡ true → CanEnd plan (action_number plan p) outcome.Undone
   asked_can past p legal can all wants = by_raised (is_raised plan past p) refl
     where
@@ -212,10 +200,10 @@ module _ (plan : Plan) (playable : IsPlayable plan) (core : Holds Core plan) (pl
       by_answer x w v said (inl same) =
           let undo : is_undo (Some (answer_to x (role_row plan p asker.0))) ≡ true =
           subst (λ o. is_undo o ≡ true) (said ∙ ap Some same) asker.2 in
-          by_answers (action_number plan p) x outcome.Undone (resolvable past legal p asker.0 x asker.1 can w)
+          by_answers (action_number plan p) x outcome.Undone (can x w)
           (asks (answer_to x) (role_asks plan planned p asker.0 (answer_to x) asker.1 undo))
       by_answer x w v said (inr broken) =
-          broken_off (action_number plan p) x (resolvable past legal p asker.0 x asker.1 can w)
+          broken_off (action_number plan p) x (can x w)
           (role_any plan planned p asker.0 (can_fail_at x) asker.1 broken.1)
 
       by_raised : (b : Bool) → is_raised plan past p ≡ b → CanEnd plan (action_number plan p) outcome.Undone
@@ -233,7 +221,7 @@ module _ (plan : Plan) (playable : IsPlayable plan) (core : Holds Core plan) (pl
   -- ---- an End
 
   -- a place in which nobody gives up ends as its action can
-  pub end_can : (past : List Entry) (e : Entry) → LegalPast plan past → AllCanBeRaised past e.place → MayEnd plan past e
+  pub end_can : (past : List Entry) (e : Entry) → LegalPast plan past → IsResolvable past e.place → MayEnd plan past e
       → has kind.Abort past e.place ≡ false → CanEnd plan (action_number plan e.place) (outcome_at e)
   end_can past e legal can h spared = by_undo (is_undoing past e.place) refl h.how
     where

@@ -1,9 +1,12 @@
 pub mod ListsAlone
 pub mod StepsReached
 pub mod Unpassed
+pub mod CameOut
+pub mod Standing
 pub mod Planned
 pub mod SaidByRows
 pub mod RoleRows
+pub mod Apart
 pub mod EndsExplained
 pub mod Carried
 pub mod Explained

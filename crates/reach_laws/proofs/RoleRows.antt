@@ -61,7 +61,7 @@ module _ (plan : Plan) (planned : IsPlanned plan) where
   row_below p t m = omega (arith, member_index t (roles_of plan p) m, planned.many p)
 
   -- the row of the player at an index is the one at that index
-  index_at : (p i : ℕ) → i < length (roles_of plan p) → index_of (slice_index_or (roles_of plan p) i 0) (roles_of plan p) ≡ i
+  pub index_at : (p i : ℕ) → i < length (roles_of plan p) → index_of (slice_index_or (roles_of plan p) i 0) (roles_of plan p) ≡ i
   index_at p i l = index_is (roles_of plan p) i (slice_index_or (roles_of plan p) i 0) (planned.differ p) l refl
 
   say_rows : (past : List Entry) (p : ℕ) (f : RoleRow → Verdict) → AllSay past p f

@@ -1,14 +1,14 @@
 -- Steps that somebody comes to, since no step before them is a raise.
-use Rattle.std.proofs.Common.{◌≡◌, ℕ, ℤ, ◌<◌, Bool, true, false, cond, ◌||◌, List, [], ◌∷◌, slice_get, Some, None, Option, zero, suc, refl, sym, subst, arith, inl, inr, ◌⊎◌}
+use Rattle.std.proofs.Common.{◌≡◌, ℕ, ℤ, ◌<◌, Bool, true, false, cond, ◌||◌, List, [], ◌∷◌, slice_get, Some, None, Option, zero, suc, refl, sym, ap, ◌∙◌, subst, arith, inl, inr, ◌⊎◌}
 use Rattle.std.specs.List.{list_any}
-use Rattle.std.proofs.lemmas.Bool.{or_left, or_right, eq-eqb, false≢true, cases_lt}
+use Rattle.std.proofs.lemmas.Bool.{or_left, or_right, eqb-true, eq-eqb, false≢true, cases_lt}
 use Rattle.place_plan.specs.declared.drafts.draft_rows.Step.{Step}
 use Rattle.place_plan.specs.declared.drafts.draft_rows.Step.TheVariants as step
 use Rattle.place_plan.specs.RulesOfJournals.Roles.{raise_of, meets}
 use Rattle.place_plan.specs.RulesOfJournals.Rules.{put_of, is_check}
 use Rattle.caa_base.proofs.ListLemmas.{chosen}
 use Rattle.journal_laws.proofs.Options.{some_apart, some_same}
-use Rattle.reach_laws.specs.ReachedSteps.{is_raise, reached, can_raise, can_break}
+use Rattle.reach_laws.specs.ReachedSteps.{is_raise, reached, can_raise, can_break, is_enter}
 
 -- no step before this number is a raise
 abbrev pub NoRaise : List Step → ℕ → Type 0
@@ -99,3 +99,59 @@ check_step (Some (step.Add a b)) h = absurd (false≢true h)
 check_step (Some (step.Work a)) h = absurd (false≢true h)
 check_step (Some (step.Raise a)) h = absurd (false≢true h)
 check_step (Some (step.Enter a)) h = absurd (false≢true h)
+
+-- ---- steps that are come to
+
+-- the step of this number is come to where none before it is a raise
+pub there_reached : (steps : List Step) (n : ℕ) (s : Step) → NoRaise steps n → slice_get steps n ≡ Some s
+    → slice_get (reached steps) n ≡ Some s
+there_reached [] n s none here = absurd cc
+there_reached (x ∷ steps) zero s none here = by_raise (is_raise x)
+  where
+    by_raise : (b : Bool) → slice_get (cond b (x ∷ []) (x ∷ reached steps)) zero ≡ Some s
+    by_raise true = here
+    by_raise false = here
+there_reached (x ∷ steps) (suc n) s none here =
+    by_raise (is_raise x) (none zero x (omega arith) refl)
+    (there_reached steps n s (λ m z l at. none (suc m) z (omega arith) at) here)
+  where
+    by_raise : (b : Bool) → b ≡ false → slice_get (reached steps) n ≡ Some s
+        → slice_get (cond b (x ∷ []) (x ∷ reached steps)) (suc n) ≡ Some s
+    by_raise true f h = absurd (false≢true (sym f))
+    by_raise false f h = h
+
+-- and what is come to is a step of the program
+pub reached_there : (steps : List Step) (n : ℕ) (s : Step) → slice_get (reached steps) n ≡ Some s → slice_get steps n ≡ Some s
+reached_there [] n s here = absurd cc
+reached_there (x ∷ steps) zero s here = by_raise (is_raise x) here
+  where
+    by_raise : (b : Bool) → slice_get (cond b (x ∷ []) (x ∷ reached steps)) zero ≡ Some s → Some x ≡ Some s
+    by_raise true h = h
+    by_raise false h = h
+reached_there (x ∷ steps) (suc n) s here = by_raise (is_raise x) here (reached_there steps n s)
+  where
+    by_raise : (b : Bool) → slice_get (cond b (x ∷ []) (x ∷ reached steps)) (suc n) ≡ Some s
+        → (slice_get (reached steps) n ≡ Some s → slice_get steps n ≡ Some s) → slice_get steps n ≡ Some s
+    by_raise true h ih = absurd cc
+    by_raise false h ih = ih h
+
+-- a step that enters a use is its enter step
+pub enter_is : (k : ℕ) (o : Option Step) → is_enter k o ≡ true → o ≡ Some (step.Enter k)
+enter_is k None h = absurd (false≢true h)
+enter_is k (Some (step.Enter n)) h = ap (λ m. Some (step.Enter m)) (eqb-true n k h)
+enter_is k (Some (step.Read a)) h = absurd (false≢true h)
+enter_is k (Some (step.Put a b)) h = absurd (false≢true h)
+enter_is k (Some (step.Add a b)) h = absurd (false≢true h)
+enter_is k (Some (step.Work a)) h = absurd (false≢true h)
+enter_is k (Some (step.Check a b c)) h = absurd (false≢true h)
+enter_is k (Some (step.Raise a)) h = absurd (false≢true h)
+
+-- a step raises one exception
+pub raises_one : (fault y z : ℕ) (s : Step) → can_raise fault y s ≡ true → can_raise fault z s ≡ true → y ≡ z
+raises_one fault y z (step.Put a b) h k = sym (eqb-true fault y h) ∙ eqb-true fault z k
+raises_one fault y z (step.Add a b) h k = sym (eqb-true fault y h) ∙ eqb-true fault z k
+raises_one fault y z (step.Check test bound x) h k = sym (eqb-true x y h) ∙ eqb-true x z k
+raises_one fault y z (step.Raise x) h k = sym (eqb-true x y h) ∙ eqb-true x z k
+raises_one fault y z (step.Read a) h k = absurd (false≢true h)
+raises_one fault y z (step.Work a) h k = absurd (false≢true h)
+raises_one fault y z (step.Enter a) h k = absurd (false≢true h)

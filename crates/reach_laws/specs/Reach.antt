@@ -9,7 +9,7 @@ use Rattle.place_plan.specs.Plans.Places.{place_at, parent, objects_of, nest_num
 use Rattle.place_plan.specs.RulesOfJournals.Entries.{is_in, has, newest}
 use Rattle.place_plan.specs.RulesOfJournals.Whereabouts.{outcome_at, has_started}
 use Rattle.place_plan.specs.RulesOfJournals.Raising.{exceptions_raised, exception_resolved}
-use Rattle.reach_laws.specs.CanCome.{CanBeRaised, CanBeResolved, CanEnd, CanBeTried}
+use Rattle.reach_laws.specs.CanCome.{Source, CanBeRaised, CanBeResolved, CanEnd, CanBeTried}
 
 -- the number of the action that p is an instance of
 abbrev pub action_number : Plan → ℕ → ℕ
@@ -18,7 +18,8 @@ action_number plan p = (place_at plan p).action
 -- nothing is raised in a place but what can be raised in its action
 abbrev pub RaisesNoOther : Plan → List Entry → Type 0
 RaisesNoOther plan past =
-    (p x : ℕ) → member x (exceptions_raised plan past p) ≡ true → CanBeRaised plan (action_number plan p) x
+    (p x : ℕ) → member x (exceptions_raised plan past p) ≡ true
+    → (source : Source) × CanBeRaised plan (action_number plan p) source x
 
 -- no place is resolved to anything but what can be resolved in its action
 abbrev pub ResolvesNoOther : Plan → List Entry → Type 0

@@ -1,5 +1,5 @@
 -- Which steps of a program anybody comes to, what they can raise, and how roles say that their place is to end.
-use Rattle.std.specs.Prelude.{◌≡◌, ℕ, ◌==◌, ◌<◌, Bool, true, false, if◌then◌else◌, List, [], ◌∷◌, ◌++◌, length, Option, Some, None}
+use Rattle.std.specs.Prelude.{◌≡◌, ℕ, ◌==◌, ◌<◌, Bool, true, false, if◌then◌else◌, List, [], ◌∷◌, ◌++◌, length, slice_get, Option, Some, None}
 use Rattle.std.specs.List.{list_any}
 use Rattle.cover_table.specs.Cover.{CoverOrder, IsLeastCover}
 use Rattle.caa_base.specs.declared.written.entry.Outcome.{Outcome}
@@ -49,9 +49,14 @@ can_break _ = false
 
 -- ---- roles
 
--- a step of the body that somebody comes to can raise x
-abbrev pub body_raises : ℕ → ℕ → RoleRow → Bool
-body_raises fault x role = list_any (can_raise fault x) (reached role.body.steps)
+-- the step of this number of the body, where somebody comes to it
+abbrev pub reached_step : RoleRow → ℕ → Option Step
+reached_step role i = slice_get (reached role.body.steps) i
+
+-- it enters the use k
+abbrev pub is_enter : ℕ → Option Step → Bool
+is_enter k None = false
+is_enter k (Some s) = enters k s
 
 -- the body comes to the step that enters the use k
 abbrev pub body_enters : ℕ → RoleRow → Bool

@@ -14,7 +14,8 @@ pub fn raises_no_other(plan: &Plan)
     plan.is_closed();
 }
 
-/// No place of a legal journal is resolved to an exception but one that can be resolved in its action.
+/// No place of a legal journal is resolved to an exception but one that can be resolved in its action: the least cover of what some
+/// sources raise, of which none excludes another. What has to be over before something else begins has raised nothing there.
 pub fn resolves_no_other(plan: &Plan)
     ensures { Holds ResolvesNoOther plan.now }
 {

@@ -11,7 +11,7 @@ use Rattle.journal_laws.specs.Due.{is_least}
 use Rattle.journal_laws.proofs.LeastOf.{least_is, is_least_from}
 use Rattle.reach_laws.specs.CanCome.{action_of}
 use Rattle.reach_tables.specs.declared.table.ReachRow.{ReachRow}
-use Rattle.reach_tables.specs.ReachTable.{no_reach, row_of, tells_signals, tells_resolved, TellsAll, LeavesNothingOut}
+use Rattle.reach_tables.specs.ReachTable.{no_reach, row_of, groups_of, tells_signals, tells_resolved, TellsAll, LeavesNothingOut}
 
 -- ---- tests and ranges
 
@@ -78,18 +78,18 @@ signals_told order row (x ∷ xs) least ordered here some m = least_told order (
 -- of an action that isn't there all is told
 none_told : (plan : Plan) (table : List ReachRow) → TellsAll plan table no_action no_reach
 none_told plan table = record {
-  steps = refl;
+  order = refl;
   uses = refl;
   calm = refl;
-  resolved = range_all (tells_resolved (graph_at plan 0) (graph_at plan 0) no_action no_reach) 0 (graph_at plan 0).count
-      (λ x l m. refl);
+  resolved = range_all (tells_resolved (graph_at plan 0) (graph_at plan 0) no_action no_reach (groups_of no_action no_reach)) 0
+      (graph_at plan 0).count (λ x l m. refl);
   failures = refl;
 }
 
 -- what is told of each action of the plan is told of each number
-pub all_told : (plan : Plan) (table : List ReachRow) → length plan.actions ≡ length table
+pub every_number : (plan : Plan) (table : List ReachRow) → length plan.actions ≡ length table
     → ((a : ℕ) → a < length plan.actions → TellsAll plan table (action_of plan a) (row_of table a)) → LeavesNothingOut plan table
-all_told plan table same each a = elim (below_or_not a (length plan.actions)) [
+every_number plan table same each a = elim (below_or_not a (length plan.actions)) [
   | inl below ↦ each a below
   | inr past ↦
       subst (λ action. TellsAll plan table action (row_of table a)) (sym (past_end plan.actions a no_action past))

@@ -1,3 +1,10 @@
+pub mod OrderTold
+pub mod SourcesTold
+pub mod ResolvedTold
+pub mod EndsTold
+pub mod AllTold
 pub mod TableTells
 pub mod Checked
 pub mod NeverComes
+pub mod EnteredSteps
+pub mod LongerLists

@@ -10,10 +10,10 @@ use Rattle.journal_laws.specs.Laws.{Holds}
 use Rattle.reach_laws.specs.CanCome.{action_of, CanBeResolved}
 use Rattle.reach_laws.specs.Reach.{ResolvesNoOther}
 use Rattle.reach_tables.specs.declared.table.ReachRow.{ReachRow}
-use Rattle.reach_tables.specs.ReachTable.{row_of, all_raised, can_resolve, LeavesNothingOut}
+use Rattle.reach_tables.specs.ReachTable.{row_of, groups_of, can_resolve, LeavesNothingOut}
 use Rattle.reach_tables.specs.Never.{ListNever}
 use Rattle.reach_tables.specs.inner.NoneComes.{NoneComes}
-use Rattle.reach_tables.proofs.TableTells.{resolved_told}
+use Rattle.reach_tables.proofs.AllTold.{resolved_told}
 
 -- what holds of all numbers of a list holds of a member
 all_member : (P : ℕ → Type 0) (xs : List ℕ) (x : ℕ) → All P xs → member x xs ≡ true → P x
@@ -27,8 +27,9 @@ all_member P (y ∷ ys) x all m = elim (or_cases (y == x) (member x ys) m) [
 none_resolved : (plan : Plan) (table : List ReachRow) → LeavesNothingOut plan table → (a x : ℕ) (xs : List ℕ)
     → NoneComes plan (row_of table a) a xs → member x xs ≡ true → CanBeResolved plan a x → ⊥
 none_resolved plan table all a x xs none m can =
-    false≢true (sym (all_member (λ y. can_resolve (graph_at plan (action_of plan a).internal) (all_raised (row_of table a)) y ≡ false)
-    xs x none m) ∙ (resolved_told plan table all a x can).1)
+    let groups = groups_of (action_of plan a) (row_of table a) in
+    false≢true (sym (all_member (λ y. can_resolve (graph_at plan (action_of plan a).internal) groups y ≡ false) xs x none m)
+    ∙ (resolved_told plan table all a x can).1)
 
 -- so lists of what it doesn't tell list what is never resolved
 pub list_never : (plan : Plan) (table : List ReachRow) (lists : List (List ℕ)) → LeavesNothingOut plan table

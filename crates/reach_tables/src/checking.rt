@@ -1,18 +1,18 @@
 //! Whether a table leaves nothing out of what can come in the places of a plan.
 
 ghost use Rattle.std.specs.Prelude.{◌≡◌, not, ◌||◌, IsTrue, IfOk, IfSome};
-ghost use Rattle.std.specs.List.{list_all};
 ghost use Rattle.caa_base.specs.Written.Lists.{is_empty};
 ghost use Rattle.place_plan.specs.Plans.Places.{graph_at};
-ghost use Rattle.reach_tables.specs.ReachTable.{tells_role, TellsAll, LeavesNothingOut};
+ghost use Rattle.reach_tables.specs.ReachTable.{TellsAll, LeavesNothingOut};
 
-use crate::endings::{tells_all_resolved, tells_calm};
-use crate::steps::tells_role;
+use crate::endings::{groups_of, tells_all_resolved, tells_calm};
+use crate::order::tells_order;
+use crate::sources::all_told;
 use crate::table::ReachRow;
 use crate::telling::{is_none, tells_uses};
-use caa_base::written::entry::{Exception, OutOfMemory};
+use caa_base::written::entry::OutOfMemory;
 use exception_graph::Graph;
-use place_plan::drafts::draft_rows::{ActionRow, RoleRow};
+use place_plan::drafts::draft_rows::ActionRow;
 use place_plan::plans::plan::Plan;
 use std::alloc::Global;
 
@@ -24,13 +24,6 @@ pub fn graph_of(plan: &Plan, number: u32) -> Option<&Graph>
         Some(row) => Some(&row.graph),
         None => None,
     }
-}
-
-/// Whether what the bodies of these roles raise is told.
-fn tells_roles(fault: Exception, raised: &[Exception], roles: &[RoleRow]) -> bool
-    ensures { result ≡ list_all (tells_role fault raised.now) roles.now }
-{
-    roles.iter().all(|role| tells_role(fault, raised, role))
 }
 
 /// Whether it is told that an undo can fail, where there can be one.
@@ -56,16 +49,14 @@ fn tells_all(
     ) else {
         return Ok(false);
     };
-    let steps = tells_roles(
-        action.fault,
-        row.by_steps.as_slice(),
-        action.roles.as_slice(),
-    );
-    let uses = tells_uses(plan, table, action, row, action.nests.as_slice());
+    let told = all_told(alloc, action, row)?;
+    let groups = groups_of(alloc, action, row, &told)?;
+    let order = tells_order(action, row.order.as_slice());
+    let uses = tells_uses(plan, table, action, row, &told);
     let failures = tells_failures(action, row);
     let calm = tells_calm(alloc, interface, action, row)?;
-    let resolved = tells_all_resolved(alloc, internal, interface, action, row)?;
-    Ok(steps && uses && calm && resolved && failures)
+    let resolved = tells_all_resolved(alloc, internal, interface, action, row, &groups)?;
+    Ok(order && uses && calm && resolved && failures)
 }
 
 /// Whether a table leaves nothing out of what can come in the places of a plan: then what it doesn't tell never comes.

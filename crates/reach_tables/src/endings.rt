@@ -1,16 +1,17 @@
 //! What is resolved in the places of an action and how they end, and whether a table tells it.
 
-ghost use Rattle.std.specs.Prelude.{◌≡◌, ◌<◌, not, ◌&&◌, ◌||◌, length, IsTrue, IfOk, map, Some};
+ghost use Rattle.std.specs.Prelude.{◌≡◌, ℕ, ◌<◌, not, ◌&&◌, ◌||◌, List, length, IsTrue, IfOk, map, Some};
 ghost use Rattle.std.specs.List.{All, filter, list_all, list_any, range_with_len};
 ghost use Rattle.cover_table.specs.Cover.{covers};
 ghost use Rattle.place_plan.specs.RulesOfJournals.Roles.{is_undo};
 ghost use Rattle.journal_laws.specs.Due.{is_least};
 ghost use Rattle.reach_laws.specs.ReachedSteps.{is_endless, answer_to, can_fail_at, ask_for_undo, all_signals};
 ghost use Rattle.reach_laws.specs.CanCome.{bodies_end, body_verdicts, answers};
-ghost use Rattle.reach_tables.specs.ReachTable.{joined, all_raised, can_resolve, tells_signals, tells_verdicts, tells_resolved};
+ghost use Rattle.reach_tables.specs.ReachTable.{all_told, group_of, groups_of, resolves, can_resolve, tells_signals, tells_verdicts, tells_resolved};
 
+use crate::order::are_together;
 use crate::steps::{answer_to, can_fail_at, is_endless, is_member};
-use crate::table::ReachRow;
+use crate::table::{ReachRow, Told, UseOrder};
 use caa_base::written::entry::{Exception, OutOfMemory, Verdict};
 use caa_base::written::rows::Rows;
 use exception_graph::Graph;
@@ -23,6 +24,18 @@ pub fn are_below(exceptions: &[Exception], count: u32) -> bool
 {
     for exception in exceptions {
         if *exception >= count {
+            return false;
+        }
+    }
+    true
+}
+
+/// Whether all exceptions of these groups are below a number.
+pub fn all_below(groups: &[Rows<Exception>], count: u32) -> bool
+    ensures { IsTrue result → All (λ (group : List ℕ). All (λ x. x < count) group) groups.now }
+{
+    for group in groups {
+        if !are_below(group.as_slice(), count) {
             return false;
         }
     }
@@ -60,45 +73,83 @@ fn is_least(graph: &Graph, set: &[Exception], exception: Exception) -> bool
     graph.least(set) == exception
 }
 
-/// Whether an exception can be resolved where these can be raised.
-pub fn can_resolve(
+/// Whether an exception covers the first of a group, and is the least cover of those that it covers.
+fn resolves(
     alloc: Global,
     graph: &Graph,
-    raised: &[Exception],
+    group: &[Exception],
     exception: Exception,
 ) -> Result<bool, OutOfMemory>
     requires exception { exception < graph.now.count }
-    requires raised { All (λ x. x < graph.now.count) raised.now }
-    ensures { IfOk result (λ can. can ≡ can_resolve graph.now raised.now exception) }
+    requires group { All (λ x. x < graph.now.count) group.now }
+    ensures { IfOk result (λ can. can ≡ resolves graph.now exception group.now) }
 {
-    let those = covered(alloc, graph, raised, exception)?;
-    if those.is_empty() {
+    let Some(first) = group.first() else {
+        return Ok(false);
+    };
+    if !graph.covers(exception, *first) {
         return Ok(false);
     }
+    let those = covered(alloc, graph, group, exception)?;
     Ok(is_least(graph, &those, exception))
 }
 
-/// All that the uses carry out.
-fn joined(alloc: Global, uses: &[Rows<Exception>]) -> Result<Vec<Exception>, OutOfMemory>
-    ensures { IfOk result (λ all. all.items ≡ joined uses.now) }
+/// Whether an exception can be resolved, where each of these groups can be raised in one place.
+pub fn can_resolve(
+    alloc: Global,
+    graph: &Graph,
+    groups: &[Rows<Exception>],
+    exception: Exception,
+) -> Result<bool, OutOfMemory>
+    requires exception { exception < graph.now.count }
+    requires groups { All (λ (group : List ℕ). All (λ x. x < graph.now.count) group) groups.now }
+    ensures { IfOk result (λ can. can ≡ can_resolve graph.now groups.now exception) }
 {
-    let mut all = Vec::new(alloc);
-    for carried in uses {
-        all.extend_from_slice(carried.as_slice())?;
+    for group in groups {
+        if resolves(alloc, graph, group.as_slice(), exception)? {
+            return Ok(true);
+        }
     }
-    Ok(all)
+    Ok(false)
 }
 
-/// All that can be raised, by what is told of an action.
-pub fn all_raised(alloc: Global, row: &ReachRow) -> Result<Vec<Exception>, OutOfMemory>
-    ensures { IfOk result (λ all. all.items ≡ all_raised row.now) }
+/// What one source raises, and all that can be raised in the same place.
+fn group_of(
+    alloc: Global,
+    action: &ActionRow,
+    order: &[UseOrder],
+    told: &[Told],
+    source: &Told,
+) -> Result<Vec<Exception>, OutOfMemory>
+    ensures { IfOk result (λ group. group.items ≡ group_of action.now order.now told.now source.now) }
 {
-    let carried = joined(alloc, row.by_uses.as_slice())?;
-    let mut all = Vec::new(alloc);
-    all.extend_from_slice(row.by_steps.as_slice())?;
-    all.extend_from_slice(&carried)?;
-    all.extend_from_slice(row.given_up.as_slice())?;
-    Ok(all)
+    let mut group = Vec::new(alloc);
+    group.push(source.exception)?;
+    for other in told {
+        if are_together(action, order, source.by, other.by) {
+            group.push(other.exception)?;
+        }
+    }
+    Ok(group)
+}
+
+/// The same of each source; `told` is all that can raise something in the places of the action.
+pub fn groups_of(
+    alloc: Global,
+    action: &ActionRow,
+    row: &ReachRow,
+    told: &[Told],
+) -> Result<Vec<Rows<Exception>>, OutOfMemory>
+    requires { told.now ≡ all_told action.now row.now }
+    ensures { IfOk result (λ groups. groups.items ≡ groups_of action.now row.now) }
+{
+    let order = row.order.as_slice();
+    let mut groups = Vec::new(alloc);
+    for source in told {
+        let group = group_of(alloc, action, order, told, source)?;
+        groups.push(Rows::from_vec(group))?;
+    }
+    Ok(groups)
 }
 
 /// Whether a verdict is undo.
@@ -242,23 +293,22 @@ fn tells_answers(
     Ok(is_told && (!can_fail(action, exception) || row.undone))
 }
 
-/// Whether how a place ends in which an exception is resolved is told, where it can be, since these can be raised.
+/// Whether how a place ends in which an exception is resolved is told, where it can be, since these groups can be raised.
 fn tells_resolved(
     alloc: Global,
     internal: &Graph,
     interface: &Graph,
     action: &ActionRow,
     row: &ReachRow,
-    raised: &[Exception],
+    groups: &[Rows<Exception>],
     exception: Exception,
 ) -> Result<bool, OutOfMemory>
     requires exception { exception < internal.now.count }
-    requires in_range { All (λ x. x < internal.now.count) raised.now }
-    requires raised { raised.now ≡ all_raised row.now }
+    requires groups { All (λ (group : List ℕ). All (λ x. x < internal.now.count) group) groups.now }
     ensures { IfOk result (λ told. IsTrue told →
-        IsTrue (tells_resolved internal.now interface.now action.now row.now exception)) }
+        IsTrue (tells_resolved internal.now interface.now action.now row.now groups.now exception)) }
 {
-    if can_resolve(alloc, internal, raised, exception)? {
+    if can_resolve(alloc, internal, groups, exception)? {
         tells_answers(alloc, interface, action, row, exception)
     } else {
         Ok(true)
@@ -272,16 +322,17 @@ pub fn tells_all_resolved(
     interface: &Graph,
     action: &ActionRow,
     row: &ReachRow,
+    groups: &[Rows<Exception>],
 ) -> Result<bool, OutOfMemory>
     ensures { IfOk result (λ told. IsTrue told →
-        IsTrue (list_all (tells_resolved internal.now interface.now action.now row.now) (range_with_len 0 internal.now.count))) }
+        IsTrue (list_all (tells_resolved internal.now interface.now action.now row.now groups.now)
+        (range_with_len 0 internal.now.count))) }
 {
-    let raised = all_raised(alloc, row)?;
-    if !are_below(&raised, internal.count()) {
+    if !all_below(groups, internal.count()) {
         return Ok(false);
     }
     for exception in 0..internal.count() {
-        if !tells_resolved(alloc, internal, interface, action, row, &raised, exception)? {
+        if !tells_resolved(alloc, internal, interface, action, row, groups, exception)? {
             return Ok(false);
         }
     }

@@ -4,7 +4,9 @@
 pub mod checking;
 pub mod endings;
 pub mod never;
+pub mod order;
 pub mod search;
+pub mod sources;
 pub mod steps;
 pub mod table;
 pub mod telling;

@@ -1,20 +1,22 @@
 //! What is never resolved in the places of a plan.
 
-ghost use Rattle.std.specs.Prelude.{◌≡◌, ◌<◌, ℕ, [], length, slice_index_or, IsFalse, IsTrue, IfOk, IfSome};
+ghost use Rattle.std.specs.Prelude.{◌≡◌, ◌<◌, ℕ, List, [], length, slice_index_or, IsFalse, IsTrue, IfOk, IfSome};
 ghost use Rattle.std.specs.List.{All};
 ghost use Rattle.place_plan.specs.Plans.Places.{graph_at};
 ghost use Rattle.reach_laws.specs.CanCome.{action_of};
-ghost use Rattle.reach_tables.specs.ReachTable.{can_resolve, row_of};
+ghost use Rattle.reach_tables.specs.ReachTable.{groups_of, can_resolve, row_of};
 ghost use Rattle.reach_tables.specs.Never.{ListNever};
 ghost use Rattle.reach_tables.specs.inner.NoneComes.{NoneComes};
 
 use crate::checking::{graph_of, leaves_nothing_out};
-use crate::endings::{all_raised, are_below, can_resolve};
+use crate::endings::{all_below, can_resolve, groups_of};
 use crate::search::search;
+use crate::sources::all_told;
 use crate::table::ReachRow;
 use caa_base::written::entry::{Exception, OutOfMemory};
 use caa_base::written::rows::Rows;
 use exception_graph::Graph;
+use place_plan::drafts::draft_rows::ActionRow;
 use place_plan::plans::plan::Plan;
 use reach_laws::resolves_no_other;
 use std::alloc::Global;
@@ -46,65 +48,80 @@ impl Nevers {
     }
 }
 
-/// Whether it is sure that an exception can't be resolved where these can be raised.
+/// Whether it is sure that an exception can't be resolved where these groups can be raised.
 fn is_never(
     alloc: Global,
     graph: &Graph,
-    raised: &[Exception],
+    groups: &[Rows<Exception>],
     exception: Exception,
 ) -> Result<bool, OutOfMemory>
-    requires { exception < graph.now.count }
-    ensures { IfOk result (λ never. IsTrue never → IsFalse (can_resolve graph.now raised.now exception)) }
+    requires exception { exception < graph.now.count }
+    requires groups { All (λ (group : List ℕ). All (λ x. x < graph.now.count) group) groups.now }
+    ensures { IfOk result (λ never. IsTrue never → IsFalse (can_resolve graph.now groups.now exception)) }
 {
-    if !are_below(raised, graph.count()) {
-        return Ok(false);
-    }
-    let can = can_resolve(alloc, graph, raised, exception)?;
+    let can = can_resolve(alloc, graph, groups, exception)?;
     Ok(!can)
 }
 
-/// The exceptions of a graph that can't be resolved where these can be raised.
+/// The exceptions of a graph that can't be resolved where these groups can be raised.
 fn never_among(
     alloc: Global,
     graph: &Graph,
-    raised: &[Exception],
+    groups: &[Rows<Exception>],
 ) -> Result<Vec<Exception>, OutOfMemory>
-    ensures { IfOk result (λ never. All (λ x. IsFalse (can_resolve graph.now raised.now x)) never.items) }
+    ensures { IfOk result (λ never. All (λ x. IsFalse (can_resolve graph.now groups.now x)) never.items) }
 {
     let mut never = Vec::new(alloc);
+    if !all_below(groups, graph.count()) {
+        return Ok(never);
+    }
     for exception in 0..graph.count() {
-        if is_never(alloc, graph, raised, exception)? {
+        if is_never(alloc, graph, groups, exception)? {
             never.push(exception)?;
         }
     }
     Ok(never)
 }
 
-/// The graph of what is raised in the action of this number.
-fn internal_graph(plan: &Plan, action: usize) -> Option<&Graph>
-    ensures { IfSome result (λ graph. graph.now ≡ graph_at plan.now (action_of plan.now action).internal) }
+/// The action of this number.
+fn action_row(plan: &Plan, number: usize) -> Option<&ActionRow>
+    ensures { IfSome result (λ action. action.now ≡ action_of plan.now number) }
 {
-    match plan.action_rows().get(action) {
-        Some(row) => graph_of(plan, row.internal),
-        None => None,
-    }
+    plan.action_rows().get(number)
 }
 
-/// The exceptions that can't be resolved in the places of the action of this number, by what is told of it.
+/// The exceptions that can't be resolved in the places of an action, by what is told of it.
+fn never_of(
+    alloc: Global,
+    plan: &Plan,
+    action: &ActionRow,
+    row: &ReachRow,
+) -> Result<Rows<Exception>, OutOfMemory>
+    ensures { IfOk result (λ never. All (λ x.
+        IsFalse (can_resolve (graph_at plan.now action.now.internal) (groups_of action.now row.now) x)) never) }
+{
+    let Some(graph) = graph_of(plan, action.internal) else {
+        return Ok(Rows::from_vec(Vec::new(alloc)));
+    };
+    let told = all_told(alloc, action, row)?;
+    let groups = groups_of(alloc, action, row, &told)?;
+    let never = never_among(alloc, graph, &groups)?;
+    Ok(Rows::from_vec(never))
+}
+
+/// The same of the action of this number.
 fn never_in(
     alloc: Global,
     plan: &Plan,
-    action: usize,
+    number: usize,
     row: &ReachRow,
 ) -> Result<Rows<Exception>, OutOfMemory>
-    ensures { IfOk result (λ never. NoneComes plan.now row.now action never) }
+    ensures { IfOk result (λ never. NoneComes plan.now row.now number never) }
 {
-    let Some(graph) = internal_graph(plan, action) else {
-        return Ok(Rows::from_vec(Vec::new(alloc)));
-    };
-    let raised = all_raised(alloc, row)?;
-    let never = never_among(alloc, graph, &raised)?;
-    Ok(Rows::from_vec(never))
+    match action_row(plan, number) {
+        Some(action) => never_of(alloc, plan, action, row),
+        None => Ok(Rows::from_vec(Vec::new(alloc))),
+    }
 }
 
 /// The same of each action that a table tells of.

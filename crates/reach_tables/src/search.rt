@@ -1,18 +1,23 @@
 //! A search for a table of what can come, from below: what an action nests is declared before it. Nothing is promised of it, since
 //! whatever it finds is checked.
 
+ghost use Rattle.std.specs.Prelude.{◌≡◌};
+ghost use Rattle.reach_tables.specs.ReachTable.{all_told};
+
 use crate::checking::graph_of;
 use crate::endings::{
-    all_raised, all_signals, answers, are_below, ask_for_undo, bodies_end, body_verdicts, can_fail,
-    can_resolve,
+    all_below, all_signals, answers, are_below, ask_for_undo, bodies_end, body_verdicts, can_fail,
+    can_resolve, groups_of,
 };
-use crate::steps::{is_member, is_raise};
-use crate::table::ReachRow;
+use crate::order::{leads_on, lists_pair};
+use crate::sources::all_told;
+use crate::steps::is_member;
+use crate::table::{ReachRow, Told, UseOrder};
 use crate::telling::{all_enter, has_beside, is_none, is_undone, mapped};
 use caa_base::written::entry::{Exception, OutOfMemory, Verdict};
 use caa_base::written::rows::Rows;
 use exception_graph::Graph;
-use place_plan::drafts::draft_rows::{AbortRow, ActionRow, NestRow, RoleRow, Step};
+use place_plan::drafts::draft_rows::{AbortRow, ActionRow, NestRow, RoleRow};
 use place_plan::plans::plan::Plan;
 use std::alloc::Global;
 
@@ -24,40 +29,49 @@ fn add(exceptions: &mut Vec<Exception>, exception: Exception) -> Result<(), OutO
     Ok(())
 }
 
-/// What a step can raise; `fault` is what a refused put raises.
-fn raised_at(fault: Exception, step: &Step) -> Option<Exception> {
-    match step {
-        Step::Put(_, _) | Step::Add(_, _) => Some(fault),
-        Step::Check { exception, .. } => Some(*exception),
-        Step::Raise(exception) => Some(*exception),
-        Step::Read(_) | Step::Work(_) | Step::Enter(_) => None,
-    }
-}
-
-/// Adds what these steps raise, up to the first raise.
-fn add_steps(
-    raised: &mut Vec<Exception>,
-    fault: Exception,
-    steps: &[Step],
+/// Adds the pairs of which a role leads from the first use to one that has to be over before the second begins.
+fn add_leading(
+    pairs: &mut Vec<UseOrder>,
+    action: &ActionRow,
+    through: usize,
+    second: usize,
 ) -> Result<(), OutOfMemory> {
-    for step in steps {
-        if let Some(exception) = raised_at(fault, step) {
-            add(raised, exception)?;
-        }
-        if is_raise(step) {
-            return Ok(());
+    for first in 0..action.nests.len() {
+        if !lists_pair(pairs, first, second) && leads_on(action, first, through) {
+            pairs.push(UseOrder {
+                first,
+                through,
+                second,
+            })?;
         }
     }
     Ok(())
 }
 
-/// What the steps of the bodies raise.
-fn by_steps(alloc: Global, action: &ActionRow) -> Result<Rows<Exception>, OutOfMemory> {
-    let mut raised = Vec::new(alloc);
-    for role in action.roles.as_slice() {
-        add_steps(&mut raised, action.fault, role.body.steps.as_slice())?;
+/// Which uses have to be over before a use begins, the nearest first.
+fn before(alloc: Global, action: &ActionRow, second: usize) -> Result<Vec<UseOrder>, OutOfMemory> {
+    let mut pairs = Vec::new(alloc);
+    add_leading(&mut pairs, action, second, second)?;
+    for index in 0..action.nests.len() {
+        match pairs.get(index) {
+            Some(pair) => {
+                let through = pair.first;
+                add_leading(&mut pairs, action, through, second)?;
+            }
+            None => return Ok(pairs),
+        }
     }
-    Ok(Rows::from_vec(raised))
+    Ok(pairs)
+}
+
+/// Which uses of an action have to be over before which begin. A pair stands before the one that it rests on.
+fn order(alloc: Global, action: &ActionRow) -> Result<Rows<UseOrder>, OutOfMemory> {
+    let mut order = Vec::new(alloc);
+    for second in 0..action.nests.len() {
+        order.extend_from_slice(&before(alloc, action, second)?)?;
+    }
+    order.reverse();
+    Ok(Rows::from_vec(order))
 }
 
 /// Adds what a use makes of the ways in which its alternate ends.
@@ -90,37 +104,19 @@ fn tried<'a>(table: &[ReachRow], nest: &'a NestRow) -> &'a [u32] {
     alternates
 }
 
-/// What a use carries out where nothing round it gives it up.
-fn carried_out(
-    alloc: Global,
+/// Adds what a use carries out where nothing round it gives it up.
+fn add_carried(
+    raised: &mut Vec<Exception>,
     table: &[ReachRow],
     nest: &NestRow,
-) -> Result<Rows<Exception>, OutOfMemory> {
-    let mut raised = Vec::new(alloc);
+) -> Result<(), OutOfMemory> {
     let count = nest.actions.len();
     for (index, action) in tried(table, nest).iter().enumerate() {
         if let Some(row) = table.get(*action as usize) {
-            add_ends(&mut raised, nest, index + 1 == count, row)?;
+            add_ends(raised, nest, index + 1 == count, row)?;
         }
     }
-    Ok(Rows::from_vec(raised))
-}
-
-/// What each use of an action carries out where nothing round it gives it up.
-fn by_uses(
-    alloc: Global,
-    table: &[ReachRow],
-    action: &ActionRow,
-) -> Result<Rows<Rows<Exception>>, OutOfMemory> {
-    let mut uses = Vec::new(alloc);
-    for (number, nest) in action.nests.as_slice().iter().enumerate() {
-        if all_enter(action, number, nest) {
-            uses.push(carried_out(alloc, table, nest)?)?;
-        } else {
-            uses.push(Rows::from_vec(Vec::new(alloc)))?;
-        }
-    }
-    Ok(Rows::from_vec(uses))
+    Ok(())
 }
 
 /// Adds what these roles name where their place is given up, as the use maps it.
@@ -139,8 +135,8 @@ fn add_aborts(
     Ok(())
 }
 
-/// Adds what a use carries out where one of its alternates is given up.
-fn add_given_up(
+/// Adds that the undo of an alternate can fail where the use is given up.
+fn add_failures(
     raised: &mut Vec<Exception>,
     plan: &Plan,
     table: &[ReachRow],
@@ -148,7 +144,6 @@ fn add_given_up(
 ) -> Result<(), OutOfMemory> {
     for number in tried(table, nest) {
         if let Some(action) = plan.action_rows().get(*number as usize) {
-            add_aborts(raised, nest, action.roles.as_slice())?;
             if !is_none(action.objects.as_slice()) {
                 add(raised, nest.failure)?;
             }
@@ -157,21 +152,116 @@ fn add_given_up(
     Ok(())
 }
 
-/// What the uses of an action carry out where they are given up.
-fn given_up(
+/// Adds what the roles of a use name where one of its alternates is given up.
+fn add_named(
+    raised: &mut Vec<Exception>,
+    plan: &Plan,
+    table: &[ReachRow],
+    nest: &NestRow,
+) -> Result<(), OutOfMemory> {
+    for number in tried(table, nest) {
+        if let Some(action) = plan.action_rows().get(*number as usize) {
+            add_aborts(raised, nest, action.roles.as_slice())?;
+        }
+    }
+    Ok(())
+}
+
+/// What the uses of an action carry out, by their numbers.
+#[derive(Drop)]
+struct Carried {
+    by_uses: Vec<Rows<Exception>>,
+    given_up: Vec<Rows<Exception>>,
+}
+
+impl Carried {
+    /// Adds what the next use carries out, which all its roles come to; `beside` says that something can be raised beside it.
+    fn add_entered(
+        &mut self,
+        alloc: Global,
+        plan: &Plan,
+        table: &[ReachRow],
+        nest: &NestRow,
+        beside: bool,
+    ) -> Result<(), OutOfMemory> {
+        let mut raised = Vec::new(alloc);
+        let mut named = Vec::new(alloc);
+        add_carried(&mut raised, table, nest)?;
+        if beside {
+            add_failures(&mut raised, plan, table, nest)?;
+            add_named(&mut named, plan, table, nest)?;
+        }
+        self.by_uses.push(Rows::from_vec(raised))?;
+        self.given_up.push(Rows::from_vec(named))?;
+        Ok(())
+    }
+
+    /// Adds that nothing is carried out of the next use.
+    fn add_none(&mut self, alloc: Global) -> Result<(), OutOfMemory> {
+        self.by_uses.push(Rows::from_vec(Vec::new(alloc)))?;
+        self.given_up.push(Rows::from_vec(Vec::new(alloc)))?;
+        Ok(())
+    }
+}
+
+/// What the uses of an action carry out, where these are all that can raise something, as far as it is known.
+fn carried_beside(
     alloc: Global,
     plan: &Plan,
     table: &[ReachRow],
     action: &ActionRow,
     row: &ReachRow,
-) -> Result<Rows<Exception>, OutOfMemory> {
-    let mut raised = Vec::new(alloc);
+    told: &[Told],
+) -> Result<Carried, OutOfMemory>
+    requires { told.now ≡ all_told action.now row.now }
+{
+    let mut carried = Carried {
+        by_uses: Vec::new(alloc),
+        given_up: Vec::new(alloc),
+    };
     for (number, nest) in action.nests.as_slice().iter().enumerate() {
-        if all_enter(action, number, nest) && has_beside(row, number) {
-            add_given_up(&mut raised, plan, table, nest)?;
+        if all_enter(action, number, nest) {
+            let beside = has_beside(action, row, told, number);
+            carried.add_entered(alloc, plan, table, nest, beside)?;
+        } else {
+            carried.add_none(alloc)?;
         }
     }
-    Ok(Rows::from_vec(raised))
+    Ok(carried)
+}
+
+/// Adds what the uses of an action carry out, by what the row tells so far, and gives how much that was.
+fn add_round(
+    row: &mut ReachRow,
+    alloc: Global,
+    plan: &Plan,
+    table: &[ReachRow],
+    action: &ActionRow,
+) -> Result<usize, OutOfMemory> {
+    let told = all_told(alloc, action, row)?;
+    let carried = carried_beside(alloc, plan, table, action, row, &told)?;
+    row.by_uses = Rows::from_vec(carried.by_uses);
+    row.given_up = Rows::from_vec(carried.given_up);
+    Ok(told.len())
+}
+
+/// Adds what the uses of an action carry out, until nothing more comes of it: where one can fail, another can be given up.
+fn add_uses(
+    row: &mut ReachRow,
+    alloc: Global,
+    plan: &Plan,
+    table: &[ReachRow],
+    action: &ActionRow,
+) -> Result<(), OutOfMemory> {
+    let mut count = add_round(row, alloc, plan, table, action)?;
+    for _ in 0..=action.nests.len() {
+        let more = add_round(row, alloc, plan, table, action)?;
+        if more == count {
+            return Ok(());
+        }
+        count = more;
+    }
+    Ok(())
 }
 
 /// How the places of an action can end.
@@ -219,20 +309,20 @@ impl Ends {
         Ok(())
     }
 
-    /// Adds the ends of all places in which some of these are raised.
+    /// Adds the ends of all places in which some of these groups are raised.
     fn add_hot(
         &mut self,
         alloc: Global,
         internal: &Graph,
         interface: &Graph,
         action: &ActionRow,
-        raised: &[Exception],
+        groups: &[Rows<Exception>],
     ) -> Result<(), OutOfMemory> {
-        if !are_below(raised, internal.count()) {
+        if !all_below(groups, internal.count()) {
             return Ok(());
         }
         for exception in 0..internal.count() {
-            if can_resolve(alloc, internal, raised, exception)? {
+            if can_resolve(alloc, internal, groups, exception)? {
                 self.add_resolved(alloc, interface, action, exception)?;
             }
         }
@@ -240,12 +330,12 @@ impl Ends {
     }
 }
 
-/// How the places of an action can end in which these are raised, or nothing.
+/// How the places of an action can end in which some of these groups are raised, or nothing.
 fn ends_of(
     alloc: Global,
     plan: &Plan,
     action: &ActionRow,
-    raised: &[Exception],
+    groups: &[Rows<Exception>],
 ) -> Result<Ends, OutOfMemory> {
     let mut ends = Ends {
         commits: false,
@@ -259,7 +349,7 @@ fn ends_of(
         ends.add(alloc, interface, &body_verdicts(alloc, action)?)?;
     }
     if let Some(internal) = graph_of(plan, action.internal) {
-        ends.add_hot(alloc, internal, interface, action, raised)?;
+        ends.add_hot(alloc, internal, interface, action, groups)?;
     }
     Ok(ends)
 }
@@ -272,17 +362,18 @@ fn row_for(
     action: &ActionRow,
 ) -> Result<ReachRow, OutOfMemory> {
     let mut row = ReachRow {
-        by_steps: by_steps(alloc, action)?,
-        by_uses: by_uses(alloc, table, action)?,
+        order: order(alloc, action)?,
+        by_uses: Rows::from_vec(Vec::new(alloc)),
         given_up: Rows::from_vec(Vec::new(alloc)),
         commits: false,
         signals: Rows::from_vec(Vec::new(alloc)),
         undone: false,
         failed: false,
     };
-    row.given_up = given_up(alloc, plan, table, action, &row)?;
-    let raised = all_raised(alloc, &row)?;
-    let ends = ends_of(alloc, plan, action, &raised)?;
+    add_uses(&mut row, alloc, plan, table, action)?;
+    let told = all_told(alloc, action, &row)?;
+    let groups = groups_of(alloc, action, &row, &told)?;
+    let ends = ends_of(alloc, plan, action, &groups)?;
     row.commits = ends.commits;
     row.signals = Rows::from_vec(ends.signals);
     row.undone = ends.undone;

@@ -1,11 +1,11 @@
-//! What somebody comes to in the steps of a program, and whether a table tells what is raised there.
+//! What somebody comes to in the steps of a program.
 
 ghost use Rattle.std.specs.Prelude.{◌≡◌, option_copied};
-ghost use Rattle.std.specs.List.{list_all, list_any};
+ghost use Rattle.std.specs.List.{list_any};
 ghost use Rattle.caa_base.specs.Written.Lists.{member};
 ghost use Rattle.place_plan.specs.Plans.Places.{handler_in};
 ghost use Rattle.reach_laws.specs.ReachedSteps.{is_raise, reached, enters, can_break, body_enters, is_endless, answer_by, answer_to, is_breakable, can_fail_at};
-ghost use Rattle.reach_tables.specs.ReachTable.{tells_step, tells_role};
+ghost use Rattle.reach_tables.specs.ReachTable.{enters_in_turn};
 
 use caa_base::written::entry::{Exception, Verdict};
 use place_plan::drafts::draft_rows::{HandlerRow, Program, RoleRow, Step};
@@ -32,42 +32,20 @@ pub fn is_raise(step: &Step) -> bool
     }
 }
 
-/// Whether what a step can raise is told; `fault` is what a refused put raises.
-fn tells_step(fault: Exception, raised: &[Exception], step: &Step) -> bool
-    ensures { result ≡ tells_step fault raised.now step.now }
+/// The steps up to the first raise, that one too: nobody comes past it.
+pub fn reached(steps: &[Step]) -> &[Step]
+    ensures { result.now ≡ reached steps.now }
 {
-    match step {
-        Step::Put(_, _) | Step::Add(_, _) => is_member(fault, raised),
-        Step::Check { exception, .. } => is_member(*exception, raised),
-        Step::Raise(exception) => is_member(*exception, raised),
-        Step::Read(_) | Step::Work(_) | Step::Enter(_) => true,
-    }
-}
-
-/// Whether what these steps raise is told, up to the first raise.
-fn tells_steps(fault: Exception, raised: &[Exception], steps: &[Step]) -> bool
-    ensures { result ≡ list_all (tells_step fault raised.now) (reached steps.now) }
-{
-    for step in steps {
-        if !tells_step(fault, raised, step) {
-            return false;
-        }
+    for (index, step) in steps.iter().enumerate() {
         if is_raise(step) {
-            return true;
+            return &steps[..index + 1];
         }
     }
-    true
-}
-
-/// Whether what the body of a role raises is told.
-pub fn tells_role(fault: Exception, raised: &[Exception], role: &RoleRow) -> bool
-    ensures { result ≡ tells_role fault raised.now role.now }
-{
-    tells_steps(fault, raised, role.body.steps.as_slice())
+    steps
 }
 
 /// Whether a step enters the use of this number.
-fn enters(nest: usize, step: &Step) -> bool
+pub fn enters(nest: usize, step: &Step) -> bool
     ensures { result ≡ enters nest step.now }
 {
     match step {
@@ -81,26 +59,37 @@ fn enters(nest: usize, step: &Step) -> bool
     }
 }
 
-/// Whether somebody comes to a step that enters the use of this number.
-fn steps_enter(nest: usize, steps: &[Step]) -> bool
-    ensures { result ≡ list_any (enters nest) (reached steps.now) }
+/// Whether some of these steps enters the use of this number.
+fn some_enters(nest: usize, steps: &[Step]) -> bool
+    ensures { result ≡ list_any (enters nest) steps.now }
 {
-    for step in steps {
-        if enters(nest, step) {
-            return true;
-        }
-        if is_raise(step) {
-            return false;
-        }
-    }
-    false
+    steps.iter().any(|step| enters(nest, step))
 }
 
 /// Whether a role comes to the step that enters the use of this number.
 pub fn body_enters(nest: usize, role: &RoleRow) -> bool
     ensures { result ≡ body_enters nest role.now }
 {
-    steps_enter(nest, role.body.steps.as_slice())
+    some_enters(nest, reached(role.body.steps.as_slice()))
+}
+
+/// Whether some of these steps enters the first use, and one behind it the second.
+fn enters_in_turn(first: usize, second: usize, steps: &[Step]) -> bool
+    ensures { result ≡ enters_in_turn first second steps.now }
+{
+    for (index, step) in steps.iter().enumerate() {
+        if enters(first, step) && some_enters(second, &steps[index + 1..]) {
+            return true;
+        }
+    }
+    false
+}
+
+/// Whether a role comes to the step that enters the first use before it comes to the one that enters the second.
+pub fn body_leads_on(first: usize, second: usize, role: &RoleRow) -> bool
+    ensures { result ≡ enters_in_turn first second (reached role.now.body.steps) }
+{
+    enters_in_turn(first, second, reached(role.body.steps.as_slice()))
 }
 
 /// Whether nobody comes to the end of a program, since it has a raise.
@@ -124,15 +113,7 @@ fn can_break(step: &Step) -> bool
 fn steps_break(steps: &[Step]) -> bool
     ensures { result ≡ list_any can_break (reached steps.now) }
 {
-    for step in steps {
-        if can_break(step) {
-            return true;
-        }
-        if is_raise(step) {
-            return false;
-        }
-    }
-    false
+    reached(steps).iter().any(|step| can_break(step))
 }
 
 /// The program of the handler for an exception.

@@ -1,16 +1,16 @@
 //! Whether a table leaves nothing out.
 
-ghost use Rattle.std.specs.Prelude.{◌≡◌, not, ◌&&◌, ◌||◌, [], slice_index_or};
-ghost use Rattle.std.specs.List.{list_all, list_any};
+ghost use Rattle.std.specs.Prelude.{◌≡◌, ◌&&◌, [], slice_index_or};
+ghost use Rattle.std.specs.List.{list_all};
 ghost use Rattle.caa_base.specs.Written.Lists.{member, is_empty};
 ghost use Rattle.place_plan.specs.Plans.Places.{no_role};
-ghost use Rattle.place_plan.specs.declared.drafts.draft_rows.RoleRow.{RoleRow};
 ghost use Rattle.reach_laws.specs.ReachedSteps.{body_enters};
-ghost use Rattle.reach_laws.specs.CanCome.{action_of};
-ghost use Rattle.reach_tables.specs.ReachTable.{row_of, other_carries, has_beside, tells_abort, tells_ends, tells_given_up, all_enter, tells_alternates, tells_use, tells_uses};
+ghost use Rattle.reach_laws.specs.CanCome.{action_of, is_given_up};
+ghost use Rattle.reach_tables.specs.ReachTable.{row_of, source_of, all_told, is_beside, has_beside, tells_abort, tells_ends, tells_aborts, tells_failure, all_enter, tells_alternates, tells_use, tells_uses};
 
+use crate::order::are_together;
 use crate::steps::{body_enters, is_member};
-use crate::table::ReachRow;
+use crate::table::{RaisedBy, ReachRow, Told, UseOrder};
 use caa_base::written::entry::Exception;
 use caa_base::written::rows::Rows;
 use place_plan::drafts::draft_rows::{AbortRow, ActionRow, NestRow, RoleRow};
@@ -33,23 +33,30 @@ pub fn mapped(nest: &NestRow, exception: Exception) -> Exception
     }
 }
 
-/// Whether some use but this one carries something out.
-fn other_carries(nest: usize, uses: &[Rows<Exception>]) -> bool
-    ensures { result ≡ other_carries nest 0 uses.now }
+/// Whether a use was given up.
+fn is_given_up(by: RaisedBy) -> bool
+    ensures { result ≡ is_given_up (source_of by) }
 {
-    for (number, carried) in uses.iter().enumerate() {
-        if number != nest && !is_none(carried.as_slice()) {
-            return true;
-        }
+    match by {
+        RaisedBy::GivenUp(_) => true,
+        RaisedBy::Step(_, _) | RaisedBy::Use(_) => false,
     }
-    false
 }
 
-/// Whether something can be raised beside what this use carries out.
-pub fn has_beside(row: &ReachRow, nest: usize) -> bool
-    ensures { result ≡ has_beside row.now nest }
+/// Whether a source can raise by itself something beside a use.
+fn is_beside(action: &ActionRow, order: &[UseOrder], nest: usize, told: &Told) -> bool
+    ensures { result ≡ is_beside action.now order.now nest told.now }
 {
-    !is_none(row.by_steps.as_slice()) || other_carries(nest, row.by_uses.as_slice())
+    !is_given_up(told.by) && are_together(action, order, told.by, RaisedBy::Use(nest))
+}
+
+/// Whether something can be raised beside what this use carries out; `told` is all that can raise something.
+pub fn has_beside(action: &ActionRow, row: &ReachRow, told: &[Told], nest: usize) -> bool
+    requires { told.now ≡ all_told action.now row.now }
+    ensures { result ≡ has_beside action.now row.now nest }
+{
+    let order = row.order.as_slice();
+    told.iter().any(|one| is_beside(action, order, nest, one))
 }
 
 /// Whether what a role names where its place is given up is told, as the use maps it.
@@ -82,22 +89,21 @@ fn tells_ends(nest: &NestRow, raised: &[Exception], is_last: bool, row: &ReachRo
     signals && ((!(row.undone && is_last) || undo) && (!row.failed || failure))
 }
 
-/// Whether what these roles name where their place is given up is told.
-fn tells_aborts(nest: &NestRow, given_up: &[Exception], roles: &[RoleRow]) -> bool
-    ensures { result ≡ list_all (λ (role : RoleRow). tells_abort nest.now given_up.now role.abort) roles.now }
+/// Whether what the roles name where the alternate is given up is told.
+fn tells_aborts(nest: &NestRow, given_up: &[Exception], action: &ActionRow) -> bool
+    ensures { result ≡ tells_aborts nest.now given_up.now action.now }
 {
-    roles
+    action
+        .roles
         .iter()
         .all(|role| tells_abort(nest, given_up, &role.abort))
 }
 
-/// Whether what a use carries out where its alternate is given up is told.
-fn tells_given_up(nest: &NestRow, given_up: &[Exception], action: &ActionRow) -> bool
-    ensures { result ≡ tells_given_up nest.now given_up.now action.now }
+/// Whether it is told that the undo of an alternate can fail where it is given up, if there can be one.
+fn tells_failure(nest: &NestRow, raised: &[Exception], action: &ActionRow) -> bool
+    ensures { result ≡ tells_failure nest.now raised.now action.now }
 {
-    let aborts = tells_aborts(nest, given_up, action.roles.as_slice());
-    let failure = is_member(nest.failure, given_up);
-    aborts && (is_none(action.objects.as_slice()) || failure)
+    is_none(action.objects.as_slice()) || is_member(nest.failure, raised)
 }
 
 /// Whether a role, by its number, comes to the step that enters a use.
@@ -121,10 +127,10 @@ pub fn all_enter(action: &ActionRow, number: usize, nest: &NestRow) -> bool
 }
 
 /// What a use carries out, by its number; nothing past the end.
-fn carried_by(row: &ReachRow, nest: usize) -> &[Exception]
-    ensures { result.now ≡ slice_index_or row.now.by_uses nest [] }
+fn carried_by(uses: &[Rows<Exception>], nest: usize) -> &[Exception]
+    ensures { result.now ≡ slice_index_or uses.now nest [] }
 {
-    match row.by_uses.as_slice().get(nest) {
+    match uses.get(nest) {
         Some(carried) => carried.as_slice(),
         None => &[],
     }
@@ -157,33 +163,42 @@ pub fn is_undone(table: &[ReachRow], action: u32) -> bool
 }
 
 /// Whether what a use carries out where the action of this number is given up is told.
-fn tells_given_up_of(plan: &Plan, action: u32, nest: &NestRow, given_up: &[Exception]) -> bool
-    ensures { result ≡ tells_given_up nest.now given_up.now (action_of plan.now action) }
+fn tells_given_up(
+    plan: &Plan,
+    action: u32,
+    nest: &NestRow,
+    raised: &[Exception],
+    given_up: &[Exception],
+) -> bool
+    ensures { result ≡ (tells_aborts nest.now given_up.now (action_of plan.now action)
+        && tells_failure nest.now raised.now (action_of plan.now action)) }
 {
     match plan.action_rows().get(action as usize) {
-        Some(row) => tells_given_up(nest, given_up, row),
+        Some(row) => tells_aborts(nest, given_up, row) && tells_failure(nest, raised, row),
         None => true,
     }
 }
 
-/// Whether all of this is told of these alternates of a use, as far as they can be tried.
+/// Whether all of this is told of these alternates of a use, as far as they can be tried; `beside` says that something can be raised
+/// beside the use.
 fn tells_alternates(
     plan: &Plan,
     table: &[ReachRow],
     nest: &NestRow,
     row: &ReachRow,
     number: usize,
+    beside: bool,
     alternates: &[u32],
 ) -> bool
-    ensures { result ≡ tells_alternates plan.now table.now nest.now row.now number alternates.now }
+    ensures { result ≡ tells_alternates plan.now table.now nest.now row.now number beside alternates.now }
 {
-    let raised = carried_by(row, number);
-    let beside = has_beside(row, number);
+    let raised = carried_by(row.by_uses.as_slice(), number);
+    let given_up = carried_by(row.given_up.as_slice(), number);
     for (index, action) in alternates.iter().enumerate() {
         let is_last = is_none(&alternates[index + 1..]);
         let ends = tells_ends_of(table, *action, nest, raised, is_last);
-        let given_up = tells_given_up_of(plan, *action, nest, row.given_up.as_slice());
-        if !(ends && (!beside || given_up)) {
+        let aborts = tells_given_up(plan, *action, nest, raised, given_up);
+        if !(ends && (!beside || aborts)) {
             return false;
         }
         if !is_undone(table, *action) {
@@ -193,33 +208,48 @@ fn tells_alternates(
     true
 }
 
-/// Whether all of this is told of a use, where all its roles come to it.
+/// Whether all of this is told of a use, where all its roles come to it; `told` is all that can raise something.
 fn tells_use(
     plan: &Plan,
     table: &[ReachRow],
     action: &ActionRow,
     row: &ReachRow,
+    told: &[Told],
     number: usize,
     nest: &NestRow,
 ) -> bool
+    requires { told.now ≡ all_told action.now row.now }
     ensures { result ≡ tells_use plan.now table.now action.now row.now number nest.now }
 {
-    !all_enter(action, number, nest)
-        || tells_alternates(plan, table, nest, row, number, nest.actions.as_slice())
+    if !all_enter(action, number, nest) {
+        return true;
+    }
+    let beside = has_beside(action, row, told, number);
+    tells_alternates(
+        plan,
+        table,
+        nest,
+        row,
+        number,
+        beside,
+        nest.actions.as_slice(),
+    )
 }
 
-/// Whether all of this is told of all uses of an action.
+/// Whether all of this is told of all uses of an action; `told` is all that can raise something in its places.
 pub fn tells_uses(
     plan: &Plan,
     table: &[ReachRow],
     action: &ActionRow,
     row: &ReachRow,
-    nests: &[NestRow],
+    told: &[Told],
 ) -> bool
-    ensures { result ≡ tells_uses plan.now table.now action.now row.now 0 nests.now }
+    requires { told.now ≡ all_told action.now row.now }
+    ensures { result ≡ tells_uses plan.now table.now action.now row.now 0 action.now.nests }
 {
+    let nests = action.nests.as_slice();
     for (number, nest) in nests.iter().enumerate() {
-        if !tells_use(plan, table, action, row, number, nest) {
+        if !tells_use(plan, table, action, row, told, number, nest) {
             return false;
         }
     }

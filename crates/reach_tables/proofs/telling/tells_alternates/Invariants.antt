@@ -4,5 +4,5 @@ use Rattle.reach_tables.proofs.telling.tells_alternates.Given as goal
 
 abbrev pub invariant-loop-index : goal.invariant-loop-index
 invariant-loop-index l =
-    tells_alternates l.plan l.table l.nest l.row l.number (drop l.index l.alternates)
-    ≡ tells_alternates l.plan l.table l.nest l.row l.number l.alternates
+    tells_alternates l.plan l.table l.nest l.row l.number l.beside (drop l.index l.alternates)
+    ≡ tells_alternates l.plan l.table l.nest l.row l.number l.beside l.alternates
