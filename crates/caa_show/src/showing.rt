@@ -242,8 +242,13 @@ fn script_text(bytes: &[u8], start: Option<JournalStart>) -> &[u8] {
 }
 
 /// What the author of a script may not have meant.
-fn show_warnings(alloc: Global, script: &Script, notes: bool) -> Result<Shown, OutOfMemory> {
-    let warned = warnings(alloc, script, notes)?;
+fn show_warnings(
+    alloc: Global,
+    script: &Script,
+    plan: &Plan,
+    notes: bool,
+) -> Result<Shown, OutOfMemory> {
+    let warned = warnings(alloc, script, plan, notes)?;
     let status = if warned.warnings == 0 {
         Status::Done
     } else {
@@ -266,8 +271,8 @@ pub fn show(alloc: Global, view: View, file: &[u8], bytes: &[u8]) -> Result<Show
         return says_nothing(alloc, bytes);
     }
     match view {
-        View::Table => Ok(with_status(Status::Done, tables(alloc, &script)?)),
-        View::Warn { notes } => show_warnings(alloc, &script, notes),
+        View::Table => Ok(with_status(Status::Done, tables(alloc, &script, &plan)?)),
+        View::Warn { notes } => show_warnings(alloc, &script, &plan, notes),
         View::Graph => Ok(with_status(Status::Done, dot(alloc, &script)?)),
         View::Explain
         | View::Chart { first: _, count: _ }

@@ -140,7 +140,7 @@ fn table_text(
     file: &[u8],
     as_csv: bool,
 ) -> Result<Vec<u8>, OutOfMemory> {
-    let outlooks = outlooks(alloc, script)?;
+    let outlooks = outlooks(alloc, script, plan)?;
     let rows = rows_of(alloc, &trial.findings)?;
     let telling = FaultTelling {
         book: Book { script, plan },

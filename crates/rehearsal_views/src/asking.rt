@@ -11,7 +11,6 @@ use action_script::words::word::natural_of;
 use caa_base::written::entry::{Drill, Object, OutOfMemory};
 use caa_base::written::limits::MOST_ENTRIES;
 use place_plan::plans::plan::Plan;
-use reach_tables::never::never_resolved;
 use rehearsals::numbered::{Played, play_numbered, usual_length};
 use rehearsals::refusing::{Refusals, Trouble};
 use rehearsals::rehearsing::{Rehearsal, drills_of, rehearse};
@@ -97,8 +96,7 @@ fn rehearsal_text(
     file: &[u8],
     as_csv: bool,
 ) -> Result<Vec<u8>, OutOfMemory> {
-    let outlooks = outlooks(alloc, script)?;
-    let nevers = never_resolved(alloc, &rehearsal.plan)?;
+    let outlooks = outlooks(alloc, script, &rehearsal.plan)?;
     let telling = Telling {
         book: Book {
             script,
@@ -106,7 +104,6 @@ fn rehearsal_text(
         },
         rehearsal,
         outlooks: &outlooks,
-        nevers: &nevers,
     };
     if as_csv {
         telling.csv(alloc)

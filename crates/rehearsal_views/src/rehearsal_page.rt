@@ -1,8 +1,7 @@
-//! A rehearsal, told path by path: what was seen, what wasn't, and what never comes by the plan.
+//! A rehearsal, told path by path: what was seen, what wasn't, and what never comes.
 
 use crate::script_names::{Book, say_value, say_way};
-use caa_base::written::entry::{Exception, Object, OutOfMemory, Outcome, Place};
-use reach_tables::never::Nevers;
+use caa_base::written::entry::{Object, OutOfMemory, Outcome, Place};
 use rehearsals::facts::Fact;
 use rehearsals::paths::number_of;
 use rehearsals::rehearsing::Rehearsal;
@@ -46,13 +45,12 @@ fn say_seen(page: &mut Page, row: &Row, total: u32) -> Result<(), OutOfMemory> {
     ])
 }
 
-/// A rehearsal, with the names of its script, what its text tells of each action, in their order, and what its plan never resolves.
+/// A rehearsal, with the names of its script, and what is told of each of its actions, in their order.
 #[derive(Clone, Copy)]
 pub struct Telling<'a> {
     pub book: Book<'a>,
     pub rehearsal: &'a Rehearsal,
     pub outlooks: &'a [Outlook],
-    pub nevers: &'a Nevers,
 }
 
 /// A row as it is put in order: the kind, the count turned round so that the commonest comes first, and where it stands.
@@ -252,35 +250,27 @@ impl<'a> Telling<'a> {
             .any(|role| self.book.handles(action, *role, exception))
     }
 
-    /// Says an exception that no place of a path resolved.
-    fn say_missing(
-        &self,
-        page: &mut Page,
-        path: Place,
-        exception: Exception,
-    ) -> Result<(), OutOfMemory> {
-        let action = self.book.action_of(path);
-        let name = self.book.internal_name(action, exception);
+    /// Says an exception, by its name, that no place of a path resolved.
+    fn say_missing(&self, page: &mut Page, path: Place, exception: u32) -> Result<(), OutOfMemory> {
         page.say(&[Piece::Text("  ")])?;
         self.book.say_path(page, path)?;
-        page.say(&[Piece::Text(" resolved "), Piece::Named(name)])?;
-        self.say_handlers(page, action, name)?;
+        page.say(&[Piece::Text(" resolved "), Piece::Named(exception)])?;
+        self.say_handlers(page, self.book.action_of(path), exception)?;
         page.say(&[Piece::Text("\n")])
     }
 
-    /// Whether no place of a path resolved an exception, though it may come.
-    fn is_unseen(&self, path: Place, exception: Exception) -> bool {
-        let nevers = self.nevers.of_action(self.book.action_of(path));
-        !nevers.contains(&exception) && self.tally().row(&Fact::Resolved(path, exception)).is_none()
-    }
-
     /// Says what no place of a path resolved, though it may come; tells whether there was anything.
-    fn say_unresolved(&self, page: &mut Page, path: Place) -> Result<bool, OutOfMemory> {
+    fn say_unresolved(
+        &self,
+        page: &mut Page,
+        path: Place,
+        outlook: &Outlook,
+    ) -> Result<bool, OutOfMemory> {
         let mut has_any = false;
-        let graph = self.book.plan.internal_number(path);
-        for exception in 0..self.book.plan.exceptions_of(graph) {
-            if self.is_unseen(path, exception) {
-                self.say_missing(page, path, exception)?;
+        for (index, row) in outlook.rows.iter().enumerate() {
+            let resolved = Fact::Resolved(path, number_of(index));
+            if row.can_come && self.tally().row(&resolved).is_none() {
+                self.say_missing(page, path, row.exception)?;
                 has_any = true;
             }
         }
@@ -326,27 +316,34 @@ impl<'a> Telling<'a> {
         page.say(&[Piece::Text(" started\n")])
     }
 
+    /// What is told of the action of a path.
+    fn outlook_of(&self, path: Place) -> Option<&'a Outlook> {
+        self.outlooks.get(self.book.action_of(path) as usize)
+    }
+
     /// Says what no place of a path showed, though it may come; tells whether there was anything.
     fn say_unseen(&self, page: &mut Page, path: Place) -> Result<bool, OutOfMemory> {
         if self.tally().row(&Fact::Started(path)).is_none() {
             self.say_unstarted(page, path)?;
             return Ok(true);
         }
-        let Some(outlook) = self.outlooks.get(self.book.action_of(path) as usize) else {
+        let Some(outlook) = self.outlook_of(path) else {
             return Ok(false);
         };
-        let has_unresolved = self.say_unresolved(page, path)?;
+        let has_unresolved = self.say_unresolved(page, path, outlook)?;
         let has_unended = self.say_unended(page, path, outlook)?;
         Ok(has_unresolved || has_unended)
     }
 
     /// Says what has handlers that no place of a path begins, since it is never resolved; tells whether there was anything.
     fn say_never(&self, page: &mut Page, path: Place) -> Result<bool, OutOfMemory> {
+        let Some(outlook) = self.outlook_of(path) else {
+            return Ok(false);
+        };
         let mut has_any = false;
-        let action = self.book.action_of(path);
-        for exception in self.nevers.of_action(action) {
-            if self.is_handled(action, self.book.internal_name(action, *exception)) {
-                self.say_missing(page, path, *exception)?;
+        for row in outlook.rows.iter() {
+            if !row.can_come && self.is_handled(self.book.action_of(path), row.exception) {
+                self.say_missing(page, path, row.exception)?;
                 has_any = true;
             }
         }

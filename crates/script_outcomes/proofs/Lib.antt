@@ -1,1 +1,1 @@
-pub mod LeastOfThose
+pub mod RuledOut

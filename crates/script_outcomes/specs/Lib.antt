@@ -1,2 +1,3 @@
 pub mod Endings
-pub mod Resolvable
+pub mod Nevers
+pub mod inner

@@ -1,9 +1,7 @@
-//! The exceptions of a graph of a script, and which of them can be resolved.
+//! The exceptions of a graph of a script, and the least that covers some of them.
 
-ghost use Rattle.std.specs.Prelude.{◌≡◌, ◌<◌, ◌↔◌, length, IsTrue, IfOk};
-ghost use Rattle.std.specs.List.{All, filter};
-ghost use Rattle.cover_table.specs.Cover.{IsLeastCover, covers};
-ghost use Rattle.script_outcomes.specs.Resolvable.{CanBeResolved, NoneIsLeftOut};
+ghost use Rattle.std.specs.Prelude.{◌<◌, IsTrue};
+ghost use Rattle.std.specs.List.{All};
 
 use action_script::forms::script::Script;
 use caa_base::written::entry::OutOfMemory;
@@ -13,59 +11,11 @@ use script_views::covers::{CoverLine, covers_of};
 use script_views::looking::{exceptions_of, graph_block};
 use std::alloc::Global;
 
-/// Those of these numbers that an exception covers.
-fn covered(
-    alloc: Global,
-    graph: &Graph,
-    raised: &[u32],
-    exception: u32,
-) -> Result<Vec<u32>, OutOfMemory>
-    requires exception { exception < graph.now.count }
-    requires raised { All (λ r. r < graph.now.count) raised.now }
-    ensures { IfOk result (λ those. those.items ≡ filter (covers graph.now exception) raised.now) }
-{
-    let mut those = Vec::new(alloc);
-    for one in raised {
-        if graph.covers(exception, *one) {
-            those.push(*one)?;
-        }
-    }
-    Ok(those)
-}
-
-/// Whether an exception can be resolved where only these can be raised: it covers one of them, and is the least that covers all
-/// those which it covers.
-pub fn can_be_resolved(
-    alloc: Global,
-    graph: &Graph,
-    raised: &[u32],
-    exception: u32,
-) -> Result<bool, OutOfMemory>
-    requires exception { exception < graph.now.count }
-    requires raised { All (λ r. r < graph.now.count) raised.now }
-    ensures { IfOk result (λ can. IsTrue can ↔ CanBeResolved graph.now raised.now exception) }
-{
-    let those = covered(alloc, graph, raised, exception)?;
-    if those.is_empty() {
-        return Ok(false);
-    }
-    graph.is_sound();
-    Ok(graph.least(&those) == exception)
-}
-
-/// Whatever is raised together of what can be raised, its least cover is one of those that can be resolved.
-pub fn none_is_left_out(graph: &Graph, raised: &[u32])
-    ensures { NoneIsLeftOut graph.now raised.now }
-{
-    let _ = graph;
-    let _ = raised;
-}
-
 /// The exceptions of a graph of a script, by the numbers of their names, `universal` first, and which of them covers which.
 #[derive(Drop)]
 pub struct Exceptions {
     names: Vec<u32>,
-    /// None where the graph is refused; then nothing is ruled out.
+    /// None where the graph is refused.
     graph: Option<Graph>,
 }
 
@@ -182,22 +132,5 @@ impl Exceptions {
             return Ok(None);
         }
         Ok(Some(self.name_at(graph.least(&numbers))))
-    }
-
-    /// Whether an exception can be resolved where only these can be raised.
-    pub fn can_be_resolved(
-        &self,
-        alloc: Global,
-        raised: &[u32],
-        name: u32,
-    ) -> Result<bool, OutOfMemory> {
-        let numbers = self.numbers_of(alloc, raised)?;
-        let number = index_in(&self.names, name);
-        match &self.graph {
-            Some(graph) if number < graph.count() && are_below(&numbers, graph.count()) => {
-                can_be_resolved(alloc, graph, &numbers, number)
-            }
-            _ => Ok(true),
-        }
     }
 }

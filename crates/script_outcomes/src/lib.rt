@@ -1,4 +1,4 @@
-//! What the text of a script alone tells of each action: what can be raised in it, what each handler comes to, and how it can end.
+//! What the text of a script and its plan tell of each action: what can be raised in it, what each handler comes to, and how it can end.
 #![tactic(auto)]
 
 pub mod covering;

@@ -1,7 +1,10 @@
-//! What the text of a script tells of each of its actions.
+//! What the text of a script and its plan tell of each of its actions.
 
-ghost use Rattle.std.specs.Prelude.{◌≡◌};
+ghost use Rattle.std.specs.Prelude.{◌≡◌, [], length, slice_index_or, IfOk};
+ghost use Rattle.caa_base.specs.Written.Lists.{member};
 ghost use Rattle.script_outcomes.specs.Endings.{can_be_undone, ends_undone};
+ghost use Rattle.script_outcomes.specs.Nevers.{TellsNever};
+ghost use Rattle.script_outcomes.specs.inner.RuledOut.{RulesOutOnly};
 
 use crate::covering::Exceptions;
 use crate::programs::{Program, body_of, handler_of};
@@ -9,7 +12,9 @@ use crate::sources::{Ground, Source, named_in, set_back_by, sources_of};
 use crate::ways::{Way, add_way, way_of};
 use action_script::forms::form::Form;
 use action_script::forms::script::{Line, Script};
-use caa_base::written::entry::OutOfMemory;
+use caa_base::written::entry::{Exception, OutOfMemory};
+use place_plan::plans::plan::Plan;
+use reach_tables::never::{Nevers, never_resolved};
 use script_views::looking::{action_block, internal_of, roles_of};
 use std::alloc::Global;
 
@@ -20,7 +25,7 @@ pub struct Row {
     pub exception: u32,
     /// The lines of the steps and of the nested uses that can raise it, ascending.
     pub lines: Vec<u32>,
-    /// Whether it can be resolved, by the text alone. Where it can't, it never is, whatever the order and the device.
+    /// Whether it can be resolved, as far as is known. Where it can't, it never is, whatever the order and the device.
     pub can_come: bool,
     /// How a place ends in which it is resolved, where each handler goes through to its end.
     pub way: Way,
@@ -90,17 +95,6 @@ fn bodies_of(alloc: Global, block: &[Line]) -> Result<Vec<Option<Program>>, OutO
     Ok(programs)
 }
 
-/// What is raised by these.
-fn exceptions_in(alloc: Global, sources: &[Source]) -> Result<Vec<u32>, OutOfMemory> {
-    let mut raised = Vec::new(alloc);
-    for source in sources {
-        if !raised.as_slice().contains(&source.exception) {
-            raised.push(source.exception)?;
-        }
-    }
-    Ok(raised)
-}
-
 /// The lines of those that raise an exception.
 fn lines_in(alloc: Global, sources: &[Source], exception: u32) -> Result<Vec<u32>, OutOfMemory> {
     let mut lines = Vec::new(alloc);
@@ -113,6 +107,15 @@ fn lines_in(alloc: Global, sources: &[Source], exception: u32) -> Result<Vec<u32
     Ok(lines)
 }
 
+/// Whether the exception of this number is among these.
+fn is_among(exceptions: &[Exception], number: usize) -> bool
+    ensures { result ≡ member number exceptions.now }
+{
+    exceptions
+        .iter()
+        .any(|exception| *exception as usize == number)
+}
+
 /// An action with its graphs and what can raise an exception in it.
 #[derive(Drop)]
 struct Inside<'a> {
@@ -120,7 +123,6 @@ struct Inside<'a> {
     internal: Exceptions,
     interface: Exceptions,
     sources: Vec<Source>,
-    raised: Vec<u32>,
     universal: u32,
 }
 
@@ -141,13 +143,11 @@ impl<'a> Inside<'a> {
                 universal,
             },
         )?;
-        let raised = exceptions_in(alloc, &sources)?;
         Ok(Inside {
             block,
             internal: Exceptions::of(alloc, script, internal_of(block))?,
             interface: Exceptions::of(alloc, script, interface_of(block))?,
             sources,
-            raised,
             universal,
         })
     }
@@ -162,25 +162,28 @@ impl<'a> Inside<'a> {
         way_of(alloc, &self.interface, programs, is_handler, self.universal)
     }
 
-    /// What is told of an exception.
-    fn row(&self, alloc: Global, exception: u32) -> Result<Row, OutOfMemory> {
+    /// What is told of an exception that can come or can't.
+    fn row(&self, alloc: Global, exception: u32, can_come: bool) -> Result<Row, OutOfMemory>
+        ensures { IfOk result (λ row. row.can_come ≡ can_come) }
+    {
         let programs = handlers_of(alloc, self.block, exception)?;
         Ok(Row {
             exception,
             lines: lines_in(alloc, &self.sources, exception)?,
-            can_come: self
-                .internal
-                .can_be_resolved(alloc, &self.raised, exception)?,
+            can_come,
             way: self.way_of(alloc, &programs, true)?,
             can_fail: programs.iter().flatten().any(|program| program.can_fail()),
         })
     }
 
-    /// What is told of all exceptions of the internal graph.
-    fn rows(&self, alloc: Global) -> Result<Vec<Row>, OutOfMemory> {
+    /// What is told of all exceptions of the internal graph, of which these are never resolved.
+    #[tactic(auto, using(crate::proofs::RuledOut::rows_more))]
+    fn rows(&self, alloc: Global, nevers: &[Exception]) -> Result<Vec<Row>, OutOfMemory>
+        ensures { IfOk result (λ rows. RulesOutOnly nevers.now rows.items) }
+    {
         let mut rows = Vec::new(alloc);
-        for exception in self.internal.names() {
-            rows.push(self.row(alloc, *exception)?)?;
+        for (number, exception) in self.internal.names().iter().enumerate() {
+            rows.push(self.row(alloc, *exception, !is_among(nevers, number))?)?;
         }
         Ok(rows)
     }
@@ -213,16 +216,19 @@ impl<'a> Inside<'a> {
     }
 }
 
-/// What is told of an action; of those above it this is known.
+/// What is told of an action, in which these are never resolved; of those above it this is known.
 fn looked_at(
     alloc: Global,
     script: &Script,
     action: u32,
+    nevers: &[Exception],
     known: &[Outlook],
-) -> Result<Outlook, OutOfMemory> {
+) -> Result<Outlook, OutOfMemory>
+    ensures { IfOk result (λ outlook. RulesOutOnly nevers.now outlook.rows.items) }
+{
     let block = action_block(script.lines(), action);
     let inside = Inside::of(alloc, script, block, known)?;
-    let rows = inside.rows(alloc)?;
+    let rows = inside.rows(alloc, nevers)?;
     let set_back = set_back_by(alloc, script.lines(), block)?;
     let ways = inside.ways(alloc, &rows, &set_back)?;
     Ok(Outlook {
@@ -234,14 +240,45 @@ fn looked_at(
     })
 }
 
-/// What the text of a script that isn't refused tells of each of its actions, in their order.
-pub fn outlooks(alloc: Global, script: &Script) -> Result<Vec<Outlook>, OutOfMemory> {
-    let mut known = Vec::new(alloc);
-    for line in script.lines() {
-        if let Form::Action(action) = &line.form {
-            let next = looked_at(alloc, script, *action, &known)?;
-            known.push(next)?;
+/// What is told of the action behind those of which this is known.
+fn next_outlook(
+    alloc: Global,
+    script: &Script,
+    action: u32,
+    nevers: &Nevers,
+    known: &[Outlook],
+) -> Result<Outlook, OutOfMemory>
+    ensures { IfOk result (λ outlook.
+        RulesOutOnly (slice_index_or nevers.now (length known.now) []) outlook.rows.items) }
+{
+    match u32::try_from(known.len()) {
+        Ok(number) => looked_at(alloc, script, action, nevers.of_action(number), known),
+        Err(_) => looked_at(alloc, script, action, &[], known),
+    }
+}
+
+/// The names of the actions of a script, in their order.
+fn actions_in(alloc: Global, lines: &[Line]) -> Result<Vec<u32>, OutOfMemory> {
+    let mut actions = Vec::new(alloc);
+    for line in lines {
+        if let Form::Action(name) = &line.form {
+            actions.push(*name)?;
         }
+    }
+    Ok(actions)
+}
+
+/// What the text of a script that isn't refused tells of each of its actions, in their order. What it tells to be never resolved comes
+/// from the plan of the script.
+pub fn outlooks(alloc: Global, script: &Script, plan: &Plan) -> Result<Vec<Outlook>, OutOfMemory>
+    ensures { IfOk result (λ outlooks. TellsNever plan.now outlooks.items) }
+{
+    let nevers = never_resolved(alloc, plan)?;
+    let actions = actions_in(alloc, script.lines())?;
+    let mut known = Vec::new(alloc);
+    for action in &actions {
+        let next = next_outlook(alloc, script, *action, &nevers, &known)?;
+        known.push(next)?;
     }
     Ok(known)
 }

@@ -5,6 +5,7 @@ use crate::programs::{Program, Said, handler_of};
 use crate::ways::Way;
 use action_script::forms::script::{Line, Script};
 use caa_base::written::entry::OutOfMemory;
+use place_plan::plans::plan::Plan;
 use script_views::covers::{CoverLine, below, covers_of};
 use script_views::looking::{action_block, first_line, graph_block, internal_of, roles_of};
 use script_views::page::{Page, Piece};
@@ -305,12 +306,12 @@ fn write_action(
 /// For each action of a script a table: a row for each exception of its internal graph, and a column for each role. A cell has the
 /// verdict of the role's handler for just this exception, and `-` where there is none; then all is set back. `+` says that a step of
 /// the handler can be refused or can raise, which makes its verdict an undo. Behind them stands how the place ends, `never` where the
-/// exception can't be resolved by the text alone, and the lines that can raise it. Below a table notes tell of each cover that has
+/// exception is never resolved, and the lines that can raise it. Below a table notes tell of each cover that has
 /// handlers for which exceptions below it they don't serve.
-pub fn tables(alloc: Global, script: &Script) -> Result<Vec<u8>, OutOfMemory> {
+pub fn tables(alloc: Global, script: &Script, plan: &Plan) -> Result<Vec<u8>, OutOfMemory> {
     let mut page = Page::new(alloc, script.names());
     let mut has_note = false;
-    for outlook in outlooks(alloc, script)?.iter() {
+    for outlook in outlooks(alloc, script, plan)?.iter() {
         has_note = write_action(alloc, &mut page, script, outlook)? || has_note;
     }
     if has_note {

@@ -203,7 +203,7 @@ pub fn journal_page_of<L: Lines>(
     ensures { IfOk result (λ text. IsJournalPage plan.now entries.now text.items) }
 {
     let mut head = head_parts(alloc, subject, None)?;
-    push_bytes(alloc, &mut head, &tables(alloc, script)?)?;
+    push_bytes(alloc, &mut head, &tables(alloc, script, plan)?)?;
     push_graphs(alloc, &mut head, script)?;
     push_plan(alloc, &mut head, plan)?;
     let mut tail = Vec::new(alloc);

@@ -1,4 +1,4 @@
-//! What its author may not have meant in a script, read off the text alone. Nothing is refused for it.
+//! What its author may not have meant in a script, read off the text and its plan. Nothing is refused for it.
 #![tactic(auto)]
 
 mod bodies;

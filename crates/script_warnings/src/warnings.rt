@@ -12,6 +12,7 @@ use crate::tells::{Tells, Told};
 use crate::uses::{tell_never_tried, tell_no_order, tell_unnamed};
 use action_script::forms::script::Script;
 use caa_base::written::entry::OutOfMemory;
+use place_plan::plans::plan::Plan;
 use script_outcomes::outlooks::{Outlook, outlooks};
 use script_views::looking::first_line;
 use script_views::page::{Page, Piece};
@@ -60,8 +61,8 @@ fn tell_restores(tells: &mut Tells, parts: &[Part], things: &Things) -> Result<(
 }
 
 /// All that is told of a script that isn't refused, warnings and notes.
-fn told_of(alloc: Global, script: &Script) -> Result<Vec<Told>, OutOfMemory> {
-    let outlooks = outlooks(alloc, script)?;
+fn told_of(alloc: Global, script: &Script, plan: &Plan) -> Result<Vec<Told>, OutOfMemory> {
+    let outlooks = outlooks(alloc, script, plan)?;
     let all = parts_of(alloc, script, &outlooks)?;
     let things = Things::of(alloc, script.lines())?;
     let plays = Plays::of(alloc, script.lines(), &outlooks, &all)?;
@@ -95,8 +96,13 @@ pub struct Warned {
 
 /// What the text of a script that isn't refused says that its author may not have meant: how many warnings and notes there are, and
 /// each warning with its line. The notes are shown where they are asked for.
-pub fn warnings(alloc: Global, script: &Script, with_notes: bool) -> Result<Warned, OutOfMemory> {
-    let told = told_of(alloc, script)?;
+pub fn warnings(
+    alloc: Global,
+    script: &Script,
+    plan: &Plan,
+    with_notes: bool,
+) -> Result<Warned, OutOfMemory> {
+    let told = told_of(alloc, script, plan)?;
     let warnings = count_warnings(&told);
     let mut page = Page::new(alloc, script.names());
     page.say(&[
