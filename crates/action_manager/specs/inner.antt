@@ -1,3 +1,4 @@
 -- What the code keeps and finds its answers by: no contract of a public call cites it.
+pub mod Asking
 pub mod Housed
 pub mod Turns

@@ -2,8 +2,9 @@ ghost use Rattle.std.specs.Prelude.{◌≡◌, ◌<◌, ℕ, true, length};
 ghost use Rattle.cover_table.specs.Cover.{has_bit};
 ghost use Rattle.place_plan.specs.RulesOfJournals.Machine.{Answers};
 ghost use Rattle.shared_views.specs.Telling.{cells_of};
-ghost use Rattle.action_manager.specs.Stepping.{did_work, AnswersTurn};
+ghost use Rattle.action_manager.specs.Stepping.{did_work};
 ghost use Rattle.action_manager.specs.Waking.{did_end, SleepsOn};
+ghost use Rattle.action_manager.specs.inner.Asking.{AnswersAs};
 
 use crate::home::Home;
 use crate::publishing::Publishing;
@@ -87,13 +88,14 @@ impl<M: Machine> Housed<M> {
         (answer, told)
     }
 
-    /// One turn of a participant: its next entry, and where that is the work that it brings, the one after it in the same turn.
+    /// One turn of a participant: its next entry. Where that is the work that it brings, a turn that asks on makes the one after it too.
     pub fn turn<R: Wait>(
         &mut self,
         rt: &R,
         cells: &ResolutionCells,
         by: Participant,
         hint: Option<WorkDone>,
+        asks_on: bool,
     ) -> (Answer, Announcement)
         requires who { by < length (M.plan_of self.old.machine).participants }
         requires ours { cells_of self.old.bulletin ≡ cells.now }
@@ -103,12 +105,12 @@ impl<M: Machine> Housed<M> {
         ensures cells { cells_of self.new.bulletin ≡ cells_of self.old.bulletin }
         ensures book { book_of self.new.publishing ≡ book_of self.old.publishing }
         ensures kept { IsKept M.plan_of M.journal_of self.new }
-        ensures answer { AnswersTurn (M.plan_of self.old.machine) (M.journal_of self.old.machine) (M.journal_of self.new.machine)
-            by hint result.0 }
+        ensures answer { AnswersAs asks_on (M.plan_of self.old.machine) (M.journal_of self.old.machine)
+            (M.journal_of self.new.machine) by hint result.0 }
         ensures told { TellsAfter cells.now result.0 result.1 }
     {
         let (first, told) = self.next(rt, cells, by, hint);
-        if is_work(first) {
+        if asks_on && is_work(first) {
             self.next(rt, cells, by, None)
         } else {
             (first, told)

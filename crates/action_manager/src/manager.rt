@@ -1,15 +1,16 @@
 ghost use Rattle.std.specs.Prelude.{ℕ, ◌≡◌, ◌+◌, ◌<◌, [], ◌∷◌, length, map, replicate, reverse, All, false, IsTrue, ◌↔◌, IfOk, IfErr, OnOk, IfSome, IfNone, vec_capacity};
 ghost use mathlib.Core.List.{IsPrefix};
 ghost use Rattle.std.specs.List.{range_with_len};
-ghost use Rattle.place_plan.specs.RulesOfJournals.Journals.{plays_ended};
+ghost use Rattle.place_plan.specs.RulesOfJournals.Journals.{plays_ended, IsLegal};
 ghost use Rattle.shared_views.specs.Telling.{cells_of, IsFresh};
 ghost use Rattle.shared_views.specs.Committing.{placeless};
 ghost use Rattle.action_manager.specs.OwnEntries.{entries_by};
 ghost use Rattle.action_manager.specs.inner.Turns.{maker, held, Has, Stands};
-ghost use Rattle.action_manager.specs.Stepping.{IsAtRest, Steps, Looks};
+ghost use Rattle.action_manager.specs.Stepping.{IsAtRest, Steps, StepsOn, Looks};
 ghost use Rattle.action_manager.specs.Locks.{home_at, plan_at};
 ghost use Rattle.action_manager.specs.Openings.{IsUnresolved};
 ghost use Rattle.action_manager.specs.Publishing.{Publishes, publications_of, book_of, new_observer};
+ghost use Rattle.action_manager.specs.inner.Asking.{StepsAs};
 ghost use Rattle.action_manager.specs.inner.Housed.{IsKept, IsRight};
 ghost use Rattle.action_manager.specs.Tidings.{TellsAfter};
 ghost use Rattle.action_manager.specs.Seats.{IsNewSeat, participant_of, seen_by, told_to, stand, has_seat, HaveAll, IsLeastMissing, Accounts};
@@ -297,23 +298,60 @@ impl<M: Machine> Manager<M> {
         self.door.news()
     }
 
-    /// One turn of the seat's participant: the machine's answer, on a journal that goes on from what the seat had seen. Where the
-    /// work that it brings is entered, that is the answer after that entry.
+    /// One step of the seat's participant: its next entry, or the machine's answer that it has none now.
     ///
-    /// The seat has then seen the journal that the machine left. After a Resolve or a Handle it has the note of that place, to be
-    /// taken. Where the turn ended a play, it also published its values, by the allocator that `open` was given. The entry stands
-    /// whether or not memory was found for what is told of it. It may wait, and need not return.
+    /// At `Did` the seat has seen one entry of its participant more, the last that it has seen. At every other answer it has seen
+    /// none more, and that is the machine's answer on what it has seen then. Where a work is brought, what comes after the work is
+    /// the answer to the next step: `step_on` is for whoever wants that at once.
+    ///
+    /// After a Resolve or a Handle the seat has the note of that place, to be taken. Where the turn ended a play, it also published
+    /// its values, by the allocator that `open` was given. The entry stands whether or not memory was found for what is told of it.
+    /// It may wait, and need not return.
     pub fn step<R: Wait>(&self, rt: &R, seat: &mut Seat<M>, hint: Option<WorkDone>) -> Answer
         requires opened { IsSeatIn M.base_of self.now seat.old }
         ensures opened { IsSeatIn M.base_of self.now seat.new }
         ensures same { participant_of seat.new ≡ participant_of seat.old }
         ensures turn { Steps (plan_in self.now) (seen_by seat.old) (seen_by seat.new) (participant_of seat.old) hint result }
+        ensures legal { IsLegal (plan_in self.now) (seen_by seat.new) }
+        ensures told { TellsAfter (cells_in self.now) result (told_to seat.new) }
+    {
+        self.turn(rt, seat, hint, false)
+    }
+
+    /// A step that asks on: where it enters the work that it brings, it goes on in the same turn, and its answer is the one after
+    /// the work. All else is as at `step`.
+    ///
+    /// It is for whoever drives a seat: a work that was mixed costs one turn, not two. Then the answer doesn't say that the work was
+    /// entered; the journal that the seat has seen does. Whoever is to be answered for each entry calls `step`.
+    pub fn step_on<R: Wait>(&self, rt: &R, seat: &mut Seat<M>, hint: Option<WorkDone>) -> Answer
+        requires opened { IsSeatIn M.base_of self.now seat.old }
+        ensures opened { IsSeatIn M.base_of self.now seat.new }
+        ensures same { participant_of seat.new ≡ participant_of seat.old }
+        ensures turn { StepsOn (plan_in self.now) (seen_by seat.old) (seen_by seat.new) (participant_of seat.old) hint result }
+        ensures told { TellsAfter (cells_in self.now) result (told_to seat.new) }
+    {
+        self.turn(rt, seat, hint, true)
+    }
+
+    /// One turn of the seat's participant, which asks on where the work that it brings is entered, or doesn't.
+    fn turn<R: Wait>(
+        &self,
+        rt: &R,
+        seat: &mut Seat<M>,
+        hint: Option<WorkDone>,
+        asks_on: bool,
+    ) -> Answer
+        requires opened { IsSeatIn M.base_of self.now seat.old }
+        ensures opened { IsSeatIn M.base_of self.now seat.new }
+        ensures same { participant_of seat.new ≡ participant_of seat.old }
+        ensures turn { StepsAs asks_on (plan_in self.now) (seen_by seat.old) (seen_by seat.new) (participant_of seat.old) hint result }
+        ensures legal { IsLegal (plan_in self.now) (seen_by seat.new) }
         ensures told { TellsAfter (cells_in self.now) result (told_to seat.new) }
     {
         let mut waiting = self.door.enter(rt);
         let (ticket, mut home) = self.lock.begin(rt, &mut seat.token);
         let was = home.machine.journal_len();
-        let (answer, told) = home.turn(rt, &self.cells, seat.participant, hint);
+        let (answer, told) = home.turn(rt, &self.cells, seat.participant, hint, asks_on);
         let seen = home.machine.journal_len();
         let ended = home.ended_play(answer);
         let asleep = home.asleep_after(seat.participant, answer, waiting.asleep());
