@@ -58,8 +58,8 @@ SEED is from 0 to 2147483647, and W, the number of threads, from 1 to 16. JOURNA
 What isn't done is told on standard error. docs/embedding.md has the lines that a device answers.
 ";
 
-/// Its name and version.
-const VERSION: &[u8] = b"caa_bridge 1.0\n";
+/// Its name, its version, and the commit that it was built from: zeros, until `./build_caa` has written twelve digits there.
+const VERSION: &[u8] = b"caa_bridge 1.0, commit 000000000000\n";
 
 /// The plan of the script that these bytes spell; none where there is no such script, which is then not played.
 fn plan_in(alloc: Global, bytes: &[u8]) -> Result<Option<Plan>, OutOfMemory> {
