@@ -39,6 +39,7 @@ class Wrapper:
         self.limit = limit
         self.asked = None
         self.is_stopped = False
+        self.has_left = False
 
     def on_signal(self, number, _frame):
         """Notes the signal: a command that the device was sent is still awaited."""
@@ -58,7 +59,9 @@ class Wrapper:
         try:
             self.device.stdin.write(line)
         except BrokenPipeError:
-            print("stop.py: the device has left", file=sys.stderr, flush=True)
+            if not self.has_left:
+                print("stop.py: the device has left", file=sys.stderr, flush=True)
+            self.has_left = True
 
     def answer(self, line):
         """The answer to a line; none where the device didn't give one."""
