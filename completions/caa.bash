@@ -3,7 +3,7 @@ _caa() {
   local word=${COMP_WORDS[COMP_CWORD]}
   COMPREPLY=()
   case $COMP_CWORD in
-    1) mapfile -t COMPREPLY < <(compgen -W 'check sim run audit graph messages pool cell' -- "$word") ;;
+    1) mapfile -t COMPREPLY < <(compgen -W 'check sim run audit graph messages pool cell --version' -- "$word") ;;
     2)
       case ${COMP_WORDS[1]} in
         sim | messages) mapfile -t COMPREPLY < <(compgen -W '1 2 3 4 5 6 7 8 9' -- "$word") ;;

@@ -6,7 +6,7 @@ _caa_bridge() {
     at=$((at + 1))
   done
   if [ "$COMP_CWORD" -eq "$at" ]; then
-    mapfile -t COMPREPLY < <(compgen -W 'sim run pool --go-on --sync --help --version' -- "$word")
+    mapfile -t COMPREPLY < <(compgen -W 'sim run pool --go-on --strict --sync --help --version' -- "$word")
   elif [ "$COMP_CWORD" -eq $((at + 1)) ]; then
     case ${COMP_WORDS[at]} in
       sim) mapfile -t COMPREPLY < <(compgen -W '1 2 3 4 5 6 7 8 9' -- "$word") ;;

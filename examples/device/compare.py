@@ -6,7 +6,8 @@ refuses puts by chance. Each journal must be one that `audit` finds legal, and t
 cell. Then one answer goes wrong, at each line of both scripts, in each of the ways of cell.py, with `sim` and with `run`: the journal
 must be the one that the rules give where that put is refused and each after it, nothing may be sent behind it but `stop`, and standard
 error must name the line. The program is killed at each line: the file must have just the entries before it. At last the files, the
-streams and the device are what they must not be, and a play that failed must not be followed by another.
+streams and the device are what they must not be, a play that failed must not be followed by another, and plays that end otherwise than
+by commit are told.
 """
 import os
 import shutil
@@ -218,14 +219,29 @@ def relit(bridge, caa, folder):
     play = Play(bridge, ["sim", SEED], RELIGHT, journal, cell)
     if not cell.is_stopped or [line.split()[0] for line in play.sent] != ["lay", "put", "put", "restore", "restore", "stop"]:
         return f"sent {play.sent}"
-    told = ("restore 3 (arc 0): the device refused it", "play weld ended: failed; nothing more is sent but stop",
-            "plays not begun at the machine: 1", "plays: failed 2", "object arc 1")
+    told = ("restore 3 (arc 0): the device refused it", "play 1 weld (place 0) ended: failed; nothing more is sent but stop",
+            "plays not begun at the machine: 1", "plays: failed 1 not begun 1", "object arc 1")
     if any(line not in play.told for line in told):
         return f"told {play.told}"
+    strict = Play(bridge, ["--strict", "sim", SEED], RELIGHT, journal, Cell(refused=["restore arc 0"]))
+    if (play.status, strict.status) != (1, 9):
+        return f"statuses {play.status} and, with --strict, {strict.status}"
     on = Play(bridge, ["--go-on", "sim", SEED], RELIGHT, journal, Cell(refused=["restore arc 0"]))
     if not any(line.endswith(" arc 1\n") for line in on.sent[4:]) or "stop\n" in on.sent:
         return f"with --go-on it sent {on.sent}"
     return wrong_in(caa, RELIGHT, play)
+
+
+def told_ends(bridge, folder):
+    """What is wrong where no put is refused, and the play of jam_and_slip ends by a signal, or undone."""
+    journal = os.path.join(folder, "journal")
+    for seed, end, summed in (("1", "signal piece_lost", "signal piece_lost 1"), ("4", "undone", "undone 1")):
+        told = f"play 1 form_piece (place 0) ended: {end}\nplays: {summed}\n"
+        for words, status in ((["sim", seed], 0), (["--strict", "sim", seed], 7)):
+            play = Play(bridge, words, SCRIPTS[0], journal, Cell())
+            if (play.status, play.told) != (status, told):
+                return f"{words}: status {play.status}, and told {play.told}"
+    return None
 
 
 def ended(bridge, words, folder, **streams):
@@ -273,6 +289,7 @@ def main():
     plays = int(sys.argv[3]) if len(sys.argv) > 3 else 500
     tries = list(calls(bridge, caa, plays))
     tries.append(("relight", lambda folder: relit(bridge, caa, folder)))
+    tries.append(("ends", lambda folder: told_ends(bridge, folder)))
     tries.append(("files", lambda folder: wrong_files(bridge, folder)))
     tries.append(("full disk", lambda folder: full_disk(bridge, caa, folder)))
     faults = []

@@ -9,6 +9,7 @@ it leaves, since nobody knows what the device did: for caa_bridge the answers ha
 its own.
 """
 import argparse
+import contextlib
 import os
 import select
 import signal
@@ -38,6 +39,7 @@ class Wrapper:
         self.limit = limit
         self.asked = None
         self.is_stopped = False
+        self.has_left = False
 
     def on_signal(self, number, _frame):
         """Notes the signal: a command that the device was sent is still awaited."""
@@ -48,8 +50,18 @@ class Wrapper:
         if not self.is_stopped:
             self.is_stopped = True
             print(f"stop.py: {why}; from here on each put is refused", file=sys.stderr, flush=True)
-            self.device.stdin.write(b"stop\n")
-            self.device.stdin.close()
+            self.tell(b"stop\n")
+            with contextlib.suppress(BrokenPipeError):
+                self.device.stdin.close()
+
+    def tell(self, line):
+        """Hands a line on; a device that has left hears nothing."""
+        try:
+            self.device.stdin.write(line)
+        except BrokenPipeError:
+            if not self.has_left:
+                print("stop.py: the device has left", file=sys.stderr, flush=True)
+            self.has_left = True
 
     def answer(self, line):
         """The answer to a line; none where the device didn't give one."""
@@ -60,7 +72,7 @@ class Wrapper:
             return b""
         if self.is_stopped:
             return b"failed " + line.split()[1] + b"\n"
-        self.device.stdin.write(line)
+        self.tell(line)
         answer = line_within(self.device.stdout, self.limit)
         return answer if answer.endswith(b"\n") else None
 

@@ -19,6 +19,8 @@ pub struct Call<'a> {
     pub journal: &'a str,
     /// Whether the device is still asked after a play that ended as failed.
     pub goes_on: bool,
+    /// Whether the status says as well that a play was signalled, undone or not begun.
+    pub is_strict: bool,
     /// Whether each line of the journal waits until the disk has it.
     pub syncs: bool,
 }
@@ -53,7 +55,7 @@ fn command_words(words: &[String]) -> Option<usize>
 /// How many of the first words are options.
 fn option_words(words: &[String]) -> usize {
     for (index, word) in words.iter().enumerate() {
-        if !matches!(word.as_str(), "--go-on" | "--sync") {
+        if !matches!(word.as_str(), "--go-on" | "--strict" | "--sync") {
             return index;
         }
     }
@@ -74,11 +76,12 @@ fn call_of(words: &[String]) -> Option<Call<'_>> {
         script: words[command].as_str(),
         journal: words[command + 1].as_str(),
         goes_on: options.iter().any(|word| word.as_str() == "--go-on"),
+        is_strict: options.iter().any(|word| word.as_str() == "--strict"),
         syncs: options.iter().any(|word| word.as_str() == "--sync"),
     })
 }
 
-/// What these words ask for: `[--go-on] [--sync]` and `sim SEED SCRIPT JOURNAL`, `run SCRIPT JOURNAL` or `pool W SCRIPT JOURNAL`; or
+/// What these words ask for: `[--go-on] [--strict] [--sync]` and `sim SEED SCRIPT JOURNAL`, `run SCRIPT JOURNAL` or `pool W SCRIPT JOURNAL`; or
 /// `--help` or `--version` alone.
 pub fn asked_by(words: &[String]) -> Asked<'_> {
     if let [word] = words {

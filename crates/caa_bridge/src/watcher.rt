@@ -1,17 +1,15 @@
 //! What is told, and done, as entries are made.
 
-use caa_base::written::entry::{Entry, Outcome};
+use caa_base::written::entry::{Entry, Outcome, Place};
 use entry_log::watched::Watch;
+use journal_text::texts::text_writer::told_name;
 use place_plan::plans::plan::Plan;
 use place_plan::rules::one_entry::{ends_play, outcome_at};
 use std::io::Write;
 use std::sync::atomic::{AtomicBool, Ordering};
 
-/// How many plays that failed are told of by a line each.
-const MOST_TOLD: u64 = 20;
-
-/// It raises a flag when a play has ended as failed, so that the device is given up, and tells an operator of such plays, and how far
-/// all plays are.
+/// It raises a flag when a play has ended as failed, so that the device is given up. It tells an operator of each play that ended
+/// otherwise than by commit, as long as the device isn't given up, and how far all plays are.
 #[derive(Drop)]
 pub struct Watcher<'a, W> {
     operator: W,
@@ -19,7 +17,16 @@ pub struct Watcher<'a, W> {
     goes_on: bool,
     each: u64,
     entries: u64,
-    failed: u64,
+}
+
+/// Which of the plays has this place, counted from 1 on; 0 where it is no play's.
+fn play_number(plan: &Plan, place: Place) -> u64 {
+    for (index, play) in plan.play_places().iter().enumerate() {
+        if *play == place {
+            return index as u64 + 1;
+        }
+    }
+    0
 }
 
 impl<'a, W: Write> Watcher<'a, W> {
@@ -32,28 +39,37 @@ impl<'a, W: Write> Watcher<'a, W> {
             goes_on,
             each,
             entries: 0,
-            failed: 0,
         }
     }
 
-    /// A play has ended as failed.
-    fn note_failed(&mut self, plan: &Plan, entry: &Entry) {
-        self.failed = self.failed.saturating_add(1);
-        if !self.goes_on {
+    /// Tells of a play that ended so, which is no commit: its number among all, its action, its place, and what was told outside.
+    fn tell_end(&mut self, plan: &Plan, entry: &Entry, outcome: Outcome) {
+        let (number, place) = (play_number(plan, entry.place), entry.place);
+        let _ = write!(self.operator, "play {number} ");
+        let _ = self.operator.write_all(plan.action_name(place));
+        let _ = write!(self.operator, " (place {place}) ended: ");
+        let _ = self.operator.write_all(match outcome {
+            Outcome::Commit => b"commit",
+            Outcome::Signal(_) => b"signal ",
+            Outcome::Undone => b"undone",
+            Outcome::Aborted => b"aborted",
+            Outcome::Failed if self.goes_on => b"failed",
+            Outcome::Failed => b"failed; nothing more is sent but stop",
+        });
+        let _ = self
+            .operator
+            .write_all(told_name(plan, entry).unwrap_or_default());
+        let _ = self.operator.write_all(b"\n");
+    }
+
+    /// A play has ended so.
+    fn note_end(&mut self, plan: &Plan, entry: &Entry, outcome: Outcome) {
+        if outcome != Outcome::Commit && !self.is_over.load(Ordering::SeqCst) {
+            self.tell_end(plan, entry, outcome);
+        }
+        if outcome == Outcome::Failed && !self.goes_on {
             self.is_over.store(true, Ordering::SeqCst);
         }
-        let most = if self.goes_on { MOST_TOLD } else { 1 };
-        if self.failed > most {
-            return;
-        }
-        let _ = self.operator.write_all(b"play ");
-        let _ = self.operator.write_all(plan.action_name(entry.place));
-        let ending: &[u8] = if self.goes_on {
-            b" ended: failed\n"
-        } else {
-            b" ended: failed; nothing more is sent but stop\n"
-        };
-        let _ = self.operator.write_all(ending);
     }
 
     /// One entry more was made.
@@ -69,8 +85,8 @@ impl<'a, W: Write> Watcher<'a, W> {
 impl<W: Write> Watch for Watcher<'_, W> {
     fn saw(&mut self, plan: &Plan, entry: &Entry) {
         self.count(plan);
-        if ends_play(plan, entry) && outcome_at(entry) == Outcome::Failed {
-            self.note_failed(plan, entry);
+        if ends_play(plan, entry) {
+            self.note_end(plan, entry, outcome_at(entry));
         }
     }
 }
