@@ -31,12 +31,12 @@ begins_none plan (finding.Printed text) left h = absurd h
 begins_none plan (finding.Legal entries) left h = absurd h
 begins_none plan (finding.Illegal line) left h = absurd h
 
-module _ (was_told : ℕ → ℕ → Type 0) (was_handed : ℕ → ℕ → ℕ → Type 0) where
+module _ (was_told : ℕ → ℕ → ℕ → Type 0) (was_handed : ℕ → ℕ → ℕ → Type 0) where
   -- of an empty journal there is nothing to tell
   pub nothing_told : (journal : List Entry) → journal ≡ [] → WasToldAll was_told was_handed journal
   nothing_told journal none = record {
     works = goes_nowhere (IsTold was_told) [] journal none;
-    handlers = goes_nowhere (IsHanded was_handed) [] journal none;
+    handlers = goes_nowhere (λ before e. IsHanded was_handed e) [] journal none;
   }
 
   -- nor where nothing was played

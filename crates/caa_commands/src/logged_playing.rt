@@ -12,7 +12,6 @@ ghost use Rattle.caa_commands.specs.Logging.{IsLogged, WasUsed};
 use crate::logging::{LogUse, LoggedDecision};
 use crate::playing::{ended, ended_in_threads, open, unplayed};
 use action_core::Hall;
-use caa_base::outside::gate::Gate;
 use caa_base::outside::plant::Plant;
 use caa_base::outside::sink::Sink;
 use entry_log::logged::Logged;
@@ -21,7 +20,7 @@ use entry_log::watched::{Watch, Watched};
 use journal_laws::{is_well_formed, keeps_laws};
 use journal_text::looks::seens::Seens;
 use place_plan::plans::plan::Plan;
-use role_driver::HandlerGate;
+use role_driver::ToldGate;
 use role_driver::running::{Finished, RunError, run};
 use role_driver::sim::sim;
 use std::alloc::Global;
@@ -109,7 +108,7 @@ pub fn run_logged<
     P: Plant + Send,
     K: Sink + Drop + Send,
     W: Watch + Drop + Send,
-    G: Gate + HandlerGate + Sync,
+    G: ToldGate + Sync,
     R: Threads + Wait + Sync,
 >(
     rt: &R,
@@ -165,7 +164,7 @@ pub fn pool_logged<
     P: Plant + Send,
     K: Sink + Drop + Send,
     W: Watch + Drop + Send,
-    G: Gate + Sync,
+    G: ToldGate + Sync,
     R: Threads + Wait + Sync,
 >(
     rt: &R,

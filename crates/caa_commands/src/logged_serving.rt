@@ -18,14 +18,13 @@ use crate::logging::{LogUse, LoggedDecision};
 use crate::playing::Decision;
 use crate::scripts::{NoPlan, plan_of};
 use crate::serving::{decide, unread};
-use caa_base::outside::gate::Gate;
 use caa_base::outside::plant::Plant;
 use caa_base::outside::reading::read_all;
 use caa_base::outside::sink::Sink;
 use caa_base::outside::source::Source;
 use caa_base::written::limits::MOST_SCRIPT_BYTES;
 use entry_log::watched::Watch;
-use role_driver::HandlerGate;
+use role_driver::ToldGate;
 use std::alloc::Global;
 use std::sync::Wait;
 use std::thread::Threads;
@@ -148,7 +147,7 @@ fn play_script<
     P: Plant + Send,
     K: Sink + Drop + Send,
     W: Watch + Drop + Send,
-    G: Gate + HandlerGate + Sync,
+    G: ToldGate + Sync,
     R: Threads + Wait + Sync,
 >(
     rt: &R,
@@ -190,7 +189,7 @@ fn play_read<
     P: Plant + Send,
     K: Sink + Drop + Send,
     W: Watch + Drop + Send,
-    G: Gate + HandlerGate + Sync,
+    G: ToldGate + Sync,
     R: Threads + Wait + Sync,
 >(
     rt: &R,
@@ -241,7 +240,7 @@ pub fn decide_logged_in_threads<
     P: Plant + Send,
     K: Sink + Drop + Send,
     W: Watch + Drop + Send,
-    G: Gate + HandlerGate + Sync,
+    G: ToldGate + Sync,
     R: Threads + Wait + Sync,
 >(
     rt: &R,

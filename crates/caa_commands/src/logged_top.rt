@@ -12,13 +12,12 @@ use crate::logged_serving::{decide_logged, decide_logged_in_threads};
 use crate::logging::{LogUse, LoggedDecision, end_log};
 use crate::status::{Ended, Status};
 use crate::top::tell;
-use caa_base::outside::gate::Gate;
 use caa_base::outside::plant::Plant;
 use caa_base::outside::sink::Sink;
 use caa_base::outside::source::Source;
 use caa_base::written::journal::Journal;
 use entry_log::watched::Watch;
-use role_driver::HandlerGate;
+use role_driver::ToldGate;
 use std::alloc::Global;
 use std::sync::Wait;
 use std::thread::Threads;
@@ -123,7 +122,7 @@ pub fn top_logged<
     K: Sink + Drop + Send,
     P: Plant + Send,
     W: Watch + Drop + Send,
-    G: Gate + HandlerGate + Sync,
+    G: ToldGate + Sync,
     R: Threads + Wait + Sync,
 >(
     rt: &R,

@@ -15,7 +15,6 @@ ghost use Rattle.caa_commands.specs.Calls.{EndsAs, EndsWith, DoesNotBegin, IsSim
 
 use crate::finding::{Finding, Text};
 use action_core::Hall;
-use caa_base::outside::gate::Gate;
 use caa_base::outside::plant::Plant;
 use caa_base::written::entry::{Entry, Kind, OutOfMemory, Outcome};
 use caa_base::written::journal::Journal;
@@ -25,7 +24,7 @@ use journal_replay::hall::OpenCause;
 use journal_text::looks::seens::Seens;
 use journal_text::texts::text_blocks::write_rest;
 use place_plan::plans::plan::Plan;
-use role_driver::HandlerGate;
+use role_driver::ToldGate;
 use role_driver::running::{Finished, RunError, run};
 use role_driver::sim::sim;
 use std::alloc::Global;
@@ -261,7 +260,7 @@ pub fn ended_in_threads<P: Plant>(
 
 /// Plays a plan to its end, each participant in a thread of its own, and writes the text of its journal with what the watchers
 /// saw. The gate is told of each work and each handler. It need not return.
-pub fn run_plan<P: Plant + Send, G: Gate + HandlerGate + Sync, R: Threads + Wait + Sync>(
+pub fn run_plan<P: Plant + Send, G: ToldGate + Sync, R: Threads + Wait + Sync>(
     rt: &R,
     alloc: Global,
     plan: Plan,
@@ -292,7 +291,7 @@ pub fn run_plan<P: Plant + Send, G: Gate + HandlerGate + Sync, R: Threads + Wait
 }
 
 /// Plays a plan to its end by so many workers, and writes the text of its journal. It need not return.
-pub fn pool_plan<P: Plant + Send, G: Gate + Sync, R: Threads + Wait + Sync>(
+pub fn pool_plan<P: Plant + Send, G: ToldGate + Sync, R: Threads + Wait + Sync>(
     rt: &R,
     alloc: Global,
     plan: Plan,

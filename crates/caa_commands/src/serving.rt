@@ -22,14 +22,13 @@ use crate::playing::{Decision, pool_plan, run_plan, simulate};
 use crate::scripts::{NoPlan, counts_of, plan_of};
 use action_script::script_error::ScriptCause;
 use action_script::words::journal_start::find_journal;
-use caa_base::outside::gate::Gate;
 use caa_base::outside::plant::Plant;
 use caa_base::outside::reading::{ReadError, read_all};
 use caa_base::outside::source::Source;
 use caa_base::written::limits::{MOST_AUDIT_BYTES, MOST_AUDITED, MOST_SCRIPT_BYTES};
 use message_plays::messages_text;
 use place_plan::plans::plan::Plan;
-use role_driver::HandlerGate;
+use role_driver::ToldGate;
 use script_checker::check_error::CheckCause;
 use std::alloc::Global;
 use std::sync::Wait;
@@ -217,7 +216,7 @@ pub fn decide<S: Source, P: Plant>(
 
 /// Plays in threads the script in these bytes. It need not return.
 #[tactic(auto, using(crate::proofs::GatesTold::idle_told))]
-fn play_in_threads<P: Plant + Send, G: Gate + HandlerGate + Sync, R: Threads + Wait + Sync>(
+fn play_in_threads<P: Plant + Send, G: ToldGate + Sync, R: Threads + Wait + Sync>(
     rt: &R,
     alloc: Global,
     command: Threaded,
@@ -242,7 +241,7 @@ fn play_in_threads<P: Plant + Send, G: Gate + HandlerGate + Sync, R: Threads + W
 
 /// What a command comes to that is played in threads, over a source and a device. It need not return.
 #[tactic(auto, using(crate::proofs::CommandParts::threaded_reads, crate::proofs::CommandParts::threaded_most, crate::proofs::GatesTold::idle_told))]
-fn play_read<S: Source, P: Plant + Send, G: Gate + HandlerGate + Sync, R: Threads + Wait + Sync>(
+fn play_read<S: Source, P: Plant + Send, G: ToldGate + Sync, R: Threads + Wait + Sync>(
     rt: &R,
     alloc: Global,
     command: Threaded,
@@ -267,12 +266,14 @@ fn play_read<S: Source, P: Plant + Send, G: Gate + HandlerGate + Sync, R: Thread
 
 /// The same of what was asked for, which may be no such command. It need not return.
 #[tactic(auto, using(crate::proofs::GatesTold::idle_told))]
-pub fn decide_in_threads<
-    S: Source,
-    P: Plant + Send,
-    G: Gate + HandlerGate + Sync,
-    R: Threads + Wait + Sync,
->(rt: &R, alloc: Global, asked: Option<Threaded>, source: &mut S, plant: P, gate: &G) -> Decision<P>
+pub fn decide_in_threads<S: Source, P: Plant + Send, G: ToldGate + Sync, R: Threads + Wait + Sync>(
+    rt: &R,
+    alloc: Global,
+    asked: Option<Threaded>,
+    source: &mut S,
+    plant: P,
+    gate: &G,
+) -> Decision<P>
     requires range { IfSome asked (λ c. IsWithinRange (threaded_command c)) }
     ensures came { CameTo
         (call_of (option_map threaded_command asked)

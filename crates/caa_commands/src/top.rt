@@ -11,12 +11,11 @@ use crate::command::{quiet_command_of, threaded_command_of};
 use crate::playing::Decision;
 use crate::serving::{decide, decide_in_threads};
 use crate::status::{Ended, Status};
-use caa_base::outside::gate::Gate;
 use caa_base::outside::plant::Plant;
 use caa_base::outside::sink::Sink;
 use caa_base::outside::source::Source;
 use caa_base::written::journal::Journal;
-use role_driver::HandlerGate;
+use role_driver::ToldGate;
 use std::alloc::Global;
 use std::sync::Wait;
 use std::thread::Threads;
@@ -128,13 +127,7 @@ pub fn top_quiet<S: Source, K: Sink, P: Plant>(
 /// and plays it to its end by W workers, each in a thread of its own, who take the seats of participants by turns and call the gate
 /// in the same way. It writes the text of the journal too, and nobody watches. Things are tried in the same order as for `sim`, and
 /// what is handed back is the same.
-pub fn top<
-    S: Source,
-    K: Sink,
-    P: Plant + Send,
-    G: Gate + HandlerGate + Sync,
-    R: Threads + Wait + Sync,
->(
+pub fn top<S: Source, K: Sink, P: Plant + Send, G: ToldGate + Sync, R: Threads + Wait + Sync>(
     rt: &R,
     alloc: Global,
     words: &[String],

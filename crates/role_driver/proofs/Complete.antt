@@ -108,7 +108,7 @@ pub who_is : {M H : Type 0} (seat_of : H → Seat M) (t : ℕ) (P : H → Type 0
 who_is seat_of t P Q (Ok h) ok err = ok.1
 who_is seat_of t P Q (Err s) ok err = err.1
 
-pub member_is : {M G H : Type 0} (base_of : M → Base) (journal_of : M → List Entry) (was_told : G → ℕ → ℕ → Type 0)
+pub member_is : {M G H : Type 0} (base_of : M → Base) (journal_of : M → List Entry) (was_told : G → ℕ → ℕ → ℕ → Type 0)
     (was_handed : G → ℕ → ℕ → ℕ → Type 0) (manager : Manager M) (gate : G) (went : H → Seat M × G) (t : ℕ) (r : Result H (Seat M))
     → IfOk r (λ h. (IsServed base_of journal_of was_told was_handed manager gate (went h).0 × ((went h).1 ≡ gate))
     × (participant_of (went h).0 ≡ t))

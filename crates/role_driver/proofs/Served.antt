@@ -18,7 +18,7 @@ use Rattle.action_manager.proofs.Beside.{beside_opened}
 use Rattle.action_manager.proofs.Gathered.{all_split}
 use Rattle.role_driver.specs.Handling.{IsHandedOf, TellsOwnHandlers}
 use Rattle.role_driver.specs.SeatsDriven.{IsServed}
-use Rattle.role_driver.specs.Working.{GoesOnWith, IsToldOf, TellsOwnWork}
+use Rattle.role_driver.specs.Working.{EachAfter, GoesOnWith, IsToldOf, TellsOwnWork}
 use Rattle.role_driver.specs.inner.Crew.{IsBack, IsMember}
 use Rattle.role_driver.proofs.Complete.{one_of}
 use Rattle.role_driver.proofs.Handed.{others_handed}
@@ -26,7 +26,7 @@ use Rattle.role_driver.proofs.Told.{goes_further, goes_nowhere, others_go_on, ot
 
 -- ---- lists
 
--- what holds of each of a list holds of the front and of the rest
+-- what holds of each of a list holds of each of the rest
 second_each : (P : Entry → Type 0) (xs ys : List Entry) → AllByRecursion P (xs ++ ys) → AllByRecursion P ys
 second_each P [] ys h = h
 second_each P (x ∷ xs) ys h = second_each P xs ys h.1
@@ -39,10 +39,11 @@ each_of_journal P (e ∷ journal) h =
     (parts.1, each_of_journal P journal parts.0)
 
 -- what holds of the entries of each participant holds of all entries
-each_maker : (P : Entry → Type 0) (n : ℕ) (more : List Entry) → AllByRecursion (λ (e : Entry). e.by < n) more
-    → ((t : ℕ) → t < n → AllByRecursion (λ e. e.by ≡ t → P e) more) → AllByRecursion P more
-each_maker P n [] low each = tt
-each_maker P n (e ∷ more) low each = ((each e.by low.0).0 refl, each_maker P n more low.1 (λ t below. (each t below).1))
+each_maker : (P : List Entry → Entry → Type 0) (n : ℕ) (old more : List Entry) → AllByRecursion (λ (e : Entry). e.by < n) more
+    → ((t : ℕ) → t < n → EachAfter (λ before e. e.by ≡ t → P before e) old more) → EachAfter P old more
+each_maker P n old [] low each = tt
+each_maker P n old (e ∷ more) low each =
+    ((each e.by low.0).0 refl, each_maker P n (old ++ e ∷ []) more low.1 (λ t below. (each t below).1))
 
 weaker_each : (P Q : Entry → Type 0) (xs : List Entry) → ((e : Entry) → P e → Q e) → AllByRecursion P xs → AllByRecursion Q xs
 weaker_each P Q [] f h = tt
@@ -59,7 +60,7 @@ makers_known plan law old more new is legal =
 
 -- ---- seats
 
-module _ {M G : Type 0} (base_of : M → Base) (journal_of : M → List Entry) (was_told : G → ℕ → ℕ → Type 0)
+module _ {M G : Type 0} (base_of : M → Base) (journal_of : M → List Entry) (was_told : G → ℕ → ℕ → ℕ → Type 0)
     (was_handed : G → ℕ → ℕ → ℕ → Type 0) (manager : Manager M) (gate : G) where
   -- the seat of a member that was handed back
   pub handed_back_served : {H : Type 0} (went : H → Seat M × G) (r : Result H (Seat M)) (seat : Seat M) → r ≡ Err seat
@@ -125,34 +126,36 @@ module _ {M G : Type 0} (base_of : M → Base) (journal_of : M → List Entry) (
 
 -- ---- the whole journal
 
-module _ {M : Type 0} (P : Entry → Type 0) (begun new more : Journal) (is : begun ++ more ≡ new) where
+module _ {M : Type 0} (P : List Entry → Entry → Type 0) (begun new more : Journal) (is : begun ++ more ≡ new) where
   -- what is known of the entries of its participant that a seat has seen
   abbrev pub KnowsOwn : Seat M → Type 0
-  KnowsOwn seat = GoesOnWith (λ e. e.by ≡ participant_of seat → P e) begun (seen_by seat)
+  KnowsOwn seat = GoesOnWith (λ before e. e.by ≡ participant_of seat → P before e) begun (seen_by seat)
 
   -- that holds up to the end of the journal
   own_each : (seat : Seat M) → KnowsOwn seat → Accounts new seat
-      → AllByRecursion (λ (e : Entry). e.by ≡ participant_of seat → P e) more
+      → EachAfter (λ before e. e.by ≡ participant_of seat → P before e) begun more
   own_each seat knows account =
       let t = participant_of seat in
       let alone : GrowsWithout (seen_by seat) new t = record { begins = account.begins; alone = account.alone } in
-      let whole = goes_further (λ (e : Entry). e.by ≡ t → P e) begun (seen_by seat) new knows
+      let whole = goes_further (λ before e. e.by ≡ t → P before e) begun (seen_by seat) new knows
       (others_go_on_so P (seen_by seat) new t alone) in
-      subst (AllByRecursion (λ (e : Entry). e.by ≡ t → P e)) (append_cancel_left begun whole.more more (whole.goes_on ∙ sym is)) whole.each
+      subst (EachAfter (λ before e. e.by ≡ t → P before e) begun)
+      (append_cancel_left begun whole.more more (whole.goes_on ∙ sym is)) whole.each
 
   own_known : (t : ℕ) (seats : List (Seat M)) → All KnowsOwn seats → All (Accounts new) seats → has_seat t seats ≡ true
-      → AllByRecursion (λ (e : Entry). e.by ≡ t → P e) more
+      → EachAfter (λ before e. e.by ≡ t → P before e) begun more
   own_known t [] knows accounts there = absurd (true≢false (sym there))
   own_known t (s ∷ seats) knows accounts there =
-      one_of (s.participant == t) (has_seat t seats) (s.participant) t (AllByRecursion (λ (e : Entry). e.by ≡ t → P e) more) refl there
-      (λ same. subst (λ x. AllByRecursion (λ (e : Entry). e.by ≡ x → P e) more) same
+      one_of (s.participant == t) (has_seat t seats) (s.participant) t (EachAfter (λ before e. e.by ≡ t → P before e) begun more)
+      refl there
+      (λ same. subst (λ x. EachAfter (λ before e. e.by ≡ x → P before e) begun more) same
       (own_each s (knows 0 s (omega arith)) (accounts 0 s (omega arith))))
       (λ later. own_known t seats (λ k d low. knows (suc k) d (omega (arith, low)))
       (λ k d low. accounts (suc k) d (omega (arith, low))) later)
 
   -- where each participant's seat is there, it is known of all entries
   pub all_known : (plan : Plan) → Holds AllWellFormed plan → (seats : List (Seat M)) → IsLegal plan new → All KnowsOwn seats
-      → All (Accounts new) seats → HaveAll (length plan.participants) seats → AllByRecursion P more
+      → All (Accounts new) seats → HaveAll (length plan.participants) seats → EachAfter P begun more
   all_known plan law seats legal knows accounts all =
-      each_maker P (length plan.participants) more (makers_known plan law begun more new is legal)
+      each_maker P (length plan.participants) begun more (makers_known plan law begun more new is legal)
       (λ t low. own_known t seats knows accounts (all t low))

@@ -1,6 +1,5 @@
 -- What the gate was told, turn by turn.
-use Rattle.std.proofs.Common.{◌≡◌, ℕ, ℤ, ◌==◌, cond, Bool, true, false, List, [], ◌∷◌, ◌++◌, filter, reverse, Option, Some, None, refl, sym, ap, ◌∙◌, subst, append_assoc, append-nil}
-use Rattle.std.specs.List.{AllByRecursion}
+use Rattle.std.proofs.Common.{◌≡◌, ℕ, ℤ, ◌==◌, cond, Bool, true, false, List, [], ◌∷◌, ◌++◌, filter, length, reverse, Option, Some, None, refl, sym, ap, ◌∙◌, subst, append_assoc, append-nil}
 use Rattle.std.proofs.lemmas.Bool.{eq-eqb, false≢true}
 use Rattle.caa_base.specs.Written.Mixing.{Worked}
 use Rattle.caa_base.specs.declared.written.entry.Entry.{Entry}
@@ -11,43 +10,47 @@ use Rattle.place_plan.specs.RulesOfJournals.Machine.{Answers, AsksForWork, Did, 
 use Rattle.place_plan.specs.declared.rules.machine.Answer.{Answer}
 use Rattle.place_plan.specs.declared.rules.machine.Answer.TheVariants as answer
 use Rattle.action_manager.specs.OwnEntries.{Journal, entries_by}
-use Rattle.action_manager.specs.Stepping.{GrowsWithout, Steps, did_work, AnswersOn, AnswersTurn}
-use Rattle.role_driver.specs.Working.{asks_for_work, AsksStill, IsTold, IsToldOf, GoesOnWith, TellsOwnWork}
+use Rattle.action_manager.specs.Stepping.{GrowsWithout, StepsOn, did_work, AnswersOn, AnswersTurn}
+use Rattle.role_driver.specs.Working.{asks_for_work, AsksStill, IsTold, IsToldOf, EachAfter, GoesOnWith, TellsOwnWork}
 use Rattle.role_driver.proofs.SameWork.{none_added, work_place, work_stays}
 
-all_both : (P : Entry → Type 0) (xs ys : List Entry) → AllByRecursion P xs → AllByRecursion P ys → AllByRecursion P (xs ++ ys)
-all_both P [] ys h k = k
-all_both P (x ∷ xs) ys h k = (h.0, all_both P xs ys h.1 k)
+each_both : (P : List Entry → Entry → Type 0) (old xs ys : List Entry) → EachAfter P old xs → EachAfter P (old ++ xs) ys
+    → EachAfter P old (xs ++ ys)
+each_both P old [] ys h k = subst (λ j. EachAfter P j ys) (append-nil old) k
+each_both P old (x ∷ xs) ys h k =
+    (h.0, each_both P (old ++ x ∷ []) xs ys h.1 (subst (λ j. EachAfter P j ys) (sym (append_assoc old (x ∷ []) xs)) k))
 
 -- one stretch after another
-pub goes_further : (P : Entry → Type 0) (old mid new : List Entry) → GoesOnWith P old mid → GoesOnWith P mid new → GoesOnWith P old new
+pub goes_further : (P : List Entry → Entry → Type 0) (old mid new : List Entry) → GoesOnWith P old mid → GoesOnWith P mid new
+    → GoesOnWith P old new
 goes_further P old mid new h k = record {
   more = h.more ++ k.more;
   goes_on = sym (append_assoc old h.more k.more) ∙ ap (λ j. j ++ k.more) h.goes_on ∙ k.goes_on;
-  each = all_both P h.more k.more h.each k.each;
+  each = each_both P old h.more k.more h.each (subst (λ j. EachAfter P j k.more) (sym h.goes_on) k.each);
 }
 
 -- nothing more
-pub goes_nowhere : (P : Entry → Type 0) (old new : List Entry) → new ≡ old → GoesOnWith P old new
+pub goes_nowhere : (P : List Entry → Entry → Type 0) (old new : List Entry) → new ≡ old → GoesOnWith P old new
 goes_nowhere P old new e = record { more = []; goes_on = append-nil old ∙ sym e; each = tt }
 
 -- one entry more
-pub goes_one : (P : Entry → Type 0) (old new : List Entry) (e : Entry) → new ≡ old ++ e ∷ [] → P e → GoesOnWith P old new
+pub goes_one : (P : List Entry → Entry → Type 0) (old new : List Entry) (e : Entry) → new ≡ old ++ e ∷ [] → P old e
+    → GoesOnWith P old new
 goes_one P old new e added h = record { more = e ∷ []; goes_on = sym added; each = (h, tt) }
 
 -- what an answer adds, if anything
-answered : (P : Entry → Type 0) (plan : Plan) (old new : Journal) (t : ℕ) (hint : Option Worked) (a : Answer)
+answered : (P : List Entry → Entry → Type 0) (plan : Plan) (old new : Journal) (t : ℕ) (hint : Option Worked) (a : Answer)
     → Answers plan old new t hint a
-    → ((e : Entry) → Did plan old new t hint e → P e) → GoesOnWith P old new
+    → ((e : Entry) → Did plan old new t hint e → P old e) → GoesOnWith P old new
 answered P plan old new t hint (answer.Did e) h each = goes_one P old new e h.added (each e h)
 answered P plan old new t hint (answer.Work p rounds from) h each = goes_nowhere P old new h.kept
 answered P plan old new t hint answer.NotYet h each = goes_nowhere P old new h.0.kept
 answered P plan old new t hint answer.Over h each = goes_nowhere P old new h.0.kept
 
 -- what a turn adds: the entry of its first answer, and that of what the machine answers then
-pub turned : (P : Entry → Type 0) (plan : Plan) (old new : Journal) (t : ℕ) (hint : Option Worked) (a : Answer)
-    → (h : AnswersTurn plan old new t hint a) → ((e : Entry) → Did plan old h.mid t hint e → P e)
-    → ((e : Entry) → Did plan h.mid new t None e → P e) → GoesOnWith P old new
+pub turned : (P : List Entry → Entry → Type 0) (plan : Plan) (old new : Journal) (t : ℕ) (hint : Option Worked) (a : Answer)
+    → (h : AnswersTurn plan old new t hint a) → ((e : Entry) → Did plan old h.mid t hint e → P old e)
+    → ((e : Entry) → Did plan h.mid new t None e → P h.mid e) → GoesOnWith P old new
 turned P plan old new t hint a h one two =
     goes_further P old h.mid new (answered P plan old h.mid t hint h.first h.answers one) (by (did_work h.first) h.further)
   where
@@ -56,52 +59,55 @@ turned P plan old new t hint a h one two =
     by false k = goes_nowhere P h.mid new k.0
 
 -- entries of others alone
-others_each : (P : Entry → Type 0) (t : ℕ) (more : List Entry) → filter (λ (e : Entry). e.by == t) more ≡ []
-    → AllByRecursion (λ e. e.by ≡ t → P e) more
-others_each P t [] none = tt
-others_each P t (e ∷ more) none = by (e.by == t) refl none (others_each P t more)
+others_each : (P : List Entry → Entry → Type 0) (t : ℕ) (old more : List Entry) → filter (λ (e : Entry). e.by == t) more ≡ []
+    → EachAfter (λ before e. e.by ≡ t → P before e) old more
+others_each P t old [] none = tt
+others_each P t old (e ∷ more) none = by (e.by == t) refl none (others_each P t (old ++ e ∷ []) more)
   where
     by : (b : Bool) → (e.by == t) ≡ b → cond b (e ∷ filter (λ (e : Entry). e.by == t) more) (filter (λ (e : Entry). e.by == t) more) ≡ []
-        → (filter (λ (e : Entry). e.by == t) more ≡ [] → AllByRecursion (λ e. e.by ≡ t → P e) more)
-        → AllByRecursion (λ e. e.by ≡ t → P e) (e ∷ more)
+        → (filter (λ (e : Entry). e.by == t) more ≡ [] → EachAfter (λ before e. e.by ≡ t → P before e) (old ++ e ∷ []) more)
+        → EachAfter (λ before e. e.by ≡ t → P before e) old (e ∷ more)
     by true own gone rest = absurd cc
     by false own gone rest = (λ mine. absurd (false≢true (sym own ∙ eq-eqb e.by t mine)), rest gone)
 
 -- where t made no entry, whatever is said of its entries holds of what is more
-pub others_go_on_so : (P : Entry → Type 0) (old new : Journal) (t : ℕ) → GrowsWithout old new t
-    → GoesOnWith (λ e. e.by ≡ t → P e) old new
+pub others_go_on_so : (P : List Entry → Entry → Type 0) (old new : Journal) (t : ℕ) → GrowsWithout old new t
+    → GoesOnWith (λ before e. e.by ≡ t → P before e) old new
 others_go_on_so P old new t h = record {
   more = h.begins.0;
   goes_on = h.begins.1;
-  each = others_each P t h.begins.0 (none_added t old h.begins.0 (ap (entries_by t) h.begins.1 ∙ h.alone));
+  each = others_each P t old h.begins.0 (none_added t old h.begins.0 (ap (entries_by t) h.begins.1 ∙ h.alone));
 }
 
-module _ (was_told : ℕ → ℕ → Type 0) where
+module _ (was_told : ℕ → ℕ → ℕ → Type 0) where
   pub others_go_on : (old new : Journal) (t : ℕ) → GrowsWithout old new t → TellsOwnWork was_told t old new
   others_go_on old new t h = others_go_on_so (IsTold was_told) old new t h
 
   -- an entry that is made without a hint is no work
-  no_work : (plan : Plan) (old new : Journal) (t : ℕ) (e : Entry) → Did plan old new t None e → IsTold was_told e
+  no_work : (plan : Plan) (old new : Journal) (t : ℕ) (e : Entry) → Did plan old new t None e → IsTold was_told old e
   no_work plan old new t e did is = absurd (did.hinted is)
 
   -- a step without a hint
-  pub step_told : (plan : Plan) (old new : Journal) (t : ℕ) (a : Answer) → Steps plan old new t None a → TellsOwnWork was_told t old new
+  pub step_told : (plan : Plan) (old new : Journal) (t : ℕ) (a : Answer) → StepsOn plan old new t None a → TellsOwnWork was_told t old new
   step_told plan old new t a h =
       goes_further (IsToldOf was_told t) old h.before new (others_go_on old h.before t h.grown)
       (turned (IsToldOf was_told t) plan h.before new t None a h.turn (λ e did own. no_work plan h.before h.turn.mid t e did)
       (λ e did own. no_work plan h.turn.mid new t e did))
 
-  -- where work was asked for, and the gate was told of its place, it was told of the work
+  -- where work was asked for, and the gate was told of its place and of how many entries t had made, it was told of the work
   work_is_told : (plan : Plan) (old before new : Journal) (t p k : ℕ) (from : ℤ) (hint : Option Worked)
-      → MayFollow plan (reverse old) (work_entry p t k from) → was_told t p → GrowsWithout old before t
-      → (e : Entry) → Did plan before new t hint e → IsTold was_told e
+      → MayFollow plan (reverse old) (work_entry p t k from) → was_told t p (length (entries_by t old)) → GrowsWithout old before t
+      → (e : Entry) → Did plan before new t hint e → IsTold was_told before e
   work_is_told plan old before new t p k from hint asked told alone e did is =
-      subst (λ q. was_told e.by q) (sym (work_place plan old before t p k from e asked alone did.may is did.own))
-      (subst (λ b. was_told b p) (sym did.own) told)
+      let here = sym (work_place plan old before t p k from e asked alone did.may is did.own) in
+      let made = subst (was_told t p) (ap length (sym alone.alone)) told in
+      subst (λ q. was_told e.by q (length (entries_by e.by before))) here
+      (subst (λ b. was_told b p (length (entries_by b before))) (sym did.own) made)
 
   -- a step that brings the work that was asked for
   pub work_told : (plan : Plan) (seen new : Journal) (t p k : ℕ) (from : ℤ) (hint : Option Worked) (a : Answer)
-      → AsksForWork plan seen seen t None p k from → was_told t p → Steps plan seen new t hint a → TellsOwnWork was_told t seen new
+      → AsksForWork plan seen seen t None p k from → was_told t p (length (entries_by t seen)) → StepsOn plan seen new t hint a
+      → TellsOwnWork was_told t seen new
   work_told plan seen new t p k from hint a asked told h =
       let mine = work_is_told plan seen h.before h.turn.mid t p k from hint asked.may told h.grown in
       goes_further (IsToldOf was_told t) seen h.before new (others_go_on seen h.before t h.grown)
@@ -120,7 +126,7 @@ still plan old new t p k from hint h = record {
 
 -- the work that a step asks for is asked for on the journal that the seat then has seen
 pub asks_still : (plan : Plan) (old new : Journal) (t : ℕ) (hint : Option Worked) (a : Answer)
-    → Steps plan old new t hint a → AsksStill plan new t a
+    → StepsOn plan old new t hint a → AsksStill plan new t a
 asks_still plan old new t hint (answer.Did e) h = tt
 asks_still plan old new t hint answer.NotYet h = tt
 asks_still plan old new t hint answer.Over h = tt
@@ -136,7 +142,7 @@ asks_still plan old new t hint (answer.Work q j begin) h = by (did_work h.turn.f
 
 -- a participant whose step answers that it is over is so in what its seat then has seen
 pub over_seen : (plan : Plan) (old new : Journal) (t : ℕ) (hint : Option Worked) (a : Answer) → a ≡ answer.Over
-    → Steps plan old new t hint a → is_over plan (reverse new) t ≡ true
+    → StepsOn plan old new t hint a → is_over plan (reverse new) t ≡ true
 over_seen plan old new t hint a is h = by (did_work h.turn.first) h.turn.further
   where
     by : (more : Bool) → AnswersOn plan h.turn.mid new t h.turn.first a more → is_over plan (reverse new) t ≡ true
@@ -151,7 +157,7 @@ over_seen plan old new t hint a is h = by (did_work h.turn.first) h.turn.further
 -- where t was asked for work and did it, it isn't asked for it again
 pub not_again : (plan : Plan) (seen new : Journal) (t p k : ℕ) (from : ℤ) (work : Worked) (a : Answer)
     → AsksForWork plan seen seen t None p k from → work.rounds ≡ k → work.from ≡ from
-    → (h : Steps plan seen new t (Some work) a) → asks_for_work h.turn.first ≡ false
+    → (h : StepsOn plan seen new t (Some work) a) → asks_for_work h.turn.first ≡ false
 not_again plan seen new t p k from work a asked rounds starts h = by h.turn.first h.turn.answers
   where
     by : (first : Answer) → Answers plan h.before h.turn.mid t (Some work) first → asks_for_work first ≡ false

@@ -11,8 +11,8 @@ abbrev pub IsHanded : (ℕ → ℕ → ℕ → Type 0) → Entry → Type 0
 IsHanded was_handed e = e.kind ≡ kind.Handle → was_handed e.by e.place e.arg
 
 -- where the entry is a Handle of t, the gate was told of t, and of the place and the exception of the entry
-abbrev pub IsHandedOf : (ℕ → ℕ → ℕ → Type 0) → ℕ → Entry → Type 0
-IsHandedOf was_handed t e = e.by ≡ t → IsHanded was_handed e
+abbrev pub IsHandedOf : (ℕ → ℕ → ℕ → Type 0) → ℕ → List Entry → Entry → Type 0
+IsHandedOf was_handed t before e = e.by ≡ t → IsHanded was_handed e
 
 -- where a step made a Handle, the gate was told of its maker, its place and its exception
 abbrev pub HandsMade : (ℕ → ℕ → ℕ → Type 0) → Answer → Type 0
@@ -25,4 +25,4 @@ TellsOwnHandlers was_handed t old new = GoesOnWith (IsHandedOf was_handed t) old
 
 -- the new journal goes on from the old one, and the gate was told of all handlers that begin in what it has more
 abbrev pub TellsHandlers : (ℕ → ℕ → ℕ → Type 0) → List Entry → List Entry → Type 0
-TellsHandlers was_handed old new = GoesOnWith (IsHanded was_handed) old new
+TellsHandlers was_handed old new = GoesOnWith (λ before e. IsHanded was_handed e) old new

@@ -12,7 +12,7 @@ use Rattle.role_driver.specs.Working.{TellsOwnWork}
 
 -- the seat is one of this manager's, and the gate was told of each work that its participant did since the manager was opened, and
 -- of each handler that it began
-pub record IsServed {M G : Type 0} (base_of : M → Base) (journal_of : M → List Entry) (was_told : G → ℕ → ℕ → Type 0)
+pub record IsServed {M G : Type 0} (base_of : M → Base) (journal_of : M → List Entry) (was_told : G → ℕ → ℕ → ℕ → Type 0)
     (was_handed : G → ℕ → ℕ → ℕ → Type 0) (manager : Manager M) (gate : G) (seat : Seat M) : Type 0 where
   pub opened : IsSeatIn base_of manager seat
   pub told : TellsOwnWork (was_told gate) (participant_of seat) (journal_of (handed_in manager)) (seen_by seat)

@@ -1,6 +1,5 @@
 -- What a gate was told of the mixing work in a journal, and a turn that brings the work that was asked for.
-use Rattle.std.specs.Prelude.{◌≡◌, ℕ, Bool, true, false, List, ◌++◌, Option, None}
-use Rattle.std.specs.List.{AllByRecursion}
+use Rattle.std.specs.Prelude.{◌≡◌, ℕ, Bool, true, false, List, [], ◌∷◌, ◌++◌, length, Option, None}
 use Rattle.caa_base.specs.Written.Mixing.{Worked}
 use Rattle.caa_base.specs.declared.written.entry.Entry.{Entry}
 use Rattle.caa_base.specs.declared.written.entry.Kind.TheVariants as kind
@@ -8,29 +7,43 @@ use Rattle.place_plan.specs.Plans.PlanValue.{Plan}
 use Rattle.place_plan.specs.RulesOfJournals.Machine.{AsksForWork}
 use Rattle.place_plan.specs.declared.rules.machine.Answer.{Answer}
 use Rattle.place_plan.specs.declared.rules.machine.Answer.TheVariants as answer
-use Rattle.action_manager.specs.Stepping.{Steps}
+use Rattle.action_manager.specs.OwnEntries.{entries_by}
+use Rattle.action_manager.specs.Stepping.{StepsOn}
 
--- where the entry is one of work, the gate was told of its maker and its place
-abbrev pub IsTold : (ℕ → ℕ → Type 0) → Entry → Type 0
-IsTold was_told e = e.kind ≡ kind.Work → was_told e.by e.place
+-- where the entry is one of work, the gate was told of its maker, its place, and how many entries its maker had made before it
+abbrev pub IsTold : (ℕ → ℕ → ℕ → Type 0) → List Entry → Entry → Type 0
+IsTold was_told before e = e.kind ≡ kind.Work → was_told e.by e.place (length (entries_by e.by before))
 
--- where the entry is one of work that t did, the gate was told of t and of the entry's place
-abbrev pub IsToldOf : (ℕ → ℕ → Type 0) → ℕ → Entry → Type 0
-IsToldOf was_told t e = e.by ≡ t → IsTold was_told e
+-- where the entry is one of work that t did, the gate was told of it so
+abbrev pub IsToldOf : (ℕ → ℕ → ℕ → Type 0) → ℕ → List Entry → Entry → Type 0
+IsToldOf was_told t before e = e.by ≡ t → IsTold was_told before e
+
+-- each of these further entries is so, by all that stands before it in the journal
+abbrev pub EachAfter : (List Entry → Entry → Type 0) → List Entry → List Entry → Type 0
+EachAfter Holds before [] = Unit {0}
+EachAfter Holds before (e ∷ more) = Holds before e × EachAfter Holds (before ++ e ∷ []) more
 
 -- the new journal goes on from the old one, with entries that are all so
-pub record GoesOnWith (Holds : Entry → Type 0) (old new : List Entry) : Type 0 where
+pub record GoesOnWith (Holds : List Entry → Entry → Type 0) (old new : List Entry) : Type 0 where
   pub more : List Entry
   pub goes_on : old ++ more ≡ new
-  pub each : AllByRecursion Holds more
+  pub each : EachAfter Holds old more
 
--- the new journal goes on from the old one, and the gate was told of all work that it has more
-abbrev pub TellsWork : (ℕ → ℕ → Type 0) → List Entry → List Entry → Type 0
+-- the new journal goes on from the old one, and the gate was told of each work that it has more
+abbrev pub TellsWork : (ℕ → ℕ → ℕ → Type 0) → List Entry → List Entry → Type 0
 TellsWork was_told old new = GoesOnWith (IsTold was_told) old new
 
--- the new journal goes on from the old one, and the gate was told of all work of t that it has more
-abbrev pub TellsOwnWork : (ℕ → ℕ → Type 0) → ℕ → List Entry → List Entry → Type 0
+-- the new journal goes on from the old one, and the gate was told of each work of t that it has more
+abbrev pub TellsOwnWork : (ℕ → ℕ → ℕ → Type 0) → ℕ → List Entry → List Entry → Type 0
 TellsOwnWork was_told t old new = GoesOnWith (IsToldOf was_told t) old new
+
+-- where the entry is one of work, the gate was told of its maker and its place
+abbrev pub IsToldInPlace : (ℕ → ℕ → Type 0) → List Entry → Entry → Type 0
+IsToldInPlace was_told before e = e.kind ≡ kind.Work → was_told e.by e.place
+
+-- the new journal goes on from the old one, and the gate was told of the maker and the place of each work that it has more
+abbrev pub TellsPlaces : (ℕ → ℕ → Type 0) → List Entry → List Entry → Type 0
+TellsPlaces was_told old new = GoesOnWith (IsToldInPlace was_told) old new
 
 -- the answer says that there is work to be done first
 abbrev pub asks_for_work : Answer → Bool
@@ -42,8 +55,9 @@ abbrev pub AsksStill : Plan → List Entry → ℕ → Answer → Type 0
 AsksStill plan seen t (answer.Work p rounds from) = AsksForWork plan seen seen t None p rounds from
 AsksStill plan seen t _ = Unit {0}
 
--- what a turn of t comes to after an answer: a step, in which the work that was asked for isn't asked for again, since it was done
+-- what a turn of t comes to after an answer: a step that asks on, in which the work that was asked for isn't asked for again, since
+-- it was done
 pub record TurnsAfter (plan : Plan) (old new : List Entry) (t : ℕ) (asked answer : Answer) : Type 0 where
   pub hint : Option Worked
-  pub steps : Steps plan old new t hint answer
+  pub steps : StepsOn plan old new t hint answer
   pub done : asks_for_work asked ≡ true → asks_for_work steps.turn.first ≡ false

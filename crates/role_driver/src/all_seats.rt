@@ -8,13 +8,13 @@ ghost use Rattle.role_driver.specs.SeatsDriven.{IsDone};
 ghost use Rattle.role_driver.specs.VectorRoom.{HasRoomFor};
 
 use crate::driving::drive;
+use crate::told_gate::ToldGate;
 use action_manager::{Closed, Manager, Seat};
-use caa_base::outside::gate::Gate;
 use place_plan::rules::machine::Machine;
 use std::sync::Wait;
 
 /// Drives each seat to its end, one after another.
-pub fn drive_each<M: Machine, G: Gate, R: Wait>(
+pub fn drive_each<M: Machine, G: ToldGate, R: Wait>(
     rt: &R,
     manager: &Manager<M>,
     seats: Vec<Seat<M>>,

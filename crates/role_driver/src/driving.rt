@@ -7,15 +7,14 @@ ghost use Rattle.shared_views.specs.Telling.{IsTold};
 ghost use Rattle.shared_views.specs.declared.bulletin.Announcement.TheVariants.{Noted as IsNoted};
 ghost use Rattle.action_manager.specs.Managers.{plan_in, cells_in, IsSeatIn};
 ghost use Rattle.action_manager.specs.Seats.{participant_of, seen_by, told_to};
-ghost use Rattle.action_manager.specs.Stepping.{Steps};
+ghost use Rattle.action_manager.specs.Stepping.{StepsOn};
 ghost use Rattle.action_manager.specs.Tidings.{TellsAfter};
 ghost use Rattle.role_driver.specs.Handling.{HandsMade, TellsOwnHandlers};
 ghost use Rattle.role_driver.specs.Working.{AsksStill, TurnsAfter, TellsOwnWork};
 
-use crate::handling::HandlerGate;
 use crate::mixing::mix;
+use crate::told_gate::ToldGate;
 use action_manager::{Manager, Seat};
-use caa_base::outside::gate::Gate;
 use caa_base::written::entry::{Entry, Exception, Kind};
 use caa_base::written::work::WorkDone;
 use place_plan::rules::machine::{Answer, Machine};
@@ -41,7 +40,7 @@ fn ask<M: Machine>(manager: &Manager<M>, seat: &mut Seat<M>, handle: Entry) -> O
 /// Tells the gate of the handler that begins, where a step made a Handle: which exception it is for, as the cell of the place gives it.
 ///
 /// Where there is no note to ask the cell with, the Handle itself says it.
-fn tell_handler<M: Machine, G: HandlerGate>(
+fn tell_handler<M: Machine, G: ToldGate>(
     manager: &Manager<M>,
     seat: &mut Seat<M>,
     answer: Answer,
@@ -61,8 +60,8 @@ fn tell_handler<M: Machine, G: HandlerGate>(
     }
 }
 
-/// A step of a seat. Where it makes a Handle, the gate is told of the handler that begins.
-fn step_and_tell<M: Machine, G: HandlerGate, R: Wait>(
+/// A step of a seat that asks on. Where it makes a Handle, the gate is told of the handler that begins.
+fn step_and_tell<M: Machine, G: ToldGate, R: Wait>(
     rt: &R,
     manager: &Manager<M>,
     seat: &mut Seat<M>,
@@ -72,10 +71,10 @@ fn step_and_tell<M: Machine, G: HandlerGate, R: Wait>(
     requires opened { IsSeatIn M.base_of manager.now seat.old }
     ensures opened { IsSeatIn M.base_of manager.now seat.new }
     ensures same { participant_of seat.new ≡ participant_of seat.old }
-    ensures turn { Steps (plan_in manager.now) (seen_by seat.old) (seen_by seat.new) (participant_of seat.old) hint result }
+    ensures turn { StepsOn (plan_in manager.now) (seen_by seat.old) (seen_by seat.new) (participant_of seat.old) hint result }
     ensures handed { TellsOwnHandlers (G.was_handed gate.now) (participant_of seat.old) (seen_by seat.old) (seen_by seat.new) }
 {
-    let answer = manager.step(rt, seat, hint);
+    let answer = manager.step_on(rt, seat, hint);
     tell_handler(manager, seat, answer, gate);
     answer
 }
@@ -84,7 +83,7 @@ fn step_and_tell<M: Machine, G: HandlerGate, R: Wait>(
 ///
 /// Before the mixing it calls the gate, and after a Handle it tells the gate of the handler that begins. After an answer that
 /// doesn't ask for work nothing is mixed: a seat begins with NotYet.
-pub fn turn_after<M: Machine, G: Gate + HandlerGate, R: Wait>(
+pub fn turn_after<M: Machine, G: ToldGate, R: Wait>(
     rt: &R,
     manager: &Manager<M>,
     seat: &mut Seat<M>,
@@ -106,7 +105,7 @@ pub fn turn_after<M: Machine, G: Gate + HandlerGate, R: Wait>(
             rounds,
             from,
         } => {
-            let done = mix(gate, seat.participant(), place, from, rounds);
+            let done = mix(gate, seat.participant(), place, seat.made(), from, rounds);
             step_and_tell(rt, manager, seat, Some(done), gate)
         }
         _ => step_and_tell(rt, manager, seat, None, gate),
@@ -117,7 +116,7 @@ pub fn turn_after<M: Machine, G: Gate + HandlerGate, R: Wait>(
 ///
 /// Before each piece of mixing it calls the gate, and after each Handle it tells the gate which exception is handled. Where its
 /// participant has no entry now it waits past what it has seen. It need not return.
-pub fn drive<M: Machine, G: Gate + HandlerGate, R: Wait>(
+pub fn drive<M: Machine, G: ToldGate, R: Wait>(
     rt: &R,
     manager: &Manager<M>,
     mut seat: Seat<M>,

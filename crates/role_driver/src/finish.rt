@@ -1,7 +1,7 @@
 ghost use Rattle.std.specs.Prelude.{◌≡◌, ◌≤◌};
 ghost use Rattle.place_plan.specs.RulesOfJournals.Journals.{IsLegal, IsComplete};
 ghost use Rattle.role_driver.specs.Schedule.{GrewBy, always_least};
-ghost use Rattle.role_driver.specs.Working.{TellsWork};
+ghost use Rattle.role_driver.specs.Working.{TellsPlaces};
 
 use crate::turn::take_turn;
 use caa_base::outside::gate::Gate;
@@ -20,7 +20,7 @@ pub fn finish<M: Machine, G: Gate>(mut machine: M, gate: &G) -> M
     ensures legal { IsLegal (M.plan_of machine) (M.journal_of result) }
     ensures complete { IsComplete (M.plan_of machine) (M.journal_of result) }
     ensures least_first { GrewBy always_least (M.plan_of machine) (M.journal_of machine) (M.journal_of result) }
-    ensures told { TellsWork (G.was_told gate.now) (M.journal_of machine) (M.journal_of result) }
+    ensures told { TellsPlaces (G.was_told gate.now) (M.journal_of machine) (M.journal_of result) }
 {
     let mut asleep = nobody();
     while take_turn(&mut machine, 0, &mut asleep, gate) {

@@ -23,13 +23,12 @@ use crate::all_seats::close_done;
 use crate::assigning::watchers_for;
 use crate::crew_room::CrewRoom;
 use crate::gathering::gather;
-use crate::handling::HandlerGate;
 use crate::posts::{Watch, call_all_back, post_all, raise};
 use crate::seat_crew::{SeatCrew, drive_handed_back, join_all, start_all};
+use crate::told_gate::ToldGate;
 use crate::watch_room::WatchRoom;
 use crate::watcher::Watcher;
 use action_manager::{Closed, Manager, ManagerError, Opened, Seat};
-use caa_base::outside::gate::Gate;
 use journal_laws::is_well_formed;
 use journal_text::looks::seens::Seens;
 use place_plan::rules::machine::Machine;
@@ -55,7 +54,7 @@ pub struct RunError<M> {
 }
 
 /// Drives each seat in a thread of its own, and lets the watchers look in theirs until all of these have ended.
-fn drive_in_threads<M: Machine + Send, G: Gate + HandlerGate + Sync, R: Threads + Wait + Sync>(
+fn drive_in_threads<M: Machine + Send, G: ToldGate + Sync, R: Threads + Wait + Sync>(
     rt: &R,
     manager: &Manager<M>,
     crew: SeatCrew<M, G>,
@@ -135,7 +134,7 @@ fn seens_of<M: Machine>(
 }
 
 /// Plays the machine of a manager to its end by its seats, in order, and its observers, where there is room for all.
-fn play_opened<M: Machine + Send, G: Gate + HandlerGate + Sync, R: Threads + Wait + Sync>(
+fn play_opened<M: Machine + Send, G: ToldGate + Sync, R: Threads + Wait + Sync>(
     rt: &R,
     opened: Opened<M>,
     crew_room: CrewRoom<M, G>,
@@ -218,7 +217,7 @@ fn play_opened<M: Machine + Send, G: Gate + HandlerGate + Sync, R: Threads + Wai
 /// The caller itself takes the turns of participants for whom no thread can be started, round by round; a watcher without a thread
 /// looks before the play and at its end. At `Err` no memory was found before the first entry, and the machine is as it was. It need
 /// not return.
-pub fn run<M: Machine + Send, G: Gate + HandlerGate + Sync, R: Threads + Wait + Sync>(
+pub fn run<M: Machine + Send, G: ToldGate + Sync, R: Threads + Wait + Sync>(
     rt: &R,
     alloc: Global,
     machine: M,

@@ -11,9 +11,8 @@ ghost use Rattle.role_driver.specs.VectorRoom.{HasRoomFor};
 
 use crate::driving::{drive, turn_after};
 use crate::flag::Flag;
-use crate::handling::HandlerGate;
+use crate::told_gate::ToldGate;
 use action_manager::{Manager, Seat};
-use caa_base::outside::gate::Gate;
 use place_plan::rules::machine::{Answer, Machine};
 use std::snapshot::Snapshot;
 use std::sync::Wait;
@@ -29,7 +28,7 @@ pub struct Belongs<M, F, G> {
     pub gate: Snapshot<G>,
 }
 
-impl<M, F: Flag, G: Gate + HandlerGate> Promise<Seat<M>> for Belongs<M, F, G> {
+impl<M, F: Flag, G: ToldGate> Promise<Seat<M>> for Belongs<M, F, G> {
     ghost use Rattle.std.specs.Prelude.{◌≡◌};
     ghost use Rattle.action_manager.specs.Seats.{IsBeside, participant_of, seen_by};
     ghost use Rattle.role_driver.specs.Handling.{TellsOwnHandlers};
@@ -44,7 +43,7 @@ impl<M, F: Flag, G: Gate + HandlerGate> Promise<Seat<M>> for Belongs<M, F, G> {
 
 /// Drives a seat, unless it is handed back.
 #[tactic(auto, using(action_manager::proofs::Beside::both_beside))]
-fn drive_unless<M: Machine, G: Gate + HandlerGate, R: Wait, F: Flag>(
+fn drive_unless<M: Machine, G: ToldGate, R: Wait, F: Flag>(
     rt: &R,
     manager: &Manager<M>,
     seat: Seat<M>,
@@ -71,7 +70,7 @@ pub fn start<
     's,
     E,
     M: Machine + Send,
-    G: Gate + HandlerGate + Sync,
+    G: ToldGate + Sync,
     R: Threads + Wait + Sync,
     F: Flag + Sync,
 >(
@@ -117,14 +116,14 @@ pub fn start<
 pub type Member<M, G> = Result<PromisedHandle<Seat<M>, Belongs<M, AtomicBool, G>>, Seat<M>>;
 
 /// Seats, with room for the members that drive them, and for the seats when they come back.
-pub struct SeatCrew<M, G: Gate + HandlerGate> {
+pub struct SeatCrew<M, G: ToldGate> {
     pub seats: Vec<Seat<M>>,
     pub members: Vec<Member<M, G>>,
     pub back: Vec<Seat<M>>,
 }
 
 /// Starts a thread for each seat.
-pub fn start_all<'s, E, M: Machine + Send, G: Gate + HandlerGate + Sync, R: Threads + Wait + Sync>(
+pub fn start_all<'s, E, M: Machine + Send, G: ToldGate + Sync, R: Threads + Wait + Sync>(
     scope: &'s Scope<'s, E>,
     rt: &'s R,
     manager: &'s Manager<M>,
@@ -148,7 +147,7 @@ pub fn start_all<'s, E, M: Machine + Send, G: Gate + HandlerGate + Sync, R: Thre
 }
 
 /// One turn of a seat, and where it asks for work, a second one that brings it. Gives the answer of the last turn.
-pub fn go_on<M: Machine, G: Gate + HandlerGate, R: Wait>(
+pub fn go_on<M: Machine, G: ToldGate, R: Wait>(
     rt: &R,
     manager: &Manager<M>,
     seat: &mut Seat<M>,
@@ -170,7 +169,7 @@ pub fn go_on<M: Machine, G: Gate + HandlerGate, R: Wait>(
 
 /// One turn of a member whose seat was handed back, and its answer. For a member with a thread nothing is done, as for a seat whose
 /// participant is over.
-fn turn_of<M: Machine, G: Gate + HandlerGate, R: Wait>(
+fn turn_of<M: Machine, G: ToldGate, R: Wait>(
     rt: &R,
     manager: &Manager<M>,
     member: &mut Member<M, G>,
@@ -216,7 +215,7 @@ impl Progress {
 }
 
 /// One turn of each seat that was handed back, and what these came to.
-fn round<M: Machine, G: Gate + HandlerGate, R: Wait>(
+fn round<M: Machine, G: ToldGate, R: Wait>(
     rt: &R,
     manager: &Manager<M>,
     crew: &mut Vec<Member<M, G>>,
@@ -239,7 +238,7 @@ fn round<M: Machine, G: Gate + HandlerGate, R: Wait>(
 }
 
 /// Waits past what a member has seen whose seat was handed back, until an entry may give an entry to anybody who had none.
-fn wait_with<M: Machine, G: Gate + HandlerGate, R: Wait>(
+fn wait_with<M: Machine, G: ToldGate, R: Wait>(
     rt: &R,
     manager: &Manager<M>,
     member: &mut Member<M, G>,
@@ -257,7 +256,7 @@ fn wait_with<M: Machine, G: Gate + HandlerGate, R: Wait>(
 }
 
 /// The same for the member at this index.
-fn wait_at<M: Machine, G: Gate + HandlerGate, R: Wait>(
+fn wait_at<M: Machine, G: ToldGate, R: Wait>(
     rt: &R,
     manager: &Manager<M>,
     crew: &mut Vec<Member<M, G>>,
@@ -279,7 +278,7 @@ fn wait_at<M: Machine, G: Gate + HandlerGate, R: Wait>(
 ///
 /// Where a round brings no entry, it sleeps with the seat that was asked first: whom an entry wakes after that seat had seen the
 /// journal may be any of them.
-pub fn drive_handed_back<M: Machine, G: Gate + HandlerGate, R: Wait>(
+pub fn drive_handed_back<M: Machine, G: ToldGate, R: Wait>(
     rt: &R,
     manager: &Manager<M>,
     crew: &mut Vec<Member<M, G>>,
@@ -303,7 +302,7 @@ pub fn drive_handed_back<M: Machine, G: Gate + HandlerGate, R: Wait>(
 }
 
 /// The seat of a member, once its thread has ended, if it has one.
-fn come_back<M: Machine, G: Gate + HandlerGate, R: Threads>(
+fn come_back<M: Machine, G: ToldGate, R: Threads>(
     rt: &R,
     _manager: &Manager<M>,
     member: Member<M, G>,
@@ -321,7 +320,7 @@ fn come_back<M: Machine, G: Gate + HandlerGate, R: Threads>(
 }
 
 /// The seat of a member, once it was driven to its end. Most threads have done that; here it is done where a seat came back untouched.
-fn join_one<M: Machine, G: Gate + HandlerGate, R: Threads + Wait>(
+fn join_one<M: Machine, G: ToldGate, R: Threads + Wait>(
     rt: &R,
     manager: &Manager<M>,
     member: Member<M, G>,
@@ -338,7 +337,7 @@ fn join_one<M: Machine, G: Gate + HandlerGate, R: Threads + Wait>(
 }
 
 /// The seats of all members, in order, once they were driven to their end.
-pub fn join_all<M: Machine, G: Gate + HandlerGate, R: Threads + Wait>(
+pub fn join_all<M: Machine, G: ToldGate, R: Threads + Wait>(
     rt: &R,
     manager: &Manager<M>,
     crew: Vec<Member<M, G>>,

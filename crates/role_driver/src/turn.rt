@@ -1,10 +1,10 @@
 ghost use Rattle.std.specs.Prelude.{◌≡◌, ◌<◌, ◌≤◌, ◌+◌, ◌%◌, true, false, length, MatchOption};
 ghost use Rattle.place_plan.specs.RulesOfJournals.Journals.{IsComplete};
 ghost use Rattle.role_driver.specs.Schedule.{Acts, IsKept, TakesTurn};
-ghost use Rattle.role_driver.specs.Working.{TellsWork};
+ghost use Rattle.role_driver.specs.Working.{TellsPlaces};
 ghost use Rattle.role_driver.specs.inner.Sleeping.{AllSleep};
 
-use crate::mixing::mix;
+use crate::mixing::mix_in_place;
 use action_manager::unwoken;
 use caa_base::outside::gate::Gate;
 use caa_base::written::entry::{Entry, Participant};
@@ -21,7 +21,7 @@ fn act<M: Machine, G: Gate>(machine: &mut M, by: Participant, gate: &G) -> Optio
     ensures acts { MatchOption result
         (IsKept (M.plan_of machine.old) (M.journal_of machine.old) (M.journal_of machine.new) by)
         (Acts (M.plan_of machine.old) (M.journal_of machine.old) (M.journal_of machine.new) by) }
-    ensures told { TellsWork (G.was_told gate.now) (M.journal_of machine.old) (M.journal_of machine.new) }
+    ensures told { TellsPlaces (G.was_told gate.now) (M.journal_of machine.old) (M.journal_of machine.new) }
 {
     match machine.next(by, None) {
         Answer::Did(entry) => Some(entry),
@@ -31,7 +31,7 @@ fn act<M: Machine, G: Gate>(machine: &mut M, by: Participant, gate: &G) -> Optio
             rounds,
             from,
         } => {
-            let done = mix(gate, by, place, from, rounds);
+            let done = mix_in_place(gate, by, place, from, rounds);
             Some(machine.work(by, place, &done))
         }
     }
@@ -81,7 +81,7 @@ pub(crate) fn take_turn<M: Machine, G: Gate>(
     ensures done { result ≡ false → IsComplete (M.plan_of machine.old) (M.journal_of machine.old)
         × (M.journal_of machine.new ≡ M.journal_of machine.old) }
     ensures sleep { AllSleep (M.plan_of machine.new) (M.journal_of machine.new) asleep.new }
-    ensures told { TellsWork (G.was_told gate.now) (M.journal_of machine.old) (M.journal_of machine.new) }
+    ensures told { TellsPlaces (G.was_told gate.now) (M.journal_of machine.old) (M.journal_of machine.new) }
 {
     goes_on(machine.plan());
     machine.plan().is_closed();

@@ -10,8 +10,8 @@ use caa_base::outside::gate::{EmptyGate, Gate};
 use caa_base::written::entry::{Exception, Kind, Participant, Place};
 use place_plan::rules::machine::{Answer, Machine};
 use role_driver::finish::finish;
-use role_driver::go_on;
 use role_driver::running::{Finished, RunError, run};
+use role_driver::{ToldGate, go_on};
 use shared_views::{Observer, Reading};
 use std::alloc::Global;
 use std::process::Abort;
@@ -118,6 +118,39 @@ fn threads_tell_of_handlers(rt: HostRuntime) -> Result<(), Fail> {
     assert_eq!(rt; gate.calls.load(Ordering::SeqCst), 2);
     ended(pool(&rt, rt.alloc(), hall(rt.alloc(), TWO_SIBLINGS)?, 1, &gate))?;
     assert_eq!(rt; gate.calls.load(Ordering::SeqCst), 4);
+    Ok(())
+}
+
+/// Ann works twice in one role.
+const TWO_STROKES: &[u8] =
+    b"participant ann\naction strokes\nroles r\nbody r\nwork 1\nwork 1\nend\nplay strokes ann\n";
+
+/// A gate that is told of works with their numbers, and of handlers. It adds the numbers up, and counts a handler as 1,000.
+#[derive(Drop)]
+struct Numbers {
+    sum: AtomicU64,
+}
+
+impl ToldGate for Numbers {
+    fn begin_work(&self, _by: Participant, _place: Place, made: u64) {
+        self.sum.fetch_add(made, Ordering::SeqCst);
+    }
+
+    fn begin_handler(&self, _by: Participant, _place: Place, _exception: Exception) {
+        self.sum.fetch_add(1000, Ordering::SeqCst);
+    }
+}
+
+/// Ann has arrived and started the place, so her works have the numbers 2 and 3.
+#[test]
+fn works_go_by_numbers(rt: HostRuntime) -> Result<(), Fail> {
+    let gate = Numbers {
+        sum: AtomicU64::new(0),
+    };
+    ended(run(&rt, rt.alloc(), hall(rt.alloc(), TWO_STROKES)?, &gate))?;
+    assert_eq!(rt; gate.sum.load(Ordering::SeqCst), 5);
+    ended(pool(&rt, rt.alloc(), hall(rt.alloc(), TWO_STROKES)?, 1, &gate))?;
+    assert_eq!(rt; gate.sum.load(Ordering::SeqCst), 10);
     Ok(())
 }
 

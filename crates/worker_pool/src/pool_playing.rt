@@ -17,9 +17,9 @@ use crate::pool_room::PoolRoom;
 use crate::worker::Workers;
 use crate::worker_crew::{Member, join_all, start_all, work_handed_back};
 use action_manager::{Closed, Manager, ManagerError, Opened, Seat};
-use caa_base::outside::gate::Gate;
 use journal_text::looks::seens::Seens;
 use place_plan::rules::machine::Machine;
+use role_driver::ToldGate;
 use role_driver::all_seats::{close_done, drive_each};
 use role_driver::running::{Finished, RunError};
 use std::alloc::Global;
@@ -37,7 +37,7 @@ struct Crew<M> {
 }
 
 /// Lets each worker work in a thread of its own, until no seat is queued any more.
-fn work_in_threads<M: Machine + Send, G: Gate + Sync, R: Threads + Wait + Sync>(
+fn work_in_threads<M: Machine + Send, G: ToldGate + Sync, R: Threads + Wait + Sync>(
     rt: &R,
     manager: &Manager<M>,
     relay: &Relay<M>,
@@ -113,7 +113,7 @@ fn gather<M>(left: Vec<Seat<M>>, kept: Vec<Vec<Seat<M>>>) -> Vec<Seat<M>>
 }
 
 /// Plays the seats of a manager by a pool of workers, and gives them all back once they are over.
-fn play_seats<M: Machine + Send, G: Gate + Sync, R: Threads + Wait + Sync>(
+fn play_seats<M: Machine + Send, G: ToldGate + Sync, R: Threads + Wait + Sync>(
     rt: &R,
     alloc: Global,
     manager: &Manager<M>,
@@ -157,7 +157,7 @@ fn play_seats<M: Machine + Send, G: Gate + Sync, R: Threads + Wait + Sync>(
 }
 
 /// Plays the seats of a manager by a pool of workers, where there is room for one. Without room there is no seat to play.
-fn play_any<M: Machine + Send, G: Gate + Sync, R: Threads + Wait + Sync>(
+fn play_any<M: Machine + Send, G: ToldGate + Sync, R: Threads + Wait + Sync>(
     rt: &R,
     alloc: Global,
     manager: &Manager<M>,
@@ -178,7 +178,7 @@ fn play_any<M: Machine + Send, G: Gate + Sync, R: Threads + Wait + Sync>(
 }
 
 /// Plays the machine of a manager to its end by its seats, in order, where there is room for a pool.
-fn play_opened<M: Machine + Send, G: Gate + Sync, R: Threads + Wait + Sync>(
+fn play_opened<M: Machine + Send, G: ToldGate + Sync, R: Threads + Wait + Sync>(
     rt: &R,
     alloc: Global,
     opened: Opened<M>,
@@ -221,7 +221,7 @@ fn play_opened<M: Machine + Send, G: Gate + Sync, R: Threads + Wait + Sync>(
 /// journal, which goes on from the old one; its plan and base are as they were. Nobody watches, so nothing was seen. A worker for
 /// which no thread can be started works in that of the caller. At `Err` no memory was found before the first entry, and the machine
 /// is as it was. It need not return.
-pub fn pool<M: Machine + Send, G: Gate + Sync, R: Threads + Wait + Sync>(
+pub fn pool<M: Machine + Send, G: ToldGate + Sync, R: Threads + Wait + Sync>(
     rt: &R,
     alloc: Global,
     machine: M,

@@ -8,8 +8,8 @@ use crate::hands::{Hand, Relay};
 use crate::worker::{Worker, Workers};
 use crate::working::work;
 use action_manager::{Manager, Seat};
-use caa_base::outside::gate::Gate;
 use place_plan::rules::machine::Machine;
+use role_driver::ToldGate;
 use std::snapshot::Snapshot;
 use std::sync::Wait;
 use std::sync::atomic::{AtomicBool, Ordering};
@@ -29,7 +29,7 @@ impl<M> Promise<Worker<M>> for Returns<M> {
 }
 
 /// Lets a worker work, unless it is handed back.
-fn work_unless<M: Machine, G: Gate, R: Wait>(
+fn work_unless<M: Machine, G: ToldGate, R: Wait>(
     rt: &R,
     manager: &Manager<M>,
     relay: &Relay<M>,
@@ -51,7 +51,7 @@ fn work_unless<M: Machine, G: Gate, R: Wait>(
 pub type Member<M> = Result<PromisedHandle<Worker<M>, Returns<M>>, Worker<M>>;
 
 /// A thread for a worker, or the worker where none can be started. Then its flag is raised, so that it doesn't work here.
-fn start<'s, E, M: Machine + Send, G: Gate + Sync, R: Threads + Wait + Sync>(
+fn start<'s, E, M: Machine + Send, G: ToldGate + Sync, R: Threads + Wait + Sync>(
     scope: &'s Scope<'s, E>,
     rt: &'s R,
     manager: &'s Manager<M>,
@@ -86,7 +86,7 @@ fn start<'s, E, M: Machine + Send, G: Gate + Sync, R: Threads + Wait + Sync>(
 }
 
 /// Starts a thread for each hand, with one of the vectors for the seats that it keeps.
-pub fn start_all<'s, E, M: Machine + Send, G: Gate + Sync, R: Threads + Wait + Sync>(
+pub fn start_all<'s, E, M: Machine + Send, G: ToldGate + Sync, R: Threads + Wait + Sync>(
     scope: &'s Scope<'s, E>,
     rt: &'s R,
     manager: &'s Manager<M>,
@@ -116,7 +116,7 @@ pub fn start_all<'s, E, M: Machine + Send, G: Gate + Sync, R: Threads + Wait + S
 }
 
 /// Lets a worker work that has no thread.
-fn work_here<M: Machine, G: Gate, R: Wait>(
+fn work_here<M: Machine, G: ToldGate, R: Wait>(
     rt: &R,
     manager: &Manager<M>,
     relay: &Relay<M>,
@@ -134,7 +134,7 @@ fn work_here<M: Machine, G: Gate, R: Wait>(
 }
 
 /// Lets the workers work that have no thread, one after another.
-pub fn work_handed_back<M: Machine, G: Gate, R: Wait>(
+pub fn work_handed_back<M: Machine, G: ToldGate, R: Wait>(
     rt: &R,
     manager: &Manager<M>,
     relay: &Relay<M>,

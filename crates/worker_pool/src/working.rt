@@ -14,9 +14,8 @@ ghost use Rattle.worker_pool.specs.inner.Workers.{IsAtWork};
 use crate::hands::Relay;
 use crate::worker::Worker;
 use action_manager::{Manager, Seat};
-use caa_base::outside::gate::Gate;
 use place_plan::rules::machine::{Answer, Machine};
-use role_driver::HandlerGate;
+use role_driver::ToldGate;
 use role_driver::driving::turn_after;
 use std::sync::Wait;
 
@@ -29,7 +28,7 @@ pub enum Rest {
 }
 
 /// Takes turns for a seat until its participant has no entry for now, or is over. Its work is mixed outside the turns.
-fn step_while_due<M: Machine, G: Gate + HandlerGate, R: Wait>(
+fn step_while_due<M: Machine, G: ToldGate, R: Wait>(
     rt: &R,
     manager: &Manager<M>,
     seat: &mut Seat<M>,
@@ -98,7 +97,7 @@ fn wait_if_fruitless<M: Machine, R: Wait>(
 ///
 /// A worker that has found more seats waiting than there are, while no entry was made, sleeps until there is one. By then each seat
 /// that was queued has been taken since the last entry, by this worker or by one that doesn't sleep.
-pub fn work<M: Machine, G: Gate, R: Wait>(
+pub fn work<M: Machine, G: ToldGate, R: Wait>(
     rt: &R,
     manager: &Manager<M>,
     relay: &Relay<M>,

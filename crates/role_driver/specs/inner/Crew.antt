@@ -21,7 +21,7 @@ IsBack was_seen before after =
     (is_over (plan_at before) (reverse (seen_by after)) (participant_of before) ≡ true) ⊎ ((after ≡ before) × was_seen)
 
 -- a member of the crew: a thread that drives a seat of this manager and tells this gate, or such a seat that was handed back
-abbrev pub IsMember : {M G H : Type 0} → (M → Base) → (M → List Entry) → (G → ℕ → ℕ → Type 0) → (G → ℕ → ℕ → ℕ → Type 0) → Manager M
+abbrev pub IsMember : {M G H : Type 0} → (M → Base) → (M → List Entry) → (G → ℕ → ℕ → ℕ → Type 0) → (G → ℕ → ℕ → ℕ → Type 0) → Manager M
     → G → (H → Seat M × G) → Result H (Seat M) → Type 0
 IsMember base_of journal_of was_told was_handed manager gate went (Ok thread) =
     IsServed base_of journal_of was_told was_handed manager gate (went thread).0 × ((went thread).1 ≡ gate)

@@ -152,21 +152,21 @@ returns-clause-told g c =
     let begun = ap journal_in c.new-logged.ensures.machine ∙ c.in-Ok.ensures.journal in
     let left = c.ended_in_threads.ensures.journal ∙ c.into_parts-plan.ensures.journal ∙ ap journal_in c.into_parts-hall-2.ensures.machine in
     record {
-      works = subst₂ (TellsWork (g.G.Gate.was_told c.args.gate.now)) begun (sym left) ran.told;
-      handlers = subst₂ (TellsHandlers (g.G.HandlerGate.was_handed c.args.gate.now)) begun (sym left) ran.handed;
+      works = subst₂ (TellsWork (g.G.ToldGate.was_told c.args.gate.now)) begun (sym left) ran.told;
+      handlers = subst₂ (TellsHandlers (g.G.ToldGate.was_handed c.args.gate.now)) begun (sym left) ran.handed;
     }
 
 pub returns-in-Err-clause-told : goal.returns-in-Err-clause-told
 returns-in-Err-clause-told g c =
     let decision = c.in-Err.unopened.decision in
-    nothing_told (g.G.Gate.was_told c.args.gate.now) (g.G.HandlerGate.was_handed c.args.gate.now) decision.journal.entries
+    nothing_told (g.G.ToldGate.was_told c.args.gate.now) (g.G.ToldGate.was_handed c.args.gate.now) decision.journal.entries
     (begins_none c.args.plan decision.finding (left_of (plant_use g.P.Plant c.args.plant decision.plant) decision.journal.entries)
     c.in-Err.ensures.refused)
 
 pub returns-in-Err-run-clause-told : goal.returns-in-Err-run-clause-told
 returns-in-Err-run-clause-told g c =
     let same = c.into_parts-hall.ensures.machine ∙ ap (λ l. l.machine) c.in-Err-run.ensures.refused ∙ c.new-logged.ensures.machine in
-    nothing_told (g.G.Gate.was_told c.args.gate.now) (g.G.HandlerGate.was_handed c.args.gate.now) c.unplayed.result.journal.entries
+    nothing_told (g.G.ToldGate.was_told c.args.gate.now) (g.G.ToldGate.was_handed c.args.gate.now) c.unplayed.result.journal.entries
     (c.unplayed.ensures.journal ∙ ap journal_in same ∙ c.in-Ok.ensures.journal)
 
 pub ended_in_threads-requires-clause-named : goal.ended_in_threads-requires-clause-named

@@ -22,7 +22,7 @@ returns-clause-completeness g c = ∥∥₁_map (returns-clause-answer g c) (λ 
 
 pub returns-clause-told : goal.returns-clause-told
 returns-clause-told g c = λ is.
-    log_told (g.G.Gate.was_told c.args.gate.now) (g.G.HandlerGate.was_handed c.args.gate.now) g.K.Sink _ _ _ _ _ _
+    log_told (g.G.ToldGate.was_told c.args.gate.now) (g.G.ToldGate.was_handed c.args.gate.now) g.K.Sink _ _ _ _ _ _
     (c.decide_logged_in_threads-decided.ensures.told (c.threaded_command_of-asked.ensures.command c.requires.threads ∙ is)) c.tell_logged.ensures.told
 
 pub tell_logged-requires : goal.tell_logged-requires

@@ -105,19 +105,19 @@ returns-clause-told g c =
     let ran = c.in-Ok-run.ensures in
     let left = c.ended_in_threads.ensures.journal ∙ c.into_parts-plan.ensures.journal in
     record {
-      works = subst₂ (TellsWork (g.G.Gate.was_told c.args.gate.now)) c.in-Ok.ensures.journal (sym left) ran.told;
-      handlers = subst₂ (TellsHandlers (g.G.HandlerGate.was_handed c.args.gate.now)) c.in-Ok.ensures.journal (sym left) ran.handed;
+      works = subst₂ (TellsWork (g.G.ToldGate.was_told c.args.gate.now)) c.in-Ok.ensures.journal (sym left) ran.told;
+      handlers = subst₂ (TellsHandlers (g.G.ToldGate.was_handed c.args.gate.now)) c.in-Ok.ensures.journal (sym left) ran.handed;
     }
 
 pub returns-in-Err-clause-told : goal.returns-in-Err-clause-told
 returns-in-Err-clause-told g c =
     let left = left_of (plant_use g.P.Plant c.args.plant c.in-Err.unopened.plant) c.in-Err.unopened.journal.entries in
-    nothing_told (g.G.Gate.was_told c.args.gate.now) (g.G.HandlerGate.was_handed c.args.gate.now) c.in-Err.unopened.journal.entries
+    nothing_told (g.G.ToldGate.was_told c.args.gate.now) (g.G.ToldGate.was_handed c.args.gate.now) c.in-Err.unopened.journal.entries
     (begins_none c.args.plan c.in-Err.unopened.finding left c.in-Err.ensures.refused)
 
 pub returns-in-Err-run-clause-told : goal.returns-in-Err-run-clause-told
 returns-in-Err-run-clause-told g c =
-    nothing_told (g.G.Gate.was_told c.args.gate.now) (g.G.HandlerGate.was_handed c.args.gate.now) c.unplayed.result.journal.entries
+    nothing_told (g.G.ToldGate.was_told c.args.gate.now) (g.G.ToldGate.was_handed c.args.gate.now) c.unplayed.result.journal.entries
     (c.unplayed.ensures.journal ∙ ap journal_in c.in-Err-run.ensures.refused ∙ c.in-Ok.ensures.journal)
 
 pub ended_in_threads-requires-clause-named : goal.ended_in_threads-requires-clause-named

@@ -16,7 +16,7 @@ returns-clause-completeness g c = complete _ _ _ (returns-clause-answer g c)
 
 pub returns-clause-told : goal.returns-clause-told
 returns-clause-told g c = λ is.
-    kept_told (g.G.Gate.was_told c.args.gate.now) (g.G.HandlerGate.was_handed c.args.gate.now) _ _ _ _ _
+    kept_told (g.G.ToldGate.was_told c.args.gate.now) (g.G.ToldGate.was_handed c.args.gate.now) _ _ _ _ _
     (c.decide_in_threads-decision.ensures.told (c.threaded_command_of.ensures.command c.requires.threads ∙ is)) c.tell.ensures.tells
 
 pub tell-requires : goal.tell-requires

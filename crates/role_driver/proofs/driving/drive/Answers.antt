@@ -17,7 +17,7 @@ turn_after-answer-requires-clause-asked g c =
 pub loop-preserved : goal.loop-preserved
 loop-preserved g c =
     let inv = c.loop.invariant in
-    let was_told = g.G.Gate.was_told c.args.gate.now in
+    let was_told = g.G.ToldGate.was_told c.args.gate.now in
     let who = participant_of c.args.seat in
     let old = seen_by c.args.seat in
     let here = seen_by c.loop.seat in
@@ -25,7 +25,7 @@ loop-preserved g c =
     let new = seen_by c.wait_past.new.seat in
     let own = c.turn_after-answer.ensures.same ∙ inv.same in
     let turn = subst (λ t. TellsOwnWork was_told t here mid) inv.same c.turn_after-answer.ensures.told in
-    let was_handed = g.G.HandlerGate.was_handed c.args.gate.now in
+    let was_handed = g.G.ToldGate.was_handed c.args.gate.now in
     let handlers = subst (λ t. TellsOwnHandlers was_handed t here mid) inv.same c.turn_after-answer.ensures.handed in
     let looks = subst (λ t. Looks (plan_in c.args.manager.now) mid new t) own c.wait_past.ensures.turn in
     let told =
@@ -47,8 +47,8 @@ loop-preserved g c =
 pub loop-preserved-in-Did : goal.loop-preserved-in-Did
 loop-preserved-in-Did g c =
     let inv = c.loop.invariant in
-    let was_told = g.G.Gate.was_told c.args.gate.now in
-    let was_handed = g.G.HandlerGate.was_handed c.args.gate.now in
+    let was_told = g.G.ToldGate.was_told c.args.gate.now in
+    let was_handed = g.G.ToldGate.was_handed c.args.gate.now in
     let who = participant_of c.args.seat in
     let old = seen_by c.args.seat in
     let here = seen_by c.loop.seat in
@@ -69,7 +69,7 @@ loop-preserved-in-Did g c =
 pub returns-in-Over-clause-told : goal.returns-in-Over-clause-told
 returns-in-Over-clause-told g c =
     let inv = c.loop.invariant in
-    let was_told = g.G.Gate.was_told c.args.gate.now in
+    let was_told = g.G.ToldGate.was_told c.args.gate.now in
     let here = seen_by c.loop.seat in
     let mid = seen_by c.turn_after-answer.new.seat in
     let turn = subst (λ t. TellsOwnWork was_told t here mid) inv.same c.turn_after-answer.ensures.told in
@@ -78,7 +78,7 @@ returns-in-Over-clause-told g c =
 pub returns-in-Over-clause-handed : goal.returns-in-Over-clause-handed
 returns-in-Over-clause-handed g c =
     let inv = c.loop.invariant in
-    let was_handed = g.G.HandlerGate.was_handed c.args.gate.now in
+    let was_handed = g.G.ToldGate.was_handed c.args.gate.now in
     let here = seen_by c.loop.seat in
     let mid = seen_by c.turn_after-answer.new.seat in
     let handlers = subst (λ t. TellsOwnHandlers was_handed t here mid) inv.same c.turn_after-answer.ensures.handed in

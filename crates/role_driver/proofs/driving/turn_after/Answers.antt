@@ -1,7 +1,8 @@
-use Rattle.std.proofs.Common.{◌≡◌, ◌∙◌, None, Some, arith, of_z, subst, sym, to_z, w64}
+use Rattle.std.proofs.Common.{◌≡◌, ◌∙◌, None, Some, arith, length, of_z, subst, sym, to_z, w64}
 use Rattle.std.proofs.lemmas.Bool.{false≢true}
 use Rattle.std.proofs.lemmas.Int.{ints}
 use Rattle.action_manager.specs.Managers.{plan_in}
+use Rattle.action_manager.specs.OwnEntries.{entries_by}
 use Rattle.action_manager.specs.Seats.{participant_of, seen_by}
 use Rattle.place_plan.specs.RulesOfJournals.Machine.{AsksForWork}
 use Rattle.role_driver.specs.Working.{AsksStill}
@@ -19,7 +20,9 @@ returns-in-Work g c =
     let asked : AsksForWork plan old old who None c.in-Work.place c.in-Work.rounds c.in-Work.from =
     subst (AsksStill plan old who) c.in-Work.is c.requires.asked in
     let start : to_z w64 (of_z w64 c.in-Work.from) ≡ c.in-Work.from = omega (arith, ints) in
-    let told = subst (λ t. g.G.Gate.was_told c.args.gate.now t c.in-Work.place) c.participant.ensures c.mix-done.ensures.told in
+    let was_told = g.G.ToldGate.was_told c.args.gate.now in
+    let made = subst (was_told c.participant.result c.in-Work.place) c.made.ensures c.mix-done.ensures.told in
+    let told = subst (λ t. was_told t c.in-Work.place (length (entries_by who old))) c.participant.ensures made in
     record {
       opened = c.step_and_tell.ensures.opened;
       same = c.step_and_tell.ensures.same;
@@ -30,7 +33,7 @@ returns-in-Work g c =
             c.mix-done.ensures.rounds (c.mix-done.ensures.from ∙ start) steps;
       };
       asks = asks_still plan old new who (Some c.mix-done.result) a steps;
-      told = work_told (g.G.Gate.was_told c.args.gate.now) plan old new who c.in-Work.place c.in-Work.rounds c.in-Work.from
+      told = work_told was_told plan old new who c.in-Work.place c.in-Work.rounds c.in-Work.from
           (Some c.mix-done.result) a asked told steps;
       handed = c.step_and_tell.ensures.handed;
     }
@@ -52,6 +55,6 @@ returns-in_default g c =
         done = λ is. absurd (false≢true (sym (not_asking c.args.asked c.in_default.not-Work) ∙ is));
       };
       asks = asks_still plan old new who None a steps;
-      told = step_told (g.G.Gate.was_told c.args.gate.now) plan old new who a steps;
+      told = step_told (g.G.ToldGate.was_told c.args.gate.now) plan old new who a steps;
       handed = c.step_and_tell-in_default.ensures.handed;
     }

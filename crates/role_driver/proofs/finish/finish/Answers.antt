@@ -1,6 +1,6 @@
 use Rattle.std.proofs.Common.{◌∙◌, arith, refl, subst}
 use Rattle.role_driver.specs.Schedule.{TakesTurn, always_least}
-use Rattle.role_driver.specs.Working.{IsTold}
+use Rattle.role_driver.specs.Working.{IsToldInPlace}
 use Rattle.role_driver.proofs.Grown.{one_more}
 use Rattle.role_driver.proofs.Told.{goes_further}
 use Rattle.role_driver.proofs.finish.finish.Goals as goal
@@ -19,5 +19,5 @@ loop-machine-preserved g c =
       count = omega (arith, kept.count, c.take_turn.ensures.count);
       grown = (one_more always_least plan first old new kept.grown 0 refl turn).0;
       sleep = c.take_turn.ensures.sleep;
-      told = goes_further (IsTold (g.G.Gate.was_told c.args.gate.now)) first old new kept.told c.take_turn.ensures.told;
+      told = goes_further (IsToldInPlace (g.G.Gate.was_told c.args.gate.now)) first old new kept.told c.take_turn.ensures.told;
     }

@@ -1,7 +1,7 @@
 use Rattle.std.proofs.Common.{◌≡◌, ◌≤◌, ◌-◌, length}
 use Rattle.place_plan.specs.Plans.Bound.{bound}
 use Rattle.role_driver.specs.Schedule.{GrewBy, always_least}
-use Rattle.role_driver.specs.Working.{TellsWork}
+use Rattle.role_driver.specs.Working.{TellsPlaces}
 use Rattle.role_driver.specs.inner.Sleeping.{AllSleep}
 use Rattle.role_driver.proofs.finish.finish.Given as goal
 
@@ -12,7 +12,7 @@ invariant-loop-machine g l = record {
   count : g.M.Machine.count_of l.fn.machine ≤ g.M.Machine.count_of l.machine;
   grown : GrewBy always_least (g.M.Machine.plan_of l.fn.machine) (g.M.Machine.journal_of l.fn.machine) (g.M.Machine.journal_of l.machine);
   sleep : AllSleep (g.M.Machine.plan_of l.machine) (g.M.Machine.journal_of l.machine) l.asleep;
-  told : TellsWork (g.G.Gate.was_told l.gate) (g.M.Machine.journal_of l.fn.machine) (g.M.Machine.journal_of l.machine);
+  told : TellsPlaces (g.G.Gate.was_told l.gate) (g.M.Machine.journal_of l.fn.machine) (g.M.Machine.journal_of l.machine);
 }
 
 abbrev pub decreases-loop-machine : goal.decreases-loop-machine

@@ -67,7 +67,7 @@ returns-clause-told g c =
     let closed = c.close_done-machine.ensures in
     let begun = g.M.Machine.journal_of (handed_in manager) in
     let new = g.M.Machine.journal_of c.close_done-machine.result.machine in
-    let was_told = g.G.Gate.was_told c.args.gate.now in
+    let was_told = g.G.ToldGate.was_told c.args.gate.now in
     record {
       more = closed.begins.0;
       goes_on = closed.begins.1;
@@ -87,12 +87,12 @@ returns-clause-handed g c =
     let closed = c.close_done-machine.ensures in
     let begun = g.M.Machine.journal_of (handed_in manager) in
     let new = g.M.Machine.journal_of c.close_done-machine.result.machine in
-    let was_handed = g.G.HandlerGate.was_handed c.args.gate.now in
+    let was_handed = g.G.ToldGate.was_handed c.args.gate.now in
     record {
       more = closed.begins.0;
       goes_on = closed.begins.1;
       each =
-          all_known (IsHanded was_handed) begun new closed.begins.0 closed.begins.1 (plan_in manager)
+          all_known (λ before e. IsHanded was_handed e) begun new closed.begins.0 closed.begins.1 (plan_in manager)
           (subst (Holds AllWellFormed) (c.plan.ensures ∙ closed.plan) c.is_well_formed.ensures)
           c.drive_in_threads-seats.result.0.items closed.legal
           (λ k d low. (driven.served k d low).handed) closed.accounts

@@ -10,7 +10,7 @@ use Rattle.role_driver.proofs.seat_crew.come_back.Goals as goal
 pub returns-in-Ok-clause-served : goal.returns-in-Ok-clause-served
 returns-in-Ok-clause-served g c =
     let base_of = g.M.Machine.base_of in let journal_of = g.M.Machine.journal_of in
-    let was_told = g.G.Gate.was_told in let was_handed = g.G.HandlerGate.was_handed in
+    let was_told = g.G.ToldGate.was_told in let was_handed = g.G.ToldGate.was_handed in
     let manager = c.args._manager.now in let gate = c.args._gate.now in
     let went =
     went_served base_of journal_of was_told was_handed manager gate (λ h. (h.promise.seat.value, h.promise.gate.value))
@@ -25,5 +25,5 @@ returns-in-Ok-clause-served g c =
 
 pub returns-in-Err-clause-served : goal.returns-in-Err-clause-served
 returns-in-Err-clause-served g c =
-    handed_back_served g.M.Machine.base_of g.M.Machine.journal_of g.G.Gate.was_told g.G.HandlerGate.was_handed c.args._manager.now
+    handed_back_served g.M.Machine.base_of g.M.Machine.journal_of g.G.ToldGate.was_told g.G.ToldGate.was_handed c.args._manager.now
     c.args._gate.now (λ h. (h.promise.seat.value, h.promise.gate.value)) c.args.member c.in-Err.seat c.in-Err.is c.requires.member

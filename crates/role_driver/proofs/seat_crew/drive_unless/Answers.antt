@@ -12,12 +12,12 @@ returns-then-is_raised-clause-back g c = inr (refl, c.is_raised.ensures c.if-is_
 pub returns-then-is_raised-clause-told : goal.returns-then-is_raised-clause-told
 returns-then-is_raised-clause-told g c =
     let seen = seen_by c.args.seat in
-    goes_nowhere (IsToldOf (g.G.Gate.was_told c.args.gate.now) (participant_of c.args.seat)) seen seen refl
+    goes_nowhere (IsToldOf (g.G.ToldGate.was_told c.args.gate.now) (participant_of c.args.seat)) seen seen refl
 
 pub returns-then-is_raised-clause-handed : goal.returns-then-is_raised-clause-handed
 returns-then-is_raised-clause-handed g c =
     let seen = seen_by c.args.seat in
-    goes_nowhere (IsHandedOf (g.G.HandlerGate.was_handed c.args.gate.now) (participant_of c.args.seat)) seen seen refl
+    goes_nowhere (IsHandedOf (g.G.ToldGate.was_handed c.args.gate.now) (participant_of c.args.seat)) seen seen refl
 
 pub returns-else-is_raised-clause-back : goal.returns-else-is_raised-clause-back
 returns-else-is_raised-clause-back g c =

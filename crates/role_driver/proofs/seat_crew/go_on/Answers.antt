@@ -17,7 +17,7 @@ returns-in-Work-clause-told g c =
     let who = participant_of c.args.seat.now in
     let mid = seen_by c.turn_after-answer.new.seat in
     let new = seen_by c.turn_after.new.seat in
-    let was_told = g.G.Gate.was_told c.args.gate.now in
+    let was_told = g.G.ToldGate.was_told c.args.gate.now in
     let later = subst (λ t. TellsOwnWork was_told t mid new) c.turn_after-answer.ensures.same c.turn_after.ensures.told in
     goes_further (IsToldOf was_told who) (seen_by c.args.seat.now) mid new c.turn_after-answer.ensures.told later
 
@@ -26,7 +26,7 @@ returns-in-Work-clause-handed g c =
     let who = participant_of c.args.seat.now in
     let mid = seen_by c.turn_after-answer.new.seat in
     let new = seen_by c.turn_after.new.seat in
-    let was_handed = g.G.HandlerGate.was_handed c.args.gate.now in
+    let was_handed = g.G.ToldGate.was_handed c.args.gate.now in
     let later = subst (λ t. TellsOwnHandlers was_handed t mid new) c.turn_after-answer.ensures.same c.turn_after.ensures.handed in
     handed_further was_handed who (seen_by c.args.seat.now) mid new c.turn_after-answer.ensures.handed later
 

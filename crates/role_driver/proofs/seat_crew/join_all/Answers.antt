@@ -16,7 +16,7 @@ join_one-requires g c =
     let manager = c.args.manager.now in let base_of = g.M.Machine.base_of in
     record {
       member =
-          (all_first (λ r. IsMember base_of g.M.Machine.journal_of g.G.Gate.was_told g.G.HandlerGate.was_handed
+          (all_first (λ r. IsMember base_of g.M.Machine.journal_of g.G.ToldGate.was_told g.G.ToldGate.was_handed
           manager c.args.gate.now (λ h. (h.promise.seat.value, h.promise.gate.value)) r)
           c.in-Some.member c.next.new.self.rest.items
           c.loop-member.member-iterator.rest.items c.in-Some.ensures.steps.0 c.loop-member.invariant.crew).0;
@@ -30,12 +30,12 @@ loop-member-preserved g c =
     let pushed = c.push_reserved.ensures in
     record {
       room = omega (arith, inv.room, one, pushed.len, pushed.capacity);
-      crew = (all_first (λ r. IsMember base_of g.M.Machine.journal_of g.G.Gate.was_told g.G.HandlerGate.was_handed
+      crew = (all_first (λ r. IsMember base_of g.M.Machine.journal_of g.G.ToldGate.was_told g.G.ToldGate.was_handed
           manager c.args.gate.now (λ h. (h.promise.seat.value, h.promise.gate.value)) r) c.in-Some.member
           c.next.new.self.rest.items c.loop-member.member-iterator.rest.items took inv.crew).1;
       done = all_more (IsDone base_of manager) c.loop-member.seats.items c.join_one.result c.push_reserved.new.self.items
           pushed.items inv.done c.join_one.ensures.done;
-      served = all_more (IsServed base_of g.M.Machine.journal_of g.G.Gate.was_told g.G.HandlerGate.was_handed
+      served = all_more (IsServed base_of g.M.Machine.journal_of g.G.ToldGate.was_told g.G.ToldGate.was_handed
           manager c.args.gate.now) c.loop-member.seats.items
           c.join_one.result c.push_reserved.new.self.items pushed.items inv.served c.join_one.ensures.served;
       order = moved_on (λ r. who_of (λ h. h.promise.seat.value) r) participant_of c.loop-member.member-iterator.rest.items

@@ -19,6 +19,6 @@ returns-clause-done g c =
 pub returns-clause-served : goal.returns-clause-served
 returns-clause-served g c =
     let driven = c.drive.ensures in
-    served_on g.M.Machine.base_of g.M.Machine.journal_of g.G.Gate.was_told g.G.HandlerGate.was_handed c.args.manager.now
+    served_on g.M.Machine.base_of g.M.Machine.journal_of g.G.ToldGate.was_told g.G.ToldGate.was_handed c.args.manager.now
     c.args.gate.now c.come_back-seat.result c.drive.result c.come_back-seat.ensures.served driven.opened driven.same driven.told
     driven.handed

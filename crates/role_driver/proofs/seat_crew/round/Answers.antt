@@ -11,7 +11,7 @@ loop-index-preserved g c =
     let now = c.turn_of-answer.new.member in let was = c.index_mut.result.now in
     record {
       long = inv.long;
-      crew = All-set (λ r. IsMember base_of g.M.Machine.journal_of g.G.Gate.was_told g.G.HandlerGate.was_handed
+      crew = All-set (λ r. IsMember base_of g.M.Machine.journal_of g.G.ToldGate.was_told g.G.ToldGate.was_handed
           manager c.args.gate.now (λ h. (h.promise.seat.value, h.promise.gate.value)) r) c.loop-index.crew.items c.loop-index.index
           now c.turn_of-answer.ensures.member inv.crew;
       order = map-set_same (λ r. who_of (λ h. h.promise.seat.value) r) c.loop-index.crew.items c.loop-index.index now

@@ -18,7 +18,7 @@ pub spawn_with-requires-send-F : goal.spawn_with-requires-send-F
 spawn_with-requires-send-F g c κs within =
     let bounds = c.type_bounds in
     param_send 2 (lts.arg-3-2 g.row.E g.row.M g.row.G g.row.R g.row.F g.E.laws g.M.laws g.G.laws g.R.laws g.F.laws g.M.Machine
-    g.M.Machine-dict g.G.Gate g.G.Gate-dict g.G.HandlerGate g.G.HandlerGate-dict g.R.Threads
+    g.M.Machine-dict g.G.ToldGate g.G.ToldGate-dict g.R.Threads
     g.R.Threads-dict g.R.Wait g.R.Wait-dict g.F.Flag g.F.Flag-dict κs)
     (arg_send _ denote.Exit.no _ (closure_send _
     (ShrRef (named 6) κs.1.1.1.1.1.1.0 (param 3 g.row.R)
@@ -40,7 +40,7 @@ spawn_with-requires-send-T g c κs within = search (sendable, seat_send)
 pub returns-in-Err-clause-err : goal.returns-in-Err-clause-err
 returns-in-Err-clause-err g c =
     let base_of = g.M.Machine.base_of in let journal_of = g.M.Machine.journal_of in
-    let was_told = g.G.Gate.was_told in let was_handed = g.G.HandlerGate.was_handed in
+    let was_told = g.G.ToldGate.was_told in let was_handed = g.G.ToldGate.was_handed in
     let manager = c.args.manager.now in
     let kept = c.in-Err.refused.value in
     let back = c.spawn_with-in-Err.result in

@@ -6,7 +6,7 @@ use Rattle.role_driver.proofs.seat_crew.wait_at.Goals as goal
 
 pub returns-clause-crew : goal.returns-clause-crew
 returns-clause-crew g c =
-    All-set (λ r. IsMember g.M.Machine.base_of g.M.Machine.journal_of g.G.Gate.was_told g.G.HandlerGate.was_handed
+    All-set (λ r. IsMember g.M.Machine.base_of g.M.Machine.journal_of g.G.ToldGate.was_told g.G.ToldGate.was_handed
     c.args.manager.now c.args.gate.now (λ h. (h.promise.seat.value, h.promise.gate.value)) r) c.args.crew.now.items
     c.args.index c.wait_with.new.member c.wait_with.ensures.member c.requires.crew
 

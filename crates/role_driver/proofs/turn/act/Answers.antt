@@ -10,7 +10,7 @@ work-requires g c =
     let plan = g.M.Machine.plan_of c.args.machine.now in
     let past = reverse (g.M.Machine.journal_of c.args.machine.now) in
     let mid = g.M.Machine.journal_of c.next.new.self in
-    let done = c.mix-done.result in
+    let done = c.mix_in_place-done.result in
     let asked = c.in-Work.ensures.answer in
     let entry = work_entry c.in-Work.place c.args.by in
     let start : to_z w64 (of_z w64 c.in-Work.from) ≡ c.in-Work.from = omega (arith, ints) in
@@ -18,6 +18,6 @@ work-requires g c =
       may =
           subst (λ p. MayFollow p (reverse mid) (entry done.rounds done.from)) (sym c.in-Work.ensures.plan)
           (subst (λ j. MayFollow plan (reverse j) (entry done.rounds done.from)) (sym asked.kept)
-          (subst (λ r. MayFollow plan past (entry r done.from)) (sym c.mix-done.ensures.rounds)
-          (subst (λ f. MayFollow plan past (entry c.in-Work.rounds f)) (sym (c.mix-done.ensures.from ∙ start)) asked.may)));
+          (subst (λ r. MayFollow plan past (entry r done.from)) (sym c.mix_in_place-done.ensures.rounds)
+          (subst (λ f. MayFollow plan past (entry c.in-Work.rounds f)) (sym (c.mix_in_place-done.ensures.from ∙ start)) asked.may)));
     }

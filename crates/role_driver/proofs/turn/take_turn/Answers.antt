@@ -4,7 +4,7 @@ use Rattle.std.proofs.lemmas.Bool.{both_ways}
 use Rattle.place_plan.specs.RulesOfJournals.Journals.{HasNoEntry, IsComplete}
 use Rattle.journal_laws.specs.Laws.{Holds, GoesOn, SleepsOn, wakes}
 use Rattle.role_driver.specs.Schedule.{Acts}
-use Rattle.role_driver.specs.Working.{IsTold}
+use Rattle.role_driver.specs.Working.{IsToldInPlace}
 use Rattle.role_driver.specs.inner.Sleeping.{AllSleep}
 use Rattle.role_driver.proofs.GoingRound.{round_silent, asked_by, silent_more}
 use Rattle.role_driver.proofs.SleepOn.{one_more_sleeps, unwoken_sleep}
@@ -109,7 +109,7 @@ returns-then-complete-clause-sleep g c =
 
 pub returns-then-complete-clause-told : goal.returns-then-complete-clause-told
 returns-then-complete-clause-told g c =
-    goes_nowhere (IsTold (g.G.Gate.was_told c.args.gate.now)) (g.M.Machine.journal_of c.args.machine.now)
+    goes_nowhere (IsToldInPlace (g.G.Gate.was_told c.args.gate.now)) (g.M.Machine.journal_of c.args.machine.now)
     (g.M.Machine.journal_of c.loop-others.machine) c.loop-others.invariant.journal
 
 -- where nobody has an entry, the plays are over

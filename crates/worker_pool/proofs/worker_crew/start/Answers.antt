@@ -18,7 +18,7 @@ pub spawn_with-requires-send-F : goal.spawn_with-requires-send-F
 spawn_with-requires-send-F g c κs within =
     let bounds = c.type_bounds in
     param_send 2 (lts.arg-2-2 g.row.E g.row.M g.row.G g.row.R g.E.laws g.M.laws g.G.laws g.R.laws g.M.Machine g.M.Machine-dict
-    g.G.Gate g.G.Gate-dict g.R.Threads g.R.Threads-dict g.R.Wait g.R.Wait-dict κs)
+    g.G.ToldGate g.G.ToldGate-dict g.R.Threads g.R.Threads-dict g.R.Wait g.R.Wait-dict κs)
     (arg_send _ denote.Exit.no _ (closure_send _
     (ShrRef (named 6) κs.1.1.1.1.1.1.0 (param 3 g.row.R)
     ∷ ShrRef (named 7) κs.1.1.1.1.1.1.1.0 (manager.the_row (param 1 g.row.M) g.M.Machine)

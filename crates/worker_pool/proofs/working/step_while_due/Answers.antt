@@ -10,8 +10,8 @@ pub loop-preserved : goal.loop-preserved
 loop-preserved g c =
     let inv = c.loop.invariant in
     let turn = c.turn_after-answer.ensures in
-    let was_told = g.G.Gate.was_told c.args.gate.now in
-    let was_handed = g.G.HandlerGate.was_handed c.args.gate.now in
+    let was_told = g.G.ToldGate.was_told c.args.gate.now in
+    let was_handed = g.G.ToldGate.was_handed c.args.gate.now in
     let here = seen_by c.loop.seat in
     let mid = seen_by c.turn_after-answer.new.seat in
     record {
@@ -27,7 +27,7 @@ loop-preserved g c =
 pub returns-in-NotYet-clause-told : goal.returns-in-NotYet-clause-told
 returns-in-NotYet-clause-told g c =
     let inv = c.loop.invariant in
-    let was_told = g.G.Gate.was_told c.args.gate.now in
+    let was_told = g.G.ToldGate.was_told c.args.gate.now in
     let here = seen_by c.loop.seat in
     let mid = seen_by c.turn_after-answer.new.seat in
     goes_further (IsToldOf was_told (participant_of c.args.seat.now)) (seen_by c.args.seat.now) here mid inv.told
@@ -36,7 +36,7 @@ returns-in-NotYet-clause-told g c =
 pub returns-in-Over-clause-told : goal.returns-in-Over-clause-told
 returns-in-Over-clause-told g c =
     let inv = c.loop.invariant in
-    let was_told = g.G.Gate.was_told c.args.gate.now in
+    let was_told = g.G.ToldGate.was_told c.args.gate.now in
     let here = seen_by c.loop.seat in
     let mid = seen_by c.turn_after-answer.new.seat in
     goes_further (IsToldOf was_told (participant_of c.args.seat.now)) (seen_by c.args.seat.now) here mid inv.told
@@ -45,7 +45,7 @@ returns-in-Over-clause-told g c =
 pub returns-in-NotYet-clause-handed : goal.returns-in-NotYet-clause-handed
 returns-in-NotYet-clause-handed g c =
     let inv = c.loop.invariant in
-    let was_handed = g.G.HandlerGate.was_handed c.args.gate.now in
+    let was_handed = g.G.ToldGate.was_handed c.args.gate.now in
     let here = seen_by c.loop.seat in
     let mid = seen_by c.turn_after-answer.new.seat in
     goes_further (IsHandedOf was_handed (participant_of c.args.seat.now)) (seen_by c.args.seat.now) here mid inv.handed
@@ -54,7 +54,7 @@ returns-in-NotYet-clause-handed g c =
 pub returns-in-Over-clause-handed : goal.returns-in-Over-clause-handed
 returns-in-Over-clause-handed g c =
     let inv = c.loop.invariant in
-    let was_handed = g.G.HandlerGate.was_handed c.args.gate.now in
+    let was_handed = g.G.ToldGate.was_handed c.args.gate.now in
     let here = seen_by c.loop.seat in
     let mid = seen_by c.turn_after-answer.new.seat in
     goes_further (IsHandedOf was_handed (participant_of c.args.seat.now)) (seen_by c.args.seat.now) here mid inv.handed

@@ -10,6 +10,6 @@ invariant-loop g l = record {
   opened : IsSeatIn g.M.Machine.base_of l.manager l.seat;
   same : participant_of l.seat ≡ participant_of l.initial.seat;
   asks : AsksStill (plan_in l.manager) (seen_by l.seat) (participant_of l.seat) l.answer;
-  told : TellsOwnWork (g.G.Gate.was_told l.gate) (participant_of l.initial.seat) (seen_by l.initial.seat) (seen_by l.seat);
-  handed : TellsOwnHandlers (g.G.HandlerGate.was_handed l.gate) (participant_of l.initial.seat) (seen_by l.initial.seat) (seen_by l.seat);
+  told : TellsOwnWork (g.G.ToldGate.was_told l.gate) (participant_of l.initial.seat) (seen_by l.initial.seat) (seen_by l.seat);
+  handed : TellsOwnHandlers (g.G.ToldGate.was_handed l.gate) (participant_of l.initial.seat) (seen_by l.initial.seat) (seen_by l.seat);
 }
