@@ -10,7 +10,7 @@ use Rattle.place_plan.specs.RulesOfJournals.Machine.{Answers}
 use Rattle.place_plan.specs.declared.rules.machine.Answer.{Answer}
 use Rattle.place_plan.specs.declared.rules.machine.Answer.TheVariants as answer
 use Rattle.action_manager.specs.OwnEntries.{Journal}
-use Rattle.action_manager.specs.Stepping.{GrowsWithout, Steps, did_work, AnswersOn}
+use Rattle.action_manager.specs.Stepping.{GrowsWithout, StepsOn, did_work, AnswersOn}
 use Rattle.role_driver.specs.Handling.{IsHanded, IsHandedOf, HandsMade, TellsOwnHandlers}
 use Rattle.role_driver.proofs.Told.{goes_further, goes_nowhere, goes_one, others_go_on_so}
 
@@ -48,7 +48,7 @@ module _ (was_handed : ℕ → ℕ → ℕ → Type 0) where
 
   -- a step, of whose entry the gate was told if it begins a handler
   pub step_handed : (plan : Plan) (old new : Journal) (t : ℕ) (hint : Option Worked) (a : Answer)
-      → Steps plan old new t hint a → HandsMade was_handed a → TellsOwnHandlers was_handed t old new
+      → StepsOn plan old new t hint a → HandsMade was_handed a → TellsOwnHandlers was_handed t old new
   step_handed plan old new t hint a h made =
       goes_further (IsHandedOf was_handed t) old h.before new (others_go_on_so (IsHanded was_handed) old h.before t h.grown)
       (goes_further (IsHandedOf was_handed t) h.before h.turn.mid new

@@ -11,7 +11,7 @@ use Rattle.place_plan.specs.RulesOfJournals.Machine.{Answers, AsksForWork, Did, 
 use Rattle.place_plan.specs.declared.rules.machine.Answer.{Answer}
 use Rattle.place_plan.specs.declared.rules.machine.Answer.TheVariants as answer
 use Rattle.action_manager.specs.OwnEntries.{Journal, entries_by}
-use Rattle.action_manager.specs.Stepping.{GrowsWithout, Steps, did_work, AnswersOn, AnswersTurn}
+use Rattle.action_manager.specs.Stepping.{GrowsWithout, StepsOn, did_work, AnswersOn, AnswersTurn}
 use Rattle.role_driver.specs.Working.{asks_for_work, AsksStill, IsTold, IsToldOf, GoesOnWith, TellsOwnWork}
 use Rattle.role_driver.proofs.SameWork.{none_added, work_place, work_stays}
 
@@ -85,7 +85,7 @@ module _ (was_told : ℕ → ℕ → Type 0) where
   no_work plan old new t e did is = absurd (did.hinted is)
 
   -- a step without a hint
-  pub step_told : (plan : Plan) (old new : Journal) (t : ℕ) (a : Answer) → Steps plan old new t None a → TellsOwnWork was_told t old new
+  pub step_told : (plan : Plan) (old new : Journal) (t : ℕ) (a : Answer) → StepsOn plan old new t None a → TellsOwnWork was_told t old new
   step_told plan old new t a h =
       goes_further (IsToldOf was_told t) old h.before new (others_go_on old h.before t h.grown)
       (turned (IsToldOf was_told t) plan h.before new t None a h.turn (λ e did own. no_work plan h.before h.turn.mid t e did)
@@ -101,7 +101,7 @@ module _ (was_told : ℕ → ℕ → Type 0) where
 
   -- a step that brings the work that was asked for
   pub work_told : (plan : Plan) (seen new : Journal) (t p k : ℕ) (from : ℤ) (hint : Option Worked) (a : Answer)
-      → AsksForWork plan seen seen t None p k from → was_told t p → Steps plan seen new t hint a → TellsOwnWork was_told t seen new
+      → AsksForWork plan seen seen t None p k from → was_told t p → StepsOn plan seen new t hint a → TellsOwnWork was_told t seen new
   work_told plan seen new t p k from hint a asked told h =
       let mine = work_is_told plan seen h.before h.turn.mid t p k from hint asked.may told h.grown in
       goes_further (IsToldOf was_told t) seen h.before new (others_go_on seen h.before t h.grown)
@@ -120,7 +120,7 @@ still plan old new t p k from hint h = record {
 
 -- the work that a step asks for is asked for on the journal that the seat then has seen
 pub asks_still : (plan : Plan) (old new : Journal) (t : ℕ) (hint : Option Worked) (a : Answer)
-    → Steps plan old new t hint a → AsksStill plan new t a
+    → StepsOn plan old new t hint a → AsksStill plan new t a
 asks_still plan old new t hint (answer.Did e) h = tt
 asks_still plan old new t hint answer.NotYet h = tt
 asks_still plan old new t hint answer.Over h = tt
@@ -136,7 +136,7 @@ asks_still plan old new t hint (answer.Work q j begin) h = by (did_work h.turn.f
 
 -- a participant whose step answers that it is over is so in what its seat then has seen
 pub over_seen : (plan : Plan) (old new : Journal) (t : ℕ) (hint : Option Worked) (a : Answer) → a ≡ answer.Over
-    → Steps plan old new t hint a → is_over plan (reverse new) t ≡ true
+    → StepsOn plan old new t hint a → is_over plan (reverse new) t ≡ true
 over_seen plan old new t hint a is h = by (did_work h.turn.first) h.turn.further
   where
     by : (more : Bool) → AnswersOn plan h.turn.mid new t h.turn.first a more → is_over plan (reverse new) t ≡ true
@@ -151,7 +151,7 @@ over_seen plan old new t hint a is h = by (did_work h.turn.first) h.turn.further
 -- where t was asked for work and did it, it isn't asked for it again
 pub not_again : (plan : Plan) (seen new : Journal) (t p k : ℕ) (from : ℤ) (work : Worked) (a : Answer)
     → AsksForWork plan seen seen t None p k from → work.rounds ≡ k → work.from ≡ from
-    → (h : Steps plan seen new t (Some work) a) → asks_for_work h.turn.first ≡ false
+    → (h : StepsOn plan seen new t (Some work) a) → asks_for_work h.turn.first ≡ false
 not_again plan seen new t p k from work a asked rounds starts h = by h.turn.first h.turn.answers
   where
     by : (first : Answer) → Answers plan h.before h.turn.mid t (Some work) first → asks_for_work first ≡ false

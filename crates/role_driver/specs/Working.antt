@@ -8,7 +8,7 @@ use Rattle.place_plan.specs.Plans.PlanValue.{Plan}
 use Rattle.place_plan.specs.RulesOfJournals.Machine.{AsksForWork}
 use Rattle.place_plan.specs.declared.rules.machine.Answer.{Answer}
 use Rattle.place_plan.specs.declared.rules.machine.Answer.TheVariants as answer
-use Rattle.action_manager.specs.Stepping.{Steps}
+use Rattle.action_manager.specs.Stepping.{StepsOn}
 
 -- where the entry is one of work, the gate was told of its maker and its place
 abbrev pub IsTold : (ℕ → ℕ → Type 0) → Entry → Type 0
@@ -42,8 +42,9 @@ abbrev pub AsksStill : Plan → List Entry → ℕ → Answer → Type 0
 AsksStill plan seen t (answer.Work p rounds from) = AsksForWork plan seen seen t None p rounds from
 AsksStill plan seen t _ = Unit {0}
 
--- what a turn of t comes to after an answer: a step, in which the work that was asked for isn't asked for again, since it was done
+-- what a turn of t comes to after an answer: a step that asks on, in which the work that was asked for isn't asked for again, since
+-- it was done
 pub record TurnsAfter (plan : Plan) (old new : List Entry) (t : ℕ) (asked answer : Answer) : Type 0 where
   pub hint : Option Worked
-  pub steps : Steps plan old new t hint answer
+  pub steps : StepsOn plan old new t hint answer
   pub done : asks_for_work asked ≡ true → asks_for_work steps.turn.first ≡ false

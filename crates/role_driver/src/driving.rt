@@ -7,7 +7,7 @@ ghost use Rattle.shared_views.specs.Telling.{IsTold};
 ghost use Rattle.shared_views.specs.declared.bulletin.Announcement.TheVariants.{Noted as IsNoted};
 ghost use Rattle.action_manager.specs.Managers.{plan_in, cells_in, IsSeatIn};
 ghost use Rattle.action_manager.specs.Seats.{participant_of, seen_by, told_to};
-ghost use Rattle.action_manager.specs.Stepping.{Steps};
+ghost use Rattle.action_manager.specs.Stepping.{StepsOn};
 ghost use Rattle.action_manager.specs.Tidings.{TellsAfter};
 ghost use Rattle.role_driver.specs.Handling.{HandsMade, TellsOwnHandlers};
 ghost use Rattle.role_driver.specs.Working.{AsksStill, TurnsAfter, TellsOwnWork};
@@ -61,7 +61,7 @@ fn tell_handler<M: Machine, G: HandlerGate>(
     }
 }
 
-/// A step of a seat. Where it makes a Handle, the gate is told of the handler that begins.
+/// A step of a seat that asks on. Where it makes a Handle, the gate is told of the handler that begins.
 fn step_and_tell<M: Machine, G: HandlerGate, R: Wait>(
     rt: &R,
     manager: &Manager<M>,
@@ -72,10 +72,10 @@ fn step_and_tell<M: Machine, G: HandlerGate, R: Wait>(
     requires opened { IsSeatIn M.base_of manager.now seat.old }
     ensures opened { IsSeatIn M.base_of manager.now seat.new }
     ensures same { participant_of seat.new ≡ participant_of seat.old }
-    ensures turn { Steps (plan_in manager.now) (seen_by seat.old) (seen_by seat.new) (participant_of seat.old) hint result }
+    ensures turn { StepsOn (plan_in manager.now) (seen_by seat.old) (seen_by seat.new) (participant_of seat.old) hint result }
     ensures handed { TellsOwnHandlers (G.was_handed gate.now) (participant_of seat.old) (seen_by seat.old) (seen_by seat.new) }
 {
-    let answer = manager.step(rt, seat, hint);
+    let answer = manager.step_on(rt, seat, hint);
     tell_handler(manager, seat, answer, gate);
     answer
 }

@@ -11,6 +11,6 @@ returns-clause-handed g c =
     let plan = plan_in c.args.manager.now in
     let who = participant_of c.args.seat.now in
     let old = seen_by c.args.seat.now in
-    let new = seen_by c.step-answer.new.seat in
-    let told = step_handed was_handed plan old new who c.args.hint c.step-answer.result c.step-answer.ensures.turn c.tell_handler.ensures.handed in
+    let new = seen_by c.step_on-answer.new.seat in
+    let told = step_handed was_handed plan old new who c.args.hint c.step_on-answer.result c.step_on-answer.ensures.turn c.tell_handler.ensures.handed in
     subst (λ j. TellsOwnHandlers was_handed who old j) (sym c.tell_handler.ensures.same.1) told
