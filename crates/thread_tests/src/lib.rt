@@ -11,6 +11,8 @@ mod relays;
 #[cfg(test)]
 mod sleeping;
 #[cfg(test)]
+mod stepping;
+#[cfg(test)]
 mod views;
 #[cfg(test)]
 mod watching;
