@@ -111,16 +111,15 @@ impl<'a> Endings<'a> {
     /// One play more that ended by this entry.
     fn add(&mut self, plan: &'a Plan, entry: &Entry, late: &[bool]) -> Result<(), OutOfMemory> {
         let is_late = late.get(entry.place as usize).copied().unwrap_or(false);
-        let count = match outcome_at(entry) {
-            _ if is_late => &mut self.not_begun,
-            Outcome::Commit => &mut self.committed,
+        match outcome_at(entry) {
+            _ if is_late => count_up(&mut self.not_begun),
+            Outcome::Commit => count_up(&mut self.committed),
             Outcome::Signal(_) => {
-                return self.add_signal(told_name(plan, entry).unwrap_or_default());
+                self.add_signal(told_name(plan, entry).unwrap_or_default())?;
             }
-            Outcome::Undone | Outcome::Aborted => &mut self.undone,
-            Outcome::Failed => &mut self.failed,
-        };
-        *count = count.saturating_add(1);
+            Outcome::Undone | Outcome::Aborted => count_up(&mut self.undone),
+            Outcome::Failed => count_up(&mut self.failed),
+        }
         Ok(())
     }
 
@@ -128,7 +127,7 @@ impl<'a> Endings<'a> {
     fn add_signal(&mut self, name: &'a [u8]) -> Result<(), OutOfMemory> {
         for signals in self.signals.as_mut_slice() {
             if signals.name == name {
-                signals.count = signals.count.saturating_add(1);
+                count_up(&mut signals.count);
                 return Ok(());
             }
         }
@@ -175,6 +174,11 @@ impl<'a> Endings<'a> {
         tell_count(operator, b"not begun", self.not_begun);
         let _ = operator.write_all(b"\n");
     }
+}
+
+/// One more.
+fn count_up(count: &mut u64) {
+    *count = count.saturating_add(1);
 }
 
 /// Tells how many plays ended so, where any did.
