@@ -22,7 +22,7 @@ Each line of TABLE is about one object of the script; a line that begins with # 
 - `safe VALUE`: where the object is brought on `stop`, at the end of the commands and where an answer doesn't come, if the server still
   takes it; in the order of the lines. An object without it is left as it is.
 
-Where the server doesn't answer within SECONDS (--limit, 2 if it isn't said), or the connection breaks, this leaves with status 1, and
+Where the server doesn't answer within SECONDS (--limit, 2 if it isn't said, at least 1), or the connection breaks, this leaves with status 1, and
 the program says once that the link broke. What the server itself refuses (an address that it hasn't) is a refused put. It wants pymodbus,
 which Debian has as python3-pymodbus.
 """
@@ -172,11 +172,13 @@ class Modbus(Device):
 
 def main():
     parser = argparse.ArgumentParser(description=__doc__.splitlines()[0])
-    parser.add_argument("--limit", type=float, default=2, metavar="SECONDS", help="how long an answer of the server is awaited")
+    parser.add_argument("--limit", type=int, default=2, metavar="SECONDS", help="how many whole seconds an answer of the server is awaited")
     parser.add_argument("table")
     parser.add_argument("host")
     parser.add_argument("port", nargs="?", type=int, default=502)
     words = parser.parse_args()
+    if words.limit < 1:
+        parser.error("--limit takes a number of seconds from 1 on")
     rows = table_in(words.table)
     sys.exit(Modbus(rows, words.host, words.port, words.limit).serve())
 

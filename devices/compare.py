@@ -209,11 +209,12 @@ def modbus(bridge, caa, way):
             it.writelines(f"object {name} register {at} read register {at} within 0.5 scale 2\n" for at, name in enumerate(names))
 
         def meanwhile(journal):
-            while not os.path.exists(journal) or text_of(journal).count("\n") < 60:
+            end = time.monotonic() + SECONDS
+            while time.monotonic() < end and (not os.path.exists(journal) or text_of(journal).count("\n") < 60):
                 time.sleep(0.002)
             {"killed": server.kill, "hung": server.hang, "restarted": server.restart}[way]()
 
-        words = [PYTHON, "-B", os.path.join(HERE, "caa_modbus.py"), "--limit", "0.5", table, "127.0.0.1", str(server.port)]
+        words = [PYTHON, "-B", os.path.join(HERE, "caa_modbus.py"), "--limit", "1", table, "127.0.0.1", str(server.port)]
         try:
             play = Play(bridge, caa, folder, words, None if way == "whole" else meanwhile)
             if way != "whole":
