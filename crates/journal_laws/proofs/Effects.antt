@@ -15,7 +15,7 @@ use Rattle.place_plan.specs.RulesOfJournals.Objects.{restores, writes, holder_of
 use Rattle.place_plan.specs.RulesOfJournals.Roles.{signals}
 use Rattle.place_plan.specs.RulesOfJournals.Rules.{Row, MayPut, MayEnd, EndsUndone, EndsAgreed}
 use Rattle.place_plan.specs.RulesOfJournals.Journals.{LegalPast, AllOver}
-use Rattle.journal_laws.specs.Laws.{Holds, EffectLaw, RestoresFit, Splits, is_restore, is_kept_mark, is_kept, last_write, has_failed_restore}
+use Rattle.journal_laws.specs.Laws.{Holds, EffectLaw, RestoresFit, Splits, is_restore, is_kept_mark, keeps_effects, is_kept, last_write, has_failed_restore}
 use Rattle.journal_laws.proofs.Playable.{IsPlayable}
 use Rattle.caa_base.proofs.ListLemmas.{chosen, all_at}
 use Rattle.place_plan.proofs.OnJournals.EntryKinds.{of_kind}
@@ -54,7 +54,7 @@ newest_split test (e ∷ past) f w =
     ]
 
 -- one that passes is the newest of some
-any_newest : (test : Entry → Bool) (past : List Entry) → list_any test past ≡ true → (f : Entry) × (newest test past ≡ Some f)
+pub any_newest : (test : Entry → Bool) (past : List Entry) → list_any test past ≡ true → (f : Entry) × (newest test past ≡ Some f)
 any_newest test [] w = absurd (false≢true w)
 any_newest test (e ∷ past) w =
     elim (cases_Bool (test e)) [
@@ -168,7 +168,7 @@ none_failed (e ∷ past) q o h =
     )
     (omega (arith, none_failed past q o parts.1))
 
-any_later : (test : Entry → Bool) (later before : List Entry) → list_any test before ≡ true → list_any test (later ++ before) ≡ true
+pub any_later : (test : Entry → Bool) (later before : List Entry) → list_any test before ≡ true → list_any test (later ++ before) ≡ true
 any_later test later before h = rw (list_any-append test later before) (or_right _ _ h)
 
 -- what writes keeps the row of a write
@@ -281,13 +281,13 @@ module _ (plan : Plan) (playable : IsPlayable plan) where
   kept_or_undone past o legal over whole later before e split w = elim (cases_Bool (is_kept plan past e.place)) [
     | inl k ↦ k ∙ sym (not_from_false _ (false_from_ne_true _ (λ r.
         let found = restored_within plan o e.place later r in
-        let kept = all_at (λ q. is_kept_mark (newest (is_in kind.End q) past)) (e.place ∷ around plan e.place) found.0 k found.1 in
+        let kept = all_at (keeps_effects past) (e.place ∷ around plan e.place) found.0 k found.1 in
         let there : has kind.Restore past found.0 ≡ true =
         subst (λ es. has kind.Restore es found.0 ≡ true) (sym split)
         (rw (list_any-append (is_in kind.Restore found.0) later (e ∷ before)) (or_left _ _ found.2)) in
         both_ways _ (kept_whole past found.0 (newest (is_in kind.End found.0) past) legal refl kept) there)))
     | inr k ↦
-        let lost = fails_one (λ q. is_kept_mark (newest (is_in kind.End q) past)) (e.place ∷ around plan e.place) k in
+        let lost = fails_one (keeps_effects past) (e.place ∷ around plan e.place) k in
         k ∙ sym (not_from_true _ (undone_after past later before e o lost.0 legal over whole split w lost.1 lost.2))
   ]
 

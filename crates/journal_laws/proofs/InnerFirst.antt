@@ -25,7 +25,7 @@ pub legal_rest : (plan : Plan) (later past : List Entry) → LegalPast plan (lat
 legal_rest plan [] past h = h
 legal_rest plan (e ∷ later) past h = legal_rest plan later past h.0
 
-doom_after : (plan : Plan) (p : ℕ) (later past : List Entry) → is_doomed plan past p ≡ true → is_doomed plan (later ++ past) p ≡ true
+pub doom_after : (plan : Plan) (p : ℕ) (later past : List Entry) → is_doomed plan past p ≡ true → is_doomed plan (later ++ past) p ≡ true
 doom_after plan p [] past h = h
 doom_after plan p (e ∷ later) past h = doom_stays plan p e (later ++ past) (doom_after plan p later past h)
 

@@ -10,6 +10,7 @@ pub mod Raised
 pub mod Frozen
 pub mod Said
 pub mod Stop
+pub mod Still
 pub mod Resolution
 pub mod LeastOf
 pub mod Recovering
@@ -42,6 +43,8 @@ pub mod PlaysEnd
 pub mod PlaysCommit
 pub mod Versions
 pub mod Effects
+pub mod Covered
+pub mod Reaction
 pub mod Ranges
 pub mod LegalWellFormed
 pub mod Costs

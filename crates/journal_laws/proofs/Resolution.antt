@@ -46,7 +46,7 @@ resolved_later plan (e ∷ later) before p x legal w =
 -- ---- lists alone
 
 -- the newest entry that passes a test says its exception
-newest_says : (test : Entry → Bool) (past : List Entry) (x : ℕ) → newest_arg test past ≡ Some x
+pub newest_says : (test : Entry → Bool) (past : List Entry) (x : ℕ) → newest_arg test past ≡ Some x
     → list_any (λ e. test e && (e.arg == x)) past ≡ true
 newest_says test [] x h = absurd (some_apart h)
 newest_says test (e ∷ past) x h = by_test (test e) h (newest_says test past x)
@@ -96,7 +96,7 @@ module _ (plan : Plan) (playable : IsPlayable plan) (core : Holds Core plan) whe
     ]
   ]
 
-  given_after : (past : List Entry) (p t : ℕ) → all_have_given plan past p ≡ true → is_raised plan past p ≡ true
+  pub given_after : (past : List Entry) (p t : ℕ) → all_have_given plan past p ≡ true → is_raised plan past p ≡ true
       → member t (roles_of plan p) ≡ true → has_given_after past p t ≡ true
   given_after past p t all r m = rw r at (all_at (has_given plan past p) (roles_of plan p) t all m)
 

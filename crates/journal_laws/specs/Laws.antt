@@ -1,7 +1,7 @@
 -- What holds of every legal journal of a plan. `past` is its entries, the newest first.
 use Rattle.std.specs.Prelude.{◌≡◌, ℕ, ℤ, ◌==◌, ◌+◌, ◌<◌, ◌≤◌, ◌⊎◌, ◌↔◌, Bool, true, false, ◌&&◌, ◌||◌, if◌then◌else◌, List, [], ◌∷◌, ◌++◌, length, count_by, Option, Some, None, is_none, suc}
 use Rattle.std.specs.List.{list_any, list_all}
-use Rattle.cover_table.specs.Cover.{IsLeastCover}
+use Rattle.cover_table.specs.Cover.{IsLeastCover, covers}
 use Rattle.caa_base.specs.declared.written.entry.Entry.{Entry}
 use Rattle.caa_base.specs.declared.written.entry.Kind.{Kind}
 use Rattle.caa_base.specs.declared.written.entry.Kind.TheVariants as kind
@@ -10,12 +10,12 @@ use Rattle.caa_base.specs.declared.written.entry.Verdict.TheVariants as verdict
 use Rattle.place_plan.specs.Plans.PlanValue.{Plan}
 use Rattle.caa_base.specs.Written.Lists.{member}
 use Rattle.caa_base.specs.Written.Marks.{mark_of, verdict_mark, taken_mark, refused_mark}
-use Rattle.place_plan.specs.Plans.Places.{around, parent, is_within, roles_of, uses, initial_of, internal_of, handler_of}
+use Rattle.place_plan.specs.Plans.Places.{around, parent, is_within, roles_of, uses, initial_of, internal_of, fault_of, nest_of, handler_of}
 use Rattle.place_plan.specs.RulesOfJournals.Entries.{is_of, is_in, is_by, has, has_by, newest}
-use Rattle.place_plan.specs.RulesOfJournals.Whereabouts.{inside, stays, is_live, has_ended, has_started}
-use Rattle.place_plan.specs.RulesOfJournals.Raising.{exceptions_raised, is_raised, has_handled, all_are_halted, exception_resolved}
+use Rattle.place_plan.specs.RulesOfJournals.Whereabouts.{inside, stays, is_live, has_ended, has_started, is_undoing}
+use Rattle.place_plan.specs.RulesOfJournals.Raising.{exceptions_raised, is_raised, is_doomed, has_handled, all_are_halted, exception_resolved}
 use Rattle.place_plan.specs.RulesOfJournals.Objects.{holder_of, value_of, writes, has_failed}
-use Rattle.place_plan.specs.RulesOfJournals.Roles.{gathers}
+use Rattle.place_plan.specs.RulesOfJournals.Roles.{gathers, all_have_given, all_have_aborted}
 use Rattle.place_plan.specs.RulesOfJournals.Rules.{MayFollow}
 use Rattle.place_plan.specs.RulesOfJournals.Journals.{LegalPast, AllOver, HasNoEntry, is_put, plays_ended, committed_value}
 use Rattle.place_plan.specs.Plans.Bound.{bound}
@@ -112,7 +112,7 @@ takes_step kind.PutFault = true
 takes_step kind.Check = true
 takes_step _ = false
 
--- nobody goes on with ordinary work once something is raised, and no recovery begins before all have stopped
+-- nobody goes on with ordinary work once something is raised, and no handler begins before all have stopped
 pub record StopLaw (plan : Plan) (past : List Entry) : Type 0 where
   -- once something is raised in p, whoever takes a step in p or inside it takes it in p, and in its handler
   pub stopped : (p : ℕ) (later before : List Entry) (e : Entry) → Splits past later e before → is_raised plan before p ≡ true
@@ -120,6 +120,24 @@ pub record StopLaw (plan : Plan) (past : List Entry) : Type 0 where
   -- no handler begins in p before each role of p has stopped
   pub together : (p : ℕ) (later before : List Entry) (e : Entry) → Splits past later e before → is_in kind.Handle p e ≡ true
       → all_are_halted plan before p ≡ true
+
+-- ---- still law
+
+-- the kinds of entry that come in a place once its undo has begun: its restores, its end, and the leaves of its roles
+abbrev pub follows_undo : Kind → Bool
+follows_undo kind.Restore = true
+follows_undo kind.End = true
+follows_undo kind.Leave = true
+follows_undo _ = false
+
+-- while the objects of a place are set back, nobody moves in it
+pub record StillLaw (plan : Plan) (past : List Entry) : Type 0 where
+  -- an object is restored in p only after the undo of p, and once each role of p has given up there, or each has given its verdict
+  pub agreed : (p : ℕ) (later before : List Entry) (e : Entry) → Splits past later e before → is_in kind.Restore p e ≡ true
+      → (is_undoing before p ≡ true) × (all_have_aborted plan before p || all_have_given plan before p ≡ true)
+  -- after the undo of p nothing comes inside p, and in p itself only what follows an undo
+  pub quiet : (p : ℕ) (later before : List Entry) (e : Entry) → Splits past later e before → is_undoing before p ≡ true
+      → is_within plan e.place p ≡ true → (e.place ≡ p) × (follows_undo e.kind ≡ true)
 
 -- ---- resolution law
 
@@ -201,9 +219,13 @@ abbrev pub is_kept_mark : Option Entry → Bool
 is_kept_mark None = false
 is_kept_mark (Some e) = (e.mark == mark_of outcome.Commit) || (e.mark == mark_of (outcome.Signal 0))
 
--- p and each place round it ended by commit or signal
+-- p ended by commit or signal
+abbrev pub keeps_effects : List Entry → ℕ → Bool
+keeps_effects past p = is_kept_mark (newest (is_in kind.End p) past)
+
+-- p and each place round it did
 abbrev pub is_kept : Plan → List Entry → ℕ → Bool
-is_kept plan past p = list_all (λ q. is_kept_mark (newest (is_in kind.End q) past)) (p ∷ around plan p)
+is_kept plan past p = list_all (keeps_effects past) (p ∷ around plan p)
 
 -- the newest write of o that passes a test gives the value; where there is none, it is the initial one
 abbrev pub last_write : Plan → List Entry → ℕ → (Entry → Bool) → ℤ
@@ -219,6 +241,32 @@ abbrev pub EffectLaw : Plan → List Entry → Type 0
 EffectLaw plan past =
     AllOver plan past → (o : ℕ) → has_failed_restore past o ≡ false
     → value_of plan past o ≡ last_write plan past o (λ e. is_kept plan past e.place)
+
+-- ---- reaction law
+
+-- each role of p handled something there that covers x
+abbrev pub IsCovered : Plan → List Entry → ℕ → ℕ → Type 0
+IsCovered plan past p x =
+    (t : ℕ) → member t (roles_of plan p) ≡ true
+    → list_any (λ e. is_by kind.Handle p t e && covers (internal_of plan p) e.arg x) past ≡ true
+
+-- neither what is raised in a place, nor a put or a restore that the device refuses there, is passed over
+pub record ReactionLaw (plan : Plan) (past : List Entry) : Type 0 where
+  -- a place keeps its effects over what was raised in it only where each role handled what covers that
+  pub raised : (p x : ℕ) → keeps_effects past p ≡ true → member x (exceptions_raised plan past p) ≡ true → IsCovered plan past p x
+  -- and over a put that was refused there only where its maker wasn't in a handler, and each role handled what covers the fault
+  pub refused : (p : ℕ) (later before : List Entry) (e : Entry) → Splits past later e before → is_in kind.PutFault p e ≡ true
+      → keeps_effects past p ≡ true → (has_handled before p e.by ≡ false) × IsCovered plan past p (fault_of plan p)
+  -- a place in which a restore was refused ends failed
+  pub failed : (p : ℕ) (f : Entry) → has_failed past p ≡ true → newest (is_in kind.End p) past ≡ Some f
+      → f.mark ≡ mark_of outcome.Failed
+  -- who leaves a place that failed raises that in the place round it, unless that one is given up anyway
+  pub told : (c p : ℕ) (later before : List Entry) (e f : Entry) → Splits past later e before → is_in kind.Leave c e ≡ true
+      → parent plan c ≡ Some p → is_doomed plan before p ≡ false → newest (is_in kind.End c) before ≡ Some f
+      → f.mark ≡ mark_of outcome.Failed → member (nest_of plan c).failure (exceptions_raised plan past p) ≡ true
+  -- so that one keeps its effects only where each role handled what covers the failure
+  pub inner : (c p : ℕ) → parent plan c ≡ Some p → has_failed past c ≡ true → keeps_effects past p ≡ true
+      → IsCovered plan past p (nest_of plan c).failure
 
 -- ---- device law
 
@@ -276,12 +324,14 @@ pub record CommitLaw (plan : Plan) (past : List Entry) : Type 0 where
 
 -- ---- all laws of one journal
 
--- seven of the laws at once
+-- nine of the laws at once
 pub record KeepsLaws (plan : Plan) (past : List Entry) : Type 0 where
   pub stops : StopLaw plan past
+  pub still : StillLaw plan past
   pub resolution : ResolutionLaw plan past
   pub exits : ExitLaw plan past
   pub outcomes : OutcomeLaw plan past
   pub effects : EffectLaw plan past
+  pub reacts : ReactionLaw plan past
   pub inner_first : InnerFirstLaw plan past
   pub isolation : IsolationLaw plan past

@@ -79,7 +79,7 @@ pub fn ends_commit(plan: &Plan)
     plan.is_closed();
 }
 
-/// The stop, resolution, exit, outcome, effect, inner-first and isolation laws.
+/// The stop, still, resolution, exit, outcome, effect, reaction, inner-first and isolation laws.
 pub fn keeps_laws(plan: &Plan)
     ensures { Holds KeepsLaws plan.now }
 {

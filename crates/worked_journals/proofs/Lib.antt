@@ -28,5 +28,6 @@ pub mod Drafts
 pub mod Spoiled
 pub mod SpoiledRules
 pub mod SpoiledEnds
+pub mod SpoiledReactions
 pub mod WrittenTexts
 pub mod LonePlays
