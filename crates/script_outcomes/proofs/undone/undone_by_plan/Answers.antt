@@ -1,4 +1,4 @@
-use Rattle.std.proofs.Common.{◌≡◌, Bool, List, sym, ◌∙◌, ap, map, subst}
+use Rattle.std.proofs.Common.{sym, ◌∙◌, ap, map, subst}
 use Rattle.journal_laws.proofs.PlayablePlan.{is_playable}
 use Rattle.journal_laws.proofs.CoreKept.{core}
 use Rattle.reach_laws.proofs.Planned.{is_planned}
