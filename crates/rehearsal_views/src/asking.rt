@@ -12,7 +12,7 @@ use caa_base::written::entry::{Drill, Object, OutOfMemory};
 use caa_base::written::limits::MOST_ENTRIES;
 use place_plan::plans::plan::Plan;
 use rehearsals::numbered::{Played, play_numbered, usual_length};
-use rehearsals::refusing::{Refusals, Trouble};
+use rehearsals::refusing::{Refusals, RefusingPlant, Trouble};
 use rehearsals::rehearsing::{Rehearsal, drills_of, rehearse};
 use script_outcomes::outlooks::outlooks;
 use std::alloc::Global;
@@ -265,8 +265,12 @@ fn play_so(alloc: Global, plan: Plan, asked: Playing) -> Result<Played, OutOfMem
         drills: own_drills(alloc, &plan, is_bare)?,
         trouble: Trouble::Nothing,
     };
-    let (plan, length) = usual_length(alloc, plan, usual)?;
-    play_numbered(alloc, plan, number, length, refusals)
+    let found = usual_length(alloc, plan, RefusingPlant::new(alloc, usual))?;
+    let (plan, length) = found;
+    let plant = RefusingPlant::new(alloc, refusals);
+    let told = play_numbered(alloc, plan, number, length, plant)?;
+    let (played, _) = told;
+    Ok(played)
 }
 
 /// The text of a play that is asked for.

@@ -6,6 +6,7 @@ use Rattle.std.proofs.lemmas.List.{take_more}
 use Rattle.std.proofs.lemmas.List.Elements.{filter_map-append}
 use Rattle.caa_base.specs.declared.written.entry.Entry.{Entry}
 use Rattle.place_plan.specs.Plans.PlanValue.{Plan}
+use Rattle.place_plan.specs.RulesOfJournals.Attempts.{IsDrilled}
 use Rattle.place_plan.specs.RulesOfJournals.Journals.{IsLegal, IsComplete}
 use Rattle.rehearsals.specs.declared.facts.Fact.{Fact}
 use Rattle.rehearsals.specs.declared.tally.Row.{Row}
@@ -14,15 +15,16 @@ use Rattle.rehearsals.specs.Facts.{facts_of, values_with, values_after, last_fac
 use Rattle.rehearsals.specs.Tallies.{Rehearsed, count_of, is_shown, one_if}
 
 pub nothing_rehearsed : (plan : Plan) (paths : List ℕ) → Rehearsed plan paths [] 0
-nothing_rehearsed plan paths = record { journals = []; all = refl; complete = tt; counts = λ f. refl }
+nothing_rehearsed plan paths = record { journals = []; all = refl; drilled = tt; counts = λ f. refl }
 
 pub one_more_rehearsed : (plan : Plan) (paths : List ℕ) (rows new : List Row) (n : ℕ) (journal : List Entry) (facts : List Fact)
-    → Rehearsed plan paths rows n → IsLegal plan journal → IsComplete plan journal → facts ≡ facts_of plan paths journal
+    → Rehearsed plan paths rows n → IsLegal plan journal → IsComplete plan journal → IsDrilled plan journal
+    → facts ≡ facts_of plan paths journal
     → ((f : Fact) → count_of new f ≡ count_of rows f + one_if (is_shown facts f)) → Rehearsed plan paths new (n + 1)
-one_more_rehearsed plan paths rows new n journal facts so legal complete is counts = record {
+one_more_rehearsed plan paths rows new n journal facts so legal complete drilled is counts = record {
   journals = journal ∷ so.journals;
   all = let all = so.all in omega (arith, all);
-  complete = (legal, complete, so.complete);
+  drilled = (legal, complete, drilled, so.drilled);
   counts = λ f.
       let here = counts f in
       let before = so.counts f in

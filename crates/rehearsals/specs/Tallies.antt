@@ -5,6 +5,7 @@ use Rattle.std.specs.Ordering.{int_eq}
 use Rattle.caa_base.specs.Written.Marks.{outcome_mark}
 use Rattle.caa_base.specs.declared.written.entry.Entry.{Entry}
 use Rattle.place_plan.specs.Plans.PlanValue.{Plan}
+use Rattle.place_plan.specs.RulesOfJournals.Attempts.{IsDrilled}
 use Rattle.place_plan.specs.RulesOfJournals.Journals.{IsLegal, IsComplete}
 use Rattle.rehearsals.specs.Facts.{facts_of}
 use Rattle.rehearsals.specs.declared.facts.Fact.{Fact}
@@ -57,19 +58,20 @@ abbrev pub AreWithin : ℕ → List Row → Type 0
 AreWithin number [] = Unit {0}
 AreWithin number (r ∷ rs) = (r.count ≤ r.last) × (r.last ≤ number) × AreWithin number rs
 
--- each of these journals is legal and complete
-abbrev pub AreComplete : Plan → List (List Entry) → Type 0
-AreComplete plan [] = Unit {0}
-AreComplete plan (j ∷ js) = IsLegal plan j × IsComplete plan j × AreComplete plan js
+-- each of these journals is legal and complete, and of its puts just those were refused that the drills of the plan name
+abbrev pub AreDrilled : Plan → List (List Entry) → Type 0
+AreDrilled plan [] = Unit {0}
+AreDrilled plan (j ∷ js) = IsLegal plan j × IsComplete plan j × IsDrilled plan j × AreDrilled plan js
 
 -- how many of these journals show a fact, however often each does
 abbrev pub how_many_show : Plan → List ℕ → List (List Entry) → Fact → ℕ
 how_many_show plan paths [] f = 0
 how_many_show plan paths (j ∷ js) f = one_if (is_shown (facts_of plan paths j) f) + how_many_show plan paths js f
 
--- there are so many legal and complete journals, and the rows count for each fact how many of these show it
+-- there are so many legal and complete journals, whose refused puts are those that the plan drills, and the rows count for each
+-- fact how many of these show it
 pub record Rehearsed (plan : Plan) (paths : List ℕ) (rows : List Row) (number : ℕ) : Type 0 where
   pub journals : List (List Entry)
   pub all : length journals ≡ number
-  pub complete : AreComplete plan journals
+  pub drilled : AreDrilled plan journals
   pub counts : (f : Fact) → count_of rows f ≡ how_many_show plan paths journals f

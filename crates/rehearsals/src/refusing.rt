@@ -25,16 +25,6 @@ pub struct Refusals {
     pub trouble: Trouble,
 }
 
-impl Refusals {
-    /// It refuses none.
-    pub fn none(alloc: Global) -> Self {
-        Refusals {
-            drills: Vec::new(alloc),
-            trouble: Trouble::Nothing,
-        }
-    }
-}
-
 /// A device that refuses puts as it was asked to. The drills of the plan that it is laid out for are left aside.
 #[derive(Drop)]
 pub struct RefusingPlant {

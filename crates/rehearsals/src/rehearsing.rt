@@ -1,14 +1,15 @@
 //! A plan that is played by the schedules from 1 on, and what its journals show.
 
 ghost use Rattle.std.specs.Prelude.{◌≡◌, ◌≤◌, ◌<◌, ◌+◌, IfOk};
+ghost use Rattle.place_plan.specs.RulesOfJournals.Attempts.{IsDrilled};
 ghost use Rattle.place_plan.specs.RulesOfJournals.Journals.{IsLegal, IsComplete};
 ghost use Rattle.rehearsals.specs.Tallies.{Rehearsed};
 
 use crate::facts::facts_of;
 use crate::numbered::{Played, play_numbered, usual_length};
 use crate::paths::paths_of;
-use crate::refusing::{Refusals, Trouble};
 use crate::tally::Tally;
+use caa_base::outside::memory::MemPlant;
 use caa_base::written::entry::{Drill, Kind, OutOfMemory, Outcome, Place};
 use caa_base::written::journal::Journal;
 use place_plan::plans::plan::Plan;
@@ -36,14 +37,6 @@ pub fn drills_of(alloc: Global, plan: &Plan) -> Result<Vec<Drill>, OutOfMemory> 
     Ok(drills)
 }
 
-/// What the drills of a plan refuse.
-pub fn refusals_of(alloc: Global, plan: &Plan) -> Result<Refusals, OutOfMemory> {
-    Ok(Refusals {
-        drills: drills_of(alloc, plan)?,
-        trouble: Trouble::Nothing,
-    })
-}
-
 /// Whether a play of a journal failed.
 pub fn has_failed_play(plan: &Plan, journal: &Journal) -> bool {
     journal.as_slice().iter().any(|entry| {
@@ -57,8 +50,7 @@ pub fn has_failed_play(plan: &Plan, journal: &Journal) -> bool {
 fn own_length(alloc: Global, plan: Plan) -> Result<(Plan, u32), OutOfMemory>
     ensures { IfOk result (λ found. found.0 ≡ plan) }
 {
-    let own = refusals_of(alloc, &plan)?;
-    usual_length(alloc, plan, own)
+    usual_length(alloc, plan, MemPlant::new(false))
 }
 
 /// Plays a plan by the schedule of a number, with its own drills.
@@ -66,9 +58,11 @@ fn play_own(alloc: Global, plan: Plan, number: u32, length: u32) -> Result<Playe
     ensures plan { IfOk result (λ played. played.plan ≡ plan) }
     ensures legal { IfOk result (λ played. IsLegal plan played.journal.entries) }
     ensures complete { IfOk result (λ played. IsComplete plan played.journal.entries) }
+    ensures drilled { IfOk result (λ played. IsDrilled plan played.journal.entries) }
 {
-    let own = refusals_of(alloc, &plan)?;
-    play_numbered(alloc, plan, number, length, own)
+    let told = play_numbered(alloc, plan, number, length, MemPlant::new(false))?;
+    let (played, _) = told;
+    Ok(played)
 }
 
 /// Takes note of what a journal shows, which is the next after those that were noted.
@@ -83,6 +77,7 @@ fn note_journal(
     requires counts { Rehearsed plan.now paths.now tally.rows tally.noted }
     requires legal { IsLegal plan.now journal.now.entries }
     requires complete { IsComplete plan.now journal.now.entries }
+    requires drilled { IsDrilled plan.now journal.now.entries }
     ensures noted { IfOk result (λ after. after.noted ≡ tally.noted + 1) }
     ensures counts { IfOk result (λ after. Rehearsed plan.now paths.now after.rows (tally.noted + 1)) }
 {

@@ -7,6 +7,6 @@ pub returns-clause-counts : goal.returns-clause-counts
 returns-clause-counts c =
     IfOk-weaker c.note.result _ _
     (λ after counts. one_more_rehearsed c.args.plan.now c.args.paths.now c.args.tally.rows after.rows c.args.tally.noted
-    c.args.journal.now.entries c.deref.result.now c.requires.counts c.requires.legal c.requires.complete
+    c.args.journal.now.entries c.deref.result.now c.requires.counts c.requires.legal c.requires.complete c.requires.drilled
     (c.deref.ensures.value ∙ c.in_ok-facts.ensures) counts)
     c.note.ensures.counts
