@@ -3,7 +3,7 @@
 ghost use Rattle.std.specs.Prelude.{◌≡◌, None, if◌then◌else◌};
 
 use caa_base::outside::plant::{Plant, PlantError};
-use caa_base::written::entry::{Drill, Failed, Object};
+use caa_base::written::entry::{Drill, Entry, Failed, Object};
 use std::alloc::Global;
 
 /// A device that refuses the put that a drill names, and no other. The drills of the plan that it is laid out for are left aside.
@@ -84,6 +84,13 @@ impl Plant for OncePlant {
         }
         Ok(())
     }
+
+    fn restore(&mut self, object: Object, value: i64) -> Result<(), Failed> {
+        self.put(object, value)
+    }
+
+    #[inline(always)]
+    fn entered(&mut self, _entry: &Entry) {}
 
     fn lay_faults(&self) -> u64 {
         0
