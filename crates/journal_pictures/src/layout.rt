@@ -1,7 +1,7 @@
 //! Where in a picture things stand.
 
 ghost use Rattle.std.specs.Prelude.{◌≡◌, ◌<◌, ◌^◌, slice_index_or};
-ghost use Rattle.journal_pictures.specs.Pictures.{axis, middle};
+ghost use Rattle.journal_pictures.specs.Pictures.{axis, middle, level};
 
 use crate::stretches::Note;
 use crate::words::label_of;
@@ -70,7 +70,9 @@ pub fn axis(axes: &[u64], lane: Participant) -> u64
 
 impl<'a> View<'a> {
     /// How far from the left the marks of a lane stand.
-    pub fn axis(&self, lane: Participant) -> u64 {
+    pub fn axis(&self, lane: Participant) -> u64
+        ensures { result ≡ axis self.now.axes.now lane }
+    {
         axis(self.axes, lane)
     }
 
@@ -120,12 +122,14 @@ pub fn level(view: &View, number: u64) -> u64 {
 }
 
 /// How far down a moment is, which is behind so many entries: where the last of them stands.
-pub fn level_behind(view: &View, moment: u64) -> u64 {
+pub fn level_behind(view: &View, moment: u64) -> u64
+    ensures { result ≡ level view.now.first view.now.rows moment }
+{
     if moment <= view.first {
-        TOP
-    } else {
-        level(view, moment.saturating_sub(1))
+        return TOP;
     }
+    let row = (moment - 1 - view.first).min(u64::from(view.rows));
+    middle(row as u32)
 }
 
 /// Whether the part shows something of what goes from one entry to another.
