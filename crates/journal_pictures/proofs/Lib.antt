@@ -1,3 +1,4 @@
+pub mod ApartLemmas
 pub mod BarLemmas
 pub mod LaneLemmas
 pub mod MarksLemmas

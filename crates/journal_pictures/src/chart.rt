@@ -4,7 +4,7 @@ ghost use Rattle.std.specs.Prelude.{◌≡◌, ◌≤◌, ◌++◌, length, filt
 ghost use Rattle.std.specs.List.{All, flat_map};
 ghost use Rattle.place_plan.specs.RulesOfJournals.WellFormed.{IsWellFormed, AllWellFormed};
 ghost use Rattle.journal_pictures.specs.Marks.{drawn, marks_from, most_rows};
-ghost use Rattle.journal_pictures.specs.Pictures.{shape_text, bar_text, mark_text, body_text, IsBar, stretches_shown, IsPicture};
+ghost use Rattle.journal_pictures.specs.Pictures.{shape_text, bar_text, mark_text, body_text, AreApart, IsBar, stretches_shown, IsPicture};
 ghost use Rattle.journal_pictures.specs.Stretches.{IsRight, half_width};
 ghost use Rattle.journal_pictures.specs.inner.Lanes.{AreOne};
 ghost use Rattle.journal_pictures.specs.inner.Parts.{is_here, AreBars};
@@ -84,6 +84,7 @@ fn parts_of(alloc: Global, view: &View, told: &Told) -> Result<Parts, OutOfMemor
 /// The text of a picture of these parts.
 fn text_of(alloc: Global, view: &View, parts: &Parts) -> Result<Vec<u8>, OutOfMemory>
     requires rows { view.now.rows ≡ length view.now.part.now }
+    requires lanes { AreApart (length view.now.plan.now.participants) view.now.width view.now.axes.now }
     requires bars { AreBars view.now parts.now.bars.items }
     requires marks { parts.now.marks.items ≡ marks_from 0 view.now.part.now }
     requires formed { All (λ m. IsWellFormed view.now.plan.now m.entry) parts.now.marks.items }

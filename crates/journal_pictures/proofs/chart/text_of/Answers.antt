@@ -1,8 +1,8 @@
-use Rattle.std.proofs.Common.{◌≡◌, ◌++◌, ℕ, List, ap, ◌∙◌, subst}
+use Rattle.std.proofs.Common.{◌≡◌, ◌++◌, ◌+◌, ℕ, List, ap, ◌∙◌, subst}
 use Rattle.std.specs.List.{All}
 use Rattle.journal_pictures.specs.declared.marks.Mark.{Mark}
 use Rattle.journal_pictures.specs.Stretches.{IsRight, CoverAll}
-use Rattle.journal_pictures.specs.Pictures.{front_text, body_text, IsBar, stretches_shown}
+use Rattle.journal_pictures.specs.Pictures.{middle, front_text, body_text, IsBar, stretches_shown}
 use Rattle.journal_pictures.proofs.chart.text_of.Goals as goal
 
 pub returns : goal.returns
@@ -17,6 +17,8 @@ returns c =
       width = view.width;
       height = c.height.result;
       axes = view.axes.now;
+      tall = c.height.ensures ∙ ap (λ (n : ℕ). middle n + 10) c.requires.rows;
+      lanes = c.requires.lanes;
       shapes = parts.shapes.items;
       bars = parts.bars.items;
       right =
