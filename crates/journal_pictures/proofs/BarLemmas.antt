@@ -1,7 +1,7 @@
 -- The rectangles of stretches.
 use Rattle.std.proofs.Common.{◌≡◌, ◌∙◌, ℕ, ◌+◌, ◌<◌, Bool, true, false, List, [], ◌∷◌, ◌++◌, length, take, filter, map, get_or, refl, sym, ap, subst}
 use Rattle.std.specs.List.{All}
-use Rattle.std.proofs.lemmas.List.{take_more, map-append}
+use Rattle.std.proofs.lemmas.List.{take_more, map-append, append-nil}
 use Rattle.std.proofs.lemmas.List.Elements.{All-nil, All-cons, All-head, All-tail, All-filter, filter-append}
 use Rattle.journal_pictures.specs.declared.layout.View.{View}
 use Rattle.journal_pictures.specs.declared.shapes.Bar.{Bar}
@@ -12,32 +12,27 @@ use Rattle.journal_pictures.specs.inner.Lanes.{AreOne}
 use Rattle.journal_pictures.specs.inner.Parts.{is_here, AreBars}
 use Rattle.journal_pictures.proofs.PartLemmas.{here_cover}
 
--- one stretch more, as it stands in the list
-more : (ss : List Stretch) (i : ℕ) (s : Stretch) → i < length ss → get_or ss i s ≡ s
-    → filter is_here (take (i + 1) ss) ≡ filter is_here (take i ss) ++ filter is_here (s ∷ [])
-more ss i s low got =
-    ap (filter is_here) (take_more ss i s low ∙ ap (λ (x : Stretch). take i ss ++ x ∷ []) got)
-    ∙ filter-append is_here (take i ss) (s ∷ [])
-
--- with the rectangle of one more that is there
-pub one_shown : (ss : List Stretch) (i : ℕ) (s : Stretch) (bars : List Bar) (b : Bar) → i < length ss → get_or ss i s ≡ s → is_here s ≡ true
-    → b.stretch ≡ s → stretches_shown bars ≡ filter is_here (take i ss)
-    → stretches_shown (bars ++ b ∷ []) ≡ filter is_here (take (i + 1) ss)
-one_shown ss i s bars b low got here same so_far =
+-- with a rectangle more where the stretch is one of somebody who is there
+pub one_shown : (bars : List Bar) (b : Bar) (s : Stretch) → is_here s ≡ true → b.stretch ≡ s
+    → stretches_shown (bars ++ b ∷ []) ≡ stretches_shown bars ++ filter is_here (s ∷ [])
+one_shown bars b s here same =
     map-append (λ (x : Bar). x.stretch) bars (b ∷ [])
-    ∙ ap (λ (xs : List Stretch). xs ++ b.stretch ∷ []) so_far
-    ∙ ap (λ (x : Stretch). filter is_here (take i ss) ++ x ∷ []) same
-    ∙ sym (more ss i s low got ∙ ap (λ (xs : List Stretch). filter is_here (take i ss) ++ xs) (rw here refl))
+    ∙ ap (λ (x : Stretch). stretches_shown bars ++ x ∷ []) same
+    ∙ ap (λ (xs : List Stretch). stretches_shown bars ++ xs) (sym (rw here refl))
 
--- and without one of somebody who is away
-pub none_shown : (ss : List Stretch) (i : ℕ) (s : Stretch) → i < length ss → get_or ss i s ≡ s → is_here s ≡ false
-    → filter is_here (take i ss) ≡ filter is_here (take (i + 1) ss)
-none_shown ss i s low got away =
-    sym (more ss i s low got ∙ ap (λ (xs : List Stretch). filter is_here (take i ss) ++ xs) (rw away refl) ∙ end (filter is_here (take i ss)))
-  where
-    end : (xs : List Stretch) → xs ++ [] ≡ xs
-    end [] = refl
-    end (x ∷ xs) = ap (λ (ys : List Stretch). x ∷ ys) (end xs)
+-- and without one where it is one of somebody who is away
+pub none_shown : (bars : List Bar) (s : Stretch) → is_here s ≡ false
+    → stretches_shown bars ≡ stretches_shown bars ++ filter is_here (s ∷ [])
+none_shown bars s away =
+    sym (ap (λ (xs : List Stretch). stretches_shown bars ++ xs) (rw away refl) ∙ append-nil (stretches_shown bars))
+
+-- with one stretch more, as it stands in the list
+pub all_shown : (ss : List Stretch) (i : ℕ) (d : Stretch) (old new : List Stretch) → i < length ss → old ≡ filter is_here (take i ss)
+    → new ≡ old ++ filter is_here (get_or ss i d ∷ []) → new ≡ filter is_here (take (i + 1) ss)
+all_shown ss i d old new low so_far more =
+    more
+    ∙ ap (λ (xs : List Stretch). xs ++ filter is_here (get_or ss i d ∷ [])) so_far
+    ∙ sym (ap (filter is_here) (take_more ss i d low) ∙ filter-append is_here (take i ss) (get_or ss i d ∷ []))
 
 -- what holds of the stretches that are shown holds of that of each rectangle
 of_each : (P : Stretch → Type 0) (bars : List Bar) → All P (stretches_shown bars) → All (λ b. P b.stretch) bars

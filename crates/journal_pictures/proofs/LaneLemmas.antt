@@ -9,9 +9,14 @@ use Rattle.std.proofs.Math.Seq.{get_or-append_seam}
 use Rattle.caa_base.specs.declared.written.entry.Entry.{Entry}
 use Rattle.place_plan.specs.Plans.PlanValue.{Plan}
 use Rattle.journal_pictures.specs.declared.stretches.Doing.{Doing}
+use Rattle.journal_pictures.specs.declared.stretches.Doing.TheVariants as doing
 use Rattle.journal_pictures.specs.declared.stretches.Stretch.{Stretch}
 use Rattle.journal_pictures.specs.Stretches.{is_wait, is_away, IsRightAt, has_moment}
 use Rattle.journal_pictures.specs.inner.Lanes.{LiesIn, GoesTo, AreOpen, one_if}
+
+-- what is read behind the end of a list of stretches
+abbrev pub no_stretch : Stretch
+no_stretch = record { lane = 0; doing = doing.Away; from = 0; to = 0 }
 
 -- ---- where stretches lie
 
@@ -155,16 +160,15 @@ begun_more t k m i ss s lane from to before =
     omega (arith, sum_by_push (λ (x : Stretch). cond (has_moment t k x) 1 0) ss s, one, same, before, more_below t i (eqb m k))
 
 -- the number of those that are done or go on, with one more that is taken in
-pub taken_more : (t k m i : ℕ) (old done after next former : List Stretch) (s kept : Stretch) → i < length former
-    → get_or former i s ≡ s → s.lane ≡ i
+pub taken_more : (t k m i : ℕ) (old done after next former : List Stretch) (d kept : Stretch) → i < length former
+    → (get_or former i d).lane ≡ i
     → count_by (has_moment t k) done + count_by (has_moment t k) next
     ≡ count_by (has_moment t k) old + count_by (has_moment t k) (take i former) + one_if (ltb t i && eqb m k)
     → count_by (has_moment t k) after + one_if (has_moment t k kept)
-    ≡ count_by (has_moment t k) done + one_if (has_moment t k s) + one_if (eqb s.lane t && eqb m k)
+    ≡ count_by (has_moment t k) done + one_if (has_moment t k (get_or former i d)) + one_if (eqb (get_or former i d).lane t && eqb m k)
     → count_by (has_moment t k) after + count_by (has_moment t k) (next ++ kept ∷ [])
     ≡ count_by (has_moment t k) old + count_by (has_moment t k) (take (i + 1) former) + one_if (ltb t (i + 1) && eqb m k)
-taken_more t k m i old done after next former s kept low is lane before now =
+taken_more t k m i old done after next former d kept low lane before now =
     let f : Stretch → ℕ = λ x. cond (has_moment t k x) 1 0 in
-    let this = ap f is in
     let same = ap (λ (l : ℕ). one_if (eqb l t && eqb m k)) lane in
-    omega (arith, sum_by_push f next kept, sum_by_more f former i s low, this, same, before, now, more_below t i (eqb m k))
+    omega (arith, sum_by_push f next kept, sum_by_more f former i d low, same, before, now, more_below t i (eqb m k))

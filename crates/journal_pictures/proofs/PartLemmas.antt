@@ -162,14 +162,14 @@ here_cover plan entries first rows ss right one t k known shown =
 -- ---- a part that is told of
 
 -- what was found of the moments from the first on, up to that of a cursor
-pub record IsFound (plan : Plan) (entries : List Entry) (first : ℕ) (s : States) (done going : List Stretch) : Type 0 where
+pub record IsFound (plan : Plan) (entries : List Entry) (first : ℕ) (s : States) (finished lasting : List Stretch) : Type 0 where
   pub of : plan_in s ≡ plan
   pub over : journal_in s ≡ entries
   pub low : first ≤ taken_in s
-  pub done : All (LiesIn plan entries first (taken_in s + 1)) done
-  pub going : All (LiesIn plan entries first (taken_in s + 1)) going
+  pub done : All (LiesIn plan entries first (taken_in s + 1)) finished
+  pub going : All (LiesIn plan entries first (taken_in s + 1)) lasting
   pub number : (t k : ℕ) → t < length plan.participants
-      → count_by (has_moment t k) done + count_by (has_moment t k) going ≡ one_if (leb first k && ltb k (taken_in s + 1))
+      → count_by (has_moment t k) finished + count_by (has_moment t k) lasting ≡ one_if (leb first k && ltb k (taken_in s + 1))
 
 -- all that was found is right
 pub found_right : (plan : Plan) (entries : List Entry) (first rows : ℕ) (s : States) (done going : List Stretch)

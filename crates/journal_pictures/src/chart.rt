@@ -1,6 +1,6 @@
 //! A journal as a picture.
 
-ghost use Rattle.std.specs.Prelude.{◌≡◌, ◌≤◌, ◌++◌, length, filter, OnOk, IfOk};
+ghost use Rattle.std.specs.Prelude.{◌≡◌, ◌≤◌, ◌++◌, ◌∷◌, [], length, filter, OnOk, IfOk};
 ghost use Rattle.std.specs.List.{All, flat_map};
 ghost use Rattle.place_plan.specs.RulesOfJournals.WellFormed.{IsWellFormed, AllWellFormed};
 ghost use Rattle.journal_pictures.specs.Marks.{drawn, marks_from, most_rows};
@@ -148,6 +148,23 @@ fn is_here(stretch: &Stretch) -> bool
     !matches!(stretch.doing, Doing::Away)
 }
 
+/// Adds where a stretch is drawn, where it is one of somebody who is in a place.
+fn push_here(
+    alloc: Global,
+    bars: &mut Vec<Bar>,
+    view: &View,
+    stretch: &Stretch,
+) -> Result<(), OutOfMemory>
+    ensures shown { OnOk result (stretches_shown bars.new.items ≡ stretches_shown bars.old.items ++ filter is_here (stretch.now ∷ [])) }
+    ensures placed { OnOk result (All (IsBar view.now.axes.now view.now.first view.now.rows) bars.old.items → All (IsBar view.now.axes.now view.now.first view.now.rows) bars.new.items) }
+{
+    if !is_here(stretch) {
+        return Ok(());
+    }
+    bars.push(bar_of(alloc, view, *stretch)?)?;
+    Ok(())
+}
+
 /// The stretches of those who are in a place, where they are drawn.
 fn bars_of(alloc: Global, view: &View, stretches: &[Stretch]) -> Result<Vec<Bar>, OutOfMemory>
     ensures shown { IfOk result (λ bars. stretches_shown bars.items ≡ filter is_here stretches.now) }
@@ -155,9 +172,7 @@ fn bars_of(alloc: Global, view: &View, stretches: &[Stretch]) -> Result<Vec<Bar>
 {
     let mut bars = Vec::new(alloc);
     for stretch in stretches {
-        if is_here(stretch) {
-            bars.push(bar_of(alloc, view, *stretch)?)?;
-        }
+        push_here(alloc, &mut bars, view, stretch)?;
     }
     Ok(bars)
 }

@@ -295,7 +295,8 @@ pub fn stretches_of(
     let mut done = Vec::new(alloc);
     let mut notes = Vec::new(alloc);
     if !goes_to(&mut states, first) {
-        let nothing = all_told(done, Vec::new(alloc), notes, states.taken());
+        let none = Vec::new(alloc);
+        let nothing = all_told(done, none, notes, states.taken());
         return nothing;
     }
     let mut going = begun_all(alloc, &states)?;
@@ -305,7 +306,8 @@ pub fn stretches_of(
             let front = all_told(done, going, notes, states.taken());
             return front;
         }
-        let next = take_in_all(alloc, &states, &going, &mut done)?;
+        let former: &[Stretch] = &going;
+        let next = take_in_all(alloc, &states, former, &mut done)?;
         note_waits(alloc, &states, &next, &mut notes)?;
         going = next;
     }

@@ -15,7 +15,7 @@ loop-lane-preserved c =
     let left = c.loop-lane.left in
     let width = c.lane_width-left in
     record {
-      within = omega (arith, c.loop-lane-test.true, c.participants.ensures);
+      within = omega (arith, c.loop-lane-test.true, c.participants-lane-end.ensures);
       small = omega (arith, c.loop-lane.invariant.small, width.ensures.most);
       placed =
           subst (AreLeftOf (c.loop-lane.lane + 1) (left + width.result)) (sym c.in_ok-push.ensures.items)
@@ -25,7 +25,7 @@ loop-lane-preserved c =
 pub returns : goal.returns
 returns c =
     let end : c.loop-lane.lane ≡ length c.args.plan.now.participants =
-    omega (arith, c.loop-lane-test.false, c.loop-lane.invariant.within, c.participants.ensures) in
+    omega (arith, c.loop-lane-test.false, c.loop-lane.invariant.within, c.participants-lane-end.ensures) in
     let wide : c.loop-lane.left + 10 ≤ c.max.result + 10 = search rules in
     subst (λ (n : ℕ). AreApart n (c.max.result + 10) c.loop-lane.axes.items) end
     (all_apart c.loop-lane.lane c.loop-lane.left (c.max.result + 10) c.loop-lane.axes.items wide c.loop-lane.invariant.placed)

@@ -21,7 +21,7 @@ loop-lane-preserved c =
     let so_far = c.loop-lane.invariant in
     let from = c.begun.ensures.from ∙ c.taken-moment.ensures in
     let to = c.begun.ensures.to ∙ ap (λ n. n + 1) c.taken-moment.ensures in
-    let known : lane < length plan.participants = omega (arith, c.loop-lane-test.true, c.participants.ensures, ap (λ (p : Plan). length p.participants) c.plan.ensures) in
+    let known : lane < length plan.participants = omega (arith, c.loop-lane-test.true, c.participants-lane-end.ensures, ap (λ (p : Plan). length p.participants) c.plan.ensures) in
     let items : c.push.new.self.items ≡ next ++ b ∷ [] = c.in_ok-push.ensures.items in
     let here =
     subst (λ (t : ℕ). IsRightAt plan entries m t b.doing) (sym c.begun.ensures.lane)
@@ -46,7 +46,7 @@ returns-clause-goes c =
       arith,
       c.loop-lane-test.false,
       c.loop-lane.invariant.within,
-      c.participants.ensures,
+      c.participants-lane-end.ensures,
       ap (λ (p : Plan). length p.participants) c.plan.ensures,
     )) c.loop-lane.invariant.goes
 
@@ -59,7 +59,7 @@ returns-clause-number c =
       arith,
       c.loop-lane-test.false,
       c.loop-lane.invariant.within,
-      c.participants.ensures,
+      c.participants-lane-end.ensures,
       ap (λ (p : Plan). length p.participants) c.plan.ensures,
     ) in
     omega (arith, c.loop-lane.invariant.number t k, ap (λ (i : ℕ). one_if (ltb t i && b)) end, all_below t n b low)

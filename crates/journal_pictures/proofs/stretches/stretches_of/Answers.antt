@@ -1,4 +1,4 @@
-use Rattle.std.proofs.Common.{rules, ◌≡◌, ◌∙◌, ◌+◌, ◌<◌, ◌≤◌, ◌^◌, ◌++◌, ◌&&◌, ℕ, List, [], suc, length, leb, ltb, ap, refl, sym, subst, arith}
+use Rattle.std.proofs.Common.{rules, ◌≡◌, ◌∙◌, ◌+◌, ◌<◌, ◌≤◌, ◌^◌, ◌++◌, ◌&&◌, ℕ, List, [], suc, length, eqb, leb, ltb, ap, refl, sym, subst, arith}
 use Rattle.std.specs.List.{All, count_by}
 use Rattle.std.proofs.lemmas.List.Elements.{All-nil}
 use Rattle.std.proofs.lemmas.Result.{IfOk-weaker}
@@ -10,15 +10,20 @@ use Rattle.journal_pictures.specs.declared.stretches.Told.{Told}
 use Rattle.journal_pictures.specs.Stretches.{has_moment, IsShown, IsRight}
 use Rattle.journal_pictures.specs.inner.Lanes.{LiesIn, AreOpen, AreOne, one_if}
 use Rattle.journal_pictures.proofs.LaneLemmas.{all_further}
-use Rattle.journal_pictures.proofs.PartLemmas.{found_right, found_one, shown_before, found_first, found_next}
+use Rattle.journal_pictures.proofs.PartLemmas.{IsFound, found_right, found_one, shown_before, found_first, found_next}
 use Rattle.journal_pictures.proofs.stretches.stretches_of.Goals as goal
 
 -- where the part isn't reached, nothing of it is shown
 pub returns-then-not-goes_to-clause-right : goal.returns-then-not-goes_to-clause-right
 returns-then-not-goes_to-clause-right c =
     let right = All (IsRight c.args.plan.now c.args.entries.now c.args.first c.args.more) in
-    IfOk-weaker c.all_told-nothing.result (λ (told : Told). told.stretches.items ≡ [] ++ []) (λ (told : Told). right told.stretches.items)
-    (λ told is. subst right (sym is) (All-nil (IsRight c.args.plan.now c.args.entries.now c.args.first c.args.more))) c.all_told-nothing.ensures
+    let done = c.new-done.result.items in
+    let none = c.new-none.result.items in
+    let empty : done ++ none ≡ [] = ap (λ (ss : List Stretch). ss ++ none) c.new-done.ensures.items ∙ c.new-none.ensures.items in
+    IfOk-weaker c.all_told-nothing.result (λ (told : Told). told.stretches.items ≡ done ++ none)
+    (λ (told : Told). right told.stretches.items)
+    (λ told is. subst right (sym (is ∙ empty)) (All-nil (IsRight c.args.plan.now c.args.entries.now c.args.first c.args.more)))
+    c.all_told-nothing.ensures
 
 pub returns-then-not-goes_to-clause-number : goal.returns-then-not-goes_to-clause-number
 returns-then-not-goes_to-clause-number c =
@@ -28,7 +33,7 @@ returns-then-not-goes_to-clause-number c =
     let stopped = c.if-not-goes_to.ensures.reached in
     let of = c.goes_to.ensures.plan ∙ c.in_ok-states.ensures.plan in
     let over = c.goes_to.ensures.journal ∙ c.in_ok-states.ensures.journal in
-    IfOk-weaker c.all_told-nothing.result (λ (told : Told). told.stretches.items ≡ [] ++ [])
+    IfOk-weaker c.all_told-nothing.result (λ (told : Told). told.stretches.items ≡ c.new-done.result.items ++ c.new-none.result.items)
     (λ (told : Told). AreOne plan entries c.args.first c.args.more told.stretches.items)
     (λ told is t k known shown.
     absurd (omega (arith, stopped.0, shown.low, shown_before plan entries c.args.first c.args.more s of over stopped.1 k shown)))
@@ -51,8 +56,11 @@ loop-row-init c =
       within = omega arith;
       taken = omega (arith, at);
       goes = subst (λ (p : Plan). AreOpen (length p.participants) (taken_in s + 1) c.in_ok-going.going.items) of c.in_ok-going.ensures.goes;
-      found = found_first c.args.plan.now c.args.entries.now c.args.first s c.in_ok-going.going.items of over at
-          c.in_ok-going.ensures.next c.in_ok-going.ensures.number;
+      found =
+          subst (λ (ss : List Stretch). IsFound c.args.plan.now c.args.entries.now c.args.first s ss c.in_ok-going.going.items)
+          (sym c.new-done.ensures.items)
+          (found_first c.args.plan.now c.args.entries.now c.args.first s c.in_ok-going.going.items of over at
+          c.in_ok-going.ensures.next c.in_ok-going.ensures.number);
     }
 
 pub returns-then-not-step-clause-right : goal.returns-then-not-step-clause-right
@@ -94,9 +102,11 @@ pub take_in_all-requires-clause-goes : goal.take_in_all-requires-clause-goes
 take_in_all-requires-clause-goes c =
     let s = c.step.new.self in
     let of = c.step.ensures.plan ∙ c.loop-row.invariant.found.of in
-    subst (λ (n : ℕ). AreOpen (length (plan_in s).participants) n c.loop-row.going.items) (sym (c.if-not-step.ensures.stepped ∙ plus_one (taken_in c.loop-row.states)))
+    subst (λ (ss : List Stretch). AreOpen (length (plan_in s).participants) (taken_in s) ss) (sym c.deref-former.ensures.value)
+    (subst (λ (n : ℕ). AreOpen (length (plan_in s).participants) n c.loop-row.going.items)
+    (sym (c.if-not-step.ensures.stepped ∙ plus_one (taken_in c.loop-row.states)))
     (subst (λ (p : Plan). AreOpen (length p.participants) (taken_in c.loop-row.states + 1) c.loop-row.going.items) (sym of)
-    c.loop-row.invariant.goes)
+    c.loop-row.invariant.goes))
   where
     plus_one : (n : ℕ) → suc n ≡ n + 1
     plus_one n = omega arith
@@ -109,14 +119,21 @@ loop-row-preserved c =
     let of = c.step.ensures.plan ∙ found.of in
     let next = c.in_ok-next.next.items in
     let more : taken_in s ≡ taken_in old + 1 = omega (arith, c.if-not-step.ensures.stepped) in
+    let lying = λ (f : ℕ) (all : All (LiesIn (plan_in s) (journal_in s) f (taken_in s)) c.loop-row.going.items).
+    subst (All (LiesIn (plan_in s) (journal_in s) f (taken_in s))) (sym c.deref-former.ensures.value) all in
     record {
       within = omega (arith, c.loop-row-test.true);
       taken = omega (arith, more, c.loop-row.invariant.taken);
       goes = subst (λ (p : Plan). AreOpen (length p.participants) (taken_in s + 1) next) of c.in_ok-next.ensures.goes;
       found =
           found_next c.args.plan.now c.args.entries.now c.args.first old s c.loop-row.done.items c.take_in_all.new.done.items
-          c.loop-row.going.items next found c.step.ensures.plan c.step.ensures.journal more c.in_ok-next.ensures.next
-          c.in_ok-next.ensures.done c.in_ok-next.ensures.number;
+          c.loop-row.going.items next found c.step.ensures.plan c.step.ensures.journal more
+          (λ f all. c.in_ok-next.ensures.next f (lying f all))
+          (λ f all before. c.in_ok-next.ensures.done f (lying f all) before)
+          (λ t k known.
+          c.in_ok-next.ensures.number t k known
+          ∙ ap (λ (ss : List Stretch). count_by (has_moment t k) c.loop-row.done.items + count_by (has_moment t k) ss
+          + one_if (eqb (taken_in s) k)) c.deref-former.ensures.value);
     }
 
 pub returns-clause-right : goal.returns-clause-right

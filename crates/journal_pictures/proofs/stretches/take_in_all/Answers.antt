@@ -6,30 +6,22 @@ use Rattle.journal_states.specs.Past.{plan_in, journal_in, taken_in}
 use Rattle.journal_pictures.specs.declared.stretches.Stretch.{Stretch}
 use Rattle.journal_pictures.specs.Stretches.{has_moment}
 use Rattle.journal_pictures.specs.inner.Lanes.{LiesIn, GoesTo, AreOpen, one_if}
-use Rattle.journal_pictures.proofs.LaneLemmas.{open_more, taken_more, all_below}
+use Rattle.journal_pictures.proofs.LaneLemmas.{no_stretch, open_more, taken_more, all_below}
 use Rattle.journal_pictures.proofs.stretches.take_in_all.Goals as goal
 
 pub take_in-requires-clause-known : goal.take_in-requires-clause-known
 take_in-requires-clause-known c =
     let i = c.loop-stretch.stretch-index in
-    let s = c.stretch-item.result in
-    let goes = subst (GoesTo i (taken_in c.args.states.now)) (sym c.stretch-item.is)
-    (c.requires.goes.1 i s (omega (arith, c.loop-stretch-test.true, c.requires.goes.0))) in
+    let goes = c.requires.goes.1 i no_stretch (omega (arith, c.loop-stretch-test.true, c.requires.goes.0)) in
     omega (arith, goes.lane, c.loop-stretch-test.true, c.requires.goes.0)
 
 pub take_in-requires-clause-lasts : goal.take_in-requires-clause-lasts
 take_in-requires-clause-lasts c =
-    let i = c.loop-stretch.stretch-index in
-    let s = c.stretch-item.result in
-    (subst (GoesTo i (taken_in c.args.states.now)) (sym c.stretch-item.is)
-    (c.requires.goes.1 i s (omega (arith, c.loop-stretch-test.true, c.requires.goes.0)))).lasts
+    (c.requires.goes.1 c.loop-stretch.stretch-index no_stretch (omega (arith, c.loop-stretch-test.true, c.requires.goes.0))).lasts
 
 pub take_in-requires-clause-met : goal.take_in-requires-clause-met
 take_in-requires-clause-met c =
-    let i = c.loop-stretch.stretch-index in
-    let s = c.stretch-item.result in
-    (subst (GoesTo i (taken_in c.args.states.now)) (sym c.stretch-item.is)
-    (c.requires.goes.1 i s (omega (arith, c.loop-stretch-test.true, c.requires.goes.0)))).met
+    (c.requires.goes.1 c.loop-stretch.stretch-index no_stretch (omega (arith, c.loop-stretch-test.true, c.requires.goes.0))).met
 
 pub loop-stretch-preserved : goal.loop-stretch-preserved
 loop-stretch-preserved c =
@@ -39,14 +31,12 @@ loop-stretch-preserved c =
     let m = taken_in states in
     let former = c.args.former.now in
     let i = c.loop-stretch.stretch-index in
-    let s = c.stretch-item.result in
     let next = c.loop-stretch.next.items in
     let kept = c.in_ok-kept.kept in
     let so_far = c.loop-stretch.invariant in
-    let goes = subst (GoesTo i m) (sym c.stretch-item.is) (c.requires.goes.1 i s (omega (arith, c.loop-stretch-test.true, c.requires.goes.0))) in
+    let goes = c.requires.goes.1 i no_stretch (omega (arith, c.loop-stretch-test.true, c.requires.goes.0)) in
     let lies = λ (first : ℕ) (all : All (LiesIn plan entries first m) former).
-    subst (LiesIn plan entries first m) (sym c.stretch-item.is)
-    (All-get_or (LiesIn plan entries first m) former i s c.loop-stretch-test.true all) in
+    All-get_or (LiesIn plan entries first m) former i no_stretch c.loop-stretch-test.true all in
     let items : c.push.new.self.items ≡ next ++ kept ∷ [] = c.in_ok-push.ensures.items in
     record {
       within = omega (arith, c.loop-stretch-test.true);
@@ -63,8 +53,8 @@ loop-stretch-preserved c =
           subst (λ (ss : List Stretch). count_by (has_moment t k) c.take_in.new.done.items + count_by (has_moment t k) ss
           ≡ count_by (has_moment t k) c.args.done.now.items + count_by (has_moment t k) (take (i + 1) former)
           + one_if (ltb t (i + 1) && eqb m k)) (sym items)
-          (taken_more t k m i c.args.done.now.items c.loop-stretch.done.items c.take_in.new.done.items next former s kept
-          c.loop-stretch-test.true (sym c.stretch-item.is) goes.lane (so_far.number t k) (c.in_ok-kept.ensures.number t k));
+          (taken_more t k m i c.args.done.now.items c.loop-stretch.done.items c.take_in.new.done.items next former no_stretch kept
+          c.loop-stretch-test.true goes.lane (so_far.number t k) (c.in_ok-kept.ensures.number t k));
     }
 
 pub returns-clause-goes : goal.returns-clause-goes
