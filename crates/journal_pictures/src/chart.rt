@@ -1,11 +1,13 @@
 //! A journal as a picture.
 
-ghost use Rattle.std.specs.Prelude.{◌≡◌, ◌≤◌, ◌++◌, length, OnOk, IfOk};
+ghost use Rattle.std.specs.Prelude.{◌≡◌, ◌≤◌, ◌++◌, ◌∷◌, [], length, filter, OnOk, IfOk};
 ghost use Rattle.std.specs.List.{All, flat_map};
 ghost use Rattle.place_plan.specs.RulesOfJournals.WellFormed.{IsWellFormed, AllWellFormed};
 ghost use Rattle.journal_pictures.specs.Marks.{drawn, marks_from, most_rows};
-ghost use Rattle.journal_pictures.specs.Pictures.{shape_text, bar_text, mark_text, body_text, IsPicture};
-ghost use Rattle.journal_pictures.specs.Stretches.{IsRight};
+ghost use Rattle.journal_pictures.specs.Pictures.{shape_text, bar_text, mark_text, body_text, AreApart, IsBar, stretches_shown, IsPicture};
+ghost use Rattle.journal_pictures.specs.Stretches.{IsRight, half_width};
+ghost use Rattle.journal_pictures.specs.inner.Lanes.{AreOne};
+ghost use Rattle.journal_pictures.specs.inner.Parts.{is_here, AreBars};
 
 use crate::frame::frame;
 use crate::layout::{View, axes_of, height, level_behind};
@@ -34,7 +36,7 @@ pub fn chart(
     count: u64,
 ) -> Result<Vec<u8>, OutOfMemory>
     requires { AllWellFormed plan.now journal.now.entries }
-    ensures { IfOk result (λ text. IsPicture plan.now journal.now.entries (drawn first count journal.now.entries) text.items) }
+    ensures { IfOk result (λ text. IsPicture plan.now journal.now.entries first (drawn first count journal.now.entries) text.items) }
 {
     let entries = journal.as_slice();
     let part = drawn(entries, first, count);
@@ -64,8 +66,9 @@ struct Parts {
 /// The parts of a picture of which this is told.
 fn parts_of(alloc: Global, view: &View, told: &Told) -> Result<Parts, OutOfMemory>
     requires few { length view.now.part.now ≤ most_rows }
-    requires told { All (IsRight view.now.plan.now view.now.entries.now) told.now.stretches.items }
-    ensures bars { IfOk result (λ parts. All (λ b. IsRight view.now.plan.now view.now.entries.now b.stretch) parts.bars.items) }
+    requires told { All (IsRight view.now.plan.now view.now.entries.now view.now.first view.now.rows) told.now.stretches.items }
+    requires number { AreOne view.now.plan.now view.now.entries.now view.now.first view.now.rows told.now.stretches.items }
+    ensures bars { IfOk result (λ parts. AreBars view.now parts.bars.items) }
     ensures marks { IfOk result (λ parts. parts.marks.items ≡ marks_from 0 view.now.part.now) }
 {
     let shapes = frame(alloc, view, told)?;
@@ -80,10 +83,12 @@ fn parts_of(alloc: Global, view: &View, told: &Told) -> Result<Parts, OutOfMemor
 
 /// The text of a picture of these parts.
 fn text_of(alloc: Global, view: &View, parts: &Parts) -> Result<Vec<u8>, OutOfMemory>
-    requires bars { All (λ b. IsRight view.now.plan.now view.now.entries.now b.stretch) parts.now.bars.items }
+    requires rows { view.now.rows ≡ length view.now.part.now }
+    requires lanes { AreApart (length view.now.plan.now.participants) view.now.width view.now.axes.now }
+    requires bars { AreBars view.now parts.now.bars.items }
     requires marks { parts.now.marks.items ≡ marks_from 0 view.now.part.now }
     requires formed { All (λ m. IsWellFormed view.now.plan.now m.entry) parts.now.marks.items }
-    ensures { IfOk result (λ text. IsPicture view.now.plan.now view.now.entries.now view.now.part.now text.items) }
+    ensures { IfOk result (λ text. IsPicture view.now.plan.now view.now.entries.now view.now.first view.now.part.now text.items) }
 {
     let mut text = Vec::new(alloc);
     push_front(&mut text, view.width, height(view))?;
@@ -93,7 +98,8 @@ fn text_of(alloc: Global, view: &View, parts: &Parts) -> Result<Vec<u8>, OutOfMe
 
 /// Where a stretch is drawn, and what is told of it.
 fn bar_of(alloc: Global, view: &View, stretch: Stretch) -> Result<Bar, OutOfMemory>
-    ensures { IfOk result (λ bar. bar.stretch ≡ stretch) }
+    ensures stretch { IfOk result (λ bar. bar.stretch ≡ stretch) }
+    ensures placed { IfOk result (IsBar view.now.axes.now view.now.first view.now.rows) }
 {
     let half = half_of(stretch.doing);
     let top = level_behind(view, stretch.from);
@@ -102,14 +108,17 @@ fn bar_of(alloc: Global, view: &View, stretch: Stretch) -> Result<Bar, OutOfMemo
         stretch,
         left: view.axis(stretch.lane).saturating_sub(half),
         top,
-        width: half.saturating_mul(2),
+        width: half + half,
         height: base.saturating_sub(top),
         title: title_of(alloc, view.plan, stretch)?,
     })
 }
 
 /// Half how wide a stretch is drawn.
-fn half_of(doing: Doing) -> u64 {
+fn half_of(doing: Doing) -> u64
+    ensures half { result ≡ half_width doing }
+    ensures small { result ≤ 5 }
+{
     match doing {
         Doing::Away | Doing::Turn => 1,
         Doing::Body | Doing::Handler | Doing::Wait(_) => 5,
@@ -132,16 +141,38 @@ fn title_of(alloc: Global, plan: &Plan, stretch: Stretch) -> Result<Vec<u8>, Out
     Ok(title)
 }
 
+/// Whether a stretch is of somebody who is in a place.
+fn is_here(stretch: &Stretch) -> bool
+    ensures { result ≡ is_here stretch.now }
+{
+    !matches!(stretch.doing, Doing::Away)
+}
+
+/// Adds where a stretch is drawn, where it is one of somebody who is in a place.
+fn push_here(
+    alloc: Global,
+    bars: &mut Vec<Bar>,
+    view: &View,
+    stretch: &Stretch,
+) -> Result<(), OutOfMemory>
+    ensures shown { OnOk result (stretches_shown bars.new.items ≡ stretches_shown bars.old.items ++ filter is_here (stretch.now ∷ [])) }
+    ensures placed { OnOk result (All (IsBar view.now.axes.now view.now.first view.now.rows) bars.old.items → All (IsBar view.now.axes.now view.now.first view.now.rows) bars.new.items) }
+{
+    if !is_here(stretch) {
+        return Ok(());
+    }
+    bars.push(bar_of(alloc, view, *stretch)?)?;
+    Ok(())
+}
+
 /// The stretches of those who are in a place, where they are drawn.
 fn bars_of(alloc: Global, view: &View, stretches: &[Stretch]) -> Result<Vec<Bar>, OutOfMemory>
-    requires { All (IsRight view.now.plan.now view.now.entries.now) stretches.now }
-    ensures { IfOk result (λ bars. All (λ b. IsRight view.now.plan.now view.now.entries.now b.stretch) bars.items) }
+    ensures shown { IfOk result (λ bars. stretches_shown bars.items ≡ filter is_here stretches.now) }
+    ensures placed { IfOk result (λ bars. All (IsBar view.now.axes.now view.now.first view.now.rows) bars.items) }
 {
     let mut bars = Vec::new(alloc);
     for stretch in stretches {
-        if !matches!(stretch.doing, Doing::Away) {
-            bars.push(bar_of(alloc, view, *stretch)?)?;
-        }
+        push_here(alloc, &mut bars, view, stretch)?;
     }
     Ok(bars)
 }

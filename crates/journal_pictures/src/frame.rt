@@ -3,7 +3,7 @@
 ghost use Rattle.std.specs.Prelude.{◌<◌, ◌≤◌, ◌^◌};
 
 use crate::layout::{LEFT, MARGIN, TOP, View, bottom, is_seen, level, middle, row_of};
-use crate::shapes::Shape;
+use crate::shapes::{LineLook, Shape, WordsLook};
 use crate::stays::draw_places;
 use crate::stretches::Told;
 use crate::words::label_of;
@@ -28,7 +28,7 @@ pub fn frame(alloc: Global, view: &View, told: &Told) -> Result<Vec<Shape>, OutO
             let left = view.axis(note.lane).saturating_add(12);
             write_words(
                 &mut shapes,
-                b"awaits",
+                WordsLook::Awaits,
                 left,
                 middle(row).saturating_add(4),
                 words,
@@ -42,13 +42,13 @@ pub fn frame(alloc: Global, view: &View, told: &Told) -> Result<Vec<Shape>, OutO
 /// Adds words.
 pub fn write_words(
     shapes: &mut Vec<Shape>,
-    class: &'static [u8],
+    look: WordsLook,
     left: u64,
     base: u64,
     words: Vec<u8>,
 ) -> Result<(), OutOfMemory> {
     shapes.push(Shape::Words {
-        class,
+        look,
         left,
         base,
         words,
@@ -60,7 +60,7 @@ pub fn write_words(
 fn draw_lanes(alloc: Global, shapes: &mut Vec<Shape>, view: &View) -> Result<(), OutOfMemory> {
     for lane in 0..view.plan.participants() {
         shapes.push(Shape::Line {
-            class: b"lane",
+            look: LineLook::Lane,
             left: view.axis(lane),
             top: TOP - 6,
             right: view.axis(lane),
@@ -81,7 +81,7 @@ fn name_lanes(
     for lane in 0..view.plan.participants() {
         let name = Vec::from_slice(alloc, participant_name(view.plan, lane))?;
         let left = view.axis(lane).saturating_sub(10).saturating_add(right);
-        write_words(shapes, b"name", left, base, name)?;
+        write_words(shapes, WordsLook::Name, left, base, name)?;
     }
     Ok(())
 }
@@ -108,14 +108,14 @@ fn draw_rows(alloc: Global, shapes: &mut Vec<Shape>, view: &View) -> Result<(), 
             push_number(&mut words, number.saturating_add(1))?;
             write_words(
                 shapes,
-                b"number",
+                WordsLook::Number,
                 LEFT - 6,
                 middle(row).saturating_add(3),
                 words,
             )?;
             write_words(
                 shapes,
-                b"says",
+                WordsLook::Says,
                 view.axis(entry.by).saturating_add(12),
                 middle(row).saturating_add(4),
                 label_of(alloc, view.plan, entry)?,
@@ -142,7 +142,7 @@ fn draw_joint(
     let left = roles.iter().copied().min().unwrap_or(0);
     let right = roles.iter().copied().max().unwrap_or(0);
     shapes.push(Shape::Line {
-        class: b"joint",
+        look: LineLook::Joint,
         left: view.axis(left),
         top: base,
         right: view.axis(right),
@@ -150,7 +150,7 @@ fn draw_joint(
     })?;
     for lane in roles {
         shapes.push(Shape::Line {
-            class: b"joined",
+            look: LineLook::Joined,
             left: view.axis(*lane).saturating_sub(8),
             top: base,
             right: view.axis(*lane).saturating_add(8),
@@ -172,12 +172,12 @@ fn draw_break(
     };
     let base = middle(row).saturating_sub(10);
     shapes.push(Shape::Line {
-        class: b"break",
+        look: LineLook::Break,
         left: 0,
         top: base,
         right: view.width.saturating_sub(MARGIN),
         bottom: base,
     })?;
     let words = Vec::from_slice(alloc, b"from here on not by the rules")?;
-    write_words(shapes, b"broken", 2, base.saturating_sub(2), words)
+    write_words(shapes, WordsLook::Broken, 2, base.saturating_sub(2), words)
 }

@@ -1,7 +1,7 @@
 //! Where in a picture things stand.
 
-ghost use Rattle.std.specs.Prelude.{◌≡◌, ◌<◌, ◌^◌, slice_index_or};
-ghost use Rattle.journal_pictures.specs.Pictures.{axis, middle};
+ghost use Rattle.std.specs.Prelude.{◌≡◌, ◌+◌, ◌<◌, ◌≤◌, ◌^◌, length, slice_index_or, IfOk};
+ghost use Rattle.journal_pictures.specs.Pictures.{axis, middle, level, AreApart};
 
 use crate::stretches::Note;
 use crate::words::label_of;
@@ -25,10 +25,12 @@ pub const ROW_HEIGHT: u64 = 20;
 /// What is left free at the right and at the bottom.
 pub const MARGIN: u64 = 10;
 
-/// How wide a lane is at least, and at most.
+/// How wide a lane is at least; at most by the words in it; and at most by its name.
 const LEAST_LANE: u64 = 120;
 
 const MOST_LANE: u64 = 400;
+
+const WIDEST_LANE: u64 = 1 << 20;
 
 /// How wide the legend is.
 const LEGEND_WIDTH: u64 = 880;
@@ -70,7 +72,9 @@ pub fn axis(axes: &[u64], lane: Participant) -> u64
 
 impl<'a> View<'a> {
     /// How far from the left the marks of a lane stand.
-    pub fn axis(&self, lane: Participant) -> u64 {
+    pub fn axis(&self, lane: Participant) -> u64
+        ensures { result ≡ axis self.now.axes.now lane }
+    {
         axis(self.axes, lane)
     }
 
@@ -91,13 +95,17 @@ impl<'a> View<'a> {
 }
 
 /// How far down the part reaches.
-pub fn bottom(view: &View) -> u64 {
+pub fn bottom(view: &View) -> u64
+    ensures { result ≡ middle view.now.rows }
+{
     middle(view.rows)
 }
 
 /// How high the picture is.
-pub fn height(view: &View) -> u64 {
-    bottom(view).saturating_add(MARGIN)
+pub fn height(view: &View) -> u64
+    ensures { result ≡ middle view.now.rows + 10 }
+{
+    middle(view.rows) + MARGIN
 }
 
 /// The row of the entry of this number, if it is drawn.
@@ -120,12 +128,14 @@ pub fn level(view: &View, number: u64) -> u64 {
 }
 
 /// How far down a moment is, which is behind so many entries: where the last of them stands.
-pub fn level_behind(view: &View, moment: u64) -> u64 {
+pub fn level_behind(view: &View, moment: u64) -> u64
+    ensures { result ≡ level view.now.first view.now.rows moment }
+{
     if moment <= view.first {
-        TOP
-    } else {
-        level(view, moment.saturating_sub(1))
+        return TOP;
     }
+    let row = (moment - 1 - view.first).min(u64::from(view.rows));
+    middle(row as u32)
 }
 
 /// Whether the part shows something of what goes from one entry to another.
@@ -157,7 +167,7 @@ fn widen(widths: &mut [u64], lane: Participant, reach: u64) {
     }
 }
 
-/// How wide each lane is: as wide as its name, and all words in it.
+/// How wide each lane has to be for its name, and all words in it.
 fn widths_of(
     alloc: Global,
     plan: &Plan,
@@ -167,7 +177,7 @@ fn widths_of(
     let mut widths = Vec::new(alloc);
     for lane in 0..plan.participants() {
         let name = width_of(participant_name(plan, lane).len()).saturating_mul(3) / 2;
-        widths.push(name.saturating_add(40).max(LEAST_LANE))?;
+        widths.push(name.saturating_add(40))?;
     }
     for entry in part {
         widen(&mut widths, entry.by, reach_of(alloc, plan, entry)?);
@@ -179,19 +189,32 @@ fn widths_of(
     Ok(widths)
 }
 
+/// How wide a lane is, of those that have to be so wide.
+fn lane_width(widths: &[u64], lane: Participant) -> u64
+    ensures least { 120 ≤ result }
+    ensures most { result ≤ 2 ^ 20 }
+{
+    match widths.get(lane as usize) {
+        Some(width) => (*width).max(LEAST_LANE).min(WIDEST_LANE),
+        None => LEAST_LANE,
+    }
+}
+
 /// How far from the left the marks of each lane stand, and how wide the picture is.
 pub fn axes_of(
     alloc: Global,
     plan: &Plan,
     part: &[Entry],
     notes: &[Note],
-) -> Result<(Vec<u64>, u64), OutOfMemory> {
+) -> Result<(Vec<u64>, u64), OutOfMemory>
+    ensures { IfOk result (λ made. AreApart (length plan.now.participants) made.1 made.0.items) }
+{
     let widths = widths_of(alloc, plan, part, notes)?;
     let mut axes = Vec::new(alloc);
     let mut left = LEFT;
-    for width in widths.iter() {
-        axes.push(left.saturating_add(TO_AXIS))?;
-        left = left.saturating_add(*width);
+    for lane in 0..plan.participants() {
+        axes.push(left + TO_AXIS)?;
+        left += lane_width(&widths, lane);
     }
-    Ok((axes, left.max(LEGEND_WIDTH).saturating_add(MARGIN)))
+    Ok((axes, left.max(LEGEND_WIDTH) + MARGIN))
 }

@@ -4,12 +4,12 @@ ghost use Rattle.std.specs.Prelude.{◌≡◌, ◌∷◌, ◌++◌, [], codes, d
 ghost use Rattle.std.specs.List.{flat_map};
 ghost use Rattle.place_plan.specs.RulesOfJournals.WellFormed.{IsWellFormed};
 ghost use Rattle.journal_text.specs.Texts.Text.{entry_line};
-ghost use Rattle.journal_pictures.specs.Pictures.{escaped_byte, escaped, length_text, element_text, told_text, area_text, line_text, words_text, shape_text, bar_text, sign_name, sign_text, title_text, mark_text, box_text, front_text};
+ghost use Rattle.journal_pictures.specs.Pictures.{escaped_byte, escaped, length_text, element_text, told_text, area_text, line_text, words_text, line_class, words_class, shape_text, bar_text, sign_name, sign_text, title_text, mark_text, box_text, front_text};
 ghost use Rattle.journal_pictures.specs.Stretches.{class_of};
 
 use crate::layout::{axis, middle};
 use crate::marks::Mark;
-use crate::shapes::{Bar, Shape};
+use crate::shapes::{Bar, LineLook, Shape, WordsLook};
 use crate::signs::{OPENING, SIGNS};
 use crate::stretches::Doing;
 use caa_base::written::entry::{Entry, OutOfMemory};
@@ -75,32 +75,58 @@ fn push_element(text: &mut Vec<u8>, element: &[u8], class: &[u8]) -> Result<(), 
     Ok(())
 }
 
-/// Adds what is no mark.
+/// The class of a line.
+fn line_class(look: LineLook) -> &'static [u8]
+    ensures { result.now ≡ line_class look }
+{
+    match look {
+        LineLook::Lane => b"lane",
+        LineLook::Edge => b"edge",
+        LineLook::Joint => b"joint",
+        LineLook::Joined => b"joined",
+        LineLook::Break => b"break",
+    }
+}
+
+/// The class of words.
+fn words_class(look: WordsLook) -> &'static [u8]
+    ensures { result.now ≡ words_class look }
+{
+    match look {
+        WordsLook::Name => b"name",
+        WordsLook::Number => b"number",
+        WordsLook::Says => b"says",
+        WordsLook::Action => b"action",
+        WordsLook::Awaits => b"awaits",
+        WordsLook::Broken => b"broken",
+    }
+}
+
+/// Adds what is neither a stretch nor a mark.
 pub fn push_shape(text: &mut Vec<u8>, shape: &Shape) -> Result<(), OutOfMemory>
     ensures { OnOk result (text.new.items ≡ text.old.items ++ shape_text shape.now) }
 {
     match shape {
-        Shape::Area {
-            class,
+        Shape::Piece {
             left,
             top,
             width,
             height,
             title,
-        } => push_area(text, class, *left, *top, *width, *height, title),
+        } => push_area(text, b"place", *left, *top, *width, *height, title),
         Shape::Line {
-            class,
+            look,
             left,
             top,
             right,
             bottom,
-        } => push_line(text, class, *left, *top, *right, *bottom),
+        } => push_line(text, line_class(*look), *left, *top, *right, *bottom),
         Shape::Words {
-            class,
+            look,
             left,
             base,
             words,
-        } => push_words(text, class, *left, *base, words),
+        } => push_words(text, words_class(*look), *left, *base, words),
     }
 }
 

@@ -2,7 +2,7 @@
 
 use crate::frame::write_words;
 use crate::layout::{ROW_HEIGHT, TOP, View, is_seen, level, middle, row_of};
-use crate::shapes::Shape;
+use crate::shapes::{LineLook, Shape, WordsLook};
 use caa_base::written::entry::{Entry, Kind, OutOfMemory, Participant, Place};
 use caa_base::written::line::push_word;
 use journal_states::words::push_place;
@@ -134,8 +134,7 @@ fn draw_stay(
     let height = height_of(view, stay);
     let mut title = Vec::from_slice(alloc, b"place")?;
     push_place(&mut title, view.plan, stay.place)?;
-    shapes.push(Shape::Area {
-        class: b"place",
+    shapes.push(Shape::Piece {
         left,
         top: height.from,
         width: right.saturating_sub(left),
@@ -168,7 +167,7 @@ fn depth_of(view: &View, stay: &Stay) -> u64 {
 fn draw_ends(shapes: &mut Vec<Shape>, width: Reach, height: Reach) -> Result<(), OutOfMemory> {
     for level in [height.from, height.to] {
         shapes.push(Shape::Line {
-            class: b"edge",
+            look: LineLook::Edge,
             left: width.from,
             top: level,
             right: width.to,
@@ -181,7 +180,7 @@ fn draw_ends(shapes: &mut Vec<Shape>, width: Reach, height: Reach) -> Result<(),
 /// Draws an edge at a side of a piece.
 fn draw_side(shapes: &mut Vec<Shape>, left: u64, from: u64, to: u64) -> Result<(), OutOfMemory> {
     shapes.push(Shape::Line {
-        class: b"edge",
+        look: LineLook::Edge,
         left,
         top: from.min(to),
         right: left,
@@ -220,7 +219,7 @@ fn name_stay(
         push_place(&mut words, view.plan, stay.place)?;
         return write_words(
             shapes,
-            b"action",
+            WordsLook::Action,
             view.axis(stay.lane).saturating_add(50),
             middle(row).saturating_add(4),
             words,
@@ -234,7 +233,7 @@ fn name_stay(
         push_place(&mut words, view.plan, stay.place)?;
         write_words(
             shapes,
-            b"action",
+            WordsLook::Action,
             view.axis(stay.lane).saturating_add(12),
             TOP + 2,
             words,

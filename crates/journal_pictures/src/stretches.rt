@@ -1,11 +1,10 @@
 //! What each participant does over a stretch of a journal, by the rules.
 
-ghost use Rattle.std.specs.Prelude.{◌≡◌, ◌<◌, IfOk, IfSome, IsTrue, length, true, false, List};
-ghost use Rattle.std.specs.List.{All};
-ghost use Rattle.caa_base.specs.declared.written.entry.Entry.{Entry as EntryValue};
-ghost use Rattle.place_plan.specs.Plans.PlanValue.{Plan as PlanValue};
-ghost use Rattle.journal_states.specs.Past.{plan_in, journal_in, taken_in};
-ghost use Rattle.journal_pictures.specs.Stretches.{is_wait, IsRightAt, IsRight};
+ghost use Rattle.std.specs.Prelude.{◌≡◌, ◌<◌, ◌+◌, ◌^◌, ◌==◌, ◌&&◌, ◌↔◌, ◌++◌, ℕ, IfOk, IsTrue, length, true, false};
+ghost use Rattle.std.specs.List.{All, count_by};
+ghost use Rattle.journal_states.specs.Past.{plan_in, journal_in, taken_in, past_in};
+ghost use Rattle.journal_pictures.specs.Stretches.{is_wait, is_away, HasToWait, IsRightAt, IsRight, has_moment};
+ghost use Rattle.journal_pictures.specs.inner.Lanes.{LiesIn, GoesTo, AreOpen, AreOne, Reached, one_if};
 
 use caa_base::written::entry::{Entry, Kind, OutOfMemory, Participant};
 use caa_base::written::line::push_word;
@@ -49,12 +48,13 @@ pub struct Note {
     pub words: Vec<u8>,
 }
 
-/// What a participant does whose next entry is of this kind.
+/// What a participant does in a place whose next entry is of this kind.
 fn doing_before(states: &States, by: Participant, kind: Kind) -> Doing
-    ensures { is_wait result ≡ false }
+    ensures goes { is_wait result ≡ false }
+    ensures here { is_away result ≡ false }
 {
     let Some(spot) = states.spot(by) else {
-        return Doing::Away;
+        return Doing::Turn;
     };
     let is_step = match kind {
         Kind::Read | Kind::Work | Kind::Write | Kind::Check | Kind::Raise | Kind::Arrive => true,
@@ -68,35 +68,67 @@ fn doing_before(states: &States, by: Participant, kind: Kind) -> Doing
     }
 }
 
-/// What a participant does at the moment of a cursor.
-pub(crate) fn doing_of(states: &States, by: Participant) -> Doing
+/// What a participant does in a place at the moment of a cursor. Nobody is over there.
+fn doing_inside(states: &States, by: Participant) -> Doing
     requires { by < length (plan_in states.now).participants }
-    ensures { IsRightAt (plan_in states.now) (journal_in states.now) (taken_in states.now) by result }
+    ensures waits { (is_wait result ≡ true) ↔ HasToWait (plan_in states.now) (past_in states.now) by }
+    ensures here { is_away result ≡ false }
 {
     match states.standing(by) {
         Standing::Waits(wait) => Doing::Wait(wait),
-        Standing::Over => Doing::Away,
+        Standing::Over => Doing::Turn,
         Standing::Puts { well, .. } => doing_before(states, by, well.kind),
         Standing::Makes(entry) => doing_before(states, by, entry.kind),
         Standing::Works(_) => doing_before(states, by, Kind::Work),
     }
 }
 
+/// What a participant does at the moment of a cursor. Who is in no place may go to the next play, or is over.
+pub(crate) fn doing_of(states: &States, by: Participant) -> Doing
+    requires { by < length (plan_in states.now).participants }
+    ensures { IsRightAt (plan_in states.now) (journal_in states.now) (taken_in states.now) by result }
+{
+    states.plan().is_closed();
+    match states.place_of(by) {
+        Some(_) => doing_inside(states, by),
+        None => Doing::Away,
+    }
+}
+
 /// A stretch of one moment.
 fn begun(lane: Participant, doing: Doing, moment: usize) -> Stretch
-    ensures { (plan : PlanValue) (entries : List EntryValue) → IsRightAt plan entries moment lane doing → IsRight plan entries result }
+    requires { moment < 2 ^ 63 }
+    ensures lane { result.lane ≡ lane }
+    ensures doing { result.doing ≡ doing }
+    ensures from { result.from ≡ moment }
+    ensures to { result.to ≡ moment + 1 }
 {
     Stretch {
         lane,
         doing,
         from: moment as u64,
-        to: (moment as u64).saturating_add(1),
+        to: moment as u64 + 1,
+    }
+}
+
+/// A stretch that goes on for this moment.
+fn longer(former: Stretch, moment: usize) -> Stretch
+    requires { moment < 2 ^ 63 }
+    ensures lane { result.lane ≡ former.lane }
+    ensures doing { result.doing ≡ former.doing }
+    ensures from { result.from ≡ former.from }
+    ensures to { result.to ≡ moment + 1 }
+{
+    Stretch {
+        to: moment as u64 + 1,
+        ..former
     }
 }
 
 /// Whether a participant does the same, and waits for the same, at two moments.
 fn is_same(former: Doing, now: Doing) -> bool
-    ensures { IsTrue result → is_wait former ≡ is_wait now }
+    ensures waits { IsTrue result → is_wait former ≡ is_wait now }
+    ensures away { IsTrue result → is_away former ≡ is_away now }
 {
     match (former, now) {
         (Doing::Wait(one), Doing::Wait(other)) => one == other,
@@ -108,42 +140,28 @@ fn is_same(former: Doing, now: Doing) -> bool
     }
 }
 
-/// A stretch that goes on for this moment, where its participant does the same.
-fn longer(former: Stretch, lane: Participant, doing: Doing, moment: usize) -> Option<Stretch>
-    ensures { IfSome result (λ s. (plan : PlanValue) (entries : List EntryValue) → IsRight plan entries former → IsRightAt plan entries moment lane doing → IsRight plan entries s) }
-{
-    if former.lane == lane && former.to == moment as u64 && is_same(former.doing, doing) {
-        Some(Stretch {
-            to: (moment as u64).saturating_add(1),
-            ..former
-        })
-    } else {
-        None
-    }
-}
-
 /// Takes in the moment of a cursor for one participant: its stretch so far goes on, or is done and another begins.
 fn take_in(
     states: &States,
-    former: Option<Stretch>,
-    lane: Participant,
+    former: &Stretch,
     done: &mut Vec<Stretch>,
 ) -> Result<Stretch, OutOfMemory>
-    requires known { lane < length (plan_in states.now).participants }
-    requires former { IfSome former (IsRight (plan_in states.now) (journal_in states.now)) }
-    requires done { All (IsRight (plan_in states.now) (journal_in states.now)) done.old.items }
-    ensures next { IfOk result (IsRight (plan_in states.now) (journal_in states.now)) }
-    ensures done { All (IsRight (plan_in states.now) (journal_in states.now)) done.new.items }
+    requires known { former.now.lane < length (plan_in states.now).participants }
+    requires small { taken_in states.now < 2 ^ 63 }
+    requires lasts { former.now.from < former.now.to }
+    requires met { former.now.to ≡ taken_in states.now }
+    ensures goes { IfOk result (GoesTo former.now.lane (taken_in states.now + 1)) }
+    ensures next { IfOk result (λ s. (first : ℕ) → LiesIn (plan_in states.now) (journal_in states.now) first (taken_in states.now) former.now → LiesIn (plan_in states.now) (journal_in states.now) first (taken_in states.now + 1) s) }
+    ensures done { IfOk result (λ s. (first : ℕ) → LiesIn (plan_in states.now) (journal_in states.now) first (taken_in states.now) former.now → All (LiesIn (plan_in states.now) (journal_in states.now) first (taken_in states.now)) done.old.items → All (LiesIn (plan_in states.now) (journal_in states.now) first (taken_in states.now)) done.new.items) }
+    ensures number { IfOk result (λ s. (t k : ℕ) → count_by (has_moment t k) done.new.items + one_if (has_moment t k s) ≡ count_by (has_moment t k) done.old.items + one_if (has_moment t k former.now) + one_if ((former.now.lane == t) && (taken_in states.now == k))) }
 {
-    let doing = doing_of(states, lane);
+    let doing = doing_of(states, former.lane);
     let moment = states.taken();
-    if let Some(stretch) = former {
-        if let Some(longer) = longer(stretch, lane, doing, moment) {
-            return Ok(longer);
-        }
-        done.push(stretch)?;
+    if is_same(former.doing, doing) {
+        return Ok(longer(*former, moment));
     }
-    Ok(begun(lane, doing, moment))
+    done.push(*former)?;
+    Ok(begun(former.lane, doing, moment))
 }
 
 /// Takes in the moment of a cursor for all participants.
@@ -153,15 +171,32 @@ fn take_in_all(
     former: &[Stretch],
     done: &mut Vec<Stretch>,
 ) -> Result<Vec<Stretch>, OutOfMemory>
-    requires former { All (IsRight (plan_in states.now) (journal_in states.now)) former.now }
-    requires done { All (IsRight (plan_in states.now) (journal_in states.now)) done.old.items }
-    ensures next { IfOk result (λ next. All (IsRight (plan_in states.now) (journal_in states.now)) next.items) }
-    ensures done { All (IsRight (plan_in states.now) (journal_in states.now)) done.new.items }
+    requires small { taken_in states.now < 2 ^ 63 }
+    requires goes { AreOpen (length (plan_in states.now).participants) (taken_in states.now) former.now }
+    ensures goes { IfOk result (λ next. AreOpen (length (plan_in states.now).participants) (taken_in states.now + 1) next.items) }
+    ensures next { IfOk result (λ next. (first : ℕ) → All (LiesIn (plan_in states.now) (journal_in states.now) first (taken_in states.now)) former.now → All (LiesIn (plan_in states.now) (journal_in states.now) first (taken_in states.now + 1)) next.items) }
+    ensures done { IfOk result (λ next. (first : ℕ) → All (LiesIn (plan_in states.now) (journal_in states.now) first (taken_in states.now)) former.now → All (LiesIn (plan_in states.now) (journal_in states.now) first (taken_in states.now)) done.old.items → All (LiesIn (plan_in states.now) (journal_in states.now) first (taken_in states.now)) done.new.items) }
+    ensures number { IfOk result (λ next. (t k : ℕ) → t < length (plan_in states.now).participants → count_by (has_moment t k) done.new.items + count_by (has_moment t k) next.items ≡ count_by (has_moment t k) done.old.items + count_by (has_moment t k) former.now + one_if (taken_in states.now == k)) }
 {
     let mut next = Vec::new(alloc);
+    for stretch in former {
+        let kept = take_in(states, stretch, done)?;
+        next.push(kept)?;
+    }
+    Ok(next)
+}
+
+/// The stretches that begin at the moment of a cursor: one of each participant.
+fn begun_all(alloc: Global, states: &States) -> Result<Vec<Stretch>, OutOfMemory>
+    requires small { taken_in states.now < 2 ^ 63 }
+    ensures goes { IfOk result (λ next. AreOpen (length (plan_in states.now).participants) (taken_in states.now + 1) next.items) }
+    ensures next { IfOk result (λ next. All (LiesIn (plan_in states.now) (journal_in states.now) (taken_in states.now) (taken_in states.now + 1)) next.items) }
+    ensures number { IfOk result (λ next. (t k : ℕ) → t < length (plan_in states.now).participants → count_by (has_moment t k) next.items ≡ one_if (taken_in states.now == k)) }
+{
+    let moment = states.taken();
+    let mut next = Vec::new(alloc);
     for lane in 0..states.plan().participants() {
-        let stretch = take_in(states, former.get(lane as usize).copied(), lane, done)?;
-        next.push(stretch)?;
+        next.push(begun(lane, doing_of(states, lane), moment))?;
     }
     Ok(next)
 }
@@ -211,6 +246,40 @@ pub struct Told {
     pub last: u64,
 }
 
+/// Takes in so many entries, as far as there are some and the rules let them come; whether that many did.
+fn goes_to(states: &mut States, first: u64) -> bool
+    requires { taken_in states.old ≡ 0 }
+    ensures plan { plan_in states.new ≡ plan_in states.old }
+    ensures journal { journal_in states.new ≡ journal_in states.old }
+    ensures reached { Reached first states.new result }
+{
+    for made in 0..first {
+        if !states.step() {
+            return false;
+        }
+    }
+    true
+}
+
+/// All stretches, those that go on too.
+fn all_told(
+    done: Vec<Stretch>,
+    going: Vec<Stretch>,
+    notes: Vec<Note>,
+    last: usize,
+) -> Result<Told, OutOfMemory>
+    ensures { IfOk result (λ told. told.stretches.items ≡ done.items ++ going.items) }
+{
+    let mut stretches = done;
+    let mut rest = going;
+    stretches.append(&mut rest)?;
+    Ok(Told {
+        stretches,
+        notes,
+        last: last as u64,
+    })
+}
+
 /// What each participant does at the moments from one on, at most so many more, as far as the rules let the entries come.
 pub fn stretches_of(
     alloc: Global,
@@ -219,29 +288,29 @@ pub fn stretches_of(
     first: u64,
     more: u64,
 ) -> Result<Told, OutOfMemory>
-    ensures { IfOk result (λ told. All (IsRight plan.now entries.now) told.stretches.items) }
+    ensures right { IfOk result (λ told. All (IsRight plan.now entries.now first more) told.stretches.items) }
+    ensures number { IfOk result (λ told. AreOne plan.now entries.now first more told.stretches.items) }
 {
     let mut states = States::open(alloc, plan, entries)?;
-    for _ in 0..first {
-        if !states.step() {
-            break;
-        }
-    }
-    let mut stretches = Vec::new(alloc);
+    let mut done = Vec::new(alloc);
     let mut notes = Vec::new(alloc);
-    let mut former = take_in_all(alloc, &states, &[], &mut stretches)?;
-    note_waits(alloc, &states, &former, &mut notes)?;
-    for _ in 0..more {
-        if !states.step() {
-            break;
-        }
-        former = take_in_all(alloc, &states, &former, &mut stretches)?;
-        note_waits(alloc, &states, &former, &mut notes)?;
+    if !goes_to(&mut states, first) {
+        let none = Vec::new(alloc);
+        let nothing = all_told(done, none, notes, states.taken());
+        return nothing;
     }
-    stretches.append(&mut former)?;
-    Ok(Told {
-        stretches,
-        notes,
-        last: states.taken() as u64,
-    })
+    let mut going = begun_all(alloc, &states)?;
+    note_waits(alloc, &states, &going, &mut notes)?;
+    for row in 0..more {
+        if !states.step() {
+            let front = all_told(done, going, notes, states.taken());
+            return front;
+        }
+        let former: &[Stretch] = &going;
+        let next = take_in_all(alloc, &states, former, &mut done)?;
+        note_waits(alloc, &states, &next, &mut notes)?;
+        going = next;
+    }
+    let whole = all_told(done, going, notes, states.taken());
+    whole
 }

@@ -1,19 +1,13 @@
-use Rattle.std.proofs.Common.{◌≡◌}
-use Rattle.std.specs.List.{All}
-use Rattle.journal_states.specs.Past.{plan_in, journal_in}
-use Rattle.journal_pictures.specs.Stretches.{IsRight}
+use Rattle.std.proofs.Common.{◌≡◌, ◌+◌, ◌≤◌, length}
+use Rattle.journal_states.specs.Past.{taken_in}
+use Rattle.journal_pictures.specs.inner.Lanes.{AreOpen}
+use Rattle.journal_pictures.proofs.PartLemmas.{IsFound}
 use Rattle.journal_pictures.proofs.stretches.stretches_of.Given as goal
 
-abbrev pub invariant-loop : goal.invariant-loop
-invariant-loop l = record {
-  plan : plan_in l.states ≡ l.plan;
-  journal : journal_in l.states ≡ l.entries;
-}
-
-abbrev pub invariant-loop-2 : goal.invariant-loop-2
-invariant-loop-2 l = record {
-  plan : plan_in l.states ≡ l.plan;
-  journal : journal_in l.states ≡ l.entries;
-  done : All (IsRight l.plan l.entries) l.stretches.items;
-  former : All (IsRight l.plan l.entries) l.former.items;
+abbrev pub invariant-loop-row : goal.invariant-loop-row
+invariant-loop-row l = record {
+  within : l.row ≤ l.more;
+  taken : taken_in l.states ≡ l.first + l.row;
+  goes : AreOpen (length l.plan.participants) (taken_in l.states + 1) l.going.items;
+  found : IsFound l.plan l.entries l.first l.states l.done.items l.going.items;
 }
